@@ -1,0 +1,2 @@
+pub mod LastLevels
+pub mod Levels

@@ -1,0 +1,39 @@
+use Rattle.std.specs.Prelude.{ℕ, ◌≤◌, Bool, true, false, ◌&&◌, List, [], ◌∷◌, length, filter, nat_le, All}
+use Rattle.std.specs.List.Sorted.{IsNonDecreasingBy}
+use Rattle.rv_isa.specs.declared.lines.Line.{Line}
+use Rattle.rv_isa.specs.declared.lines.Line.TheVariants.{Software, Timer, External}
+use Rattle.rv_isa.specs.declared.lines.Lines.{Lines}
+use Rattle.rv_isa.specs.declared.lines.Arrival.{Arrival}
+use Rattle.rv_isa.specs.declared.arrivals.TheConstants.{MOST_ARRIVALS, LAST_CYCLE}
+
+-- at most 100,000 arrivals, none after cycle 1,000,000, in the order of their cycles
+pub record IsLegalArrivals (arrivals : List Arrival) : Type 0 where
+  pub count : length arrivals ≤ MOST_ARRIVALS
+  pub last : All (λ a. a.cycle ≤ LAST_CYCLE) arrivals
+  pub order : IsNonDecreasingBy (λ a. a.cycle) arrivals
+
+-- whether two lines are the same
+abbrev pub is_line : Line → Line → Bool
+is_line Software Software = true
+is_line Timer Timer = true
+is_line External External = true
+is_line _ _ = false
+
+-- the level of the last of some arrivals, low where there is none
+abbrev pub last_level : List Arrival → Bool
+last_level [] = false
+last_level (a ∷ []) = a.level
+last_level (a ∷ b ∷ later) = last_level (b ∷ later)
+
+-- a line's level in a cycle: that of its last arrival in the list with a cycle at most this one
+abbrev pub level_at : Line → List Arrival → ℕ → Bool
+level_at line arrivals cycle = last_level (filter (λ a. is_line line a.line && nat_le a.cycle cycle) arrivals)
+
+-- the levels of the three lines in a cycle
+abbrev pub lines_at : List Arrival → ℕ → Lines
+lines_at arrivals cycle =
+    record {
+      software = level_at Software arrivals cycle;
+      timer = level_at Timer arrivals cycle;
+      external = level_at External arrivals cycle;
+    }

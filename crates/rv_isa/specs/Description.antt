@@ -1,0 +1,91 @@
+use Rattle.std.specs.Prelude.{◌≡◌, ℕ, ◌+◌, ◌*◌, ◌%◌, ◌≤◌, max, IsTrue}
+use Rattle.std.specs.Int.{is_power_of_two}
+use Rattle.rv_isa.specs.declared.values.Values.{Values}
+use Rattle.rv_isa.specs.declared.values.KindValues.{KindValues}
+use Rattle.rv_isa.specs.declared.values.CacheValues.{CacheValues}
+use Rattle.rv_isa.specs.declared.values.PredictorValues.{PredictorValues}
+use Rattle.rv_isa.specs.declared.values.ReportValues.{ReportValues}
+
+-- n lies from low to high
+abbrev pub Within : ℕ → ℕ → ℕ → Type 0
+Within low high n = (low ≤ n) × (n ≤ high)
+
+-- where RAM lies, and its front that stores may not change
+pub record IsLegalMemory (v : Values) : Type 0 where
+  pub base : v.ram_base ≤ 0xff00_0000
+  pub base_aligned : v.ram_base % 4096 ≡ 0
+  pub size : Within 4096 16777216 v.ram_size
+  pub size_aligned : v.ram_size % 4096 ≡ 0
+  pub rom : v.rom_bytes ≤ v.ram_size
+  pub rom_aligned : v.rom_bytes % 4096 ≡ 0
+
+-- how many instructions move in a cycle, and how many are held
+pub record IsLegalPipeline (v : Values) : Type 0 where
+  pub fetch_width : Within 1 8 v.fetch_width
+  pub dispatch_width : Within 1 8 v.dispatch_width
+  pub commit_width : Within 1 8 v.commit_width
+  pub bus_width : Within 1 8 v.bus_width
+  pub fetch_buffer : Within 1 32 v.fetch_buffer
+  pub rob : Within 1 256 v.rob
+  pub store_queue : Within 1 64 v.store_queue
+  pub forward : Within 1 64 v.forward
+
+-- the stations and units of a kind
+pub record IsLegalKind (k : KindValues) : Type 0 where
+  pub stations : Within 1 64 k.stations
+  pub units : Within 1 8 k.units
+  pub latency : Within 1 64 k.latency
+
+-- how many lines the cache has, and how long they are
+pub record IsLegalShape (c : CacheValues) : Type 0 where
+  pub sets : Within 1 256 c.sets
+  pub sets_power : IsTrue (is_power_of_two c.sets)
+  pub ways : Within 1 16 c.ways
+  pub line : Within 4 128 c.line
+  pub line_power : IsTrue (is_power_of_two c.line)
+
+-- what an access to the cache costs
+pub record IsLegalCost (c : CacheValues) : Type 0 where
+  pub hit : Within 1 16 c.hit
+  pub miss : c.miss ≤ 1000
+  pub write_back : c.write_back ≤ 1000
+
+abbrev pub IsLegalCache : CacheValues → Type 0
+IsLegalCache c = IsLegalShape c × IsLegalCost c
+
+abbrev pub IsLegalPredictor : PredictorValues → Type 0
+IsLegalPredictor p = Within 1 4096 p.entries
+
+pub record IsLegalReport (r : ReportValues) : Type 0 where
+  pub dump_aligned : r.dump_address % 4 ≡ 0
+  pub dump_words : r.dump_words ≤ 256
+
+-- the four kinds
+pub record IsLegalKinds (v : Values) : Type 0 where
+  pub alu : IsLegalKind v.alu
+  pub mul : IsLegalKind v.mul
+  pub div : IsLegalKind v.div
+  pub mem : IsLegalKind v.mem
+
+-- every value is in its range
+pub record IsLegal (v : Values) : Type 0 where
+  pub memory : IsLegalMemory v
+  pub pipeline : IsLegalPipeline v
+  pub kinds : IsLegalKinds v
+  pub cache : IsLegalCache v.cache
+  pub predictor : IsLegalPredictor v.predictor
+  pub report : IsLegalReport v.report
+
+-- the greatest of the four latencies and the cost of a forwarded load
+abbrev pub greatest_latency : Values → ℕ
+greatest_latency v = max v.forward (max (max v.alu.latency v.mul.latency) (max v.div.latency v.mem.latency))
+
+-- what an access to the cache costs at most
+abbrev pub greatest_access : CacheValues → ℕ
+greatest_access c = c.hit + c.miss + c.write_back
+
+-- the cycles without a step that the oldest instruction can wait for, counted with slack: fetch and dispatch,
+-- accesses already begun and the drains of a full queue, units that are held, and the cache's lines written back twice
+abbrev pub gap_bound_of : Values → ℕ
+gap_bound_of v =
+    16 + (v.store_queue + 8) * greatest_access v.cache + 4 * greatest_latency v + 2 * v.cache.sets * v.cache.ways * v.cache.write_back

@@ -1,0 +1,28 @@
+use Rattle.std.specs.Prelude.{◌≡◌, ℕ, ◌*◌, ◌<◌, Bool, false, cond, List, [], ◌∷◌, take, slice_index_or}
+use Rattle.rv_isa.specs.declared.lines.Line.TheVariants.{Software, Timer, External}
+use Rattle.rv_isa.specs.declared.lines.Lines.{Lines}
+use Rattle.rv_isa.specs.declared.lines.Arrival.{Arrival}
+use Rattle.rv_isa.specs.declared.line_levels.TheConstants.{BLOCK, BLOCKS}
+use Rattle.rv_isa.specs.Arrivals.{is_line}
+
+-- no line is high
+abbrev pub low : Lines
+low = record { software = false; timer = false; external = false }
+
+-- an arrival gives its line its level
+abbrev pub line_set : Lines → Arrival → Lines
+line_set lines a =
+    record {
+      software = cond (is_line Software a.line) a.level lines.software;
+      timer = cond (is_line Timer a.line) a.level lines.timer;
+      external = cond (is_line External a.line) a.level lines.external;
+    }
+
+-- the levels after some arrivals, one after another
+abbrev pub lines_after : Lines → List Arrival → Lines
+lines_after lines [] = lines
+lines_after lines (a ∷ later) = lines_after (line_set lines a) later
+
+-- place k holds the levels after the first k blocks
+abbrev pub HoldsLevels : List Arrival → List Lines → Type 0
+HoldsLevels arrivals levels = (k : ℕ) (d : Lines) → k < BLOCKS → slice_index_or levels k d ≡ lines_after low (take (k * BLOCK) arrivals)

@@ -1,0 +1,11 @@
+pub mod Arithmetic
+pub mod Arrivals
+pub mod Cause
+pub mod Comparison
+pub mod Description
+pub mod Field
+pub mod Levels
+pub mod Operands
+pub mod Operation
+pub mod Standard
+pub mod Word

@@ -1,0 +1,94 @@
+ghost use Rattle.std.specs.Prelude.{◌≡◌, ℕ, List, length, IfOk};
+
+use std::alloc::{AllocError, Global};
+use std::marker::Model;
+
+/// A list of bytes.
+#[derive(Debug, Drop)]
+pub struct Bytes {
+    items: Vec<u8>,
+}
+
+impl Model for Bytes {
+    ghost Value = { List ℕ };
+
+    ghost view = { λ b. b.items.items };
+}
+
+impl Bytes {
+    /// The list that a vector holds, in the same memory.
+    pub fn from_vec(items: Vec<u8>) -> Self
+        ensures { result ≡ items.items }
+    {
+        Bytes { items }
+    }
+
+    /// The vector that holds the list, in the same memory.
+    pub fn into_vec(self) -> Vec<u8>
+        ensures { result.items ≡ self }
+    {
+        let Bytes { items: bytes } = self;
+        bytes
+    }
+
+    /// The bytes in order.
+    pub fn as_slice(&self) -> &[u8]
+        ensures { result.now ≡ self.now }
+    {
+        self.items.as_slice()
+    }
+
+    /// The number of bytes.
+    pub fn len(&self) -> usize
+        ensures { result ≡ length self.now }
+    {
+        self.items.len()
+    }
+}
+
+/// What memory holds at first: bytes from an address on, and where execution starts.
+#[derive(Debug, Drop)]
+pub struct Image {
+    /// The address of the first byte.
+    pub base: u32,
+    /// The bytes in the order of their addresses.
+    pub bytes: Bytes,
+    /// The address of the first instruction.
+    pub start: u32,
+}
+
+impl Image {
+    /// An image with a copy of the bytes. The only error is want of memory.
+    pub fn from_bytes(
+        alloc: Global,
+        base: u32,
+        bytes: &[u8],
+        start: u32,
+    ) -> Result<Self, AllocError>
+        ensures base { IfOk result (λ image. image.base ≡ base) }
+        ensures bytes { IfOk result (λ image. image.bytes ≡ bytes.now) }
+        ensures start { IfOk result (λ image. image.start ≡ start) }
+    {
+        let mut items = Vec::with_capacity(alloc, bytes.len())?;
+        items.extend_from_slice(bytes)?;
+        Ok(Image {
+            base,
+            bytes: Bytes::from_vec(items),
+            start,
+        })
+    }
+}
+
+#[cfg(test)]
+mod tests {
+    use super::*;
+    use std::test::Fail;
+
+    #[test]
+    fn an_image_holds_a_copy_of_the_bytes(rt: HostRuntime) -> Result<(), Fail> {
+        let image = Image::from_bytes(rt.alloc(), 0x8000_0000, b"abc", 0x8000_0004)?;
+        assert_eq!(rt; image.bytes.as_slice(), b"abc".as_slice());
+        assert_eq!(rt; (image.base, image.start), (0x8000_0000, 0x8000_0004));
+        Ok(())
+    }
+}

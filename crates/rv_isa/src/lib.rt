@@ -1,0 +1,49 @@
+//! The instruction set: registers and operand fields that are in range by type, instructions, exact
+//! arithmetic, causes of traps, interrupt lines and their arrivals, memory images, what a broadcast
+//! carries, and the machine description. Every other crate stands on this one.
+#![tactic(auto)]
+
+mod arithmetic;
+mod arrivals;
+mod branch_offsets;
+mod broadcast;
+mod causes;
+mod comparison;
+mod csr_addresses;
+mod csr_immediates;
+mod description;
+mod images;
+mod immediates;
+mod instructions;
+mod jump_offsets;
+mod line_levels;
+mod lines;
+mod operands;
+mod operations;
+mod registers;
+mod shift_amounts;
+mod upper_immediates;
+mod values;
+
+pub use arithmetic::alu;
+pub use arrivals::{Arrivals, LAST_CYCLE, MOST_ARRIVALS};
+pub use branch_offsets::BranchOffset;
+pub use broadcast::{Message, StoreAccess};
+pub use causes::{Cause, Fault};
+pub use comparison::branch_taken;
+pub use csr_addresses::CsrAddress;
+pub use csr_immediates::CsrImmediate;
+pub use description::Description;
+pub use images::{Bytes, Image};
+pub use immediates::Immediate;
+pub use instructions::{CsrSource, Instr};
+pub use jump_offsets::JumpOffset;
+pub use lines::{Arrival, Line, Lines};
+pub use operands::{kind, sources, target};
+pub use operations::{AluOp, Condition, CsrOp, ImmediateOp, Kind, LoadForm, ShiftOp, Width};
+pub use registers::Reg;
+pub use shift_amounts::ShiftAmount;
+pub use upper_immediates::UpperImmediate;
+pub use values::{
+    CacheValues, KindValues, PredictorKind, PredictorValues, Recovery, ReportValues, Values,
+};
