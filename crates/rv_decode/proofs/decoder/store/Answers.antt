@@ -1,0 +1,13 @@
+use Rattle.std.proofs.Common.{◌≡◌, ℕ, sym, ◌∙◌, arith}
+use Rattle.std.proofs.lemmas.Bool.Decides.{nat_tests}
+use Rattle.rv_decode.proofs.Groups.{instruction_of-store}
+use Rattle.rv_decode.proofs.decoder.store.Goals.{in-0, in-1, in-2}
+use Rattle.rv_decode.proofs.decoder.store.Goals as goal
+
+pub returns-in_default : goal.returns-in_default
+returns-in_default c = grind (arith, nat_tests, instruction_of-store c.args.word c.funct3.result c.requires (sym c.funct3.ensures))
+
+pub returns : goal.returns
+returns c =
+    let at = λ (third : ℕ) (is : c.funct3.result ≡ third). sym (instruction_of-store c.args.word third c.requires (sym c.funct3.ensures ∙ is)) in
+    rw (c.rs1.ensures, c.rs2.ensures, c.s_immediate.ensures) (elim c.match-funct3.branch [ in-0 w ↦ rw w.width-is (at 0 w.in-0.is) | in-1 w ↦ rw w.width-is (at 1 w.in-1.is) | in-2 w ↦ rw w.width-is (at 2 w.in-2.is) ])

@@ -1,0 +1,16 @@
+//! The decoder and the encoder of instruction words: the manuals' listings as a table in `specs/`, and code that
+//! branches on the fields of the word, proved to give what the table says. Every crate that reads or writes
+//! instruction words stands on it.
+#![tactic(auto)]
+
+mod decoder;
+mod encoder;
+mod fields;
+mod formats;
+mod opcodes;
+
+pub use decoder::decode;
+pub use encoder::encode;
+
+#[cfg(test)]
+mod tests;
