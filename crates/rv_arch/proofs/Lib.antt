@@ -1,0 +1,6 @@
+pub mod InRam
+pub mod MarkedWords
+pub mod RunInvariants
+pub mod Runs
+pub mod StepLaws
+pub mod Steps

@@ -1,0 +1,67 @@
+-- The rules of a step, for an outcome and a state that are known by equations.
+use Rattle.std.proofs.Common.{◌≡◌, ℕ, true, false, refl}
+use Rattle.std.specs.Prelude.{Option}
+use Rattle.rv_decode.specs.Decodes.{Decodes, IsIllegal}
+use Rattle.rv_isa.specs.Cause.{code_of}
+use Rattle.rv_isa.specs.declared.causes.Cause.{Cause}
+use Rattle.rv_isa.specs.declared.causes.Cause.TheVariants.{IllegalInstruction}
+use Rattle.rv_isa.specs.declared.instructions.Instr.{Instr}
+use Rattle.rv_isa.specs.declared.lines.Lines.{Lines}
+use Rattle.rv_arch.specs.declared.outcome.RefStep.{RefStep}
+use Rattle.rv_arch.specs.declared.outcome.RefStep.TheVariants.{Retired, Trap, Interrupt, Stale}
+use Rattle.rv_arch.specs.Effect.{effect, Retires, Faults}
+use Rattle.rv_arch.specs.Memory.{Layout}
+use Rattle.rv_arch.specs.Run.{is_stale}
+use Rattle.rv_arch.specs.State.{State}
+use Rattle.rv_arch.specs.Step.{Step, IsFetched, trap_taken, word_at_pc, interrupted, unfetched, stale, illegal, faulted, retired}
+
+module _ (layout : Layout) (s : State) (lines : Lines) where
+  pub same_step : {o o' : RefStep} {t t' : State} → o' ≡ o → t' ≡ t → Step layout s lines o t → Step layout s lines o' t'
+  same_step p q step = rw p (rw q step)
+
+  pub illegal_at : IsFetched layout s lines → (word : ℕ) → word ≡ word_at_pc layout s → IsIllegal word →
+      Step layout s lines (Trap s.pc IllegalInstruction word) (trap_taken s (code_of IllegalInstruction) word)
+  illegal_at fetched word at none = rw at (illegal fetched (rw at at none))
+
+  pub faulted_at : IsFetched layout s lines → (word : ℕ) → word ≡ word_at_pc layout s → (instruction : Instr) → Decodes word instruction →
+      (cause : Cause) (value : ℕ) → effect layout s lines word instruction ≡ Faults cause value →
+      Step layout s lines (Trap s.pc cause value) (trap_taken s (code_of cause) value)
+  faulted_at fetched word at instruction decoded cause value faults =
+      faulted fetched instruction (rw at at decoded) cause value (rw at at faults)
+
+  pub retired_at : IsFetched layout s lines → (pc : ℕ) → pc ≡ s.pc → (word : ℕ) → word ≡ word_at_pc layout s → (instruction : Instr) → Decodes word instruction →
+      (written : Option (ℕ × ℕ)) (next : State) → effect layout s lines word instruction ≡ Retires written next →
+      Step layout s lines (Retired pc word written) next
+  retired_at fetched pc here word at instruction decoded written next retires =
+      rw (here, at) (retired fetched instruction (rw at at decoded) written next (rw at at retires))
+
+-- a step that finds a stale word changes nothing, and finds it again
+pub stale_keeps : {layout : Layout} {s t : State} {lines : Lines} {o : RefStep} → Step layout s lines o t → is_stale o ≡ true → t ≡ s
+stale_keeps (interrupted code due) found = cc
+stale_keeps (unfetched due out) found = cc
+stale_keeps (stale due inside marked) found = refl
+stale_keeps (illegal fetched none) found = cc
+stale_keeps (faulted fetched i decoded cause value faults) found = cc
+stale_keeps (retired fetched i decoded written next retires) found = cc
+
+pub stale_again : {layout : Layout} {s t : State} {lines : Lines} {o : RefStep} → Step layout s lines o t → is_stale o ≡ true → Step layout t lines (Stale t.pc) t
+stale_again (interrupted code due) found = cc
+stale_again (unfetched due out) found = cc
+stale_again (stale due inside marked) found = stale due inside marked
+stale_again (illegal fetched none) found = cc
+stale_again (faulted fetched i decoded cause value faults) found = cc
+stale_again (retired fetched i decoded written next retires) found = cc
+
+pub stale_once : {layout : Layout} {s t : State} {lines : Lines} {o : RefStep} → Step layout s lines o t → is_stale o ≡ true → Step layout t lines o t
+stale_once (interrupted code due) found = cc
+stale_once (unfetched due out) found = cc
+stale_once (stale due inside marked) found = stale due inside marked
+stale_once (illegal fetched none) found = cc
+stale_once (faulted fetched i decoded cause value faults) found = cc
+stale_once (retired fetched i decoded written next retires) found = cc
+
+pub not_stale : (o : RefStep) → ((pc : ℕ) → o ≡ Stale pc → ⊥) → is_stale o ≡ false
+not_stale (Retired pc word written) other = refl
+not_stale (Trap pc cause value) other = refl
+not_stale (Interrupt pc cause) other = refl
+not_stale (Stale pc) other = absurd (other pc refl)

@@ -1,0 +1,14 @@
+pub mod Access
+pub mod Csr
+pub mod Due
+pub mod Effect
+pub mod Machine
+pub mod Marks
+pub mod Memory
+pub mod Performed
+pub mod Reset
+pub mod Run
+pub mod RunOutcome
+pub mod State
+pub mod Step
+pub mod Trap

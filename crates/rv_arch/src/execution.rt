@@ -1,0 +1,277 @@
+ghost use Rattle.std.specs.Prelude.{◌≡◌, ◌%◌, ◌*◌, ◌^◌, ◌<◌, IfOk};
+ghost use Rattle.rv_isa.specs.Operation.{bytes_of, width_of, is_sign_extended};
+ghost use Rattle.rv_isa.specs.Word.{modulo_word};
+ghost use Rattle.rv_arch.specs.Csr.{access};
+ghost use Rattle.rv_arch.specs.Effect.{effect, sum, writes, goes_to, jumps, branches, loads, stores, refreshes, accesses, operand_of, returns_from_trap};
+ghost use Rattle.rv_arch.specs.Memory.{extended};
+ghost use Rattle.rv_arch.specs.Performed.{IsPerformed};
+ghost use Rattle.rv_arch.specs.State.{register_of, pc_plus_4};
+
+use crate::csr::CsrOperand;
+use crate::reference::Reference;
+use rv_isa::{
+    Cause, CsrAddress, CsrOp, CsrSource, Fault, Immediate, Instr, Lines, LoadForm, Reg, Width, alu,
+    branch_taken,
+};
+
+/// The register that a retired instruction changed, with its value; or the instruction's fault.
+pub(crate) type Performed = Result<Option<(Reg, u32)>, Fault>;
+
+/// A number that a load read, as a word.
+fn extended(form: LoadForm, number: u32) -> u32
+    requires { number < 2 ^ (8 * bytes_of (width_of form)) }
+    ensures { result ≡ extended (is_sign_extended form) (bytes_of (width_of form)) number }
+{
+    match form {
+        LoadForm::Byte if number >= 0x80 => number + 0xffff_ff00,
+        LoadForm::Half if number >= 0x8000 => number + 0xffff_0000,
+        _ => number,
+    }
+}
+
+impl Reference {
+    /// Writes a register and goes on behind the instruction.
+    fn compute(&mut self, rd: Reg, value: u32) -> Performed
+        ensures { IsPerformed (writes self.old.state rd value (pc_plus_4 self.old.state)) result self.old self.new }
+    {
+        let next = self.pc_plus_4();
+        let written = self.write(rd, value);
+        self.go_to(next);
+        Ok(written)
+    }
+
+    /// Goes on behind the instruction.
+    fn pass(&mut self) -> Performed
+        ensures { IsPerformed (goes_to self.old.state (pc_plus_4 self.old.state)) result self.old self.new }
+    {
+        let next = self.pc_plus_4();
+        self.go_to(next);
+        Ok(None)
+    }
+
+    /// Jumps, and writes the link.
+    fn jump(&mut self, rd: Reg, target: u32) -> Performed
+        ensures { IsPerformed (jumps self.old.state rd target) result self.old self.new }
+    {
+        if target % 4 != 0 {
+            return Err(Fault {
+                cause: Cause::InstructionAddressMisaligned,
+                value: target,
+            });
+        }
+        let link = self.pc_plus_4();
+        let written = self.write(rd, link);
+        self.go_to(target);
+        Ok(written)
+    }
+
+    /// Branches where the branch is taken.
+    fn branch(&mut self, is_taken: bool, target: u32) -> Performed
+        ensures { IsPerformed (branches self.old.state is_taken target) result self.old self.new }
+    {
+        if !is_taken {
+            self.pass()
+        } else if target % 4 == 0 {
+            self.go_to(target);
+            Ok(None)
+        } else {
+            Err(Fault {
+                cause: Cause::InstructionAddressMisaligned,
+                value: target,
+            })
+        }
+    }
+
+    /// Loads a register.
+    fn load(&mut self, form: LoadForm, rd: Reg, address: u32) -> Performed
+        ensures { IsPerformed (loads self.old.layout self.old.state form rd address) result self.old self.new }
+    {
+        let width = form.width();
+        if address % width.bytes() != 0 {
+            return Err(Fault {
+                cause: Cause::LoadAddressMisaligned,
+                value: address,
+            });
+        }
+        if !self.is_in_ram(address, width.bytes()) {
+            return Err(Fault {
+                cause: Cause::LoadAccessFault,
+                value: address,
+            });
+        }
+        let number = self.number(address, width);
+        self.compute(rd, extended(form, number))
+    }
+
+    /// Stores the low bytes of a word.
+    fn store(&mut self, width: Width, address: u32, word: u32) -> Performed
+        ensures { IsPerformed (stores self.old.layout self.old.state width address word) result self.old self.new }
+    {
+        if address % width.bytes() != 0 {
+            return Err(Fault {
+                cause: Cause::StoreAddressMisaligned,
+                value: address,
+            });
+        }
+        if !self.is_writable(address, width.bytes()) {
+            return Err(Fault {
+                cause: Cause::StoreAccessFault,
+                value: address,
+            });
+        }
+        self.store_bytes(address, width, word);
+        self.pass()
+    }
+
+    /// Makes every word fresh.
+    fn fence_instructions(&mut self) -> Performed
+        ensures { IsPerformed (refreshes self.old.state) result self.old self.new }
+    {
+        self.make_fresh();
+        self.pass()
+    }
+
+    /// The source of a CSR instruction.
+    fn operand(&self, source: CsrSource) -> CsrOperand
+        ensures { result ≡ operand_of self.now.state source }
+    {
+        match source {
+            CsrSource::Register(register) => CsrOperand {
+                value: self.register(register),
+                field_is_zero: register == Reg::ZERO,
+            },
+            CsrSource::Immediate(immediate) => CsrOperand {
+                value: immediate.value(),
+                field_is_zero: immediate.value() == 0,
+            },
+        }
+    }
+
+    /// Executes a CSR instruction, of which `word` is the word.
+    fn access_csr(
+        &mut self,
+        word: u32,
+        op: CsrOp,
+        rd: Reg,
+        csr: CsrAddress,
+        operand: CsrOperand,
+        lines: Lines,
+    ) -> Performed
+        ensures { IsPerformed (accesses self.old.state word rd (access self.old.state.csrs lines op csr operand)) result self.old self.new }
+    {
+        match self.access(op, csr, operand, lines) {
+            Ok(old) => self.compute(rd, old),
+            Err(_) => Err(Fault {
+                cause: Cause::IllegalInstruction,
+                value: word,
+            }),
+        }
+    }
+
+    /// Returns from a trap.
+    fn return_to_trapped(&mut self) -> Performed
+        ensures { IsPerformed (returns_from_trap self.old.state) result self.old self.new }
+    {
+        self.return_from_trap();
+        Ok(None)
+    }
+
+    /// Executes an instruction, of which `word` is the word.
+    pub(crate) fn execute(&mut self, word: u32, instruction: Instr, lines: Lines) -> Performed
+        ensures { IsPerformed (effect self.old.layout self.old.state lines word instruction) result self.old self.new }
+    {
+        match instruction {
+            Instr::Lui { rd, immediate } => self.compute(rd, immediate.value() * 4096),
+            Instr::Auipc { rd, immediate } => {
+                let value = self.pc_plus(immediate.value() * 4096);
+                self.compute(rd, value)
+            }
+            Instr::Jal { rd, offset } => {
+                let target = self.pc_plus(offset.word());
+                self.jump(rd, target)
+            }
+            Instr::Jalr { rd, rs1, offset } => {
+                let target = self.address(rs1, offset) / 2 * 2;
+                self.jump(rd, target)
+            }
+            Instr::Branch {
+                condition,
+                rs1,
+                rs2,
+                offset,
+            } => {
+                let is_taken = branch_taken(condition, self.register(rs1), self.register(rs2));
+                let target = self.pc_plus(offset.word());
+                self.branch(is_taken, target)
+            }
+            Instr::Load {
+                form,
+                rd,
+                rs1,
+                offset,
+            } => {
+                let address = self.address(rs1, offset);
+                self.load(form, rd, address)
+            }
+            Instr::Store {
+                width,
+                rs1,
+                rs2,
+                offset,
+            } => {
+                let address = self.address(rs1, offset);
+                let word = self.register(rs2);
+                self.store(width, address, word)
+            }
+            Instr::OpImmediate {
+                op,
+                rd,
+                rs1,
+                immediate,
+            } => {
+                let value = alu(op.operation(), self.register(rs1), immediate.word());
+                self.compute(rd, value)
+            }
+            Instr::Shift {
+                op,
+                rd,
+                rs1,
+                amount,
+            } => {
+                let value = alu(op.operation(), self.register(rs1), amount.value());
+                self.compute(rd, value)
+            }
+            Instr::Op { op, rd, rs1, rs2 } => {
+                let value = alu(op, self.register(rs1), self.register(rs2));
+                self.compute(rd, value)
+            }
+            Instr::Fence | Instr::Wfi => self.pass(),
+            Instr::FenceI => self.fence_instructions(),
+            Instr::Csr {
+                op,
+                rd,
+                csr,
+                source,
+            } => {
+                let operand = self.operand(source);
+                self.access_csr(word, op, rd, csr, operand, lines)
+            }
+            Instr::Ecall => Err(Fault {
+                cause: Cause::EnvironmentCall,
+                value: 0,
+            }),
+            Instr::Ebreak => Err(Fault {
+                cause: Cause::Breakpoint,
+                value: 0,
+            }),
+            Instr::Mret => self.return_to_trapped(),
+        }
+    }
+
+    /// The address that a register and an offset make.
+    fn address(&self, register: Reg, offset: Immediate) -> u32
+        ensures { result ≡ sum (register_of self.now.state register) (modulo_word offset) }
+    {
+        self.register(register).wrapping_add(offset.word())
+    }
+}
