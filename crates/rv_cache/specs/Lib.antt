@@ -1,0 +1,4 @@
+pub mod Cache
+pub mod Consistent
+pub mod Line
+pub mod WriteBack

@@ -1,0 +1,7 @@
+/// A line that a set holds: its number, which is its address divided by the bytes of a line, and
+/// whether it was written since it was last the backing's.
+#[derive(Clone, Copy, Debug, Default, PartialEq, Eq)]
+pub struct Line {
+    pub number: u32,
+    pub dirty: bool,
+}
