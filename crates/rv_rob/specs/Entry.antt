@@ -1,0 +1,24 @@
+use Rattle.std.specs.Prelude.{ℕ, Option, None, Some}
+use Rattle.rv_isa.specs.declared.Message.{Message}
+use Rattle.rv_rob.specs.declared.entry.Entry.{Entry}
+use Rattle.rv_rob.specs.declared.entry.Issue.{Issue}
+use Rattle.rv_rob.specs.declared.entry.Stage.{Stage}
+use Rattle.rv_rob.specs.declared.entry.Stage.TheVariants.{Waiting, Running, Finished}
+
+-- the start of an execution, where there was one
+abbrev pub issue_of : Stage → Option Issue
+issue_of Waiting = None
+issue_of (Running issue) = Some issue
+issue_of (Finished issue cycle message) = issue
+
+-- the entry once its instruction has left its station in this cycle, at this cost
+abbrev pub started : ℕ → ℕ → Entry → Entry
+started cycle cost e = record e { stage = Running (record { cycle = cycle; cost = cost }) }
+
+-- the entry once its result is known, with the whole message and the cycle
+abbrev pub finished : Message → ℕ → Entry → Entry
+finished message cycle e = record e { stage = Finished (issue_of e.stage) cycle message }
+
+-- the entry with this predicted next pc
+abbrev pub predicting : ℕ → Entry → Entry
+predicting next_pc e = record e { predicted_next = next_pc }
