@@ -1,0 +1,3 @@
+pub mod Youngest
+pub mod Prefixes
+pub mod CheckpointLists

@@ -1,0 +1,150 @@
+-- The youngest producer of a register, and the table of them.
+use Rattle.std.proofs.Common.{◌≡◌, ◌≢◌, ℕ, ◌+◌, ◌<◌, ◌≤◌, Bool, true, false, ◌==◌, nat_eq, if◌then◌else◌, List, [], ◌∷◌, ◌++◌, length, drop, slice_index_or, slice_set, Option, None, Some, refl, ap, sym, ◌∙◌, arith, eq-eqb, ne_eqb, eqb-true, get_or-set_same, get_or-set_other, length-set}
+use Rattle.std.proofs.lemmas.Bool.{eqb-false, and_parts}
+use Rattle.std.specs.Option.{option_or, option_eq, IfSome}
+use Rattle.rv_rename.specs.declared.producer.Producer.{Producer}
+use Rattle.rv_rename.specs.Renaming.{youngest, NoneAbove, is_oldest}
+use Rattle.rv_rename.specs.Kept.{RisesFrom, IsTable}
+
+option_or-if : (b : Bool) (n : ℕ) (x y : Option ℕ) → option_or (if b then Some n else x) y ≡ (if b then Some n else option_or x y)
+option_or-if true n x y = refl
+option_or-if false n x y = refl
+
+option_or-none : (x : Option ℕ) → option_or x None ≡ x
+option_or-none None = refl
+option_or-none (Some n) = refl
+
+-- two registers are one, or the test tells them apart
+by_register : (P : Type 0) (r s : ℕ) → (r ≡ s → P) → (r ≢ s → P) → P
+by_register P r s same other =
+    let go : (b : Bool) → (r == s) ≡ b → P = λ b. elim b as (λ b. (r == s) ≡ b → P) [
+      | true ↦ λ e. same (eqb-true r s e)
+      | false ↦ λ e. other (eqb-false r s e)
+    ] in
+    go (r == s) refl
+
+youngest-push : (r : ℕ) (ps : List Producer) (p : Producer)
+    → youngest r (ps ++ p ∷ []) ≡ (if r == p.register then Some p.number else youngest r ps)
+youngest-push r [] p = refl
+youngest-push r (q ∷ ps) p = rw (youngest-push r ps p) (option_or-if (r == p.register) p.number (youngest r ps) _)
+
+-- a further producer is the youngest of its register
+pub IsTable-push : (table : List (Option ℕ)) (ps : List Producer) (p : Producer) → p.register < 32 → IsTable table ps
+    → IsTable (slice_set table p.register (Some p.number)) (ps ++ p ∷ [])
+IsTable-push table ps p number is =
+    let within : p.register < length table = omega (arith, is.places) in
+    record {
+      places = length-set table p.register (Some p.number) ∙ is.places;
+      producers = λ r h. rw (youngest-push r ps p)
+          (by_register _ r p.register
+          (λ same. rw (eq-eqb r p.register same, same) (get_or-set_same table p.register (Some p.number) None within))
+          (λ ne. rw (ne_eqb r p.register ne) (get_or-set_other table p.register r (Some p.number) None ne ∙ is.producers r h)));
+    }
+
+youngest-head : (low n m : ℕ) (b : Bool) (later : Option ℕ) → low ≤ m → ((k : ℕ) → later ≡ Some k → m + 1 ≤ k)
+    → option_or later (if b then Some m else None) ≡ Some n → low ≤ n
+youngest-head low n m b (Some k) h above e = let is : k ≡ n = cc in omega (arith, above k refl)
+youngest-head low n m true None h above e = let is : m ≡ n = cc in omega arith
+youngest-head low n m false None h above e = absurd (cc)
+
+-- where numbers rise, the youngest has one that is no lower than the first may be
+youngest-from : (r low n : ℕ) (ps : List Producer) → RisesFrom low ps → youngest r ps ≡ Some n → low ≤ n
+youngest-from r low n [] rises e = absurd (cc)
+youngest-from r low n (p ∷ ps) rises e =
+    youngest-head low n p.number (r == p.register) (youngest r ps) rises.0 (λ k. youngest-from r (p.number + 1) k ps rises.1) e
+
+-- where the oldest is the youngest of its register, no later one writes that register
+youngest-gone : (m : ℕ) (later first : Option ℕ) → ((k : ℕ) → later ≡ Some k → m + 1 ≤ k) → option_or later first ≡ Some m → later ≡ None
+youngest-gone m None first above e = refl
+youngest-gone m (Some k) first above e = let is : k ≡ m = cc in absurd (omega (arith, above k refl))
+
+youngest-later : (m : ℕ) (later : Option ℕ) → option_or later (Some m) ≢ Some m → option_or later (Some m) ≡ later
+youngest-later m (Some k) other = refl
+youngest-later m None other = absurd (other refl)
+
+youngest-others : (r : ℕ) (p : Producer) (ps : List Producer) → r ≢ p.register → youngest r (p ∷ ps) ≡ youngest r ps
+youngest-others r p ps ne = rw (ne_eqb r p.register ne) (option_or-none (youngest r ps))
+
+youngest-own : (r : ℕ) (p : Producer) (ps : List Producer) → r ≡ p.register → youngest r (p ∷ ps) ≡ option_or (youngest r ps) (Some p.number)
+youngest-own r p ps same = rw (eq-eqb r p.register same) refl
+
+is_oldest-parts : (register n : ℕ) (p : Producer) (ps : List Producer) → is_oldest register n (p ∷ ps) ≡ true
+    → (n ≡ p.number) × (register ≡ p.register)
+is_oldest-parts register n p ps oldest =
+    let parts = and_parts (n == p.number) (register == p.register) oldest in
+    (eqb-true n p.number parts.0, eqb-true register p.register parts.1)
+
+-- once the oldest has retired, and was the youngest of its register, that register has none
+pub IsTable-retire : (table : List (Option ℕ)) (register n : ℕ) (ps : List Producer) → register < 32 → RisesFrom 0 ps
+    → is_oldest register n ps ≡ true → IsTable table ps → slice_index_or table register None ≡ Some n
+    → IsTable (slice_set table register None) (drop 1 ps)
+IsTable-retire table register n [] number rises oldest is held = absurd (cc)
+IsTable-retire table register n (p ∷ ps) number rises oldest is held =
+    let parts = is_oldest-parts register n p ps oldest in
+    let within : register < length table = omega (arith, is.places) in
+    record {
+      places = length-set table register None ∙ is.places;
+      producers = λ r h. by_register _ r register
+          (λ same. let own : r ≡ p.register = same ∙ parts.1 in
+          let whole : option_or (youngest r ps) (Some p.number) ≡ Some p.number = sym (youngest-own r p ps own) ∙ (sym (is.producers r h) ∙ (rw same (held ∙ rw parts.0 refl))) in
+          let none : youngest r ps ≡ None = youngest-gone p.number (youngest r ps) (Some p.number) (λ k. youngest-from r (p.number + 1) k ps rises.1) whole in
+          rw none (rw same (get_or-set_same table register None None within)))
+          (λ ne. let others : r ≢ p.register = λ e. ne (e ∙ sym parts.1) in
+          get_or-set_other table register r None None ne ∙ (is.producers r h ∙ youngest-others r p ps others));
+    }
+
+-- a younger producer of the register stays
+pub IsTable-keep : (table : List (Option ℕ)) (register n : ℕ) (ps : List Producer) → is_oldest register n ps ≡ true → IsTable table ps
+    → slice_index_or table register None ≢ Some n → IsTable table (drop 1 ps)
+IsTable-keep table register n [] oldest is other = absurd (cc)
+IsTable-keep table register n (p ∷ ps) oldest is other =
+    let parts = is_oldest-parts register n p ps oldest in
+    record {
+      places = is.places;
+      producers = λ r h. by_register _ r register
+          (λ same. let own : r ≡ p.register = same ∙ parts.1 in
+          let whole : slice_index_or table r None ≡ option_or (youngest r ps) (Some p.number) = is.producers r h ∙ youngest-own r p ps own in
+          let differs : option_or (youngest r ps) (Some p.number) ≢ Some p.number = λ e. other (rw (← same) (whole ∙ (e ∙ rw parts.0 refl))) in
+          whole ∙ youngest-later p.number (youngest r ps) differs)
+          (λ ne. let others : r ≢ p.register = λ e. ne (e ∙ sym parts.1) in is.producers r h ∙ youngest-others r p ps others);
+    }
+
+-- what a comparison of options tells
+pub option_eq-true : (x : Option ℕ) (n : ℕ) → option_eq nat_eq x (Some n) ≡ true → x ≡ Some n
+option_eq-true None n e = absurd (cc)
+option_eq-true (Some m) n e = ap (λ k. Some k) (eqb-true m n e)
+
+pub option_eq-false : (x : Option ℕ) (n : ℕ) → option_eq nat_eq x (Some n) ≡ false → x ≢ Some n
+option_eq-false None n e same = cc
+option_eq-false (Some m) n e same = let is : m ≡ n = cc in eqb-false m n e is
+
+option_or-some : (x : Option ℕ) (n : ℕ) → option_or x (Some n) ≡ None → ⊥
+option_or-some None n e = cc
+option_or-some (Some m) n e = cc
+
+-- a register with no youngest producer has none
+none-above : (r n : ℕ) (ps : List Producer) → youngest r ps ≡ None → NoneAbove r n ps
+none-above r n [] e = tt
+none-above r n (p ∷ ps) e =
+    by_register _ r p.register
+    (λ same. absurd (let some : option_or (youngest r ps) (Some p.number) ≡ None = sym (youngest-own r p ps same) ∙ e in option_or-some (youngest r ps) p.number some))
+    (λ ne. (λ same. absurd (ne same), none-above r n ps (sym (youngest-others r p ps ne) ∙ e)))
+
+-- the youngest producer of a register has the highest number
+pub NoneAbove-youngest : (r low n : ℕ) (ps : List Producer) → RisesFrom low ps → youngest r ps ≡ Some n → NoneAbove r n ps
+NoneAbove-youngest r low n [] rises e = tt
+NoneAbove-youngest r low n (p ∷ ps) rises e =
+    let go : (later : Option ℕ) → youngest r ps ≡ later → NoneAbove r n (p ∷ ps) = λ later. elim later as (λ later. youngest r ps ≡ later → NoneAbove r n (p ∷ ps)) [
+      | None ↦ λ is. (
+        λ same. let first : Some p.number ≡ Some n = rw (youngest-own r p ps same, is) at e in let at : p.number ≡ n = cc in omega arith,
+        none-above r n ps is,
+      )
+      | Some m ↦ λ is. let at : m ≡ n = let whole : Some m ≡ Some n = rw is at e in cc in
+          let later : youngest r ps ≡ Some n = is ∙ ap (λ k. Some k) at in
+          (λ same. omega (arith, youngest-from r (p.number + 1) n ps rises.1 later), NoneAbove-youngest r (p.number + 1) n ps rises.1 later)
+    ] in
+    go (youngest r ps) refl
+
+pub IfSome-from : (x : Option ℕ) (P : ℕ → Type 0) → ((n : ℕ) → x ≡ Some n → P n) → IfSome x P
+IfSome-from None P h = tt
+IfSome-from (Some n) P h = h n refl

@@ -1,0 +1,40 @@
+use Rattle.std.proofs.Common.{sym, ◌∙◌, arith}
+use Rattle.rv_rename.proofs.Youngest.{IsTable-retire, IsTable-keep, option_eq-true, option_eq-false}
+use Rattle.rv_rename.proofs.Prefixes.{RisesFrom-drop}
+use Rattle.rv_rename.proofs.CheckpointLists.{checkpoints_of-retire, checkpoints_of-other}
+use Rattle.rv_rename.proofs.rename_map.RenameMap.retire.Goals as goal
+
+pub invariant_of-self : goal.invariant_of-self
+invariant_of-self c =
+    let oldest = rw (← c.self.view_is) at (sym c.is_oldest.ensures ∙ c.if-is_oldest.true) in
+    rw (c.pop_front.ensures.items, c.index-place.ensures.number) (record {
+      rising = RisesFrom-drop c.self.inside.producers.items c.self.invariant.rising;
+      table_ok = IsTable-retire c.self.inside.table c.args.reg c.args.seq c.self.inside.producers.items (omega (arith, c.index-place.ensures)) c.self.invariant.rising oldest c.self.invariant.table_ok (rw (← c.index-place.ensures.number) (option_eq-true _ c.args.seq (sym c.eq.ensures ∙ c.if-eq.true)));
+      numbers_fit = c.self.invariant.numbers_fit;
+      room_ok = c.self.invariant.room_ok;
+    })
+
+pub invariant_of-self-else-eq : goal.invariant_of-self-else-eq
+invariant_of-self-else-eq c =
+    let oldest = rw (← c.self.view_is) at (sym c.is_oldest.ensures ∙ c.if-is_oldest.true) in
+    rw c.pop_front.ensures.items (record {
+      rising = RisesFrom-drop c.self.inside.producers.items c.self.invariant.rising;
+      table_ok = IsTable-keep c.self.inside.table c.args.reg c.args.seq c.self.inside.producers.items oldest c.self.invariant.table_ok (rw (← c.index-place.ensures.number) (option_eq-false _ c.args.seq (sym c.eq.ensures ∙ c.if-eq.false)));
+      numbers_fit = c.self.invariant.numbers_fit;
+      room_ok = c.self.invariant.room_ok;
+    })
+
+pub returns-then-eq : goal.returns-then-eq
+returns-then-eq c =
+    let oldest = rw (← c.self.view_is) at (sym c.is_oldest.ensures ∙ c.if-is_oldest.true) in
+    rw (← c.self.view_is, c.pop_front.ensures.items, oldest, checkpoints_of-retire c.args.reg c.args.seq c.self.inside.checkpoints.items c.self.inside.producers.items c.self.invariant.rising oldest)
+
+pub returns-else-eq : goal.returns-else-eq
+returns-else-eq c =
+    let oldest = rw (← c.self.view_is) at (sym c.is_oldest.ensures ∙ c.if-is_oldest.true) in
+    rw (← c.self.view_is, c.pop_front.ensures.items, oldest, checkpoints_of-retire c.args.reg c.args.seq c.self.inside.checkpoints.items c.self.inside.producers.items c.self.invariant.rising oldest)
+
+pub returns-else-is_oldest : goal.returns-else-is_oldest
+returns-else-is_oldest c =
+    let other = rw (← c.self.view_is) at (sym c.is_oldest.ensures ∙ c.if-is_oldest.false) in
+    rw (← c.self.view_is, other, checkpoints_of-other c.args.reg c.args.seq c.self.inside.checkpoints.items c.self.inside.producers.items other)
