@@ -1,0 +1,2 @@
+pub mod BusLemmas
+pub mod PoolLemmas

@@ -1,0 +1,6 @@
+pub mod Bus
+pub mod BusFields
+pub mod Pool
+pub mod PoolFields
+pub mod Units
+pub mod UnitsFields
