@@ -1,0 +1,5 @@
+pub mod ColumnLemmas
+pub mod LaneLemmas
+pub mod PoolLemmas
+pub mod SearchLemmas
+pub mod ZipLemmas

@@ -1,0 +1,50 @@
+-- A search for the oldest ready instruction that passes a test.
+use Rattle.std.proofs.Common.{◌≡◌, ℕ, zero, suc, ◌+◌, ◌≤◌, Bool, true, false, ◌&&◌, List, [], ◌∷◌, ◌++◌, length, take, drop, remove, slice_get, Some, None, refl, ap, sym, ◌∙◌, arith}
+use Rattle.std.proofs.lemmas.List.{append-nil, append_assoc, drop_all, take_all}
+use Rattle.rv_stations.specs.declared.waiting.Waiting.{Waiting}
+use Rattle.rv_stations.specs.Waiting.{is_ready, oldest_ready, without_oldest_ready}
+
+-- The instructions before a place are passed by: what is found from there on is what is found in all.
+pub record Searching (test : Waiting → Bool) (ws : List Waiting) (at : ℕ) : Type 0 where
+  pub same_oldest : oldest_ready test (drop at ws) ≡ oldest_ready test ws
+  pub same_others : take at ws ++ without_oldest_ready test (drop at ws) ≡ without_oldest_ready test ws
+
+-- the list from a place on
+pub drop_at_get : (ws : List Waiting) (at : ℕ) (w : Waiting) → slice_get ws at ≡ Some w → drop at ws ≡ w ∷ drop (at + 1) ws
+drop_at_get [] at w is = cc
+drop_at_get (v ∷ vs) zero w is = cc
+drop_at_get (v ∷ vs) (suc at) w is =
+    let next : suc at + 1 ≡ suc (at + 1) = omega arith in rw next (drop_at_get vs at w is)
+
+-- and up to the place behind
+pub take_at_get : (ws : List Waiting) (at : ℕ) (w : Waiting) → slice_get ws at ≡ Some w → take (at + 1) ws ≡ take at ws ++ w ∷ []
+take_at_get [] at w is = cc
+take_at_get (v ∷ vs) zero w is = cc
+take_at_get (v ∷ vs) (suc at) w is =
+    let next : suc at + 1 ≡ suc (at + 1) = omega arith in rw next (ap (λ us. v ∷ us) (take_at_get vs at w is))
+
+pub Searching-pass : (test : Waiting → Bool) (ws : List Waiting) (at : ℕ) (w : Waiting) → slice_get ws at ≡ Some w → (is_ready w && test w) ≡ false → Searching test ws at → Searching test ws (at + 1)
+Searching-pass test ws at w is fails s =
+    let here = drop_at_get ws at w is in
+    let passed = take_at_get ws at w is in
+    let oldest : oldest_ready test (drop at ws) ≡ oldest_ready test (drop (at + 1) ws) = rw (here, fails) refl in
+    let others : without_oldest_ready test (drop at ws) ≡ w ∷ without_oldest_ready test (drop (at + 1) ws) = rw (here, fails) refl in
+    record {
+      same_oldest = sym oldest ∙ s.same_oldest;
+      same_others = rw (passed, append_assoc) (ap (λ us. take at ws ++ us) (sym others) ∙ s.same_others);
+    }
+
+pub Searching-found : (test : Waiting → Bool) (ws : List Waiting) (at : ℕ) (w : Waiting) → slice_get ws at ≡ Some w → (is_ready w && test w) ≡ true → Searching test ws at → (oldest_ready test ws ≡ slice_get ws at) × (without_oldest_ready test ws ≡ remove ws at)
+Searching-found test ws at w is passes s =
+    let here = drop_at_get ws at w is in
+    let next : at + 1 ≡ suc at = omega arith in
+    let oldest : oldest_ready test (drop at ws) ≡ Some w = rw (here, passes) refl in
+    let others : without_oldest_ready test (drop at ws) ≡ drop (suc at) ws = rw (here, passes) (ap (λ n. drop n ws) next) in
+    (sym s.same_oldest ∙ oldest ∙ sym is, sym s.same_others ∙ ap (λ us. take at ws ++ us) others)
+
+pub Searching-none : (test : Waiting → Bool) (ws : List Waiting) (at : ℕ) → length ws ≤ at → Searching test ws at → (oldest_ready test ws ≡ None) × (without_oldest_ready test ws ≡ ws)
+Searching-none test ws at over s =
+    let none = drop_all at ws over in
+    let oldest : oldest_ready test (drop at ws) ≡ None = rw none refl in
+    let others : without_oldest_ready test (drop at ws) ≡ [] = rw none refl in
+    (sym s.same_oldest ∙ oldest, sym s.same_others ∙ ap (λ us. take at ws ++ us) others ∙ append-nil (take at ws) ∙ take_all at ws over)

@@ -1,0 +1,7 @@
+pub mod Column
+pub mod ColumnFields
+pub mod Pool
+pub mod PoolFields
+pub mod Stations
+pub mod StationsFields
+pub mod Waiting

@@ -1,0 +1,103 @@
+ghost use Rattle.std.specs.Prelude.{◌≡◌, ◌<◌, [], Some, length, map, remove, take, slice_get, IfOk};
+ghost use Rattle.rv_stations.specs.Waiting.{IsOperand, woken_operand};
+ghost use Rattle.rv_stations.specs.Column.{operand_of, with_operand};
+
+use crate::lanes::{self, NO_PRODUCER};
+use crate::waiting::Operand;
+use std::alloc::{AllocError, Global};
+use std::marker::Model;
+
+/// An operand of each waiting instruction of a kind, the tags and the values in lists of their own.
+#[derive(Debug, Drop)]
+pub struct OperandColumn {
+    tags: Vec<u64>,
+    values: Vec<u64>,
+    capacity: usize,
+}
+
+impl Model for OperandColumn {
+    ghost use Rattle.rv_stations.specs.Column.{Column};
+
+    ghost Value = { Column };
+
+    ghost use Rattle.rv_stations.specs.ColumnFields.{column, IsSoundColumn};
+
+    ghost view = { column };
+
+    ghost invariant = { IsSoundColumn };
+}
+
+impl OperandColumn {
+    /// No operands, with room for some.
+    pub fn new(alloc: Global, capacity: usize) -> Result<Self, AllocError>
+        ensures { IfOk result (λ column. column ≡ record { operands = []; capacity = capacity }) }
+    {
+        Ok(OperandColumn {
+            tags: Vec::with_capacity(alloc, capacity)?,
+            values: Vec::with_capacity(alloc, capacity)?,
+            capacity,
+        })
+    }
+
+    /// Adds an operand at the end.
+    pub fn push(&mut self, operand: Operand)
+        requires room { length self.old.operands < self.old.capacity }
+        requires in_range { IsOperand operand }
+        ensures { self.new ≡ with_operand operand self.old }
+    {
+        match operand {
+            Operand::Value(value) => self.push_parts(NO_PRODUCER, u64::from(value)),
+            Operand::Tag(tag) => self.push_parts(tag, 0),
+        }
+    }
+
+    fn push_parts(&mut self, tag: u64, value: u64)
+        requires { length self.old.operands < self.old.capacity }
+        ensures { self.new ≡ with_operand (operand_of tag value) self.old }
+    {
+        self.tags.push_reserved(tag);
+        self.values.push_reserved(value);
+    }
+
+    /// The operand at a place.
+    pub fn get(&self, at: usize) -> Operand
+        requires { at < length self.now.operands }
+        ensures { slice_get self.now.operands at ≡ Some result }
+    {
+        let tag = self.tags[at];
+        if tag == NO_PRODUCER {
+            Operand::Value((self.values[at] % 0x1_0000_0000) as u32)
+        } else {
+            Operand::Tag(tag)
+        }
+    }
+
+    /// Gives each operand whose tag is a sequence number the value of its producer.
+    pub fn wake(&mut self, number: u64, value: u32)
+        ensures { self.new ≡ record self.old { operands = map (woken_operand number value) self.old.operands } }
+    {
+        let tags = self.tags.as_mut_slice();
+        let values = self.values.as_mut_slice();
+        if number == NO_PRODUCER {
+            return;
+        }
+        lanes::wake_all(tags, values, number, u64::from(value));
+    }
+
+    /// Takes out the operand at a place.
+    pub fn remove(&mut self, at: usize)
+        requires { at < length self.old.operands }
+        ensures { self.new ≡ record self.old { operands = remove self.old.operands at } }
+    {
+        self.tags.remove(at);
+        self.values.remove(at);
+    }
+
+    /// Keeps a number of operands at the front.
+    pub fn truncate(&mut self, len: usize)
+        ensures { self.new ≡ record self.old { operands = take len self.old.operands } }
+    {
+        self.tags.truncate(len);
+        self.values.truncate(len);
+    }
+}

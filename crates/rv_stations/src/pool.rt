@@ -1,0 +1,179 @@
+ghost use Rattle.std.specs.Prelude.{◌≡◌, ◌<◌, ◌≤◌, ◌↔◌, Bool, Some, length, slice_get, IsTrue, IfOk, IfSome, option_and_then};
+ghost use Rattle.rv_stations.specs.Waiting.{IsInOrder, IsOperand, IsYoungest, is_ready, oldest_ready};
+
+use crate::column::OperandColumn;
+use crate::waiting::Waiting;
+use rv_isa::{Instr, KindValues};
+use std::alloc::{AllocError, Global};
+use std::marker::Model;
+
+/// What the front fetched: an address, and the instruction there.
+#[derive(Clone, Copy, Debug, PartialEq, Eq)]
+pub struct Fetched {
+    pub pc: u32,
+    pub instruction: Instr,
+}
+
+/// The reservation stations of one kind: numbers, instructions and operands in lists of their own.
+#[derive(Debug, Drop)]
+pub struct StationPool {
+    numbers: Vec<u64>,
+    fetched: Vec<Fetched>,
+    first: OperandColumn,
+    second: OperandColumn,
+    capacity: usize,
+}
+
+impl Model for StationPool {
+    ghost use Rattle.rv_stations.specs.Pool.{Pool};
+
+    ghost Value = { Pool };
+
+    ghost use Rattle.rv_stations.specs.PoolFields.{pool, IsSoundPool};
+
+    ghost view = { pool };
+
+    ghost invariant = { IsSoundPool };
+}
+
+impl StationPool {
+    ghost use Rattle.rv_stations.specs.Pool.{Answers, empty_pool, with_waiting, woken_pool, issued, squashed, without_place};
+
+    /// The stations that a description gives a kind, with nothing in them.
+    pub fn new(alloc: Global, kind: KindValues) -> Result<Self, AllocError>
+        ensures { IfOk result (λ pool. pool ≡ empty_pool kind) }
+    {
+        let capacity = kind.stations as usize;
+        Ok(StationPool {
+            numbers: Vec::with_capacity(alloc, capacity)?,
+            fetched: Vec::with_capacity(alloc, capacity)?,
+            first: OperandColumn::new(alloc, capacity)?,
+            second: OperandColumn::new(alloc, capacity)?,
+            capacity,
+        })
+    }
+
+    /// Whether an instruction waits in each station.
+    pub fn is_full(&self) -> bool
+        ensures full { IsTrue result ↔ (length self.now.waiting ≡ self.now.capacity) }
+        ensures within { length self.now.waiting ≤ self.now.capacity }
+    {
+        self.numbers.len() == self.capacity
+    }
+
+    /// Whether a sequence number is above all that wait.
+    pub fn is_youngest(&self, number: u64) -> bool
+        ensures { IsTrue result ↔ IsYoungest number self.now.waiting }
+    {
+        match self.numbers.last() {
+            None => true,
+            Some(last) => *last < number,
+        }
+    }
+
+    /// How many instructions wait.
+    fn len(&self) -> usize
+        ensures len { result ≡ length self.now.waiting }
+        ensures in_order { IsInOrder self.now.waiting }
+    {
+        self.numbers.len()
+    }
+
+    /// Takes in an instruction that is younger than all that wait.
+    pub fn insert(&mut self, waiting: Waiting)
+        requires room { length self.old.waiting < self.old.capacity }
+        requires youngest { IsYoungest waiting.number self.old.waiting }
+        requires first { IsOperand waiting.first }
+        requires second { IsOperand waiting.second }
+        ensures { self.new ≡ with_waiting waiting self.old }
+    {
+        self.numbers.push_reserved(waiting.number);
+        self.fetched.push_reserved(Fetched {
+            pc: waiting.pc,
+            instruction: waiting.instruction,
+        });
+        self.first.push(waiting.first);
+        self.second.push(waiting.second);
+    }
+
+    /// Gives each operand whose tag is a sequence number the value of its producer.
+    pub fn wake(&mut self, number: u64, value: u32)
+        ensures { self.new ≡ woken_pool number value self.old }
+    {
+        self.first.wake(number, value);
+        self.second.wake(number, value);
+    }
+
+    /// The instruction in a place.
+    fn instruction_at(&self, at: usize) -> Waiting
+        requires { at < length self.now.waiting }
+        ensures { slice_get self.now.waiting at ≡ Some result }
+    {
+        let number = self.numbers[at];
+        let fetched = self.fetched[at];
+        let first = self.first.get(at);
+        let second = self.second.get(at);
+        Waiting {
+            number,
+            pc: fetched.pc,
+            instruction: fetched.instruction,
+            first,
+            second,
+        }
+    }
+
+    /// The place of the oldest instruction that is ready and passes a filter.
+    fn place_of_oldest_ready<F: Fn(&Waiting) -> bool>(&self, filter: &F) -> Option<usize>
+        requires { F.IsAlwaysCallable filter.now }
+        ensures within { IfSome result (λ at. at < length self.now.waiting) }
+        ensures ready { IfSome result (λ at. IfSome (slice_get self.now.waiting at) (λ w. IsTrue (is_ready w))) }
+        ensures oldest { (test : Waiting → Bool) → Answers F.Fn filter.now test → oldest_ready test self.now.waiting ≡ option_and_then (slice_get self.now.waiting) result }
+        ensures others { (test : Waiting → Bool) → Answers F.Fn filter.now test → issued test self.now ≡ without_place result self.now }
+        ensures in_order { IsInOrder self.now.waiting }
+    {
+        for at in 0..self.len() {
+            let waiting = self.instruction_at(at);
+            if waiting.is_ready() && filter(&waiting) {
+                return Some(at);
+            }
+        }
+        None
+    }
+
+    /// Takes out the instruction in a place.
+    fn take(&mut self, at: usize) -> Waiting
+        requires { at < length self.old.waiting }
+        ensures taken { slice_get self.old.waiting at ≡ Some result }
+        ensures others { self.new ≡ without_place (Some at) self.old }
+    {
+        let taken = self.instruction_at(at);
+        self.numbers.remove(at);
+        self.fetched.remove(at);
+        self.first.remove(at);
+        self.second.remove(at);
+        taken
+    }
+
+    /// Takes out the oldest instruction that is ready and passes a filter, or none where none does.
+    pub fn take_oldest_ready<F: Fn(&Waiting) -> bool>(&mut self, filter: F) -> Option<Waiting>
+        requires { F.IsAlwaysCallable filter }
+        ensures oldest { (test : Waiting → Bool) → Answers F.Fn filter test → result ≡ oldest_ready test self.old.waiting }
+        ensures others { (test : Waiting → Bool) → Answers F.Fn filter test → self.new ≡ issued test self.old }
+        ensures ready { IfSome result (λ w. IsTrue (is_ready w)) }
+        ensures in_order { IsInOrder self.old.waiting }
+    {
+        let at = self.place_of_oldest_ready(&filter)?;
+        Some(self.take(at))
+    }
+
+    /// Takes out the instructions of a sequence number and of all above it.
+    pub fn squash(&mut self, from: u64)
+        ensures { self.new ≡ squashed from self.old }
+    {
+        let kept = self.numbers.partition_point(|number| *number < from);
+        self.numbers.truncate(kept);
+        self.fetched.truncate(kept);
+        self.first.truncate(kept);
+        self.second.truncate(kept);
+    }
+}

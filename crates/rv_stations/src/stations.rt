@@ -1,0 +1,284 @@
+ghost use Rattle.std.specs.Prelude.{◌≡◌, ◌<◌, ◌≤◌, ◌↔◌, Bool, length, IsTrue, IfOk, IfSome};
+ghost use Rattle.rv_stations.specs.Waiting.{IsInOrder, IsOperand, IsYoungest, is_ready, oldest_ready};
+ghost use Rattle.rv_stations.specs.Pool.{Answers, with_waiting, woken_pool, issued, squashed};
+ghost use Rattle.rv_stations.specs.Stations.{empty_pools, pool_of, with_pool, each_pool};
+
+use crate::pool::StationPool;
+use crate::waiting::Waiting;
+use rv_isa::{Description, Kind};
+use std::alloc::{AllocError, Global};
+use std::marker::Model;
+
+/// The reservation stations of the four kinds.
+#[derive(Debug, Drop)]
+pub struct Stations {
+    alu: StationPool,
+    mul: StationPool,
+    div: StationPool,
+    mem: StationPool,
+}
+
+impl Model for Stations {
+    ghost use Rattle.rv_stations.specs.Stations.{Pools};
+
+    ghost Value = { Pools };
+
+    ghost use Rattle.rv_stations.specs.StationsFields.{pools};
+
+    ghost view = { pools };
+}
+
+impl Stations {
+    /// The stations that a description gives, with nothing in them. The only error is want of memory.
+    pub fn new(alloc: Global, description: &Description) -> Result<Self, AllocError>
+        ensures { IfOk result (λ stations. stations ≡ empty_pools description.now) }
+    {
+        let values = description.values();
+        Ok(Stations {
+            alu: StationPool::new(alloc, values.alu)?,
+            mul: StationPool::new(alloc, values.mul)?,
+            div: StationPool::new(alloc, values.div)?,
+            mem: StationPool::new(alloc, values.mem)?,
+        })
+    }
+
+    /// Whether an instruction waits in each station of a kind.
+    pub fn is_full(&self, kind: Kind) -> bool
+        ensures full { IsTrue result ↔ (length (pool_of kind self.now).waiting ≡ (pool_of kind self.now).capacity) }
+        ensures within { length (pool_of kind self.now).waiting ≤ (pool_of kind self.now).capacity }
+    {
+        match kind {
+            Kind::Alu => self.alu.is_full(),
+            Kind::Mul => self.mul.is_full(),
+            Kind::Div => self.div.is_full(),
+            Kind::Mem => self.mem.is_full(),
+        }
+    }
+
+    /// Whether a sequence number is above those of all instructions of a kind that wait.
+    pub fn is_youngest(&self, kind: Kind, number: u64) -> bool
+        ensures { IsTrue result ↔ IsYoungest number (pool_of kind self.now).waiting }
+    {
+        match kind {
+            Kind::Alu => self.alu.is_youngest(number),
+            Kind::Mul => self.mul.is_youngest(number),
+            Kind::Div => self.div.is_youngest(number),
+            Kind::Mem => self.mem.is_youngest(number),
+        }
+    }
+
+    /// Takes in an instruction of a kind that is younger than all of the kind that wait. Its tags are
+    /// sequence numbers.
+    pub fn insert(&mut self, kind: Kind, waiting: Waiting)
+        requires room { length (pool_of kind self.old).waiting < (pool_of kind self.old).capacity }
+        requires youngest { IsYoungest waiting.number (pool_of kind self.old).waiting }
+        requires first { IsOperand waiting.first }
+        requires second { IsOperand waiting.second }
+        ensures { self.new ≡ with_pool kind (with_waiting waiting (pool_of kind self.old)) self.old }
+    {
+        match kind {
+            Kind::Alu => self.alu.insert(waiting),
+            Kind::Mul => self.mul.insert(waiting),
+            Kind::Div => self.div.insert(waiting),
+            Kind::Mem => self.mem.insert(waiting),
+        }
+    }
+
+    /// Gives every operand whose tag is a sequence number the value of its producer, and changes no
+    /// other.
+    pub fn wake(&mut self, number: u64, value: u32)
+        ensures { self.new ≡ each_pool (woken_pool number value) self.old }
+    {
+        self.alu.wake(number, value);
+        self.mul.wake(number, value);
+        self.div.wake(number, value);
+        self.mem.wake(number, value);
+    }
+
+    /// Takes out the oldest instruction of a kind that is ready, with both operands' values there, and
+    /// that passes a filter; none where there is none.
+    pub fn take_oldest_ready<F: Fn(&Waiting) -> bool>(
+        &mut self,
+        kind: Kind,
+        filter: F,
+    ) -> Option<Waiting>
+        requires { F.IsAlwaysCallable filter }
+        ensures oldest { (test : Waiting → Bool) → Answers F.Fn filter test → result ≡ oldest_ready test (pool_of kind self.old).waiting }
+        ensures others { (test : Waiting → Bool) → Answers F.Fn filter test → self.new ≡ with_pool kind (issued test (pool_of kind self.old)) self.old }
+        ensures ready { IfSome result (λ w. IsTrue (is_ready w)) }
+        ensures in_order { IsInOrder (pool_of kind self.old).waiting }
+    {
+        match kind {
+            Kind::Alu => self.alu.take_oldest_ready(filter),
+            Kind::Mul => self.mul.take_oldest_ready(filter),
+            Kind::Div => self.div.take_oldest_ready(filter),
+            Kind::Mem => self.mem.take_oldest_ready(filter),
+        }
+    }
+
+    /// Takes out the instructions of a sequence number and of all above it.
+    pub fn squash(&mut self, from: u64)
+        ensures { self.new ≡ each_pool (squashed from) self.old }
+    {
+        self.alu.squash(from);
+        self.mul.squash(from);
+        self.div.squash(from);
+        self.mem.squash(from);
+    }
+}
+
+#[cfg(test)]
+mod tests {
+    use super::*;
+    use crate::waiting::Operand;
+    use rv_isa::{Instr, KindValues, Values};
+    use std::process::Abort;
+    use std::test::Fail;
+
+    fn with_stations(rt: &impl Abort, stations: u32) -> Description {
+        let standard = Values::standard();
+        let values = Values {
+            alu: KindValues {
+                stations,
+                ..standard.alu
+            },
+            ..standard
+        };
+        Description::new(values).expect(rt, "a legal description")
+    }
+
+    fn put(rt: &impl Abort, stations: &mut Stations, number: u64, first: Operand, second: Operand) {
+        assert!(rt; !stations.is_full(Kind::Alu));
+        assert!(rt; stations.is_youngest(Kind::Alu, number));
+        assert!(rt; is_in_range(first) && is_in_range(second));
+        stations.insert(
+            Kind::Alu,
+            Waiting {
+                number,
+                pc: 0,
+                instruction: Instr::Fence,
+                first,
+                second,
+            },
+        );
+    }
+
+    fn is_in_range(operand: Operand) -> bool
+        ensures { IsTrue result → IsOperand operand }
+    {
+        match operand {
+            Operand::Value(_) => true,
+            Operand::Tag(tag) => tag < 1 << 44,
+        }
+    }
+
+    fn issue(rt: &impl Abort, stations: &mut Stations, number: u64, value: u32) {
+        let issued = stations
+            .take_oldest_ready(Kind::Alu, |_| true)
+            .expect(rt, "a ready instruction");
+        assert_eq!(rt; issued.number, number);
+        assert_eq!(rt; issued.first, Operand::Value(value));
+        assert_eq!(rt; issued.second, Operand::Value(value));
+    }
+
+    // In lanes of eight, with and without a rest.
+    #[test]
+    fn wake_reaches_all_none_or_the_last(rt: HostRuntime) -> Result<(), Fail> {
+        for count in [1, 7, 8, 9, 63, 64] {
+            let mut stations = Stations::new(rt.alloc(), &with_stations(&rt, count))?;
+            let last = u64::from(count) - 1;
+            for number in 0..last {
+                put(
+                    &rt,
+                    &mut stations,
+                    number,
+                    Operand::Tag(100),
+                    Operand::Tag(100),
+                );
+            }
+            put(
+                &rt,
+                &mut stations,
+                last,
+                Operand::Tag(200),
+                Operand::Tag(200),
+            );
+            assert!(rt; stations.is_full(Kind::Alu), "{count} stations");
+            stations.wake(300, 3);
+            assert!(rt;
+                stations.take_oldest_ready(Kind::Alu, |_| true).is_none(),
+                "{count} stations"
+            );
+            stations.wake(200, 2);
+            issue(&rt, &mut stations, last, 2);
+            assert!(rt;
+                stations.take_oldest_ready(Kind::Alu, |_| true).is_none(),
+                "{count} stations"
+            );
+            stations.wake(100, 1);
+            for number in 0..last {
+                issue(&rt, &mut stations, number, 1);
+            }
+            assert!(rt;
+                stations.take_oldest_ready(Kind::Alu, |_| true).is_none(),
+                "{count} stations"
+            );
+        }
+        Ok(())
+    }
+
+    #[test]
+    fn one_operand_of_two_is_not_enough(rt: HostRuntime) -> Result<(), Fail> {
+        let mut stations = Stations::new(rt.alloc(), &with_stations(&rt, 4))?;
+        put(&rt, &mut stations, 5, Operand::Tag(3), Operand::Tag(4));
+        put(&rt, &mut stations, 6, Operand::Value(9), Operand::Value(9));
+        stations.wake(3, 7);
+        issue(&rt, &mut stations, 6, 9);
+        stations.wake(4, 7);
+        issue(&rt, &mut stations, 5, 7);
+        Ok(())
+    }
+
+    #[test]
+    fn the_filter_passes_by_older_instructions(rt: HostRuntime) -> Result<(), Fail> {
+        let mut stations = Stations::new(rt.alloc(), &with_stations(&rt, 4))?;
+        for number in 5..8 {
+            put(
+                &rt,
+                &mut stations,
+                number,
+                Operand::Value(1),
+                Operand::Value(1),
+            );
+        }
+        let second = stations.take_oldest_ready(Kind::Alu, |waiting| waiting.number != 5);
+        let number = match &second {
+            Some(waiting) => waiting.number,
+            None => 0,
+        };
+        assert_eq!(rt; number, 6);
+        issue(&rt, &mut stations, 5, 1);
+        issue(&rt, &mut stations, 7, 1);
+        Ok(())
+    }
+
+    #[test]
+    fn squashed_numbers_come_again(rt: HostRuntime) -> Result<(), Fail> {
+        let mut stations = Stations::new(rt.alloc(), &with_stations(&rt, 4))?;
+        for number in 5..9 {
+            put(
+                &rt,
+                &mut stations,
+                number,
+                Operand::Value(1),
+                Operand::Value(1),
+            );
+        }
+        stations.squash(6);
+        put(&rt, &mut stations, 6, Operand::Value(2), Operand::Value(2));
+        issue(&rt, &mut stations, 5, 1);
+        issue(&rt, &mut stations, 6, 2);
+        assert!(rt; stations.take_oldest_ready(Kind::Alu, |_| true).is_none());
+        Ok(())
+    }
+}

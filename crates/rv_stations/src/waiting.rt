@@ -1,0 +1,49 @@
+ghost use Rattle.std.specs.Prelude.{◌≡◌};
+
+use rv_isa::Instr;
+
+/// An operand of a waiting instruction.
+#[derive(Clone, Copy, Debug, PartialEq, Eq)]
+pub enum Operand {
+    /// The operand's value. An instruction that has no such operand has the value 0 in its place.
+    Value(u32),
+    /// The tag of the operand's producer, which is the producer's sequence number, below 2^44.
+    Tag(u64),
+}
+
+impl Operand {
+    ghost use Rattle.rv_stations.specs.Waiting.{has_value};
+
+    /// Whether the value is there.
+    pub fn has_value(self) -> bool
+        ensures { result ≡ has_value self }
+    {
+        matches!(self, Operand::Value(_))
+    }
+}
+
+/// An instruction that waits in a reservation station.
+#[derive(Clone, Copy, Debug, PartialEq, Eq)]
+pub struct Waiting {
+    /// Its sequence number.
+    pub number: u64,
+    /// Its address.
+    pub pc: u32,
+    /// What it does.
+    pub instruction: Instr,
+    /// What register `rs1` holds.
+    pub first: Operand,
+    /// What register `rs2` holds.
+    pub second: Operand,
+}
+
+impl Waiting {
+    ghost use Rattle.rv_stations.specs.Waiting.{is_ready};
+
+    /// Whether both operands have their values.
+    pub fn is_ready(&self) -> bool
+        ensures { result ≡ is_ready self.now }
+    {
+        self.first.has_value() && self.second.has_value()
+    }
+}
