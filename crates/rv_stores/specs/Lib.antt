@@ -1,0 +1,4 @@
+pub mod Bytes
+pub mod Order
+pub mod Queue
+pub mod Store

@@ -1,0 +1,59 @@
+-- The store queue as a list of stores, oldest first, and what the calls make and tell of it.
+use Rattle.std.specs.Prelude.{ℕ, ◌+◌, ◌<◌, nat_lt, length, List, [], ◌∷◌, filter, map, Option, None, if◌then◌else◌}
+use Rattle.std.specs.Option.{option_or}
+use Rattle.rv_stores.specs.declared.store.Write.{Write}
+use Rattle.rv_stores.specs.declared.store.Store.{Store}
+use Rattle.rv_stores.specs.Store.{byte_at, draining, is_committed, is_draining, retired, write_to_drain}
+
+-- the stores, oldest first, and how many there may be
+pub record Queue : Type 0 where
+  pub stores : List Store
+  pub capacity : ℕ
+
+-- each store's number is below n
+abbrev pub AreBelow : ℕ → List Store → Type 0
+AreBelow n [] = Unit {0}
+AreBelow n (s ∷ ss) = (s.number < n) × AreBelow n ss
+
+-- there is room for a store, and the number is above each one that the queue holds
+abbrev pub CanEnter : ℕ → Queue → Type 0
+CanEnter number queue = (length queue.stores < queue.capacity) × AreBelow number queue.stores
+
+-- the stores, with the oldest one that is not committed retired
+abbrev pub with_oldest_retired : List Store → List Store
+with_oldest_retired [] = []
+with_oldest_retired (s ∷ ss) =
+    if is_committed s then s ∷ with_oldest_retired ss else record s { state = retired s.state } ∷ ss
+
+-- what the oldest store writes, where it is committed and not draining
+abbrev pub oldest_to_drain : List Store → Option Write
+oldest_to_drain [] = None
+oldest_to_drain (s ∷ ss) = write_to_drain s
+
+-- the stores, with the oldest one draining
+abbrev pub with_oldest_draining : List Store → List Store
+with_oldest_draining [] = []
+with_oldest_draining (s ∷ ss) = record s { state = draining s.state } ∷ ss
+
+-- the stores, without the oldest one where that drains
+abbrev pub without_drained : List Store → List Store
+without_drained [] = []
+without_drained (s ∷ ss) = if is_draining s then ss else s ∷ ss
+
+-- the stores of instructions below a number
+abbrev pub older_than : ℕ → List Store → List Store
+older_than number stores = filter (λ s. nat_lt s.number number) stores
+
+-- the byte at a place of memory of the youngest store that covers it
+abbrev pub youngest_byte : ℕ → List Store → Option ℕ
+youngest_byte place [] = None
+youngest_byte place (s ∷ ss) = option_or (youngest_byte place ss) (byte_at place s)
+
+-- the byte that stores forward to one place of an access of `count` bytes, None behind its end
+abbrev pub forwarded_byte : List Store → ℕ → ℕ → ℕ → Option ℕ
+forwarded_byte stores address count offset =
+    if nat_lt offset count then youngest_byte (address + offset) stores else None
+
+-- the bytes that stores forward to an access of `count` bytes
+abbrev pub forwarded : List Store → ℕ → ℕ → List (Option ℕ)
+forwarded stores address count = map (forwarded_byte stores address count) (0 ∷ 1 ∷ 2 ∷ 3 ∷ [])

@@ -1,0 +1,46 @@
+ghost use Rattle.std.specs.Prelude.{◌≡◌, ◌≤◌, length};
+
+use std::marker::Model;
+
+/// The bytes that a store writes, at the lowest address first: at most four.
+#[derive(Clone, Copy, Debug, PartialEq, Eq)]
+pub struct StoreBytes {
+    bytes: [u8; 4],
+    count: usize,
+}
+
+// Clauses see the list of the bytes; the places behind them hold zeros.
+impl Model for StoreBytes {
+    ghost use Rattle.std.specs.Prelude.{◌≡◌, ℕ, ◌≤◌, List, length, take};
+    ghost use Rattle.rv_stores.specs.Bytes.{padded};
+
+    ghost Value = { List ℕ };
+
+    ghost view = { λ b. take b.count b.bytes };
+
+    ghost invariant = { λ b. (length (take b.count b.bytes) ≡ b.count) × (padded (take b.count b.bytes) ≡ b.bytes) × (b.count ≤ 4) };
+
+    ghost inverse = { λ xs. record { bytes = padded xs; count = length xs } };
+}
+
+impl StoreBytes {
+    /// The bytes of a slice of at most four.
+    pub fn from_slice(bytes: &[u8]) -> StoreBytes
+        requires { length bytes.now ≤ 4 }
+        ensures { result ≡ bytes.now }
+    {
+        let mut padded = [0; 4];
+        padded[..bytes.len()].copy_from_slice(bytes);
+        StoreBytes {
+            bytes: padded,
+            count: bytes.len(),
+        }
+    }
+
+    /// The bytes as a slice, the lowest address first.
+    pub fn as_slice(&self) -> &[u8]
+        ensures { result.now ≡ self.now }
+    {
+        &self.bytes[..self.count]
+    }
+}
