@@ -1,0 +1,101 @@
+-- The front as a list of fetched words, and what a cycle's fetch adds to it.
+use Rattle.std.specs.Prelude.{◌≡◌, ℕ, zero, suc, ◌+◌, ◌-◌, ◌%◌, ◌^◌, Bool, true, false, ◌==◌, ◌&&◌, nat_le, nat_lt, is_none, List, [], ◌∷◌, ◌++◌, length, Option, Some, None, MatchBool, MatchOption, if◌then◌else◌}
+use Rattle.rv_memory.specs.Ram.{Memory}
+use Rattle.rv_memory.specs.Bytes.{word_at}
+use Rattle.rv_front.specs.declared.fetched.Fetched.{Fetched}
+use Rattle.rv_front.specs.declared.fetched.FetchStop.{FetchStop}
+use Rattle.rv_front.specs.declared.fetched.FetchStop.TheVariants.{Width, Room, Prediction, Halted}
+
+-- the fetched words, oldest first, how many there may be, how many a cycle fetches, and the pc to fetch next
+pub record FetchBuffer : Type 0 where
+  pub entries : List Fetched
+  pub capacity : ℕ
+  pub width : ℕ
+  pub next_pc : ℕ
+  pub halted : Bool
+
+-- the address of the word behind the one at a pc
+abbrev pub sequential : ℕ → ℕ
+sequential pc = (pc + 4) % 2 ^ 32
+
+-- the pc of the oldest of some words, or the one to be fetched next where there is none
+abbrev pub first_pc : List Fetched → ℕ → ℕ
+first_pc [] next = next
+first_pc (e ∷ es) next = e.pc
+
+abbrev pub head_pc : FetchBuffer → ℕ
+head_pc front = first_pc front.entries front.next_pc
+
+-- each word is at the pc that the one before it predicts, and the next to be fetched at the last prediction
+abbrev pub IsLinked : List Fetched → ℕ → Type 0
+IsLinked [] next = Unit {0}
+IsLinked (e ∷ es) next = (first_pc es next ≡ e.predicted) × IsLinked es next
+
+abbrev pub IsChain : FetchBuffer → Type 0
+IsChain front = IsLinked front.entries front.next_pc
+
+-- what RAM gives for the word at a pc, None where it does not lie in RAM
+abbrev pub fetched_word : Memory → ℕ → Option ℕ
+fetched_word ram pc =
+    if nat_le ram.base pc && nat_le (pc + 4) (ram.base + length ram.bytes)
+    then Some (word_at ram.bytes (pc - ram.base))
+    else None
+
+-- the entry that the fetch of the word at a pc makes, whatever the prediction
+pub record IsFetchedAt (ram : Memory) (cycle pc : ℕ) (entry : Fetched) : Type 0 where
+  pub pc_is : entry.pc ≡ pc
+  pub word_is : entry.word ≡ fetched_word ram pc
+  pub cycle_is : entry.cycle ≡ cycle
+  pub aligned : entry.predicted % 4 ≡ 0
+
+-- why a fetch ends with a word: RAM gives none, or the prediction is not the address behind it
+abbrev pub stop_for : Option ℕ → Bool → Option FetchStop
+stop_for None straight = Some Halted
+stop_for (Some word) true = None
+stop_for (Some word) false = Some Prediction
+
+abbrev pub stop_behind : Fetched → Option FetchStop
+stop_behind e = stop_for e.word (e.predicted == sequential e.pc)
+
+-- why a fetch ends that takes no more words, where it may take `width` and has room for `room`
+abbrev pub EndsFor : ℕ → ℕ → FetchStop → Type 0
+EndsFor zero room stop = stop ≡ Width
+EndsFor (suc width) zero stop = stop ≡ Room
+EndsFor (suc width) (suc room) stop = ⊥
+
+-- the words that a fetch adds, from a pc on, where it may take `width` and has room for `room`
+abbrev pub Fetches : Memory → ℕ → ℕ → ℕ → ℕ → List Fetched → ℕ → FetchStop → Type 0
+Fetches ram cycle width room pc [] next stop = EndsFor width room stop × (next ≡ pc)
+Fetches ram cycle zero room pc (e ∷ es) next stop = ⊥
+Fetches ram cycle (suc width) zero pc (e ∷ es) next stop = ⊥
+Fetches ram cycle (suc width) (suc room) pc (e ∷ es) next stop =
+    IsFetchedAt ram cycle pc e ×
+    MatchOption (stop_behind e)
+    (Fetches ram cycle width room e.predicted es next stop)
+    (λ reason. (es ≡ []) × (next ≡ e.predicted) × (stop ≡ reason))
+
+-- whether a fetch that ended so halts the front
+abbrev pub is_halted : FetchStop → Bool
+is_halted Width = false
+is_halted Room = false
+is_halted Prediction = false
+is_halted Halted = true
+
+-- a cycle's fetch: a halted front stays as it is; any other keeps its words, and the new ones come behind them
+abbrev pub FetchesInto : Memory → ℕ → FetchBuffer → FetchBuffer → FetchStop → Type 0
+FetchesInto ram cycle old new stop =
+    MatchBool old.halted
+    ((new ≡ old) × (stop ≡ Halted))
+    ((added : List Fetched) ×
+    Fetches ram cycle old.width (old.capacity - length old.entries) old.next_pc added new.next_pc stop ×
+    (new ≡ record old { entries = old.entries ++ added; next_pc = new.next_pc; halted = is_halted stop }))
+
+-- the fetch of one word where there is room, and why the fetch ends with it or, where there is none, without it
+abbrev pub FetchesOne : Memory → ℕ → FetchBuffer → FetchBuffer → Option FetchStop → Type 0
+FetchesOne ram cycle old new stop =
+    MatchBool (nat_lt (length old.entries) old.capacity)
+    ((e : Fetched) ×
+    IsFetchedAt ram cycle old.next_pc e ×
+    (stop ≡ stop_behind e) ×
+    (new ≡ record old { entries = old.entries ++ e ∷ []; next_pc = e.predicted; halted = is_none e.word }))
+    ((new ≡ old) × (stop ≡ Some Room))

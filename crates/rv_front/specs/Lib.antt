@@ -1,0 +1,3 @@
+pub mod FetchBuffer
+pub mod Flow
+pub mod Predictors

@@ -1,0 +1,43 @@
+ghost use Rattle.std.specs.Prelude.{◌≡◌};
+ghost use Rattle.rv_front.specs.FetchBuffer.{stop_behind};
+
+/// A word in the fetch buffer.
+#[derive(Clone, Copy, Debug, PartialEq, Eq)]
+pub struct Fetched {
+    /// The address that it was fetched from.
+    pub pc: u32,
+    /// What RAM held there at that moment, None outside RAM: an access fault.
+    pub word: Option<u32>,
+    /// The predicted pc of the next instruction, a multiple of 4.
+    pub predicted: u32,
+    /// The cycle of its fetch.
+    pub cycle: u64,
+}
+
+/// Why a cycle's fetch stopped.
+#[derive(Clone, Copy, Debug, PartialEq, Eq)]
+pub enum FetchStop {
+    /// It took as many words as the front fetches in a cycle.
+    Width,
+    /// The fetch buffer was full.
+    Room,
+    /// A prediction was not the address behind the word.
+    Prediction,
+    /// The pc is outside RAM: nothing is fetched until the front is redirected.
+    Halted,
+}
+
+impl Fetched {
+    // Why a fetch ends with this word, if it does.
+    pub(crate) fn stop(&self) -> Option<FetchStop>
+        ensures { result ≡ stop_behind self.now }
+    {
+        if self.word.is_none() {
+            return Some(FetchStop::Halted);
+        }
+        if self.predicted != self.pc.wrapping_add(4) {
+            return Some(FetchStop::Prediction);
+        }
+        None
+    }
+}

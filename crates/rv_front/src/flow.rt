@@ -1,0 +1,55 @@
+ghost use Rattle.std.specs.Prelude.{◌≡◌};
+ghost use Rattle.rv_front.specs.Flow.{flow_at, flow_of};
+
+use rv_decode::decode;
+use rv_isa::Instr;
+
+/// Where a program may go on behind an instruction, as far as its word and its pc tell.
+#[derive(Clone, Copy, Debug, PartialEq, Eq)]
+pub enum Flow {
+    /// At the next word: the instruction neither branches nor jumps, or the word is illegal.
+    Sequential,
+    /// At the target, by a JAL.
+    Jump {
+        /// The target's address.
+        target: u32,
+    },
+    /// At the target or the next word, by a branch.
+    Branch {
+        /// The target's address.
+        target: u32,
+        /// Whether the offset is negative.
+        backward: bool,
+    },
+    /// Where a register leads, by a JALR.
+    Indirect,
+}
+
+impl Flow {
+    /// Where the program may go on behind the word at a pc.
+    pub fn at(pc: u32, word: u32) -> Flow
+        ensures { result ≡ flow_at pc word }
+    {
+        match decode(word) {
+            Some(instruction) => Flow::of(pc, instruction),
+            None => Flow::Sequential,
+        }
+    }
+
+    // Where the program may go on behind the instruction at a pc.
+    fn of(pc: u32, instruction: Instr) -> Flow
+        ensures { result ≡ flow_of pc instruction }
+    {
+        match instruction {
+            Instr::Jal { offset, .. } => Flow::Jump {
+                target: pc.wrapping_add(offset.word()),
+            },
+            Instr::Jalr { .. } => Flow::Indirect,
+            Instr::Branch { offset, .. } => Flow::Branch {
+                target: pc.wrapping_add(offset.word()),
+                backward: offset.value() < 0,
+            },
+            _ => Flow::Sequential,
+        }
+    }
+}

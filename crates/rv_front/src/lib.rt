@@ -1,0 +1,22 @@
+//! The front of the out-of-order core: the fetch buffer, and the branch predictors that guide the fetch. The buffer's
+//! model is the list of the fetched words, each at the pc that the one before it predicts, for every predictor; the core
+//! fetches into it, dispatches from it and redirects it.
+#![tactic(auto)]
+
+mod backward_taken;
+mod bimodal;
+mod fetched;
+mod flow;
+mod front;
+mod not_taken;
+mod predictor;
+#[cfg(test)]
+mod tests;
+
+pub use backward_taken::BackwardTaken;
+pub use bimodal::Bimodal;
+pub use fetched::{FetchStop, Fetched};
+pub use flow::Flow;
+pub use front::Front;
+pub use not_taken::NotTaken;
+pub use predictor::Predictor;
