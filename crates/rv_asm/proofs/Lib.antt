@@ -1,0 +1,14 @@
+pub mod Defined
+pub mod Emitted
+pub mod Labels
+pub mod LineAdded
+pub mod Lines
+pub mod Named
+pub mod Operands
+pub mod Pieces
+pub mod SecondLine
+pub mod SectionsSoFar
+pub mod TokenFirst
+pub mod TokenLines
+pub mod TokenNumbers
+pub mod TokenStrings

@@ -1,0 +1,16 @@
+-- What the program appends to a section.
+use Rattle.std.specs.Prelude.{◌≡◌, ℕ, List, ◌++◌, Result, Ok}
+use Rattle.rv_asm.specs.Meaning.{Cell, Spells}
+use Rattle.rv_asm.specs.declared.fault.AsmFault.{AsmFault}
+
+-- the bytes of these parts were appended
+pub record Appends (parts : List Cell) (old new : List ℕ) : Type 0 where
+  pub bytes : List ℕ
+  pub spells : Spells parts bytes
+  pub appended : new ≡ old ++ bytes
+
+-- the bytes of what this means were appended
+pub record Emits (meaning : Result (List Cell) AsmFault) (old new : List ℕ) : Type 0 where
+  pub parts : List Cell
+  pub means : meaning ≡ Ok parts
+  pub appends : Appends parts old new

@@ -1,0 +1,43 @@
+-- The fault of a text.
+use Rattle.std.specs.Prelude.{ℕ, ◌%◌, ◌==◌, ◌||◌, List, Bool, false, if◌then◌else◌, Option, Some, None, Result, Ok, codes}
+use Rattle.std.specs.List.{list_any}
+use Rattle.std.specs.Option.{option_or}
+use Rattle.std.specs.Result.{result_err}
+use Rattle.std.specs.Str.{bytes_eq}
+use Rattle.rv_asm.specs.Earliest.{earliest}
+use Rattle.rv_asm.specs.FirstPass.{first_fault}
+use Rattle.rv_asm.specs.Layout.{Line, Unreadable, Readable, Layout, layout, statement_in}
+use Rattle.rv_asm.specs.Meaning.{line_cells, start_address}
+use Rattle.rv_asm.specs.Statement.{Statement, Constant}
+use Rattle.rv_asm.specs.declared.fault.AsmFault.{AsmFault}
+use Rattle.rv_asm.specs.declared.fault.AsmFault.TheVariants.{Misaligned}
+use Rattle.rv_asm.specs.declared.layout.Reach.{Reach}
+
+-- the name of the symbol where execution starts
+abbrev pub is_start : List ℕ → Bool
+is_start name = bytes_eq name (codes "_start")
+
+abbrev pub constant_starts : Result Statement AsmFault → Bool
+constant_starts (Ok (Constant name number)) = is_start name
+constant_starts _ = false
+
+-- the line defines _start
+abbrev pub defines_start : Line → Bool
+defines_start Unreadable = false
+defines_start (Readable labels body) = list_any is_start labels || constant_starts (statement_in body)
+
+-- the line defines _start, and that is no multiple of 4
+abbrev pub start_fault : ℕ → Layout → Line → Option AsmFault
+start_fault base whole line =
+    if defines_start line then (if start_address base whole % 4 == 0 then None else Some Misaligned) else None
+
+-- the fault that the second pass finds in a line: of its statement, or of the start
+abbrev pub second_fault : ℕ → Layout → Reach → Line → Option AsmFault
+second_fault base whole reach line = option_or (result_err (line_cells base whole reach line)) (start_fault base whole line)
+
+-- the fault of a text: the earliest of the first pass, else the earliest of the second
+abbrev pub fault_of : ℕ → List Line → Option (AsmFault × ℕ)
+fault_of base lines =
+    option_or
+    (earliest (λ earlier line. first_fault (layout earlier) line) lines)
+    (earliest (λ earlier line. second_fault base (layout lines) (layout earlier).reach line) lines)

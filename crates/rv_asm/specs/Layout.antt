@@ -1,0 +1,176 @@
+-- Where the statements of a text stand, and what its symbols are.
+use Rattle.std.specs.Prelude.{ℕ, ℤ, pos, negsuc, ◌+◌, ◌-◌, ◌*◌, ◌%◌, ◌+ℤ◌, ◌-ℤ◌, List, [], ◌∷◌, length, Bool, if◌then◌else◌, ◌==◌, nat_lt, Option, Some, None, Result, Ok, Err, unwrap_or, unsigned_abs}
+use Rattle.std.specs.List.{slice_split}
+use Rattle.std.specs.Option.{option_or}
+use Rattle.std.specs.Str.{bytes_eq}
+use Rattle.std.specs.Int.{int_div_euclid, int_rem_euclid}
+use Rattle.rv_isa.specs.Operation.{bytes_of}
+use Rattle.rv_isa.specs.Word.{signed, modulo_word}
+use Rattle.rv_isa.specs.declared.instructions.Instr.{Instr}
+use Rattle.rv_isa.specs.declared.instructions.Instr.TheVariants.{Lui, Auipc, OpImmediate}
+use Rattle.rv_isa.specs.declared.operations.ImmediateOp.TheVariants.{Addi}
+use Rattle.rv_asm.specs.Operand.{Expression, Number, Symbol, Sum}
+use Rattle.rv_asm.specs.Statement.{Statement, Choice, Constant, Instruction, Values, Zeros, Align, Characters, and_then, reading, statement, is_between}
+use Rattle.rv_asm.specs.Token.{Token, tokens_of}
+use Rattle.rv_asm.specs.Token as token
+use Rattle.rv_asm.specs.declared.fault.AsmFault.{AsmFault}
+use Rattle.rv_asm.specs.declared.operation.Fields.{Fields}
+use Rattle.rv_asm.specs.declared.operation.Operation.{Operation}
+use Rattle.rv_asm.specs.declared.operation.Operation.TheVariants as operation
+use Rattle.rv_asm.specs.declared.operation.Section.{Section}
+use Rattle.rv_asm.specs.declared.operation.Section.TheVariants.{Text, Data}
+use Rattle.rv_asm.specs.declared.layout.Reach.{Reach}
+use Rattle.rv_asm.specs.declared.symbols.Definition.{Definition}
+use Rattle.rv_asm.specs.declared.symbols.Definition.TheVariants as symbol
+
+-- a line: bytes that are no tokens, or labels and the tokens behind them
+pub data Line : Type 0 where
+  Unreadable : Line
+  Readable : List (List ℕ) → List Token → Line
+
+-- the names before a colon at the front of a line
+abbrev pub labels_of : List Token → List (List ℕ)
+labels_of (token.Name name ∷ token.Colon ∷ rest) = name ∷ labels_of rest
+labels_of _ = []
+
+-- what stands behind the labels
+abbrev pub body_of : List Token → List Token
+body_of (token.Name name ∷ token.Colon ∷ rest) = body_of rest
+body_of tokens = tokens
+
+abbrev pub line_of : Option (List Token) → Line
+line_of None = Unreadable
+line_of (Some tokens) = Readable (labels_of tokens) (body_of tokens)
+
+-- lines behind those that came earlier, the last line first
+abbrev pub lines_onto : List Line → List (List ℕ) → List Line
+lines_onto earlier [] = earlier
+lines_onto earlier (bytes ∷ others) = lines_onto (line_of (tokens_of bytes) ∷ earlier) others
+
+-- the lines of a text, the last line first; a line feed ends a line
+abbrev pub lines_of : List ℕ → List Line
+lines_of text = lines_onto [] (slice_split (λ byte. byte == 10) text)
+
+-- the statement that tokens spell
+abbrev pub statement_in : List Token → Result Statement AsmFault
+statement_in body = and_then (reading body) (λ read. statement read.0 read.1)
+
+-- of v as the sum of 4096 times an upper part and a lower part from -2048 to 2047: the upper part modulo 2 ^ 20
+abbrev pub upper : ℤ → ℕ
+upper v = unsigned_abs (int_rem_euclid (int_div_euclid (v +ℤ pos 2048) (pos 4096)) (pos 1048576))
+
+-- and the lower part
+abbrev pub lower : ℤ → ℤ
+lower v = int_rem_euclid (v +ℤ pos 2048) (pos 4096) -ℤ pos 2048
+
+-- a whole number modulo 2 ^ 32, read as a signed word
+abbrev pub signed_word : ℤ → ℤ
+signed_word z = signed (modulo_word z)
+
+-- the instructions that load a signed word: one where it is an immediate or its lower part is 0, else two
+abbrev pub load_number : ℕ → ℤ → List Instr
+load_number rd v =
+    if is_between (negsuc 2047) (pos 2047) v then OpImmediate Addi rd 0 v ∷ []
+    else (if is_between (pos 0) (pos 0) (lower v) then Lui rd (upper v) ∷ []
+    else Lui rd (upper v) ∷ OpImmediate Addi rd rd (lower v) ∷ [])
+
+-- the instructions that load an address by its distance, always two
+abbrev pub load_address : ℕ → ℤ → List Instr
+load_address rd away = Auipc rd (upper away) ∷ OpImmediate Addi rd rd (lower away) ∷ []
+
+-- no section has bytes yet, and the text begins in .text
+abbrev pub start : Reach
+start = record { section = Text; text_size = 0; data_size = 0 }
+
+abbrev pub offset_in : Section → Reach → ℕ
+offset_in Text reach = reach.text_size
+offset_in Data reach = reach.data_size
+
+-- how many bytes the section in force has so far
+abbrev pub offset : Reach → ℕ
+offset reach = offset_in reach.section reach
+
+abbrev pub grow_in : Section → ℕ → Reach → Reach
+grow_in Text size reach = record reach { text_size = reach.text_size + size }
+grow_in Data size reach = record reach { data_size = reach.data_size + size }
+
+-- the number of a .equ
+abbrev pub number_of : Option Definition → Option ℤ
+number_of (Some (symbol.Constant number)) = Some number
+number_of _ = None
+
+-- the value of an expression without labels
+abbrev pub known : (List ℕ → Option Definition) → Expression → ℤ
+known definition (Number number) = number
+known definition (Symbol name) = unwrap_or (number_of (definition name)) (pos 0)
+known definition (Sum name number) = pos 0
+
+-- the least number of bytes that leads from an offset to a multiple
+abbrev pub padding : ℕ → ℕ → ℕ
+padding multiple offset = (multiple - offset % multiple) % multiple
+
+-- the bytes of an instruction
+abbrev pub instruction_size : (List ℕ → Option Definition) → Operation → Fields → Expression → ℕ
+instruction_size definition operation.LoadNumber fields value = 4 * length (load_number fields.rd (signed_word (known definition value)))
+instruction_size definition operation.LoadAddress fields value = 8
+instruction_size definition _ fields value = 4
+
+-- the bytes of a statement at an offset
+abbrev pub size : (List ℕ → Option Definition) → ℕ → Statement → ℕ
+size definition offset (Instruction operation fields value) = instruction_size definition operation fields value
+size definition offset (Values width operands) = bytes_of width * length operands
+size definition offset (Zeros count) = count
+size definition offset (Align multiple) = padding multiple offset
+size definition offset (Characters bytes terminated) = length bytes + (if terminated then 1 else 0)
+size definition offset _ = 0
+
+-- how far the text has come behind a statement
+abbrev pub advance : (List ℕ → Option Definition) → Statement → Reach → Reach
+advance definition (Choice section) reach = record reach { section = section }
+advance definition statement reach = grow_in reach.section (size definition (offset reach) statement) reach
+
+-- text and data have more than 16,777,200 bytes
+abbrev pub is_too_large : Reach → Bool
+is_too_large reach = nat_lt 16777200 (reach.text_size + reach.data_size)
+
+-- what a name stands for, if it is defined
+abbrev pub Meanings : Type 0
+Meanings = List ℕ → Option Definition
+
+-- a name more is defined; the first definition of a name counts
+abbrev pub defined : Meanings → List ℕ → Definition → Meanings
+defined meanings name definition other = option_or (meanings other) (if bytes_eq name other then Some definition else None)
+
+-- how far the text has come, and what it has defined
+pub record Layout : Type 0 where
+  pub reach : Reach
+  pub meanings : Meanings
+
+-- a label is the offset at which its line begins
+abbrev pub label_at : Reach → Definition
+label_at reach = symbol.Label reach.section (offset reach)
+
+-- labels more are defined
+abbrev pub labelled : Meanings → Definition → List (List ℕ) → Meanings
+labelled meanings here [] = meanings
+labelled meanings here (name ∷ names) = labelled (defined meanings name here) here names
+
+-- the symbol of a .equ more is defined
+abbrev pub with_constant : Meanings → Statement → Meanings
+with_constant meanings (Constant name number) = defined meanings name (symbol.Constant number)
+with_constant meanings _ = meanings
+
+-- the layout behind a statement, if it could be read
+abbrev pub behind : Meanings → Reach → Result Statement AsmFault → Layout
+behind meanings reach (Ok statement) = record { reach = advance meanings statement reach; meanings = with_constant meanings statement }
+behind meanings reach (Err fault) = record { reach = reach; meanings = meanings }
+
+-- the layout behind a line
+abbrev pub extended : Layout → Line → Layout
+extended layout Unreadable = layout
+extended layout (Readable labels body) = behind (labelled layout.meanings (label_at layout.reach) labels) layout.reach (statement_in body)
+
+-- the layout of lines, the last one first
+abbrev pub layout : List Line → Layout
+layout [] = record { reach = start; meanings = λ name. None }
+layout (line ∷ earlier) = extended (layout earlier) line

@@ -1,0 +1,16 @@
+pub mod Earliest
+pub mod Emitted
+pub mod Faults
+pub mod FirstPass
+pub mod Layout
+pub mod Meaning
+pub mod Mnemonic
+pub mod Names
+pub mod Operand
+pub mod ReadLayout
+pub mod ReadOperand
+pub mod ReadStatement
+pub mod ReadToken
+pub mod Statement
+pub mod Symbols
+pub mod Token

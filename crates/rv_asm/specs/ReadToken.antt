@@ -1,0 +1,22 @@
+-- What a token of the program stands for.
+use Rattle.std.specs.Option.{option_map}
+use Rattle.rv_asm.specs.Token as text
+use Rattle.rv_asm.specs.Token.{unescaped}
+use Rattle.rv_asm.specs.declared.token.Token.{Token}
+use Rattle.rv_asm.specs.declared.token.Token.TheVariants.{Name, Number, Comma, Colon, LeftParenthesis, RightParenthesis, Plus, Minus, Text}
+use Rattle.rv_asm.specs.declared.token.Lexeme.{Lexeme}
+
+abbrev pub token_of : Token → text.Token
+token_of (Name bytes) = text.Name bytes.now
+token_of (Number n) = text.Number n
+token_of Comma = text.Comma
+token_of Colon = text.Colon
+token_of LeftParenthesis = text.LeftParenthesis
+token_of RightParenthesis = text.RightParenthesis
+token_of Plus = text.Plus
+token_of Minus = text.Minus
+token_of (Text bytes) = text.Text (unescaped bytes.now)
+
+-- a lexeme with its token as it stands in the text
+abbrev pub lexeme_of : Lexeme → text.Lexeme
+lexeme_of found = record { token = option_map token_of found.token; size = found.size }

@@ -1,0 +1,226 @@
+-- What a line says behind its labels.
+use Rattle.std.specs.Prelude.{ℕ, ℤ, pos, negsuc, List, [], ◌∷◌, Bool, true, false, ◌&&◌, ◌||◌, if◌then◌else◌, Option, Some, None, Result, Ok, Err, int_le, unsigned_abs, is_some, ok_or, unwrap_or, ◌==◌}
+use Rattle.std.specs.List.{list_all}
+use Rattle.std.specs.Option.{option_map}
+use Rattle.rv_isa.specs.declared.operations.Width.{Width}
+use Rattle.rv_asm.specs.Mnemonic.{form_named}
+use Rattle.rv_asm.specs.Names.{register_named, csr_named}
+use Rattle.rv_asm.specs.Operand.{Expression, Number, Symbol, Sum, Operand, Value, Indirect, Text, operands_of}
+use Rattle.rv_asm.specs.Token.{Token}
+use Rattle.rv_asm.specs.Token as token
+use Rattle.rv_asm.specs.declared.fault.AsmFault.{AsmFault}
+use Rattle.rv_asm.specs.declared.fault.AsmFault.TheVariants.{UnknownMnemonic, BadOperands, BadRegister}
+use Rattle.rv_asm.specs.declared.operation.Fields.{Fields}
+use Rattle.rv_asm.specs.declared.operation.Form.{Form}
+use Rattle.rv_asm.specs.declared.operation.Form.TheVariants as form
+use Rattle.rv_asm.specs.declared.operation.Operation.{Operation}
+use Rattle.rv_asm.specs.declared.operation.Operation.TheVariants as operation
+use Rattle.rv_asm.specs.declared.operation.Place.{Place}
+use Rattle.rv_asm.specs.declared.operation.Place.TheVariants as place
+use Rattle.rv_asm.specs.declared.operation.Section.{Section}
+
+-- a statement whose symbols have no values yet
+pub data Statement : Type 0 where
+  -- no statement, or one without effect
+  Nothing : Statement
+  -- from the next line on, the section is this one
+  Choice : Section → Statement
+  -- a symbol and its number
+  Constant : List ℕ → ℤ → Statement
+  -- an instruction, and the expression that its immediate, target or number is
+  Instruction : Operation → Fields → Expression → Statement
+  -- numbers of this width
+  Values : Width → List Operand → Statement
+  -- zero bytes
+  Zeros : ℕ → Statement
+  -- zero bytes up to a multiple
+  Align : ℕ → Statement
+  -- the bytes of a string, and whether a zero follows
+  Characters : List ℕ → Bool → Statement
+
+-- what is made of a value that is there
+abbrev pub and_then : {T U E : Type 0} → Result T E → (T → Result U E) → Result U E
+and_then (Ok x) next = next x
+and_then (Err e) next = Err e
+
+-- the number is not below the first and not above the second
+abbrev pub is_between : ℤ → ℤ → ℤ → Bool
+is_between least greatest number = int_le least number && int_le number greatest
+
+-- the place has no operand
+abbrev pub is_implied : Place → Bool
+is_implied place.Link = true
+is_implied place.Return = true
+is_implied place.One = true
+is_implied place.MinusOne = true
+is_implied place.Empty = true
+is_implied _ = false
+
+-- the shapes of operands
+abbrev pub is_name : Operand → Bool
+is_name (Value (Symbol name)) = true
+is_name _ = false
+
+abbrev pub is_value : Operand → Bool
+is_value (Value expression) = true
+is_value _ = false
+
+abbrev pub is_known : Operand → Bool
+is_known (Value (Number number)) = true
+is_known (Value (Symbol name)) = true
+is_known _ = false
+
+abbrev pub is_target : Operand → Bool
+is_target (Value (Symbol name)) = true
+is_target (Value (Sum name number)) = true
+is_target _ = false
+
+abbrev pub is_address : Operand → Bool
+is_address (Indirect offset name) = true
+is_address _ = false
+
+abbrev pub is_base : Operand → Bool
+is_base (Indirect (Some offset) name) = true
+is_base _ = false
+
+abbrev pub is_csr : Operand → Bool
+is_csr (Value (Number number)) = true
+is_csr (Value (Symbol name)) = is_some (csr_named name)
+is_csr _ = false
+
+-- the operand has the shape of the place; a register may be any name
+abbrev pub takes : Place → Operand → Bool
+takes place.Rd operand = is_name operand
+takes place.Rs1 operand = is_name operand
+takes place.Rs2 operand = is_name operand
+takes place.Value operand = is_value operand
+takes place.Known operand = is_known operand
+takes place.Target operand = is_target operand
+takes place.Address operand = is_address operand
+takes place.Base operand = is_base operand
+takes place.Csr operand = is_csr operand
+takes _ operand = false
+
+-- the operands have the shapes of the places, one each
+abbrev pub fits : List Place → List Operand → Bool
+fits [] [] = true
+fits [] (operand ∷ operands) = false
+fits (place ∷ places) [] = is_implied place && fits places []
+fits (place ∷ places) (operand ∷ operands) =
+    if is_implied place then fits places (operand ∷ operands)
+    else (takes place operand && fits places operands)
+
+-- the register that an operand names
+abbrev pub register_in : Operand → Result ℕ AsmFault
+register_in (Value (Symbol name)) = ok_or (register_named name) BadRegister
+register_in (Indirect offset name) = ok_or (register_named name) BadRegister
+register_in _ = Err BadOperands
+
+-- the expression of an operand; an offset that is missing is 0
+abbrev pub expression_in : Operand → Expression
+expression_in (Value expression) = expression
+expression_in (Indirect (Some offset) name) = offset
+expression_in _ = Number (pos 0)
+
+-- the address of the CSR that an operand names or numbers
+abbrev pub csr_in : Operand → Result ℤ AsmFault
+csr_in (Value (Number number)) = Ok number
+csr_in (Value (Symbol name)) = ok_or (option_map (λ address. pos address) (csr_named name)) BadOperands
+csr_in _ = Err BadOperands
+
+-- a field that no operand fills is x0 or 0
+abbrev pub unfilled : Fields
+unfilled = record { rd = 0; rs1 = 0; rs2 = 0; csr = pos 0 }
+
+-- the field that an operand fills at its place, if it fills one
+abbrev pub put : Place → Operand → Fields → Result Fields AsmFault
+put place.Rd operand fields = and_then (register_in operand) (λ register. Ok (record fields { rd = register }))
+put place.Rs1 operand fields = and_then (register_in operand) (λ register. Ok (record fields { rs1 = register }))
+put place.Rs2 operand fields = and_then (register_in operand) (λ register. Ok (record fields { rs2 = register }))
+put place.Address operand fields = and_then (register_in operand) (λ register. Ok (record fields { rs1 = register }))
+put place.Base operand fields = and_then (register_in operand) (λ register. Ok (record fields { rs1 = register }))
+put place.Csr operand fields = and_then (csr_in operand) (λ address. Ok (record fields { csr = address }))
+put _ operand fields = Ok fields
+
+-- the field that a place without an operand fills; x1 holds return addresses
+abbrev pub imply : Place → Fields → Fields
+imply place.Link fields = record fields { rd = 1 }
+imply place.Return fields = record fields { rs1 = 1 }
+imply _ fields = fields
+
+-- the fields that the operands fill at their places
+abbrev pub fill : List Place → List Operand → Fields → Result Fields AsmFault
+fill [] operands fields = Ok fields
+fill (place ∷ places) [] fields = fill places [] (imply place fields)
+fill (place ∷ places) (operand ∷ operands) fields =
+    if is_implied place then fill places (operand ∷ operands) (imply place fields)
+    else and_then (put place operand fields) (λ filled. fill places operands filled)
+
+-- the expression that stands at a place, if one does
+abbrev pub value_at : Place → Operand → Option Expression
+value_at place.Value operand = Some (expression_in operand)
+value_at place.Known operand = Some (expression_in operand)
+value_at place.Target operand = Some (expression_in operand)
+value_at place.Address operand = Some (expression_in operand)
+value_at place.Base operand = Some (expression_in operand)
+value_at _ operand = None
+
+-- the number that a place without an operand means, if it means one
+abbrev pub implied_value : Place → Option Expression
+implied_value place.One = Some (Number (pos 1))
+implied_value place.MinusOne = Some (Number (negsuc 0))
+implied_value _ = None
+
+-- the expression of an instruction: the first that its places have, or 0
+abbrev pub value : List Place → List Operand → Expression
+value [] operands = Number (pos 0)
+value (place ∷ places) [] = unwrap_or (implied_value place) (value places [])
+value (place ∷ places) (operand ∷ operands) =
+    if is_implied place then unwrap_or (implied_value place) (value places (operand ∷ operands))
+    else unwrap_or (value_at place operand) (value places operands)
+
+-- the instruction with its operands, where their shapes are those of the places
+abbrev pub instruction : Operation → List Place → List Operand → Result Statement AsmFault
+instruction operation places operands =
+    if fits places operands
+    then and_then (fill places operands unfilled) (λ fields. Ok (Instruction operation fields (value places operands)))
+    else Err BadOperands
+
+-- the multiples that .balign takes
+abbrev pub is_alignment : ℤ → Bool
+is_alignment (pos n) = (n == 1) || (n == 2) || (n == 4) || (n == 8) || (n == 16)
+is_alignment (negsuc n) = false
+
+-- the number of .zero and .balign, where it is one that they take
+abbrev pub count : (ℤ → Bool) → (ℕ → Statement) → List Operand → Result Statement AsmFault
+count is_taken make (Value (Number number) ∷ []) = if is_taken number then Ok (make (unsigned_abs number)) else Err BadOperands
+count is_taken make _ = Err BadOperands
+
+-- the statement of a form with its operands
+abbrev pub statement : Form → List Operand → Result Statement AsmFault
+statement form.Nothing [] = Ok Nothing
+statement (form.Instruction operation first second third) operands = instruction operation (first ∷ second ∷ third ∷ []) operands
+statement form.Jal (target ∷ []) = instruction operation.Jal (place.Link ∷ place.Target ∷ []) (target ∷ [])
+statement form.Jal operands = instruction operation.Jal (place.Rd ∷ place.Target ∷ []) operands
+statement form.Jalr (register ∷ []) = instruction operation.Jalr (place.Link ∷ place.Rs1 ∷ []) (register ∷ [])
+statement form.Jalr (register ∷ base ∷ []) = instruction operation.Jalr (place.Rd ∷ place.Base ∷ []) (register ∷ base ∷ [])
+statement form.Jalr operands = instruction operation.Jalr (place.Rd ∷ place.Rs1 ∷ place.Value ∷ []) operands
+statement (form.Choice section) [] = Ok (Choice section)
+statement form.Global (Value (Symbol name) ∷ []) = Ok Nothing
+statement form.Constant (Value (Symbol name) ∷ Value (Number number) ∷ []) = Ok (Constant name number)
+statement (form.Values width) (first ∷ others) = if list_all is_value (first ∷ others) then Ok (Values width (first ∷ others)) else Err BadOperands
+statement form.Zeros operands = count (is_between (pos 0) (pos 16777216)) Zeros operands
+statement form.Align operands = count is_alignment Align operands
+statement (form.Characters terminated) (Text bytes ∷ []) = Ok (Characters bytes terminated)
+statement _ operands = Err BadOperands
+
+-- the symbol that li takes, which an earlier .equ has to define
+abbrev pub needed : Form → List Operand → Option (List ℕ)
+needed (form.Instruction operation.LoadNumber first second third) (register ∷ Value (Symbol name) ∷ []) = Some name
+needed _ operands = None
+
+-- the form and the operands that tokens spell
+abbrev pub reading : List Token → Result (Form × List Operand) AsmFault
+reading [] = Ok (form.Nothing, [])
+reading (token.Name name ∷ rest) = and_then (ok_or (form_named name) UnknownMnemonic) (λ named. and_then (ok_or (operands_of rest) BadOperands) (λ operands. Ok (named, operands)))
+reading _ = Err UnknownMnemonic

@@ -1,0 +1,68 @@
+ghost use Rattle.std.specs.Prelude.{◌≡◌, ◌≢◌, ◌-◌, ◌++◌, ◌==◌, [], List, Some, None, IfOk, IfErr, if◌then◌else◌, replicate};
+ghost use Rattle.rv_asm.specs.Faults.{fault_of};
+ghost use Rattle.rv_asm.specs.Layout.{layout, lines_of};
+ghost use Rattle.rv_asm.specs.Meaning.{Byte', Cell, Spells, image_parts, round_up, start_address};
+
+use crate::emit::push_zeros;
+use crate::fault::{AsmError, AsmFault};
+use crate::first_pass::Layout;
+use crate::second_pass::{Sections, start_address};
+use rv_isa::{Bytes, Image};
+use std::alloc::Global;
+
+/// How many zero bytes stand between the text and the data.
+fn gap(text_size: usize) -> usize
+    ensures { result ≡ round_up text_size - text_size }
+{
+    let size = text_size as u128;
+    ((size + 15) / 16 * 16 - size) as usize
+}
+
+/// The bytes of the image: the text, and behind zero bytes the data, if there are any.
+fn joined(text_size: usize, data_size: usize, sections: Sections) -> Result<Vec<u8>, AsmFault>
+    ensures spells { (text_parts data_parts : List Cell) → Spells text_parts sections.text.items → Spells data_parts sections.data_bytes.items → IfOk result (λ bytes. Spells (text_parts ++ (if data_size == 0 then [] else (replicate (round_up text_size - text_size) (Byte' 0) ++ data_parts))) bytes.items) }
+    ensures refused { IfErr result (λ fault. fault ≡ AsmFault.Memory) }
+{
+    let Sections {
+        mut text,
+        data_bytes,
+    } = sections;
+    if data_size == 0 {
+        return Ok(text);
+    }
+    push_zeros(&mut text, gap(text_size))?;
+    match text.extend_from_slice(data_bytes.as_slice()) {
+        Ok(()) => Ok(text),
+        Err(_) => Err(AsmFault::Memory),
+    }
+}
+
+/// The image of an assembly text whose text section begins at the base, or its first fault.
+///
+/// The base is a multiple of 4096 from 0 to 0xff000000. Want of memory is answered only where a
+/// growth was refused.
+pub fn assemble(alloc: Global, text: &[u8], base: u32) -> Result<Image, AsmError>
+    ensures clean { IfOk result (λ _. fault_of base (lines_of text.now) ≡ None) }
+    ensures base { IfOk result (λ image. image.base ≡ base) }
+    ensures bytes { IfOk result (λ image. Spells (image_parts base (lines_of text.now)) image.bytes) }
+    ensures start { IfOk result (λ image. image.start ≡ start_address base (layout (lines_of text.now))) }
+    ensures refused { IfErr result (λ error. error.fault ≢ AsmFault.Memory → fault_of base (lines_of text.now) ≡ Some (error.fault, error.line)) }
+{
+    let program = match Layout::of_text(alloc, text) {
+        Ok(program) => program,
+        Err(error) => return Err(error),
+    };
+    let sections = match Sections::of_text(alloc, &program, base, text) {
+        Ok(sections) => sections,
+        Err(error) => return Err(error),
+    };
+    let start = start_address(&program, base);
+    match joined(program.reach.text_size, program.reach.data_size, sections) {
+        Ok(bytes) => Ok(Image {
+            base,
+            bytes: Bytes::from_vec(bytes),
+            start,
+        }),
+        Err(fault) => Err(AsmError::at(fault, 0)),
+    }
+}

@@ -1,0 +1,267 @@
+ghost use Rattle.std.specs.Prelude.{◌≡◌, ◌≢◌, ◌<◌, ◌∷◌, ◌++◌, ◌^◌, [], Err, if◌then◌else◌, map, take, replicate, option_to_list, IfOk, IfErr, OnOk, MatchResult, is_some, true, false};
+ghost use Rattle.std.specs.List.{list_all};
+ghost use Rattle.std.specs.Int.{to_le_bytes, w32};
+ghost use Rattle.rv_isa.specs.Operation.{bytes_of};
+ghost use Rattle.rv_asm.specs.Emitted.{Appends, Emits};
+ghost use Rattle.rv_asm.specs.Layout.{padding};
+ghost use Rattle.rv_asm.specs.Meaning.{Byte', Word', aligned, bytes_at, cells, data_of, data_value, evaluate, fits_width, instructions, value_of};
+ghost use Rattle.rv_asm.specs.ReadOperand.{expression_of, operand_of};
+ghost use Rattle.rv_asm.specs.ReadStatement.{statement_of};
+ghost use Rattle.rv_asm.specs.Statement.{Instruction, expression_in};
+ghost use Rattle.rv_asm.specs.Symbols.{found};
+ghost use Rattle.rv_asm.specs.Token.{unescaped};
+
+use crate::fault::AsmFault;
+use crate::instructions::instructions;
+use crate::layout::{modulo_word, padding};
+use crate::operand::{Expression, Operand};
+use crate::operation::{Fields, Operation};
+use crate::statement::{Statement, expression_in};
+use crate::symbols::Symbols;
+use crate::token::push_text;
+use crate::values::evaluate;
+use rv_decode::encode;
+use rv_isa::{Instr, Width};
+
+/// Appends the word of an instruction, its lowest byte first.
+fn push_word(out: &mut Vec<u8>, instruction: &Instr) -> Result<(), AsmFault>
+    ensures pushed { OnOk result (Appends (Word' instruction.now ∷ []) out.old.items out.new.items) }
+    ensures refused { IfErr result (λ fault. fault ≡ AsmFault.Memory) }
+{
+    let word = encode(instruction);
+    let bytes = word.to_le_bytes();
+    match out.extend_from_slice(&bytes) {
+        Ok(()) => Ok(()),
+        Err(_) => Err(AsmFault::Memory),
+    }
+}
+
+/// Appends the words of one instruction, or of two.
+fn push_words(out: &mut Vec<u8>, first: &Instr, second: Option<Instr>) -> Result<(), AsmFault>
+    ensures pushed { OnOk result (Appends (map Word' (first.now ∷ option_to_list second)) out.old.items out.new.items) }
+    ensures refused { IfErr result (λ fault. fault ≡ AsmFault.Memory) }
+{
+    push_word(out, first)?;
+    match second {
+        Some(instruction) => {
+            push_word(out, &instruction)?;
+            Ok(())
+        }
+        None => Ok(()),
+    }
+}
+
+/// Appends an instruction with its expression's value in it.
+fn emit_instruction<'a>(
+    symbols: &Symbols<'a>,
+    base: u32,
+    text_size: usize,
+    start: u128,
+    offset: usize,
+    operation: Operation,
+    fields: Fields,
+    value: &Expression<'a>,
+    out: &mut Vec<u8>,
+) -> Result<(), AsmFault>
+    requires { start < 2 ^ 66 }
+    ensures { MatchResult result (λ _. Emits (cells (value_of base text_size (found symbols.now)) start offset (Instruction operation fields (expression_of value.now))) out.old.items out.new.items) (λ fault. fault ≢ AsmFault.Memory → cells (value_of base text_size (found symbols.now)) start offset (Instruction operation fields (expression_of value.now)) ≡ Err fault) }
+{
+    let address = start + offset as u128;
+    let Some(number) = evaluate(symbols, base, text_size, value) else {
+        return Err(AsmFault::UnknownSymbol);
+    };
+    match instructions(operation, fields, address, number) {
+        Ok((first, second)) => {
+            if address % 4 != 0 {
+                return Err(AsmFault::Misaligned);
+            }
+            push_words(out, &first, second)
+        }
+        Err(fault) => Err(fault),
+    }
+}
+
+/// Appends zero bytes.
+pub fn push_zeros(out: &mut Vec<u8>, count: usize) -> Result<(), AsmFault>
+    ensures pushed { OnOk result (Appends (replicate count (Byte' 0)) out.old.items out.new.items) }
+    ensures refused { IfErr result (λ fault. fault ≡ AsmFault.Memory) }
+{
+    let Some(size) = out.len().checked_add(count) else {
+        return Err(AsmFault::Memory);
+    };
+    match out.resize(size, 0) {
+        Ok(()) => Ok(()),
+        Err(_) => Err(AsmFault::Memory),
+    }
+}
+
+/// Appends the bytes of a string, and a zero where it is terminated.
+fn push_characters(out: &mut Vec<u8>, raw: &[u8], terminated: bool) -> Result<(), AsmFault>
+    ensures pushed { OnOk result (Appends (map Byte' (unescaped raw.now) ++ (if terminated then Byte' 0 ∷ [] else [])) out.old.items out.new.items) }
+    ensures refused { IfErr result (λ fault. fault ≡ AsmFault.Memory) }
+{
+    push_string(out, raw)?;
+    if terminated {
+        push_zeros(out, 1)?;
+        return Ok(());
+    }
+    Ok(())
+}
+
+/// Appends the bytes of a string.
+fn push_string(out: &mut Vec<u8>, raw: &[u8]) -> Result<(), AsmFault>
+    ensures pushed { OnOk result (Appends (map Byte' (unescaped raw.now)) out.old.items out.new.items) }
+    ensures refused { IfErr result (λ fault. fault ≡ AsmFault.Memory) }
+{
+    match push_text(out, raw) {
+        Ok(()) => Ok(()),
+        Err(_) => Err(AsmFault::Memory),
+    }
+}
+
+/// Whether data of a width may hold a number.
+fn fits_width(width: Width, number: i128) -> bool
+    ensures { result ≡ fits_width width number }
+{
+    match width {
+        Width::Byte => -128 <= number && number <= 255,
+        Width::Half => -32768 <= number && number <= 65535,
+        Width::Word => -2147483648 <= number && number <= 4294967295,
+    }
+}
+
+/// Appends the bytes of a number modulo 2^32, the lowest first.
+fn push_number(out: &mut Vec<u8>, width: Width, number: i128) -> Result<(), AsmFault>
+    ensures pushed { OnOk result (Appends (bytes_at width number) out.old.items out.new.items) }
+    ensures refused { IfErr result (λ fault. fault ≡ AsmFault.Memory) }
+{
+    let word = modulo_word(number);
+    push_low(out, width, word)?;
+    Ok(())
+}
+
+/// Appends the low bytes of a word, the lowest first.
+fn push_low(out: &mut Vec<u8>, width: Width, word: u32) -> Result<(), AsmFault>
+    ensures pushed { OnOk result (Appends (map Byte' (take (bytes_of width) (to_le_bytes w32 word))) out.old.items out.new.items) }
+    ensures refused { IfErr result (λ fault. fault ≡ AsmFault.Memory) }
+{
+    let bytes = word.to_le_bytes();
+    let (low, _) = bytes.as_slice().split_at(width.bytes() as usize);
+    match out.extend_from_slice(low) {
+        Ok(()) => Ok(()),
+        Err(_) => Err(AsmFault::Memory),
+    }
+}
+
+/// Whether each operand has a value.
+fn are_known<'a>(
+    symbols: &Symbols<'a>,
+    base: u32,
+    text_size: usize,
+    operands: &[Operand<'a>],
+) -> bool
+    ensures { result ≡ list_all (λ operand. is_some (evaluate (value_of base text_size (found symbols.now)) (expression_in operand))) (map operand_of operands.now) }
+{
+    for operand in operands {
+        let expression = expression_in(*operand);
+        if evaluate(symbols, base, text_size, &expression).is_none() {
+            return false;
+        }
+    }
+    true
+}
+
+/// Appends the value of an operand.
+fn emit_value<'a>(
+    symbols: &Symbols<'a>,
+    base: u32,
+    text_size: usize,
+    width: Width,
+    operand: &Operand<'a>,
+    out: &mut Vec<u8>,
+) -> Result<(), AsmFault>
+    ensures fits { IfOk result (λ _. fits_width width (data_value (value_of base text_size (found symbols.now)) (operand_of operand.now)) ≡ true) }
+    ensures pushed { OnOk result (Appends (bytes_at width (data_value (value_of base text_size (found symbols.now)) (operand_of operand.now))) out.old.items out.new.items) }
+    ensures misfits { IfErr result (λ fault. fault ≢ AsmFault.Memory → fits_width width (data_value (value_of base text_size (found symbols.now)) (operand_of operand.now)) ≡ false) }
+    ensures refused { IfErr result (λ fault. fault ≢ AsmFault.Memory → fault ≡ AsmFault.OutOfRange) }
+{
+    let expression = expression_in(*operand);
+    let number = match evaluate(symbols, base, text_size, &expression) {
+        Some(number) => number,
+        None => 0,
+    };
+    if !fits_width(width, number) {
+        return Err(AsmFault::OutOfRange);
+    }
+    push_number(out, width, number)?;
+    Ok(())
+}
+
+/// Appends the values of operands.
+fn emit_values<'a>(
+    symbols: &Symbols<'a>,
+    base: u32,
+    text_size: usize,
+    width: Width,
+    operands: &[Operand<'a>],
+    out: &mut Vec<u8>,
+) -> Result<(), AsmFault>
+    ensures { MatchResult result (λ _. Emits (data_of (value_of base text_size (found symbols.now)) width (map operand_of operands.now)) out.old.items out.new.items) (λ fault. fault ≢ AsmFault.Memory → data_of (value_of base text_size (found symbols.now)) width (map operand_of operands.now) ≡ Err fault) }
+{
+    let mut count = 0;
+    loop {
+        let (_, rest) = operands.split_at(count);
+        let Some((operand, _others)) = rest.split_first() else {
+            return Ok(());
+        };
+        if let Err(fault) = emit_value(symbols, base, text_size, width, operand, out) {
+            return Err(fault);
+        }
+        count += 1;
+    }
+}
+
+/// The zero bytes of `.balign`.
+fn alignment(multiple: usize, offset: usize) -> usize
+    ensures { result ≡ padding multiple offset }
+{
+    if multiple > 0 {
+        padding(multiple, offset)
+    } else {
+        0
+    }
+}
+
+/// Appends what a statement means.
+pub fn emit<'a>(
+    symbols: &Symbols<'a>,
+    base: u32,
+    text_size: usize,
+    start: u128,
+    offset: usize,
+    statement: &Statement<'a>,
+    operands: &[Operand<'a>],
+    out: &mut Vec<u8>,
+) -> Result<(), AsmFault>
+    requires { start < 2 ^ 66 }
+    ensures { MatchResult result (λ _. Emits (cells (value_of base text_size (found symbols.now)) start offset (statement_of (map operand_of operands.now) statement.now)) out.old.items out.new.items) (λ fault. fault ≢ AsmFault.Memory → cells (value_of base text_size (found symbols.now)) start offset (statement_of (map operand_of operands.now) statement.now) ≡ Err fault) }
+{
+    match statement {
+        Statement::Instruction(operation, fields, value) => emit_instruction(
+            symbols, base, text_size, start, offset, *operation, *fields, value, out,
+        ),
+        Statement::Values(width) => {
+            if are_known(symbols, base, text_size, operands) {
+                emit_values(symbols, base, text_size, *width, operands, out)
+            } else {
+                Err(AsmFault::UnknownSymbol)
+            }
+        }
+        Statement::Zeros(count) => push_zeros(out, *count),
+        Statement::Align(multiple) => push_zeros(out, alignment(*multiple, offset)),
+        Statement::Characters(raw, terminated) => push_characters(out, raw, *terminated),
+        Statement::Nothing => Ok(()),
+        Statement::Choice(_) => Ok(()),
+        Statement::Constant(_, _) => Ok(()),
+    }
+}

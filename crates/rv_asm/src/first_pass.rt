@@ -1,0 +1,175 @@
+ghost use Rattle.std.specs.Prelude.{◌≡◌, ◌≢◌, ◌≤◌, ◌<◌, ◌∷◌, ◌==◌, [], None, Some, IfOk, IfErr, IfSome, MatchOption, map, drop, length, ok_or};
+ghost use Rattle.std.specs.List.{slice_split, position_or_len};
+ghost use Rattle.rv_asm.specs.Earliest.{earliest};
+ghost use Rattle.rv_asm.specs.FirstPass.{body_fault, first_fault, operand_fault};
+ghost use Rattle.rv_asm.specs.Layout.{behind, extended, layout, line_of, lines_of, statement_in};
+ghost use Rattle.rv_asm.specs.ReadOperand.{operand_of};
+ghost use Rattle.rv_asm.specs.ReadStatement.{Follows};
+ghost use Rattle.rv_asm.specs.Statement.{statement};
+ghost use Rattle.rv_asm.specs.ReadToken.{token_of};
+ghost use Rattle.rv_asm.specs.Symbols.{found};
+ghost use Rattle.rv_asm.specs.Token.{tokens_of};
+
+use crate::fault::{AsmError, AsmFault};
+use crate::layout::{Reach, advance};
+use crate::operand::Operand;
+use crate::operation::{Form, Section};
+use crate::statement::{Statement, make_statement, needed, read};
+use crate::symbols::{Definition, Symbols};
+use crate::token::{Token, TokenError, tokenize};
+use std::alloc::Global;
+
+/// What the first pass learns of a text.
+#[derive(Drop)]
+pub struct Layout<'a> {
+    pub symbols: Symbols<'a>,
+    pub reach: Reach,
+}
+
+/// The tokens of a line.
+pub fn read_tokens<'a>(alloc: Global, line: &'a [u8]) -> Result<Vec<Token<'a>>, AsmFault>
+    ensures { Follows (λ v. map token_of v.items) result (ok_or (tokens_of line.entry.now) AsmFault.BadToken) }
+{
+    match tokenize(alloc, line) {
+        Ok(tokens) => Ok(tokens),
+        Err(TokenError::BadToken) => Err(AsmFault::BadToken),
+        Err(TokenError::Memory) => Err(AsmFault::Memory),
+    }
+}
+
+/// How many bytes stand before the first line feed.
+fn count_before_line_feed(text: &[u8]) -> usize
+    ensures count { result ≡ position_or_len (λ byte. byte == 10) text.now }
+    ensures in_range { result ≤ length text.now }
+{
+    for (i, byte) in text.iter().enumerate() {
+        if *byte == b'\n' {
+            return i;
+        }
+    }
+    text.len()
+}
+
+/// The line that begins at a place, and where the next one begins.
+pub fn line_at(text: &[u8], start: usize) -> (&[u8], Option<usize>)
+    requires { start ≤ length text.now }
+    ensures pieces { MatchOption result.1 (slice_split (λ byte. byte == 10) (drop start text.entry.now) ≡ result.0.now ∷ []) (λ next. slice_split (λ byte. byte == 10) (drop start text.entry.now) ≡ result.0.now ∷ slice_split (λ byte. byte == 10) (drop next text.entry.now)) }
+    ensures later { IfSome result.1 (λ next. start < next) }
+    ensures in_range { IfSome result.1 (λ next. next ≤ length text.entry.now) }
+{
+    let (_, rest) = text.split_at(start);
+    let count = count_before_line_feed(rest);
+    let (line, _) = rest.split_at(count);
+    if count == rest.len() {
+        (line, None)
+    } else {
+        (line, Some(start + (count + 1)))
+    }
+}
+
+/// Adds a form with its operands. The answer is how far the text has come behind it.
+fn add_form<'a>(
+    symbols: &mut Symbols<'a>,
+    reach: Reach,
+    form: Form,
+    operands: &[Operand<'a>],
+) -> Result<Reach, AsmFault>
+    ensures added { IfOk result (λ _. operand_fault (found symbols.old) reach form (map operand_of operands.now) ≡ None) }
+    ensures reach { IfOk result (λ next. next ≡ (behind (found symbols.old) reach (statement form (map operand_of operands.now))).reach) }
+    ensures symbols { IfOk result (λ _. found symbols.new ≡ (behind (found symbols.old) reach (statement form (map operand_of operands.now))).meanings) }
+    ensures refused { IfErr result (λ fault. fault ≢ AsmFault.Memory → operand_fault (found symbols.old) reach form (map operand_of operands.now) ≡ Some fault) }
+{
+    if let Some(name) = needed(form, operands) {
+        if symbols.constant(name).is_none() {
+            return Err(AsmFault::BadOperands);
+        }
+    }
+    let statement = match make_statement(form, operands) {
+        Ok(statement) => statement,
+        Err(fault) => return Err(fault),
+    };
+    let next = advance(symbols, &statement, operands, reach)?;
+    if let Statement::Constant(name, number) = statement {
+        symbols.define(name, Definition::Constant(number))?;
+    }
+    Ok(next)
+}
+
+/// Adds what stands behind the labels of a line. The answer is how far the text has come behind it.
+fn add_body<'a>(
+    alloc: Global,
+    symbols: &mut Symbols<'a>,
+    reach: Reach,
+    body: &[Token<'a>],
+) -> Result<Reach, AsmFault>
+    ensures added { IfOk result (λ _. body_fault (found symbols.old) reach (map token_of body.now) ≡ None) }
+    ensures reach { IfOk result (λ next. next ≡ (behind (found symbols.old) reach (statement_in (map token_of body.now))).reach) }
+    ensures symbols { IfOk result (λ _. found symbols.new ≡ (behind (found symbols.old) reach (statement_in (map token_of body.now))).meanings) }
+    ensures refused { IfErr result (λ fault. fault ≢ AsmFault.Memory → body_fault (found symbols.old) reach (map token_of body.now) ≡ Some fault) }
+{
+    if symbols.redefines(body) {
+        return Err(AsmFault::DuplicateSymbol);
+    }
+    let reading = read(alloc, body)?;
+    add_form(symbols, reach, reading.form, reading.operands.as_slice())
+}
+
+impl<'a> Layout<'a> {
+    ghost use Rattle.rv_asm.specs.ReadLayout.{layout_of};
+
+    /// The layout of no lines.
+    pub fn new(alloc: Global) -> Self
+        ensures { layout_of result ≡ layout [] }
+    {
+        Layout {
+            symbols: Symbols::new(alloc),
+            reach: Reach {
+                section: Section::Text,
+                text_size: 0,
+                data_size: 0,
+            },
+        }
+    }
+
+    /// Adds a line.
+    pub fn add(&mut self, alloc: Global, line: &'a [u8]) -> Result<(), AsmFault>
+        ensures added { IfOk result (λ _. first_fault (layout_of self.old) (line_of (tokens_of line.entry.now)) ≡ None) }
+        ensures reach { IfOk result (λ _. self.new.reach ≡ (extended (layout_of self.old) (line_of (tokens_of line.entry.now))).reach) }
+        ensures symbols { IfOk result (λ _. found self.new.symbols ≡ (extended (layout_of self.old) (line_of (tokens_of line.entry.now))).meanings) }
+        ensures refused { IfErr result (λ fault. fault ≢ AsmFault.Memory → first_fault (layout_of self.old) (line_of (tokens_of line.entry.now)) ≡ Some fault) }
+    {
+        let tokens = read_tokens(alloc, line)?;
+        let here = Definition::Label(self.reach.section, self.reach.offset());
+        let count = self.symbols.define_labels(tokens.as_slice(), here)?;
+        let (_, body) = tokens.as_slice().split_at(count);
+        match add_body(alloc, &mut self.symbols, self.reach, body) {
+            Ok(reach) => {
+                self.reach = reach;
+                Ok(())
+            }
+            Err(fault) => Err(fault),
+        }
+    }
+
+    /// The layout of a text, or its first fault in the first pass.
+    pub fn of_text(alloc: Global, text: &'a [u8]) -> Result<Self, AsmError>
+        ensures clean { IfOk result (λ _. earliest (λ earlier line. first_fault (layout earlier) line) (lines_of text.entry.now) ≡ None) }
+        ensures tells { IfOk result (λ program. layout_of program ≡ layout (lines_of text.entry.now)) }
+        ensures refused { IfErr result (λ error. error.fault ≢ AsmFault.Memory → earliest (λ earlier line. first_fault (layout earlier) line) (lines_of text.entry.now) ≡ Some (error.fault, error.line)) }
+    {
+        let mut layout = Layout::new(alloc);
+        let mut number = 0;
+        let mut start = 0;
+        loop {
+            let (line, next) = line_at(text, start);
+            number += 1;
+            if let Err(fault) = layout.add(alloc, line) {
+                return Err(AsmError::at(fault, number));
+            }
+            match next {
+                None => return Ok(layout),
+                Some(behind) => start = behind,
+            }
+        }
+    }
+}

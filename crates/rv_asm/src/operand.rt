@@ -1,0 +1,203 @@
+ghost use Rattle.std.specs.Prelude.{◌≡◌, ◌<◌, ◌≤◌, ◌∷◌, [], Some, None, MatchOption, IfSome, map, length, ok_or, ◌++◌, OnOk, IfErr};
+ghost use Rattle.std.specs.List.{position_or_len};
+ghost use Rattle.std.specs.Option.{option_map, option_copied};
+ghost use Rattle.rv_asm.specs.ReadToken.{token_of};
+ghost use Rattle.rv_asm.specs.Operand.{expression, in_parentheses, based, operand, operands_of, is_comma};
+ghost use Rattle.rv_asm.specs.ReadStatement.{Follows};
+ghost use Rattle.rv_asm.specs.ReadOperand.{expression_of, operand_of};
+
+use crate::fault::AsmFault;
+use crate::token::Token;
+use std::alloc::Global;
+
+/// An exact whole number, as the text writes it.
+#[derive(Clone, Copy, Debug)]
+pub enum Expression<'a> {
+    Number(i64),
+    Symbol(&'a [u8]),
+    /// A symbol plus a number, which may be negative.
+    Sum(&'a [u8], i64),
+}
+
+/// What stands between two commas of a statement.
+#[derive(Clone, Copy, Debug)]
+pub enum Operand<'a> {
+    Value(Expression<'a>),
+    /// A name in parentheses, behind an offset or alone.
+    Indirect(Option<Expression<'a>>, &'a [u8]),
+    /// A string, its escapes not resolved.
+    Text(&'a [u8]),
+}
+
+/// The expression that one token is.
+fn one_token(first: Token<'_>) -> Option<Expression<'_>>
+    ensures { option_map expression_of result ≡ expression (token_of first.entry ∷ []) }
+{
+    match first {
+        Token::Number(number) => Some(Expression::Number(i64::from(number))),
+        Token::Name(symbol) => Some(Expression::Symbol(symbol)),
+        _ => None,
+    }
+}
+
+/// The expression that two tokens are.
+fn two_tokens<'a>(first: Token<'a>, second: Token<'a>) -> Option<Expression<'a>>
+    ensures { option_map expression_of result ≡ expression (token_of first.entry ∷ token_of second.entry ∷ []) }
+{
+    match (first, second) {
+        (Token::Minus, Token::Number(number)) => Some(Expression::Number(-i64::from(number))),
+        _ => None,
+    }
+}
+
+/// The expression that three tokens are.
+fn three_tokens<'a>(first: Token<'a>, second: Token<'a>, third: Token<'a>) -> Option<Expression<'a>>
+    ensures { option_map expression_of result ≡ expression (token_of first.entry ∷ token_of second.entry ∷ token_of third.entry ∷ []) }
+{
+    match (first, second, third) {
+        (Token::Name(symbol), Token::Plus, Token::Number(number)) => {
+            Some(Expression::Sum(symbol, i64::from(number)))
+        }
+        (Token::Name(symbol), Token::Minus, Token::Number(number)) => {
+            Some(Expression::Sum(symbol, -i64::from(number)))
+        }
+        _ => None,
+    }
+}
+
+/// The name between two parentheses.
+fn in_parentheses<'a>(left: Token<'a>, name: Token<'a>, right: Token<'a>) -> Option<&'a [u8]>
+    ensures { option_copied result ≡ in_parentheses (token_of left.entry) (token_of name.entry) (token_of right.entry) }
+{
+    match (left, name, right) {
+        (Token::LeftParenthesis, Token::Name(name), Token::RightParenthesis) => Some(name),
+        _ => None,
+    }
+}
+
+/// An expression before a name in parentheses.
+fn based<'a>(offset: Option<Expression<'a>>, name: Option<&'a [u8]>) -> Option<Operand<'a>>
+    ensures { option_map operand_of result ≡ based (option_map expression_of offset.entry) (option_copied name.entry) }
+{
+    match (offset, name) {
+        (Some(offset), Some(name)) => Some(Operand::Indirect(Some(offset), name)),
+        _ => None,
+    }
+}
+
+/// The operand that one token is.
+fn operand_of_one(first: Token<'_>) -> Option<Operand<'_>>
+    ensures { option_map operand_of result ≡ operand (token_of first.entry ∷ []) }
+{
+    match first {
+        Token::Text(raw) => Some(Operand::Text(raw)),
+        Token::Number(number) => Some(Operand::Value(Expression::Number(i64::from(number)))),
+        Token::Name(symbol) => Some(Operand::Value(Expression::Symbol(symbol))),
+        _ => None,
+    }
+}
+
+/// The operand that three tokens are.
+fn operand_of_three<'a>(
+    first: Token<'a>,
+    second: Token<'a>,
+    third: Token<'a>,
+) -> Option<Operand<'a>>
+    ensures { option_map operand_of result ≡ operand (token_of first.entry ∷ token_of second.entry ∷ token_of third.entry ∷ []) }
+{
+    match (first, second, third) {
+        (Token::Name(symbol), Token::Plus, Token::Number(number)) => Some(Operand::Value(
+            Expression::Sum(symbol, i64::from(number)),
+        )),
+        (Token::Name(symbol), Token::Minus, Token::Number(number)) => Some(Operand::Value(
+            Expression::Sum(symbol, -i64::from(number)),
+        )),
+        (Token::LeftParenthesis, Token::Name(register), Token::RightParenthesis) => {
+            Some(Operand::Indirect(None, register))
+        }
+        _ => None,
+    }
+}
+
+/// The operand that tokens spell.
+fn read_operand<'a>(tokens: &[Token<'a>]) -> Option<Operand<'a>>
+    ensures { option_map operand_of result ≡ operand (map token_of tokens.now) }
+{
+    match tokens {
+        [first] => operand_of_one(*first),
+        [first, second] => match two_tokens(*first, *second) {
+            Some(expression) => Some(Operand::Value(expression)),
+            None => None,
+        },
+        [first, second, third] => operand_of_three(*first, *second, *third),
+        [first, left, name, right] => {
+            based(one_token(*first), in_parentheses(*left, *name, *right))
+        }
+        [first, second, left, name, right] => based(
+            two_tokens(*first, *second),
+            in_parentheses(*left, *name, *right),
+        ),
+        [first, second, third, left, name, right] => based(
+            three_tokens(*first, *second, *third),
+            in_parentheses(*left, *name, *right),
+        ),
+        _ => None,
+    }
+}
+
+/// How many tokens stand before the first comma.
+fn count_before_comma(tokens: &[Token<'_>]) -> usize
+    ensures count { result ≡ position_or_len (λ token. is_comma (token_of token)) tokens.now }
+    ensures in_range { result ≤ length tokens.now }
+{
+    for (i, token) in tokens.iter().enumerate() {
+        if token.is_comma() {
+            return i;
+        }
+    }
+    tokens.len()
+}
+
+impl Token<'_> {
+    /// Whether the token is a comma.
+    fn is_comma(&self) -> bool
+        ensures { result ≡ is_comma (token_of self.now) }
+    {
+        matches!(*self, Token::Comma)
+    }
+}
+
+/// One more operand.
+fn push_operand<'a>(operands: &mut Vec<Operand<'a>>, operand: Operand<'a>) -> Result<(), AsmFault>
+    ensures pushed { OnOk result (operands.new.items ≡ operands.old.items ++ operand.entry ∷ []) }
+    ensures refused { IfErr result (λ fault. fault ≡ AsmFault.Memory) }
+{
+    match operands.push(operand) {
+        Ok(()) => Ok(()),
+        Err(_) => Err(AsmFault::Memory),
+    }
+}
+
+/// The operands of a statement, separated by commas.
+pub fn read_operands<'a>(alloc: Global, tokens: &[Token<'a>]) -> Result<Vec<Operand<'a>>, AsmFault>
+    ensures { Follows (λ v. map operand_of v.items) result (ok_or (operands_of (map token_of tokens.now)) AsmFault.BadOperands) }
+{
+    let mut operands = Vec::new(alloc);
+    if tokens.is_empty() {
+        return Ok(operands);
+    }
+    let mut start = 0;
+    loop {
+        let (_, rest) = tokens.split_at(start);
+        let count = count_before_comma(rest);
+        let (piece, _) = rest.split_at(count);
+        let Some(operand) = read_operand(piece) else {
+            return Err(AsmFault::BadOperands);
+        };
+        push_operand(&mut operands, operand)?;
+        if count == rest.len() {
+            return Ok(operands);
+        }
+        start += count + 1;
+    }
+}

@@ -1,0 +1,100 @@
+use rv_isa::{AluOp, Condition, CsrOp, ImmediateOp, LoadForm, Reg, ShiftOp, Width};
+
+/// The section that a statement stands in.
+#[derive(Clone, Copy, Debug, PartialEq, Eq)]
+pub enum Section {
+    Text,
+    Data,
+}
+
+/// What an instruction or a pseudo-instruction does, without its operands.
+#[derive(Clone, Copy, Debug)]
+pub enum Operation {
+    Lui,
+    Auipc,
+    Jal,
+    Jalr,
+    Branch(Condition),
+    Load(LoadForm),
+    Store(Width),
+    OpImmediate(ImmediateOp),
+    Shift(ShiftOp),
+    Op(AluOp),
+    Fence,
+    FenceI,
+    /// With a register as source.
+    Csr(CsrOp),
+    /// With a number as source.
+    CsrImmediate(CsrOp),
+    Ecall,
+    Ebreak,
+    Mret,
+    Wfi,
+    /// `li`
+    LoadNumber,
+    /// `la`
+    LoadAddress,
+}
+
+/// Where an operand goes, and what may stand there.
+#[derive(Clone, Copy, Debug)]
+pub enum Place {
+    Rd,
+    Rs1,
+    Rs2,
+    /// An expression.
+    Value,
+    /// A number, or a symbol of an earlier `.equ`.
+    Known,
+    /// A symbol, or a symbol plus or minus a number.
+    Target,
+    /// An offset, which may be missing, and rs1 in parentheses.
+    Address,
+    /// An offset and rs1 in parentheses.
+    Base,
+    /// A CSR by name or by number.
+    Csr,
+    /// No operand: rd is the return address ra.
+    Link,
+    /// No operand: rs1 is the return address ra.
+    Return,
+    /// No operand: the value is 1.
+    One,
+    /// No operand: the value is -1.
+    MinusOne,
+    /// No operand.
+    Empty,
+}
+
+/// The form of a statement: what it does, and which operands it has.
+#[derive(Clone, Copy, Debug)]
+pub enum Form {
+    /// No statement.
+    Nothing,
+    Instruction(Operation, Place, Place, Place),
+    Jal,
+    Jalr,
+    /// `.text`, `.data`
+    Choice(Section),
+    /// `.globl`
+    Global,
+    /// `.equ`
+    Constant,
+    /// `.word`, `.half`, `.byte`
+    Values(Width),
+    /// `.zero`
+    Zeros,
+    /// `.balign`
+    Align,
+    /// `.asciz`, or `.ascii` where no zero ends the string.
+    Characters(bool),
+}
+
+/// The registers and the CSR that operands have filled in; x0 and 0 where none has.
+#[derive(Clone, Copy, Debug)]
+pub struct Fields {
+    pub rd: Reg,
+    pub rs1: Reg,
+    pub rs2: Reg,
+    pub csr: i64,
+}

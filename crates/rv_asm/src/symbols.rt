@@ -1,0 +1,123 @@
+ghost use Rattle.std.specs.Prelude.{◌≡◌, ◌∷◌, ◌≤◌, [], Some, None, OnOk, IfOk, IfErr, OnSome, MatchOption, map, drop, length, true, false, ◌≢◌};
+ghost use Rattle.rv_asm.specs.FirstPass.{repeats, redefines};
+ghost use Rattle.rv_asm.specs.Layout.{defined, labelled, labels_of, body_of, number_of};
+ghost use Rattle.rv_asm.specs.ReadToken.{token_of};
+ghost use Rattle.rv_asm.specs.Symbols.{found};
+
+use crate::fault::AsmFault;
+use crate::operation::Section;
+use crate::token::Token;
+use std::alloc::{AllocError, Global};
+use std::collections::BTreeMap;
+
+/// What a symbol stands for.
+#[derive(Clone, Copy, Debug)]
+pub enum Definition {
+    /// A place: how many bytes stand before it in its section.
+    Label(Section, usize),
+    /// The number of a `.equ`.
+    Constant(i64),
+}
+
+/// The symbols of a text.
+#[derive(Drop)]
+pub struct Symbols<'a> {
+    defined: BTreeMap<&'a [u8], Definition>,
+}
+
+impl<'a> Symbols<'a> {
+    /// No symbols.
+    pub fn new(alloc: Global) -> Self
+        ensures { found result ≡ (λ _. None) }
+    {
+        Symbols {
+            defined: BTreeMap::new(alloc),
+        }
+    }
+
+    /// What a name stands for, if it is defined.
+    pub fn get(&self, name: &'a [u8]) -> Option<Definition>
+        ensures { result ≡ found self.now name.entry.now }
+    {
+        self.defined.get(&name).copied()
+    }
+
+    /// Defines a name. The first definition of a name counts.
+    pub fn define(&mut self, name: &'a [u8], definition: Definition) -> Result<(), AllocError>
+        ensures { OnOk result (found self.new ≡ defined (found self.old) name.entry.now definition) }
+    {
+        if self.get(name).is_some() {
+            return Ok(());
+        }
+        match self.defined.insert(name, definition) {
+            Ok(_) => Ok(()),
+            Err(refused) => Err(AllocError::from(refused)),
+        }
+    }
+
+    /// Defines the labels at the front of a line. The answer is how many tokens they are.
+    pub fn define_labels(
+        &mut self,
+        tokens: &[Token<'a>],
+        here: Definition,
+    ) -> Result<usize, AsmFault>
+        ensures labels { IfOk result (λ _. found self.new ≡ labelled (found self.old) here (labels_of (map token_of tokens.now))) }
+        ensures fresh { IfOk result (λ _. repeats (found self.old) here (labels_of (map token_of tokens.now)) ≡ false) }
+        ensures repeated { IfErr result (λ fault. fault ≢ AsmFault.Memory → repeats (found self.old) here (labels_of (map token_of tokens.now)) ≡ true) }
+        ensures refused { IfErr result (λ fault. fault ≢ AsmFault.Memory → fault ≡ AsmFault.DuplicateSymbol) }
+        ensures body { IfOk result (λ count. (count ≤ length tokens.now) × (body_of (map token_of tokens.now) ≡ map token_of (drop count tokens.now))) }
+    {
+        let mut count = 0;
+        loop {
+            let (_, rest) = tokens.split_at(count);
+            let Some(name) = next_label(rest) else {
+                return Ok(count);
+            };
+            if self.get(name).is_some() {
+                return Err(AsmFault::DuplicateSymbol);
+            }
+            self.define(name, here)?;
+            count += 2;
+        }
+    }
+
+    /// Whether the name right behind `.equ` is defined.
+    pub fn redefines(&self, tokens: &[Token<'a>]) -> bool
+        ensures { result ≡ redefines (found self.now) (map token_of tokens.now) }
+    {
+        match tokens {
+            [first, second, ..] => match (*first, *second) {
+                (Token::Name(directive), Token::Name(name)) => {
+                    directive == b".equ".as_slice() && self.get(name).is_some()
+                }
+                _ => false,
+            },
+            _ => false,
+        }
+    }
+
+    /// The number of a `.equ`.
+    pub fn constant(&self, name: &'a [u8]) -> Option<i64>
+        ensures { result ≡ number_of (found self.now name.entry.now) }
+    {
+        match self.get(name) {
+            Some(Definition::Constant(number)) => Some(number),
+            _ => None,
+        }
+    }
+}
+
+/// The name before a colon at the front of a line, if one stands there.
+pub fn next_label<'a>(tokens: &[Token<'a>]) -> Option<&'a [u8]>
+    ensures label { MatchOption result (labels_of (map token_of tokens.now) ≡ []) (λ name. labels_of (map token_of tokens.now) ≡ name.now ∷ labels_of (map token_of (drop 2 tokens.now))) }
+    ensures body { MatchOption result (body_of (map token_of tokens.now) ≡ map token_of tokens.now) (λ _. body_of (map token_of tokens.now) ≡ body_of (map token_of (drop 2 tokens.now))) }
+    ensures room { OnSome result (2 ≤ length tokens.now) }
+{
+    match tokens {
+        [first, second, ..] => match (*first, *second) {
+            (Token::Name(name), Token::Colon) => Some(name),
+            _ => None,
+        },
+        _ => None,
+    }
+}

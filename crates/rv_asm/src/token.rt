@@ -1,0 +1,372 @@
+ghost use Rattle.std.specs.Prelude.{◌≡◌, ◌<◌, ◌≤◌, ◌∷◌, ◌++◌, length, map, drop, OnOk, IfOk, IfSome};
+ghost use Rattle.std.specs.List.{prefix_len};
+ghost use Rattle.std.specs.Option.{option_map};
+ghost use Rattle.rv_asm.specs.Token.{is_separator, begins_name, is_name_byte, mark_of, number_in, number_of, escape_of, quoted_length, unescaped, first_lexeme, tokens_of};
+ghost use Rattle.rv_asm.specs.ReadToken.{token_of, lexeme_of};
+
+use std::alloc::{AllocError, AllocFailed, Global};
+
+/// A token of a line, borrowed from the text.
+#[derive(Clone, Copy, Debug)]
+pub enum Token<'a> {
+    /// A name, such as a mnemonic, a register, a directive or a symbol.
+    Name(&'a [u8]),
+    /// A number without its sign.
+    Number(u32),
+    Comma,
+    Colon,
+    LeftParenthesis,
+    RightParenthesis,
+    Plus,
+    Minus,
+    /// The bytes between the quotes of a string as they stand in the text, escapes and all.
+    Text(&'a [u8]),
+}
+
+/// Why a line has no tokens.
+#[derive(Clone, Copy, Debug, PartialEq, Eq)]
+pub enum TokenError {
+    /// Something on the line is no token.
+    BadToken,
+    /// Memory was refused.
+    Memory,
+}
+
+impl<T: Drop> From<AllocFailed<T>> for TokenError {
+    ghost use Rattle.rv_asm.specs.declared.token.TokenError.TheVariants.{Memory};
+
+    ghost from_gives = { λ _ e. e ≡ Memory };
+
+    fn from(_error: AllocFailed<T>) -> TokenError {
+        TokenError::Memory
+    }
+}
+
+/// What a line begins with: a token, or a separator or a comment, which give none.
+#[derive(Clone, Copy)]
+struct Lexeme<'a> {
+    token: Option<Token<'a>>,
+    /// How many bytes it has.
+    size: usize,
+}
+
+fn is_separator(byte: u8) -> bool
+    ensures { result ≡ is_separator byte }
+{
+    matches!(byte, b' ' | b'\t' | b'\r')
+}
+
+fn begins_name(byte: u8) -> bool
+    ensures { result ≡ begins_name byte }
+{
+    byte.is_ascii_alphabetic() || matches!(byte, b'_' | b'.' | b'$')
+}
+
+fn is_name_byte(byte: u8) -> bool
+    ensures { result ≡ is_name_byte byte }
+{
+    begins_name(byte) || byte.is_ascii_digit()
+}
+
+#[tactic(auto, unfolding(crate::specs::Token::mark_of))]
+fn mark(byte: u8) -> Option<Token<'static>>
+    ensures { option_map token_of result ≡ mark_of byte }
+{
+    match byte {
+        b',' => Some(Token::Comma),
+        b':' => Some(Token::Colon),
+        b'(' => Some(Token::LeftParenthesis),
+        b')' => Some(Token::RightParenthesis),
+        b'+' => Some(Token::Plus),
+        b'-' => Some(Token::Minus),
+        _ => None,
+    }
+}
+
+#[tactic(auto, unfolding(crate::specs::Token::escape_of))]
+fn escape(byte: u8) -> Option<u8>
+    ensures { result ≡ escape_of byte }
+{
+    match byte {
+        b'n' => Some(b'\n'),
+        b't' => Some(b'\t'),
+        b'\\' => Some(b'\\'),
+        b'"' => Some(b'"'),
+        b'0' => Some(0),
+        _ => None,
+    }
+}
+
+// The number that digits of a base write.
+fn number_in(digits: &[u8], base: u32) -> Option<u32>
+    requires two_digits { 2 ≤ base }
+    requires letters_suffice { base ≤ 36 }
+    ensures { result ≡ number_in base digits.now }
+{
+    if digits.is_empty() {
+        return None;
+    }
+    let mut value = 0_u32;
+    for digit in digits {
+        let digit = char::from(*digit).to_digit(base)?;
+        value = value.checked_mul(base)?.checked_add(digit)?;
+    }
+    Some(value)
+}
+
+// The number that a word writes.
+#[tactic(auto, unfolding(crate::specs::Token::number_of))]
+fn number(word: &[u8]) -> Option<u32>
+    ensures { result ≡ number_of word.now }
+{
+    match word {
+        [b'0', b'x', digits @ ..] => number_in(digits, 16),
+        [b'0', b'b', digits @ ..] => number_in(digits, 2),
+        digits => number_in(digits, 10),
+    }
+}
+
+// How many bytes of names the bytes begin with.
+fn word_length(bytes: &[u8]) -> usize
+    ensures { result ≡ prefix_len is_name_byte bytes.now }
+{
+    bytes.iter().take_while(|byte| is_name_byte(**byte)).count()
+}
+
+// How many bytes of a string stand before its closing quote.
+fn quoted_length(bytes: &[u8]) -> Option<usize>
+    ensures length { result ≡ quoted_length bytes.now }
+    ensures closed { IfSome result (λ n. n < length bytes.now) }
+{
+    let mut length = 0;
+    while length < bytes.len() {
+        match bytes[length] {
+            b'"' => return Some(length),
+            b'\\' => {
+                escape(*bytes.get(length + 1)?)?;
+                length += 2;
+            }
+            _ => length += 1,
+        }
+    }
+    None
+}
+
+// What a line begins with.
+fn first_lexeme(line: &[u8]) -> Option<Lexeme<'_>>
+    requires { 0 < length line.now }
+    ensures lexeme { option_map lexeme_of result ≡ first_lexeme line.now }
+    ensures size { IfSome result (λ found. (0 < found.size) × (found.size ≤ length line.now)) }
+{
+    let first = line[0];
+    if is_separator(first) {
+        return Some(Lexeme {
+            token: None,
+            size: 1,
+        });
+    }
+    if first == b'#' {
+        return Some(Lexeme {
+            token: None,
+            size: line.len(),
+        });
+    }
+    if is_name_byte(first) {
+        let size = word_length(line);
+        let word = &line[..size];
+        let token = if begins_name(first) {
+            Token::Name(word)
+        } else {
+            Token::Number(number(word)?)
+        };
+        return Some(Lexeme {
+            token: Some(token),
+            size,
+        });
+    }
+    if first == b'"' {
+        let (_, others) = line.split_at(1);
+        let length = quoted_length(others)?;
+        return Some(Lexeme {
+            token: Some(Token::Text(&others[..length])),
+            size: length + 2,
+        });
+    }
+    Some(Lexeme {
+        token: Some(mark(first)?),
+        size: 1,
+    })
+}
+
+/// The tokens of one line, without its comment. Each is borrowed from the line, and the time taken
+/// grows with the line's length alone.
+///
+/// Fails by `BadToken` where something on the line is no token: a byte that begins none, a number
+/// past 4294967295 or with a letter, digit, `_`, `.` or `$` right behind it, a string that is not
+/// closed on the line, or an escape that is not known; and by `Memory` where memory was refused.
+pub fn tokenize<'a>(alloc: Global, line: &'a [u8]) -> Result<Vec<Token<'a>>, TokenError>
+    ensures read { IfOk result (λ tokens. tokens_of line.now ≡ Some (map token_of tokens.items)) }
+    ensures refused { result ≡ Err TokenError.BadToken → tokens_of line.now ≡ None }
+{
+    let mut tokens = Vec::new(alloc);
+    let mut rest = line;
+    while !rest.is_empty() {
+        let Some(found) = first_lexeme(rest) else {
+            return Err(TokenError::BadToken);
+        };
+        if let Some(token) = found.token {
+            tokens.push(token)?;
+        }
+        let (_, others) = rest.split_at(found.size);
+        rest = others;
+    }
+    Ok(tokens)
+}
+
+// The first byte that a string stands for.
+#[derive(Clone, Copy)]
+struct Character {
+    byte: u8,
+    /// How many bytes of the text write it.
+    size: usize,
+}
+
+// The first byte that a string stands for.
+fn first_character(raw: &[u8]) -> Character
+    requires { 0 < length raw.now }
+    ensures byte { unescaped raw.now ≡ result.byte ∷ unescaped (drop result.size raw.now) }
+    ensures size { (0 < result.size) × (result.size ≤ length raw.now) }
+{
+    let first = raw[0];
+    if first != b'\\' || raw.len() == 1 {
+        return Character {
+            byte: first,
+            size: 1,
+        };
+    }
+    Character {
+        byte: escape(raw[1]).unwrap_or(raw[1]),
+        size: 2,
+    }
+}
+
+/// How many bytes a string stands for, whose bytes between the quotes are `raw`.
+pub fn text_len(raw: &[u8]) -> usize
+    ensures { result ≡ length (unescaped raw.now) }
+{
+    let mut bytes = 0;
+    let mut rest = raw;
+    while !rest.is_empty() {
+        let (_, others) = rest.split_at(first_character(rest).size);
+        bytes += 1;
+        rest = others;
+    }
+    bytes
+}
+
+/// Appends the bytes that a string stands for, whose bytes between the quotes are `raw`.
+pub fn push_text(out: &mut Vec<u8>, raw: &[u8]) -> Result<(), AllocError>
+    ensures { OnOk result (out.new.items ≡ out.old.items ++ unescaped raw.now) }
+{
+    let mut rest = raw;
+    while !rest.is_empty() {
+        let first = first_character(rest);
+        out.push(first.byte)?;
+        let (_, others) = rest.split_at(first.size);
+        rest = others;
+    }
+    Ok(())
+}
+
+#[cfg(test)]
+mod tests {
+    use super::{Token, TokenError, push_text, text_len, tokenize};
+    use std::alloc::{AllocError, Global};
+    use std::test::Fail;
+
+    // The tokens of a line, each between blanks; a string stands between quotes, with its escapes resolved.
+    fn shown(alloc: Global, line: &[u8]) -> Result<Vec<u8>, Fail> {
+        let tokens = tokenize(alloc, line)?;
+        let mut out = Vec::new(alloc);
+        for token in &tokens {
+            match *token {
+                Token::Name(name) => out.extend_from_slice(name),
+                Token::Number(number) => {
+                    out.extend_from_slice(format!(in alloc; "{number}")?.as_bytes())
+                }
+                Token::Text(raw) => quoted(&mut out, raw),
+                Token::Comma => out.extend_from_slice(b","),
+                Token::Colon => out.extend_from_slice(b":"),
+                Token::LeftParenthesis => out.extend_from_slice(b"("),
+                Token::RightParenthesis => out.extend_from_slice(b")"),
+                Token::Plus => out.extend_from_slice(b"+"),
+                Token::Minus => out.extend_from_slice(b"-"),
+            }?;
+            out.push(b' ')?;
+        }
+        Ok(out)
+    }
+
+    fn quoted(out: &mut Vec<u8>, raw: &[u8]) -> Result<(), AllocError> {
+        out.push(b'"')?;
+        push_text(out, raw)?;
+        out.push(b'"')?;
+        Ok(())
+    }
+
+    #[test]
+    fn tokens_stand_with_or_without_blanks_and_a_comment_is_left_out(
+        rt: HostRuntime,
+    ) -> Result<(), Fail> {
+        let cases: [(&[u8], &[u8]); 8] = [
+            (b"l: lw x7, -4(x5) # load", b"l : lw x7 , - 4 ( x5 ) "),
+            (b"\tla x5,d+ 8\r", b"la x5 , d + 8 "),
+            (
+                b"_.$a1:.word 0010,0xFf,0b101",
+                b"_.$a1 : .word 10 , 255 , 5 ",
+            ),
+            (b"4294967295 0xFFFFFFFF 0", b"4294967295 4294967295 0 "),
+            (b".asciz \"a#b\" #\xff", b".asciz \"a#b\" "),
+            (b"\"\\n\\t\\\\\\\"\\0\xe9\"", b"\"\n\t\\\"\0\xe9\" "),
+            (b"# \x07 and \"", b""),
+            (b"", b""),
+        ];
+        for (line, tokens) in cases.iter() {
+            assert_eq!(rt; shown(rt.alloc(), line)?.as_slice(), *tokens);
+        }
+        Ok(())
+    }
+
+    #[test]
+    fn what_is_no_token_is_refused(rt: HostRuntime) {
+        let lines: [&[u8]; 18] = [
+            b"4294967296",
+            b"0x100000000",
+            b"0x",
+            b"0b",
+            b"0b2",
+            b"0xg",
+            b"0X1",
+            b"12a",
+            b"1_0",
+            b"5.",
+            b"7$",
+            b"\"abc",
+            b"\"a\\q\"",
+            b"\"\\",
+            b"a ; b",
+            b"'a'",
+            b"addi\x80",
+            b"\x07",
+        ];
+        for line in lines.iter() {
+            assert!(rt; matches!(tokenize(rt.alloc(), line), Err(TokenError::BadToken)));
+        }
+    }
+
+    #[test]
+    fn a_string_counts_each_escape_as_one_byte(rt: HostRuntime) {
+        assert_eq!(rt; text_len(b"a\\n\\\\b"), 4);
+        assert_eq!(rt; text_len(b""), 0);
+    }
+}
