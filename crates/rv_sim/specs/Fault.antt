@@ -1,0 +1,44 @@
+-- What is told of a fault, and the status that the program ends with.
+use Rattle.std.specs.Prelude.{ℕ, List, ◌++◌, codes, decimal}
+use Rattle.rv_arch.specs.declared.outcome.Stop.{Stop}
+use Rattle.rv_arch.specs.declared.outcome.Stop.TheVariants.{Stale, Limit, Breakpoint, Exhausted}
+use Rattle.rv_asm.specs.declared.fault.AsmFault.{AsmFault}
+use Rattle.rv_asm.specs.declared.fault.AsmFault.TheVariants as asm
+use Rattle.rv_sim.specs.declared.errors.SimError.{SimError}
+use Rattle.rv_sim.specs.declared.errors.SimError.TheVariants.{TooLong, Assembly, ImageDoesNotFit, Memory, WriteFailed}
+
+-- the name of a fault of a text
+unfoldable pub fault_name : AsmFault → List ℕ
+fault_name asm.BadToken = codes "BadToken"
+fault_name asm.UnknownMnemonic = codes "UnknownMnemonic"
+fault_name asm.BadOperands = codes "BadOperands"
+fault_name asm.BadRegister = codes "BadRegister"
+fault_name asm.DuplicateSymbol = codes "DuplicateSymbol"
+fault_name asm.TooLarge = codes "TooLarge"
+fault_name asm.UnknownSymbol = codes "UnknownSymbol"
+fault_name asm.OutOfRange = codes "OutOfRange"
+fault_name asm.Misaligned = codes "Misaligned"
+fault_name asm.Memory = codes "Memory"
+
+-- the line that tells a fault
+unfoldable pub fault_line : SimError → List ℕ
+fault_line TooLong = codes "error: job too long\n"
+fault_line (Assembly error) = codes "error: assembly line " ++ (decimal error.line ++ (codes ": " ++ (fault_name error.fault ++ codes "\n")))
+fault_line ImageDoesNotFit = codes "error: image does not fit\n"
+fault_line Memory = codes "error: memory\n"
+fault_line WriteFailed = codes "error: output\n"
+
+-- the exit status of a fault: 1 for a job that is refused, 4 where output failed, 5 for want of memory
+unfoldable pub fault_status : SimError → ℕ
+fault_status TooLong = 1
+fault_status (Assembly error) = 1
+fault_status ImageDoesNotFit = 1
+fault_status Memory = 5
+fault_status WriteFailed = 4
+
+-- the exit status of a run
+unfoldable pub stop_status : Stop → ℕ
+stop_status (Stale pc) = 3
+stop_status Limit = 0
+stop_status Breakpoint = 0
+stop_status Exhausted = 0

@@ -1,0 +1,9 @@
+pub mod Command
+pub mod Fault
+pub mod Line
+pub mod ReadField
+pub mod ReferenceReport
+pub mod Report
+pub mod Task
+pub mod TextImage
+pub mod Written

@@ -1,0 +1,28 @@
+-- The lines of a report.
+use Rattle.std.specs.Prelude.{ℕ, ◌/◌, ◌%◌, ◌^◌, List, [], ◌∷◌, ◌++◌, codes, decimal}
+use Rattle.std.specs.Char.{digit_char}
+
+-- a word as eight hexadecimal digits, the highest first, letters in lower case
+unfoldable pub word_text : ℕ → List ℕ
+word_text word =
+    digit_char (word / 2 ^ 28) ∷
+    digit_char (word / 2 ^ 24 % 16) ∷
+    digit_char (word / 2 ^ 20 % 16) ∷
+    digit_char (word / 2 ^ 16 % 16) ∷
+    digit_char (word / 2 ^ 12 % 16) ∷
+    digit_char (word / 2 ^ 8 % 16) ∷
+    digit_char (word / 2 ^ 4 % 16) ∷
+    digit_char (word % 16) ∷
+    []
+
+-- a name, a space, what it has, and a line feed
+unfoldable pub line_of : List ℕ → List ℕ → List ℕ
+line_of name text = name ++ (codes " " ++ (text ++ codes "\n"))
+
+-- a count, in decimal
+unfoldable pub count_line : List ℕ → ℕ → List ℕ
+count_line name count = line_of name (decimal count)
+
+-- a word
+unfoldable pub word_line : List ℕ → ℕ → List ℕ
+word_line name word = line_of name (word_text word)

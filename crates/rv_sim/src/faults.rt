@@ -1,0 +1,76 @@
+ghost use Rattle.std.specs.Prelude.{◌≡◌, OnOk, OnErr};
+ghost use Rattle.std.specs.Io.KnownBytes.{Appends};
+ghost use Rattle.rv_sim.specs.Fault.{fault_name, fault_line, fault_status, stop_status};
+ghost use Rattle.rv_sim.specs.Written.{AppendsBeginning};
+
+use crate::errors::SimError;
+use crate::output::{ReportError, put, put_all};
+use itoa::Buffer;
+use rv_arch::Stop;
+use rv_asm::AsmFault;
+use std::io::Write;
+
+#[tactic(auto, unfolding(crate::specs::Fault::fault_name))]
+fn name(fault: AsmFault) -> &'static str
+    ensures { result.now ≡ fault_name fault }
+{
+    match fault {
+        AsmFault::BadToken => "BadToken",
+        AsmFault::UnknownMnemonic => "UnknownMnemonic",
+        AsmFault::BadOperands => "BadOperands",
+        AsmFault::BadRegister => "BadRegister",
+        AsmFault::DuplicateSymbol => "DuplicateSymbol",
+        AsmFault::TooLarge => "TooLarge",
+        AsmFault::UnknownSymbol => "UnknownSymbol",
+        AsmFault::OutOfRange => "OutOfRange",
+        AsmFault::Misaligned => "Misaligned",
+        AsmFault::Memory => "Memory",
+    }
+}
+
+/// Writes the line that tells a fault.
+#[tactic(auto, unfolding(crate::specs::Fault::fault_line))]
+pub(crate) fn write_fault<W: Write>(writer: &mut W, error: SimError) -> Result<(), ReportError>
+    ensures whole { OnOk result (Appends (W.contents writer.old) (W.contents writer.new) (fault_line error)) }
+    ensures beginning { OnErr result (AppendsBeginning (W.contents writer.old) (W.contents writer.new) (fault_line error)) }
+{
+    match error {
+        SimError::TooLong => put(writer, b"error: job too long\n"),
+        SimError::Assembly(error) => {
+            let mut buffer = Buffer::new();
+            let line = buffer.format(error.line).as_bytes();
+            let name = name(error.fault).as_bytes();
+            put_all(
+                writer,
+                &[b"error: assembly line ", line, b": ", name, b"\n"],
+            )
+        }
+        SimError::ImageDoesNotFit => put(writer, b"error: image does not fit\n"),
+        SimError::Memory => put(writer, b"error: memory\n"),
+        SimError::WriteFailed => put(writer, b"error: output\n"),
+    }
+}
+
+/// The exit status of a fault: 1 for a job that is refused, 4 where output failed, 5 for want of
+/// memory.
+#[tactic(auto, unfolding(crate::specs::Fault::fault_status))]
+pub(crate) fn fault_status(error: SimError) -> u8
+    ensures { result ≡ fault_status error }
+{
+    match error {
+        SimError::TooLong | SimError::Assembly(_) | SimError::ImageDoesNotFit => 1,
+        SimError::WriteFailed => 4,
+        SimError::Memory => 5,
+    }
+}
+
+/// The exit status of a run: 3 where it ended at a stale word.
+#[tactic(auto, unfolding(crate::specs::Fault::stop_status))]
+pub(crate) fn stop_status(stop: Stop) -> u8
+    ensures { result ≡ stop_status stop }
+{
+    match stop {
+        Stop::Stale(_) => 3,
+        Stop::Limit | Stop::Breakpoint | Stop::Exhausted => 0,
+    }
+}

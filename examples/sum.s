@@ -1,0 +1,6 @@
+# The sum of 1 to 10. At the end x5 is 55 (00000037).
+        addi x6, x0, 10         # the next number to add
+next:   add x5, x5, x6
+        addi x6, x6, -1
+        bne x6, x0, next
+        ebreak
