@@ -1,0 +1,47 @@
+-- Every key stands in the order.
+use Rattle.std.proofs.Common.{◌≡◌, ℕ, Some, refl}
+use Rattle.std.specs.List.{slice_get}
+use Rattle.rv_describe.specs.declared.key.Key.{Key}
+use Rattle.rv_describe.specs.declared.key.Key.TheVariants.{RamBase, RamSize, RomBytes, FetchWidth, DispatchWidth, CommitWidth, BusWidth, FetchBuffer, Rob, StoreQueue, Forward, Recovery, AluStations, AluUnits, AluLatency, AluPipelined, MulStations, MulUnits, MulLatency, MulPipelined, DivStations, DivUnits, DivLatency, DivPipelined, MemStations, MemUnits, MemLatency, MemPipelined, CacheSets, CacheWays, CacheLine, CacheHit, CacheMiss, CacheWriteBack, PredictorKind, PredictorEntries, ReportDumpAddress, ReportDumpWords}
+use Rattle.rv_describe.specs.Key.{order}
+
+pub in_order : (key : Key) → (index : ℕ) × (slice_get order index ≡ Some key)
+unfolding order
+in_order RamBase = (0, refl)
+in_order RamSize = (1, refl)
+in_order RomBytes = (2, refl)
+in_order FetchWidth = (3, refl)
+in_order DispatchWidth = (4, refl)
+in_order CommitWidth = (5, refl)
+in_order BusWidth = (6, refl)
+in_order FetchBuffer = (7, refl)
+in_order Rob = (8, refl)
+in_order StoreQueue = (9, refl)
+in_order Forward = (10, refl)
+in_order Recovery = (11, refl)
+in_order AluStations = (12, refl)
+in_order AluUnits = (13, refl)
+in_order AluLatency = (14, refl)
+in_order AluPipelined = (15, refl)
+in_order MulStations = (16, refl)
+in_order MulUnits = (17, refl)
+in_order MulLatency = (18, refl)
+in_order MulPipelined = (19, refl)
+in_order DivStations = (20, refl)
+in_order DivUnits = (21, refl)
+in_order DivLatency = (22, refl)
+in_order DivPipelined = (23, refl)
+in_order MemStations = (24, refl)
+in_order MemUnits = (25, refl)
+in_order MemLatency = (26, refl)
+in_order MemPipelined = (27, refl)
+in_order CacheSets = (28, refl)
+in_order CacheWays = (29, refl)
+in_order CacheLine = (30, refl)
+in_order CacheHit = (31, refl)
+in_order CacheMiss = (32, refl)
+in_order CacheWriteBack = (33, refl)
+in_order PredictorKind = (34, refl)
+in_order PredictorEntries = (35, refl)
+in_order ReportDumpAddress = (36, refl)
+in_order ReportDumpWords = (37, refl)

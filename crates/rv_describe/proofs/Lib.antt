@@ -1,0 +1,15 @@
+pub mod Blank
+pub mod Bounds
+pub mod EntriesMeaning
+pub mod Falls
+pub mod FirstError
+pub mod InOrder
+pub mod Legal
+pub mod LegalArrivals
+pub mod NamesOf
+pub mod NotToml
+pub mod Numbers
+pub mod Ranges
+pub mod ReadSoFar
+pub mod TableMeaning
+pub mod Through

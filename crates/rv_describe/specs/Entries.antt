@@ -1,0 +1,65 @@
+-- The entries of a list of arrivals, and their faults.
+use Rattle.std.specs.Prelude.{ℕ, ◌+◌, nat_lt, List, [], ◌∷◌, length, take, Option, Some, None, is_some, option_map, Result, Ok, Err, if◌then◌else◌}
+use Rattle.std.specs.List.{filter_map, list_any}
+use Rattle.std.specs.Option.{option_or}
+use Rattle.toml.specs.Data.{Data}
+use Rattle.rv_isa.specs.declared.lines.Arrival.{Arrival}
+use Rattle.rv_isa.specs.declared.arrivals.TheConstants.{MOST_ARRIVALS}
+use Rattle.rv_describe.specs.Entry.{has_unknown_field, fields_of, arrival_of}
+use Rattle.rv_describe.specs.declared.arrivals_error.ArrivalsError.{ArrivalsError}
+use Rattle.rv_describe.specs.declared.arrivals_error.ArrivalsError.TheVariants.{UnknownKey, WrongKind, OutOfRange, Unsorted}
+
+-- the number, from 1, of the first item that `read` gives nothing for
+abbrev pub first_without : {A B : Type 0} → (A → Option B) → List A → Option ℕ
+first_without read [] = None
+first_without read (item ∷ later) =
+    if is_some (read item) then option_map (λ number. number + 1) (first_without read later) else Some 1
+
+-- the number, from 1, of the first arrival with a cycle below the one before
+abbrev pub first_fall : List Arrival → Option ℕ
+first_fall [] = None
+first_fall (first ∷ []) = None
+first_fall (first ∷ second ∷ later) =
+    if nat_lt second.cycle first.cycle then Some 2
+    else option_map (λ number. number + 1) (first_fall (second ∷ later))
+
+-- an entry has an unknown field
+abbrev pub unknown_field : List Data → Option ArrivalsError
+unknown_field entries = if list_any has_unknown_field entries then Some UnknownKey else None
+
+-- the first entry that is no table, or whose fields are missing or of another type
+abbrev pub wrong_kind : List Data → Option ArrivalsError
+wrong_kind entries = option_map WrongKind (first_without fields_of entries)
+
+-- the number of the first item that `read` gives nothing for, else of the first behind the most that a list may have
+unfoldable pub range_fault : {A B : Type 0} → (A → Option B) → List A → Option ℕ
+range_fault read items =
+    option_or
+    (first_without read (take MOST_ARRIVALS items))
+    (if nat_lt MOST_ARRIVALS (length items) then Some (MOST_ARRIVALS + 1) else None)
+
+-- the first entry with a value that is not allowed, or behind the most that a list may have
+abbrev pub out_of_range : List Data → Option ArrivalsError
+out_of_range entries = option_map OutOfRange (range_fault arrival_of entries)
+
+-- the arrivals, in the order of the entries
+abbrev pub arrivals_of : List Data → List Arrival
+arrivals_of entries = filter_map arrival_of entries
+
+-- the first entry with a cycle below the one before
+abbrev pub unsorted : List Data → Option ArrivalsError
+unsorted entries = option_map Unsorted (first_fall (arrivals_of entries))
+
+-- the fault of the entries: each kind before the next
+abbrev pub fault_of : List Data → Option ArrivalsError
+fault_of entries =
+    option_or (unknown_field entries) (option_or (wrong_kind entries) (option_or (out_of_range entries) (unsorted entries)))
+
+-- the arrivals, unless there is a fault
+abbrev pub unless : Option ArrivalsError → List Arrival → Result (List Arrival) ArrivalsError
+unless None arrivals = Ok arrivals
+unless (Some fault) arrivals = Err fault
+
+-- the arrivals of the entries, or their fault
+unfoldable pub entries_meaning : List Data → Result (List Arrival) ArrivalsError
+entries_meaning entries = unless (fault_of entries) (arrivals_of entries)

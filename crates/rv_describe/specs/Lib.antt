@@ -1,0 +1,13 @@
+pub mod ArrivalList
+pub mod Description
+pub mod Document
+pub mod Entries
+pub mod Entry
+pub mod Fault
+pub mod Held
+pub mod Key
+pub mod Legal
+pub mod Names
+pub mod Seen
+pub mod Setting
+pub mod Unknown

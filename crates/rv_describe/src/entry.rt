@@ -1,0 +1,118 @@
+ghost use Rattle.std.specs.Prelude.{◌≡◌};
+ghost use Rattle.toml.specs.View.{view, table_view};
+ghost use Rattle.rv_describe.specs.Entry.{arrival_from, cycle_of, fields_of, has_unknown_field, integer_at, level_in, level_of, line_at, line_named};
+
+use crate::names::has_other_name;
+use rv_isa::{Arrival, LAST_CYCLE, Line};
+use toml::{Table, Value};
+
+/// The values of an entry whose fields have the right types.
+#[derive(Clone, Copy, Debug)]
+pub struct Fields {
+    /// The integer at `cycle`, in any range.
+    pub cycle: i64,
+    /// The line that the string at `line` names, if it names one.
+    pub line: Option<Line>,
+    /// The integer at `level`, in any range, or 1 where it is missing.
+    pub level: i64,
+}
+
+impl Fields {
+    /// The values of an entry, or `None` where it is no table, lacks a field, or a field has another
+    /// type.
+    pub fn of_entry(entry: &Value) -> Option<Self>
+        ensures { result ≡ fields_of (view entry.now) }
+    {
+        let table = entry.as_table()?;
+        let cycle = integer_at(table, "cycle")?;
+        let line = line_at(table)?;
+        let level = level_in(table)?;
+        Some(Fields { cycle, line, level })
+    }
+
+    /// The arrival, or `None` where the cycle, the line or the level is not one of those allowed.
+    pub fn arrival(&self) -> Option<Arrival>
+        ensures { result ≡ arrival_from self.now }
+    {
+        let cycle = cycle_of(self.cycle)?;
+        let line = self.line?;
+        let level = level_of(self.level)?;
+        Some(Arrival { cycle, line, level })
+    }
+}
+
+/// Whether an entry is a table with another field than `cycle`, `line` and `level`.
+pub fn has_unknown_field(entry: &Value) -> bool
+    ensures { result ≡ has_unknown_field (view entry.now) }
+{
+    match entry.as_table() {
+        Some(table) => has_other_name(table, &["cycle", "line", "level"]),
+        None => false,
+    }
+}
+
+/// The integer at a name.
+fn integer_at(table: &Table, name: &str) -> Option<i64>
+    ensures { result ≡ integer_at name.now (table_view table.now) }
+{
+    match table.get(name) {
+        Some(value) => value.as_integer(),
+        None => None,
+    }
+}
+
+/// The line that the string at `line` names, `Some(None)` for another string.
+fn line_at(table: &Table) -> Option<Option<Line>>
+    ensures { result ≡ line_at (table_view table.now) }
+{
+    match table.get("line") {
+        Some(value) => match value.as_str() {
+            Some(name) => Some(line_named(name)),
+            None => None,
+        },
+        None => None,
+    }
+}
+
+/// The integer at `level`, 1 where there is no such field.
+fn level_in(table: &Table) -> Option<i64>
+    ensures { result ≡ level_in (table_view table.now) }
+{
+    match table.get("level") {
+        Some(value) => value.as_integer(),
+        None => Some(1),
+    }
+}
+
+/// The line of a name.
+fn line_named(name: &str) -> Option<Line>
+    ensures { result ≡ line_named name.now }
+{
+    match name {
+        "software" => Some(Line::Software),
+        "timer" => Some(Line::Timer),
+        "external" => Some(Line::External),
+        _ => None,
+    }
+}
+
+/// A cycle from 0 to 1,000,000.
+fn cycle_of(number: i64) -> Option<u64>
+    ensures { result ≡ cycle_of number }
+{
+    match u64::try_from(number) {
+        Ok(cycle) if cycle <= LAST_CYCLE => Some(cycle),
+        _ => None,
+    }
+}
+
+/// A level, 0 or 1.
+fn level_of(number: i64) -> Option<bool>
+    ensures { result ≡ level_of number }
+{
+    match number {
+        0 => Some(false),
+        1 => Some(true),
+        _ => None,
+    }
+}

@@ -1,0 +1,30 @@
+//! Reads machine descriptions and lists of arrivals. Both are TOML documents: the model of a text is
+//! the table that `toml` gives for its bytes. What is read is a [`Description`](rv_isa::Description)
+//! or [`Arrivals`](rv_isa::Arrivals), legal by its type, or the text's first fault.
+#![tactic(auto)]
+
+mod arrival_list;
+mod arrivals_error;
+mod description;
+mod description_error;
+mod entries;
+mod entry;
+mod faults;
+mod held;
+mod key;
+mod names;
+mod order;
+mod row;
+mod rule;
+mod settings;
+mod unknown;
+mod words;
+
+pub use arrival_list::read_arrivals;
+pub use arrivals_error::ArrivalsError;
+pub use description::read_description;
+pub use description_error::DescriptionError;
+pub use order::key_name;
+
+#[cfg(test)]
+mod tests;

@@ -1,0 +1,103 @@
+ghost use Rattle.std.specs.Prelude.{◌≡◌, ◌&&◌, not, Some, None, option_copied};
+ghost use Rattle.std.specs.List.{list_any};
+ghost use Rattle.std.specs.Str.{bytes_eq};
+ghost use Rattle.toml.specs.View.{view, table_view};
+ghost use Rattle.rv_describe.specs.Key.{row_of};
+ghost use Rattle.rv_describe.specs.Unknown.{same_table, is_key, is_table, any_member, unknown_within, unknown_at_top, has_unknown};
+
+use crate::key::Key;
+use crate::order::ORDER;
+use toml::{Table, Value};
+
+fn same_table(table: Option<&str>, other: Option<&str>) -> bool
+    ensures { result ≡ same_table (option_copied table.entry) (option_copied other.entry) }
+{
+    match table {
+        Some(table) => match other {
+            Some(other) => table == other,
+            None => false,
+        },
+        None => other.is_none(),
+    }
+}
+
+fn key_among(keys: &[Key], table: Option<&str>, name: &str) -> bool
+    ensures { result
+        ≡ list_any (λ key. same_table (row_of key).table (option_copied table.entry)
+        && bytes_eq (row_of key).name name.now) keys.now }
+{
+    for key in keys {
+        let row = key.row();
+        if same_table(row.table, table) && row.name == name {
+            return true;
+        }
+    }
+    false
+}
+
+// Some key has this name in this table, or at top level.
+fn is_key(table: Option<&str>, name: &str) -> bool
+    ensures { result ≡ is_key (option_copied table.entry) name.now }
+{
+    key_among(&ORDER, table, name)
+}
+
+fn table_among(keys: &[Key], name: &str) -> bool
+    ensures { result ≡ list_any (λ key. same_table (row_of key).table (Some name.now)) keys.now }
+{
+    for key in keys {
+        let row = key.row();
+        if same_table(row.table, Some(name)) {
+            return true;
+        }
+    }
+    false
+}
+
+// Some key is in this table.
+fn is_table(name: &str) -> bool
+    ensures { result ≡ is_table name.now }
+{
+    table_among(&ORDER, name)
+}
+
+// Some name in a table of keys is none of its keys.
+fn unknown_among(name: &str, table: &Table) -> bool
+    ensures { result
+        ≡ any_member (λ inner value. not (is_key (Some name.now) inner)) (table_view table.now) }
+{
+    for (inner, _) in table {
+        if !is_key(Some(name), inner.as_str()) {
+            return true;
+        }
+    }
+    false
+}
+
+fn unknown_within(name: &str, value: &Value) -> bool
+    ensures { result ≡ unknown_within name.now (view value.now) }
+{
+    match value.as_table() {
+        Some(table) => unknown_among(name, table),
+        None => false,
+    }
+}
+
+fn unknown_at_top(name: &str, value: &Value) -> bool
+    ensures { result ≡ unknown_at_top name.now (view value.now) }
+{
+    !is_key(None, name) && (!is_table(name) || unknown_within(name, value))
+}
+
+/// Whether some name of the text is no key and no table of keys.
+#[tactic(auto, unfolding(crate::specs::Unknown::has_unknown))]
+pub fn has_unknown(table: &Table) -> bool
+    ensures { result ≡ has_unknown (table_view table.now) }
+{
+    for (name, value) in table {
+        if unknown_at_top(name.as_str(), value) {
+            return true;
+        }
+    }
+    false
+}
