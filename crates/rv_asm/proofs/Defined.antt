@@ -1,5 +1,5 @@
 -- A definition more.
-use Rattle.std.proofs.Common.{◌≡◌, ◌∙◌, ℕ, List, Bool, true, false, cond, Some, None, Option, sym, refl, ap, is_some}
+use Rattle.std.proofs.Common.{◌≡◌, ◌∙◌, ℕ, List, Bool, true, false, cond, Some, None, Option, sym, refl, ap, is_none, is_some}
 use Rattle.std.specs.Option.{option_or}
 use Rattle.std.specs.Str.{bytes_eq}
 use Rattle.std.proofs.lemmas.Slice.Eq.{bytes_eq-Decides}
@@ -29,6 +29,14 @@ old_at f name other d false is some = or_none (f other)
 -- a name that is defined stays as it is
 pub defined_old : (f : List ℕ → Option Definition) (name : List ℕ) (d : Definition) → is_some (f name) ≡ true → f ≡ defined f name d
 defined_old f name d some = λ i other. old_at f name other d (bytes_eq name other) refl some i
+
+pub none_if : (o : Option Definition) (b : Bool) → b ≡ is_none o → b ≡ true → o ≡ None
+none_if None b e true_is = refl
+none_if (Some d) b e true_is = absurd (cc)
+
+pub some_if : (o : Option Definition) (b : Bool) → b ≡ is_none o → b ≡ false → is_some o ≡ true
+some_if None b e false_is = absurd (cc)
+some_if (Some d) b e false_is = refl
 
 pub none_of : (o : Option Definition) → is_some o ≡ false → o ≡ None
 none_of None e = refl

@@ -1,5 +1,5 @@
 -- What is appended, one part after another.
-use Rattle.std.proofs.Common.{◌≡◌, ◌∙◌, ◌+◌, ◌-◌, ℕ, suc, zero, List, [], ◌∷◌, ◌++◌, map, take, length, Bool, true, false, cond, Option, Result, Ok, Err, sym, refl, ap, arith, append_assoc, drop, IfOk, if◌then◌else◌, ◌==◌}
+use Rattle.std.proofs.Common.{◌≡◌, ◌∙◌, ◌+◌, ◌-◌, ℕ, suc, zero, List, [], ◌∷◌, ◌++◌, map, take, length, Bool, true, false, cond, Option, Result, Ok, Err, sym, refl, ap, arith, append_assoc, drop, if◌then◌else◌, ◌==◌}
 use Rattle.std.specs.Prelude.{replicate, ℤ}
 use Rattle.std.proofs.lemmas.Bool.{false_from_ne_true}
 use Rattle.std.proofs.lemmas.Bool.Decides.{Decides-eqb}
@@ -8,9 +8,7 @@ use Rattle.rv_asm.specs.ReadOperand.{operand_of}
 use Rattle.rv_asm.specs.declared.operand.Operand as read
 use Rattle.std.specs.Int.{to_le_bytes, w32}
 use Rattle.rv_asm.specs.Emitted.{Appends, Emits}
-use Rattle.rv_asm.specs.Meaning.{Cell, Byte', Word', Spells, nothing, byte, word, IsWordOf, contents_in, bytes_at, data_of, data_value, fits_width}
-use Rattle.rv_asm.specs.declared.operation.Section.{Section}
-use Rattle.rv_asm.specs.declared.operation.Section.TheVariants as section
+use Rattle.rv_asm.specs.Meaning.{Cell, Byte', Word', Spells, nothing, byte, word, IsWordOf, bytes_at, data_of, data_value, fits_width}
 use Rattle.rv_asm.specs.Operand.{Operand}
 use Rattle.rv_asm.specs.Statement.{and_then}
 use Rattle.rv_asm.specs.declared.fault.AsmFault.{AsmFault}
@@ -105,12 +103,6 @@ nothing_left ops rest i rest_is none = ap (map operand_of) (sym rest_is ∙ no_i
     no_items : (l : List read.Operand) → length l ≡ 0 → l ≡ []
     no_items [] e = refl
     no_items (x ∷ xs) e = absurd (omega (arith, e))
-
--- a line more in its section
-pub section_more : (s sec : Section) (r : Result (Unit {0}) AsmFault) (meaning : Result (List Cell) AsmFault) (parts : List Cell) (old new : List ℕ) → sec ≡ s → IfOk r (λ _. Emits meaning old new) → Spells parts old → IfOk r (λ _. Spells (contents_in s sec parts meaning) new)
-section_more s sec (Err fault) meaning parts old new same emits spells = tt
-section_more section.Text sec (Ok x) meaning parts old new same emits spells = rw (same, emits.means, emits.appends.appended) (spells_append spells emits.appends.spells)
-section_more section.Data sec (Ok x) meaning parts old new same emits spells = rw (same, emits.means, emits.appends.appended) (spells_append spells emits.appends.spells)
 
 pub nonzero : (n : ℕ) → (n ≡ 0 → ⊥) → (n == 0) ≡ false
 nonzero n h = false_from_ne_true (n == 0) (λ e. h ((Decides-eqb n 0).0 e))

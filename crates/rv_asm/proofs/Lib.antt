@@ -1,11 +1,15 @@
 pub mod Defined
 pub mod Emitted
+pub mod Kept
 pub mod Labels
+pub mod Leads
 pub mod LineAdded
 pub mod Lines
 pub mod Named
+pub mod OnlyLi
 pub mod Operands
 pub mod Pieces
+pub mod SameSize
 pub mod SecondLine
 pub mod SectionsSoFar
 pub mod TokenFirst

@@ -11,6 +11,7 @@ pub mod ReadLayout
 pub mod ReadOperand
 pub mod ReadStatement
 pub mod ReadToken
+pub mod SecondPass
 pub mod Statement
 pub mod Symbols
 pub mod Token

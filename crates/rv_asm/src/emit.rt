@@ -12,11 +12,12 @@ ghost use Rattle.rv_asm.specs.Symbols.{found};
 ghost use Rattle.rv_asm.specs.Token.{unescaped};
 
 use crate::fault::AsmFault;
+use crate::filling::expression_in;
 use crate::instructions::instructions;
 use crate::layout::{modulo_word, padding};
 use crate::operand::{Expression, Operand};
 use crate::operation::{Fields, Operation};
-use crate::statement::{Statement, expression_in};
+use crate::statement::Statement;
 use crate::symbols::Symbols;
 use crate::token::push_text;
 use crate::values::evaluate;
@@ -30,10 +31,8 @@ fn push_word(out: &mut Vec<u8>, instruction: &Instr) -> Result<(), AsmFault>
 {
     let word = encode(instruction);
     let bytes = word.to_le_bytes();
-    match out.extend_from_slice(&bytes) {
-        Ok(()) => Ok(()),
-        Err(_) => Err(AsmFault::Memory),
-    }
+    out.extend_from_slice(&bytes)?;
+    Ok(())
 }
 
 /// Appends the words of one instruction, or of two.
@@ -89,10 +88,8 @@ pub fn push_zeros(out: &mut Vec<u8>, count: usize) -> Result<(), AsmFault>
     let Some(size) = out.len().checked_add(count) else {
         return Err(AsmFault::Memory);
     };
-    match out.resize(size, 0) {
-        Ok(()) => Ok(()),
-        Err(_) => Err(AsmFault::Memory),
-    }
+    out.resize(size, 0)?;
+    Ok(())
 }
 
 /// Appends the bytes of a string, and a zero where it is terminated.
@@ -113,10 +110,8 @@ fn push_string(out: &mut Vec<u8>, raw: &[u8]) -> Result<(), AsmFault>
     ensures pushed { OnOk result (Appends (map Byte' (unescaped raw.now)) out.old.items out.new.items) }
     ensures refused { IfErr result (λ fault. fault ≡ AsmFault.Memory) }
 {
-    match push_text(out, raw) {
-        Ok(()) => Ok(()),
-        Err(_) => Err(AsmFault::Memory),
-    }
+    push_text(out, raw)?;
+    Ok(())
 }
 
 /// Whether data of a width may hold a number.
@@ -147,10 +142,8 @@ fn push_low(out: &mut Vec<u8>, width: Width, word: u32) -> Result<(), AsmFault>
 {
     let bytes = word.to_le_bytes();
     let (low, _) = bytes.as_slice().split_at(width.bytes() as usize);
-    match out.extend_from_slice(low) {
-        Ok(()) => Ok(()),
-        Err(_) => Err(AsmFault::Memory),
-    }
+    out.extend_from_slice(low)?;
+    Ok(())
 }
 
 /// Whether each operand has a value.

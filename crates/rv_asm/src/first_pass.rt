@@ -13,7 +13,7 @@ ghost use Rattle.rv_asm.specs.Token.{tokens_of};
 use crate::fault::{AsmError, AsmFault};
 use crate::layout::{Reach, advance};
 use crate::operand::Operand;
-use crate::operation::{Form, Section};
+use crate::operation::Form;
 use crate::statement::{Statement, make_statement, needed, read};
 use crate::symbols::{Definition, Symbols};
 use crate::token::{Token, TokenError, tokenize};
@@ -123,11 +123,7 @@ impl<'a> Layout<'a> {
     {
         Layout {
             symbols: Symbols::new(alloc),
-            reach: Reach {
-                section: Section::Text,
-                text_size: 0,
-                data_size: 0,
-            },
+            reach: Reach::START,
         }
     }
 

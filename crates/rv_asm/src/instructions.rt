@@ -1,4 +1,4 @@
-ghost use Rattle.std.specs.Prelude.{◌≡◌, ◌<◌, ◌∷◌, ◌≤ℤ◌, ◌-ℤ◌, ◌^◌, ℤ, pos, negsuc, option_to_list};
+ghost use Rattle.std.specs.Prelude.{◌≡◌, ◌<◌, ◌∷◌, ◌≤ℤ◌, ◌≤◌, ◌-ℤ◌, ◌^◌, ℤ, pos, negsuc, option_to_list, IfOk};
 ghost use Rattle.std.specs.Result.{result_map_both};
 ghost use Rattle.rv_asm.specs.Meaning.{distance, immediate, instructions, natural};
 
@@ -23,44 +23,40 @@ fn immediate(number: i128) -> Result<Immediate, AsmFault>
     }
 }
 
-fn upper_immediate(number: i128) -> Result<UpperImmediate, AsmFault>
-    ensures { result ≡ natural 1048575 number }
+/// A number from 0 on that a field holds.
+fn natural(number: i128, greatest: u32) -> Result<u32, AsmFault>
+    ensures number { result ≡ natural greatest number }
+    ensures in_range { IfOk result (λ n. n ≤ greatest) }
 {
-    if 0 <= number && number <= 1048575 {
-        Ok(UpperImmediate::from_field(number.unsigned_abs() as u32))
+    if 0 <= number && number <= i128::from(greatest) {
+        Ok(number.unsigned_abs() as u32)
     } else {
         Err(AsmFault::OutOfRange)
     }
+}
+
+fn upper_immediate(number: i128) -> Result<UpperImmediate, AsmFault>
+    ensures { result ≡ natural 1048575 number }
+{
+    Ok(UpperImmediate::from_field(natural(number, 1048575)?))
 }
 
 fn shift_amount(number: i128) -> Result<ShiftAmount, AsmFault>
     ensures { result ≡ natural 31 number }
 {
-    if 0 <= number && number <= 31 {
-        Ok(ShiftAmount::from_field(number.unsigned_abs() as u32))
-    } else {
-        Err(AsmFault::OutOfRange)
-    }
+    Ok(ShiftAmount::from_field(natural(number, 31)?))
 }
 
 fn csr_address(number: i64) -> Result<CsrAddress, AsmFault>
     ensures { result ≡ natural 4095 number }
 {
-    if 0 <= number && number <= 4095 {
-        Ok(CsrAddress::from_field(number.unsigned_abs() as u32))
-    } else {
-        Err(AsmFault::OutOfRange)
-    }
+    Ok(CsrAddress::from_field(natural(i128::from(number), 4095)?))
 }
 
 fn csr_immediate(number: i128) -> Result<CsrImmediate, AsmFault>
     ensures { result ≡ natural 31 number }
 {
-    if 0 <= number && number <= 31 {
-        Ok(CsrImmediate::from_field(number.unsigned_abs() as u32))
-    } else {
-        Err(AsmFault::OutOfRange)
-    }
+    Ok(CsrImmediate::from_field(natural(number, 31)?))
 }
 
 fn branch_offset(away: i128) -> Result<BranchOffset, AsmFault>
@@ -110,117 +106,77 @@ pub fn instructions(
     ensures { result_map_both (λ made. made.0 ∷ option_to_list made.1) (λ fault. fault) result ≡ instructions operation fields address number }
 {
     let Fields { rd, rs1, rs2, csr } = fields;
-    match operation {
-        Operation::Lui => {
-            let immediate = upper_immediate(number)?;
-            Ok((Instr::Lui { rd, immediate }, None))
+    let instruction = match operation {
+        Operation::Lui => Instr::Lui {
+            rd,
+            immediate: upper_immediate(number)?,
+        },
+        Operation::Auipc => Instr::Auipc {
+            rd,
+            immediate: upper_immediate(number)?,
+        },
+        Operation::Jal => Instr::Jal {
+            rd,
+            offset: jump_offset(distance(number, address))?,
+        },
+        Operation::Jalr => Instr::Jalr {
+            rd,
+            rs1,
+            offset: immediate(number)?,
+        },
+        Operation::Branch(condition) => Instr::Branch {
+            condition,
+            rs1,
+            rs2,
+            offset: branch_offset(distance(number, address))?,
+        },
+        Operation::Load(form) => Instr::Load {
+            form,
+            rd,
+            rs1,
+            offset: immediate(number)?,
+        },
+        Operation::Store(width) => Instr::Store {
+            width,
+            rs1,
+            rs2,
+            offset: immediate(number)?,
+        },
+        Operation::OpImmediate(op) => Instr::OpImmediate {
+            op,
+            rd,
+            rs1,
+            immediate: immediate(number)?,
+        },
+        Operation::Shift(op) => Instr::Shift {
+            op,
+            rd,
+            rs1,
+            amount: shift_amount(number)?,
+        },
+        Operation::Op(op) => Instr::Op { op, rd, rs1, rs2 },
+        Operation::Fence => Instr::Fence,
+        Operation::FenceI => Instr::FenceI,
+        Operation::Csr(op) => Instr::Csr {
+            op,
+            rd,
+            csr: csr_address(csr)?,
+            source: CsrSource::Register(rs1),
+        },
+        Operation::CsrImmediate(op) => Instr::Csr {
+            op,
+            rd,
+            csr: csr_address(csr)?,
+            source: CsrSource::Immediate(csr_immediate(number)?),
+        },
+        Operation::Ecall => Instr::Ecall,
+        Operation::Ebreak => Instr::Ebreak,
+        Operation::Mret => Instr::Mret,
+        Operation::Wfi => Instr::Wfi,
+        Operation::LoadNumber => return Ok(load_number(rd, signed_word(number))),
+        Operation::LoadAddress => {
+            return Ok(load_address(rd, signed_word(distance(number, address))));
         }
-        Operation::Auipc => {
-            let immediate = upper_immediate(number)?;
-            Ok((Instr::Auipc { rd, immediate }, None))
-        }
-        Operation::Jal => {
-            let offset = jump_offset(distance(number, address))?;
-            Ok((Instr::Jal { rd, offset }, None))
-        }
-        Operation::Jalr => {
-            let offset = immediate(number)?;
-            Ok((Instr::Jalr { rd, rs1, offset }, None))
-        }
-        Operation::Branch(condition) => {
-            let offset = branch_offset(distance(number, address))?;
-            Ok((
-                Instr::Branch {
-                    condition,
-                    rs1,
-                    rs2,
-                    offset,
-                },
-                None,
-            ))
-        }
-        Operation::Load(form) => {
-            let offset = immediate(number)?;
-            Ok((
-                Instr::Load {
-                    form,
-                    rd,
-                    rs1,
-                    offset,
-                },
-                None,
-            ))
-        }
-        Operation::Store(width) => {
-            let offset = immediate(number)?;
-            Ok((
-                Instr::Store {
-                    width,
-                    rs1,
-                    rs2,
-                    offset,
-                },
-                None,
-            ))
-        }
-        Operation::OpImmediate(op) => {
-            let immediate = immediate(number)?;
-            Ok((
-                Instr::OpImmediate {
-                    op,
-                    rd,
-                    rs1,
-                    immediate,
-                },
-                None,
-            ))
-        }
-        Operation::Shift(op) => {
-            let amount = shift_amount(number)?;
-            Ok((
-                Instr::Shift {
-                    op,
-                    rd,
-                    rs1,
-                    amount,
-                },
-                None,
-            ))
-        }
-        Operation::Op(op) => Ok((Instr::Op { op, rd, rs1, rs2 }, None)),
-        Operation::Fence => Ok((Instr::Fence, None)),
-        Operation::FenceI => Ok((Instr::FenceI, None)),
-        Operation::Csr(op) => {
-            let csr = csr_address(csr)?;
-            let source = CsrSource::Register(rs1);
-            Ok((
-                Instr::Csr {
-                    op,
-                    rd,
-                    csr,
-                    source,
-                },
-                None,
-            ))
-        }
-        Operation::CsrImmediate(op) => {
-            let csr = csr_address(csr)?;
-            let source = CsrSource::Immediate(csr_immediate(number)?);
-            Ok((
-                Instr::Csr {
-                    op,
-                    rd,
-                    csr,
-                    source,
-                },
-                None,
-            ))
-        }
-        Operation::Ecall => Ok((Instr::Ecall, None)),
-        Operation::Ebreak => Ok((Instr::Ebreak, None)),
-        Operation::Mret => Ok((Instr::Mret, None)),
-        Operation::Wfi => Ok((Instr::Wfi, None)),
-        Operation::LoadNumber => Ok(load_number(rd, signed_word(number))),
-        Operation::LoadAddress => Ok(load_address(rd, signed_word(distance(number, address)))),
-    }
+    };
+    Ok((instruction, None))
 }

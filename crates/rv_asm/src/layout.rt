@@ -31,6 +31,13 @@ pub struct Reach {
 }
 
 impl Reach {
+    /// No section has bytes yet, and the text begins in `.text`.
+    pub const START: Reach = Reach {
+        section: Section::Text,
+        text_size: 0,
+        data_size: 0,
+    };
+
     /// How many bytes the section in force has so far.
     pub fn offset(self) -> usize
         ensures { result ≡ offset self }

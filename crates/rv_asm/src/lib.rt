@@ -4,6 +4,7 @@
 mod assembler;
 mod emit;
 mod fault;
+mod filling;
 mod first_pass;
 mod instructions;
 mod layout;
@@ -12,6 +13,7 @@ mod names;
 mod operand;
 mod operation;
 mod second_pass;
+mod shapes;
 mod statement;
 mod symbols;
 mod token;

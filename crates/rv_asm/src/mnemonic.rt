@@ -2,696 +2,170 @@ ghost use Rattle.std.specs.Prelude.{◌≡◌};
 ghost use Rattle.rv_asm.specs.Mnemonic.{form_named};
 
 use crate::names::lookup;
-use crate::operation::{Form, Operation, Place, Section};
-use rv_isa::{AluOp, Condition, CsrOp, ImmediateOp, LoadForm, ShiftOp, Width};
+use crate::operation::Form::{self, Instruction};
+use crate::operation::Operation::{
+    Auipc, Branch, Csr, CsrImmediate, Ebreak, Ecall, Fence, FenceI, Jal, Jalr, Load, LoadAddress,
+    LoadNumber, Lui, Mret, Op, OpImmediate, Shift, Store, Wfi,
+};
+use crate::operation::Place::{
+    Address, Csr as CsrName, Empty, Known, Link, MinusOne, One, Rd, Return, Rs1, Rs2, Target, Value,
+};
+use crate::operation::Section;
+use rv_isa::Condition::{
+    Equal, GreaterOrEqual, GreaterOrEqualUnsigned, LessThan, LessThanUnsigned, NotEqual,
+};
+use rv_isa::CsrOp::{Clear, Set, Write};
+use rv_isa::ImmediateOp::{Addi, Andi, Ori, Slti, Sltiu, Xori};
+use rv_isa::{AluOp, LoadForm, ShiftOp, Width};
 
 /// The mnemonics and directives: what each does, and where its operands go.
 static MNEMONICS: [(&[u8], Form); 106] = [
     // RV32I
-    (
-        b"lui",
-        Form::Instruction(Operation::Lui, Place::Rd, Place::Value, Place::Empty),
-    ),
-    (
-        b"auipc",
-        Form::Instruction(Operation::Auipc, Place::Rd, Place::Value, Place::Empty),
-    ),
+    (b"lui", Instruction(Lui, Rd, Value, Empty)),
+    (b"auipc", Instruction(Auipc, Rd, Value, Empty)),
     (b"jal", Form::Jal),
     (b"jalr", Form::Jalr),
-    (
-        b"beq",
-        Form::Instruction(
-            Operation::Branch(Condition::Equal),
-            Place::Rs1,
-            Place::Rs2,
-            Place::Target,
-        ),
-    ),
-    (
-        b"bne",
-        Form::Instruction(
-            Operation::Branch(Condition::NotEqual),
-            Place::Rs1,
-            Place::Rs2,
-            Place::Target,
-        ),
-    ),
-    (
-        b"blt",
-        Form::Instruction(
-            Operation::Branch(Condition::LessThan),
-            Place::Rs1,
-            Place::Rs2,
-            Place::Target,
-        ),
-    ),
+    (b"beq", Instruction(Branch(Equal), Rs1, Rs2, Target)),
+    (b"bne", Instruction(Branch(NotEqual), Rs1, Rs2, Target)),
+    (b"blt", Instruction(Branch(LessThan), Rs1, Rs2, Target)),
     (
         b"bge",
-        Form::Instruction(
-            Operation::Branch(Condition::GreaterOrEqual),
-            Place::Rs1,
-            Place::Rs2,
-            Place::Target,
-        ),
+        Instruction(Branch(GreaterOrEqual), Rs1, Rs2, Target),
     ),
     (
         b"bltu",
-        Form::Instruction(
-            Operation::Branch(Condition::LessThanUnsigned),
-            Place::Rs1,
-            Place::Rs2,
-            Place::Target,
-        ),
+        Instruction(Branch(LessThanUnsigned), Rs1, Rs2, Target),
     ),
     (
         b"bgeu",
-        Form::Instruction(
-            Operation::Branch(Condition::GreaterOrEqualUnsigned),
-            Place::Rs1,
-            Place::Rs2,
-            Place::Target,
-        ),
+        Instruction(Branch(GreaterOrEqualUnsigned), Rs1, Rs2, Target),
     ),
-    (
-        b"lb",
-        Form::Instruction(
-            Operation::Load(LoadForm::Byte),
-            Place::Rd,
-            Place::Address,
-            Place::Empty,
-        ),
-    ),
-    (
-        b"lh",
-        Form::Instruction(
-            Operation::Load(LoadForm::Half),
-            Place::Rd,
-            Place::Address,
-            Place::Empty,
-        ),
-    ),
-    (
-        b"lw",
-        Form::Instruction(
-            Operation::Load(LoadForm::Word),
-            Place::Rd,
-            Place::Address,
-            Place::Empty,
-        ),
-    ),
+    (b"lb", Instruction(Load(LoadForm::Byte), Rd, Address, Empty)),
+    (b"lh", Instruction(Load(LoadForm::Half), Rd, Address, Empty)),
+    (b"lw", Instruction(Load(LoadForm::Word), Rd, Address, Empty)),
     (
         b"lbu",
-        Form::Instruction(
-            Operation::Load(LoadForm::ByteUnsigned),
-            Place::Rd,
-            Place::Address,
-            Place::Empty,
-        ),
+        Instruction(Load(LoadForm::ByteUnsigned), Rd, Address, Empty),
     ),
     (
         b"lhu",
-        Form::Instruction(
-            Operation::Load(LoadForm::HalfUnsigned),
-            Place::Rd,
-            Place::Address,
-            Place::Empty,
-        ),
+        Instruction(Load(LoadForm::HalfUnsigned), Rd, Address, Empty),
     ),
-    (
-        b"sb",
-        Form::Instruction(
-            Operation::Store(Width::Byte),
-            Place::Rs2,
-            Place::Address,
-            Place::Empty,
-        ),
-    ),
-    (
-        b"sh",
-        Form::Instruction(
-            Operation::Store(Width::Half),
-            Place::Rs2,
-            Place::Address,
-            Place::Empty,
-        ),
-    ),
-    (
-        b"sw",
-        Form::Instruction(
-            Operation::Store(Width::Word),
-            Place::Rs2,
-            Place::Address,
-            Place::Empty,
-        ),
-    ),
-    (
-        b"addi",
-        Form::Instruction(
-            Operation::OpImmediate(ImmediateOp::Addi),
-            Place::Rd,
-            Place::Rs1,
-            Place::Value,
-        ),
-    ),
-    (
-        b"slti",
-        Form::Instruction(
-            Operation::OpImmediate(ImmediateOp::Slti),
-            Place::Rd,
-            Place::Rs1,
-            Place::Value,
-        ),
-    ),
-    (
-        b"sltiu",
-        Form::Instruction(
-            Operation::OpImmediate(ImmediateOp::Sltiu),
-            Place::Rd,
-            Place::Rs1,
-            Place::Value,
-        ),
-    ),
-    (
-        b"xori",
-        Form::Instruction(
-            Operation::OpImmediate(ImmediateOp::Xori),
-            Place::Rd,
-            Place::Rs1,
-            Place::Value,
-        ),
-    ),
-    (
-        b"ori",
-        Form::Instruction(
-            Operation::OpImmediate(ImmediateOp::Ori),
-            Place::Rd,
-            Place::Rs1,
-            Place::Value,
-        ),
-    ),
-    (
-        b"andi",
-        Form::Instruction(
-            Operation::OpImmediate(ImmediateOp::Andi),
-            Place::Rd,
-            Place::Rs1,
-            Place::Value,
-        ),
-    ),
-    (
-        b"slli",
-        Form::Instruction(
-            Operation::Shift(ShiftOp::Slli),
-            Place::Rd,
-            Place::Rs1,
-            Place::Value,
-        ),
-    ),
-    (
-        b"srli",
-        Form::Instruction(
-            Operation::Shift(ShiftOp::Srli),
-            Place::Rd,
-            Place::Rs1,
-            Place::Value,
-        ),
-    ),
-    (
-        b"srai",
-        Form::Instruction(
-            Operation::Shift(ShiftOp::Srai),
-            Place::Rd,
-            Place::Rs1,
-            Place::Value,
-        ),
-    ),
-    (
-        b"add",
-        Form::Instruction(Operation::Op(AluOp::Add), Place::Rd, Place::Rs1, Place::Rs2),
-    ),
-    (
-        b"sub",
-        Form::Instruction(Operation::Op(AluOp::Sub), Place::Rd, Place::Rs1, Place::Rs2),
-    ),
-    (
-        b"sll",
-        Form::Instruction(Operation::Op(AluOp::Sll), Place::Rd, Place::Rs1, Place::Rs2),
-    ),
-    (
-        b"slt",
-        Form::Instruction(Operation::Op(AluOp::Slt), Place::Rd, Place::Rs1, Place::Rs2),
-    ),
-    (
-        b"sltu",
-        Form::Instruction(
-            Operation::Op(AluOp::Sltu),
-            Place::Rd,
-            Place::Rs1,
-            Place::Rs2,
-        ),
-    ),
-    (
-        b"xor",
-        Form::Instruction(Operation::Op(AluOp::Xor), Place::Rd, Place::Rs1, Place::Rs2),
-    ),
-    (
-        b"srl",
-        Form::Instruction(Operation::Op(AluOp::Srl), Place::Rd, Place::Rs1, Place::Rs2),
-    ),
-    (
-        b"sra",
-        Form::Instruction(Operation::Op(AluOp::Sra), Place::Rd, Place::Rs1, Place::Rs2),
-    ),
-    (
-        b"or",
-        Form::Instruction(Operation::Op(AluOp::Or), Place::Rd, Place::Rs1, Place::Rs2),
-    ),
-    (
-        b"and",
-        Form::Instruction(Operation::Op(AluOp::And), Place::Rd, Place::Rs1, Place::Rs2),
-    ),
-    (
-        b"ecall",
-        Form::Instruction(Operation::Ecall, Place::Empty, Place::Empty, Place::Empty),
-    ),
-    (
-        b"ebreak",
-        Form::Instruction(Operation::Ebreak, Place::Empty, Place::Empty, Place::Empty),
-    ),
-    (
-        b"fence",
-        Form::Instruction(Operation::Fence, Place::Empty, Place::Empty, Place::Empty),
-    ),
+    (b"sb", Instruction(Store(Width::Byte), Rs2, Address, Empty)),
+    (b"sh", Instruction(Store(Width::Half), Rs2, Address, Empty)),
+    (b"sw", Instruction(Store(Width::Word), Rs2, Address, Empty)),
+    (b"addi", Instruction(OpImmediate(Addi), Rd, Rs1, Value)),
+    (b"slti", Instruction(OpImmediate(Slti), Rd, Rs1, Value)),
+    (b"sltiu", Instruction(OpImmediate(Sltiu), Rd, Rs1, Value)),
+    (b"xori", Instruction(OpImmediate(Xori), Rd, Rs1, Value)),
+    (b"ori", Instruction(OpImmediate(Ori), Rd, Rs1, Value)),
+    (b"andi", Instruction(OpImmediate(Andi), Rd, Rs1, Value)),
+    (b"slli", Instruction(Shift(ShiftOp::Slli), Rd, Rs1, Value)),
+    (b"srli", Instruction(Shift(ShiftOp::Srli), Rd, Rs1, Value)),
+    (b"srai", Instruction(Shift(ShiftOp::Srai), Rd, Rs1, Value)),
+    (b"add", Instruction(Op(AluOp::Add), Rd, Rs1, Rs2)),
+    (b"sub", Instruction(Op(AluOp::Sub), Rd, Rs1, Rs2)),
+    (b"sll", Instruction(Op(AluOp::Sll), Rd, Rs1, Rs2)),
+    (b"slt", Instruction(Op(AluOp::Slt), Rd, Rs1, Rs2)),
+    (b"sltu", Instruction(Op(AluOp::Sltu), Rd, Rs1, Rs2)),
+    (b"xor", Instruction(Op(AluOp::Xor), Rd, Rs1, Rs2)),
+    (b"srl", Instruction(Op(AluOp::Srl), Rd, Rs1, Rs2)),
+    (b"sra", Instruction(Op(AluOp::Sra), Rd, Rs1, Rs2)),
+    (b"or", Instruction(Op(AluOp::Or), Rd, Rs1, Rs2)),
+    (b"and", Instruction(Op(AluOp::And), Rd, Rs1, Rs2)),
+    (b"ecall", Instruction(Ecall, Empty, Empty, Empty)),
+    (b"ebreak", Instruction(Ebreak, Empty, Empty, Empty)),
+    (b"fence", Instruction(Fence, Empty, Empty, Empty)),
     // Zifencei
-    (
-        b"fence.i",
-        Form::Instruction(Operation::FenceI, Place::Empty, Place::Empty, Place::Empty),
-    ),
+    (b"fence.i", Instruction(FenceI, Empty, Empty, Empty)),
     // Zicsr
-    (
-        b"csrrw",
-        Form::Instruction(
-            Operation::Csr(CsrOp::Write),
-            Place::Rd,
-            Place::Csr,
-            Place::Rs1,
-        ),
-    ),
-    (
-        b"csrrs",
-        Form::Instruction(
-            Operation::Csr(CsrOp::Set),
-            Place::Rd,
-            Place::Csr,
-            Place::Rs1,
-        ),
-    ),
-    (
-        b"csrrc",
-        Form::Instruction(
-            Operation::Csr(CsrOp::Clear),
-            Place::Rd,
-            Place::Csr,
-            Place::Rs1,
-        ),
-    ),
+    (b"csrrw", Instruction(Csr(Write), Rd, CsrName, Rs1)),
+    (b"csrrs", Instruction(Csr(Set), Rd, CsrName, Rs1)),
+    (b"csrrc", Instruction(Csr(Clear), Rd, CsrName, Rs1)),
     (
         b"csrrwi",
-        Form::Instruction(
-            Operation::CsrImmediate(CsrOp::Write),
-            Place::Rd,
-            Place::Csr,
-            Place::Value,
-        ),
+        Instruction(CsrImmediate(Write), Rd, CsrName, Value),
     ),
     (
         b"csrrsi",
-        Form::Instruction(
-            Operation::CsrImmediate(CsrOp::Set),
-            Place::Rd,
-            Place::Csr,
-            Place::Value,
-        ),
+        Instruction(CsrImmediate(Set), Rd, CsrName, Value),
     ),
     (
         b"csrrci",
-        Form::Instruction(
-            Operation::CsrImmediate(CsrOp::Clear),
-            Place::Rd,
-            Place::Csr,
-            Place::Value,
-        ),
+        Instruction(CsrImmediate(Clear), Rd, CsrName, Value),
     ),
     // M
-    (
-        b"mul",
-        Form::Instruction(Operation::Op(AluOp::Mul), Place::Rd, Place::Rs1, Place::Rs2),
-    ),
-    (
-        b"mulh",
-        Form::Instruction(
-            Operation::Op(AluOp::Mulh),
-            Place::Rd,
-            Place::Rs1,
-            Place::Rs2,
-        ),
-    ),
-    (
-        b"mulhsu",
-        Form::Instruction(
-            Operation::Op(AluOp::Mulhsu),
-            Place::Rd,
-            Place::Rs1,
-            Place::Rs2,
-        ),
-    ),
-    (
-        b"mulhu",
-        Form::Instruction(
-            Operation::Op(AluOp::Mulhu),
-            Place::Rd,
-            Place::Rs1,
-            Place::Rs2,
-        ),
-    ),
-    (
-        b"div",
-        Form::Instruction(Operation::Op(AluOp::Div), Place::Rd, Place::Rs1, Place::Rs2),
-    ),
-    (
-        b"divu",
-        Form::Instruction(
-            Operation::Op(AluOp::Divu),
-            Place::Rd,
-            Place::Rs1,
-            Place::Rs2,
-        ),
-    ),
-    (
-        b"rem",
-        Form::Instruction(Operation::Op(AluOp::Rem), Place::Rd, Place::Rs1, Place::Rs2),
-    ),
-    (
-        b"remu",
-        Form::Instruction(
-            Operation::Op(AluOp::Remu),
-            Place::Rd,
-            Place::Rs1,
-            Place::Rs2,
-        ),
-    ),
+    (b"mul", Instruction(Op(AluOp::Mul), Rd, Rs1, Rs2)),
+    (b"mulh", Instruction(Op(AluOp::Mulh), Rd, Rs1, Rs2)),
+    (b"mulhsu", Instruction(Op(AluOp::Mulhsu), Rd, Rs1, Rs2)),
+    (b"mulhu", Instruction(Op(AluOp::Mulhu), Rd, Rs1, Rs2)),
+    (b"div", Instruction(Op(AluOp::Div), Rd, Rs1, Rs2)),
+    (b"divu", Instruction(Op(AluOp::Divu), Rd, Rs1, Rs2)),
+    (b"rem", Instruction(Op(AluOp::Rem), Rd, Rs1, Rs2)),
+    (b"remu", Instruction(Op(AluOp::Remu), Rd, Rs1, Rs2)),
     // Zba
-    (
-        b"sh1add",
-        Form::Instruction(
-            Operation::Op(AluOp::Sh1add),
-            Place::Rd,
-            Place::Rs1,
-            Place::Rs2,
-        ),
-    ),
-    (
-        b"sh2add",
-        Form::Instruction(
-            Operation::Op(AluOp::Sh2add),
-            Place::Rd,
-            Place::Rs1,
-            Place::Rs2,
-        ),
-    ),
-    (
-        b"sh3add",
-        Form::Instruction(
-            Operation::Op(AluOp::Sh3add),
-            Place::Rd,
-            Place::Rs1,
-            Place::Rs2,
-        ),
-    ),
+    (b"sh1add", Instruction(Op(AluOp::Sh1add), Rd, Rs1, Rs2)),
+    (b"sh2add", Instruction(Op(AluOp::Sh2add), Rd, Rs1, Rs2)),
+    (b"sh3add", Instruction(Op(AluOp::Sh3add), Rd, Rs1, Rs2)),
     // machine mode
-    (
-        b"mret",
-        Form::Instruction(Operation::Mret, Place::Empty, Place::Empty, Place::Empty),
-    ),
-    (
-        b"wfi",
-        Form::Instruction(Operation::Wfi, Place::Empty, Place::Empty, Place::Empty),
-    ),
+    (b"mret", Instruction(Mret, Empty, Empty, Empty)),
+    (b"wfi", Instruction(Wfi, Empty, Empty, Empty)),
     // pseudo-instructions
-    (
-        b"nop",
-        Form::Instruction(
-            Operation::OpImmediate(ImmediateOp::Addi),
-            Place::Empty,
-            Place::Empty,
-            Place::Empty,
-        ),
-    ),
-    (
-        b"mv",
-        Form::Instruction(
-            Operation::OpImmediate(ImmediateOp::Addi),
-            Place::Rd,
-            Place::Rs1,
-            Place::Empty,
-        ),
-    ),
-    (
-        b"not",
-        Form::Instruction(
-            Operation::OpImmediate(ImmediateOp::Xori),
-            Place::Rd,
-            Place::Rs1,
-            Place::MinusOne,
-        ),
-    ),
-    (
-        b"neg",
-        Form::Instruction(
-            Operation::Op(AluOp::Sub),
-            Place::Rd,
-            Place::Rs2,
-            Place::Empty,
-        ),
-    ),
-    (
-        b"seqz",
-        Form::Instruction(
-            Operation::OpImmediate(ImmediateOp::Sltiu),
-            Place::Rd,
-            Place::Rs1,
-            Place::One,
-        ),
-    ),
-    (
-        b"snez",
-        Form::Instruction(
-            Operation::Op(AluOp::Sltu),
-            Place::Rd,
-            Place::Rs2,
-            Place::Empty,
-        ),
-    ),
-    (
-        b"sltz",
-        Form::Instruction(
-            Operation::Op(AluOp::Slt),
-            Place::Rd,
-            Place::Rs1,
-            Place::Empty,
-        ),
-    ),
-    (
-        b"sgtz",
-        Form::Instruction(
-            Operation::Op(AluOp::Slt),
-            Place::Rd,
-            Place::Rs2,
-            Place::Empty,
-        ),
-    ),
-    (
-        b"beqz",
-        Form::Instruction(
-            Operation::Branch(Condition::Equal),
-            Place::Rs1,
-            Place::Target,
-            Place::Empty,
-        ),
-    ),
-    (
-        b"bnez",
-        Form::Instruction(
-            Operation::Branch(Condition::NotEqual),
-            Place::Rs1,
-            Place::Target,
-            Place::Empty,
-        ),
-    ),
-    (
-        b"bltz",
-        Form::Instruction(
-            Operation::Branch(Condition::LessThan),
-            Place::Rs1,
-            Place::Target,
-            Place::Empty,
-        ),
-    ),
+    (b"nop", Instruction(OpImmediate(Addi), Empty, Empty, Empty)),
+    (b"mv", Instruction(OpImmediate(Addi), Rd, Rs1, Empty)),
+    (b"not", Instruction(OpImmediate(Xori), Rd, Rs1, MinusOne)),
+    (b"neg", Instruction(Op(AluOp::Sub), Rd, Rs2, Empty)),
+    (b"seqz", Instruction(OpImmediate(Sltiu), Rd, Rs1, One)),
+    (b"snez", Instruction(Op(AluOp::Sltu), Rd, Rs2, Empty)),
+    (b"sltz", Instruction(Op(AluOp::Slt), Rd, Rs1, Empty)),
+    (b"sgtz", Instruction(Op(AluOp::Slt), Rd, Rs2, Empty)),
+    (b"beqz", Instruction(Branch(Equal), Rs1, Target, Empty)),
+    (b"bnez", Instruction(Branch(NotEqual), Rs1, Target, Empty)),
+    (b"bltz", Instruction(Branch(LessThan), Rs1, Target, Empty)),
     (
         b"bgez",
-        Form::Instruction(
-            Operation::Branch(Condition::GreaterOrEqual),
-            Place::Rs1,
-            Place::Target,
-            Place::Empty,
-        ),
+        Instruction(Branch(GreaterOrEqual), Rs1, Target, Empty),
     ),
-    (
-        b"bgtz",
-        Form::Instruction(
-            Operation::Branch(Condition::LessThan),
-            Place::Rs2,
-            Place::Target,
-            Place::Empty,
-        ),
-    ),
+    (b"bgtz", Instruction(Branch(LessThan), Rs2, Target, Empty)),
     (
         b"blez",
-        Form::Instruction(
-            Operation::Branch(Condition::GreaterOrEqual),
-            Place::Rs2,
-            Place::Target,
-            Place::Empty,
-        ),
+        Instruction(Branch(GreaterOrEqual), Rs2, Target, Empty),
     ),
-    (
-        b"bgt",
-        Form::Instruction(
-            Operation::Branch(Condition::LessThan),
-            Place::Rs2,
-            Place::Rs1,
-            Place::Target,
-        ),
-    ),
+    (b"bgt", Instruction(Branch(LessThan), Rs2, Rs1, Target)),
     (
         b"ble",
-        Form::Instruction(
-            Operation::Branch(Condition::GreaterOrEqual),
-            Place::Rs2,
-            Place::Rs1,
-            Place::Target,
-        ),
+        Instruction(Branch(GreaterOrEqual), Rs2, Rs1, Target),
     ),
     (
         b"bgtu",
-        Form::Instruction(
-            Operation::Branch(Condition::LessThanUnsigned),
-            Place::Rs2,
-            Place::Rs1,
-            Place::Target,
-        ),
+        Instruction(Branch(LessThanUnsigned), Rs2, Rs1, Target),
     ),
     (
         b"bleu",
-        Form::Instruction(
-            Operation::Branch(Condition::GreaterOrEqualUnsigned),
-            Place::Rs2,
-            Place::Rs1,
-            Place::Target,
-        ),
+        Instruction(Branch(GreaterOrEqualUnsigned), Rs2, Rs1, Target),
     ),
-    (
-        b"j",
-        Form::Instruction(Operation::Jal, Place::Target, Place::Empty, Place::Empty),
-    ),
-    (
-        b"call",
-        Form::Instruction(Operation::Jal, Place::Link, Place::Target, Place::Empty),
-    ),
-    (
-        b"jr",
-        Form::Instruction(Operation::Jalr, Place::Rs1, Place::Empty, Place::Empty),
-    ),
-    (
-        b"ret",
-        Form::Instruction(Operation::Jalr, Place::Return, Place::Empty, Place::Empty),
-    ),
-    (
-        b"csrr",
-        Form::Instruction(
-            Operation::Csr(CsrOp::Set),
-            Place::Rd,
-            Place::Csr,
-            Place::Empty,
-        ),
-    ),
-    (
-        b"csrw",
-        Form::Instruction(
-            Operation::Csr(CsrOp::Write),
-            Place::Csr,
-            Place::Rs1,
-            Place::Empty,
-        ),
-    ),
-    (
-        b"csrs",
-        Form::Instruction(
-            Operation::Csr(CsrOp::Set),
-            Place::Csr,
-            Place::Rs1,
-            Place::Empty,
-        ),
-    ),
-    (
-        b"csrc",
-        Form::Instruction(
-            Operation::Csr(CsrOp::Clear),
-            Place::Csr,
-            Place::Rs1,
-            Place::Empty,
-        ),
-    ),
+    (b"j", Instruction(Jal, Target, Empty, Empty)),
+    (b"call", Instruction(Jal, Link, Target, Empty)),
+    (b"jr", Instruction(Jalr, Rs1, Empty, Empty)),
+    (b"ret", Instruction(Jalr, Return, Empty, Empty)),
+    (b"csrr", Instruction(Csr(Set), Rd, CsrName, Empty)),
+    (b"csrw", Instruction(Csr(Write), CsrName, Rs1, Empty)),
+    (b"csrs", Instruction(Csr(Set), CsrName, Rs1, Empty)),
+    (b"csrc", Instruction(Csr(Clear), CsrName, Rs1, Empty)),
     (
         b"csrwi",
-        Form::Instruction(
-            Operation::CsrImmediate(CsrOp::Write),
-            Place::Csr,
-            Place::Value,
-            Place::Empty,
-        ),
+        Instruction(CsrImmediate(Write), CsrName, Value, Empty),
     ),
     (
         b"csrsi",
-        Form::Instruction(
-            Operation::CsrImmediate(CsrOp::Set),
-            Place::Csr,
-            Place::Value,
-            Place::Empty,
-        ),
+        Instruction(CsrImmediate(Set), CsrName, Value, Empty),
     ),
     (
         b"csrci",
-        Form::Instruction(
-            Operation::CsrImmediate(CsrOp::Clear),
-            Place::Csr,
-            Place::Value,
-            Place::Empty,
-        ),
+        Instruction(CsrImmediate(Clear), CsrName, Value, Empty),
     ),
-    (
-        b"li",
-        Form::Instruction(Operation::LoadNumber, Place::Rd, Place::Known, Place::Empty),
-    ),
-    (
-        b"la",
-        Form::Instruction(
-            Operation::LoadAddress,
-            Place::Rd,
-            Place::Target,
-            Place::Empty,
-        ),
-    ),
+    (b"li", Instruction(LoadNumber, Rd, Known, Empty)),
+    (b"la", Instruction(LoadAddress, Rd, Target, Empty)),
     // directives
     (b".text", Form::Choice(Section::Text)),
     (b".data", Form::Choice(Section::Data)),

@@ -85,18 +85,6 @@ fn based<'a>(offset: Option<Expression<'a>>, name: Option<&'a [u8]>) -> Option<O
     }
 }
 
-/// The operand that one token is.
-fn operand_of_one(first: Token<'_>) -> Option<Operand<'_>>
-    ensures { option_map operand_of result ≡ operand (token_of first.entry ∷ []) }
-{
-    match first {
-        Token::Text(raw) => Some(Operand::Text(raw)),
-        Token::Number(number) => Some(Operand::Value(Expression::Number(i64::from(number)))),
-        Token::Name(symbol) => Some(Operand::Value(Expression::Symbol(symbol))),
-        _ => None,
-    }
-}
-
 /// The operand that three tokens are.
 fn operand_of_three<'a>(
     first: Token<'a>,
@@ -105,17 +93,12 @@ fn operand_of_three<'a>(
 ) -> Option<Operand<'a>>
     ensures { option_map operand_of result ≡ operand (token_of first.entry ∷ token_of second.entry ∷ token_of third.entry ∷ []) }
 {
-    match (first, second, third) {
-        (Token::Name(symbol), Token::Plus, Token::Number(number)) => Some(Operand::Value(
-            Expression::Sum(symbol, i64::from(number)),
-        )),
-        (Token::Name(symbol), Token::Minus, Token::Number(number)) => Some(Operand::Value(
-            Expression::Sum(symbol, -i64::from(number)),
-        )),
-        (Token::LeftParenthesis, Token::Name(register), Token::RightParenthesis) => {
-            Some(Operand::Indirect(None, register))
-        }
-        _ => None,
+    match three_tokens(first, second, third) {
+        Some(expression) => Some(Operand::Value(expression)),
+        None => match in_parentheses(first, second, third) {
+            Some(register) => Some(Operand::Indirect(None, register)),
+            None => None,
+        },
     }
 }
 
@@ -124,11 +107,9 @@ fn read_operand<'a>(tokens: &[Token<'a>]) -> Option<Operand<'a>>
     ensures { option_map operand_of result ≡ operand (map token_of tokens.now) }
 {
     match tokens {
-        [first] => operand_of_one(*first),
-        [first, second] => match two_tokens(*first, *second) {
-            Some(expression) => Some(Operand::Value(expression)),
-            None => None,
-        },
+        [Token::Text(raw)] => Some(Operand::Text(raw)),
+        [first] => one_token(*first).map(Operand::Value),
+        [first, second] => two_tokens(*first, *second).map(Operand::Value),
         [first, second, third] => operand_of_three(*first, *second, *third),
         [first, left, name, right] => {
             based(one_token(*first), in_parentheses(*left, *name, *right))

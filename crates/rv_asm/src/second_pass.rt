@@ -1,21 +1,23 @@
-ghost use Rattle.std.specs.Prelude.{◌≡◌, ◌≢◌, ◌≤◌, ◌%◌, ◌==◌, ◌||◌, [], if◌then◌else◌, List, map, drop, length, MatchResult, None, Some, Err, IfOk, IfErr};
+ghost use Rattle.std.specs.Prelude.{◌≡◌, ◌≢◌, ◌≤◌, ◌%◌, ◌==◌, ◌||◌, [], if◌then◌else◌, List, map, drop, length, MatchResult, None, Some, Err, IfOk, IfErr, false};
 ghost use Rattle.std.specs.List.{list_any};
 ghost use Rattle.rv_asm.specs.Earliest.{earliest};
 ghost use Rattle.rv_asm.specs.Emitted.{Emits};
 ghost use Rattle.rv_asm.specs.Faults.{constant_starts, is_start, second_fault};
 ghost use Rattle.rv_asm.specs.FirstPass.{first_fault};
-ghost use Rattle.rv_asm.specs.Layout.{body_of, labels_of, layout, line_of, lines_of, statement_in};
+ghost use Rattle.rv_asm.specs.Layout.{behind, body_of, is_too_large, labels_of, layout, line_of, lines_of, statement_in};
+ghost use Rattle.rv_asm.specs.SecondPass.{reach_behind};
 ghost use Rattle.rv_asm.specs.Meaning.{Cell, Spells, cells_in, contents, contents_in, line_cells, start_address};
 ghost use Rattle.rv_asm.specs.ReadLayout.{layout_of};
 ghost use Rattle.rv_asm.specs.ReadOperand.{operand_of};
 ghost use Rattle.rv_asm.specs.ReadToken.{token_of};
 ghost use Rattle.rv_asm.specs.Statement.{statement};
+ghost use Rattle.rv_asm.specs.Symbols.{found};
 ghost use Rattle.rv_asm.specs.Token.{tokens_of};
 
 use crate::emit::emit;
 use crate::fault::{AsmError, AsmFault};
 use crate::first_pass::{Layout, line_at, read_tokens};
-use crate::layout::{Reach, modulo_word};
+use crate::layout::{Reach, advance, modulo_word};
 use crate::operand::Operand;
 use crate::operation::{Form, Section};
 use crate::statement::{Statement, make_statement, read};
@@ -76,7 +78,16 @@ pub fn start_address(layout: &Layout<'_>, base: u32) -> u32
     }
 }
 
-/// Appends what a form with its operands means. The answer is whether it defines `_start`.
+/// What a statement leaves behind it.
+#[derive(Clone, Copy)]
+struct Left {
+    /// How far the text has come.
+    reach: Reach,
+    /// Whether the statement is a `.equ` of `_start`.
+    starts: bool,
+}
+
+/// Appends what a form with its operands means.
 fn emit_form<'a>(
     layout: &Layout<'a>,
     base: u32,
@@ -84,9 +95,11 @@ fn emit_form<'a>(
     form: Form,
     operands: &[Operand<'a>],
     out: &mut Vec<u8>,
-) -> Result<bool, AsmFault>
+) -> Result<Left, AsmFault>
+    requires { is_too_large (behind (found layout.now.symbols) reach (statement form (map operand_of operands.now))).reach ≡ false }
     ensures emitted { MatchResult result (λ _. Emits (cells_in base (layout_of layout.now) reach (statement form (map operand_of operands.now))) out.old.items out.new.items) (λ fault. fault ≢ AsmFault.Memory → cells_in base (layout_of layout.now) reach (statement form (map operand_of operands.now)) ≡ Err fault) }
-    ensures starts { IfOk result (λ starts. starts ≡ constant_starts (statement form (map operand_of operands.now))) }
+    ensures reach { IfOk result (λ left. left.reach ≡ (behind (found layout.now.symbols) reach (statement form (map operand_of operands.now))).reach) }
+    ensures starts { IfOk result (λ left. left.starts ≡ constant_starts (statement form (map operand_of operands.now))) }
 {
     let statement = match make_statement(form, operands) {
         Ok(statement) => statement,
@@ -94,6 +107,7 @@ fn emit_form<'a>(
     };
     let text_size = layout.reach.text_size;
     let start = start_of(base, text_size, reach.section);
+    let next = advance(&layout.symbols, &statement, operands, reach)?;
     emit(
         &layout.symbols,
         base,
@@ -104,13 +118,17 @@ fn emit_form<'a>(
         operands,
         out,
     )?;
-    match statement {
-        Statement::Constant(name, _) => Ok(is_start(name)),
-        _ => Ok(false),
-    }
+    let starts = match statement {
+        Statement::Constant(name, _) => is_start(name),
+        _ => false,
+    };
+    Ok(Left {
+        reach: next,
+        starts,
+    })
 }
 
-/// Appends what stands behind the labels of a line. The answer is whether it defines `_start`.
+/// Appends what stands behind the labels of a line.
 fn emit_body<'a>(
     alloc: Global,
     layout: &Layout<'a>,
@@ -118,9 +136,11 @@ fn emit_body<'a>(
     reach: Reach,
     body: &[Token<'a>],
     out: &mut Vec<u8>,
-) -> Result<bool, AsmFault>
+) -> Result<Left, AsmFault>
+    requires { is_too_large (behind (found layout.now.symbols) reach (statement_in (map token_of body.now))).reach ≡ false }
     ensures emitted { MatchResult result (λ _. Emits (cells_in base (layout_of layout.now) reach (statement_in (map token_of body.now))) out.old.items out.new.items) (λ fault. fault ≢ AsmFault.Memory → cells_in base (layout_of layout.now) reach (statement_in (map token_of body.now)) ≡ Err fault) }
-    ensures starts { IfOk result (λ starts. starts ≡ constant_starts (statement_in (map token_of body.now))) }
+    ensures reach { IfOk result (λ left. left.reach ≡ (behind (found layout.now.symbols) reach (statement_in (map token_of body.now))).reach) }
+    ensures starts { IfOk result (λ left. left.starts ≡ constant_starts (statement_in (map token_of body.now))) }
 {
     let reading = read(alloc, body)?;
     emit_form(
@@ -133,18 +153,23 @@ fn emit_body<'a>(
     )
 }
 
-/// What is wrong with a start that a line's labels or its `.equ` define.
-fn start_fault(label_starts: bool, constant_starts: bool, start: u32) -> Option<AsmFault>
-    ensures { result ≡ (if label_starts || constant_starts then (if start % 4 == 0 then None else Some AsmFault.Misaligned) else None) }
+/// What is wrong with the start, where a line's labels or its `.equ` define it.
+fn start_fault(
+    layout: &Layout<'_>,
+    base: u32,
+    label_starts: bool,
+    constant_starts: bool,
+) -> Option<AsmFault>
+    ensures { result ≡ (if label_starts || constant_starts then (if start_address base (layout_of layout.now) % 4 == 0 then None else Some AsmFault.Misaligned) else None) }
 {
-    if (label_starts || constant_starts) && start % 4 != 0 {
+    if (label_starts || constant_starts) && start_address(layout, base) % 4 != 0 {
         Some(AsmFault::Misaligned)
     } else {
         None
     }
 }
 
-/// Appends what a line means.
+/// Appends what a line means. The answer is how far the text has come behind it.
 fn emit_line<'a>(
     alloc: Global,
     layout: &Layout<'a>,
@@ -152,8 +177,10 @@ fn emit_line<'a>(
     reach: Reach,
     line: &'a [u8],
     out: &mut Vec<u8>,
-) -> Result<(), AsmFault>
+) -> Result<Reach, AsmFault>
+    requires { is_too_large (reach_behind (found layout.now.symbols) reach (line_of (tokens_of line.now))) ≡ false }
     ensures emitted { IfOk result (λ _. Emits (line_cells base (layout_of layout.now) reach (line_of (tokens_of line.entry.now))) out.old.items out.new.items) }
+    ensures reach { IfOk result (λ next. next ≡ reach_behind (found layout.now.symbols) reach (line_of (tokens_of line.entry.now))) }
     ensures clean { IfOk result (λ _. second_fault base (layout_of layout.now) reach (line_of (tokens_of line.entry.now)) ≡ None) }
     ensures refused { IfErr result (λ fault. fault ≢ AsmFault.Memory → second_fault base (layout_of layout.now) reach (line_of (tokens_of line.entry.now)) ≡ Some fault) }
 {
@@ -161,10 +188,10 @@ fn emit_line<'a>(
     let slice = tokens.as_slice();
     let count = count_labels(slice);
     let (_, body) = slice.split_at(count);
-    let constant_starts = emit_body(alloc, layout, base, reach, body, out)?;
+    let left = emit_body(alloc, layout, base, reach, body, out)?;
     let label_starts = has_start(slice);
-    match start_fault(label_starts, constant_starts, start_address(layout, base)) {
-        None => Ok(()),
+    match start_fault(layout, base, label_starts, left.starts) {
+        None => Ok(left.reach),
         Some(fault) => Err(fault),
     }
 }
@@ -188,7 +215,8 @@ impl Sections {
         }
     }
 
-    /// Appends what a line means to the section that it stands in.
+    /// Appends what a line means to the section that it stands in. The answer is how far the text
+    /// has come behind it.
     fn add<'a>(
         &mut self,
         alloc: Global,
@@ -196,9 +224,11 @@ impl Sections {
         base: u32,
         reach: Reach,
         line: &'a [u8],
-    ) -> Result<(), AsmFault>
+    ) -> Result<Reach, AsmFault>
+        requires { is_too_large (reach_behind (found program.now.symbols) reach (line_of (tokens_of line.now))) ≡ false }
         ensures text { (parts : List Cell) → Spells parts self.old.text.items → IfOk result (λ _. Spells (contents_in Section.Text reach.section parts (line_cells base (layout_of program.now) reach (line_of (tokens_of line.entry.now)))) self.new.text.items) }
         ensures data_bytes { (parts : List Cell) → Spells parts self.old.data_bytes.items → IfOk result (λ _. Spells (contents_in Section.Data reach.section parts (line_cells base (layout_of program.now) reach (line_of (tokens_of line.entry.now)))) self.new.data_bytes.items) }
+        ensures reach { IfOk result (λ next. next ≡ reach_behind (found program.now.symbols) reach (line_of (tokens_of line.entry.now))) }
         ensures clean { IfOk result (λ _. second_fault base (layout_of program.now) reach (line_of (tokens_of line.entry.now)) ≡ None) }
         ensures refused { IfErr result (λ fault. fault ≢ AsmFault.Memory → second_fault base (layout_of program.now) reach (line_of (tokens_of line.entry.now)) ≡ Some fault) }
     {
@@ -223,22 +253,20 @@ impl Sections {
         ensures refused { IfErr result (λ error. error.fault ≢ AsmFault.Memory → earliest (λ earlier line. second_fault base (layout (lines_of text.entry.now)) (layout earlier).reach line) (lines_of text.entry.now) ≡ Some (error.fault, error.line)) }
     {
         let mut sections = Sections::new(alloc);
-        let mut before = Layout::new(alloc);
+        let mut reach = Reach::START;
         let mut number = 0;
         let mut start = 0;
         'lines: loop {
             let (line, next) = line_at(text, start);
             number += 1;
-            let reach = before.reach;
-            if let Err(fault) = sections.add(alloc, program, base, reach, line) {
-                return Err(AsmError::at(fault, number));
-            }
-            if let Err(fault) = before.add(alloc, line) {
-                return Err(AsmError::at(fault, number));
-            }
+            let behind = match sections.add(alloc, program, base, reach, line) {
+                Ok(behind) => behind,
+                Err(fault) => return Err(AsmError::at(fault, number)),
+            };
+            reach = behind;
             match next {
                 None => return Ok(sections),
-                Some(behind) => start = behind,
+                Some(place) => start = place,
             }
         }
     }

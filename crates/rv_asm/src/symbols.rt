@@ -1,4 +1,4 @@
-ghost use Rattle.std.specs.Prelude.{◌≡◌, ◌∷◌, ◌≤◌, [], Some, None, OnOk, IfOk, IfErr, OnSome, MatchOption, map, drop, length, true, false, ◌≢◌};
+ghost use Rattle.std.specs.Prelude.{◌≡◌, ◌∷◌, ◌≤◌, [], Some, None, OnOk, IfOk, IfErr, OnSome, MatchOption, map, drop, length, is_none, true, false, ◌≢◌};
 ghost use Rattle.rv_asm.specs.FirstPass.{repeats, redefines};
 ghost use Rattle.rv_asm.specs.Layout.{defined, labelled, labels_of, body_of, number_of};
 ghost use Rattle.rv_asm.specs.ReadToken.{token_of};
@@ -8,7 +8,7 @@ use crate::fault::AsmFault;
 use crate::operation::Section;
 use crate::token::Token;
 use std::alloc::{AllocError, Global};
-use std::collections::BTreeMap;
+use std::collections::HashMap;
 
 /// What a symbol stands for.
 #[derive(Clone, Copy, Debug)]
@@ -22,7 +22,7 @@ pub enum Definition {
 /// The symbols of a text.
 #[derive(Drop)]
 pub struct Symbols<'a> {
-    defined: BTreeMap<&'a [u8], Definition>,
+    defined: HashMap<&'a [u8], Definition>,
 }
 
 impl<'a> Symbols<'a> {
@@ -31,7 +31,7 @@ impl<'a> Symbols<'a> {
         ensures { found result ≡ (λ _. None) }
     {
         Symbols {
-            defined: BTreeMap::new(alloc),
+            defined: HashMap::new(alloc),
         }
     }
 
@@ -39,18 +39,19 @@ impl<'a> Symbols<'a> {
     pub fn get(&self, name: &'a [u8]) -> Option<Definition>
         ensures { result ≡ found self.now name.entry.now }
     {
-        self.defined.get(&name).copied()
+        self.defined.get(name).copied()
     }
 
-    /// Defines a name. The first definition of a name counts.
-    pub fn define(&mut self, name: &'a [u8], definition: Definition) -> Result<(), AllocError>
-        ensures { OnOk result (found self.new ≡ defined (found self.old) name.entry.now definition) }
+    /// Defines a name. The first definition of a name counts; the answer is whether this is it.
+    pub fn define(&mut self, name: &'a [u8], definition: Definition) -> Result<bool, AllocError>
+        ensures defined { OnOk result (found self.new ≡ defined (found self.old) name.entry.now definition) }
+        ensures is_first { IfOk result (λ is_first. is_first ≡ is_none (found self.old name.entry.now)) }
     {
         if self.get(name).is_some() {
-            return Ok(());
+            return Ok(false);
         }
         match self.defined.insert(name, definition) {
-            Ok(_) => Ok(()),
+            Ok(_) => Ok(true),
             Err(refused) => Err(AllocError::from(refused)),
         }
     }
@@ -73,10 +74,10 @@ impl<'a> Symbols<'a> {
             let Some(name) = next_label(rest) else {
                 return Ok(count);
             };
-            if self.get(name).is_some() {
+            let is_first = self.define(name, here)?;
+            if !is_first {
                 return Err(AsmFault::DuplicateSymbol);
             }
-            self.define(name, here)?;
             count += 2;
         }
     }

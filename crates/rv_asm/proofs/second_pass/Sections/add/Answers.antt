@@ -1,4 +1,4 @@
-use Rattle.rv_asm.proofs.Emitted.{section_more}
+use Rattle.rv_asm.proofs.SectionsSoFar.{section_more}
 use Rattle.rv_asm.specs.declared.operation.Section.TheVariants as section
 use Rattle.rv_asm.proofs.second_pass.Sections.add.Goals as goal
 

@@ -3,7 +3,6 @@ use Rattle.rv_asm.proofs.Lines.{AfterLines}
 use Rattle.rv_asm.proofs.SectionsSoFar.{SoFar}
 use Rattle.rv_asm.specs.Faults.{second_fault}
 use Rattle.rv_asm.specs.Layout.{layout, lines_of}
-use Rattle.rv_asm.specs.ReadLayout.{layout_of}
 use Rattle.rv_asm.proofs.second_pass.Sections.of_text.Given as goal
 
 -- the lines so far have no fault, and what they mean is in the sections
@@ -11,7 +10,7 @@ abbrev pub invariant-lines : goal.invariant-lines
 invariant-lines l = record {
   in_range : l.start ≤ length l.text;
   counted : l.number ≤ l.start;
-  lines : AfterLines (λ earlier line. second_fault l.base (layout (lines_of l.text)) (layout earlier).reach line) (SoFar l.base (layout (lines_of l.text)) (layout_of l.before) l.sections.text.items l.sections.data_bytes.items) l.text l.start l.number;
+  lines : AfterLines (λ earlier line. second_fault l.base (layout (lines_of l.text)) (layout earlier).reach line) (SoFar l.base (layout (lines_of l.text)) l.reach l.sections.text.items l.sections.data_bytes.items) l.text l.start l.number;
 }
 
 abbrev pub decreases-lines : goal.decreases-lines

@@ -1,6 +1,6 @@
-use Rattle.std.proofs.Common.{◌≡◌, ◌∙◌, ap, sym, arith, refl, is_some, map, drop, ◌+◌, ◌∷◌}
+use Rattle.std.proofs.Common.{◌≡◌, ◌∙◌, ap, sym, arith, refl, map, drop, ◌+◌, ◌∷◌}
 use Rattle.std.proofs.lemmas.List.{drop-drop}
-use Rattle.rv_asm.proofs.Defined.{none_of}
+use Rattle.rv_asm.proofs.Defined.{none_if, some_if}
 use Rattle.rv_asm.proofs.Labels.{one_more, repeated}
 use Rattle.rv_asm.specs.FirstPass.{repeats}
 use Rattle.rv_asm.specs.Layout.{body_of, labels_of, labelled}
@@ -18,11 +18,11 @@ loop-name-preserved c =
     record {
       in_range = omega (arith, c.in-Some.ensures.room, c.split_at.ensures.back_len, c.loop-name.invariant.in_range);
       same_body = c.loop-name.invariant.same_body ∙ ap (λ l. body_of (map token_of l)) (sym rest) ∙ c.in-Some.ensures.body ∙ ap body_of behind;
-      known = one_more _ c.args.here _ _ _ (found c.loop-name.self) (found c.define.new.self) c.in-Some.name.now c.loop-name.invariant.known (ap (λ l. labels_of (map token_of l)) (sym rest) ∙ c.in-Some.ensures.label ∙ ap (λ l. c.in-Some.name.now ∷ labels_of l) behind) (none_of _ (ap is_some (sym c.get.ensures) ∙ sym c.if-is_some.ensures)) c.in_ok-define.ensures;
+      known = one_more _ c.args.here _ _ _ (found c.loop-name.self) (found c.define.new.self) c.in-Some.name.now c.loop-name.invariant.known (ap (λ l. labels_of (map token_of l)) (sym rest) ∙ c.in-Some.ensures.label ∙ ap (λ l. c.in-Some.name.now ∷ labels_of l) behind) (none_if _ c.in_ok-is_first.is_first c.in_ok-is_first.ensures.is_first c.if-not-is_first.false) c.in_ok-is_first.ensures.defined;
     }
 
-pub returns-then-is_some-clause-repeated : goal.returns-then-is_some-clause-repeated
-returns-then-is_some-clause-repeated c = λ memory. repeated _ c.args.here _ _ (map token_of (drop 2 c.split_at.result.1.now)) (found c.loop-name.self) c.in-Some.name.now c.loop-name.invariant.known (ap (λ l. labels_of (map token_of l)) (sym c.split_at.ensures.back) ∙ c.in-Some.ensures.label) (ap is_some (sym c.get.ensures) ∙ sym c.if-is_some.ensures)
+pub returns-then-not-is_first-clause-repeated : goal.returns-then-not-is_first-clause-repeated
+returns-then-not-is_first-clause-repeated c = λ memory. repeated _ c.args.here _ _ (map token_of (drop 2 c.split_at.result.1.now)) (found c.loop-name.self) c.in-Some.name.now c.loop-name.invariant.known (ap (λ l. labels_of (map token_of l)) (sym c.split_at.ensures.back) ∙ c.in-Some.ensures.label) (some_if _ c.in_ok-is_first.is_first c.in_ok-is_first.ensures.is_first c.if-not-is_first.true)
 
 pub returns-in_default-clause-labels : goal.returns-in_default-clause-labels
 returns-in_default-clause-labels c = sym (c.loop-name.invariant.known.same_end ∙ ap (labelled (found c.loop-name.self) c.args.here) (ap (λ l. labels_of (map token_of l)) (sym c.split_at.ensures.back) ∙ c.in_default.ensures.label))
