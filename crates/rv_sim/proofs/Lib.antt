@@ -1,3 +1,4 @@
+mod Ending
 mod Reading
 mod Running
 mod Writing

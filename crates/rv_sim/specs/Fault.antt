@@ -1,5 +1,5 @@
 -- What is told of a fault, and the status that the program ends with.
-use Rattle.std.specs.Prelude.{ℕ, List, ◌++◌, codes, decimal}
+use Rattle.std.specs.Prelude.{ℕ, List, ◌++◌, codes, decimal, Result, Ok, Err}
 use Rattle.rv_arch.specs.declared.outcome.Stop.{Stop}
 use Rattle.rv_arch.specs.declared.outcome.Stop.TheVariants.{Stale, Limit, Breakpoint, Exhausted}
 use Rattle.rv_asm.specs.declared.fault.AsmFault.{AsmFault}
@@ -42,3 +42,8 @@ stop_status (Stale pc) = 3
 stop_status Limit = 0
 stop_status Breakpoint = 0
 stop_status Exhausted = 0
+
+-- the exit status of what has one, or of a fault
+abbrev pub exit_status : Result ℕ SimError → ℕ
+exit_status (Ok status) = status
+exit_status (Err error) = fault_status error

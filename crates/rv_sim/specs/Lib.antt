@@ -1,5 +1,6 @@
 pub mod Command
 pub mod Fault
+pub mod FaultStream
 pub mod Line
 pub mod ReadField
 pub mod ReferenceReport

@@ -5,6 +5,7 @@
 mod command;
 mod digits;
 mod errors;
+mod fault_lines;
 mod faults;
 mod fields;
 mod input;
@@ -20,6 +21,7 @@ mod tests;
 
 use clap::error::ErrorKind;
 use command::{Command, parse_words};
+use fault_lines::FaultLines;
 use input::{InputError, read_input};
 use std::io::Write;
 use std::process::ExitCode;
@@ -45,29 +47,34 @@ fn asked(rt: &HostRuntime) -> io::Result<Result<Command, u8>> {
     }
 }
 
-// Reads the input, does what the command asks, and answers the exit status.
-fn run(rt: &HostRuntime, command: Command) -> u8 {
-    let mut errors = rt.stderr();
-    let input = match read_input(rt.alloc(), &mut rt.reader()) {
-        Ok(input) => input,
+// The input, or the exit status where it can't be read, which is told.
+fn whole_input(rt: &HostRuntime) -> Result<Vec<u8>, u8> {
+    match read_input(rt.alloc(), &mut rt.reader()) {
+        Ok(input) => Ok(input),
         Err(InputError::Failed) => {
-            let _ = errors.write_all(b"error: input\n");
-            return 4;
+            let _ = rt.stderr().write_all(b"error: input\n");
+            Err(4)
         }
         Err(InputError::Memory) => {
-            let _ = errors.write_all(b"error: memory\n");
-            return 5;
+            let _ = rt.stderr().write_all(b"error: memory\n");
+            Err(5)
         }
-    };
-    match begin(rt.alloc(), &command, input.as_slice(), &mut errors) {
-        Ok(task) => finish(rt.alloc(), task, &mut rt.stdout(), &mut errors),
-        Err(status) => status,
     }
+}
+
+// Reads the input, does what the command asks, and answers the exit status.
+fn run(rt: &HostRuntime, command: Command) -> Result<u8, u8> {
+    let input = whole_input(rt)?;
+    let mut errors = FaultLines::new(rt.stderr());
+    let task = begin(rt.alloc(), &command, input.as_slice(), &mut errors)?;
+    Ok(finish(rt.alloc(), task, &mut rt.stdout(), &mut errors))
 }
 
 fn main(rt: HostRuntime) -> io::Result<ExitCode> {
     match asked(&rt)? {
-        Ok(command) => Ok(ExitCode::from(run(&rt, command))),
+        Ok(command) => match run(&rt, command) {
+            Ok(status) | Err(status) => Ok(ExitCode::from(status)),
+        },
         Err(status) => Ok(ExitCode::from(status)),
     }
 }

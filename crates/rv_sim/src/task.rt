@@ -1,12 +1,16 @@
-ghost use Rattle.std.specs.Prelude.{◌≡◌, ◌⊎◌, ℕ, List, length, IfErr, OnOk, OnErr};
+ghost use Rattle.std.specs.Prelude.{◌≡◌, ℕ, length, IfOk, IfErr, OnOk, OnErr, Result};
 ghost use Rattle.std.specs.Io.KnownBytes.{Appends};
-ghost use Rattle.rv_sim.specs.Task.{check_line, Shows};
+ghost use Rattle.rv_sim.specs.Fault.{fault_line, fault_status, exit_status};
+ghost use Rattle.rv_sim.specs.FaultStream.{Tells, TellsOf};
+ghost use Rattle.rv_sim.specs.Task.{Asks, Refuses, Ends, check_line};
 ghost use Rattle.rv_sim.specs.Written.{AppendsBeginning};
+ghost use Rattle.rv_sim.specs.declared.errors.SimError.{SimError as OneError};
 
 use crate::command::Command;
 use crate::digits::hexadecimal;
 use crate::errors::SimError;
-use crate::faults::{fault_status, stop_status, write_fault};
+use crate::fault_lines::FaultLines;
+use crate::faults::stop_status;
 use crate::job::Job;
 use crate::job_text::{read_image, read_job};
 use crate::options::Options;
@@ -26,7 +30,10 @@ pub enum Task {
     Check { image: Image },
 }
 
-fn read_task(alloc: Global, command: &Command, input: &[u8]) -> Result<Task, SimError> {
+fn read_task(alloc: Global, command: &Command, input: &[u8]) -> Result<Task, SimError>
+    ensures task { IfOk result (Asks command.now input.now) }
+    ensures refused { IfErr result (Refuses command.now input.now) }
+{
     match command {
         Command::Reference { limit } => {
             let job = read_job(alloc, input)?;
@@ -45,20 +52,24 @@ fn read_task(alloc: Global, command: &Command, input: &[u8]) -> Result<Task, Sim
     }
 }
 
-/// Reads the input as the command asks. Where it is refused, the line that tells the fault is
-/// written to `errors`, as far as that succeeds, and the exit status is answered.
+/// Reads the input as the command asks. Where it is refused, the fault is told on `errors`, and the
+/// exit status is answered.
 pub fn begin<E: Write>(
     alloc: Global,
     command: &Command,
     input: &[u8],
-    errors: &mut E,
-) -> Result<Task, u8> {
+    errors: &mut FaultLines<E>,
+) -> Result<Task, u8>
+    ensures task { IfOk result (Asks command.now input.now) }
+    ensures nothing_told { OnOk result (errors.new ≡ errors.old) }
+    ensures refused { IfErr result (λ status. (error : OneError)
+        × Refuses command.now input.now error
+        × Tells errors.old errors.new (fault_line error)
+        × (status ≡ fault_status error)) }
+{
     match read_task(alloc, command, input) {
         Ok(task) => Ok(task),
-        Err(error) => {
-            let _ = write_fault(errors, error);
-            Err(fault_status(error))
-        }
+        Err(error) => Err(errors.tell(error)),
     }
 }
 
@@ -77,7 +88,9 @@ fn write_check<W: Write>(writer: &mut W, image: &Image) -> Result<(), ReportErro
     )
 }
 
-fn perform<W: Write>(alloc: Global, task: Task, output: &mut W) -> Result<u8, SimError> {
+fn perform<W: Write>(alloc: Global, task: Task, output: &mut W) -> Result<u8, SimError>
+    ensures { Ends task (W.contents output.old) (W.contents output.new) result }
+{
     match task {
         Task::Reference { job, options } => {
             let stop = reference(alloc, job, &options, output)?;
@@ -91,13 +104,20 @@ fn perform<W: Write>(alloc: Global, task: Task, output: &mut W) -> Result<u8, Si
 }
 
 /// Does the task: writes the report, or the line that says which image the job makes, to `output`,
-/// and answers the exit status. A fault is told on `errors`, as far as that succeeds.
-pub fn finish<W: Write, E: Write>(alloc: Global, task: Task, output: &mut W, errors: &mut E) -> u8 {
+/// and answers the exit status. A fault is told on `errors`.
+pub fn finish<W: Write, E: Write>(
+    alloc: Global,
+    task: Task,
+    output: &mut W,
+    errors: &mut FaultLines<E>,
+) -> u8
+    ensures { (outcome : Result ℕ OneError)
+        × Ends task (W.contents output.old) (W.contents output.new) outcome
+        × TellsOf errors.old errors.new outcome
+        × (result ≡ exit_status outcome) }
+{
     match perform(alloc, task, output) {
         Ok(status) => status,
-        Err(error) => {
-            let _ = write_fault(errors, error);
-            fault_status(error)
-        }
+        Err(error) => errors.tell(error),
     }
 }

@@ -1,0 +1,51 @@
+use crate::command::{Command, parse_words};
+use std::alloc::Global;
+use std::test::Fail;
+
+fn words(alloc: Global, texts: &[&str]) -> Result<Vec<String>, Fail> {
+    let mut all = Vec::new(alloc);
+    for text in texts {
+        all.push(String::from_str(alloc, text)?)?;
+    }
+    Ok(all)
+}
+
+#[test]
+fn a_limit_is_one_to_a_million_and_else_a_usage_fault(rt: HostRuntime) -> Result<(), Fail> {
+    let alloc = rt.alloc();
+    let plain = words(alloc, &["rv_sim", "reference"])?;
+    let limit = 100_000;
+    assert!(rt;
+        matches!(parse_words(alloc, plain.as_slice()), Ok(Command::Reference { limit: l }) if l == limit)
+    );
+    let most = words(alloc, &["rv_sim", "reference", "--limit", "1000000"])?;
+    assert!(rt;
+        matches!(
+            parse_words(alloc, most.as_slice()),
+            Ok(Command::Reference { limit: 1_000_000 })
+        )
+    );
+    for text in ["0", "1000001", "x", "-1"] {
+        let given = words(alloc, &["rv_sim", "reference", "--limit", text])?;
+        let Err(error) = parse_words(alloc, given.as_slice()) else {
+            return Err(Fail::from("a limit was taken"));
+        };
+        assert_eq!(rt; error.exit_code(), 2);
+    }
+    Ok(())
+}
+
+#[test]
+fn check_and_help_are_known_and_other_words_are_not(rt: HostRuntime) -> Result<(), Fail> {
+    let alloc = rt.alloc();
+    let check = words(alloc, &["rv_sim", "check"])?;
+    assert!(rt; matches!(parse_words(alloc, check.as_slice()), Ok(Command::Check)));
+    for (text, status) in [("--help", 0), ("simulate", 2), ("--trace", 2)] {
+        let given = words(alloc, &["rv_sim", text])?;
+        let Err(error) = parse_words(alloc, given.as_slice()) else {
+            return Err(Fail::from("a word was taken"));
+        };
+        assert_eq!(rt; error.exit_code(), status);
+    }
+    Ok(())
+}

@@ -1,0 +1,40 @@
+use crate::command::Command;
+use crate::tests::helpers::run_text;
+use std::test::Fail;
+
+const TEXT: [u8; 20] = *b"addi x1,x0,5\nebreak\n";
+
+// The line that the text's first bytes get, so many of them.
+const fn line(length: usize) -> &'static str {
+    match length {
+        0 => "ok 0 bytes start 80000000\n",
+        1..=2 => "error: assembly line 1: UnknownMnemonic\n",
+        3..=11 => "error: assembly line 1: BadOperands\n",
+        12..=13 => "ok 4 bytes start 80000000\n",
+        14..=18 => "error: assembly line 2: UnknownMnemonic\n",
+        _ => "ok 8 bytes start 80000000\n",
+    }
+}
+
+const fn status(length: usize) -> u8 {
+    match length {
+        0 | 12..=13 | 19..=20 => 0,
+        _ => 1,
+    }
+}
+
+#[test]
+fn each_beginning_of_a_text_is_checked(rt: HostRuntime) -> Result<(), Fail> {
+    for length in 0..=20 {
+        let ended = run_text(rt.alloc(), Command::Check, &TEXT[..length]);
+        let (told, other) = if status(length) == 0 {
+            (ended.output, ended.errors)
+        } else {
+            (ended.errors, ended.output)
+        };
+        assert_eq!(rt; ended.status, status(length), "at {length}");
+        assert_eq!(rt; told.as_slice(), line(length).as_bytes(), "at {length}");
+        assert!(rt; other.is_empty(), "at {length}");
+    }
+    Ok(())
+}

@@ -1,0 +1,91 @@
+use crate::command::Command;
+use crate::tests::helpers::{WHOLE, run_text};
+use std::alloc::Global;
+use std::test::Fail;
+
+// What is told of a text that is refused, where the exit status is 1 and nothing else is written.
+fn told(alloc: Global, command: Command, text: &[u8]) -> Result<Vec<u8>, Fail> {
+    let ended = run_text(alloc, command, text);
+    if ended.status == 1 && ended.output.is_empty() {
+        Ok(ended.errors)
+    } else {
+        Err(Fail::from("a text was taken"))
+    }
+}
+
+#[test]
+fn the_first_fault_of_a_text_is_told_with_its_line(rt: HostRuntime) -> Result<(), Fail> {
+    let cases: [(&[u8], &str); 14] = [
+        (b"nop\n\xff\n", "error: assembly line 2: BadToken\n"),
+        (b".ascii \"abc", "error: assembly line 1: BadToken\n"),
+        (
+            b"frobnicate x1",
+            "error: assembly line 1: UnknownMnemonic\n",
+        ),
+        (b"add x1,x2\n", "error: assembly line 1: BadOperands\n"),
+        (b"addi x32,x0,1\n", "error: assembly line 1: BadRegister\n"),
+        (
+            b"a: nop\n\na: nop\n",
+            "error: assembly line 3: DuplicateSymbol\n",
+        ),
+        (b".zero 16777216\n", "error: assembly line 1: TooLarge\n"),
+        (b"j nowhere\n", "error: assembly line 1: UnknownSymbol\n"),
+        (b"addi x1,x0,2048\n", "error: assembly line 1: OutOfRange\n"),
+        (
+            b"beq x0,x0,far\n.zero 4092\nfar: ebreak\n",
+            "error: assembly line 1: OutOfRange\n",
+        ),
+        (b".byte 1\nnop\n", "error: assembly line 2: Misaligned\n"),
+        // The second pass begins where the first one finds nothing.
+        (
+            b"j nowhere\nadd x1\n",
+            "error: assembly line 2: BadOperands\n",
+        ),
+        (
+            b"addi x1,x0,2048\nj nowhere\n",
+            "error: assembly line 1: OutOfRange\n",
+        ),
+        (
+            b"# a comment\n\n\naddi x1,x0,2048",
+            "error: assembly line 4: OutOfRange\n",
+        ),
+    ];
+    for (text, line) in cases {
+        let checked = told(rt.alloc(), Command::Check, text)?;
+        assert_eq!(rt; checked.as_slice(), line.as_bytes());
+        let run = told(rt.alloc(), WHOLE, text)?;
+        assert_eq!(rt; run.as_slice(), line.as_bytes());
+    }
+    Ok(())
+}
+
+#[test]
+fn a_branch_of_4094_bytes_is_near_enough(rt: HostRuntime) -> Result<(), Fail> {
+    let text = b"beq x0,x0,far-2\n.zero 4092\nfar: ebreak\n";
+    let ended = run_text(rt.alloc(), Command::Check, text);
+    assert_eq!(rt;
+        ended.output.as_slice(),
+        b"ok 4100 bytes start 80000000\n".as_slice()
+    );
+    Ok(())
+}
+
+#[test]
+fn an_image_longer_than_memory_is_checked_but_not_run(rt: HostRuntime) -> Result<(), Fail> {
+    let text = b".zero 65537\n";
+    let checked = run_text(rt.alloc(), Command::Check, text);
+    assert_eq!(rt; checked.status, 0);
+    assert_eq!(rt;
+        checked.output.as_slice(),
+        b"ok 65537 bytes start 80000000\n".as_slice()
+    );
+    let run = told(rt.alloc(), WHOLE, text)?;
+    assert_eq!(rt; run.as_slice(), b"error: image does not fit\n".as_slice());
+    let whole = run_text(
+        rt.alloc(),
+        Command::Reference { limit: 1 },
+        b".zero 65536\n",
+    );
+    assert_eq!(rt; whole.status, 0);
+    Ok(())
+}
