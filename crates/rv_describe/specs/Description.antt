@@ -1,5 +1,5 @@
 -- What the bytes of a description say.
-use Rattle.std.specs.Prelude.{ℕ, List, Option, Some, None, Result, Ok, Err, if◌then◌else◌}
+use Rattle.std.specs.Prelude.{ℕ, List, Option, Some, Result, Ok, Err, if◌then◌else◌}
 use Rattle.std.specs.Option.{option_map, option_or, option_map_or}
 use Rattle.toml.specs.Data.{Members}
 use Rattle.rv_isa.specs.declared.values.Values.{Values}
