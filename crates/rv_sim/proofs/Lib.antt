@@ -1,4 +1,6 @@
 mod Ending
+mod Limits
+mod Parses
 mod Reading
 mod Running
 mod Writing

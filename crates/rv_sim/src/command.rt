@@ -1,8 +1,10 @@
-ghost use Rattle.std.specs.Prelude.{IfOk};
-ghost use Rattle.rv_sim.specs.Command.{HasLegalLimit};
+ghost use Rattle.std.specs.Prelude.{◌≡◌, ◌⊎◌, false, None, Some, IfErr, IfOk, map, option_and_then};
+ghost use Rattle.clap.specs.Words.{found_of, kind_of, rows_of, rule_of, subcommand_rows_of};
+ghost use Rattle.rv_sim.specs.Command.{HasLegalLimit, IsParserOf, command_named, command_of, limit_in};
+ghost use Rattle.rv_sim.specs.Command.{check_arguments, limit_rule, program_arguments, reference_arguments};
 
 use clap::error::ErrorKind;
-use clap::{Arg, ArgAction, Error, value_parser};
+use clap::{Arg, ArgAction, ArgMatches, Error, value_parser};
 use std::alloc::{AllocError, Global};
 
 /// The most steps or cycles that a run may be asked for.
@@ -17,39 +19,84 @@ pub enum Command {
     Check,
 }
 
-fn parser<'a>(alloc: Global) -> Result<clap::Command<'a>, AllocError> {
-    let limit = Arg::new(alloc, "limit")
+fn limit_argument<'a>(alloc: Global) -> Arg<'a>
+    ensures rule { rule_of result ≡ limit_rule }
+    ensures local { result.global ≡ false }
+{
+    Arg::new(alloc, "limit")
         .long("limit")
         .value_name("N")
         .help("The most steps, 1 to 1000000")
         .action(ArgAction::Set)
         .value_parser(value_parser!(u64).range(1..=1_000_000))
-        .default_value("100000");
-    let reference = clap::Command::new(alloc, "reference")
+        .default_value("100000")
+}
+
+fn reference_command<'a>(alloc: Global) -> Result<clap::Command<'a>, AllocError>
+    ensures arguments { IfOk result (IsParserOf reference_arguments) }
+{
+    clap::Command::new(alloc, "reference")
         .about("Runs the text on standard input, one step at a time")
-        .arg(limit)?;
-    let check = clap::Command::new(alloc, "check").about("Assembles the text on standard input");
+        .arg(limit_argument(alloc))
+}
+
+fn check_command<'a>(alloc: Global) -> clap::Command<'a>
+    ensures arguments { IsParserOf check_arguments result }
+{
+    clap::Command::new(alloc, "check").about("Assembles the text on standard input")
+}
+
+fn parser<'a>(alloc: Global) -> Result<clap::Command<'a>, AllocError>
+    ensures arguments { IfOk result (IsParserOf program_arguments) }
+{
     clap::Command::new(alloc, "rv_sim")
+        .bin_name("rv_sim")?
         .about("Simulates a RISC-V core")
         .subcommand_required(true)
-        .subcommand(reference)?
-        .subcommand(check)
+        .subcommand(reference_command(alloc)?)?
+        .subcommand(check_command(alloc))
+}
+
+fn limit_given(given: &ArgMatches) -> Option<u64>
+    ensures limit { result ≡ limit_in (rows_of (found_of given.now)) }
+{
+    let limit = given.get_one::<u64>("limit")?;
+    if 1 <= limit && limit <= MOST_STEPS {
+        Some(limit)
+    } else {
+        None
+    }
+}
+
+fn command_given(matches: &ArgMatches) -> Option<Command>
+    ensures command { result ≡ option_and_then command_named (subcommand_rows_of matches.now) }
+{
+    match matches.subcommand_matches("reference") {
+        Some(given) => {
+            let limit = limit_given(given)?;
+            Some(Command::Reference { limit })
+        }
+        None if matches.subcommand_matches("check").is_some() => Some(Command::Check),
+        None => None,
+    }
 }
 
 /// What the words of a command line ask for; the first word is the program's name. Fails where
 /// they are no command, where they ask for help, and for want of memory: `clap`'s error says which,
 /// and has the text to show.
 pub fn parse_words(alloc: Global, words: &[String]) -> Result<Command, Error>
+    ensures command { IfOk result (λ c.
+        command_of (map (λ w. w.bytes.items) words.now) ≡ Some c) }
+    ensures refused { IfErr result (λ e.
+        (command_of (map (λ w. w.bytes.items) words.now) ≡ None)
+        ⊎ (kind_of e ≡ ErrorKind.OutOfMemory)) }
     ensures limit { IfOk result HasLegalLimit }
 {
     let mut parser = parser(alloc)?;
     let matches = parser.try_get_matches_from_mut(words)?;
-    let Some(given) = matches.subcommand_matches("reference") else {
-        return Ok(Command::Check);
-    };
-    match given.get_one::<u64>("limit") {
-        Some(limit) if 1 <= limit && limit <= MOST_STEPS => Ok(Command::Reference { limit }),
-        _ => Err(parser.error(
+    match command_given(&matches) {
+        Some(command) => Ok(command),
+        None => Err(parser.error(
             ErrorKind::ValueValidation,
             "N is no number from 1 to 1000000",
         )?),

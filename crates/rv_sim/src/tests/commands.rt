@@ -40,12 +40,48 @@ fn check_and_help_are_known_and_other_words_are_not(rt: HostRuntime) -> Result<(
     let alloc = rt.alloc();
     let check = words(alloc, &["rv_sim", "check"])?;
     assert!(rt; matches!(parse_words(alloc, check.as_slice()), Ok(Command::Check)));
-    for (text, status) in [("--help", 0), ("simulate", 2), ("--trace", 2)] {
+    for (text, status) in [
+        ("--help", 0),
+        ("help", 0),
+        ("simulate", 2),
+        ("--trace", 2),
+        ("--", 2),
+    ] {
         let given = words(alloc, &["rv_sim", text])?;
         let Err(error) = parse_words(alloc, given.as_slice()) else {
             return Err(Fail::from("a word was taken"));
         };
         assert_eq!(rt; error.exit_code(), status);
+    }
+    Ok(())
+}
+
+#[test]
+fn a_limit_stands_after_an_equals_sign_or_a_space_and_once(rt: HostRuntime) -> Result<(), Fail> {
+    let alloc = rt.alloc();
+    let attached = words(alloc, &["rv_sim", "reference", "--limit=7"])?;
+    assert!(rt;
+        matches!(
+            parse_words(alloc, attached.as_slice()),
+            Ok(Command::Reference { limit: 7 })
+        )
+    );
+    let zeros = words(alloc, &["rv_sim", "reference", "--limit", "007"])?;
+    assert!(rt;
+        matches!(
+            parse_words(alloc, zeros.as_slice()),
+            Ok(Command::Reference { limit: 7 })
+        )
+    );
+    let bare = words(alloc, &["rv_sim"])?;
+    let check = words(alloc, &["rv_sim", "check", "--limit", "7"])?;
+    let twice = words(alloc, &["rv_sim", "reference", "--limit=7", "--limit=7"])?;
+    let open = words(alloc, &["rv_sim", "reference", "--limit"])?;
+    for refused in [&bare, &check, &twice, &open] {
+        let Err(error) = parse_words(alloc, refused.as_slice()) else {
+            return Err(Fail::from("words were taken"));
+        };
+        assert_eq!(rt; error.exit_code(), 2);
     }
     Ok(())
 }
