@@ -2,7 +2,7 @@
 
 mod programs;
 
-use crate::{CsrOperand, Csrs, Observed, RefOutcome, Reference, Stop, run_reference};
+use crate::{CsrOperand, Csrs, Illegal, Observed, RefOutcome, Reference, Stop, run_reference};
 use programs::{
     branch_to_illegal, byte_store, divisions, forwarded, jump_to_odd_half, load_past_ram,
     no_such_csr, read_mip, rom_edge, rom_half, rom_store, set_mhartid, store_and_fence,
@@ -284,4 +284,11 @@ fn mtvec_keeps_modes_0_and_1(rt: HostRuntime) {
         assert!(rt; access.is_ok());
         assert_eq!(rt; csrs.read(0x305, LOW), Some(kept));
     }
+}
+
+#[test]
+fn an_illegal_csr_access_says_so(rt: HostRuntime) -> Result<(), Fail> {
+    let text = format!(in rt.alloc(); "{Illegal}")?;
+    assert!(rt; text.as_str() == "illegal access to a control and status register");
+    Ok(())
 }
