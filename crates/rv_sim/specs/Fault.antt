@@ -6,6 +6,8 @@ use Rattle.rv_asm.specs.declared.fault.AsmFault.{AsmFault}
 use Rattle.rv_asm.specs.declared.fault.AsmFault.TheVariants as asm
 use Rattle.rv_sim.specs.declared.errors.SimError.{SimError}
 use Rattle.rv_sim.specs.declared.errors.SimError.TheVariants.{TooLong, Assembly, ImageDoesNotFit, Memory, WriteFailed}
+use Rattle.rv_sim.specs.declared.input.InputError.{InputError}
+use Rattle.rv_sim.specs.declared.input.InputError.TheVariants as unread
 
 -- the name of a fault of a text
 unfoldable pub fault_name : AsmFault → List ℕ
@@ -35,6 +37,15 @@ fault_status (Assembly error) = 1
 fault_status ImageDoesNotFit = 1
 fault_status Memory = 5
 fault_status WriteFailed = 4
+
+-- the line that tells why the input could not be read, and the exit status
+unfoldable pub input_fault_line : InputError → List ℕ
+input_fault_line unread.Failed = codes "error: input\n"
+input_fault_line unread.Memory = codes "error: memory\n"
+
+unfoldable pub input_fault_status : InputError → ℕ
+input_fault_status unread.Failed = 4
+input_fault_status unread.Memory = 5
 
 -- the exit status of a run
 unfoldable pub stop_status : Stop → ℕ

@@ -2,9 +2,11 @@ pub mod Command
 pub mod Fault
 pub mod FaultStream
 pub mod Line
+pub mod Program
 pub mod ReadField
 pub mod ReferenceReport
 pub mod Report
 pub mod Task
 pub mod TextImage
+pub mod Usage
 pub mod Written

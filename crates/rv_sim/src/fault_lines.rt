@@ -1,9 +1,11 @@
 ghost use Rattle.std.specs.Prelude.{◌≡◌, false, not};
-ghost use Rattle.rv_sim.specs.Fault.{fault_line, fault_status};
+ghost use Rattle.rv_sim.specs.Fault.{fault_line, fault_status, input_fault_line, input_fault_status};
 ghost use Rattle.rv_sim.specs.FaultStream.{Tells};
 
 use crate::errors::SimError;
-use crate::faults::{fault_status, write_fault};
+use crate::faults::{fault_status, input_fault_line, input_fault_status, write_fault};
+use crate::input::InputError;
+use crate::output::put;
 use std::io::Write;
 use std::marker::Model;
 
@@ -58,5 +60,15 @@ impl<E: Write> FaultLines<E> {
             self.has_failed = true;
         }
         fault_status(error)
+    }
+
+    /// Writes the line of an input that can't be read, and answers its exit status.
+    pub fn tell_unread(&mut self, error: InputError) -> u8
+        ensures line { Tells self.old self.new (input_fault_line error) }
+        ensures status { result ≡ input_fault_status error }
+    {
+        let told = put(&mut self.writer, input_fault_line(error));
+        self.has_failed = self.has_failed || told.is_err();
+        input_fault_status(error)
     }
 }

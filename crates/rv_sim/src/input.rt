@@ -1,4 +1,5 @@
-ghost use Rattle.std.specs.Prelude.{◌≡◌, take, IfOk, IfSome};
+ghost use Rattle.std.specs.Prelude.{IfOk};
+ghost use Rattle.rv_sim.specs.Program.{IsInputOf};
 
 use crate::job::MOST_BYTES;
 use std::alloc::Global;
@@ -21,8 +22,7 @@ pub enum InputError {
 
 /// Reads to the end, or until 33,554,433 bytes are held, one more than a job may have.
 pub fn read_input<R: Read>(alloc: Global, reader: &mut R) -> Result<Vec<u8>, InputError>
-    ensures bytes { IfOk result (λ input. IfSome (R.remaining reader.old) (λ bytes.
-        input.items ≡ take 33554433 bytes)) }
+    ensures bytes { IfOk result (λ input. IsInputOf (R.remaining reader.old) input.items) }
 {
     let mut input = Vec::new(alloc);
     let mut chunk = [0; CHUNK];

@@ -8,3 +8,4 @@ mod refusals;
 mod reports;
 mod runs;
 mod statuses;
+mod usage;

@@ -1,6 +1,6 @@
 use crate::command::Command;
 use crate::fault_lines::FaultLines;
-use crate::task::{begin, finish};
+use crate::program::run;
 use std::alloc::Global;
 use std::io;
 use std::io::Write;
@@ -20,10 +20,8 @@ pub(crate) struct Ended {
 pub(crate) fn run_text(alloc: Global, command: Command, input: &[u8]) -> Ended {
     let mut output = Vec::new(alloc);
     let mut errors = FaultLines::new(Vec::new(alloc));
-    let status = match begin(alloc, &command, input, &mut errors) {
-        Ok(task) => finish(alloc, task, &mut output, &mut errors),
-        Err(status) => status,
-    };
+    let mut reader = input;
+    let status = run(alloc, &command, &mut reader, &mut output, &mut errors);
     Ended {
         status,
         output,

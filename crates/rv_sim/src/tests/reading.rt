@@ -1,4 +1,7 @@
+use crate::fault_lines::FaultLines;
 use crate::input::{InputError, read_input};
+use crate::program::run;
+use crate::tests::helpers::WHOLE;
 use std::io;
 use std::io::Read;
 use std::test::Fail;
@@ -30,4 +33,19 @@ fn input_is_read_to_its_end_and_a_failed_read_is_told(rt: HostRuntime) -> Result
         assert!(rt; matches!(failed, Err(InputError::Failed)));
     }
     Ok(())
+}
+
+#[test]
+fn an_input_that_cannot_be_read_gives_status_4(rt: HostRuntime) {
+    let alloc = rt.alloc();
+    let mut output = Vec::new(alloc);
+    let mut errors = FaultLines::new(Vec::new(alloc));
+    let mut reader = Broken { zeros: 5 };
+    let status = run(alloc, &WHOLE, &mut reader, &mut output, &mut errors);
+    assert_eq!(rt; status, 4);
+    assert!(rt; output.is_empty());
+    assert_eq!(rt;
+        errors.into_writer().as_slice(),
+        b"error: input\n".as_slice()
+    );
 }

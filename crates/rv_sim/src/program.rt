@@ -1,0 +1,53 @@
+ghost use Rattle.std.specs.Prelude.{◌≡◌, IfOk, OnOk, IfErr};
+ghost use Rattle.rv_sim.specs.Fault.{input_fault_line, input_fault_status};
+ghost use Rattle.rv_sim.specs.FaultStream.{Tells};
+ghost use Rattle.rv_sim.specs.Program.{IsInputOf, Runs};
+ghost use Rattle.rv_sim.specs.declared.input.InputError.{InputError as OneError};
+
+use crate::command::Command;
+use crate::fault_lines::FaultLines;
+use crate::input::read_input;
+use crate::task::{begin, finish};
+use std::alloc::Global;
+use std::io::{Read, Write};
+
+fn take_input<R: Read, E: Write>(
+    alloc: Global,
+    reader: &mut R,
+    errors: &mut FaultLines<E>,
+) -> Result<Vec<u8>, u8>
+    ensures input { IfOk result (λ input. IsInputOf (R.remaining reader.old) input.items) }
+    ensures nothing_told { OnOk result (errors.new ≡ errors.old) }
+    ensures unread { IfErr result (λ status. (error : OneError)
+        × Tells errors.old errors.new (input_fault_line error)
+        × (status ≡ input_fault_status error)) }
+{
+    match read_input(alloc, reader) {
+        Ok(input) => Ok(input),
+        Err(error) => Err(errors.tell_unread(error)),
+    }
+}
+
+/// Does what a command asks of an input: reads it from `reader`, and writes the report, or the line
+/// that says which image it makes, to `output`. A fault is told on `errors`. The answer is the exit
+/// status: 0 for what was done, 1 for a refused job, 3 for a run that a stale word ended, 4 where
+/// input or output failed, 5 for want of memory.
+pub fn run<R: Read, W: Write, E: Write>(
+    alloc: Global,
+    command: &Command,
+    reader: &mut R,
+    output: &mut W,
+    errors: &mut FaultLines<E>,
+) -> u8
+    ensures { Runs command.now (R.remaining reader.old) (W.contents output.old)
+        (W.contents output.new) errors.old errors.new result }
+{
+    let input = match take_input(alloc, reader, errors) {
+        Ok(input) => input,
+        Err(status) => return status,
+    };
+    match begin(alloc, command, input.as_slice(), errors) {
+        Ok(task) => finish(alloc, task, output, errors),
+        Err(status) => status,
+    }
+}

@@ -1,0 +1,97 @@
+use crate::command::parse_words;
+use crate::fault_lines::FaultLines;
+use crate::usage::show_usage;
+use std::alloc::Global;
+use std::io::{Eprint, Print};
+use std::process::Abort;
+use std::test::Fail;
+
+const HELP: &str = "Simulates a RISC-V core
+
+Usage: rv_sim <COMMAND>
+
+Commands:
+  reference  Runs the text on standard input, one step at a time
+  check      Assembles the text on standard input
+  help       Print this message or the help of the given subcommand(s)
+
+Options:
+  -h, --help  Print help
+";
+
+const HELP_OF_REFERENCE: &str = "Runs the text on standard input, one step at a time
+
+Usage: rv_sim reference [OPTIONS]
+
+Options:
+      --limit <N>  The most steps, 1 to 1000000 [default: 100000]
+  -h, --help       Print help
+";
+
+const LIMIT_OF_ZERO: &str = "error: invalid value '0' for '--limit <N>': 0 is not in 1..=1000000
+
+For more information, try '--help'.
+";
+
+const UNKNOWN_ARGUMENT: &str = "error: unexpected argument '--limit' found
+
+Usage: rv_sim check
+
+For more information, try '--help'.
+";
+
+fn refused(alloc: Global, texts: &[&str]) -> Result<clap::Error, Fail> {
+    let mut words = Vec::new(alloc);
+    for text in texts {
+        words.push(String::from_str(alloc, text)?)?;
+    }
+    match parse_words(alloc, words.as_slice()) {
+        Ok(_) => Err(Fail::from("words were taken")),
+        Err(error) => Ok(error),
+    }
+}
+
+// The words are refused with this text and exit status, and no fault is told beside it.
+fn is_shown<R: Abort + Print + Eprint>(
+    rt: &R,
+    alloc: Global,
+    words: &[&str],
+    text: &str,
+    status: u8,
+) -> Result<(), Fail> {
+    let error = refused(alloc, words)?;
+    let shown = format!(in alloc; "{error}")?;
+    assert!(rt; shown.as_str() == text, "{text}");
+    let mut errors = FaultLines::new(Vec::new(alloc));
+    assert_eq!(rt; show_usage(rt, &error, &mut errors), status, "{text}");
+    assert!(rt; errors.into_writer().is_empty(), "{text}");
+    Ok(())
+}
+
+#[test]
+fn usage_and_help_have_their_texts_and_statuses(rt: HostRuntime) -> Result<(), Fail> {
+    let alloc = rt.alloc();
+    is_shown(&rt, alloc, &["rv_sim", "--help"], HELP, 0)?;
+    is_shown(&rt, alloc, &["rv_sim", "help"], HELP, 0)?;
+    is_shown(
+        &rt,
+        alloc,
+        &["rv_sim", "reference", "-h"],
+        HELP_OF_REFERENCE,
+        0,
+    )?;
+    is_shown(
+        &rt,
+        alloc,
+        &["rv_sim", "reference", "--limit", "0"],
+        LIMIT_OF_ZERO,
+        2,
+    )?;
+    is_shown(
+        &rt,
+        alloc,
+        &["rv_sim", "check", "--limit", "3"],
+        UNKNOWN_ARGUMENT,
+        2,
+    )
+}
