@@ -26,18 +26,25 @@ abbrev pub defines_start : Line → Bool
 defines_start Unreadable = false
 defines_start (Readable labels body) = list_any is_start labels || constant_starts (statement_in body)
 
+-- execution starts at no multiple of 4
+abbrev pub start_misalignment : ℕ → Layout → Option AsmFault
+start_misalignment base whole = if start_address base whole % 4 == 0 then None else Some Misaligned
+
 -- the line defines _start, and that is no multiple of 4
 abbrev pub start_fault : ℕ → Layout → Line → Option AsmFault
-start_fault base whole line =
-    if defines_start line then (if start_address base whole % 4 == 0 then None else Some Misaligned) else None
+start_fault base whole line = if defines_start line then start_misalignment base whole else None
 
 -- the fault that the second pass finds in a line: of its statement, or of the start
 abbrev pub second_fault : ℕ → Layout → Reach → Line → Option AsmFault
 second_fault base whole reach line = option_or (result_err (line_cells base whole reach line)) (start_fault base whole line)
 
+-- the earliest fault of the first pass, and of the second
+abbrev pub first_fault_of : List Line → Option (AsmFault × ℕ)
+first_fault_of lines = earliest (λ earlier line. first_fault (layout earlier) line) lines
+
+abbrev pub second_fault_of : ℕ → List Line → Option (AsmFault × ℕ)
+second_fault_of base lines = earliest (λ earlier line. second_fault base (layout lines) (layout earlier).reach line) lines
+
 -- the fault of a text: the earliest of the first pass, else the earliest of the second
 abbrev pub fault_of : ℕ → List Line → Option (AsmFault × ℕ)
-fault_of base lines =
-    option_or
-    (earliest (λ earlier line. first_fault (layout earlier) line) lines)
-    (earliest (λ earlier line. second_fault base (layout lines) (layout earlier).reach line) lines)
+fault_of base lines = option_or (first_fault_of lines) (second_fault_of base lines)

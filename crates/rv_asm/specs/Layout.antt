@@ -14,6 +14,7 @@ use Rattle.rv_asm.specs.Statement.{Statement, Choice, Constant, Instruction, Val
 use Rattle.rv_asm.specs.Token.{Token, tokens_of}
 use Rattle.rv_asm.specs.Token as token
 use Rattle.rv_asm.specs.declared.fault.AsmFault.{AsmFault}
+use Rattle.rv_asm.specs.declared.fault.AsmFault.TheVariants.{TooLarge}
 use Rattle.rv_asm.specs.declared.operation.Fields.{Fields}
 use Rattle.rv_asm.specs.declared.operation.Operation.{Operation}
 use Rattle.rv_asm.specs.declared.operation.Operation.TheVariants as operation
@@ -42,14 +43,22 @@ abbrev pub line_of : Option (List Token) → Line
 line_of None = Unreadable
 line_of (Some tokens) = Readable (labels_of tokens) (body_of tokens)
 
+-- the line that some bytes spell
+abbrev pub line_in : List ℕ → Line
+line_in bytes = line_of (tokens_of bytes)
+
 -- lines behind those that came earlier, the last line first
 abbrev pub lines_onto : List Line → List (List ℕ) → List Line
 lines_onto earlier [] = earlier
-lines_onto earlier (bytes ∷ others) = lines_onto (line_of (tokens_of bytes) ∷ earlier) others
+lines_onto earlier (bytes ∷ others) = lines_onto (line_in bytes ∷ earlier) others
+
+-- the bytes of each line, which ends before a line feed or with the text
+abbrev pub line_bytes : List ℕ → List (List ℕ)
+line_bytes text = slice_split (λ byte. byte == 10) text
 
 -- the lines of a text, the last line first; a line feed ends a line
 abbrev pub lines_of : List ℕ → List Line
-lines_of text = lines_onto [] (slice_split (λ byte. byte == 10) text)
+lines_of text = lines_onto [] (line_bytes text)
 
 -- the statement that tokens spell
 abbrev pub statement_in : List Token → Result Statement AsmFault
@@ -132,6 +141,9 @@ advance definition statement reach = grow_in reach.section (size definition (off
 -- text and data have more than 16,777,200 bytes
 abbrev pub is_too_large : Reach → Bool
 is_too_large reach = nat_lt 16777200 (reach.text_size + reach.data_size)
+
+abbrev pub unless_too_large : Reach → Result Reach AsmFault
+unless_too_large reach = if is_too_large reach then Err TooLarge else Ok reach
 
 -- what a name stands for, if it is defined
 abbrev pub Meanings : Type 0

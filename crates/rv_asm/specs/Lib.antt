@@ -1,3 +1,4 @@
+pub mod Answer
 pub mod Earliest
 pub mod Emitted
 pub mod Faults

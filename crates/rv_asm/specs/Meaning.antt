@@ -156,12 +156,20 @@ contents base whole section [] = []
 contents base whole section (line ∷ earlier) =
     contents_in section (layout earlier).reach.section (contents base whole section earlier) (line_cells base whole (layout earlier).reach line)
 
--- the parts of the image: the text, and behind zero bytes the data, if there are any
+-- the parts of a section of a text
+abbrev pub section_parts : ℕ → Section → List Line → List Cell
+section_parts base section lines = contents base (layout lines) section lines
+
+-- what stands behind the text: the data behind zero bytes, if there are any
+abbrev pub behind_text : ℕ → ℕ → List Cell → List Cell
+behind_text text_size data_size parts =
+    if data_size == 0 then [] else (replicate (round_up text_size - text_size) (Byte' 0) ++ parts)
+
+-- the parts of the image: the text, and the data behind it
 abbrev pub image_parts : ℕ → List Line → List Cell
 image_parts base lines =
-    contents base (layout lines) Text lines
-    ++ (if (layout lines).reach.data_size == 0 then []
-    else (replicate (round_up (layout lines).reach.text_size - (layout lines).reach.text_size) (Byte' 0) ++ contents base (layout lines) Data lines))
+    section_parts base Text lines
+    ++ behind_text (layout lines).reach.text_size (layout lines).reach.data_size (section_parts base Data lines)
 
 -- the word of an instruction; of the words of fence and fence.i the one with their standard fields
 pub record IsWordOf (instruction : Instr) (word : ℕ) : Type 0 where

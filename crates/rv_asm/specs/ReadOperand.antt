@@ -1,4 +1,5 @@
 -- What the operands of the program stand for.
+use Rattle.std.specs.Prelude.{List, map}
 use Rattle.std.specs.Option.{option_map}
 use Rattle.rv_asm.specs.Operand as spec
 use Rattle.rv_asm.specs.Token.{unescaped}
@@ -18,3 +19,6 @@ abbrev pub operand_of : shown.Operand → spec.Operand
 operand_of (Value expression) = spec.Value (expression_of expression)
 operand_of (Indirect offset register) = spec.Indirect (option_map expression_of offset) register.now
 operand_of (Text raw) = spec.Text (unescaped raw.now)
+
+abbrev pub operands_in : List shown.Operand → List spec.Operand
+operands_in operands = map operand_of operands

@@ -1,11 +1,12 @@
 -- What the statements of the program stand for.
-use Rattle.std.specs.Prelude.{◌≡◌, ◌≢◌, Result, Ok, Err, List}
+use Rattle.std.specs.Prelude.{◌≡◌, Result, List}
+use Rattle.std.specs.Result.{result_map_both}
 use Rattle.rv_asm.specs.Statement as spec
 use Rattle.rv_asm.specs.Operand.{Operand}
-use Rattle.rv_asm.specs.ReadOperand.{expression_of}
+use Rattle.rv_asm.specs.ReadOperand.{expression_of, operands_in}
 use Rattle.rv_asm.specs.Token.{unescaped}
 use Rattle.rv_asm.specs.declared.fault.AsmFault.{AsmFault}
-use Rattle.rv_asm.specs.declared.fault.AsmFault.TheVariants.{Memory}
+use Rattle.rv_asm.specs.declared.operand.Operand as shown
 use Rattle.rv_asm.specs.declared.statement.Statement as read
 use Rattle.rv_asm.specs.declared.statement.Statement.TheVariants.{Nothing, Choice, Constant, Instruction, Values, Zeros, Align, Characters}
 
@@ -20,7 +21,6 @@ statement_of operands (Zeros count) = spec.Zeros count
 statement_of operands (Align multiple) = spec.Align multiple
 statement_of operands (Characters raw terminated) = spec.Characters (unescaped raw.now) terminated
 
--- the outcome is what the definition says, unless memory was refused
-abbrev pub Follows : {T S : Type 0} → (T → S) → Result T AsmFault → Result S AsmFault → Type 0
-Follows meaning (Ok x) defined = defined ≡ Ok (meaning x)
-Follows meaning (Err fault) defined = fault ≢ Memory → defined ≡ Err fault
+-- the statement that was made of these operands, or the fault, is what the definition says
+abbrev pub Makes : List shown.Operand → Result read.Statement AsmFault → Result spec.Statement AsmFault → Type 0
+Makes operands result defined = result_map_both (statement_of (operands_in operands)) (λ fault. fault) result ≡ defined

@@ -1,4 +1,5 @@
 -- What a token of the program stands for.
+use Rattle.std.specs.Prelude.{List, map}
 use Rattle.std.specs.Option.{option_map}
 use Rattle.rv_asm.specs.Token as text
 use Rattle.rv_asm.specs.Token.{unescaped}
@@ -16,6 +17,9 @@ token_of RightParenthesis = text.RightParenthesis
 token_of Plus = text.Plus
 token_of Minus = text.Minus
 token_of (Text bytes) = text.Text (unescaped bytes.now)
+
+abbrev pub tokens_in : List Token → List text.Token
+tokens_in tokens = map token_of tokens
 
 -- a lexeme with its token as it stands in the text
 abbrev pub lexeme_of : Lexeme → text.Lexeme

@@ -1,7 +1,8 @@
-ghost use Rattle.std.specs.Prelude.{◌≡◌, ◌≢◌, ◌-◌, ◌++◌, ◌==◌, [], List, Some, None, IfOk, IfErr, if◌then◌else◌, replicate};
+ghost use Rattle.std.specs.Prelude.{◌≡◌, ◌-◌, ◌++◌, ◌==◌, [], List, None, IfOk, IfErr};
+ghost use Rattle.rv_asm.specs.Answer.{RefusedAt};
 ghost use Rattle.rv_asm.specs.Faults.{fault_of};
 ghost use Rattle.rv_asm.specs.Layout.{layout, lines_of};
-ghost use Rattle.rv_asm.specs.Meaning.{Byte', Cell, Spells, image_parts, round_up, start_address};
+ghost use Rattle.rv_asm.specs.Meaning.{Cell, Spells, image_parts, round_up, start_address, behind_text};
 
 use crate::emit::push_zeros;
 use crate::fault::{AsmError, AsmFault};
@@ -20,7 +21,9 @@ fn gap(text_size: usize) -> usize
 
 /// The bytes of the image: the text, and behind zero bytes the data, if there are any.
 fn joined(text_size: usize, data_size: usize, sections: Sections) -> Result<Vec<u8>, AsmFault>
-    ensures spells { (text_parts data_parts : List Cell) → Spells text_parts sections.text.items → Spells data_parts sections.data_bytes.items → IfOk result (λ bytes. Spells (text_parts ++ (if data_size == 0 then [] else (replicate (round_up text_size - text_size) (Byte' 0) ++ data_parts))) bytes.items) }
+    ensures spells { (text_parts data_parts : List Cell) → Spells text_parts sections.text.items →
+        Spells data_parts sections.data_bytes.items →
+        IfOk result (λ bytes. Spells (text_parts ++ behind_text text_size data_size data_parts) bytes.items) }
     ensures refused { IfErr result (λ fault. fault ≡ AsmFault.Memory) }
 {
     let Sections {
@@ -46,7 +49,7 @@ pub fn assemble(alloc: Global, text: &[u8], base: u32) -> Result<Image, AsmError
     ensures base { IfOk result (λ image. image.base ≡ base) }
     ensures bytes { IfOk result (λ image. Spells (image_parts base (lines_of text.now)) image.bytes) }
     ensures start { IfOk result (λ image. image.start ≡ start_address base (layout (lines_of text.now))) }
-    ensures refused { IfErr result (λ error. error.fault ≢ AsmFault.Memory → fault_of base (lines_of text.now) ≡ Some (error.fault, error.line)) }
+    ensures refused { RefusedAt (fault_of base (lines_of text.now)) result }
 {
     let program = match Layout::of_text(alloc, text) {
         Ok(program) => program,

@@ -1,15 +1,17 @@
-ghost use Rattle.std.specs.Prelude.{◌≡◌, ◌≢◌, ◌<◌, ◌∷◌, ◌++◌, ◌^◌, [], Err, if◌then◌else◌, map, take, replicate, option_to_list, IfOk, IfErr, OnOk, MatchResult, is_some, true, false};
+ghost use Rattle.std.specs.Prelude.{◌≡◌, ◌≢◌, ◌<◌, ◌∷◌, ◌++◌, ◌^◌, [], Err, if◌then◌else◌, map, take};
+ghost use Rattle.std.specs.Prelude.{replicate, option_to_list, IfOk, IfErr, OnOk, is_some, true, false};
 ghost use Rattle.std.specs.List.{list_all};
 ghost use Rattle.std.specs.Int.{to_le_bytes, w32};
-ghost use Rattle.rv_isa.specs.Operation.{bytes_of};
-ghost use Rattle.rv_asm.specs.Emitted.{Appends, Emits};
+ghost use Rattle.rv_asm.specs.Emitted.{Appends, EmitsOrRefuses};
 ghost use Rattle.rv_asm.specs.Layout.{padding};
-ghost use Rattle.rv_asm.specs.Meaning.{Byte', Word', aligned, bytes_at, cells, data_of, data_value, evaluate, fits_width, instructions, value_of};
-ghost use Rattle.rv_asm.specs.ReadOperand.{expression_of, operand_of};
+ghost use Rattle.rv_asm.specs.Meaning.{Byte', Word', bytes_at, cells, data_of, data_value, evaluate};
+ghost use Rattle.rv_asm.specs.Meaning.{fits_width, instructions};
+ghost use Rattle.rv_asm.specs.ReadOperand.{expression_of, operand_of, operands_in};
 ghost use Rattle.rv_asm.specs.ReadStatement.{statement_of};
 ghost use Rattle.rv_asm.specs.Statement.{Instruction, expression_in};
-ghost use Rattle.rv_asm.specs.Symbols.{found};
+ghost use Rattle.rv_asm.specs.Symbols.{value_in};
 ghost use Rattle.rv_asm.specs.Token.{unescaped};
+ghost use Rattle.rv_isa.specs.Operation.{bytes_of};
 
 use crate::fault::AsmFault;
 use crate::filling::expression_in;
@@ -63,7 +65,8 @@ fn emit_instruction<'a>(
     out: &mut Vec<u8>,
 ) -> Result<(), AsmFault>
     requires { start < 2 ^ 66 }
-    ensures { MatchResult result (λ _. Emits (cells (value_of base text_size (found symbols.now)) start offset (Instruction operation fields (expression_of value.now))) out.old.items out.new.items) (λ fault. fault ≢ AsmFault.Memory → cells (value_of base text_size (found symbols.now)) start offset (Instruction operation fields (expression_of value.now)) ≡ Err fault) }
+    ensures { EmitsOrRefuses (cells (value_in base text_size symbols.now) start offset
+        (Instruction operation fields (expression_of value.now))) out.old.items out.new.items result }
 {
     let address = start + offset as u128;
     let Some(number) = evaluate(symbols, base, text_size, value) else {
@@ -94,7 +97,8 @@ pub fn push_zeros(out: &mut Vec<u8>, count: usize) -> Result<(), AsmFault>
 
 /// Appends the bytes of a string, and a zero where it is terminated.
 fn push_characters(out: &mut Vec<u8>, raw: &[u8], terminated: bool) -> Result<(), AsmFault>
-    ensures pushed { OnOk result (Appends (map Byte' (unescaped raw.now) ++ (if terminated then Byte' 0 ∷ [] else [])) out.old.items out.new.items) }
+    ensures pushed { OnOk result (Appends (map Byte' (unescaped raw.now)
+        ++ (if terminated then Byte' 0 ∷ [] else [])) out.old.items out.new.items) }
     ensures refused { IfErr result (λ fault. fault ≡ AsmFault.Memory) }
 {
     push_string(out, raw)?;
@@ -137,7 +141,8 @@ fn push_number(out: &mut Vec<u8>, width: Width, number: i128) -> Result<(), AsmF
 
 /// Appends the low bytes of a word, the lowest first.
 fn push_low(out: &mut Vec<u8>, width: Width, word: u32) -> Result<(), AsmFault>
-    ensures pushed { OnOk result (Appends (map Byte' (take (bytes_of width) (to_le_bytes w32 word))) out.old.items out.new.items) }
+    ensures pushed { OnOk result
+        (Appends (map Byte' (take (bytes_of width) (to_le_bytes w32 word))) out.old.items out.new.items) }
     ensures refused { IfErr result (λ fault. fault ≡ AsmFault.Memory) }
 {
     let bytes = word.to_le_bytes();
@@ -153,7 +158,9 @@ fn are_known<'a>(
     text_size: usize,
     operands: &[Operand<'a>],
 ) -> bool
-    ensures { result ≡ list_all (λ operand. is_some (evaluate (value_of base text_size (found symbols.now)) (expression_in operand))) (map operand_of operands.now) }
+    ensures { result ≡ list_all (λ operand.
+        is_some (evaluate (value_in base text_size symbols.now) (expression_in operand)))
+        (operands_in operands.now) }
 {
     for operand in operands {
         let expression = expression_in(*operand);
@@ -173,9 +180,13 @@ fn emit_value<'a>(
     operand: &Operand<'a>,
     out: &mut Vec<u8>,
 ) -> Result<(), AsmFault>
-    ensures fits { IfOk result (λ _. fits_width width (data_value (value_of base text_size (found symbols.now)) (operand_of operand.now)) ≡ true) }
-    ensures pushed { OnOk result (Appends (bytes_at width (data_value (value_of base text_size (found symbols.now)) (operand_of operand.now))) out.old.items out.new.items) }
-    ensures misfits { IfErr result (λ fault. fault ≢ AsmFault.Memory → fits_width width (data_value (value_of base text_size (found symbols.now)) (operand_of operand.now)) ≡ false) }
+    ensures fits { IfOk result (λ _.
+        fits_width width (data_value (value_in base text_size symbols.now) (operand_of operand.now)) ≡ true) }
+    ensures pushed { OnOk result (Appends
+        (bytes_at width (data_value (value_in base text_size symbols.now) (operand_of operand.now)))
+        out.old.items out.new.items) }
+    ensures misfits { IfErr result (λ fault. fault ≢ AsmFault.Memory →
+        fits_width width (data_value (value_in base text_size symbols.now) (operand_of operand.now)) ≡ false) }
     ensures refused { IfErr result (λ fault. fault ≢ AsmFault.Memory → fault ≡ AsmFault.OutOfRange) }
 {
     let expression = expression_in(*operand);
@@ -199,7 +210,8 @@ fn emit_values<'a>(
     operands: &[Operand<'a>],
     out: &mut Vec<u8>,
 ) -> Result<(), AsmFault>
-    ensures { MatchResult result (λ _. Emits (data_of (value_of base text_size (found symbols.now)) width (map operand_of operands.now)) out.old.items out.new.items) (λ fault. fault ≢ AsmFault.Memory → data_of (value_of base text_size (found symbols.now)) width (map operand_of operands.now) ≡ Err fault) }
+    ensures { EmitsOrRefuses (data_of (value_in base text_size symbols.now) width
+        (operands_in operands.now)) out.old.items out.new.items result }
 {
     let mut count = 0;
     loop {
@@ -237,7 +249,8 @@ pub fn emit<'a>(
     out: &mut Vec<u8>,
 ) -> Result<(), AsmFault>
     requires { start < 2 ^ 66 }
-    ensures { MatchResult result (λ _. Emits (cells (value_of base text_size (found symbols.now)) start offset (statement_of (map operand_of operands.now) statement.now)) out.old.items out.new.items) (λ fault. fault ≢ AsmFault.Memory → cells (value_of base text_size (found symbols.now)) start offset (statement_of (map operand_of operands.now) statement.now) ≡ Err fault) }
+    ensures { EmitsOrRefuses (cells (value_in base text_size symbols.now) start offset
+        (statement_of (operands_in operands.now) statement.now)) out.old.items out.new.items result }
 {
     match statement {
         Statement::Instruction(operation, fields, value) => emit_instruction(

@@ -1,8 +1,9 @@
-ghost use Rattle.std.specs.Prelude.{◌≡◌, map};
+ghost use Rattle.std.specs.Prelude.{◌≡◌};
 ghost use Rattle.std.specs.Option.{option_map};
 ghost use Rattle.rv_asm.specs.Operand.{Number};
-ghost use Rattle.rv_asm.specs.Statement.{register_in, expression_in, csr_in, put, imply, fill, value_at, implied_value, value};
-ghost use Rattle.rv_asm.specs.ReadOperand.{operand_of, expression_of};
+ghost use Rattle.rv_asm.specs.ReadOperand.{operand_of, expression_of, operands_in};
+ghost use Rattle.rv_asm.specs.Statement.{implied_value, value};
+ghost use Rattle.rv_asm.specs.Statement.{register_in, expression_in, csr_in, put, imply, fill, value_at};
 
 use crate::fault::AsmFault;
 use crate::names::{csr_named, register_named};
@@ -99,7 +100,7 @@ fn imply(place: Place, fields: Fields) -> Fields
 
 /// The fields that the operands fill at their places.
 pub fn fill(places: &[Place], operands: &[Operand<'_>], fields: Fields) -> Result<Fields, AsmFault>
-    ensures { result ≡ fill places.now (map operand_of operands.now) fields }
+    ensures { result ≡ fill places.now (operands_in operands.now) fields }
 {
     let Some((place, others)) = places.split_first() else {
         return Ok(fields);
@@ -141,7 +142,7 @@ fn implied_number(place: Place) -> Option<i64>
 
 /// The expression of an instruction: the first that its places have, or 0.
 pub fn value<'a>(places: &[Place], operands: &[Operand<'a>]) -> Expression<'a>
-    ensures { expression_of result ≡ value places.now (map operand_of operands.now) }
+    ensures { expression_of result ≡ value places.now (operands_in operands.now) }
 {
     let Some((place, others)) = places.split_first() else {
         return Expression::Number(0);

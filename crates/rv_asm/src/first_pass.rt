@@ -1,12 +1,13 @@
-ghost use Rattle.std.specs.Prelude.{◌≡◌, ◌≢◌, ◌≤◌, ◌<◌, ◌∷◌, ◌==◌, [], None, Some, IfOk, IfErr, IfSome, MatchOption, map, drop, length, ok_or};
-ghost use Rattle.std.specs.List.{slice_split, position_or_len};
-ghost use Rattle.rv_asm.specs.Earliest.{earliest};
+ghost use Rattle.std.specs.Prelude.{◌≡◌, ◌≤◌, ◌<◌, ◌∷◌, ◌==◌, [], None, Some, IfOk, IfSome, MatchOption};
+ghost use Rattle.std.specs.Prelude.{drop, length, ok_or};
+ghost use Rattle.std.specs.List.{position_or_len};
+ghost use Rattle.rv_asm.specs.Answer.{RefusedBy, RefusedAt, Follows};
+ghost use Rattle.rv_asm.specs.Faults.{first_fault_of};
 ghost use Rattle.rv_asm.specs.FirstPass.{body_fault, first_fault, operand_fault};
-ghost use Rattle.rv_asm.specs.Layout.{behind, extended, layout, line_of, lines_of, statement_in};
-ghost use Rattle.rv_asm.specs.ReadOperand.{operand_of};
-ghost use Rattle.rv_asm.specs.ReadStatement.{Follows};
+ghost use Rattle.rv_asm.specs.Layout.{behind, extended, layout, lines_of, statement_in, line_in, line_bytes};
+ghost use Rattle.rv_asm.specs.ReadOperand.{operands_in};
+ghost use Rattle.rv_asm.specs.ReadToken.{tokens_in};
 ghost use Rattle.rv_asm.specs.Statement.{statement};
-ghost use Rattle.rv_asm.specs.ReadToken.{token_of};
 ghost use Rattle.rv_asm.specs.Symbols.{found};
 ghost use Rattle.rv_asm.specs.Token.{tokens_of};
 
@@ -28,7 +29,7 @@ pub struct Layout<'a> {
 
 /// The tokens of a line.
 pub fn read_tokens<'a>(alloc: Global, line: &'a [u8]) -> Result<Vec<Token<'a>>, AsmFault>
-    ensures { Follows (λ v. map token_of v.items) result (ok_or (tokens_of line.entry.now) AsmFault.BadToken) }
+    ensures { Follows (λ v. tokens_in v.items) result (ok_or (tokens_of line.entry.now) AsmFault.BadToken) }
 {
     match tokenize(alloc, line) {
         Ok(tokens) => Ok(tokens),
@@ -53,7 +54,10 @@ fn count_before_line_feed(text: &[u8]) -> usize
 /// The line that begins at a place, and where the next one begins.
 pub fn line_at(text: &[u8], start: usize) -> (&[u8], Option<usize>)
     requires { start ≤ length text.now }
-    ensures pieces { MatchOption result.1 (slice_split (λ byte. byte == 10) (drop start text.entry.now) ≡ result.0.now ∷ []) (λ next. slice_split (λ byte. byte == 10) (drop start text.entry.now) ≡ result.0.now ∷ slice_split (λ byte. byte == 10) (drop next text.entry.now)) }
+    ensures pieces { MatchOption result.1
+        (line_bytes (drop start text.entry.now) ≡ result.0.now ∷ [])
+        (λ next. line_bytes (drop start text.entry.now)
+        ≡ result.0.now ∷ line_bytes (drop next text.entry.now)) }
     ensures later { IfSome result.1 (λ next. start < next) }
     ensures in_range { IfSome result.1 (λ next. next ≤ length text.entry.now) }
 {
@@ -74,10 +78,12 @@ fn add_form<'a>(
     form: Form,
     operands: &[Operand<'a>],
 ) -> Result<Reach, AsmFault>
-    ensures added { IfOk result (λ _. operand_fault (found symbols.old) reach form (map operand_of operands.now) ≡ None) }
-    ensures reach { IfOk result (λ next. next ≡ (behind (found symbols.old) reach (statement form (map operand_of operands.now))).reach) }
-    ensures symbols { IfOk result (λ _. found symbols.new ≡ (behind (found symbols.old) reach (statement form (map operand_of operands.now))).meanings) }
-    ensures refused { IfErr result (λ fault. fault ≢ AsmFault.Memory → operand_fault (found symbols.old) reach form (map operand_of operands.now) ≡ Some fault) }
+    ensures added { IfOk result (λ _. operand_fault (found symbols.old) reach form (operands_in operands.now) ≡ None) }
+    ensures reach { IfOk result (λ next.
+        next ≡ (behind (found symbols.old) reach (statement form (operands_in operands.now))).reach) }
+    ensures symbols { IfOk result (λ _.
+        found symbols.new ≡ (behind (found symbols.old) reach (statement form (operands_in operands.now))).meanings) }
+    ensures refused { RefusedBy (operand_fault (found symbols.old) reach form (operands_in operands.now)) result }
 {
     if let Some(name) = needed(form, operands) {
         if symbols.constant(name).is_none() {
@@ -102,10 +108,12 @@ fn add_body<'a>(
     reach: Reach,
     body: &[Token<'a>],
 ) -> Result<Reach, AsmFault>
-    ensures added { IfOk result (λ _. body_fault (found symbols.old) reach (map token_of body.now) ≡ None) }
-    ensures reach { IfOk result (λ next. next ≡ (behind (found symbols.old) reach (statement_in (map token_of body.now))).reach) }
-    ensures symbols { IfOk result (λ _. found symbols.new ≡ (behind (found symbols.old) reach (statement_in (map token_of body.now))).meanings) }
-    ensures refused { IfErr result (λ fault. fault ≢ AsmFault.Memory → body_fault (found symbols.old) reach (map token_of body.now) ≡ Some fault) }
+    ensures added { IfOk result (λ _. body_fault (found symbols.old) reach (tokens_in body.now) ≡ None) }
+    ensures reach { IfOk result (λ next.
+        next ≡ (behind (found symbols.old) reach (statement_in (tokens_in body.now))).reach) }
+    ensures symbols { IfOk result (λ _.
+        found symbols.new ≡ (behind (found symbols.old) reach (statement_in (tokens_in body.now))).meanings) }
+    ensures refused { RefusedBy (body_fault (found symbols.old) reach (tokens_in body.now)) result }
 {
     if symbols.redefines(body) {
         return Err(AsmFault::DuplicateSymbol);
@@ -129,10 +137,12 @@ impl<'a> Layout<'a> {
 
     /// Adds a line.
     pub fn add(&mut self, alloc: Global, line: &'a [u8]) -> Result<(), AsmFault>
-        ensures added { IfOk result (λ _. first_fault (layout_of self.old) (line_of (tokens_of line.entry.now)) ≡ None) }
-        ensures reach { IfOk result (λ _. self.new.reach ≡ (extended (layout_of self.old) (line_of (tokens_of line.entry.now))).reach) }
-        ensures symbols { IfOk result (λ _. found self.new.symbols ≡ (extended (layout_of self.old) (line_of (tokens_of line.entry.now))).meanings) }
-        ensures refused { IfErr result (λ fault. fault ≢ AsmFault.Memory → first_fault (layout_of self.old) (line_of (tokens_of line.entry.now)) ≡ Some fault) }
+        ensures added { IfOk result (λ _. first_fault (layout_of self.old) (line_in line.entry.now) ≡ None) }
+        ensures reach { IfOk result (λ _.
+            self.new.reach ≡ (extended (layout_of self.old) (line_in line.entry.now)).reach) }
+        ensures symbols { IfOk result (λ _.
+            found self.new.symbols ≡ (extended (layout_of self.old) (line_in line.entry.now)).meanings) }
+        ensures refused { RefusedBy (first_fault (layout_of self.old) (line_in line.entry.now)) result }
     {
         let tokens = read_tokens(alloc, line)?;
         let here = Definition::Label(self.reach.section, self.reach.offset());
@@ -149,9 +159,9 @@ impl<'a> Layout<'a> {
 
     /// The layout of a text, or its first fault in the first pass.
     pub fn of_text(alloc: Global, text: &'a [u8]) -> Result<Self, AsmError>
-        ensures clean { IfOk result (λ _. earliest (λ earlier line. first_fault (layout earlier) line) (lines_of text.entry.now) ≡ None) }
+        ensures clean { IfOk result (λ _. first_fault_of (lines_of text.entry.now) ≡ None) }
         ensures tells { IfOk result (λ program. layout_of program ≡ layout (lines_of text.entry.now)) }
-        ensures refused { IfErr result (λ error. error.fault ≢ AsmFault.Memory → earliest (λ earlier line. first_fault (layout earlier) line) (lines_of text.entry.now) ≡ Some (error.fault, error.line)) }
+        ensures refused { RefusedAt (first_fault_of (lines_of text.entry.now)) result }
     {
         let mut layout = Layout::new(alloc);
         let mut number = 0;

@@ -1,12 +1,11 @@
-ghost use Rattle.std.specs.Prelude.{◌≡◌, ℕ, ℤ, pos, negsuc, ◌+◌, ◌-◌, ◌*◌, ◌<◌, ◌≤◌, ◌^◌, ◌∷◌, [], List, Ok, Err, if◌then◌else◌, Some, None, map, length, drop, unsigned_abs, option_to_list};
-ghost use Rattle.rv_isa.specs.Word.{modulo_word};
-ghost use Rattle.rv_asm.specs.Layout.{offset, grow_in, known, padding, size, instruction_size, advance, upper, lower, signed_word, load_number, load_address, is_too_large, labels_of, body_of};
-ghost use Rattle.rv_asm.specs.Names.{named};
-ghost use Rattle.rv_asm.specs.ReadOperand.{expression_of, operand_of};
+ghost use Rattle.std.specs.Prelude.{◌≡◌, ◌+◌, ◌-◌, ◌*◌, ◌<◌, ◌≤◌, ◌^◌, ◌∷◌, [], Ok, Err, Some, None};
+ghost use Rattle.std.specs.Prelude.{unsigned_abs, option_to_list};
+ghost use Rattle.rv_asm.specs.Layout.{offset, grow_in, known, padding, size, instruction_size, advance};
+ghost use Rattle.rv_asm.specs.Layout.{upper, lower, signed_word, load_number, load_address, unless_too_large};
+ghost use Rattle.rv_asm.specs.ReadOperand.{expression_of, operands_in};
 ghost use Rattle.rv_asm.specs.ReadStatement.{statement_of};
-ghost use Rattle.rv_asm.specs.ReadToken.{token_of};
 ghost use Rattle.rv_asm.specs.Symbols.{found};
-ghost use Rattle.rv_asm.specs.Token.{unescaped};
+ghost use Rattle.rv_isa.specs.Word.{modulo_word};
 
 use crate::fault::AsmFault;
 use crate::operand::{Expression, Operand};
@@ -51,7 +50,7 @@ impl Reach {
     /// So many bytes more in the section in force, if text and data are not too large then.
     fn grown(self, size: u128) -> Result<Reach, AsmFault>
         requires { size < 2 ^ 100 }
-        ensures { result ≡ (if is_too_large (grow_in self.section size self) then Err AsmFault.TooLarge else Ok (grow_in self.section size self)) }
+        ensures { result ≡ unless_too_large (grow_in self.section size self) }
     {
         let total = self.text_size as u128 + self.data_size as u128 + size;
         if total > LIMIT {
@@ -202,7 +201,7 @@ fn size<'a>(
     statement: &Statement<'a>,
     operands: &[Operand<'a>],
 ) -> u128
-    ensures size { result ≡ size (found symbols.now) offset (statement_of (map operand_of operands.now) statement.now) }
+    ensures size { result ≡ size (found symbols.now) offset (statement_of (operands_in operands.now) statement.now) }
     ensures small { result < 2 ^ 100 }
 {
     match statement {
@@ -224,7 +223,8 @@ pub fn advance<'a>(
     operands: &[Operand<'a>],
     reach: Reach,
 ) -> Result<Reach, AsmFault>
-    ensures { result ≡ (if is_too_large (advance (found symbols.now) (statement_of (map operand_of operands.now) statement.now) reach) then Err AsmFault.TooLarge else Ok (advance (found symbols.now) (statement_of (map operand_of operands.now) statement.now) reach)) }
+    ensures { result ≡ unless_too_large
+        (advance (found symbols.now) (statement_of (operands_in operands.now) statement.now) reach) }
 {
     if let Statement::Choice(section) = statement {
         return Reach {

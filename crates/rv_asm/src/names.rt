@@ -1,5 +1,4 @@
 ghost use Rattle.std.specs.Prelude.{◌≡◌, map};
-ghost use Rattle.std.specs.Option.{option_map};
 ghost use Rattle.rv_asm.specs.Names.{named, register_named, csr_named};
 
 use rv_isa::Reg;

@@ -1,10 +1,10 @@
-ghost use Rattle.std.specs.Prelude.{◌≡◌, ◌<◌, ◌≤◌, ◌∷◌, [], Some, None, MatchOption, IfSome, map, length, ok_or, ◌++◌, OnOk, IfErr};
+ghost use Rattle.std.specs.Prelude.{◌≡◌, ◌<◌, ◌≤◌, ◌∷◌, [], Some, None, map, length, ok_or, ◌++◌, OnOk, IfErr};
 ghost use Rattle.std.specs.List.{position_or_len};
 ghost use Rattle.std.specs.Option.{option_map, option_copied};
-ghost use Rattle.rv_asm.specs.ReadToken.{token_of};
+ghost use Rattle.rv_asm.specs.Answer.{Follows};
 ghost use Rattle.rv_asm.specs.Operand.{expression, in_parentheses, based, operand, operands_of, is_comma};
-ghost use Rattle.rv_asm.specs.ReadStatement.{Follows};
-ghost use Rattle.rv_asm.specs.ReadOperand.{expression_of, operand_of};
+ghost use Rattle.rv_asm.specs.ReadOperand.{expression_of, operand_of, operands_in};
+ghost use Rattle.rv_asm.specs.ReadToken.{token_of, tokens_in};
 
 use crate::fault::AsmFault;
 use crate::token::Token;
@@ -52,7 +52,8 @@ fn two_tokens<'a>(first: Token<'a>, second: Token<'a>) -> Option<Expression<'a>>
 
 /// The expression that three tokens are.
 fn three_tokens<'a>(first: Token<'a>, second: Token<'a>, third: Token<'a>) -> Option<Expression<'a>>
-    ensures { option_map expression_of result ≡ expression (token_of first.entry ∷ token_of second.entry ∷ token_of third.entry ∷ []) }
+    ensures { option_map expression_of result
+        ≡ expression (token_of first.entry ∷ token_of second.entry ∷ token_of third.entry ∷ []) }
 {
     match (first, second, third) {
         (Token::Name(symbol), Token::Plus, Token::Number(number)) => {
@@ -91,7 +92,8 @@ fn operand_of_three<'a>(
     second: Token<'a>,
     third: Token<'a>,
 ) -> Option<Operand<'a>>
-    ensures { option_map operand_of result ≡ operand (token_of first.entry ∷ token_of second.entry ∷ token_of third.entry ∷ []) }
+    ensures { option_map operand_of result
+        ≡ operand (token_of first.entry ∷ token_of second.entry ∷ token_of third.entry ∷ []) }
 {
     match three_tokens(first, second, third) {
         Some(expression) => Some(Operand::Value(expression)),
@@ -104,7 +106,7 @@ fn operand_of_three<'a>(
 
 /// The operand that tokens spell.
 fn read_operand<'a>(tokens: &[Token<'a>]) -> Option<Operand<'a>>
-    ensures { option_map operand_of result ≡ operand (map token_of tokens.now) }
+    ensures { option_map operand_of result ≡ operand (tokens_in tokens.now) }
 {
     match tokens {
         [Token::Text(raw)] => Some(Operand::Text(raw)),
@@ -161,7 +163,8 @@ fn push_operand<'a>(operands: &mut Vec<Operand<'a>>, operand: Operand<'a>) -> Re
 
 /// The operands of a statement, separated by commas.
 pub fn read_operands<'a>(alloc: Global, tokens: &[Token<'a>]) -> Result<Vec<Operand<'a>>, AsmFault>
-    ensures { Follows (λ v. map operand_of v.items) result (ok_or (operands_of (map token_of tokens.now)) AsmFault.BadOperands) }
+    ensures { Follows (λ v. operands_in v.items) result
+        (ok_or (operands_of (tokens_in tokens.now)) AsmFault.BadOperands) }
 {
     let mut operands = Vec::new(alloc);
     if tokens.is_empty() {

@@ -1,18 +1,19 @@
-ghost use Rattle.std.specs.Prelude.{◌≡◌, ◌≢◌, ◌≤◌, ◌%◌, ◌==◌, ◌||◌, [], if◌then◌else◌, List, map, drop, length, MatchResult, None, Some, Err, IfOk, IfErr, false};
+ghost use Rattle.std.specs.Prelude.{◌≡◌, ◌≤◌, ◌%◌, ◌==◌, ◌||◌, [], if◌then◌else◌, List, drop, length, None};
+ghost use Rattle.std.specs.Prelude.{Some, Err, IfOk, false};
 ghost use Rattle.std.specs.List.{list_any};
-ghost use Rattle.rv_asm.specs.Earliest.{earliest};
-ghost use Rattle.rv_asm.specs.Emitted.{Emits};
-ghost use Rattle.rv_asm.specs.Faults.{constant_starts, is_start, second_fault};
-ghost use Rattle.rv_asm.specs.FirstPass.{first_fault};
-ghost use Rattle.rv_asm.specs.Layout.{behind, body_of, is_too_large, labels_of, layout, line_of, lines_of, statement_in};
-ghost use Rattle.rv_asm.specs.SecondPass.{reach_behind};
-ghost use Rattle.rv_asm.specs.Meaning.{Cell, Spells, cells_in, contents, contents_in, line_cells, start_address};
+ghost use Rattle.rv_asm.specs.Answer.{RefusedBy, RefusedAt};
+ghost use Rattle.rv_asm.specs.Emitted.{Emits, EmitsOrRefuses};
+ghost use Rattle.rv_asm.specs.Faults.{constant_starts, is_start, second_fault, first_fault_of};
+ghost use Rattle.rv_asm.specs.Faults.{second_fault_of, start_misalignment};
+ghost use Rattle.rv_asm.specs.Layout.{behind, body_of, is_too_large, labels_of, layout, lines_of};
+ghost use Rattle.rv_asm.specs.Layout.{statement_in, line_in};
+ghost use Rattle.rv_asm.specs.Meaning.{Cell, Spells, cells_in, contents_in, line_cells, start_address, section_parts};
 ghost use Rattle.rv_asm.specs.ReadLayout.{layout_of};
-ghost use Rattle.rv_asm.specs.ReadOperand.{operand_of};
-ghost use Rattle.rv_asm.specs.ReadToken.{token_of};
+ghost use Rattle.rv_asm.specs.ReadOperand.{operands_in};
+ghost use Rattle.rv_asm.specs.ReadToken.{tokens_in};
+ghost use Rattle.rv_asm.specs.SecondPass.{reach_behind};
 ghost use Rattle.rv_asm.specs.Statement.{statement};
 ghost use Rattle.rv_asm.specs.Symbols.{found};
-ghost use Rattle.rv_asm.specs.Token.{tokens_of};
 
 use crate::emit::emit;
 use crate::fault::{AsmError, AsmFault};
@@ -39,7 +40,7 @@ fn is_start(name: &[u8]) -> bool
 /// How many tokens the labels at the front of a line are.
 fn count_labels(tokens: &[Token<'_>]) -> usize
     ensures in_range { result ≤ length tokens.now }
-    ensures body { body_of (map token_of tokens.now) ≡ map token_of (drop result tokens.now) }
+    ensures body { body_of (tokens_in tokens.now) ≡ tokens_in (drop result tokens.now) }
 {
     let mut count = 0;
     loop {
@@ -53,7 +54,7 @@ fn count_labels(tokens: &[Token<'_>]) -> usize
 
 /// Whether one of the labels at the front of a line is `_start`.
 fn has_start(tokens: &[Token<'_>]) -> bool
-    ensures { result ≡ list_any is_start (labels_of (map token_of tokens.now)) }
+    ensures { result ≡ list_any is_start (labels_of (tokens_in tokens.now)) }
 {
     let mut count = 0;
     loop {
@@ -96,10 +97,13 @@ fn emit_form<'a>(
     operands: &[Operand<'a>],
     out: &mut Vec<u8>,
 ) -> Result<Left, AsmFault>
-    requires { is_too_large (behind (found layout.now.symbols) reach (statement form (map operand_of operands.now))).reach ≡ false }
-    ensures emitted { MatchResult result (λ _. Emits (cells_in base (layout_of layout.now) reach (statement form (map operand_of operands.now))) out.old.items out.new.items) (λ fault. fault ≢ AsmFault.Memory → cells_in base (layout_of layout.now) reach (statement form (map operand_of operands.now)) ≡ Err fault) }
-    ensures reach { IfOk result (λ left. left.reach ≡ (behind (found layout.now.symbols) reach (statement form (map operand_of operands.now))).reach) }
-    ensures starts { IfOk result (λ left. left.starts ≡ constant_starts (statement form (map operand_of operands.now))) }
+    requires { is_too_large (behind (found layout.now.symbols) reach
+        (statement form (operands_in operands.now))).reach ≡ false }
+    ensures emitted { EmitsOrRefuses (cells_in base (layout_of layout.now) reach
+        (statement form (operands_in operands.now))) out.old.items out.new.items result }
+    ensures reach { IfOk result (λ left.
+        left.reach ≡ (behind (found layout.now.symbols) reach (statement form (operands_in operands.now))).reach) }
+    ensures starts { IfOk result (λ left. left.starts ≡ constant_starts (statement form (operands_in operands.now))) }
 {
     let statement = match make_statement(form, operands) {
         Ok(statement) => statement,
@@ -137,10 +141,13 @@ fn emit_body<'a>(
     body: &[Token<'a>],
     out: &mut Vec<u8>,
 ) -> Result<Left, AsmFault>
-    requires { is_too_large (behind (found layout.now.symbols) reach (statement_in (map token_of body.now))).reach ≡ false }
-    ensures emitted { MatchResult result (λ _. Emits (cells_in base (layout_of layout.now) reach (statement_in (map token_of body.now))) out.old.items out.new.items) (λ fault. fault ≢ AsmFault.Memory → cells_in base (layout_of layout.now) reach (statement_in (map token_of body.now)) ≡ Err fault) }
-    ensures reach { IfOk result (λ left. left.reach ≡ (behind (found layout.now.symbols) reach (statement_in (map token_of body.now))).reach) }
-    ensures starts { IfOk result (λ left. left.starts ≡ constant_starts (statement_in (map token_of body.now))) }
+    requires { is_too_large (behind (found layout.now.symbols) reach
+        (statement_in (tokens_in body.now))).reach ≡ false }
+    ensures emitted { EmitsOrRefuses (cells_in base (layout_of layout.now) reach
+        (statement_in (tokens_in body.now))) out.old.items out.new.items result }
+    ensures reach { IfOk result (λ left.
+        left.reach ≡ (behind (found layout.now.symbols) reach (statement_in (tokens_in body.now))).reach) }
+    ensures starts { IfOk result (λ left. left.starts ≡ constant_starts (statement_in (tokens_in body.now))) }
 {
     let reading = read(alloc, body)?;
     emit_form(
@@ -160,7 +167,8 @@ fn start_fault(
     label_starts: bool,
     constant_starts: bool,
 ) -> Option<AsmFault>
-    ensures { result ≡ (if label_starts || constant_starts then (if start_address base (layout_of layout.now) % 4 == 0 then None else Some AsmFault.Misaligned) else None) }
+    ensures { result ≡ (if label_starts || constant_starts
+        then start_misalignment base (layout_of layout.now) else None) }
 {
     if (label_starts || constant_starts) && start_address(layout, base) % 4 != 0 {
         Some(AsmFault::Misaligned)
@@ -178,11 +186,13 @@ fn emit_line<'a>(
     line: &'a [u8],
     out: &mut Vec<u8>,
 ) -> Result<Reach, AsmFault>
-    requires { is_too_large (reach_behind (found layout.now.symbols) reach (line_of (tokens_of line.now))) ≡ false }
-    ensures emitted { IfOk result (λ _. Emits (line_cells base (layout_of layout.now) reach (line_of (tokens_of line.entry.now))) out.old.items out.new.items) }
-    ensures reach { IfOk result (λ next. next ≡ reach_behind (found layout.now.symbols) reach (line_of (tokens_of line.entry.now))) }
-    ensures clean { IfOk result (λ _. second_fault base (layout_of layout.now) reach (line_of (tokens_of line.entry.now)) ≡ None) }
-    ensures refused { IfErr result (λ fault. fault ≢ AsmFault.Memory → second_fault base (layout_of layout.now) reach (line_of (tokens_of line.entry.now)) ≡ Some fault) }
+    requires { is_too_large (reach_behind (found layout.now.symbols) reach (line_in line.now)) ≡ false }
+    ensures emitted { IfOk result (λ _. Emits (line_cells base (layout_of layout.now) reach
+        (line_in line.entry.now)) out.old.items out.new.items) }
+    ensures reach { IfOk result (λ next.
+        next ≡ reach_behind (found layout.now.symbols) reach (line_in line.entry.now)) }
+    ensures clean { IfOk result (λ _. second_fault base (layout_of layout.now) reach (line_in line.entry.now) ≡ None) }
+    ensures refused { RefusedBy (second_fault base (layout_of layout.now) reach (line_in line.entry.now)) result }
 {
     let tokens = read_tokens(alloc, line)?;
     let slice = tokens.as_slice();
@@ -225,12 +235,20 @@ impl Sections {
         reach: Reach,
         line: &'a [u8],
     ) -> Result<Reach, AsmFault>
-        requires { is_too_large (reach_behind (found program.now.symbols) reach (line_of (tokens_of line.now))) ≡ false }
-        ensures text { (parts : List Cell) → Spells parts self.old.text.items → IfOk result (λ _. Spells (contents_in Section.Text reach.section parts (line_cells base (layout_of program.now) reach (line_of (tokens_of line.entry.now)))) self.new.text.items) }
-        ensures data_bytes { (parts : List Cell) → Spells parts self.old.data_bytes.items → IfOk result (λ _. Spells (contents_in Section.Data reach.section parts (line_cells base (layout_of program.now) reach (line_of (tokens_of line.entry.now)))) self.new.data_bytes.items) }
-        ensures reach { IfOk result (λ next. next ≡ reach_behind (found program.now.symbols) reach (line_of (tokens_of line.entry.now))) }
-        ensures clean { IfOk result (λ _. second_fault base (layout_of program.now) reach (line_of (tokens_of line.entry.now)) ≡ None) }
-        ensures refused { IfErr result (λ fault. fault ≢ AsmFault.Memory → second_fault base (layout_of program.now) reach (line_of (tokens_of line.entry.now)) ≡ Some fault) }
+        requires { is_too_large (reach_behind (found program.now.symbols) reach (line_in line.now)) ≡ false }
+        ensures text { (parts : List Cell) → Spells parts self.old.text.items
+            → IfOk result (λ _. Spells (contents_in Section.Text reach.section parts
+            (line_cells base (layout_of program.now) reach (line_in line.entry.now)))
+            self.new.text.items) }
+        ensures data_bytes { (parts : List Cell) → Spells parts self.old.data_bytes.items
+            → IfOk result (λ _. Spells (contents_in Section.Data reach.section parts
+            (line_cells base (layout_of program.now) reach (line_in line.entry.now)))
+            self.new.data_bytes.items) }
+        ensures reach { IfOk result (λ next.
+            next ≡ reach_behind (found program.now.symbols) reach (line_in line.entry.now)) }
+        ensures clean { IfOk result (λ _.
+            second_fault base (layout_of program.now) reach (line_in line.entry.now) ≡ None) }
+        ensures refused { RefusedBy (second_fault base (layout_of program.now) reach (line_in line.entry.now)) result }
     {
         match reach.section {
             Section::Text => emit_line(alloc, program, base, reach, line, &mut self.text),
@@ -245,12 +263,14 @@ impl Sections {
         base: u32,
         text: &'a [u8],
     ) -> Result<Sections, AsmError>
-        requires clean { earliest (λ earlier line. first_fault (layout earlier) line) (lines_of text.now) ≡ None }
+        requires clean { first_fault_of (lines_of text.now) ≡ None }
         requires whole { layout_of program.now ≡ layout (lines_of text.now) }
-        ensures clean { IfOk result (λ _. earliest (λ earlier line. second_fault base (layout (lines_of text.entry.now)) (layout earlier).reach line) (lines_of text.entry.now) ≡ None) }
-        ensures text { IfOk result (λ sections. Spells (contents base (layout (lines_of text.entry.now)) Section.Text (lines_of text.entry.now)) sections.text.items) }
-        ensures data_bytes { IfOk result (λ sections. Spells (contents base (layout (lines_of text.entry.now)) Section.Data (lines_of text.entry.now)) sections.data_bytes.items) }
-        ensures refused { IfErr result (λ error. error.fault ≢ AsmFault.Memory → earliest (λ earlier line. second_fault base (layout (lines_of text.entry.now)) (layout earlier).reach line) (lines_of text.entry.now) ≡ Some (error.fault, error.line)) }
+        ensures clean { IfOk result (λ _. second_fault_of base (lines_of text.entry.now) ≡ None) }
+        ensures text { IfOk result (λ sections.
+            Spells (section_parts base Section.Text (lines_of text.entry.now)) sections.text.items) }
+        ensures data_bytes { IfOk result (λ sections.
+            Spells (section_parts base Section.Data (lines_of text.entry.now)) sections.data_bytes.items) }
+        ensures refused { RefusedAt (second_fault_of base (lines_of text.entry.now)) result }
     {
         let mut sections = Sections::new(alloc);
         let mut reach = Reach::START;

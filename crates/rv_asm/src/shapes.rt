@@ -1,6 +1,7 @@
-ghost use Rattle.std.specs.Prelude.{◌≡◌, map};
-ghost use Rattle.rv_asm.specs.Statement.{is_name, is_value, is_known, is_target, is_address, is_base, is_csr, is_implied, takes, fits};
-ghost use Rattle.rv_asm.specs.ReadOperand.{operand_of};
+ghost use Rattle.std.specs.Prelude.{◌≡◌};
+ghost use Rattle.rv_asm.specs.ReadOperand.{operand_of, operands_in};
+ghost use Rattle.rv_asm.specs.Statement.{is_implied, takes, fits};
+ghost use Rattle.rv_asm.specs.Statement.{is_name, is_value, is_known, is_target, is_address, is_base, is_csr};
 
 use crate::names::csr_named;
 use crate::operand::{Expression, Operand};
@@ -90,7 +91,7 @@ impl Place {
 
 /// Whether the operands have the shapes of the places, one each.
 pub fn fits(places: &[Place], operands: &[Operand<'_>]) -> bool
-    ensures { result ≡ fits places.now (map operand_of operands.now) }
+    ensures { result ≡ fits places.now (operands_in operands.now) }
 {
     let Some((place, others)) = places.split_first() else {
         return operands.is_empty();

@@ -1,11 +1,12 @@
-ghost use Rattle.std.specs.Prelude.{◌≡◌, map, pos, Result};
+ghost use Rattle.std.specs.Prelude.{◌≡◌, pos, Result};
 ghost use Rattle.std.specs.List.{list_all};
 ghost use Rattle.std.specs.Option.{option_copied};
-ghost use Rattle.std.specs.Result.{result_map_both};
-ghost use Rattle.rv_asm.specs.Statement.{is_value, instruction, is_alignment, is_between, count, statement, needed, reading, Zeros, Align};
-ghost use Rattle.rv_asm.specs.ReadToken.{token_of};
-ghost use Rattle.rv_asm.specs.ReadOperand.{operand_of};
-ghost use Rattle.rv_asm.specs.ReadStatement.{statement_of, Follows};
+ghost use Rattle.rv_asm.specs.Answer.{Follows};
+ghost use Rattle.rv_asm.specs.ReadOperand.{operands_in};
+ghost use Rattle.rv_asm.specs.ReadStatement.{Makes};
+ghost use Rattle.rv_asm.specs.ReadToken.{tokens_in};
+ghost use Rattle.rv_asm.specs.Statement.{is_value, instruction, is_alignment, is_between, count, statement};
+ghost use Rattle.rv_asm.specs.Statement.{needed, reading, Zeros, Align};
 
 use crate::fault::AsmFault;
 use crate::filling::{fill, value};
@@ -38,7 +39,7 @@ fn instruction<'a>(
     places: &[Place],
     operands: &[Operand<'a>],
 ) -> Result<Statement<'a>, AsmFault>
-    ensures { result_map_both (statement_of (map operand_of operands.now)) (λ fault. fault) result ≡ instruction operation places.now (map operand_of operands.now) }
+    ensures { Makes operands.now result (instruction operation places.now (operands_in operands.now)) }
 {
     if !fits(places, operands) {
         return Err(AsmFault::BadOperands);
@@ -62,7 +63,7 @@ fn is_alignment(number: i64) -> bool
 
 /// The count of `.zero`, where it is one that it takes.
 fn zeros<'a>(operands: &[Operand<'a>]) -> Result<Statement<'a>, AsmFault>
-    ensures { result_map_both (statement_of (map operand_of operands.now)) (λ fault. fault) result ≡ count (is_between (pos 0) (pos 16777216)) Zeros (map operand_of operands.now) }
+    ensures { Makes operands.now result (count (is_between (pos 0) (pos 16777216)) Zeros (operands_in operands.now)) }
 {
     match operands {
         [Operand::Value(Expression::Number(number @ 0..=16777216))] => {
@@ -74,7 +75,7 @@ fn zeros<'a>(operands: &[Operand<'a>]) -> Result<Statement<'a>, AsmFault>
 
 /// The multiple of `.balign`, where it is one that it takes.
 fn align<'a>(operands: &[Operand<'a>]) -> Result<Statement<'a>, AsmFault>
-    ensures { result_map_both (statement_of (map operand_of operands.now)) (λ fault. fault) result ≡ count is_alignment Align (map operand_of operands.now) }
+    ensures { Makes operands.now result (count is_alignment Align (operands_in operands.now)) }
 {
     match operands {
         [Operand::Value(Expression::Number(number))] if is_alignment(*number) => {
@@ -86,7 +87,7 @@ fn align<'a>(operands: &[Operand<'a>]) -> Result<Statement<'a>, AsmFault>
 
 /// The name and the number of a `.equ`.
 fn constant<'a>(operands: &[Operand<'a>]) -> Result<Statement<'a>, AsmFault>
-    ensures { result_map_both (statement_of (map operand_of operands.now)) (λ fault. fault) result ≡ statement Form.Constant (map operand_of operands.now) }
+    ensures { Makes operands.now result (statement Form.Constant (operands_in operands.now)) }
 {
     match operands {
         [
@@ -99,7 +100,7 @@ fn constant<'a>(operands: &[Operand<'a>]) -> Result<Statement<'a>, AsmFault>
 
 /// The string of `.asciz` or `.ascii`.
 fn characters<'a>(operands: &[Operand<'a>], terminated: bool) -> Result<Statement<'a>, AsmFault>
-    ensures { result_map_both (statement_of (map operand_of operands.now)) (λ fault. fault) result ≡ statement (Form.Characters terminated) (map operand_of operands.now) }
+    ensures { Makes operands.now result (statement (Form.Characters terminated) (operands_in operands.now)) }
 {
     match operands {
         [Operand::Text(raw)] => Ok(Statement::Characters(raw, terminated)),
@@ -109,7 +110,7 @@ fn characters<'a>(operands: &[Operand<'a>], terminated: bool) -> Result<Statemen
 
 /// `.globl` of a name, which does nothing.
 fn global<'a>(operands: &[Operand<'a>]) -> Result<Statement<'a>, AsmFault>
-    ensures { result_map_both (statement_of (map operand_of operands.now)) (λ fault. fault) result ≡ statement Form.Global (map operand_of operands.now) }
+    ensures { Makes operands.now result (statement Form.Global (operands_in operands.now)) }
 {
     match operands {
         [operand] if operand.is_name() => Ok(Statement::Nothing),
@@ -119,7 +120,7 @@ fn global<'a>(operands: &[Operand<'a>]) -> Result<Statement<'a>, AsmFault>
 
 /// Whether each operand is an expression.
 fn are_values(operands: &[Operand<'_>]) -> bool
-    ensures { result ≡ list_all is_value (map operand_of operands.now) }
+    ensures { result ≡ list_all is_value (operands_in operands.now) }
 {
     for operand in operands {
         if !operand.is_value() {
@@ -131,7 +132,7 @@ fn are_values(operands: &[Operand<'_>]) -> bool
 
 /// `jalr` with an offset before its register in parentheses, behind it, or with its register alone.
 fn jump_register<'a>(operands: &[Operand<'a>]) -> Result<Statement<'a>, AsmFault>
-    ensures { result_map_both (statement_of (map operand_of operands.now)) (λ fault. fault) result ≡ statement Form.Jalr (map operand_of operands.now) }
+    ensures { Makes operands.now result (statement Form.Jalr (operands_in operands.now)) }
 {
     match operands.len() {
         1 => instruction(Operation::Jalr, &[Link, Rs1], operands),
@@ -142,7 +143,7 @@ fn jump_register<'a>(operands: &[Operand<'a>]) -> Result<Statement<'a>, AsmFault
 
 /// `jal` with or without its register.
 fn jump<'a>(operands: &[Operand<'a>]) -> Result<Statement<'a>, AsmFault>
-    ensures { result_map_both (statement_of (map operand_of operands.now)) (λ fault. fault) result ≡ statement Form.Jal (map operand_of operands.now) }
+    ensures { Makes operands.now result (statement Form.Jal (operands_in operands.now)) }
 {
     match operands.len() {
         1 => instruction(Operation::Jal, &[Link, Target], operands),
@@ -152,7 +153,7 @@ fn jump<'a>(operands: &[Operand<'a>]) -> Result<Statement<'a>, AsmFault>
 
 /// The statement of a form with its operands.
 pub fn make_statement<'a>(form: Form, operands: &[Operand<'a>]) -> Result<Statement<'a>, AsmFault>
-    ensures { result_map_both (statement_of (map operand_of operands.now)) (λ fault. fault) result ≡ statement form (map operand_of operands.now) }
+    ensures { Makes operands.now result (statement form (operands_in operands.now)) }
 {
     match form {
         Form::Nothing if operands.is_empty() => Ok(Statement::Nothing),
@@ -176,7 +177,7 @@ pub fn make_statement<'a>(form: Form, operands: &[Operand<'a>]) -> Result<Statem
 
 /// The symbol that `li` takes, which an earlier `.equ` has to define.
 pub fn needed<'a>(form: Form, operands: &[Operand<'a>]) -> Option<&'a [u8]>
-    ensures { option_copied result ≡ needed form (map operand_of operands.now) }
+    ensures { option_copied result ≡ needed form (operands_in operands.now) }
 {
     match form {
         Form::Instruction(Operation::LoadNumber, _, _, _) => match operands {
@@ -196,7 +197,7 @@ pub struct Reading<'a> {
 
 /// The form and the operands that tokens spell.
 pub fn read<'a>(alloc: Global, tokens: &[Token<'a>]) -> Result<Reading<'a>, AsmFault>
-    ensures { Follows (λ read. (read.form, map operand_of read.operands.items)) result (reading (map token_of tokens.now)) }
+    ensures { Follows (λ read. (read.form, operands_in read.operands.items)) result (reading (tokens_in tokens.now)) }
 {
     let Some((first, rest)) = tokens.split_first() else {
         return Ok(Reading {

@@ -1,7 +1,8 @@
-ghost use Rattle.std.specs.Prelude.{◌≡◌, ◌∷◌, ◌≤◌, [], Some, None, OnOk, IfOk, IfErr, OnSome, MatchOption, map, drop, length, is_none, true, false, ◌≢◌};
+ghost use Rattle.std.specs.Prelude.{◌≡◌, ◌∷◌, ◌≤◌, [], Some, None, OnOk, IfOk, IfErr, OnSome, MatchOption};
+ghost use Rattle.std.specs.Prelude.{drop, length, is_none, true, false, ◌≢◌};
 ghost use Rattle.rv_asm.specs.FirstPass.{repeats, redefines};
 ghost use Rattle.rv_asm.specs.Layout.{defined, labelled, labels_of, body_of, number_of};
-ghost use Rattle.rv_asm.specs.ReadToken.{token_of};
+ghost use Rattle.rv_asm.specs.ReadToken.{tokens_in};
 ghost use Rattle.rv_asm.specs.Symbols.{found};
 
 use crate::fault::AsmFault;
@@ -62,11 +63,15 @@ impl<'a> Symbols<'a> {
         tokens: &[Token<'a>],
         here: Definition,
     ) -> Result<usize, AsmFault>
-        ensures labels { IfOk result (λ _. found self.new ≡ labelled (found self.old) here (labels_of (map token_of tokens.now))) }
-        ensures fresh { IfOk result (λ _. repeats (found self.old) here (labels_of (map token_of tokens.now)) ≡ false) }
-        ensures repeated { IfErr result (λ fault. fault ≢ AsmFault.Memory → repeats (found self.old) here (labels_of (map token_of tokens.now)) ≡ true) }
+        ensures labels { IfOk result (λ _.
+            found self.new ≡ labelled (found self.old) here (labels_of (tokens_in tokens.now))) }
+        ensures fresh { IfOk result (λ _. repeats (found self.old) here (labels_of (tokens_in tokens.now)) ≡ false) }
+        ensures repeated { IfErr result (λ fault. fault ≢ AsmFault.Memory →
+            repeats (found self.old) here (labels_of (tokens_in tokens.now)) ≡ true) }
         ensures refused { IfErr result (λ fault. fault ≢ AsmFault.Memory → fault ≡ AsmFault.DuplicateSymbol) }
-        ensures body { IfOk result (λ count. (count ≤ length tokens.now) × (body_of (map token_of tokens.now) ≡ map token_of (drop count tokens.now))) }
+        ensures body { IfOk result (λ count.
+            (count ≤ length tokens.now)
+            × (body_of (tokens_in tokens.now) ≡ tokens_in (drop count tokens.now))) }
     {
         let mut count = 0;
         loop {
@@ -84,7 +89,7 @@ impl<'a> Symbols<'a> {
 
     /// Whether the name right behind `.equ` is defined.
     pub fn redefines(&self, tokens: &[Token<'a>]) -> bool
-        ensures { result ≡ redefines (found self.now) (map token_of tokens.now) }
+        ensures { result ≡ redefines (found self.now) (tokens_in tokens.now) }
     {
         match tokens {
             [first, second, ..] => match (*first, *second) {
@@ -110,8 +115,10 @@ impl<'a> Symbols<'a> {
 
 /// The name before a colon at the front of a line, if one stands there.
 pub fn next_label<'a>(tokens: &[Token<'a>]) -> Option<&'a [u8]>
-    ensures label { MatchOption result (labels_of (map token_of tokens.now) ≡ []) (λ name. labels_of (map token_of tokens.now) ≡ name.now ∷ labels_of (map token_of (drop 2 tokens.now))) }
-    ensures body { MatchOption result (body_of (map token_of tokens.now) ≡ map token_of tokens.now) (λ _. body_of (map token_of tokens.now) ≡ body_of (map token_of (drop 2 tokens.now))) }
+    ensures label { MatchOption result (labels_of (tokens_in tokens.now) ≡ []) (λ name.
+        labels_of (tokens_in tokens.now) ≡ name.now ∷ labels_of (tokens_in (drop 2 tokens.now))) }
+    ensures body { MatchOption result (body_of (tokens_in tokens.now) ≡ tokens_in tokens.now) (λ _.
+        body_of (tokens_in tokens.now) ≡ body_of (tokens_in (drop 2 tokens.now))) }
     ensures room { OnSome result (2 ≤ length tokens.now) }
 {
     match tokens {

@@ -1,8 +1,9 @@
-ghost use Rattle.std.specs.Prelude.{◌≡◌, ◌<◌, ◌≤◌, ◌∷◌, ◌++◌, length, map, drop, OnOk, IfOk, IfSome};
+ghost use Rattle.std.specs.Prelude.{◌≡◌, ◌<◌, ◌≤◌, ◌∷◌, ◌++◌, length, drop, OnOk, IfOk, IfSome};
 ghost use Rattle.std.specs.List.{prefix_len};
 ghost use Rattle.std.specs.Option.{option_map};
-ghost use Rattle.rv_asm.specs.Token.{is_separator, begins_name, is_name_byte, mark_of, number_in, number_of, escape_of, quoted_length, unescaped, first_lexeme, tokens_of};
-ghost use Rattle.rv_asm.specs.ReadToken.{token_of, lexeme_of};
+ghost use Rattle.rv_asm.specs.ReadToken.{token_of, lexeme_of, tokens_in};
+ghost use Rattle.rv_asm.specs.Token.{escape_of, quoted_length, unescaped, first_lexeme, tokens_of};
+ghost use Rattle.rv_asm.specs.Token.{is_separator, begins_name, is_name_byte, mark_of, number_in, number_of};
 
 use std::alloc::{AllocError, AllocFailed, Global};
 
@@ -205,7 +206,7 @@ fn first_lexeme(line: &[u8]) -> Option<Lexeme<'_>>
 /// past 4294967295 or with a letter, digit, `_`, `.` or `$` right behind it, a string that is not
 /// closed on the line, or an escape that is not known; and by `Memory` where memory was refused.
 pub fn tokenize<'a>(alloc: Global, line: &'a [u8]) -> Result<Vec<Token<'a>>, TokenError>
-    ensures read { IfOk result (λ tokens. tokens_of line.now ≡ Some (map token_of tokens.items)) }
+    ensures read { IfOk result (λ tokens. tokens_of line.now ≡ Some (tokens_in tokens.items)) }
     ensures refused { result ≡ Err TokenError.BadToken → tokens_of line.now ≡ None }
 {
     let mut tokens = Vec::new(alloc);

@@ -1,7 +1,7 @@
-ghost use Rattle.std.specs.Prelude.{◌≡◌, ◌<◌, ◌≤ℤ◌, ◌^◌, ℤ, pos, negsuc, IfSome};
+ghost use Rattle.std.specs.Prelude.{◌≡◌, ◌<◌, ◌≤ℤ◌, ◌^◌, pos, negsuc, IfSome};
 ghost use Rattle.rv_asm.specs.Meaning.{evaluate, start_of, value_of};
 ghost use Rattle.rv_asm.specs.ReadOperand.{expression_of};
-ghost use Rattle.rv_asm.specs.Symbols.{found};
+ghost use Rattle.rv_asm.specs.Symbols.{value_in};
 
 use crate::operand::Expression;
 use crate::operation::Section;
@@ -25,7 +25,7 @@ pub fn value_of<'a>(
     text_size: usize,
     name: &'a [u8],
 ) -> Option<i128>
-    ensures value { result ≡ value_of base text_size (found symbols.now) name.entry.now }
+    ensures value { result ≡ value_in base text_size symbols.now name.entry.now }
     ensures least { IfSome result (λ v. negsuc (2 ^ 70) ≤ℤ v) }
     ensures greatest { IfSome result (λ v. v ≤ℤ pos (2 ^ 70)) }
 {
@@ -45,7 +45,7 @@ pub fn evaluate<'a>(
     text_size: usize,
     value: &Expression<'a>,
 ) -> Option<i128>
-    ensures value { result ≡ evaluate (value_of base text_size (found symbols.now)) (expression_of value.now) }
+    ensures value { result ≡ evaluate (value_in base text_size symbols.now) (expression_of value.now) }
     ensures least { IfSome result (λ v. negsuc (2 ^ 71) ≤ℤ v) }
     ensures greatest { IfSome result (λ v. v ≤ℤ pos (2 ^ 71)) }
 {
