@@ -103,8 +103,8 @@ pub fn instructions(
     requires address { address < 2 ^ 68 }
     requires least { negsuc (2 ^ 71) ≤ℤ number }
     requires greatest { number ≤ℤ pos (2 ^ 71) }
-    ensures { result_map_both (λ made. made.0 ∷ option_to_list made.1) (λ fault.
-        fault) result ≡ instructions operation fields address number }
+    ensures { result_map_both (λ made. made.0 ∷ option_to_list made.1) (λ fault. fault) result
+        ≡ instructions operation fields address number }
 {
     let Fields { rd, rs1, rs2, csr } = fields;
     let instruction = match operation {
