@@ -34,7 +34,7 @@ legal_memory t legal =
     let base = within_pages 0 0xff00_0000 (ram_size_of t) _ (clean t legal RamBase (Pages 0 0xff00_0000) 0x8000_0000 refl refl) in
     let size = within_pages 4096 16777216 (ram_size_of t) _ (clean t legal RamSize (Pages 4096 16777216) 65536 refl refl) in
     let rom = within_front (ram_size_of t) _ (clean t legal RomBytes Front 0 refl (bounds_fault-no_front (ram_size_of t))) in
-    record { base = base.0.1; base_aligned = base.1; size = size.0; size_aligned = size.1; rom = rom.0; rom_aligned = rom.1 }
+    record { base = (base.0.1, base.1); size = (size.0.0, size.0.1, size.1); rom = rom.0; rom_aligned = rom.1 }
 
 legal_pipeline : (t : Members) → IsFaultless t → IsLegalPipeline (values_of t)
 unfolding values_of

@@ -1,2 +1,4 @@
 pub mod LastLevels
 pub mod Levels
+pub mod Numbered
+pub mod Padded

@@ -1,5 +1,7 @@
 use Rattle.std.specs.Prelude.{◌≡◌, ℕ, ◌+◌, ◌*◌, ◌%◌, ◌≤◌, max, IsTrue}
 use Rattle.std.specs.Int.{is_power_of_two}
+use Rattle.rv_isa.specs.declared.operations.Kind.{Kind}
+use Rattle.rv_isa.specs.declared.operations.Kind.TheVariants.{Alu, Mul, Div, Mem}
 use Rattle.rv_isa.specs.declared.values.Values.{Values}
 use Rattle.rv_isa.specs.declared.values.KindValues.{KindValues}
 use Rattle.rv_isa.specs.declared.values.CacheValues.{CacheValues}
@@ -10,12 +12,18 @@ use Rattle.rv_isa.specs.declared.values.ReportValues.{ReportValues}
 abbrev pub Within : ℕ → ℕ → ℕ → Type 0
 Within low high n = (low ≤ n) × (n ≤ high)
 
+-- the addresses at which RAM may begin
+abbrev pub IsRamBase : ℕ → Type 0
+IsRamBase base = (base ≤ 0xff00_0000) × (base % 4096 ≡ 0)
+
+-- the sizes that RAM may have, in bytes
+abbrev pub IsRamSize : ℕ → Type 0
+IsRamSize size = (4096 ≤ size) × (size ≤ 16777216) × (size % 4096 ≡ 0)
+
 -- where RAM lies, and its front that stores may not change
 pub record IsLegalMemory (v : Values) : Type 0 where
-  pub base : v.ram_base ≤ 0xff00_0000
-  pub base_aligned : v.ram_base % 4096 ≡ 0
-  pub size : Within 4096 16777216 v.ram_size
-  pub size_aligned : v.ram_size % 4096 ≡ 0
+  pub base : IsRamBase v.ram_base
+  pub size : IsRamSize v.ram_size
   pub rom : v.rom_bytes ≤ v.ram_size
   pub rom_aligned : v.rom_bytes % 4096 ≡ 0
 
@@ -30,7 +38,7 @@ pub record IsLegalPipeline (v : Values) : Type 0 where
   pub store_queue : Within 1 64 v.store_queue
   pub forward : Within 1 64 v.forward
 
--- the stations and units of a kind
+-- how many stations and units a kind has, and how long they take
 pub record IsLegalKind (k : KindValues) : Type 0 where
   pub stations : Within 1 64 k.stations
   pub units : Within 1 8 k.units
@@ -75,6 +83,13 @@ pub record IsLegal (v : Values) : Type 0 where
   pub cache : IsLegalCache v.cache
   pub predictor : IsLegalPredictor v.predictor
   pub report : IsLegalReport v.report
+
+-- the stations and units of a kind
+abbrev pub kind_values : Values → Kind → KindValues
+kind_values v Alu = v.alu
+kind_values v Mul = v.mul
+kind_values v Div = v.div
+kind_values v Mem = v.mem
 
 -- the greatest of the four latencies and the cost of a forwarded load
 abbrev pub greatest_latency : Values → ℕ

@@ -1,10 +1,12 @@
 pub mod Arithmetic
 pub mod Arrivals
+pub mod Bytes
 pub mod Cause
 pub mod Comparison
 pub mod Description
 pub mod Field
 pub mod Levels
+pub mod Numbered
 pub mod Operands
 pub mod Operation
 pub mod Standard

@@ -1,9 +1,9 @@
-use Rattle.std.specs.Prelude.{ℕ, ◌^◌, ℤ, pos, unsigned_abs}
-use Rattle.std.specs.Int.{cast_signed, int_rem_euclid, int_div_euclid, w32}
+use Rattle.std.specs.Prelude.{ℕ, ◌+◌, ◌%◌, ◌^◌, ℤ, pos, ◌-ℤ◌, unsigned_abs, nat_lt, if◌then◌else◌}
+use Rattle.std.specs.Int.{int_rem_euclid, int_div_euclid}
 
--- the signed reading of a word: 2 ^ 32 less where the word is at least 2 ^ 31 (Unprivileged ISA 20191213, 1.4)
+-- Unprivileged ISA 20191213, 1.4: the signed reading of a word, 2 ^ 32 less where the word is at least 2 ^ 31
 abbrev pub signed : ℕ → ℤ
-signed word = cast_signed w32 word
+signed word = if nat_lt word (2 ^ 31) then pos word else pos word -ℤ pos (2 ^ 32)
 
 -- a whole number modulo 2 ^ 32
 abbrev pub modulo_word : ℤ → ℕ
@@ -12,3 +12,15 @@ modulo_word z = unsigned_abs (int_rem_euclid z (pos (2 ^ 32)))
 -- the bits of a whole number from bit 32 on, modulo 2 ^ 32
 abbrev pub upper_word : ℤ → ℕ
 upper_word z = modulo_word (int_div_euclid z (pos (2 ^ 32)))
+
+-- Unprivileged ISA 20191213, 1.4: addresses and sums are modulo 2 ^ 32
+abbrev pub sum : ℕ → ℕ → ℕ
+sum a b = (a + b) % 2 ^ 32
+
+-- the address of the next instruction
+abbrev pub pc_plus_4 : ℕ → ℕ
+pc_plus_4 pc = sum pc 4
+
+-- the address at an offset from an instruction
+abbrev pub pc_plus : ℕ → ℤ → ℕ
+pc_plus pc offset = sum pc (modulo_word offset)

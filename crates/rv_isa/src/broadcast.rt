@@ -1,22 +1,18 @@
 use crate::causes::Fault;
-use crate::operations::Width;
+use crate::store_bytes::StoreBytes;
 
-/// The address and the data of a store.
+/// What a store writes to memory.
 #[derive(Clone, Copy, Debug, PartialEq, Eq)]
 pub struct StoreAccess {
     /// The first byte's address.
     pub address: u32,
-    /// How many bytes are written.
-    pub width: Width,
-    /// The word whose low bytes are written.
-    pub data: u32,
+    /// The bytes from there on.
+    pub bytes: StoreBytes,
 }
 
-/// What a broadcast on the common data bus carries.
+/// What a broadcast on the common data bus tells of an instruction's result.
 #[derive(Clone, Copy, Debug, Default, PartialEq, Eq)]
 pub struct Message {
-    /// The sequence number of the instruction that produced the result, its operand tag.
-    pub number: u64,
     /// The value for the instruction's target register, 0 where it faults.
     pub value: u32,
     /// The fault to be taken when the instruction retires, if any.

@@ -15,6 +15,7 @@ mod description;
 mod images;
 mod immediates;
 mod instructions;
+mod issues;
 mod jump_offsets;
 mod line_levels;
 mod lines;
@@ -22,6 +23,7 @@ mod operands;
 mod operations;
 mod registers;
 mod shift_amounts;
+mod store_bytes;
 mod upper_immediates;
 mod values;
 
@@ -37,12 +39,14 @@ pub use description::Description;
 pub use images::{Bytes, Image};
 pub use immediates::Immediate;
 pub use instructions::{CsrSource, Instr};
+pub use issues::Issue;
 pub use jump_offsets::JumpOffset;
 pub use lines::{Arrival, Line, Lines};
 pub use operands::{kind, sources, target};
 pub use operations::{AluOp, Condition, CsrOp, ImmediateOp, Kind, LoadForm, ShiftOp, Width};
 pub use registers::Reg;
 pub use shift_amounts::ShiftAmount;
+pub use store_bytes::StoreBytes;
 pub use upper_immediates::UpperImmediate;
 pub use values::{
     CacheValues, KindValues, PredictorKind, PredictorValues, Recovery, ReportValues, Values,

@@ -96,6 +96,11 @@ pub enum Kind {
     Mem,
 }
 
+impl Kind {
+    /// The four kinds, in the order in which they issue.
+    pub const ALL: [Kind; 4] = [Kind::Alu, Kind::Mul, Kind::Div, Kind::Mem];
+}
+
 impl Width {
     ghost use Rattle.rv_isa.specs.Operation.{bytes_of};
 

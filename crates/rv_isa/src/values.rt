@@ -1,3 +1,5 @@
+use crate::operations::Kind;
+
 /// When a wrong prediction of a branch or a jump is mended.
 #[derive(Clone, Copy, Debug, PartialEq, Eq)]
 pub enum Recovery {
@@ -106,6 +108,7 @@ pub struct Values {
 impl Values {
     ghost use Rattle.std.specs.Prelude.{◌≡◌};
     ghost use Rattle.rv_isa.specs.Standard.{standard_values};
+    ghost use Rattle.rv_isa.specs.Description.{kind_values};
 
     /// The values of a description that names no key.
     pub fn standard() -> Self
@@ -164,6 +167,18 @@ impl Values {
                 dump_address: 0,
                 dump_words: 0,
             },
+        }
+    }
+
+    /// The units and stations of a kind.
+    pub fn of_kind(&self, kind: Kind) -> KindValues
+        ensures { result ≡ kind_values self.now kind }
+    {
+        match kind {
+            Kind::Alu => self.alu,
+            Kind::Mul => self.mul,
+            Kind::Div => self.div,
+            Kind::Mem => self.mem,
         }
     }
 }
