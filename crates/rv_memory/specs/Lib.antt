@@ -1,3 +1,4 @@
 pub mod Bytes
-pub mod Ram
+pub mod Memory
 pub mod Stale
+pub mod StaleMarks

@@ -3,6 +3,7 @@
 #![tactic(auto)]
 
 mod backing;
+mod byte_access;
 mod ram;
 mod stale;
 

@@ -1,9 +1,13 @@
-ghost use Rattle.std.specs.Prelude.{◌≡◌, ℕ, ◌+◌, ◌-◌, ◌%◌, ◌≤◌, ◌↔◌, List, length, replicate, slice_range, IsTrue, IsSome, IfSome, IfOk, refl};
+ghost use Rattle.std.specs.Prelude.{◌≡◌, ◌+◌, ◌-◌, ◌*◌, ◌%◌, ◌^◌, ◌<◌, ◌≤◌, length, replicate, slice_range, IsTrue, IfOk, refl};
 ghost use Rattle.std.proofs.Common.{◌∙◌};
-ghost use Rattle.rv_memory.specs.Bytes.{overwritten, word_at};
-ghost use Rattle.rv_memory.specs.Ram.{IsInRam, IsRamBase, IsRamSize, IsWritable};
+ghost use Rattle.rv_isa.specs.Description.{IsRamBase, IsRamSize};
+ghost use Rattle.rv_isa.specs.Operation.{bytes_of};
+ghost use Rattle.rv_memory.specs.Bytes.{overwritten};
+ghost use Rattle.rv_memory.specs.Memory.{IsSized, is_in_ram, is_writable, number_at, with_stored, byte_seen, fetched_word};
 
 use crate::Backing;
+use crate::byte_access::{number_in, store_in};
+use rv_isa::Width;
 use std::alloc::{AllocError, Global};
 use std::marker::Model;
 
@@ -11,19 +15,25 @@ use std::marker::Model;
 #[derive(Debug, Drop)]
 pub struct Ram {
     base: u32,
+    size: u32,
     rom_bytes: u32,
     bytes: Vec<u8>,
 }
 
 impl Model for Ram {
-    ghost use Rattle.std.specs.Prelude.{length, ◌≤◌};
-    ghost use Rattle.rv_memory.specs.Ram.{Memory, IsRamBase, IsRamSize};
+    ghost use Rattle.std.specs.Prelude.{◌≡◌, length, ◌≤◌};
+    ghost use Rattle.rv_isa.specs.Description.{IsRamBase, IsRamSize};
+    ghost use Rattle.rv_memory.specs.Memory.{Memory};
 
     ghost Value = { Memory };
 
-    ghost view = { λ r. record { base = r.base; rom_bytes = r.rom_bytes; bytes = r.bytes.items } };
+    ghost view = { λ r. record {
+      layout = record { base = r.base; size = r.size; rom_bytes = r.rom_bytes };
+      bytes = r.bytes.items;
+    } };
 
-    ghost invariant = { λ r. IsRamBase r.base × IsRamSize (length r.bytes.items) × (r.rom_bytes ≤ length r.bytes.items) };
+    ghost invariant = { λ r.
+        IsRamBase r.base × IsRamSize r.size × (r.rom_bytes ≤ r.size) × (length r.bytes.items ≡ r.size) };
 }
 
 impl Ram {
@@ -33,10 +43,14 @@ impl Ram {
         requires base { IsRamBase base }
         requires size { IsRamSize size }
         requires rom { rom_bytes ≤ size }
-        ensures { IfOk result (λ ram. ram ≡ record { base = base; rom_bytes = rom_bytes; bytes = replicate size 0 }) }
+        ensures { IfOk result (λ ram. ram ≡ record {
+          layout = record { base = base; size = size; rom_bytes = rom_bytes };
+          bytes = replicate size 0;
+        }) }
     {
         Ok(Ram {
             base,
+            size,
             rom_bytes,
             bytes: vec![in alloc; 0; size as usize]?,
         })
@@ -45,65 +59,80 @@ impl Ram {
     /// Writes an image over the front of RAM.
     pub fn load(&mut self, image: &[u8])
         requires { length image.now ≤ length self.old.bytes }
-        ensures { self.new ≡ record self.old { bytes = overwritten self.old.bytes 0 image.now } }
+        ensures loaded { self.new ≡ record self.old { bytes = overwritten self.old.bytes 0 image.now } }
+        ensures sized { IsSized self.new }
     {
         self.write_block(0, image);
     }
 
     /// Whether the `count` bytes from `address` on lie in RAM.
-    pub fn in_range(&self, address: u32, count: usize) -> bool
-        ensures { IsTrue result ↔ IsInRam self.now address count }
+    pub fn in_range(&self, address: u32, count: u32) -> bool
+        ensures { result ≡ is_in_ram self.now.layout address count }
     {
-        self.base <= address && self.has_room((address - self.base) as usize, count)
+        address >= self.base && count <= self.size && address - self.base <= self.size - count
     }
 
     /// Whether a store may write the `count` bytes from `address` on: they lie in RAM, behind the
     /// part that is only read.
-    pub fn writable(&self, address: u32, count: usize) -> bool
-        ensures { IsTrue result ↔ IsWritable self.now address count }
+    pub fn writable(&self, address: u32, count: u32) -> bool
+        ensures { result ≡ is_writable self.now.layout address count }
+    {
+        self.in_range(address, count) && address - self.base >= self.rom_bytes
+    }
+
+    /// The word at `pc`, lowest byte first, or `None` where its four bytes do not lie in RAM.
+    pub fn fetch(&self, pc: u32) -> Option<u32>
+        ensures { result ≡ fetched_word self.now.layout self.now.bytes pc }
+    {
+        if self.in_range(pc, 4) {
+            Some(self.number(pc, Width::Word))
+        } else {
+            None
+        }
+    }
+
+    /// The number that the bytes from `address` on make, lowest byte first.
+    pub fn number(&self, address: u32, width: Width) -> u32
+        requires { IsTrue (is_in_ram self.now.layout address (bytes_of width)) }
+        ensures number { result ≡ number_at self.now.layout self.now.bytes address (bytes_of width) }
+        ensures fits { result < 2 ^ (8 * bytes_of width) }
+    {
+        number_in(&self.bytes, (address - self.base) as usize, width)
+    }
+
+    /// Stores the low bytes of a word, lowest byte first.
+    pub fn store(&mut self, address: u32, width: Width, word: u32)
+        requires { IsTrue (is_writable self.old.layout address (bytes_of width)) }
+        ensures stored { self.new ≡ record self.old { bytes = with_stored self.old.layout self.old.bytes address (bytes_of width) word } }
+        ensures sized { IsSized self.new }
+    {
+        store_in(&mut self.bytes, (address - self.base) as usize, width, word);
+    }
+
+    /// The byte at an address, or `None` outside RAM.
+    pub fn byte(&self, address: u32) -> Option<u8>
+        ensures { result ≡ byte_seen self.now.layout self.now.bytes address }
     {
         if address < self.base {
-            return false;
-        }
-        let offset = (address - self.base) as usize;
-        self.rom_bytes as usize <= offset && self.has_room(offset, count)
-    }
-
-    // Whether `count` bytes fit behind an offset.
-    fn has_room(&self, offset: usize, count: usize) -> bool
-        ensures { IsTrue result ↔ (offset + count ≤ length self.now.bytes) }
-    {
-        let size = self.size();
-        offset <= size && count <= size - offset
-    }
-
-    /// The word at `pc`, lowest byte first (Unprivileged ISA 20191213, 1.4), or `None` where its
-    /// four bytes do not lie in RAM.
-    pub fn fetch(&self, pc: u32) -> Option<u32>
-        ensures word { IfSome result (λ word. word ≡ word_at self.now.bytes (pc - self.now.base)) }
-        ensures inside { IsSome result ↔ IsInRam self.now pc 4 }
-        ensures aligned { pc % 4 ≡ 0 → (IsSome result ↔ IsInRam self.now pc 1) }
-    {
-        let offset = pc.checked_sub(self.base)? as usize;
-        if !self.has_room(offset, 4) {
             return None;
         }
-        let mut word = [0; 4];
-        self.read_block(offset, &mut word);
-        Some(u32::from_le_bytes(word))
+        self.bytes.get((address - self.base) as usize).copied()
     }
 }
 
 impl Backing for Ram {
     ghost bytes = { λ ram. ram.bytes };
 
-    ghost keeps = { λ old new. (new.base ≡ old.base) × (new.rom_bytes ≡ old.rom_bytes) };
+    ghost keeps = { λ old new. new.layout ≡ old.layout };
 
-    ghost keeps_itself = { λ a. (refl, refl) };
+    ghost keeps_itself = { λ a. refl };
 
-    ghost keeps_on = { λ a b c ab bc. (bc.0 ∙ ab.0, bc.1 ∙ ab.1) };
+    ghost keeps_on = { λ a b c ab bc. bc ∙ ab };
 
-    fn size(&self) -> usize {
+    fn size(&self) -> usize
+        ensures size { result ≡ length self.now.bytes }
+        ensures sized { IsSized self.now }
+    {
         self.bytes.len()
     }
 
@@ -113,7 +142,8 @@ impl Backing for Ram {
 
     fn write_block(&mut self, offset: usize, block: &[u8])
         requires { offset + length block.now ≤ length self.old.bytes }
-        ensures { self.new ≡ record self.old { bytes = overwritten self.old.bytes offset block.now } }
+        ensures written { self.new ≡ record self.old { bytes = overwritten self.old.bytes offset block.now } }
+        ensures sized { IsSized self.new }
     {
         self.bytes[offset..offset + block.len()].copy_from_slice(block);
     }
@@ -123,6 +153,7 @@ impl Backing for Ram {
 mod tests {
     use super::Ram;
     use crate::Backing;
+    use rv_isa::Width;
     use std::test::Fail;
 
     const BASE: u32 = 0x8000_0000;
@@ -148,6 +179,20 @@ mod tests {
         assert_eq!(rt; ram.fetch(BASE + 4), Some(0));
         assert_eq!(rt; ram.fetch(BASE + 4096), None);
         assert_eq!(rt; ram.fetch(BASE - 4), None);
+        Ok(())
+    }
+
+    #[test]
+    fn half_word_has_its_lowest_byte_first(rt: HostRuntime) -> Result<(), Fail> {
+        let mut ram = Ram::new(rt.alloc(), BASE, 4096, 0)?;
+        assert!(rt; ram.writable(BASE + 2, 2));
+        ram.store(BASE + 2, Width::Half, 0x1234_5678);
+        assert_eq!(rt; ram.byte(BASE + 1), Some(0));
+        assert_eq!(rt; ram.byte(BASE + 2), Some(0x78));
+        assert_eq!(rt; ram.byte(BASE + 3), Some(0x56));
+        assert_eq!(rt; ram.byte(BASE + 4), Some(0));
+        assert_eq!(rt; ram.fetch(BASE), Some(0x5678_0000));
+        assert_eq!(rt; ram.byte(BASE + 4096), None);
         Ok(())
     }
 }
