@@ -7,7 +7,7 @@ use Rattle.rv_memory.specs.Ram.{Memory}
 use Rattle.rv_front.specs.declared.fetched.Fetched.{Fetched}
 use Rattle.rv_front.specs.declared.fetched.FetchStop.{FetchStop}
 use Rattle.rv_front.specs.declared.fetched.FetchStop.TheVariants.{Width, Room, Prediction, Halted}
-use Rattle.rv_front.specs.FetchBuffer.{FetchBuffer, Fetches, FetchesInto, FetchesOne, IsFetchedAt, IsLinked, is_halted, sequential, stop_behind, stop_for}
+use Rattle.rv_front.specs.FetchBuffer.{Answers, FetchBuffer, Fetches, FetchesInto, FetchesOne, IsFetchedAt, IsLinked, is_halted, sequential, stop_behind, stop_for}
 
 lt_holds : (a b : ℕ) → nat_lt a b ≡ true → a < b
 lt_holds a b h = grind (arith, nat_tests)
@@ -29,17 +29,17 @@ ends None straight stop h = let why : stop ≡ Halted = cc in rw why refl
 ends (Some word) true stop h = absurd (cc)
 ends (Some word) false stop h = let why : stop ≡ Prediction = cc in rw why refl
 
-module _ (ram : Memory) (cycle : ℕ) where
+module _ (answers : Answers) (ram : Memory) (cycle : ℕ) where
   -- ---- what the first word leaves to fetch
-  Fetches-more : (left more pc : ℕ) (e : Fetched) (es : List Fetched) (next : ℕ) (stop : FetchStop) → IsFetchedAt ram cycle pc e → stop_behind e ≡ None → Fetches ram cycle left more e.predicted es next stop → Fetches ram cycle (suc left) (suc more) pc (e ∷ es) next stop
+  Fetches-more : (left more pc : ℕ) (e : Fetched) (es : List Fetched) (next : ℕ) (stop : FetchStop) → IsFetchedAt answers ram cycle pc e → stop_behind e ≡ None → Fetches answers ram cycle left more e.predicted es next stop → Fetches answers ram cycle (suc left) (suc more) pc (e ∷ es) next stop
   Fetches-more left more pc e es next stop at on rest =
-      let P : Option FetchStop → Type 0 = λ o. MatchOption o (Fetches ram cycle left more e.predicted es next stop) (λ reason. (es ≡ []) × (next ≡ e.predicted) × (stop ≡ reason)) in
+      let P : Option FetchStop → Type 0 = λ o. MatchOption o (Fetches answers ram cycle left more e.predicted es next stop) (λ reason. (es ≡ []) × (next ≡ e.predicted) × (stop ≡ reason)) in
       (at, subst P (sym on) rest)
 
-  Fetches-last : (left more pc : ℕ) (e : Fetched) (stop : FetchStop) → IsFetchedAt ram cycle pc e → stop_behind e ≡ Some stop → Fetches ram cycle (suc left) (suc more) pc (e ∷ []) e.predicted stop
+  Fetches-last : (left more pc : ℕ) (e : Fetched) (stop : FetchStop) → IsFetchedAt answers ram cycle pc e → stop_behind e ≡ Some stop → Fetches answers ram cycle (suc left) (suc more) pc (e ∷ []) e.predicted stop
   Fetches-last left more pc e stop at end =
       let nothing : List Fetched = [] in
-      let P : Option FetchStop → Type 0 = λ o. MatchOption o (Fetches ram cycle left more e.predicted nothing e.predicted stop) (λ reason. (nothing ≡ []) × (e.predicted ≡ e.predicted) × (stop ≡ reason)) in
+      let P : Option FetchStop → Type 0 = λ o. MatchOption o (Fetches answers ram cycle left more e.predicted nothing e.predicted stop) (λ reason. (nothing ≡ []) × (e.predicted ≡ e.predicted) × (stop ≡ reason)) in
       (at, subst P (sym end) (refl, refl, refl))
 
   -- ---- the words fetched so far, and what they leave to fetch
@@ -49,7 +49,7 @@ module _ (ram : Memory) (cycle : ℕ) where
     pub capacity_is : now.capacity ≡ old.capacity
     pub width_is : now.width ≡ old.width
     pub halted_is : now.halted ≡ false
-    pub rest : (es : List Fetched) (next : ℕ) (stop : FetchStop) → Fetches ram cycle left (now.capacity - length now.entries) now.next_pc es next stop → Fetches ram cycle old.width (old.capacity - length old.entries) old.next_pc (added ++ es) next stop
+    pub rest : (es : List Fetched) (next : ℕ) (stop : FetchStop) → Fetches answers ram cycle left (now.capacity - length now.entries) now.next_pc es next stop → Fetches answers ram cycle old.width (old.capacity - length old.entries) old.next_pc (added ++ es) next stop
 
   pub Fetching-begin : (old : FetchBuffer) → old.halted ≡ false → Fetching old old.width old
   Fetching-begin old runs = record { added = []; entries_are = sym (append-nil old.entries); capacity_is = refl; width_is = refl; halted_is = runs; rest = λ es next stop h. h }
@@ -58,7 +58,7 @@ module _ (ram : Memory) (cycle : ℕ) where
   less_room : (capacity : ℕ) (es : List Fetched) (e : Fetched) → length es < capacity → capacity - length es ≡ suc (capacity - length (es ++ e ∷ []))
   less_room capacity es e h = omega (arith, length-append es (e ∷ []))
 
-  step_in : (old now new : FetchBuffer) (left more : ℕ) (b : Bool) → nat_lt (length now.entries) now.capacity ≡ b → left ≡ suc more → Fetching old left now → MatchBool b ((e : Fetched) × IsFetchedAt ram cycle now.next_pc e × (None ≡ stop_behind e) × (new ≡ record now { entries = now.entries ++ e ∷ []; next_pc = e.predicted; halted = is_none e.word })) ((new ≡ now) × (None ≡ Some Room)) → Fetching old more new
+  step_in : (old now new : FetchBuffer) (left more : ℕ) (b : Bool) → nat_lt (length now.entries) now.capacity ≡ b → left ≡ suc more → Fetching old left now → MatchBool b ((e : Fetched) × IsFetchedAt answers ram cycle now.next_pc e × (None ≡ stop_behind e) × (new ≡ record now { entries = now.entries ++ e ∷ []; next_pc = e.predicted; halted = is_none e.word })) ((new ≡ now) × (None ≡ Some Room)) → Fetching old more new
   step_in old now new left more false full el f one = absurd (cc)
   step_in old now new left more true room el f (e, at, is, news) =
       let entries : new.entries ≡ now.entries ++ e ∷ [] = ap (λ b. b.entries) news in
@@ -74,31 +74,31 @@ module _ (ram : Memory) (cycle : ℕ) where
         width_is = width ∙ f.width_is;
         halted_is = halted ∙ runs_on e.word (nat_eq e.predicted (sequential e.pc)) (sym is);
         rest = λ es next stop h.
-            let Now : FetchBuffer → Type 0 = λ b. Fetches ram cycle more (b.capacity - length b.entries) b.next_pc es next stop in
-            let Left : ℕ → Type 0 = λ n. Fetches ram cycle n (now.capacity - length now.entries) now.next_pc (e ∷ es) next stop in
-            let Room : ℕ → Type 0 = λ r. Fetches ram cycle (suc more) r now.next_pc (e ∷ es) next stop in
+            let Now : FetchBuffer → Type 0 = λ b. Fetches answers ram cycle more (b.capacity - length b.entries) b.next_pc es next stop in
+            let Left : ℕ → Type 0 = λ n. Fetches answers ram cycle n (now.capacity - length now.entries) now.next_pc (e ∷ es) next stop in
+            let Room : ℕ → Type 0 = λ r. Fetches answers ram cycle (suc more) r now.next_pc (e ∷ es) next stop in
             let first = Fetches-more more (now.capacity - length (now.entries ++ e ∷ [])) now.next_pc e es next stop at (sym is) (subst Now news h) in
             rw append_assoc (f.rest (e ∷ es) next stop (subst Left (sym el) (subst Room (sym less) first)));
       }
 
-  pub Fetching-step : (old now new : FetchBuffer) (left more : ℕ) → left ≡ suc more → Fetching old left now → FetchesOne ram cycle now new None → Fetching old more new
+  pub Fetching-step : (old now new : FetchBuffer) (left more : ℕ) → left ≡ suc more → Fetching old left now → FetchesOne answers ram cycle now new None → Fetching old more new
   Fetching-step old now new left more el f one = step_in old now new left more (nat_lt (length now.entries) now.capacity) refl el f one
 
   -- ---- the end
-  into : (old new : FetchBuffer) (stop : FetchStop) (added : List Fetched) → old.halted ≡ false → Fetches ram cycle old.width (old.capacity - length old.entries) old.next_pc added new.next_pc stop → new.entries ≡ old.entries ++ added → new.capacity ≡ old.capacity → new.width ≡ old.width → new.halted ≡ is_halted stop → FetchesInto ram cycle old new stop
+  into : (old new : FetchBuffer) (stop : FetchStop) (added : List Fetched) → old.halted ≡ false → Fetches answers ram cycle old.width (old.capacity - length old.entries) old.next_pc added new.next_pc stop → new.entries ≡ old.entries ++ added → new.capacity ≡ old.capacity → new.width ≡ old.width → new.halted ≡ is_halted stop → FetchesInto answers ram cycle old new stop
   into old new stop added runs fetches e c w h =
-      let P : Bool → Type 0 = λ b. MatchBool b ((new ≡ old) × (stop ≡ Halted)) ((more : List Fetched) × Fetches ram cycle old.width (old.capacity - length old.entries) old.next_pc more new.next_pc stop × (new ≡ record old { entries = old.entries ++ more; next_pc = new.next_pc; halted = is_halted stop })) in
+      let P : Bool → Type 0 = λ b. MatchBool b ((new ≡ old) × (stop ≡ Halted)) ((more : List Fetched) × Fetches answers ram cycle old.width (old.capacity - length old.entries) old.next_pc more new.next_pc stop × (new ≡ record old { entries = old.entries ++ more; next_pc = new.next_pc; halted = is_halted stop })) in
       subst P (sym runs) (added, fetches, front_is new (old.entries ++ added) old.capacity old.width (is_halted stop) e c w h)
 
-  end_in : (old now new : FetchBuffer) (left more : ℕ) (stop : FetchStop) (b : Bool) → old.halted ≡ false → nat_lt (length now.entries) now.capacity ≡ b → left ≡ suc more → Fetching old left now → MatchBool b ((e : Fetched) × IsFetchedAt ram cycle now.next_pc e × (Some stop ≡ stop_behind e) × (new ≡ record now { entries = now.entries ++ e ∷ []; next_pc = e.predicted; halted = is_none e.word })) ((new ≡ now) × (Some stop ≡ Some Room)) → FetchesInto ram cycle old new stop
+  end_in : (old now new : FetchBuffer) (left more : ℕ) (stop : FetchStop) (b : Bool) → old.halted ≡ false → nat_lt (length now.entries) now.capacity ≡ b → left ≡ suc more → Fetching old left now → MatchBool b ((e : Fetched) × IsFetchedAt answers ram cycle now.next_pc e × (Some stop ≡ stop_behind e) × (new ≡ record now { entries = now.entries ++ e ∷ []; next_pc = e.predicted; halted = is_none e.word })) ((new ≡ now) × (Some stop ≡ Some Room)) → FetchesInto answers ram cycle old new stop
   end_in old now new left more stop false runs full el f one =
       let why : stop ≡ Room = cc in
       let none : now.capacity - length now.entries ≡ 0 = omega (arith, lt_fails (length now.entries) now.capacity full) in
-      let Left : ℕ → Type 0 = λ n. Fetches ram cycle n (now.capacity - length now.entries) now.next_pc [] now.next_pc Room in
-      let Free : ℕ → Type 0 = λ r. Fetches ram cycle (suc more) r now.next_pc [] now.next_pc Room in
+      let Left : ℕ → Type 0 = λ n. Fetches answers ram cycle n (now.capacity - length now.entries) now.next_pc [] now.next_pc Room in
+      let Free : ℕ → Type 0 = λ r. Fetches answers ram cycle (suc more) r now.next_pc [] now.next_pc Room in
       let whole = f.rest [] now.next_pc Room (subst Left (sym el) (subst Free (sym none) (refl, refl))) in
-      let same : FetchesInto ram cycle old now Room = into old now Room (f.added ++ []) runs whole (f.entries_are ∙ ap (λ l. old.entries ++ l) (sym (append-nil f.added))) f.capacity_is f.width_is f.halted_is in
-      let P : FetchBuffer → Type 0 = λ b. FetchesInto ram cycle old b stop in
+      let same : FetchesInto answers ram cycle old now Room = into old now Room (f.added ++ []) runs whole (f.entries_are ∙ ap (λ l. old.entries ++ l) (sym (append-nil f.added))) f.capacity_is f.width_is f.halted_is in
+      let P : FetchBuffer → Type 0 = λ b. FetchesInto answers ram cycle old b stop in
       subst P (sym one.0) (rw why same)
   end_in old now new left more stop true runs room el f (e, at, is, news) =
       let entries : new.entries ≡ now.entries ++ e ∷ [] = ap (λ b. b.entries) news in
@@ -107,8 +107,8 @@ module _ (ram : Memory) (cycle : ℕ) where
       let halted : new.halted ≡ is_none e.word = ap (λ b. b.halted) news in
       let width : new.width ≡ now.width = ap (λ b. b.width) news in
       let less = less_room now.capacity now.entries e (lt_holds _ _ room) in
-      let Left : ℕ → Type 0 = λ n. Fetches ram cycle n (now.capacity - length now.entries) now.next_pc (e ∷ []) e.predicted stop in
-      let Free : ℕ → Type 0 = λ r. Fetches ram cycle (suc more) r now.next_pc (e ∷ []) e.predicted stop in
+      let Left : ℕ → Type 0 = λ n. Fetches answers ram cycle n (now.capacity - length now.entries) now.next_pc (e ∷ []) e.predicted stop in
+      let Free : ℕ → Type 0 = λ r. Fetches answers ram cycle (suc more) r now.next_pc (e ∷ []) e.predicted stop in
       let last = Fetches-last more (now.capacity - length (now.entries ++ e ∷ [])) now.next_pc e stop at (sym is) in
       let whole = f.rest (e ∷ []) e.predicted stop (subst Left (sym el) (subst Free (sym less) last)) in
       into old new stop (f.added ++ e ∷ []) runs (rw next_pc whole)
@@ -116,12 +116,12 @@ module _ (ram : Memory) (cycle : ℕ) where
       (capacity ∙ f.capacity_is) (width ∙ f.width_is)
       (halted ∙ ends e.word (nat_eq e.predicted (sequential e.pc)) stop (sym is))
 
-  pub Fetching-end : (old now new : FetchBuffer) (left more : ℕ) (stop : FetchStop) → old.halted ≡ false → left ≡ suc more → Fetching old left now → FetchesOne ram cycle now new (Some stop) → FetchesInto ram cycle old new stop
+  pub Fetching-end : (old now new : FetchBuffer) (left more : ℕ) (stop : FetchStop) → old.halted ≡ false → left ≡ suc more → Fetching old left now → FetchesOne answers ram cycle now new (Some stop) → FetchesInto answers ram cycle old new stop
   Fetching-end old now new left more stop runs el f one = end_in old now new left more stop (nat_lt (length now.entries) now.capacity) runs refl el f one
 
-  pub Fetching-all : (old now : FetchBuffer) (left : ℕ) → old.halted ≡ false → left ≡ 0 → Fetching old left now → FetchesInto ram cycle old now Width
+  pub Fetching-all : (old now : FetchBuffer) (left : ℕ) → old.halted ≡ false → left ≡ 0 → Fetching old left now → FetchesInto answers ram cycle old now Width
   Fetching-all old now left runs el f =
-      let Left : ℕ → Type 0 = λ n. Fetches ram cycle n (now.capacity - length now.entries) now.next_pc [] now.next_pc Width in
+      let Left : ℕ → Type 0 = λ n. Fetches answers ram cycle n (now.capacity - length now.entries) now.next_pc [] now.next_pc Width in
       let whole = f.rest [] now.next_pc Width (subst Left (sym el) (refl, refl)) in
       into old now Width (f.added ++ []) runs whole (f.entries_are ∙ ap (λ l. old.entries ++ l) (sym (append-nil f.added))) f.capacity_is f.width_is f.halted_is
 

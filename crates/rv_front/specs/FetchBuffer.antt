@@ -1,5 +1,6 @@
 -- The front as a list of fetched words, and what a cycle's fetch adds to it.
-use Rattle.std.specs.Prelude.{◌≡◌, ℕ, zero, suc, ◌+◌, ◌-◌, ◌%◌, ◌^◌, Bool, true, false, ◌==◌, ◌&&◌, nat_le, nat_lt, is_none, List, [], ◌∷◌, ◌++◌, length, Option, Some, None, MatchBool, MatchOption, if◌then◌else◌}
+use Rattle.std.specs.Prelude.{◌≡◌, ℕ, zero, suc, ◌+◌, ◌-◌, ◌*◌, ◌/◌, ◌%◌, ◌^◌, ◌<◌, Bool, true, false, ◌==◌, ◌&&◌, nat_le, nat_lt, is_none, List, [], ◌∷◌, ◌++◌, length, Option, Some, None, MatchBool, MatchOption, option_and_then, if◌then◌else◌}
+use Rattle.rv_decode.specs.Decodes.{instruction_of}
 use Rattle.rv_memory.specs.Ram.{Memory}
 use Rattle.rv_memory.specs.Bytes.{word_at}
 use Rattle.rv_front.specs.declared.fetched.Fetched.{Fetched}
@@ -41,12 +42,29 @@ fetched_word ram pc =
     then Some (word_at ram.bytes (pc - ram.base))
     else None
 
--- the entry that the fetch of the word at a pc makes, whatever the prediction
-pub record IsFetchedAt (ram : Memory) (cycle pc : ℕ) (entry : Fetched) : Type 0 where
+-- what a predictor may answer: its answers by a pc and the word there
+abbrev pub Answers : Type 1
+Answers = ℕ → ℕ → ℕ → Type 0
+
+-- a guess of what comes behind the word at a pc: the predictor's answer, or the next address where there is no word to ask it of
+abbrev pub IsGuess : Answers → ℕ → Option ℕ → ℕ → Type 0
+IsGuess answers pc None next = next ≡ sequential pc
+IsGuess answers pc (Some word) next = answers pc word next
+
+-- the prediction behind a word: a guess, which is an address, rounded down to a multiple of 4
+pub record IsPrediction (answers : Answers) (pc : ℕ) (word : Option ℕ) (predicted : ℕ) : Type 0 where
+  pub guess : ℕ
+  pub guessed : IsGuess answers pc word guess
+  pub fits : guess < 2 ^ 32
+  pub rounded : predicted ≡ guess / 4 * 4
+
+-- the entry that the fetch of the word at a pc makes
+pub record IsFetchedAt (answers : Answers) (ram : Memory) (cycle pc : ℕ) (entry : Fetched) : Type 0 where
   pub pc_is : entry.pc ≡ pc
   pub word_is : entry.word ≡ fetched_word ram pc
+  pub instruction_is : entry.instruction ≡ option_and_then instruction_of entry.word
+  pub predicted_is : IsPrediction answers pc entry.word entry.predicted
   pub cycle_is : entry.cycle ≡ cycle
-  pub aligned : entry.predicted % 4 ≡ 0
 
 -- why a fetch ends with a word: RAM gives none, or the prediction is not the address behind it
 abbrev pub stop_for : Option ℕ → Bool → Option FetchStop
@@ -64,14 +82,14 @@ EndsFor (suc width) zero stop = stop ≡ Room
 EndsFor (suc width) (suc room) stop = ⊥
 
 -- the words that a fetch adds, from a pc on, where it may take `width` and has room for `room`
-abbrev pub Fetches : Memory → ℕ → ℕ → ℕ → ℕ → List Fetched → ℕ → FetchStop → Type 0
-Fetches ram cycle width room pc [] next stop = EndsFor width room stop × (next ≡ pc)
-Fetches ram cycle zero room pc (e ∷ es) next stop = ⊥
-Fetches ram cycle (suc width) zero pc (e ∷ es) next stop = ⊥
-Fetches ram cycle (suc width) (suc room) pc (e ∷ es) next stop =
-    IsFetchedAt ram cycle pc e ×
+abbrev pub Fetches : Answers → Memory → ℕ → ℕ → ℕ → ℕ → List Fetched → ℕ → FetchStop → Type 0
+Fetches answers ram cycle width room pc [] next stop = EndsFor width room stop × (next ≡ pc)
+Fetches answers ram cycle zero room pc (e ∷ es) next stop = ⊥
+Fetches answers ram cycle (suc width) zero pc (e ∷ es) next stop = ⊥
+Fetches answers ram cycle (suc width) (suc room) pc (e ∷ es) next stop =
+    IsFetchedAt answers ram cycle pc e ×
     MatchOption (stop_behind e)
-    (Fetches ram cycle width room e.predicted es next stop)
+    (Fetches answers ram cycle width room e.predicted es next stop)
     (λ reason. (es ≡ []) × (next ≡ e.predicted) × (stop ≡ reason))
 
 -- whether a fetch that ended so halts the front
@@ -82,20 +100,20 @@ is_halted Prediction = false
 is_halted Halted = true
 
 -- a cycle's fetch: a halted front stays as it is; any other keeps its words, and the new ones come behind them
-abbrev pub FetchesInto : Memory → ℕ → FetchBuffer → FetchBuffer → FetchStop → Type 0
-FetchesInto ram cycle old new stop =
+abbrev pub FetchesInto : Answers → Memory → ℕ → FetchBuffer → FetchBuffer → FetchStop → Type 0
+FetchesInto answers ram cycle old new stop =
     MatchBool old.halted
     ((new ≡ old) × (stop ≡ Halted))
     ((added : List Fetched) ×
-    Fetches ram cycle old.width (old.capacity - length old.entries) old.next_pc added new.next_pc stop ×
+    Fetches answers ram cycle old.width (old.capacity - length old.entries) old.next_pc added new.next_pc stop ×
     (new ≡ record old { entries = old.entries ++ added; next_pc = new.next_pc; halted = is_halted stop }))
 
 -- the fetch of one word where there is room, and why the fetch ends with it or, where there is none, without it
-abbrev pub FetchesOne : Memory → ℕ → FetchBuffer → FetchBuffer → Option FetchStop → Type 0
-FetchesOne ram cycle old new stop =
+abbrev pub FetchesOne : Answers → Memory → ℕ → FetchBuffer → FetchBuffer → Option FetchStop → Type 0
+FetchesOne answers ram cycle old new stop =
     MatchBool (nat_lt (length old.entries) old.capacity)
     ((e : Fetched) ×
-    IsFetchedAt ram cycle old.next_pc e ×
+    IsFetchedAt answers ram cycle old.next_pc e ×
     (stop ≡ stop_behind e) ×
     (new ≡ record old { entries = old.entries ++ e ∷ []; next_pc = e.predicted; halted = is_none e.word }))
     ((new ≡ old) × (stop ≡ Some Room))

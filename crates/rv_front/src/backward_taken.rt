@@ -10,6 +10,8 @@ use crate::predictor::Predictor;
 pub struct BackwardTaken;
 
 impl Predictor for BackwardTaken {
+    ghost answers = { λ _ pc word next. next ≡ backward_taken pc (flow_at pc word) };
+
     fn predict(&self, pc: u32, word: u32) -> u32
         ensures { result ≡ backward_taken pc (flow_at pc word) }
     {

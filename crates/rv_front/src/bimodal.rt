@@ -52,6 +52,8 @@ impl Bimodal {
 }
 
 impl Predictor for Bimodal {
+    ghost answers = { λ tables pc word next. next ≡ bimodal tables pc (flow_at pc word) };
+
     fn predict(&self, pc: u32, word: u32) -> u32
         ensures { result ≡ bimodal self.now pc (flow_at pc word) }
     {

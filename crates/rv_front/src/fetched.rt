@@ -1,6 +1,8 @@
 ghost use Rattle.std.specs.Prelude.{◌≡◌};
 ghost use Rattle.rv_front.specs.FetchBuffer.{stop_behind};
 
+use rv_isa::Instr;
+
 /// A word in the fetch buffer.
 #[derive(Clone, Copy, Debug, PartialEq, Eq)]
 pub struct Fetched {
@@ -8,6 +10,8 @@ pub struct Fetched {
     pub pc: u32,
     /// What RAM held there at that moment, None outside RAM: an access fault.
     pub word: Option<u32>,
+    /// The instruction that the word is, None where there is no word or it is illegal.
+    pub instruction: Option<Instr>,
     /// The predicted pc of the next instruction, a multiple of 4.
     pub predicted: u32,
     /// The cycle of its fetch.

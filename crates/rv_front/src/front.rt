@@ -1,9 +1,10 @@
-ghost use Rattle.std.specs.Prelude.{◌≡◌, ◌<◌, [], ◌∷◌, length, drop, slice_get, Some, IfOk, false};
+ghost use Rattle.std.specs.Prelude.{◌≡◌, ◌<◌, [], ◌∷◌, length, drop, slice_get, Some, option_copied, IfOk, false};
 ghost use Rattle.rv_front.specs.FetchBuffer.{FetchesInto, FetchesOne, IsChain, IsFetchedAt, head_pc};
 
 use crate::fetched::{FetchStop, Fetched};
 use crate::predictor::Predictor;
 use circular_buffer::HeapCircularBuffer;
+use rv_decode::decode;
 use rv_isa::Description;
 use rv_memory::Ram;
 use std::alloc::{AllocError, Global};
@@ -49,7 +50,7 @@ impl Front {
     /// It stops behind a prediction other than pc + 4. A pc outside RAM gives an entry without a word, for which the
     /// predictor is not asked, and halts the front until it is redirected.
     pub fn fetch(&mut self, cycle: u64, ram: &Ram, predictor: &dyn Predictor) -> FetchStop
-        ensures fetched { FetchesInto ram.now cycle self.old self.new result }
+        ensures fetched { FetchesInto (answers predictor.now) ram.now cycle self.old self.new result }
         ensures chain { IsChain self.new }
     {
         if self.halted {
@@ -66,24 +67,24 @@ impl Front {
 
     // Fetches one word where there is room, and tells why the fetch ends with it or, where there is none, without it.
     fn fetch_next(&mut self, cycle: u64, ram: &Ram, predictor: &dyn Predictor) -> Option<FetchStop>
-        ensures fetched { FetchesOne ram.now cycle self.old self.new result }
+        ensures fetched { FetchesOne (answers predictor.now) ram.now cycle self.old self.new result }
         ensures chain { IsChain self.new }
     {
         if self.ring.len() >= self.ring.capacity() {
             return Some(FetchStop::Room);
         }
         let fetched = fetch_word(self.next_pc, cycle, ram, predictor);
-        self.ring.push_back(fetched);
+        self.ring.extend_from_slice(&[fetched]);
         self.next_pc = fetched.predicted;
         self.halted = fetched.word.is_none();
         fetched.stop()
     }
 
     /// The oldest word of the buffer, if there is one.
-    pub fn peek(&self) -> Option<Fetched>
-        ensures { result ≡ slice_get self.now.entries 0 }
+    pub fn peek(&self) -> Option<&Fetched>
+        ensures { option_copied result ≡ slice_get self.now.entries 0 }
     {
-        self.ring.front().copied()
+        self.ring.front()
     }
 
     /// Takes the oldest word out of the buffer.
@@ -94,7 +95,9 @@ impl Front {
         // What comes next is at the pc that it predicts.
         ensures chain { head_pc self.new ≡ result.predicted }
     {
-        self.ring.pop_front().unwrap()
+        let oldest = *self.ring.front().unwrap();
+        self.ring.pop_front();
+        oldest
     }
 
     /// Empties the buffer, and fetches from `pc` on.
@@ -109,7 +112,7 @@ impl Front {
 
 // The word at a pc, and where the predictor says that the program goes on.
 fn fetch_word(pc: u32, cycle: u64, ram: &Ram, predictor: &dyn Predictor) -> Fetched
-    ensures { IsFetchedAt ram.now cycle pc result }
+    ensures { IsFetchedAt (answers predictor.now) ram.now cycle pc result }
 {
     let word = ram.fetch(pc);
     let next = match word {
@@ -119,6 +122,7 @@ fn fetch_word(pc: u32, cycle: u64, ram: &Ram, predictor: &dyn Predictor) -> Fetc
     Fetched {
         pc,
         word,
+        instruction: word.and_then(|word| decode(word)),
         predicted: next / 4 * 4,
         cycle,
     }

@@ -10,6 +10,8 @@ use crate::predictor::Predictor;
 pub struct NotTaken;
 
 impl Predictor for NotTaken {
+    ghost answers = { λ _ pc word next. next ≡ not_taken pc (flow_at pc word) };
+
     fn predict(&self, pc: u32, word: u32) -> u32
         ensures { result ≡ not_taken pc (flow_at pc word) }
     {

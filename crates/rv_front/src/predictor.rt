@@ -1,9 +1,15 @@
+ghost use Rattle.std.specs.Prelude.{ℕ};
+
 /// What guesses where the program goes on behind each fetched word.
 ///
-/// Nothing is promised of the answers: whoever uses a predictor is right for every one.
+/// Nothing is asked of the answers: whoever uses a predictor is right for every one.
 pub trait Predictor: Drop {
+    // What it may answer for a pc and the word there.
+    ghost answers: { Self → ℕ → ℕ → ℕ → Type 0 };
+
     /// Guesses the pc of the instruction behind the one whose word was fetched at `pc`.
-    fn predict(&self, pc: u32, word: u32) -> u32;
+    fn predict(&self, pc: u32, word: u32) -> u32
+        ensures { answers self.now pc word result };
 
     /// Learns that the instruction with this word, at `pc`, retired and went on at `next`.
     fn learn(&mut self, pc: u32, word: u32, next: u32);

@@ -118,6 +118,8 @@ fn fetch_follows_the_predictions_until_the_buffer_is_full(rt: HostRuntime) -> Re
 struct Always(u32);
 
 impl Predictor for Always {
+    ghost answers = { λ predictor _ _ next. next ≡ predictor.0 };
+
     fn predict(&self, _pc: u32, _word: u32) -> u32 {
         self.0
     }

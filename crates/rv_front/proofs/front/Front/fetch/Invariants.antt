@@ -5,7 +5,7 @@ use Rattle.rv_front.proofs.front.Front.fetch.Given as goal
 
 abbrev pub invariant-loop : goal.invariant-loop
 invariant-loop g l = record {
-  fetching : Fetching l.ram l.cycle l.fn.self (l.width - l.counter) l.self;
+  fetching : Fetching ((goal.Predictor-dyn g l.predictor.now).answers l.predictor.now.1) l.ram l.cycle l.fn.self (l.width - l.counter) l.self;
   width : l.width ≡ l.fn.self.width;
   chained : IsLinked l.self.entries l.self.next_pc;
 }

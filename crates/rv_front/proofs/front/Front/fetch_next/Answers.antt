@@ -9,7 +9,7 @@ invariant_of-self g c =
     let items = c.self.inside.ring.items in
     let fetched = c.fetch_word-fetched.result in
     let room : length items < c.self.inside.ring.capacity = omega (arith, c.len.ensures.len, c.capacity.ensures.capacity, c.if-len-capacity.false) in
-    let pushed : c.push_back.new.self.items ≡ items ++ fetched ∷ [] = ap (λ b. b.items) c.push_back.ensures.items ∙ keep_last-room c.self.inside.ring.capacity items fetched room in
+    let pushed : c.extend_from_slice.new.self.items ≡ items ++ fetched ∷ [] = ap (λ b. b.items) c.extend_from_slice.ensures ∙ keep_last-room c.self.inside.ring.capacity items fetched room in
     let Linked : List Fetched → Type 0 = λ es. IsLinked es fetched.predicted in
     subst Linked (sym pushed) (IsLinked-push items fetched c.self.inside.next_pc c.fetch_word-fetched.ensures.pc_is c.self.invariant)
 
