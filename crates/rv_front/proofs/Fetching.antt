@@ -3,11 +3,12 @@ use Rattle.std.proofs.Common.{◌≡◌, ℕ, suc, ◌-◌, ◌<◌, ◌≤◌, 
 use Rattle.std.proofs.lemmas.List.{append-nil}
 use Rattle.std.proofs.lemmas.Bool.Decides.{nat_tests}
 use Rattle.circular_buffer.specs.Buffer.{keep_last}
+use Rattle.rv_isa.specs.Word.{pc_plus_4}
 use Rattle.rv_memory.specs.Ram.{Memory}
 use Rattle.rv_front.specs.declared.fetched.Fetched.{Fetched}
 use Rattle.rv_front.specs.declared.fetched.FetchStop.{FetchStop}
 use Rattle.rv_front.specs.declared.fetched.FetchStop.TheVariants.{Width, Room, Prediction, Halted}
-use Rattle.rv_front.specs.FetchBuffer.{Answers, FetchBuffer, Fetches, FetchesInto, FetchesOne, IsFetchedAt, IsLinked, is_halted, sequential, stop_behind, stop_for}
+use Rattle.rv_front.specs.FetchBuffer.{Answers, FetchBuffer, Fetches, FetchesInto, FetchesOne, IsFetchedAt, IsLinked, is_halted, stop_behind, stop_for}
 
 lt_holds : (a b : ℕ) → nat_lt a b ≡ true → a < b
 lt_holds a b h = grind (arith, nat_tests)
@@ -72,7 +73,7 @@ module _ (answers : Answers) (ram : Memory) (cycle : ℕ) where
         entries_are = entries ∙ (ap (λ l. l ++ e ∷ []) f.entries_are ∙ append_assoc old.entries f.added (e ∷ []));
         capacity_is = capacity ∙ f.capacity_is;
         width_is = width ∙ f.width_is;
-        halted_is = halted ∙ runs_on e.word (nat_eq e.predicted (sequential e.pc)) (sym is);
+        halted_is = halted ∙ runs_on e.word (nat_eq e.predicted (pc_plus_4 e.pc)) (sym is);
         rest = λ es next stop h.
             let Now : FetchBuffer → Type 0 = λ b. Fetches answers ram cycle more (b.capacity - length b.entries) b.next_pc es next stop in
             let Left : ℕ → Type 0 = λ n. Fetches answers ram cycle n (now.capacity - length now.entries) now.next_pc (e ∷ es) next stop in
@@ -114,7 +115,7 @@ module _ (answers : Answers) (ram : Memory) (cycle : ℕ) where
       into old new stop (f.added ++ e ∷ []) runs (rw next_pc whole)
       (entries ∙ (ap (λ l. l ++ e ∷ []) f.entries_are ∙ append_assoc old.entries f.added (e ∷ [])))
       (capacity ∙ f.capacity_is) (width ∙ f.width_is)
-      (halted ∙ ends e.word (nat_eq e.predicted (sequential e.pc)) stop (sym is))
+      (halted ∙ ends e.word (nat_eq e.predicted (pc_plus_4 e.pc)) stop (sym is))
 
   pub Fetching-end : (old now new : FetchBuffer) (left more : ℕ) (stop : FetchStop) → old.halted ≡ false → left ≡ suc more → Fetching old left now → FetchesOne answers ram cycle now new (Some stop) → FetchesInto answers ram cycle old new stop
   Fetching-end old now new left more stop runs el f one = end_in old now new left more stop (nat_lt (length now.entries) now.capacity) runs refl el f one

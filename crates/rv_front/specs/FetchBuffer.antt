@@ -1,5 +1,6 @@
 -- The front as a list of fetched words, and what a cycle's fetch adds to it.
-use Rattle.std.specs.Prelude.{◌≡◌, ℕ, zero, suc, ◌+◌, ◌-◌, ◌*◌, ◌/◌, ◌%◌, ◌^◌, ◌<◌, Bool, true, false, ◌==◌, ◌&&◌, nat_le, nat_lt, is_none, List, [], ◌∷◌, ◌++◌, length, Option, Some, None, MatchBool, MatchOption, option_and_then, if◌then◌else◌}
+use Rattle.std.specs.Prelude.{◌≡◌, ℕ, zero, suc, ◌+◌, ◌-◌, ◌*◌, ◌/◌, ◌^◌, ◌<◌, Bool, true, false, ◌==◌, ◌&&◌, nat_le, nat_lt, is_none, List, [], ◌∷◌, ◌++◌, length, Option, Some, None, MatchBool, MatchOption, option_and_then, if◌then◌else◌}
+use Rattle.rv_isa.specs.Word.{pc_plus_4}
 use Rattle.rv_decode.specs.Decodes.{instruction_of}
 use Rattle.rv_memory.specs.Ram.{Memory}
 use Rattle.rv_memory.specs.Bytes.{word_at}
@@ -14,10 +15,6 @@ pub record FetchBuffer : Type 0 where
   pub width : ℕ
   pub next_pc : ℕ
   pub halted : Bool
-
--- the address of the word behind the one at a pc
-abbrev pub sequential : ℕ → ℕ
-sequential pc = (pc + 4) % 2 ^ 32
 
 -- the pc of the oldest of some words, or the one to be fetched next where there is none
 abbrev pub first_pc : List Fetched → ℕ → ℕ
@@ -48,7 +45,7 @@ Answers = ℕ → ℕ → ℕ → Type 0
 
 -- a guess of what comes behind the word at a pc: the predictor's answer, or the next address where there is no word to ask it of
 abbrev pub IsGuess : Answers → ℕ → Option ℕ → ℕ → Type 0
-IsGuess answers pc None next = next ≡ sequential pc
+IsGuess answers pc None next = next ≡ pc_plus_4 pc
 IsGuess answers pc (Some word) next = answers pc word next
 
 -- the prediction behind a word: a guess, which is an address, rounded down to a multiple of 4
@@ -73,7 +70,7 @@ stop_for (Some word) true = None
 stop_for (Some word) false = Some Prediction
 
 abbrev pub stop_behind : Fetched → Option FetchStop
-stop_behind e = stop_for e.word (e.predicted == sequential e.pc)
+stop_behind e = stop_for e.word (e.predicted == pc_plus_4 e.pc)
 
 -- why a fetch ends that takes no more words, where it may take `width` and has room for `room`
 abbrev pub EndsFor : ℕ → ℕ → FetchStop → Type 0

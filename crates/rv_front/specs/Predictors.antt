@@ -1,23 +1,23 @@
 -- What the three predictors answer, and what the bimodal one learns.
 use Rattle.std.specs.Prelude.{ℕ, ◌+◌, ◌-◌, ◌/◌, ◌%◌, min, Bool, true, false, not, ◌==◌, nat_le, List, length, slice_index, slice_set, Option, Some, None, unwrap_or, if◌then◌else◌}
 use Rattle.std.specs.List.{slice_index_or}
+use Rattle.rv_isa.specs.Word.{pc_plus_4}
 use Rattle.rv_front.specs.declared.flow.Flow.{Flow}
 use Rattle.rv_front.specs.declared.flow.Flow.TheVariants.{Sequential, Jump, Branch, Indirect}
-use Rattle.rv_front.specs.FetchBuffer.{sequential}
 
 -- no branch is taken, and a register's target is unknown
 abbrev pub not_taken : ℕ → Flow → ℕ
-not_taken pc Sequential = sequential pc
+not_taken pc Sequential = pc_plus_4 pc
 not_taken pc (Jump target) = target
-not_taken pc (Branch target backward) = sequential pc
-not_taken pc Indirect = sequential pc
+not_taken pc (Branch target backward) = pc_plus_4 pc
+not_taken pc Indirect = pc_plus_4 pc
 
 -- a branch with a negative offset is taken
 abbrev pub backward_taken : ℕ → Flow → ℕ
-backward_taken pc Sequential = sequential pc
+backward_taken pc Sequential = pc_plus_4 pc
 backward_taken pc (Jump target) = target
-backward_taken pc (Branch target backward) = if backward then target else sequential pc
-backward_taken pc Indirect = sequential pc
+backward_taken pc (Branch target backward) = if backward then target else pc_plus_4 pc
+backward_taken pc Indirect = pc_plus_4 pc
 
 -- a counter from 0 to 3 for each place, and the last target that a register led to from there
 pub record Tables : Type 0 where
@@ -36,10 +36,10 @@ target_at tables pc = slice_index_or tables.targets (place_of tables pc) None
 
 -- a branch is taken where its counter is 2 or 3, and a register leads where it last did
 abbrev pub bimodal : Tables → ℕ → Flow → ℕ
-bimodal tables pc Sequential = sequential pc
+bimodal tables pc Sequential = pc_plus_4 pc
 bimodal tables pc (Jump target) = target
-bimodal tables pc (Branch target backward) = if nat_le 2 (counter_at tables pc) then target else sequential pc
-bimodal tables pc Indirect = unwrap_or (target_at tables pc) (sequential pc)
+bimodal tables pc (Branch target backward) = if nat_le 2 (counter_at tables pc) then target else pc_plus_4 pc
+bimodal tables pc Indirect = unwrap_or (target_at tables pc) (pc_plus_4 pc)
 
 -- a counter after a branch, which goes up to 3 where the branch was taken, else down to 0
 abbrev pub counted : Bool → ℕ → ℕ
@@ -51,5 +51,5 @@ abbrev pub learned : Tables → ℕ → ℕ → Flow → Tables
 learned tables pc next Sequential = tables
 learned tables pc next (Jump target) = tables
 learned tables pc next (Branch target backward) =
-    record tables { counters = slice_set tables.counters (place_of tables pc) (counted (not (next == sequential pc)) (counter_at tables pc)) }
+    record tables { counters = slice_set tables.counters (place_of tables pc) (counted (not (next == pc_plus_4 pc)) (counter_at tables pc)) }
 learned tables pc next Indirect = record tables { targets = slice_set tables.targets (place_of tables pc) (Some next) }

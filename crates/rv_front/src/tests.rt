@@ -1,5 +1,6 @@
 use super::*;
-use rv_isa::{Description, Values};
+use rv_decode::decode;
+use rv_isa::{Description, Instr, Values};
 use rv_memory::Ram;
 use std::test::Fail;
 
@@ -84,6 +85,17 @@ fn ram_and_front(rt: &HostRuntime, words: &[u32]) -> Result<(Ram, Front), Fail> 
     Ok((ram, front))
 }
 
+// The entry of a word, whose instruction is what the word decodes to.
+fn entry(pc: u32, word: Option<u32>, predicted: u32, cycle: u64) -> Fetched {
+    Fetched {
+        pc,
+        word,
+        instruction: word.and_then(|word| decode(word)),
+        predicted,
+        cycle,
+    }
+}
+
 #[test]
 fn fetch_follows_the_predictions_until_the_buffer_is_full(rt: HostRuntime) -> Result<(), Fail> {
     let (ram, mut front) = ram_and_front(&rt, &[NOP, JAL, NOP, NOP, NOP])?;
@@ -96,13 +108,8 @@ fn fetch_follows_the_predictions_until_the_buffer_is_full(rt: HostRuntime) -> Re
         (BASE + 4, JAL, BASE + 12, 0),
         (BASE + 12, NOP, BASE + 16, 1),
     ] {
-        let expected = Fetched {
-            pc,
-            word: Some(word),
-            predicted,
-            cycle,
-        };
-        assert_eq!(rt; front.peek(), Some(expected));
+        let expected = entry(pc, Some(word), predicted, cycle);
+        assert_eq!(rt; front.peek(), Some(&expected));
         front.take();
     }
     let mut stop = FetchStop::Width;
@@ -134,25 +141,24 @@ fn a_prediction_outside_ram_halts_the_fetch_until_a_redirect(rt: HostRuntime) ->
     assert_eq!(rt; front.fetch(0, &ram, &predictor), FetchStop::Prediction);
     assert_eq!(rt; front.fetch(1, &ram, &predictor), FetchStop::Halted);
     assert_eq!(rt; front.fetch(2, &ram, &predictor), FetchStop::Halted);
-    let word = Fetched {
-        pc: BASE,
-        word: Some(NOP),
-        predicted: 0xffff_fffc,
-        cycle: 0,
-    };
-    let fault = Fetched {
-        pc: 0xffff_fffc,
-        word: None,
-        predicted: 0,
-        cycle: 1,
-    };
+    let word = entry(BASE, Some(NOP), 0xffff_fffc, 0);
+    let fault = entry(0xffff_fffc, None, 0, 1);
     for expected in [word, fault] {
-        assert_eq!(rt; front.peek(), Some(expected));
+        assert_eq!(rt; front.peek(), Some(&expected));
         front.take();
     }
     assert_eq!(rt; front.peek(), None);
     front.redirect(BASE + 4);
     assert_eq!(rt; front.fetch(3, &ram, &predictor), FetchStop::Prediction);
     assert_eq!(rt; front.peek().map(|fetched| fetched.pc), Some(BASE + 4));
+    Ok(())
+}
+
+#[test]
+fn fetch_decodes_each_word(rt: HostRuntime) -> Result<(), Fail> {
+    let (ram, mut front) = ram_and_front(&rt, &[0, 0x0000_0073])?;
+    front.fetch(0, &ram, &NotTaken);
+    assert_eq!(rt; front.take().instruction, None);
+    assert_eq!(rt; front.take().instruction, Some(Instr::Ecall));
     Ok(())
 }
