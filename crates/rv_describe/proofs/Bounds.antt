@@ -7,8 +7,8 @@ use Rattle.std.proofs.lemmas.Bool.{cases_Bool, and_parts}
 use Rattle.std.proofs.lemmas.Bool.Decides.{nat_tests}
 use Rattle.toml.specs.Data.{Members, as_integer, table, string, integer, float, boolean, datetime, array}
 use Rattle.rv_isa.specs.Description.{Within}
-use Rattle.rv_describe.specs.declared.faults.Fault.{Fault}
-use Rattle.rv_describe.specs.declared.faults.Fault.TheVariants.{OutOfRange, NotPowerOfTwo}
+use Rattle.rv_describe.specs.declared.faults.ValueFault.{ValueFault}
+use Rattle.rv_describe.specs.declared.faults.ValueFault.TheVariants.{OutOfRange, NotPowerOfTwo}
 use Rattle.rv_describe.specs.declared.key.Key.{Key}
 use Rattle.rv_describe.specs.declared.rule.Bounds.{Bounds}
 use Rattle.rv_describe.specs.declared.rule.Bounds.TheVariants.{Whole, Pages, Words, Powers, Front}
@@ -43,7 +43,7 @@ bounds_fault-number t key bounds default rule none base =
     held_number bounds (ram_size_of t) (held t (row_of key)) default (rw rule at none) base
 
 -- a test without a fault passes
-passed : (test : Bool) (fault : Fault) → unless test fault ≡ None → test ≡ true
+passed : (test : Bool) (fault : ValueFault) → unless test fault ≡ None → test ≡ true
 passed true fault none = refl
 passed false fault none = absurd (cc)
 

@@ -7,8 +7,8 @@ use Rattle.toml.specs.Data.{Members}
 use Rattle.rv_isa.specs.declared.values.Values.{Values}
 use Rattle.rv_describe.specs.declared.description_error.DescriptionError.{DescriptionError}
 use Rattle.rv_describe.specs.declared.description_error.DescriptionError.TheVariants as error
-use Rattle.rv_describe.specs.declared.faults.Fault.{Fault}
-use Rattle.rv_describe.specs.declared.faults.Fault.TheVariants.{WrongKind, OutOfRange, NotPowerOfTwo}
+use Rattle.rv_describe.specs.declared.faults.ValueFault.{ValueFault}
+use Rattle.rv_describe.specs.declared.faults.ValueFault.TheVariants.{WrongKind, OutOfRange, NotPowerOfTwo}
 use Rattle.rv_describe.specs.declared.key.Key.{Key}
 use Rattle.rv_describe.specs.Description.{first_error, described, description_of}
 use Rattle.rv_describe.specs.Document.{document}
@@ -34,13 +34,13 @@ none_at test start (y ∷ ys) (suc i) x none here =
     ]
 
 -- none of the three faults is no fault
-no_fault : (found : Option Fault) → is_fault WrongKind found ≡ false → is_fault OutOfRange found ≡ false → is_fault NotPowerOfTwo found ≡ false → found ≡ None
+no_fault : (found : Option ValueFault) → is_fault WrongKind found ≡ false → is_fault OutOfRange found ≡ false → is_fault NotPowerOfTwo found ≡ false → found ≡ None
 no_fault None kind range power = refl
 no_fault (Some WrongKind) kind range power = absurd (cc)
 no_fault (Some OutOfRange) kind range power = absurd (cc)
 no_fault (Some NotPowerOfTwo) kind range power = absurd (cc)
 
-fault_in_none : (fault : Fault) → is_fault fault None ≡ false
+fault_in_none : (fault : ValueFault) → is_fault fault None ≡ false
 fault_in_none WrongKind = refl
 fault_in_none OutOfRange = refl
 fault_in_none NotPowerOfTwo = refl
@@ -60,7 +60,7 @@ first_places t none =
       | inr known ↦ (known, no_places (first_place WrongKind t) (first_place OutOfRange t) (first_place NotPowerOfTwo t) (rw known at none))
     ]
 
-no_key : (t : Members) (fault : Fault) (key : Key) → first_place fault t ≡ None → is_fault fault (key_fault t key) ≡ false
+no_key : (t : Members) (fault : ValueFault) (key : Key) → first_place fault t ≡ None → is_fault fault (key_fault t key) ≡ false
 unfolding first_place
 no_key t fault key none =
     let (index, here) = in_order key in
@@ -79,7 +79,7 @@ nowhere : {X : Type 0} (test : X → Bool) (start : ℕ) (xs : List X) → ((x :
 nowhere test start [] none = refl
 nowhere test start (x ∷ xs) none = rw (none x) (nowhere test (start + 1) xs none)
 
-no_place : (t : Members) (fault : Fault) → ((key : Key) → key_fault t key ≡ None) → first_place fault t ≡ None
+no_place : (t : Members) (fault : ValueFault) → ((key : Key) → key_fault t key ≡ None) → first_place fault t ≡ None
 unfolding first_place
 no_place t fault none =
     nowhere (λ key. is_fault fault (key_fault t key)) 1 order (λ key. rw (none key) (fault_in_none fault))

@@ -8,7 +8,6 @@ use Rattle.std.proofs.lemmas.Bool.Decides.{nat_tests}
 use Rattle.std.proofs.lemmas.List.Elements.{All-from_recursion}
 use Rattle.std.proofs.lemmas.Option.{same_Some}
 use Rattle.rv_isa.specs.Arrivals.{IsLegalArrivals}
-use Rattle.rv_isa.specs.declared.arrivals.TheConstants.{MOST_ARRIVALS, LAST_CYCLE}
 use Rattle.rv_isa.specs.declared.lines.Arrival.{Arrival}
 use Rattle.rv_isa.specs.declared.lines.Line.{Line}
 use Rattle.rv_describe.proofs.Falls.{first_below, first_below-zero}
@@ -40,7 +39,7 @@ ordered before (arrival ∷ later) none (suc i) (suc j) d le within =
     ordered arrival.cycle later (none_below (nat_lt arrival.cycle before) (first_below arrival.cycle later) none).1 i j d (omega arith) (omega arith)
 
 -- each cycle is in its range
-cycle_of-within : (number : ℤ) (cycle : ℕ) → cycle_of number ≡ Some cycle → cycle ≤ LAST_CYCLE
+cycle_of-within : (number : ℤ) (cycle : ℕ) → cycle_of number ≡ Some cycle → cycle ≤ 1000000
 cycle_of-within (pos number) cycle found = grind (arith, nat_tests)
 cycle_of-within (negsuc number) cycle found = absurd cc
 
@@ -50,15 +49,15 @@ arrival_with-cycle (Some cycle) None level arrival found = absurd cc
 arrival_with-cycle (Some cycle) (Some line) None arrival found = absurd cc
 arrival_with-cycle (Some cycle) (Some line) (Some level) arrival found = ap (λ (a : Arrival). Some a.cycle) (same_Some _ _ found)
 
-arrival_from-within : (fields : Fields) (arrival : Arrival) → arrival_from fields ≡ Some arrival → arrival.cycle ≤ LAST_CYCLE
+arrival_from-within : (fields : Fields) (arrival : Arrival) → arrival_from fields ≡ Some arrival → arrival.cycle ≤ 1000000
 arrival_from-within fields arrival found =
     cycle_of-within fields.cycle arrival.cycle (arrival_with-cycle (cycle_of fields.cycle) fields.line (level_of fields.level) arrival found)
 
-one_within : (o : Option Arrival) (later : List Arrival) → ((arrival : Arrival) → o ≡ Some arrival → arrival.cycle ≤ LAST_CYCLE) → AllByRecursion (λ a. a.cycle ≤ LAST_CYCLE) later → AllByRecursion (λ a. a.cycle ≤ LAST_CYCLE) (cons_option o later)
+one_within : (o : Option Arrival) (later : List Arrival) → ((arrival : Arrival) → o ≡ Some arrival → arrival.cycle ≤ 1000000) → AllByRecursion (λ a. a.cycle ≤ 1000000) later → AllByRecursion (λ a. a.cycle ≤ 1000000) (cons_option o later)
 one_within None later here rest = rest
 one_within (Some arrival) later here rest = (here arrival refl, rest)
 
-all_within : (fields : List Fields) → AllByRecursion (λ a. a.cycle ≤ LAST_CYCLE) (filter_map arrival_from fields)
+all_within : (fields : List Fields) → AllByRecursion (λ a. a.cycle ≤ 1000000) (filter_map arrival_from fields)
 all_within [] = tt
 all_within (first ∷ later) = one_within (arrival_from first) (filter_map arrival_from later) (arrival_from-within first) (all_within later)
 
@@ -72,10 +71,10 @@ length-filter_map (first ∷ later) =
     let le = one_more (arrival_from first) (filter_map arrival_from later) (length later) (length-filter_map later) in
     omega (arith, le)
 
-pub legal : (fields : List Fields) → length fields ≤ MOST_ARRIVALS → first_fall (filter_map arrival_from fields) ≡ None → IsLegalArrivals (filter_map arrival_from fields)
+pub legal : (fields : List Fields) → length fields ≤ 100000 → first_fall (filter_map arrival_from fields) ≡ None → IsLegalArrivals (filter_map arrival_from fields)
 legal fields short none =
     record {
       count = omega (arith, length-filter_map fields);
-      last = All-from_recursion (λ a. a.cycle ≤ LAST_CYCLE) (filter_map arrival_from fields) (all_within fields);
+      last = All-from_recursion (λ a. a.cycle ≤ 1000000) (filter_map arrival_from fields) (all_within fields);
       order = ordered 0 (filter_map arrival_from fields) (first_below-zero (filter_map arrival_from fields) ∙ none);
     }

@@ -1,7 +1,6 @@
 -- Items read in two steps, where the first step gives something for each.
 use Rattle.std.proofs.Common.{◌≡◌, ℕ, zero, suc, ◌+◌, List, [], ◌∷◌, length, map, take, Option, Some, None, is_some, option_map, option_and_then, if◌then◌else◌, refl, ap}
 use Rattle.std.specs.List.{filter_map, cons_option}
-use Rattle.rv_isa.specs.declared.arrivals.TheConstants.{MOST_ARRIVALS}
 use Rattle.rv_describe.specs.Entries.{first_without, range_fault}
 use Rattle.rv_describe.proofs.Numbers.{none_behind}
 
@@ -50,4 +49,4 @@ filter_map-through read next (item ∷ later) none =
 pub range_fault-through : {A B C : Type 0} (read : A → Option B) (next : B → Option C) (items : List A) → first_without read items ≡ None → range_fault (λ item. option_and_then next (read item)) items ≡ range_fault next (filter_map read items)
 unfolding range_fault
 range_fault-through read next items none =
-    rw (first_without-through read next MOST_ARRIVALS items none, length-through read items none)
+    rw (first_without-through read next 100000 items none, length-through read items none)

@@ -5,7 +5,7 @@ use Rattle.toml.specs.Data.{Members}
 use Rattle.rv_isa.specs.declared.values.Values.{Values}
 use Rattle.rv_describe.specs.declared.description_error.DescriptionError.{DescriptionError}
 use Rattle.rv_describe.specs.declared.description_error.DescriptionError.TheVariants as error
-use Rattle.rv_describe.specs.declared.faults.Fault.TheVariants.{WrongKind, OutOfRange, NotPowerOfTwo}
+use Rattle.rv_describe.specs.declared.faults.ValueFault.TheVariants.{WrongKind, OutOfRange, NotPowerOfTwo}
 use Rattle.rv_describe.specs.Document.{document}
 use Rattle.rv_describe.specs.Fault.{first_place}
 use Rattle.rv_describe.specs.Setting.{values_of}

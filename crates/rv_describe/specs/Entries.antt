@@ -4,10 +4,9 @@ use Rattle.std.specs.List.{filter_map, list_any}
 use Rattle.std.specs.Option.{option_or}
 use Rattle.toml.specs.Data.{Data}
 use Rattle.rv_isa.specs.declared.lines.Arrival.{Arrival}
-use Rattle.rv_isa.specs.declared.arrivals.TheConstants.{MOST_ARRIVALS}
 use Rattle.rv_describe.specs.Entry.{has_unknown_field, fields_of, arrival_of}
 use Rattle.rv_describe.specs.declared.arrivals_error.ArrivalsError.{ArrivalsError}
-use Rattle.rv_describe.specs.declared.arrivals_error.ArrivalsError.TheVariants.{UnknownKey, WrongKind, OutOfRange, Unsorted}
+use Rattle.rv_describe.specs.declared.arrivals_error.ArrivalsError.TheVariants.{NotToml, UnknownKey, WrongKind, OutOfRange, Unsorted, Memory}
 
 -- the number, from 1, of the first item that `read` gives nothing for
 abbrev pub first_without : {A B : Type 0} → (A → Option B) → List A → Option ℕ
@@ -31,14 +30,14 @@ unknown_field entries = if list_any has_unknown_field entries then Some UnknownK
 abbrev pub wrong_kind : List Data → Option ArrivalsError
 wrong_kind entries = option_map WrongKind (first_without fields_of entries)
 
--- the number of the first item that `read` gives nothing for, else of the first behind the most that a list may have
+-- the number of the first item that `read` gives nothing for, else of the first behind the 100,000th
 unfoldable pub range_fault : {A B : Type 0} → (A → Option B) → List A → Option ℕ
 range_fault read items =
     option_or
-    (first_without read (take MOST_ARRIVALS items))
-    (if nat_lt MOST_ARRIVALS (length items) then Some (MOST_ARRIVALS + 1) else None)
+    (first_without read (take 100000 items))
+    (if nat_lt 100000 (length items) then Some 100001 else None)
 
--- the first entry with a value that is not allowed, or behind the most that a list may have
+-- the first entry with a value that is not allowed, or behind the 100,000th
 abbrev pub out_of_range : List Data → Option ArrivalsError
 out_of_range entries = option_map OutOfRange (range_fault arrival_of entries)
 
@@ -54,6 +53,15 @@ unsorted entries = option_map Unsorted (first_fall (arrivals_of entries))
 abbrev pub fault_of : List Data → Option ArrivalsError
 fault_of entries =
     option_or (unknown_field entries) (option_or (wrong_kind entries) (option_or (out_of_range entries) (unsorted entries)))
+
+-- the entry that a fault names, from 1, and 0 where it names none
+abbrev pub entry_of : ArrivalsError → ℕ
+entry_of (WrongKind entry) = entry
+entry_of (OutOfRange entry) = entry
+entry_of (Unsorted entry) = entry
+entry_of NotToml = 0
+entry_of UnknownKey = 0
+entry_of Memory = 0
 
 -- the arrivals, unless there is a fault
 abbrev pub unless : Option ArrivalsError → List Arrival → Result (List Arrival) ArrivalsError

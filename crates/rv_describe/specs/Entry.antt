@@ -5,7 +5,6 @@ use Rattle.toml.specs.Data.{Data, Members, get_member, as_integer, as_str, as_ta
 use Rattle.rv_isa.specs.declared.lines.Line.{Line}
 use Rattle.rv_isa.specs.declared.lines.Line.TheVariants.{Software, Timer, External}
 use Rattle.rv_isa.specs.declared.lines.Arrival.{Arrival}
-use Rattle.rv_isa.specs.declared.arrivals.TheConstants.{LAST_CYCLE}
 use Rattle.rv_describe.specs.Names.{has_other_name}
 use Rattle.rv_describe.specs.declared.entry.Fields.{Fields}
 
@@ -51,9 +50,9 @@ fields_in table = fields_from (integer_at (codes "cycle") table) (line_at table)
 abbrev pub fields_of : Data → Option Fields
 fields_of entry = option_and_then fields_in (as_table entry)
 
--- a cycle is a number from 0 to the last cycle
+-- a cycle is a number from 0 to 1,000,000
 abbrev pub cycle_of : ℤ → Option ℕ
-cycle_of (pos number) = if nat_le number LAST_CYCLE then Some number else None
+cycle_of (pos number) = if nat_le number 1000000 then Some number else None
 cycle_of (negsuc _) = None
 
 -- a level is 0 or 1

@@ -7,8 +7,8 @@ use Rattle.toml.specs.Data.{Data, Members, as_integer, as_bool, as_str}
 use Rattle.rv_isa.specs.Standard.{standard_values}
 use Rattle.rv_describe.specs.declared.description_error.DescriptionError.{DescriptionError}
 use Rattle.rv_describe.specs.declared.description_error.DescriptionError.TheVariants as error
-use Rattle.rv_describe.specs.declared.faults.Fault.{Fault}
-use Rattle.rv_describe.specs.declared.faults.Fault.TheVariants.{WrongKind, OutOfRange, NotPowerOfTwo}
+use Rattle.rv_describe.specs.declared.faults.ValueFault.{ValueFault}
+use Rattle.rv_describe.specs.declared.faults.ValueFault.TheVariants.{WrongKind, OutOfRange, NotPowerOfTwo}
 use Rattle.rv_describe.specs.declared.key.Key.{Key}
 use Rattle.rv_describe.specs.declared.key.Key.TheVariants.{RamSize}
 use Rattle.rv_describe.specs.declared.rule.Bounds.{Bounds}
@@ -20,7 +20,7 @@ use Rattle.rv_describe.specs.Held.{Held, absent, misplaced, present, held}
 use Rattle.rv_describe.specs.Setting.{word_of, recovery_named, predictor_named, number}
 
 -- a fault where a test fails
-abbrev pub unless : Bool → Fault → Option Fault
+abbrev pub unless : Bool → ValueFault → Option ValueFault
 unless true fault = None
 unless false fault = Some fault
 
@@ -29,7 +29,7 @@ abbrev pub lies : ℕ → ℕ → ℕ → Bool
 lies low high n = nat_le low n && nat_le n high
 
 -- what is wrong with a number, on a machine with so many bytes of RAM
-abbrev pub bounds_fault : Bounds → ℕ → ℕ → Option Fault
+abbrev pub bounds_fault : Bounds → ℕ → ℕ → Option ValueFault
 bounds_fault (Whole low high) size n = unless (lies low high n) OutOfRange
 bounds_fault (Pages low high) size n = unless (lies low high n && (n % 4096 == 0)) OutOfRange
 bounds_fault (Words low high) size n = unless (lies low high n && (n % 4 == 0)) OutOfRange
@@ -38,11 +38,11 @@ bounds_fault (Powers low high) size n =
 bounds_fault Front size n = unless (nat_le n size && (n % 4096 == 0)) OutOfRange
 
 -- no bounds reach past a word
-abbrev pub integer_fault : Bounds → ℕ → ℤ → Option Fault
+abbrev pub integer_fault : Bounds → ℕ → ℤ → Option ValueFault
 integer_fault bounds size z = option_map_or (bounds_fault bounds size) (word_of z) (Some OutOfRange)
 
 -- what is wrong with a value
-abbrev pub value_fault : Rule → ℕ → Data → Option Fault
+abbrev pub value_fault : Rule → ℕ → Data → Option ValueFault
 value_fault (Number bounds) size value = option_map_or (integer_fault bounds size) (as_integer value) (Some WrongKind)
 value_fault Switch size value = unless (is_some (as_bool value)) WrongKind
 value_fault RecoveryName size value =
@@ -52,7 +52,7 @@ value_fault PredictorName size value =
 
 -- A key that is not there has no fault. A name that must hold a table and does not is each of its keys' fault, and so
 -- the first one's.
-abbrev pub held_fault : Rule → ℕ → Held → Option Fault
+abbrev pub held_fault : Rule → ℕ → Held → Option ValueFault
 held_fault rule size absent = None
 held_fault rule size misplaced = Some WrongKind
 held_fault rule size (present value) = value_fault rule size value
@@ -62,10 +62,10 @@ abbrev pub ram_size_of : Members → ℕ
 ram_size_of members = number members RamSize standard_values.ram_size
 
 -- what is wrong at a key
-unfoldable pub key_fault : Members → Key → Option Fault
+unfoldable pub key_fault : Members → Key → Option ValueFault
 key_fault members key = held_fault (row_of key).rule (ram_size_of members) (held members (row_of key))
 
-abbrev pub is_fault : Fault → Option Fault → Bool
+abbrev pub is_fault : ValueFault → Option ValueFault → Bool
 is_fault fault None = false
 is_fault WrongKind (Some WrongKind) = true
 is_fault OutOfRange (Some OutOfRange) = true
@@ -73,7 +73,7 @@ is_fault NotPowerOfTwo (Some NotPowerOfTwo) = true
 is_fault fault (Some other) = false
 
 -- the place, from 1, of the first key with a fault
-unfoldable pub first_place : Fault → Members → Option ℕ
+unfoldable pub first_place : ValueFault → Members → Option ℕ
 first_place fault members = position_from (λ key. is_fault fault (key_fault members key)) 1 order
 
 -- the place that an error names, and 0 where it names none

@@ -1,3 +1,6 @@
+ghost use Rattle.std.specs.Prelude.{◌≡◌};
+ghost use Rattle.rv_describe.specs.Entries.{entry_of};
+
 use thiserror::Error;
 
 /// Why a list of arrivals was refused. A fault that stands earlier here is found first, over the
@@ -24,4 +27,18 @@ pub enum ArrivalsError {
     /// Memory was refused.
     #[error("Memory")]
     Memory,
+}
+
+impl ArrivalsError {
+    /// The number of the entry at fault, from 1; 0 where the fault names no entry.
+    pub fn entry(self) -> usize
+        ensures { result ≡ entry_of self }
+    {
+        match self {
+            ArrivalsError::WrongKind { entry }
+            | ArrivalsError::OutOfRange { entry }
+            | ArrivalsError::Unsorted { entry } => entry,
+            _ => 0,
+        }
+    }
 }

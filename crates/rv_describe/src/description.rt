@@ -6,7 +6,7 @@ ghost use Rattle.rv_describe.specs.Legal.{IsLegalText};
 ghost use Rattle.rv_describe.specs.Setting.{values_of};
 
 use crate::description_error::DescriptionError;
-use crate::faults::{Fault, first_place};
+use crate::faults::{ValueFault, first_place};
 use crate::settings::values;
 use crate::unknown::has_unknown;
 use rv_isa::Description;
@@ -16,13 +16,13 @@ use toml::Table;
 fn value_error(table: &Table) -> Option<DescriptionError>
     ensures { result ≡ value_error (table_view table.now) }
 {
-    if let Some(place) = first_place(table, Fault::WrongKind) {
+    if let Some(place) = first_place(table, ValueFault::WrongKind) {
         return Some(DescriptionError::WrongKind { place });
     }
-    if let Some(place) = first_place(table, Fault::OutOfRange) {
+    if let Some(place) = first_place(table, ValueFault::OutOfRange) {
         return Some(DescriptionError::OutOfRange { place });
     }
-    match first_place(table, Fault::NotPowerOfTwo) {
+    match first_place(table, ValueFault::NotPowerOfTwo) {
         Some(place) => Some(DescriptionError::NotPowerOfTwo { place }),
         None => None,
     }

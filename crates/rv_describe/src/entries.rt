@@ -78,7 +78,7 @@ fn read_each(alloc: Global, entries: &[Fields]) -> Result<Vec<Arrival>, Arrivals
 
 /// The arrivals of at most 100,000 entries, or the first entry that has none or stands behind them.
 fn read_ranges(alloc: Global, entries: &[Fields]) -> Result<Vec<Arrival>, ArrivalsError>
-    ensures short { IfOk result (λ _. length entries.now ≤ MOST_ARRIVALS) }
+    ensures short { IfOk result (λ _. length entries.now ≤ 100000) }
     ensures sound { IfOk result (λ _. range_fault arrival_from entries.now ≡ None) }
     ensures arrivals { IfOk result (λ arrivals. arrivals.items ≡ filter_map arrival_from entries.now) }
     ensures refused { IfErr result (λ error. error ≢ ArrivalsError.Memory → option_map ArrivalsError.OutOfRange (range_fault arrival_from entries.now) ≡ Some error) }

@@ -7,7 +7,7 @@ use rv_isa::{Arrival, LAST_CYCLE, Line};
 use toml::{Table, Value};
 
 /// The values of an entry whose fields have the right types.
-#[derive(Clone, Copy, Debug)]
+#[derive(Clone, Copy)]
 pub struct Fields {
     /// The integer at `cycle`, in any range.
     pub cycle: i64,

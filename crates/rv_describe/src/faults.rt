@@ -14,14 +14,14 @@ use rv_isa::Values;
 use toml::{Table, Value};
 
 /// What is wrong with a value.
-#[derive(Clone, Copy, Debug, PartialEq, Eq)]
-pub enum Fault {
+#[derive(Clone, Copy)]
+pub enum ValueFault {
     WrongKind,
     OutOfRange,
     NotPowerOfTwo,
 }
 
-fn unless(holds: bool, fault: Fault) -> Option<Fault>
+fn unless(holds: bool, fault: ValueFault) -> Option<ValueFault>
     ensures { result ≡ unless holds fault }
 {
     if holds { None } else { Some(fault) }
@@ -34,73 +34,73 @@ fn lies(low: u32, high: u32, number: u32) -> bool
 }
 
 // What is wrong with a number, on a machine with so many bytes of RAM.
-fn bounds_fault(bounds: Bounds, size: u32, number: u32) -> Option<Fault>
+fn bounds_fault(bounds: Bounds, size: u32, number: u32) -> Option<ValueFault>
     ensures { result ≡ bounds_fault bounds size number }
 {
     match bounds {
-        Bounds::Whole { low, high } => unless(lies(low, high, number), Fault::OutOfRange),
+        Bounds::Whole { low, high } => unless(lies(low, high, number), ValueFault::OutOfRange),
         Bounds::Pages { low, high } => unless(
             lies(low, high, number) && number % 4096 == 0,
-            Fault::OutOfRange,
+            ValueFault::OutOfRange,
         ),
         Bounds::Words { low, high } => unless(
             lies(low, high, number) && number % 4 == 0,
-            Fault::OutOfRange,
+            ValueFault::OutOfRange,
         ),
         Bounds::Powers { low, high } => {
             if lies(low, high, number) {
-                unless(number.is_power_of_two(), Fault::NotPowerOfTwo)
+                unless(number.is_power_of_two(), ValueFault::NotPowerOfTwo)
             } else {
-                Some(Fault::OutOfRange)
+                Some(ValueFault::OutOfRange)
             }
         }
-        Bounds::Front => unless(number <= size && number % 4096 == 0, Fault::OutOfRange),
+        Bounds::Front => unless(number <= size && number % 4096 == 0, ValueFault::OutOfRange),
     }
 }
 
-fn integer_fault(bounds: Bounds, size: u32, number: i64) -> Option<Fault>
+fn integer_fault(bounds: Bounds, size: u32, number: i64) -> Option<ValueFault>
     ensures { result ≡ integer_fault bounds size number }
 {
     match word_of(number) {
         Some(number) => bounds_fault(bounds, size, number),
-        None => Some(Fault::OutOfRange),
+        None => Some(ValueFault::OutOfRange),
     }
 }
 
-fn number_fault(bounds: Bounds, size: u32, value: &Value) -> Option<Fault>
+fn number_fault(bounds: Bounds, size: u32, value: &Value) -> Option<ValueFault>
     ensures { result ≡ value_fault (Rule.Number bounds) size (view value.now) }
 {
     match value.as_integer() {
         Some(number) => integer_fault(bounds, size, number),
-        None => Some(Fault::WrongKind),
+        None => Some(ValueFault::WrongKind),
     }
 }
 
-fn recovery_fault(value: &Value) -> Option<Fault>
+fn recovery_fault(value: &Value) -> Option<ValueFault>
     ensures { result ≡ value_fault Rule.RecoveryName 0 (view value.now) }
 {
     match value.as_str() {
-        Some(name) => unless(recovery_named(name).is_some(), Fault::OutOfRange),
-        None => Some(Fault::WrongKind),
+        Some(name) => unless(recovery_named(name).is_some(), ValueFault::OutOfRange),
+        None => Some(ValueFault::WrongKind),
     }
 }
 
-fn predictor_fault(value: &Value) -> Option<Fault>
+fn predictor_fault(value: &Value) -> Option<ValueFault>
     ensures { result ≡ value_fault Rule.PredictorName 0 (view value.now) }
 {
     match value.as_str() {
-        Some(name) => unless(predictor_named(name).is_some(), Fault::OutOfRange),
-        None => Some(Fault::WrongKind),
+        Some(name) => unless(predictor_named(name).is_some(), ValueFault::OutOfRange),
+        None => Some(ValueFault::WrongKind),
     }
 }
 
 // What is wrong with a value, on a machine with so many bytes of RAM.
-fn value_fault(rule: Rule, size: u32, value: &Value) -> Option<Fault>
+fn value_fault(rule: Rule, size: u32, value: &Value) -> Option<ValueFault>
     ensures { result ≡ value_fault rule size (view value.now) }
 {
     match rule {
         Rule::Number(bounds) => number_fault(bounds, size, value),
-        Rule::Switch => unless(value.is_bool(), Fault::WrongKind),
+        Rule::Switch => unless(value.is_bool(), ValueFault::WrongKind),
         Rule::RecoveryName => recovery_fault(value),
         Rule::PredictorName => predictor_fault(value),
     }
@@ -114,29 +114,29 @@ fn ram_size_of(table: &Table) -> u32
 
 // What is wrong at a key.
 #[tactic(auto, unfolding(crate::specs::Fault::key_fault))]
-fn key_fault(table: &Table, key: Key) -> Option<Fault>
+fn key_fault(table: &Table, key: Key) -> Option<ValueFault>
     ensures { result ≡ key_fault (table_view table.now) key }
 {
     let row = key.row();
     match look_up(table, &row) {
         Held::Absent => None,
-        Held::Misplaced => Some(Fault::WrongKind),
+        Held::Misplaced => Some(ValueFault::WrongKind),
         Held::Present(value) => value_fault(row.rule, ram_size_of(table), value),
     }
 }
 
-fn is_fault(fault: Fault, found: Option<Fault>) -> bool
+fn is_fault(fault: ValueFault, found: Option<ValueFault>) -> bool
     ensures { result ≡ is_fault fault found }
 {
     match found {
-        Some(Fault::WrongKind) => matches!(fault, Fault::WrongKind),
-        Some(Fault::OutOfRange) => matches!(fault, Fault::OutOfRange),
-        Some(Fault::NotPowerOfTwo) => matches!(fault, Fault::NotPowerOfTwo),
+        Some(ValueFault::WrongKind) => matches!(fault, ValueFault::WrongKind),
+        Some(ValueFault::OutOfRange) => matches!(fault, ValueFault::OutOfRange),
+        Some(ValueFault::NotPowerOfTwo) => matches!(fault, ValueFault::NotPowerOfTwo),
         None => false,
     }
 }
 
-fn first_among(keys: &[Key], table: &Table, fault: Fault) -> Option<usize>
+fn first_among(keys: &[Key], table: &Table, fault: ValueFault) -> Option<usize>
     ensures { result
         ≡ position_from (λ key. is_fault fault (key_fault (table_view table.now) key)) 1 keys.now }
 {
@@ -151,7 +151,7 @@ fn first_among(keys: &[Key], table: &Table, fault: Fault) -> Option<usize>
 }
 
 /// The place, from 1, of the first key with a fault.
-pub fn first_place(table: &Table, fault: Fault) -> Option<usize>
+pub fn first_place(table: &Table, fault: ValueFault) -> Option<usize>
     ensures { result ≡ first_place fault (table_view table.now) }
 {
     first_among(&ORDER, table, fault)

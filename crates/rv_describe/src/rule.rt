@@ -1,5 +1,5 @@
 /// Which numbers a key takes.
-#[derive(Clone, Copy, Debug, PartialEq, Eq)]
+#[derive(Clone, Copy)]
 pub enum Bounds {
     /// Every number from `low` to `high`.
     Whole { low: u32, high: u32 },
@@ -14,7 +14,7 @@ pub enum Bounds {
 }
 
 /// What a key takes.
-#[derive(Clone, Copy, Debug, PartialEq, Eq)]
+#[derive(Clone, Copy)]
 pub enum Rule {
     /// An integer within bounds.
     Number(Bounds),

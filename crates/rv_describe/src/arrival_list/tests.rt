@@ -81,6 +81,20 @@ fn a_fault_is_shown_with_its_entry(rt: HostRuntime) -> Result<(), Fail> {
 }
 
 #[test]
+fn the_entry_of_a_fault(rt: HostRuntime) {
+    let faults = [
+        (WrongKind { entry: 2 }, 2),
+        (OutOfRange { entry: 100_001 }, 100_001),
+        (Unsorted { entry: 3 }, 3),
+        (NotToml, 0),
+        (UnknownKey, 0),
+    ];
+    for (fault, entry) in faults {
+        assert_eq!(rt; fault.entry(), entry);
+    }
+}
+
+#[test]
 fn bytes_that_are_no_text_are_not_toml(rt: HostRuntime) {
     assert_eq!(rt; read_arrivals(rt.alloc(), b"# \xff").err(), Some(NotToml));
 }
@@ -107,25 +121,5 @@ fn a_level_is_high_where_it_is_missing(rt: HostRuntime) -> Result<(), Fail> {
     assert_eq!(rt; arrivals.at(3), lines(false, true, false));
     assert_eq!(rt; arrivals.at(999_999), lines(false, true, false));
     assert_eq!(rt; arrivals.at(1_000_000), lines(true, true, false));
-    Ok(())
-}
-
-// A text of so many entries.
-fn list_of(alloc: Global, entries: usize) -> Result<String, Fail> {
-    let mut text = String::from_str(alloc, "arrival = [")?;
-    for _ in 0..entries {
-        text.push_str("{cycle=7,line='timer'},")?;
-    }
-    text.push_str("]")?;
-    Ok(text)
-}
-
-#[test]
-fn the_entry_behind_the_hundred_thousandth_is_out_of_range(rt: HostRuntime) -> Result<(), Fail> {
-    let most = list_of(rt.alloc(), 100_000)?;
-    assert_eq!(rt; fault_of(rt.alloc(), most.as_str()), None);
-    let more = list_of(rt.alloc(), 100_001)?;
-    let fault = OutOfRange { entry: 100_001 };
-    assert_eq!(rt; fault_of(rt.alloc(), more.as_str()), Some(fault));
     Ok(())
 }
