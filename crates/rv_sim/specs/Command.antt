@@ -4,8 +4,10 @@ use Rattle.std.specs.Str.{bytes_eq}
 use Rattle.std.specs.Str.Parse.{digits_value, without_leading_plus}
 use Rattle.clap.specs.ValueTests.{is_unsigned_in}
 use Rattle.clap.specs.Walk.{is_empty}
-use Rattle.clap.specs.Words.{App, Row, Rule, Text, app_of, fault_of, new_app, new_rule, one_of}
+use Rattle.clap.specs.Kinds.{or_else}
+use Rattle.clap.specs.Words.{App, Kinds, Row, Rule, Text, app_of, fault_of, new_app, new_rule, one_of}
 use Rattle.clap.specs.Words.{subcommand_of, with_rule, with_subcommand}
+use Rattle.clap.specs.declared.error.kind.ErrorKind.TheVariants.{ValueValidation}
 use Rattle.clap.specs.declared.builder.ArgAction.TheVariants.{Set}
 use Rattle.clap.specs.declared.builder.command.Command.{Command as Parser}
 use Rattle.clap.specs.declared.builder.command.Command.TheViews.{out-Command as fields_of}
@@ -70,3 +72,8 @@ command_named given =
 abbrev pub command_of : List Text → Option Command
 command_of words = if is_empty (fault_of program_arguments words)
     then option_and_then command_named (subcommand_of program_arguments words) else None
+
+-- The kinds that the error of refused words may have: those that clap's rules give for them. Where they give none, the words name no
+-- command with a legal limit.
+abbrev pub refused_kinds : List Text → Kinds
+refused_kinds words = or_else (fault_of program_arguments words) (ValueValidation ∷ [])

@@ -1,9 +1,11 @@
 -- What the program says of words that are no command.
-use Rattle.std.specs.Prelude.{◌≡◌, ◌⊎◌, ℕ}
+use Rattle.std.specs.Prelude.{◌≡◌, ◌≢◌, ◌⊎◌, ◌<◌, ℕ, List, length, Option}
+use Rattle.std.specs.Io.KnownBytes.{Appends}
 use Rattle.clap.specs.declared.error.kind.ErrorKind.{ErrorKind}
 use Rattle.clap.specs.declared.error.kind.ErrorKind.TheVariants.{DisplayHelp, DisplayVersion, OutOfMemory}
 use Rattle.rv_sim.specs.Fault.{fault_line, fault_status}
 use Rattle.rv_sim.specs.FaultStream.{FaultStream, Tells}
+use Rattle.rv_sim.specs.Written.{AppendsBeginning}
 use Rattle.rv_sim.specs.declared.errors.SimError.{SimError}
 use Rattle.rv_sim.specs.declared.errors.SimError.TheVariants.{Memory, WriteFailed}
 
@@ -11,13 +13,28 @@ use Rattle.rv_sim.specs.declared.errors.SimError.TheVariants.{Memory, WriteFaile
 abbrev pub TellsError : SimError → FaultStream → FaultStream → ℕ → Type 0
 TellsError error old new status = Tells old new (fault_line error) × (status ≡ fault_status error)
 
--- nothing more is told
-abbrev pub TellsNothing : FaultStream → FaultStream → ℕ → ℕ → Type 0
-TellsNothing old new wanted status = (new ≡ old) × (status ≡ wanted)
+-- a kind of error that is no request for help
+abbrev pub IsMistake : ErrorKind → Type 0
+IsMistake kind = (kind ≢ DisplayHelp) × (kind ≢ DisplayVersion)
 
--- what is told beside the text of clap's error of a kind, and the exit status: help ends well unless it could not be written
-abbrev pub TellsUsage : ErrorKind → FaultStream → FaultStream → ℕ → Type 0
-TellsUsage OutOfMemory old new status = TellsError Memory old new status
-TellsUsage DisplayHelp old new status = TellsNothing old new 0 status ⊎ TellsError WriteFailed old new status
-TellsUsage DisplayVersion old new status = TellsNothing old new 0 status ⊎ TellsError WriteFailed old new status
-TellsUsage _ old new status = TellsNothing old new 2 status
+-- want of memory is told, and else nothing
+abbrev pub TellsWantOfMemory : Option (List ℕ) → Option (List ℕ) → FaultStream → FaultStream → ℕ → Type 0
+TellsWantOfMemory old-output new-output old new status = (new-output ≡ old-output) × TellsError Memory old new status
+
+-- a mistake: the text is told, and the status is 2 even where it can't be written
+abbrev pub TellsMistake : List ℕ → Option (List ℕ) → Option (List ℕ) → FaultStream → FaultStream → ℕ → Type 0
+TellsMistake text old-output new-output old new status = (new-output ≡ old-output) × Tells old new text × (status ≡ 2)
+
+-- help: the text is written whole, or a beginning of it, which is told
+abbrev pub ShowsHelp : List ℕ → Option (List ℕ) → Option (List ℕ) → FaultStream → FaultStream → ℕ → Type 0
+ShowsHelp text old-output new-output old new status =
+    (Appends old-output new-output text × (new ≡ old) × (status ≡ 0))
+    ⊎ (AppendsBeginning old-output new-output text × TellsError WriteFailed old new status)
+
+-- what is shown of clap's error of a kind, and the exit status: some text, unless memory is wanting
+abbrev pub ShowsUsage : ErrorKind → Option (List ℕ) → Option (List ℕ) → FaultStream → FaultStream → ℕ → Type 0
+ShowsUsage kind old-output new-output old new status =
+    TellsWantOfMemory old-output new-output old new status
+    ⊎ ((kind ≢ OutOfMemory) × (text : List ℕ) × (0 < length text)
+    × ((IsMistake kind × TellsMistake text old-output new-output old new status)
+    ⊎ ((IsMistake kind → ⊥) × ShowsHelp text old-output new-output old new status)))

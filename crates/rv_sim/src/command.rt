@@ -1,6 +1,6 @@
 ghost use Rattle.std.specs.Prelude.{◌≡◌, ◌⊎◌, false, None, Some, IfErr, IfOk, map, option_and_then};
-ghost use Rattle.clap.specs.Words.{found_of, kind_of, rows_of, rule_of, subcommand_rows_of};
-ghost use Rattle.rv_sim.specs.Command.{HasLegalLimit, IsParserOf, command_named, command_of, limit_in};
+ghost use Rattle.clap.specs.Words.{HasKind, found_of, kind_of, rows_of, rule_of, subcommand_rows_of};
+ghost use Rattle.rv_sim.specs.Command.{HasLegalLimit, IsParserOf, command_named, command_of, limit_in, refused_kinds};
 ghost use Rattle.rv_sim.specs.Command.{check_arguments, limit_rule, program_arguments, reference_arguments};
 
 use clap::error::ErrorKind;
@@ -90,6 +90,7 @@ pub fn parse_words(alloc: Global, words: &[String]) -> Result<Command, Error>
     ensures refused { IfErr result (λ e.
         (command_of (map (λ w. w.bytes.items) words.now) ≡ None)
         ⊎ (kind_of e ≡ ErrorKind.OutOfMemory)) }
+    ensures kind { IfErr result (HasKind (refused_kinds (map (λ w. w.bytes.items) words.now))) }
     ensures limit { IfOk result HasLegalLimit }
 {
     let mut parser = parser(alloc)?;

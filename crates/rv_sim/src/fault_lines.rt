@@ -62,13 +62,20 @@ impl<E: Write> FaultLines<E> {
         fault_status(error)
     }
 
+    /// Writes a text that tells a fault.
+    pub fn tell_text(&mut self, text: &[u8])
+        ensures { Tells self.old self.new text.now }
+    {
+        let told = put(&mut self.writer, text);
+        self.has_failed = self.has_failed || told.is_err();
+    }
+
     /// Writes the line of an input that can't be read, and answers its exit status.
     pub fn tell_unread(&mut self, error: InputError) -> u8
         ensures line { Tells self.old self.new (input_fault_line error) }
         ensures status { result ≡ input_fault_status error }
     {
-        let told = put(&mut self.writer, input_fault_line(error));
-        self.has_failed = self.has_failed || told.is_err();
+        self.tell_text(input_fault_line(error));
         input_fault_status(error)
     }
 }

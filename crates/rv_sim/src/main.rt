@@ -59,7 +59,7 @@ fn status(rt: &HostRuntime) -> u8 {
             &mut rt.stdout(),
             &mut errors,
         ),
-        Err(error) => show_usage(rt, &error, &mut errors),
+        Err(error) => show_usage(rt.alloc(), &error, &mut rt.stdout(), &mut errors),
     }
 }
 

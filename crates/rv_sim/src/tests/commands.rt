@@ -77,7 +77,8 @@ fn a_limit_stands_after_an_equals_sign_or_a_space_and_once(rt: HostRuntime) -> R
     let check = words(alloc, &["rv_sim", "check", "--limit", "7"])?;
     let twice = words(alloc, &["rv_sim", "reference", "--limit=7", "--limit=7"])?;
     let open = words(alloc, &["rv_sim", "reference", "--limit"])?;
-    for refused in [&bare, &check, &twice, &open] {
+    let unknown = words(alloc, &["rv_sim", "help", "simulate"])?;
+    for refused in [&bare, &check, &twice, &open, &unknown] {
         let Err(error) = parse_words(alloc, refused.as_slice()) else {
             return Err(Fail::from("words were taken"));
         };

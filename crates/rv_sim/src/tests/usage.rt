@@ -2,7 +2,6 @@ use crate::command::parse_words;
 use crate::fault_lines::FaultLines;
 use crate::usage::show_usage;
 use std::alloc::Global;
-use std::io::{Eprint, Print};
 use std::process::Abort;
 use std::test::Fail;
 
@@ -52,7 +51,7 @@ fn refused(alloc: Global, texts: &[&str]) -> Result<clap::Error, Fail> {
 }
 
 // The words are refused with this text and exit status, and no fault is told beside it.
-fn is_shown<R: Abort + Print + Eprint>(
+fn is_shown<R: Abort>(
     rt: &R,
     alloc: Global,
     words: &[&str],
@@ -60,11 +59,18 @@ fn is_shown<R: Abort + Print + Eprint>(
     status: u8,
 ) -> Result<(), Fail> {
     let error = refused(alloc, words)?;
-    let shown = format!(in alloc; "{error}")?;
-    assert!(rt; shown.as_str() == text, "{text}");
+    let mut output = Vec::new(alloc);
     let mut errors = FaultLines::new(Vec::new(alloc));
-    assert_eq!(rt; show_usage(rt, &error, &mut errors), status, "{text}");
-    assert!(rt; errors.into_writer().is_empty(), "{text}");
+    let shown = show_usage(alloc, &error, &mut output, &mut errors);
+    let told = errors.into_writer();
+    let (text_shown, other) = if status == 0 {
+        (output, told)
+    } else {
+        (told, output)
+    };
+    assert_eq!(rt; shown, status, "{text}");
+    assert_eq!(rt; text_shown.as_slice(), text.as_bytes());
+    assert!(rt; other.is_empty(), "{text}");
     Ok(())
 }
 
