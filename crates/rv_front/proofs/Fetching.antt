@@ -4,7 +4,7 @@ use Rattle.std.proofs.lemmas.List.{append-nil}
 use Rattle.std.proofs.lemmas.Bool.Decides.{nat_tests}
 use Rattle.circular_buffer.specs.Buffer.{keep_last}
 use Rattle.rv_isa.specs.Word.{pc_plus_4}
-use Rattle.rv_memory.specs.Ram.{Memory}
+use Rattle.rv_memory.specs.Memory.{Memory}
 use Rattle.rv_front.specs.declared.fetched.Fetched.{Fetched}
 use Rattle.rv_front.specs.declared.fetched.FetchStop.{FetchStop}
 use Rattle.rv_front.specs.declared.fetched.FetchStop.TheVariants.{Width, Room, Prediction, Halted}

@@ -1,9 +1,8 @@
 -- The front as a list of fetched words, and what a cycle's fetch adds to it.
-use Rattle.std.specs.Prelude.{◌≡◌, ℕ, zero, suc, ◌+◌, ◌-◌, ◌*◌, ◌/◌, ◌^◌, ◌<◌, Bool, true, false, ◌==◌, ◌&&◌, nat_le, nat_lt, is_none, List, [], ◌∷◌, ◌++◌, length, Option, Some, None, MatchBool, MatchOption, option_and_then, if◌then◌else◌}
+use Rattle.std.specs.Prelude.{◌≡◌, ℕ, zero, suc, ◌-◌, ◌*◌, ◌/◌, ◌^◌, ◌<◌, Bool, true, false, ◌==◌, nat_lt, is_none, List, [], ◌∷◌, ◌++◌, length, Option, Some, None, MatchBool, MatchOption, option_and_then}
 use Rattle.rv_isa.specs.Word.{pc_plus_4}
 use Rattle.rv_decode.specs.Decodes.{instruction_of}
-use Rattle.rv_memory.specs.Ram.{Memory}
-use Rattle.rv_memory.specs.Bytes.{word_at}
+use Rattle.rv_memory.specs.Memory.{Memory, fetched_word}
 use Rattle.rv_front.specs.declared.fetched.Fetched.{Fetched}
 use Rattle.rv_front.specs.declared.fetched.FetchStop.{FetchStop}
 use Rattle.rv_front.specs.declared.fetched.FetchStop.TheVariants.{Width, Room, Prediction, Halted}
@@ -32,13 +31,6 @@ IsLinked (e ∷ es) next = (first_pc es next ≡ e.predicted) × IsLinked es nex
 abbrev pub IsChain : FetchBuffer → Type 0
 IsChain front = IsLinked front.entries front.next_pc
 
--- what RAM gives for the word at a pc, None where it does not lie in RAM
-abbrev pub fetched_word : Memory → ℕ → Option ℕ
-fetched_word ram pc =
-    if nat_le ram.base pc && nat_le (pc + 4) (ram.base + length ram.bytes)
-    then Some (word_at ram.bytes (pc - ram.base))
-    else None
-
 -- what a predictor may answer: its answers by a pc and the word there
 abbrev pub Answers : Type 1
 Answers = ℕ → ℕ → ℕ → Type 0
@@ -58,7 +50,7 @@ pub record IsPrediction (answers : Answers) (pc : ℕ) (word : Option ℕ) (pred
 -- the entry that the fetch of the word at a pc makes
 pub record IsFetchedAt (answers : Answers) (ram : Memory) (cycle pc : ℕ) (entry : Fetched) : Type 0 where
   pub pc_is : entry.pc ≡ pc
-  pub word_is : entry.word ≡ fetched_word ram pc
+  pub word_is : entry.word ≡ fetched_word ram.layout ram.bytes pc
   pub instruction_is : entry.instruction ≡ option_and_then instruction_of entry.word
   pub predicted_is : IsPrediction answers pc entry.word entry.predicted
   pub cycle_is : entry.cycle ≡ cycle
