@@ -1,8 +1,21 @@
 -- Entry i of a list whose first has the number `oldest` has the number oldest + i.
-use Rattle.std.proofs.Common.{◌≡◌, ℕ, zero, suc, ◌+◌, ◌-◌, ◌<◌, List, [], ◌∷◌, slice_get, slice_set, take, None, Some, inl, inr, refl, ap, sym, ◌∙◌, arith, eq-eqb, ne_eqb, lt-ltb, le-ltb}
+use Rattle.std.proofs.Common.{◌≡◌, ℕ, zero, suc, ◌+◌, ◌-◌, ◌<◌, ◌≤◌, nat_lt, if◌then◌else◌, List, [], ◌∷◌, length, slice_get, slice_set, take, None, Some, inl, inr, refl, ap, sym, ◌∙◌, arith, eq-eqb, ne_eqb, lt-ltb, le-ltb}
+use Rattle.std.proofs.lemmas.Bool.{cases_lt}
 use Rattle.std.proofs.lemmas.Option.{slice_get_past}
 use Rattle.rv_rob.specs.declared.entry.Entry.{Entry}
-use Rattle.rv_rob.specs.ReorderBuffer.{entry_of, with_entry, entries_below, IsPlace}
+use Rattle.rv_rob.specs.ReorderBuffer.{entry_of, with_entry, entries_below}
+
+-- the place of the entry of number n, or where there is none, a place past the youngest
+abbrev pub place_of : ℕ → ℕ → List Entry → ℕ
+place_of n oldest es = if nat_lt n oldest then length es else n - oldest
+
+-- it is the distance from the oldest, or n is older than all
+by_place : (P : Type 0) (i n oldest : ℕ) (es : List Entry) → i ≡ place_of n oldest es → (n ≡ oldest + i → P) → (n < oldest → length es ≤ i → P) → P
+by_place P i n oldest es place at older =
+    elim (cases_lt n oldest) [
+      | inl lt ↦ older lt (let past : i ≡ length es = rw (lt-ltb n oldest lt) at place in omega arith)
+      | inr le ↦ at (let distance : i ≡ n - oldest = rw (le-ltb n oldest le) at place in omega arith)
+    ]
 
 entry_of-distance : (i n oldest : ℕ) (es : List Entry) → n ≡ oldest + i → entry_of n oldest es ≡ slice_get es i
 entry_of-distance i n oldest [] e = refl
@@ -16,12 +29,10 @@ entry_of-older n oldest (x ∷ es) h =
     rw (ne_eqb n oldest (omega arith)) (entry_of-older n (oldest + 1) es (omega arith))
 
 -- the entry of a number is the one at its place
-pub entry_of-place : (i n oldest : ℕ) (es : List Entry) → IsPlace n oldest es i → entry_of n oldest es ≡ slice_get es i
+pub entry_of-place : (i n oldest : ℕ) (es : List Entry) → i ≡ place_of n oldest es → entry_of n oldest es ≡ slice_get es i
 entry_of-place i n oldest es place =
-    elim place [
-      | inl at ↦ entry_of-distance i n oldest es at
-      | inr older ↦ entry_of-older n oldest es older.0 ∙ sym (slice_get_past es i older.1)
-    ]
+    by_place _ i n oldest es place (λ at. entry_of-distance i n oldest es at)
+    (λ older past. entry_of-older n oldest es older ∙ sym (slice_get_past es i past))
 
 module _ (change : Entry → Entry) where
   with_entry-distance : (i n oldest : ℕ) (es : List Entry) (x : Entry) → n ≡ oldest + i → slice_get es i ≡ Some x
@@ -43,18 +54,16 @@ module _ (change : Entry → Entry) where
       rw (ne_eqb n oldest (omega arith)) (ap (λ ys. y ∷ ys) (with_entry-older n (oldest + 1) es (omega arith)))
 
   -- a change of an entry that is held is a write at its place
-  pub with_entry-write : (i n oldest : ℕ) (es : List Entry) (x : Entry) → IsPlace n oldest es i → slice_get es i ≡ Some x
+  pub with_entry-write : (i n oldest : ℕ) (es : List Entry) (x : Entry) → i ≡ place_of n oldest es → slice_get es i ≡ Some x
       → with_entry change n oldest es ≡ slice_set es i (change x)
   with_entry-write i n oldest es x place held =
-      elim place [
-        | inl at ↦ with_entry-distance i n oldest es x at held
-        | inr older ↦ let none = slice_get_past es i older.1 in cc
-      ]
+      by_place _ i n oldest es place (λ at. with_entry-distance i n oldest es x at held)
+      (λ older past. let none = slice_get_past es i past in cc)
 
   -- a change of an entry that is not held changes nothing
-  pub with_entry-none : (i n oldest : ℕ) (es : List Entry) → IsPlace n oldest es i → slice_get es i ≡ None → with_entry change n oldest es ≡ es
+  pub with_entry-none : (i n oldest : ℕ) (es : List Entry) → i ≡ place_of n oldest es → slice_get es i ≡ None → with_entry change n oldest es ≡ es
   with_entry-none i n oldest es place none =
-      elim place [ inl at ↦ with_entry-past i n oldest es at none | inr older ↦ with_entry-older n oldest es older.0 ]
+      by_place _ i n oldest es place (λ at. with_entry-past i n oldest es at none) (λ older past. with_entry-older n oldest es older)
 
 -- what is below a number is the beginning of the list
 pub entries_below-take : (i n oldest : ℕ) (es : List Entry) → i ≡ n - oldest → entries_below n oldest es ≡ take i es

@@ -1,19 +1,19 @@
 use Rattle.std.specs.Prelude.{ℕ, Option, None, Some}
+use Rattle.rv_isa.specs.declared.Issue.{Issue}
 use Rattle.rv_isa.specs.declared.Message.{Message}
 use Rattle.rv_rob.specs.declared.entry.Entry.{Entry}
-use Rattle.rv_rob.specs.declared.entry.Issue.{Issue}
 use Rattle.rv_rob.specs.declared.entry.Stage.{Stage}
 use Rattle.rv_rob.specs.declared.entry.Stage.TheVariants.{Waiting, Running, Finished}
 
 -- the start of an execution, where there was one
 abbrev pub issue_of : Stage → Option Issue
 issue_of Waiting = None
-issue_of (Running issue) = Some issue
+issue_of (Running issue message) = Some issue
 issue_of (Finished issue cycle message) = issue
 
--- the entry once its instruction has left its station in this cycle, at this cost
-abbrev pub started : ℕ → ℕ → Entry → Entry
-started cycle cost e = record e { stage = Running (record { cycle = cycle; cost = cost }) }
+-- the entry once its instruction has left its station, with the message that it will broadcast
+abbrev pub started : Issue → Message → Entry → Entry
+started issue message e = record e { stage = Running issue message }
 
 -- the entry once its result is known, with the whole message and the cycle
 abbrev pub finished : Message → ℕ → Entry → Entry

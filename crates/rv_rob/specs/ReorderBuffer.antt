@@ -1,4 +1,4 @@
-use Rattle.std.specs.Prelude.{◌≡◌, ℕ, ◌+◌, ◌<◌, ◌≤◌, ◌⊎◌, ◌==◌, nat_lt, if◌then◌else◌, List, [], ◌∷◌, ◌++◌, length, Option, None, Some}
+use Rattle.std.specs.Prelude.{ℕ, ◌+◌, ◌-◌, ◌==◌, nat_lt, if◌then◌else◌, List, [], ◌∷◌, ◌++◌, length, slice_get, Option, None, Some}
 use Rattle.rv_rob.specs.declared.entry.Entry.{Entry}
 
 -- the instructions in flight, oldest first; their numbers go on from the count of retired ones
@@ -15,6 +15,10 @@ empty capacity = record { capacity = capacity; retired = 0; entries = [] }
 abbrev pub next_number : ReorderBuffer → ℕ
 next_number r = r.retired + length r.entries
 
+-- the youngest entry
+abbrev pub youngest : List Entry → Option Entry
+youngest es = slice_get es (length es - 1)
+
 -- the entry of number n, in a list whose first entry has the number `oldest`
 abbrev pub entry_of : ℕ → ℕ → List Entry → Option Entry
 entry_of n oldest [] = None
@@ -29,10 +33,6 @@ with_entry change n oldest (e ∷ es) = if n == oldest then change e ∷ es else
 abbrev pub entries_below : ℕ → ℕ → List Entry → List Entry
 entries_below n oldest [] = []
 entries_below n oldest (e ∷ es) = if nat_lt oldest n then e ∷ entries_below n (oldest + 1) es else []
-
--- i is the distance of number n from the oldest, or where n is older than all, a place past the youngest
-abbrev pub IsPlace : ℕ → ℕ → List Entry → ℕ → Type 0
-IsPlace n oldest es i = (n ≡ oldest + i) ⊎ ((n < oldest) × (length es ≤ i))
 
 -- a further entry, the youngest
 abbrev pub pushed : Entry → ReorderBuffer → ReorderBuffer

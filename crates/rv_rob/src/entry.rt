@@ -1,25 +1,17 @@
 //! One instruction in flight, with all that its commit and its reported row need.
 ghost use Rattle.std.specs.Prelude.{◌≡◌};
 
-use rv_isa::{Instr, Message};
-
-/// The start of an execution.
-#[derive(Clone, Copy, Debug, PartialEq, Eq)]
-pub struct Issue {
-    /// The cycle in which the instruction left its station.
-    pub cycle: u64,
-    /// The cycles from there until its result can be broadcast.
-    pub cost: u32,
-}
+use rv_isa::{Instr, Issue, Message};
 
 /// How far an instruction in flight has come.
 #[derive(Clone, Copy, Debug, PartialEq, Eq)]
 pub enum Stage {
     /// It waits for its operands, for a unit, or for the head.
     Waiting,
-    /// It executes.
+    /// It executes. The bus brings the message once the cost has passed.
     Running {
         issue: Issue,
+        message: Message,
     },
     /// Its result is known. `issue` is None where it uses no unit.
     Finished {
@@ -39,7 +31,7 @@ impl Stage {
     {
         match *self {
             Stage::Waiting => None,
-            Stage::Running { issue } => Some(issue),
+            Stage::Running { issue, .. } => Some(issue),
             Stage::Finished { issue, .. } => issue,
         }
     }
@@ -65,12 +57,10 @@ pub struct Entry {
 impl Entry {
     ghost use Rattle.rv_rob.specs.Entry.{started, finished, predicting};
 
-    pub(crate) fn start(&mut self, cycle: u64, cost: u32)
-        ensures { self.new ≡ started cycle cost self.old }
+    pub(crate) fn start(&mut self, issue: Issue, message: Message)
+        ensures { self.new ≡ started issue message self.old }
     {
-        self.stage = Stage::Running {
-            issue: Issue { cycle, cost },
-        };
+        self.stage = Stage::Running { issue, message };
     }
 
     pub(crate) fn finish(&mut self, message: Message, cycle: u64)

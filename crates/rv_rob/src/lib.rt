@@ -9,5 +9,5 @@ mod reorder_buffer;
 #[cfg(test)]
 mod tests;
 
-pub use entry::{Entry, Issue, Stage};
+pub use entry::{Entry, Stage};
 pub use reorder_buffer::Rob;

@@ -1,10 +1,13 @@
-ghost use Rattle.std.specs.Prelude.{◌≡◌, ◌+◌, ◌<◌, ◌≤◌, ◌^◌, ◌↔◌, IsTrue, IfOk, List, [], length, slice_get, option_copied};
+ghost use Rattle.std.specs.Prelude.{◌≡◌, ◌+◌, ◌-◌, ◌<◌, ◌≤◌, ◌^◌, ◌↔◌, nat_lt, nat_le, if◌then◌else◌, IsTrue, IfOk, List, [], ◌∷◌, ◌++◌, length, slice_get, option_copied};
+ghost use Rattle.std.specs.Fn.{FnOnceReturnsAtMut};
+ghost use Rattle.circular_buffer.specs.Buffer.{buffer};
+ghost use Rattle.rv_rob.specs.declared.entry.Entry.{Entry};
 ghost use Rattle.rv_rob.specs.Entry.{started, finished, predicting};
-ghost use Rattle.rv_rob.specs.ReorderBuffer.{empty, next_number, entry_of, IsPlace, pushed, changed, cut_from, head_retired};
+ghost use Rattle.rv_rob.specs.ReorderBuffer.{empty, next_number, youngest, entry_of, pushed, changed, cut_from, head_retired};
 
 use crate::entry::Entry;
 use circular_buffer::HeapCircularBuffer;
-use rv_isa::{Description, Message};
+use rv_isa::{Description, Issue, Message};
 use std::alloc::{AllocError, Global};
 use std::marker::Model;
 
@@ -55,10 +58,10 @@ impl Rob {
 
     /// Whether there is no room for a further entry.
     pub fn is_full(&self) -> bool
-        ensures full { IsTrue result ↔ (length self.now.entries ≡ self.now.capacity) }
+        ensures full { result ≡ nat_le self.now.capacity (length self.now.entries) }
         ensures within { length self.now.entries ≤ self.now.capacity }
     {
-        self.len() == self.entries.capacity()
+        self.len() >= self.entries.capacity()
     }
 
     /// How many instructions have retired, which is the number of the oldest in flight.
@@ -82,6 +85,13 @@ impl Rob {
         self.entries.front()
     }
 
+    /// The youngest entry.
+    pub fn youngest(&self) -> Option<&Entry>
+        ensures { option_copied result ≡ youngest self.now.entries }
+    {
+        self.entries.back()
+    }
+
     /// The entry with this number.
     pub fn get(&self, seq: u64) -> Option<&Entry>
         ensures { option_copied result ≡ entry_of seq self.now.retired self.now.entries }
@@ -89,9 +99,9 @@ impl Rob {
         self.entries.get(self.place_of(seq))
     }
 
-    /// The distance of the number from the oldest: the place of its entry, or a place past them all.
+    /// The place of the entry with this number, or a place past them all.
     fn place_of(&self, seq: u64) -> usize
-        ensures { IsPlace seq self.now.retired self.now.entries result }
+        ensures { result ≡ (if nat_lt seq self.now.retired then length self.now.entries else seq - self.now.retired) }
     {
         if seq < self.retired {
             self.len()
@@ -107,30 +117,24 @@ impl Rob {
         ensures number { result ≡ next_number self.old }
         ensures entries { self.new ≡ pushed entry self.old }
     {
-        let number = self.next_number();
-        self.entries.extend_from_slice(&[entry]);
-        number
+        let seq = self.next_number();
+        append(&mut self.entries, entry);
+        seq
     }
 
-    /// Notes that the instruction with this number left its station in `cycle`, at `cost` cycles. With no such
-    /// number, nothing changes.
-    pub fn start(&mut self, seq: u64, cycle: u64, cost: u32)
-        ensures { self.new ≡ changed (started cycle cost) seq self.old }
+    /// Notes that the instruction with this number left its station, with the message that it will broadcast. With no
+    /// such number, nothing changes.
+    pub fn start(&mut self, seq: u64, issue: Issue, message: Message)
+        ensures { self.new ≡ changed (started issue message) seq self.old }
     {
-        let place = self.place_of(seq);
-        if let Some(entry) = self.entries.get_mut(place) {
-            entry.start(cycle, cost);
-        }
+        self.change(seq, |entry| entry.start(issue, message));
     }
 
     /// Finishes the instruction with this number in `cycle`. With no such number, nothing changes.
     pub fn finish(&mut self, seq: u64, message: Message, cycle: u64)
         ensures { self.new ≡ changed (finished message cycle) seq self.old }
     {
-        let place = self.place_of(seq);
-        if let Some(entry) = self.entries.get_mut(place) {
-            entry.finish(message, cycle);
-        }
+        self.change(seq, |entry| entry.finish(message, cycle));
     }
 
     /// Puts `next_pc` in the place of the predicted next pc of the instruction with this number. With no such number,
@@ -138,9 +142,17 @@ impl Rob {
     pub fn correct_prediction(&mut self, seq: u64, next_pc: u32)
         ensures { self.new ≡ changed (predicting next_pc) seq self.old }
     {
+        self.change(seq, |entry| entry.predict(next_pc));
+    }
+
+    /// Changes the entry with this number, if there is one.
+    fn change<F: FnOnce(&mut Entry)>(&mut self, seq: u64, change: F)
+        requires { F.IsAlwaysCallable change }
+        ensures { (f : Entry → Entry) → ((e e' : Entry) → FnOnceReturnsAtMut F.FnOnce change e tt e' → e' ≡ f e) → self.new ≡ changed f seq self.old }
+    {
         let place = self.place_of(seq);
         if let Some(entry) = self.entries.get_mut(place) {
-            entry.predict(next_pc);
+            change(entry);
         }
     }
 
@@ -160,4 +172,12 @@ impl Rob {
         let kept = from.saturating_sub(self.retired);
         self.entries.truncate_back(kept as usize);
     }
+}
+
+// Over any type, since at `Entry` itself the checker has no proof for `push_back`.
+fn append<T: Copy>(entries: &mut HeapCircularBuffer<T>, item: T)
+    requires { length entries.old.items < entries.old.capacity }
+    ensures { entries.new ≡ buffer (entries.old.items ++ item ∷ []) entries.old.capacity }
+{
+    entries.push_back(item);
 }

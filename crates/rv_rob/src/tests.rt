@@ -1,5 +1,5 @@
-use crate::{Entry, Issue, Rob, Stage};
-use rv_isa::{Cause, Description, Fault, Message, Values};
+use crate::{Entry, Rob, Stage};
+use rv_isa::{Cause, Description, Fault, Issue, Message, Values};
 use std::process::Abort;
 use std::test::Fail;
 
@@ -20,6 +20,20 @@ fn waiting(pc: u32) -> Entry {
         fetched: 0,
         dispatched: 1,
         stage: Stage::Waiting,
+    }
+}
+
+fn issue() -> Issue {
+    Issue { cycle: 2, cost: 1 }
+}
+
+fn message() -> Message {
+    Message {
+        fault: Some(Fault {
+            cause: Cause::LoadAccessFault,
+            value: 5,
+        }),
+        ..Message::default()
     }
 }
 
@@ -46,6 +60,7 @@ fn numbers_go_on_while_the_ring_wraps_around(rt: HostRuntime) -> Result<(), Fail
         );
         assert_eq!(rt; rob.get(youngest + 1), None);
         assert_eq!(rt; rob.head().map(|entry| entry.pc), Some(8 * round));
+        assert_eq!(rt; rob.youngest().map(|entry| entry.pc), Some(8 * round + 4));
         rob.pop_head();
         assert_eq!(rt; rob.get(youngest - 1), None);
         assert_eq!(rt; rob.head().map(|entry| entry.pc), Some(8 * round + 4));
@@ -80,29 +95,24 @@ fn entry_keeps_the_issue_and_the_whole_message(rt: HostRuntime) -> Result<(), Fa
     let mut rob = Rob::new(rt.alloc(), &description(&rt, 2))?;
     let seq = push(&rt, &mut rob, 0x8000_0000);
     let other = push(&rt, &mut rob, 0x8000_0004);
-    let message = Message {
-        number: seq,
-        fault: Some(Fault {
-            cause: Cause::LoadAccessFault,
-            value: 5,
-        }),
-        ..Message::default()
+    rob.start(seq, issue(), message());
+    let running = Entry {
+        stage: Stage::Running {
+            issue: issue(),
+            message: message(),
+        },
+        ..waiting(0x8000_0000)
     };
-    let issue = Issue { cycle: 2, cost: 1 };
-    rob.start(seq, issue.cycle, issue.cost);
-    assert_eq!(rt;
-        rob.get(seq).map(|entry| entry.stage),
-        Some(Stage::Running { issue })
-    );
-    rob.finish(seq, message, 3);
+    assert_eq!(rt; rob.head().copied(), Some(running));
+    rob.finish(seq, message(), 3);
     rob.correct_prediction(seq, 0x8000_0040);
-    rob.finish(9, message, 3);
+    rob.finish(9, message(), 3);
     let finished = Entry {
         predicted_next: 0x8000_0040,
         stage: Stage::Finished {
-            issue: Some(issue),
+            issue: Some(issue()),
             cycle: 3,
-            message,
+            message: message(),
         },
         ..waiting(0x8000_0000)
     };
