@@ -50,6 +50,7 @@ pub fn assemble(alloc: Global, text: &[u8], base: u32) -> Result<Image, AsmError
     ensures bytes { IfOk result (λ image. Spells (image_parts base (lines_of text.now)) image.bytes) }
     ensures start { IfOk result (λ image. image.start ≡ start_address base (layout (lines_of text.now))) }
     ensures refused { RefusedAt (fault_of base (lines_of text.now)) result }
+    ensures memory { IfErr result (λ error. error.fault ≡ AsmFault.Memory → error.line ≡ 0) }
 {
     let program = match Layout::of_text(alloc, text) {
         Ok(program) => program,

@@ -1,5 +1,5 @@
 ghost use Rattle.std.specs.Prelude.{◌≡◌, ◌≤◌, ◌<◌, ◌∷◌, ◌==◌, [], None, Some, IfOk, IfSome, MatchOption};
-ghost use Rattle.std.specs.Prelude.{drop, length, ok_or};
+ghost use Rattle.std.specs.Prelude.{drop, length, ok_or, IfErr};
 ghost use Rattle.std.specs.List.{position_or_len};
 ghost use Rattle.rv_asm.specs.Answer.{RefusedBy, RefusedAt, Follows};
 ghost use Rattle.rv_asm.specs.Faults.{first_fault_of};
@@ -162,6 +162,7 @@ impl<'a> Layout<'a> {
         ensures clean { IfOk result (λ _. first_fault_of (lines_of text.entry.now) ≡ None) }
         ensures tells { IfOk result (λ program. layout_of program ≡ layout (lines_of text.entry.now)) }
         ensures refused { RefusedAt (first_fault_of (lines_of text.entry.now)) result }
+        ensures memory { IfErr result (λ error. error.fault ≡ AsmFault.Memory → error.line ≡ 0) }
     {
         let mut layout = Layout::new(alloc);
         let mut number = 0;

@@ -19,7 +19,7 @@ use rv_isa::{Immediate, ImmediateOp, Instr, Reg, UpperImmediate};
 const LIMIT: u128 = 16_777_200;
 
 /// How far a text has come.
-#[derive(Clone, Copy, Debug)]
+#[derive(Clone, Copy)]
 pub struct Reach {
     /// The section in force.
     pub section: Section,

@@ -21,13 +21,6 @@ mod values;
 
 pub use assembler::assemble;
 pub use fault::{AsmError, AsmFault};
-pub use first_pass::Layout;
-pub use layout::Reach;
-pub use operand::{Expression, Operand};
-pub use operation::{Fields, Form, Operation, Place, Section};
-pub use statement::Statement;
-pub use symbols::{Definition, Symbols};
-pub use token::{Token, TokenError, tokenize};
 
 #[cfg(test)]
 mod tests;

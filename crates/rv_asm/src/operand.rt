@@ -11,7 +11,7 @@ use crate::token::Token;
 use std::alloc::Global;
 
 /// An exact whole number, as the text writes it.
-#[derive(Clone, Copy, Debug)]
+#[derive(Clone, Copy)]
 pub enum Expression<'a> {
     Number(i64),
     Symbol(&'a [u8]),
@@ -20,7 +20,7 @@ pub enum Expression<'a> {
 }
 
 /// What stands between two commas of a statement.
-#[derive(Clone, Copy, Debug)]
+#[derive(Clone, Copy)]
 pub enum Operand<'a> {
     Value(Expression<'a>),
     /// A name in parentheses, behind an offset or alone.

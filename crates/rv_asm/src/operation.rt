@@ -1,14 +1,14 @@
 use rv_isa::{AluOp, Condition, CsrOp, ImmediateOp, LoadForm, Reg, ShiftOp, Width};
 
 /// The section that a statement stands in.
-#[derive(Clone, Copy, Debug, PartialEq, Eq)]
+#[derive(Clone, Copy)]
 pub enum Section {
     Text,
     Data,
 }
 
 /// What an instruction or a pseudo-instruction does, without its operands.
-#[derive(Clone, Copy, Debug)]
+#[derive(Clone, Copy)]
 pub enum Operation {
     Lui,
     Auipc,
@@ -37,7 +37,7 @@ pub enum Operation {
 }
 
 /// Where an operand goes, and what may stand there.
-#[derive(Clone, Copy, Debug)]
+#[derive(Clone, Copy)]
 pub enum Place {
     Rd,
     Rs1,
@@ -67,7 +67,7 @@ pub enum Place {
 }
 
 /// The form of a statement: what it does, and which operands it has.
-#[derive(Clone, Copy, Debug)]
+#[derive(Clone, Copy)]
 pub enum Form {
     /// No statement.
     Nothing,
@@ -91,7 +91,7 @@ pub enum Form {
 }
 
 /// The registers and the CSR that operands have filled in; x0 and 0 where none has.
-#[derive(Clone, Copy, Debug)]
+#[derive(Clone, Copy)]
 pub struct Fields {
     pub rd: Reg,
     pub rs1: Reg,

@@ -1,5 +1,5 @@
 ghost use Rattle.std.specs.Prelude.{◌≡◌, ◌≤◌, ◌%◌, ◌==◌, ◌||◌, [], if◌then◌else◌, List, drop, length, None};
-ghost use Rattle.std.specs.Prelude.{Some, Err, IfOk, false};
+ghost use Rattle.std.specs.Prelude.{Some, Err, IfOk, IfErr, false};
 ghost use Rattle.std.specs.List.{list_any};
 ghost use Rattle.rv_asm.specs.Answer.{RefusedBy, RefusedAt};
 ghost use Rattle.rv_asm.specs.Emitted.{Emits, EmitsOrRefuses};
@@ -271,6 +271,7 @@ impl Sections {
         ensures data_bytes { IfOk result (λ sections.
             Spells (section_parts base Section.Data (lines_of text.entry.now)) sections.data_bytes.items) }
         ensures refused { RefusedAt (second_fault_of base (lines_of text.entry.now)) result }
+        ensures memory { IfErr result (λ error. error.fault ≡ AsmFault.Memory → error.line ≡ 0) }
     {
         let mut sections = Sections::new(alloc);
         let mut reach = Reach::START;

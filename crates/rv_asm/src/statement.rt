@@ -20,7 +20,7 @@ use rv_isa::{Reg, Width};
 use std::alloc::Global;
 
 /// A statement whose symbols have no values yet.
-#[derive(Clone, Copy, Debug)]
+#[derive(Clone, Copy)]
 pub enum Statement<'a> {
     Nothing,
     Choice(Section),

@@ -8,7 +8,7 @@ ghost use Rattle.rv_asm.specs.Token.{is_separator, begins_name, is_name_byte, ma
 use std::alloc::{AllocError, AllocFailed, Global};
 
 /// A token of a line, borrowed from the text.
-#[derive(Clone, Copy, Debug)]
+#[derive(Clone, Copy)]
 pub enum Token<'a> {
     /// A name, such as a mnemonic, a register, a directive or a symbol.
     Name(&'a [u8]),
@@ -25,7 +25,7 @@ pub enum Token<'a> {
 }
 
 /// Why a line has no tokens.
-#[derive(Clone, Copy, Debug, PartialEq, Eq)]
+#[derive(Clone, Copy, Debug)]
 pub enum TokenError {
     /// Something on the line is no token.
     BadToken,

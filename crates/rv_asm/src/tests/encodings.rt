@@ -88,7 +88,7 @@ fn each_instruction_of_an_extension_has_the_word_of_the_manual(
 
 #[test]
 fn a_pseudo_instruction_is_the_instruction_that_it_stands_for(rt: HostRuntime) -> Result<(), Fail> {
-    let cases: [(&str, u32); 29] = [
+    let cases: [(&str, u32); 34] = [
         ("nop", 0x00000013),
         ("mv x5,x6", 0x00030293),
         ("not x5,x6", 0xfff34293),
@@ -112,6 +112,11 @@ fn a_pseudo_instruction_is_the_instruction_that_it_stands_for(rt: HostRuntime) -
         ("jr x6", 0x00030067),
         ("ret", 0x00008067),
         ("csrr x5,mepc", 0x341022f3),
+        ("csrr x5,mvendorid", 0xf11022f3),
+        ("csrr x5,marchid", 0xf12022f3),
+        ("csrr x5,mimpid", 0xf13022f3),
+        ("csrr x5,mhartid", 0xf14022f3),
+        ("csrr x5,mconfigptr", 0xf15022f3),
         ("csrw mtval,x6", 0x34331073),
         ("csrs mie,x6", 0x30432073),
         ("csrc misa,x6", 0x30133073),

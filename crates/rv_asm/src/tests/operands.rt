@@ -49,7 +49,7 @@ fn a_name_is_a_register_a_csr_or_a_symbol_by_its_place(rt: HostRuntime) -> Resul
 
 #[test]
 fn each_register_has_two_names(rt: HostRuntime) -> Result<(), Fail> {
-    let cases: [(&str, &[u32]); 5] = [
+    let cases: [(&str, &[u32]); 7] = [
         ("add zero,ra,sp\nadd gp,tp,t0", &[0x00208033, 0x005201b3]),
         (
             "add t1,t2,s0\nadd fp,s1,a0\nadd a1,a2,a3",
@@ -64,8 +64,16 @@ fn each_register_has_two_names(rt: HostRuntime) -> Result<(), Fail> {
             &[0x019c0bb3, 0x01cd8d33, 0x01ff0eb3],
         ),
         (
-            "add x31,x30,x29\nadd x28,x27,x26",
-            &[0x01df0fb3, 0x01ad8e33],
+            "add x31,x30,x29\nadd x28,x27,x26\nadd x3,x4,x8",
+            &[0x01df0fb3, 0x01ad8e33, 0x008201b3],
+        ),
+        (
+            "add x9,x10,x11\nadd x12,x13,x14\nadd x15,x16,x17",
+            &[0x00b504b3, 0x00e68633, 0x011807b3],
+        ),
+        (
+            "add x18,x19,x20\nadd x21,x22,x23\nadd x24,x25,x2",
+            &[0x01498933, 0x017b0ab3, 0x002c8c33],
         ),
     ];
     for case in &cases {
