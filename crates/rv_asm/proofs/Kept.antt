@@ -6,7 +6,7 @@ use Rattle.rv_asm.specs.Layout.{Line, Unreadable, Readable, Layout, Meanings, la
 use Rattle.rv_asm.specs.Statement.{Statement, Constant}
 use Rattle.rv_asm.specs.Token.{tokens_of}
 use Rattle.rv_asm.specs.declared.fault.AsmFault.{AsmFault}
-use Rattle.rv_asm.specs.declared.layout.Reach.{Reach}
+use Rattle.rv_asm.specs.declared.reach.Reach.{Reach}
 use Rattle.rv_asm.specs.declared.symbols.Definition.{Definition}
 
 -- what the first meanings have, the second have too

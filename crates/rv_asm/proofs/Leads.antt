@@ -14,7 +14,7 @@ use Rattle.rv_asm.specs.Statement.{Statement, and_then, needed, reading, stateme
 use Rattle.rv_asm.specs.Token.{Token, tokens_of}
 use Rattle.rv_asm.specs.declared.fault.AsmFault.{AsmFault}
 use Rattle.rv_asm.specs.declared.fault.AsmFault.TheVariants.{BadOperands, DuplicateSymbol, TooLarge}
-use Rattle.rv_asm.specs.declared.layout.Reach.{Reach}
+use Rattle.rv_asm.specs.declared.reach.Reach.{Reach}
 use Rattle.rv_asm.specs.declared.operation.Form.{Form}
 
 -- where all symbols are known, a line leads as far as in the first pass, and not too far

@@ -9,7 +9,7 @@ use Rattle.rv_asm.specs.Operand.{Expression, Number, Symbol, Sum, Operand, Value
 use Rattle.rv_asm.specs.Statement.{Statement, Instruction, Values, Zeros, Align, and_then, fill, fits, instruction, is_alignment, is_name, is_known, needed, statement, unfilled, value}
 use Rattle.rv_asm.specs.declared.fault.AsmFault.{AsmFault}
 use Rattle.rv_asm.specs.declared.fault.AsmFault.TheVariants.{BadOperands}
-use Rattle.rv_asm.specs.declared.layout.Reach.{Reach}
+use Rattle.rv_asm.specs.declared.reach.Reach.{Reach}
 use Rattle.rv_asm.specs.declared.operation.Fields.{Fields}
 use Rattle.rv_asm.specs.declared.operation.Form.{Form}
 use Rattle.rv_asm.specs.declared.operation.Form.TheVariants as form

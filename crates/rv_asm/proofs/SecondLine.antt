@@ -12,7 +12,7 @@ use Rattle.rv_asm.specs.SecondPass.{reach_behind}
 use Rattle.rv_asm.specs.Token.{Token}
 use Rattle.rv_asm.specs.declared.fault.AsmFault.{AsmFault}
 use Rattle.rv_asm.specs.declared.fault.AsmFault.TheVariants.{BadToken, Misaligned}
-use Rattle.rv_asm.specs.declared.layout.Reach.{Reach}
+use Rattle.rv_asm.specs.declared.reach.Reach.{Reach}
 use Rattle.rv_asm.specs.declared.token.Token as read
 
 line_is : (o : Option (List Token)) (items slice body : List read.Token) → ok_or o BadToken ≡ Ok (map token_of items) → slice ≡ items → body_of (map token_of slice) ≡ map token_of body → line_of o ≡ Readable (labels_of (map token_of slice)) (map token_of body)

@@ -9,7 +9,7 @@ use Rattle.rv_asm.specs.Layout.{Line, Layout, layout, line_of, lines_onto}
 use Rattle.rv_asm.specs.Meaning.{Cell, Spells, contents, contents_in, line_cells}
 use Rattle.rv_asm.specs.Token.{tokens_of}
 use Rattle.rv_asm.specs.declared.fault.AsmFault.{AsmFault}
-use Rattle.rv_asm.specs.declared.layout.Reach.{Reach}
+use Rattle.rv_asm.specs.declared.reach.Reach.{Reach}
 use Rattle.rv_asm.specs.declared.operation.Section.{Section}
 use Rattle.rv_asm.specs.declared.operation.Section.TheVariants as section
 

@@ -11,7 +11,7 @@ use Rattle.rv_asm.specs.Meaning.{line_cells, start_address}
 use Rattle.rv_asm.specs.Statement.{Statement, Constant}
 use Rattle.rv_asm.specs.declared.fault.AsmFault.{AsmFault}
 use Rattle.rv_asm.specs.declared.fault.AsmFault.TheVariants.{Misaligned}
-use Rattle.rv_asm.specs.declared.layout.Reach.{Reach}
+use Rattle.rv_asm.specs.declared.reach.Reach.{Reach}
 
 -- the name of the symbol where execution starts
 abbrev pub is_start : List ℕ → Bool

@@ -8,7 +8,7 @@ use Rattle.rv_asm.specs.Token.{Token}
 use Rattle.rv_asm.specs.Token as token
 use Rattle.rv_asm.specs.declared.fault.AsmFault.{AsmFault}
 use Rattle.rv_asm.specs.declared.fault.AsmFault.TheVariants.{BadToken, BadOperands, DuplicateSymbol, TooLarge}
-use Rattle.rv_asm.specs.declared.layout.Reach.{Reach}
+use Rattle.rv_asm.specs.declared.reach.Reach.{Reach}
 use Rattle.rv_asm.specs.declared.operation.Form.{Form}
 use Rattle.rv_asm.specs.declared.symbols.Definition.{Definition}
 

@@ -20,7 +20,7 @@ use Rattle.rv_asm.specs.declared.operation.Operation.{Operation}
 use Rattle.rv_asm.specs.declared.operation.Operation.TheVariants as operation
 use Rattle.rv_asm.specs.declared.operation.Section.{Section}
 use Rattle.rv_asm.specs.declared.operation.Section.TheVariants.{Text, Data}
-use Rattle.rv_asm.specs.declared.layout.Reach.{Reach}
+use Rattle.rv_asm.specs.declared.reach.Reach.{Reach}
 use Rattle.rv_asm.specs.declared.symbols.Definition.{Definition}
 use Rattle.rv_asm.specs.declared.symbols.Definition.TheVariants as symbol
 

@@ -16,7 +16,7 @@ use Rattle.rv_asm.specs.Operand.{Expression, Number, Symbol, Sum, Operand}
 use Rattle.rv_asm.specs.Statement.{Statement, Instruction, Values, Zeros, Align, Characters, and_then, is_between, expression_in}
 use Rattle.rv_asm.specs.declared.fault.AsmFault.{AsmFault}
 use Rattle.rv_asm.specs.declared.fault.AsmFault.TheVariants.{BadToken, UnknownSymbol, OutOfRange, Misaligned}
-use Rattle.rv_asm.specs.declared.layout.Reach.{Reach}
+use Rattle.rv_asm.specs.declared.reach.Reach.{Reach}
 use Rattle.rv_asm.specs.declared.operation.Fields.{Fields}
 use Rattle.rv_asm.specs.declared.operation.Operation.{Operation}
 use Rattle.rv_asm.specs.declared.operation.Operation.TheVariants as operation

@@ -5,11 +5,12 @@ use Rattle.std.specs.Str.{bytes_eq}
 use Rattle.rv_asm.specs.Meaning.{value_of}
 use Rattle.rv_asm.specs.declared.symbols.Definition.{Definition}
 use Rattle.rv_asm.specs.declared.symbols.Symbols.{Symbols}
+use Rattle.rv_asm.specs.declared.values.SymbolValues.{SymbolValues}
 
 -- what the program holds of a name
 abbrev pub found : Symbols → List ℕ → Option Definition
 found symbols name = get_by (λ key. bytes_eq name key.now) symbols.defined
 
--- the value of a name, in an image at a base whose text has so many bytes
-abbrev pub value_in : ℕ → ℕ → Symbols → List ℕ → Option ℤ
-value_in base text_size symbols = value_of base text_size (found symbols)
+-- the value of a name
+abbrev pub value_in : SymbolValues → List ℕ → Option ℤ
+value_in values = value_of values.base values.text_size (found values.symbols.now)

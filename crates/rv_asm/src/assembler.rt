@@ -6,8 +6,8 @@ ghost use Rattle.rv_asm.specs.Meaning.{Cell, Spells, image_parts, round_up, star
 
 use crate::emit::push_zeros;
 use crate::fault::{AsmError, AsmFault};
-use crate::first_pass::Layout;
-use crate::second_pass::{Sections, start_address};
+use crate::layout::Layout;
+use crate::sections::{Sections, start_address};
 use rv_isa::{Bytes, Image};
 use std::alloc::Global;
 

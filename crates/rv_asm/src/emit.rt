@@ -16,13 +16,12 @@ ghost use Rattle.rv_isa.specs.Operation.{bytes_of};
 use crate::fault::AsmFault;
 use crate::filling::expression_in;
 use crate::instructions::instructions;
-use crate::layout::{modulo_word, padding};
 use crate::operand::{Expression, Operand};
 use crate::operation::{Fields, Operation};
+use crate::reach::{modulo_word, padding};
 use crate::statement::Statement;
-use crate::symbols::Symbols;
 use crate::token::push_text;
-use crate::values::evaluate;
+use crate::values::SymbolValues;
 use rv_decode::encode;
 use rv_isa::{Instr, Width};
 
@@ -54,9 +53,7 @@ fn push_words(out: &mut Vec<u8>, first: &Instr, second: Option<Instr>) -> Result
 
 /// Appends an instruction with its expression's value in it.
 fn emit_instruction<'a>(
-    symbols: &Symbols<'a>,
-    base: u32,
-    text_size: usize,
+    values: &SymbolValues<'_, 'a>,
     start: u128,
     offset: usize,
     operation: Operation,
@@ -65,11 +62,11 @@ fn emit_instruction<'a>(
     out: &mut Vec<u8>,
 ) -> Result<(), AsmFault>
     requires { start < 2 ^ 66 }
-    ensures { EmitsOrRefuses (cells (value_in base text_size symbols.now) start offset
+    ensures { EmitsOrRefuses (cells (value_in values.now) start offset
         (Instruction operation fields (expression_of value.now))) out.old.items out.new.items result }
 {
     let address = start + offset as u128;
-    let Some(number) = evaluate(symbols, base, text_size, value) else {
+    let Some(number) = values.evaluate(value) else {
         return Err(AsmFault::UnknownSymbol);
     };
     match instructions(operation, fields, address, number) {
@@ -152,19 +149,14 @@ fn push_low(out: &mut Vec<u8>, width: Width, word: u32) -> Result<(), AsmFault>
 }
 
 /// Whether each operand has a value.
-fn are_known<'a>(
-    symbols: &Symbols<'a>,
-    base: u32,
-    text_size: usize,
-    operands: &[Operand<'a>],
-) -> bool
+fn are_known<'a>(values: &SymbolValues<'_, 'a>, operands: &[Operand<'a>]) -> bool
     ensures { result ≡ list_all (λ operand.
-        is_some (evaluate (value_in base text_size symbols.now) (expression_in operand)))
+        is_some (evaluate (value_in values.now) (expression_in operand)))
         (operands_in operands.now) }
 {
     for operand in operands {
         let expression = expression_in(*operand);
-        if evaluate(symbols, base, text_size, &expression).is_none() {
+        if values.evaluate(&expression).is_none() {
             return false;
         }
     }
@@ -173,24 +165,22 @@ fn are_known<'a>(
 
 /// Appends the value of an operand.
 fn emit_value<'a>(
-    symbols: &Symbols<'a>,
-    base: u32,
-    text_size: usize,
+    values: &SymbolValues<'_, 'a>,
     width: Width,
     operand: &Operand<'a>,
     out: &mut Vec<u8>,
 ) -> Result<(), AsmFault>
     ensures fits { IfOk result (λ _.
-        fits_width width (data_value (value_in base text_size symbols.now) (operand_of operand.now)) ≡ true) }
+        fits_width width (data_value (value_in values.now) (operand_of operand.now)) ≡ true) }
     ensures pushed { OnOk result (Appends
-        (bytes_at width (data_value (value_in base text_size symbols.now) (operand_of operand.now)))
+        (bytes_at width (data_value (value_in values.now) (operand_of operand.now)))
         out.old.items out.new.items) }
     ensures misfits { IfErr result (λ fault. fault ≢ AsmFault.Memory →
-        fits_width width (data_value (value_in base text_size symbols.now) (operand_of operand.now)) ≡ false) }
+        fits_width width (data_value (value_in values.now) (operand_of operand.now)) ≡ false) }
     ensures refused { IfErr result (λ fault. fault ≢ AsmFault.Memory → fault ≡ AsmFault.OutOfRange) }
 {
     let expression = expression_in(*operand);
-    let number = match evaluate(symbols, base, text_size, &expression) {
+    let number = match values.evaluate(&expression) {
         Some(number) => number,
         None => 0,
     };
@@ -203,14 +193,12 @@ fn emit_value<'a>(
 
 /// Appends the values of operands.
 fn emit_values<'a>(
-    symbols: &Symbols<'a>,
-    base: u32,
-    text_size: usize,
+    values: &SymbolValues<'_, 'a>,
     width: Width,
     operands: &[Operand<'a>],
     out: &mut Vec<u8>,
 ) -> Result<(), AsmFault>
-    ensures { EmitsOrRefuses (data_of (value_in base text_size symbols.now) width
+    ensures { EmitsOrRefuses (data_of (value_in values.now) width
         (operands_in operands.now)) out.old.items out.new.items result }
 {
     let mut count = 0;
@@ -219,7 +207,7 @@ fn emit_values<'a>(
         let Some((operand, _others)) = rest.split_first() else {
             return Ok(());
         };
-        if let Err(fault) = emit_value(symbols, base, text_size, width, operand, out) {
+        if let Err(fault) = emit_value(values, width, operand, out) {
             return Err(fault);
         }
         count += 1;
@@ -239,9 +227,7 @@ fn alignment(multiple: usize, offset: usize) -> usize
 
 /// Appends what a statement means.
 pub fn emit<'a>(
-    symbols: &Symbols<'a>,
-    base: u32,
-    text_size: usize,
+    values: &SymbolValues<'_, 'a>,
     start: u128,
     offset: usize,
     statement: &Statement<'a>,
@@ -249,16 +235,16 @@ pub fn emit<'a>(
     out: &mut Vec<u8>,
 ) -> Result<(), AsmFault>
     requires { start < 2 ^ 66 }
-    ensures { EmitsOrRefuses (cells (value_in base text_size symbols.now) start offset
+    ensures { EmitsOrRefuses (cells (value_in values.now) start offset
         (statement_of (operands_in operands.now) statement.now)) out.old.items out.new.items result }
 {
     match statement {
         Statement::Instruction(operation, fields, value) => emit_instruction(
-            symbols, base, text_size, start, offset, *operation, *fields, value, out,
+            values, start, offset, *operation, *fields, value, out,
         ),
         Statement::Values(width) => {
-            if are_known(symbols, base, text_size, operands) {
-                emit_values(symbols, base, text_size, *width, operands, out)
+            if are_known(values, operands) {
+                emit_values(values, *width, operands, out)
             } else {
                 Err(AsmFault::UnknownSymbol)
             }

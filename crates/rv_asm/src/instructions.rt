@@ -3,8 +3,8 @@ ghost use Rattle.std.specs.Result.{result_map_both};
 ghost use Rattle.rv_asm.specs.Meaning.{distance, immediate, instructions, natural};
 
 use crate::fault::AsmFault;
-use crate::layout::{load_address, load_number, signed_word};
 use crate::operation::{Fields, Operation};
+use crate::reach::{load_address, load_number, signed_word};
 use rv_isa::{
     BranchOffset, CsrAddress, CsrImmediate, CsrSource, Immediate, Instr, JumpOffset, ShiftAmount,
     UpperImmediate,

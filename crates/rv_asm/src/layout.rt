@@ -1,237 +1,182 @@
-ghost use Rattle.std.specs.Prelude.{◌≡◌, ◌+◌, ◌-◌, ◌*◌, ◌<◌, ◌≤◌, ◌^◌, ◌∷◌, [], Ok, Err, Some, None};
-ghost use Rattle.std.specs.Prelude.{unsigned_abs, option_to_list};
-ghost use Rattle.rv_asm.specs.Layout.{offset, grow_in, known, padding, size, instruction_size, advance};
-ghost use Rattle.rv_asm.specs.Layout.{upper, lower, signed_word, load_number, load_address, unless_too_large};
-ghost use Rattle.rv_asm.specs.ReadOperand.{expression_of, operands_in};
-ghost use Rattle.rv_asm.specs.ReadStatement.{statement_of};
+ghost use Rattle.std.specs.Prelude.{◌≡◌, ◌≤◌, ◌<◌, ◌∷◌, ◌==◌, [], None, Some, IfOk, IfSome, MatchOption};
+ghost use Rattle.std.specs.Prelude.{drop, length, ok_or, IfErr};
+ghost use Rattle.std.specs.List.{position_or_len};
+ghost use Rattle.rv_asm.specs.Answer.{RefusedBy, RefusedAt, Follows};
+ghost use Rattle.rv_asm.specs.Faults.{first_fault_of};
+ghost use Rattle.rv_asm.specs.FirstPass.{body_fault, first_fault, operand_fault};
+ghost use Rattle.rv_asm.specs.Layout.{behind, extended, layout, lines_of, statement_in, line_in, line_bytes};
+ghost use Rattle.rv_asm.specs.ReadOperand.{operands_in};
+ghost use Rattle.rv_asm.specs.ReadToken.{tokens_in};
+ghost use Rattle.rv_asm.specs.Statement.{statement};
 ghost use Rattle.rv_asm.specs.Symbols.{found};
-ghost use Rattle.rv_isa.specs.Word.{modulo_word};
+ghost use Rattle.rv_asm.specs.Token.{tokens_of};
 
-use crate::fault::AsmFault;
-use crate::operand::{Expression, Operand};
-use crate::operation::{Fields, Operation, Section};
-use crate::statement::Statement;
+use crate::fault::{AsmError, AsmFault};
+use crate::operand::Operand;
+use crate::operation::Form;
+use crate::reach::{Reach, advance};
+use crate::statement::{Statement, make_statement, needed, read};
 use crate::symbols::{Definition, Symbols};
-use crate::token::text_len;
-use rv_isa::{Immediate, ImmediateOp, Instr, Reg, UpperImmediate};
+use crate::token::{Token, TokenError, tokenize};
+use std::alloc::Global;
 
-/// The most bytes that text and data may have together.
-const LIMIT: u128 = 16_777_200;
-
-/// How far a text has come.
-#[derive(Clone, Copy)]
-pub struct Reach {
-    /// The section in force.
-    pub section: Section,
-    /// How many bytes the text section has so far.
-    pub text_size: usize,
-    /// How many bytes the data section has so far.
-    pub data_size: usize,
+/// What the first pass learns of a text.
+#[derive(Drop)]
+pub struct Layout<'a> {
+    pub symbols: Symbols<'a>,
+    pub reach: Reach,
 }
 
-impl Reach {
-    /// No section has bytes yet, and the text begins in `.text`.
-    pub const START: Reach = Reach {
-        section: Section::Text,
-        text_size: 0,
-        data_size: 0,
-    };
+/// The tokens of a line.
+pub fn read_tokens<'a>(alloc: Global, line: &'a [u8]) -> Result<Vec<Token<'a>>, AsmFault>
+    ensures { Follows (λ v. tokens_in v.items) result (ok_or (tokens_of line.entry.now) AsmFault.BadToken) }
+{
+    match tokenize(alloc, line) {
+        Ok(tokens) => Ok(tokens),
+        Err(TokenError::BadToken) => Err(AsmFault::BadToken),
+        Err(TokenError::Memory) => Err(AsmFault::Memory),
+    }
+}
 
-    /// How many bytes the section in force has so far.
-    pub fn offset(self) -> usize
-        ensures { result ≡ offset self }
+/// How many bytes stand before the first line feed.
+fn count_before_line_feed(text: &[u8]) -> usize
+    ensures count { result ≡ position_or_len (λ byte. byte == 10) text.now }
+    ensures in_range { result ≤ length text.now }
+{
+    for (i, byte) in text.iter().enumerate() {
+        if *byte == b'\n' {
+            return i;
+        }
+    }
+    text.len()
+}
+
+/// The line that begins at a place, and where the next one begins.
+pub fn line_at(text: &[u8], start: usize) -> (&[u8], Option<usize>)
+    requires { start ≤ length text.now }
+    ensures pieces { MatchOption result.1
+        (line_bytes (drop start text.entry.now) ≡ result.0.now ∷ [])
+        (λ next. line_bytes (drop start text.entry.now)
+        ≡ result.0.now ∷ line_bytes (drop next text.entry.now)) }
+    ensures later { IfSome result.1 (λ next. start < next) }
+    ensures in_range { IfSome result.1 (λ next. next ≤ length text.entry.now) }
+{
+    let (_, rest) = text.split_at(start);
+    let count = count_before_line_feed(rest);
+    let (line, _) = rest.split_at(count);
+    if count == rest.len() {
+        (line, None)
+    } else {
+        (line, Some(start + (count + 1)))
+    }
+}
+
+/// Adds a form with its operands. The answer is how far the text has come behind it.
+fn add_form<'a>(
+    symbols: &mut Symbols<'a>,
+    reach: Reach,
+    form: Form,
+    operands: &[Operand<'a>],
+) -> Result<Reach, AsmFault>
+    ensures added { IfOk result (λ _. operand_fault (found symbols.old) reach form (operands_in operands.now) ≡ None) }
+    ensures reach { IfOk result (λ next.
+        next ≡ (behind (found symbols.old) reach (statement form (operands_in operands.now))).reach) }
+    ensures symbols { IfOk result (λ _.
+        found symbols.new ≡ (behind (found symbols.old) reach (statement form (operands_in operands.now))).meanings) }
+    ensures refused { RefusedBy (operand_fault (found symbols.old) reach form (operands_in operands.now)) result }
+{
+    if let Some(name) = needed(form, operands) {
+        if symbols.constant(name).is_none() {
+            return Err(AsmFault::BadOperands);
+        }
+    }
+    let statement = match make_statement(form, operands) {
+        Ok(statement) => statement,
+        Err(fault) => return Err(fault),
+    };
+    let next = advance(symbols, &statement, operands, reach)?;
+    if let Statement::Constant(name, number) = statement {
+        symbols.define(name, Definition::Constant(number))?;
+    }
+    Ok(next)
+}
+
+/// Adds what stands behind the labels of a line. The answer is how far the text has come behind it.
+fn add_body<'a>(
+    alloc: Global,
+    symbols: &mut Symbols<'a>,
+    reach: Reach,
+    body: &[Token<'a>],
+) -> Result<Reach, AsmFault>
+    ensures added { IfOk result (λ _. body_fault (found symbols.old) reach (tokens_in body.now) ≡ None) }
+    ensures reach { IfOk result (λ next.
+        next ≡ (behind (found symbols.old) reach (statement_in (tokens_in body.now))).reach) }
+    ensures symbols { IfOk result (λ _.
+        found symbols.new ≡ (behind (found symbols.old) reach (statement_in (tokens_in body.now))).meanings) }
+    ensures refused { RefusedBy (body_fault (found symbols.old) reach (tokens_in body.now)) result }
+{
+    if symbols.redefines(body) {
+        return Err(AsmFault::DuplicateSymbol);
+    }
+    let reading = read(alloc, body)?;
+    add_form(symbols, reach, reading.form, reading.operands.as_slice())
+}
+
+impl<'a> Layout<'a> {
+    ghost use Rattle.rv_asm.specs.ReadLayout.{layout_of};
+
+    /// The layout of no lines.
+    pub fn new(alloc: Global) -> Self
+        ensures { layout_of result ≡ layout [] }
     {
-        match self.section {
-            Section::Text => self.text_size,
-            Section::Data => self.data_size,
+        Layout {
+            symbols: Symbols::new(alloc),
+            reach: Reach::START,
         }
     }
 
-    /// So many bytes more in the section in force, if text and data are not too large then.
-    fn grown(self, size: u128) -> Result<Reach, AsmFault>
-        requires { size < 2 ^ 100 }
-        ensures { result ≡ unless_too_large (grow_in self.section size self) }
+    /// Adds a line.
+    pub fn add(&mut self, alloc: Global, line: &'a [u8]) -> Result<(), AsmFault>
+        ensures added { IfOk result (λ _. first_fault (layout_of self.old) (line_in line.entry.now) ≡ None) }
+        ensures reach { IfOk result (λ _.
+            self.new.reach ≡ (extended (layout_of self.old) (line_in line.entry.now)).reach) }
+        ensures symbols { IfOk result (λ _.
+            found self.new.symbols ≡ (extended (layout_of self.old) (line_in line.entry.now)).meanings) }
+        ensures refused { RefusedBy (first_fault (layout_of self.old) (line_in line.entry.now)) result }
     {
-        let total = self.text_size as u128 + self.data_size as u128 + size;
-        if total > LIMIT {
-            return Err(AsmFault::TooLarge);
-        }
-        match self.section {
-            Section::Text => Ok(Reach {
-                text_size: self.text_size + size as usize,
-                ..self
-            }),
-            Section::Data => Ok(Reach {
-                data_size: self.data_size + size as usize,
-                ..self
-            }),
+        let tokens = read_tokens(alloc, line)?;
+        let here = Definition::Label(self.reach.section, self.reach.offset());
+        let count = self.symbols.define_labels(tokens.as_slice(), here)?;
+        let (_, body) = tokens.as_slice().split_at(count);
+        match add_body(alloc, &mut self.symbols, self.reach, body) {
+            Ok(reach) => {
+                self.reach = reach;
+                Ok(())
+            }
+            Err(fault) => Err(fault),
         }
     }
-}
 
-/// The value of an expression without labels.
-fn known<'a>(symbols: &Symbols<'a>, value: &Expression<'a>) -> i64
-    ensures { result ≡ known (found symbols.now) (expression_of value.now) }
-{
-    match *value {
-        Expression::Number(number) => number,
-        Expression::Symbol(name) => match symbols.get(name) {
-            Some(Definition::Constant(number)) => number,
-            _ => 0,
-        },
-        Expression::Sum(_, _) => 0,
-    }
-}
-
-/// A whole number modulo 2^32.
-pub fn modulo_word(number: i128) -> u32
-    ensures { result ≡ modulo_word number }
-{
-    number.rem_euclid(4294967296).unsigned_abs() as u32
-}
-
-/// A whole number modulo 2^32, read as a signed word.
-pub fn signed_word(number: i128) -> i32
-    ensures { result ≡ signed_word number }
-{
-    modulo_word(number).cast_signed()
-}
-
-/// The upper part of a signed word, for `lui` and `auipc`.
-fn upper(word: i32) -> UpperImmediate
-    ensures { result ≡ upper word }
-{
-    let rounded = (i64::from(word) + 2048).div_euclid(4096);
-    UpperImmediate::from_field(rounded.rem_euclid(1048576).unsigned_abs() as u32)
-}
-
-/// The lower part of a signed word, for the `addi` behind `lui` or `auipc`.
-fn lower(word: i32) -> Immediate
-    ensures { result ≡ lower word }
-{
-    let rest = (i64::from(word) + 2048).rem_euclid(4096) - 2048;
-    Immediate::from_field(rest as i32)
-}
-
-/// The instructions that load a signed word: one, or two.
-pub fn load_number(rd: Reg, word: i32) -> (Instr, Option<Instr>)
-    ensures { result.0 ∷ option_to_list result.1 ≡ load_number rd word }
-{
-    if let Some(immediate) = Immediate::new(word) {
-        return (
-            Instr::OpImmediate {
-                op: ImmediateOp::Addi,
-                rd,
-                rs1: Reg::ZERO,
-                immediate,
-            },
-            None,
-        );
-    }
-    let first = Instr::Lui {
-        rd,
-        immediate: upper(word),
-    };
-    let immediate = lower(word);
-    if immediate.value() == 0 {
-        return (first, None);
-    }
-    let second = Instr::OpImmediate {
-        op: ImmediateOp::Addi,
-        rd,
-        rs1: rd,
-        immediate,
-    };
-    (first, Some(second))
-}
-
-/// The instructions that load an address by its distance.
-pub fn load_address(rd: Reg, away: i32) -> (Instr, Option<Instr>)
-    ensures { result.0 ∷ option_to_list result.1 ≡ load_address rd away }
-{
-    let first = Instr::Auipc {
-        rd,
-        immediate: upper(away),
-    };
-    let second = Instr::OpImmediate {
-        op: ImmediateOp::Addi,
-        rd,
-        rs1: rd,
-        immediate: lower(away),
-    };
-    (first, Some(second))
-}
-
-/// The bytes of an instruction.
-fn instruction_size<'a>(
-    symbols: &Symbols<'a>,
-    operation: Operation,
-    fields: Fields,
-    value: &Expression<'a>,
-) -> usize
-    ensures size { result ≡ instruction_size (found symbols.now) operation fields (expression_of value.now) }
-    ensures small { result ≤ 8 }
-{
-    match operation {
-        Operation::LoadNumber => {
-            let word = signed_word(i128::from(known(symbols, value)));
-            match load_number(fields.rd, word) {
-                (_, None) => 4,
-                (_, Some(_)) => 8,
+    /// The layout of a text, or its first fault in the first pass.
+    pub fn of_text(alloc: Global, text: &'a [u8]) -> Result<Self, AsmError>
+        ensures clean { IfOk result (λ _. first_fault_of (lines_of text.entry.now) ≡ None) }
+        ensures tells { IfOk result (λ program. layout_of program ≡ layout (lines_of text.entry.now)) }
+        ensures refused { RefusedAt (first_fault_of (lines_of text.entry.now)) result }
+        ensures memory { IfErr result (λ error. error.fault ≡ AsmFault.Memory → error.line ≡ 0) }
+    {
+        let mut layout = Layout::new(alloc);
+        let mut number = 0;
+        let mut start = 0;
+        loop {
+            let (line, next) = line_at(text, start);
+            number += 1;
+            if let Err(fault) = layout.add(alloc, line) {
+                return Err(AsmError::at(fault, number));
+            }
+            match next {
+                None => return Ok(layout),
+                Some(behind) => start = behind,
             }
         }
-        Operation::LoadAddress => 8,
-        _ => 4,
     }
-}
-
-/// The least number of bytes that leads from an offset to a multiple.
-pub fn padding(multiple: usize, offset: usize) -> usize
-    requires { 0 < multiple }
-    ensures padding { result ≡ padding multiple offset }
-    ensures small { result < multiple }
-{
-    (multiple - offset % multiple) % multiple
-}
-
-/// The bytes of a statement at an offset.
-fn size<'a>(
-    symbols: &Symbols<'a>,
-    offset: usize,
-    statement: &Statement<'a>,
-    operands: &[Operand<'a>],
-) -> u128
-    ensures size { result ≡ size (found symbols.now) offset (statement_of (operands_in operands.now) statement.now) }
-    ensures small { result < 2 ^ 100 }
-{
-    match statement {
-        Statement::Instruction(operation, fields, value) => {
-            instruction_size(symbols, *operation, *fields, value) as u128
-        }
-        Statement::Values(width) => u128::from(width.bytes()) * operands.len() as u128,
-        Statement::Zeros(count) => *count as u128,
-        Statement::Align(multiple) if *multiple > 0 => padding(*multiple, offset) as u128,
-        Statement::Characters(raw, terminated) => text_len(raw) as u128 + u128::from(*terminated),
-        _ => 0,
-    }
-}
-
-/// How far the text has come behind a statement, if it is not too large then.
-pub fn advance<'a>(
-    symbols: &Symbols<'a>,
-    statement: &Statement<'a>,
-    operands: &[Operand<'a>],
-    reach: Reach,
-) -> Result<Reach, AsmFault>
-    ensures { result ≡ unless_too_large
-        (advance (found symbols.now) (statement_of (operands_in operands.now) statement.now) reach) }
-{
-    if let Statement::Choice(section) = statement {
-        return Reach {
-            section: *section,
-            ..reach
-        }
-        .grown(0);
-    }
-    reach.grown(size(symbols, reach.offset(), statement, operands))
 }

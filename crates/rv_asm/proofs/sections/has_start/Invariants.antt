@@ -3,7 +3,7 @@ use Rattle.std.specs.List.{list_any}
 use Rattle.rv_asm.specs.Faults.{is_start}
 use Rattle.rv_asm.specs.Layout.{labels_of}
 use Rattle.rv_asm.specs.ReadToken.{token_of}
-use Rattle.rv_asm.proofs.second_pass.has_start.Given as goal
+use Rattle.rv_asm.proofs.sections.has_start.Given as goal
 
 -- none of the labels so far is _start
 abbrev pub invariant-loop-name : goal.invariant-loop-name

@@ -1,7 +1,7 @@
 use Rattle.std.proofs.Common.{◌≡◌, ◌≤◌, ◌-◌, map, length, drop}
 use Rattle.rv_asm.specs.Layout.{body_of}
 use Rattle.rv_asm.specs.ReadToken.{token_of}
-use Rattle.rv_asm.proofs.second_pass.count_labels.Given as goal
+use Rattle.rv_asm.proofs.sections.count_labels.Given as goal
 
 abbrev pub invariant-loop-name : goal.invariant-loop-name
 invariant-loop-name l = record {

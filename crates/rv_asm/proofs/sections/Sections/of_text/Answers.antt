@@ -7,7 +7,7 @@ use Rattle.rv_asm.specs.Layout.{layout, line_of, lines_of}
 use Rattle.rv_asm.specs.Meaning.{nothing}
 use Rattle.rv_asm.specs.ReadLayout.{layout_of}
 use Rattle.rv_asm.specs.Token.{tokens_of}
-use Rattle.rv_asm.proofs.second_pass.Sections.of_text.Goals as goal
+use Rattle.rv_asm.proofs.sections.Sections.of_text.Goals as goal
 
 pub lines-init : goal.lines-init
 lines-init c = record {

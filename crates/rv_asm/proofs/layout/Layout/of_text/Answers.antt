@@ -4,7 +4,7 @@ use Rattle.rv_asm.specs.FirstPass.{first_fault}
 use Rattle.rv_asm.specs.Layout.{layout, line_of}
 use Rattle.rv_asm.specs.ReadLayout.{layout_of}
 use Rattle.rv_asm.specs.Token.{tokens_of}
-use Rattle.rv_asm.proofs.first_pass.Layout.of_text.Goals as goal
+use Rattle.rv_asm.proofs.layout.Layout.of_text.Goals as goal
 
 pub returns-in-Err-clause-refused : goal.returns-in-Err-clause-refused
 returns-in-Err-clause-refused c = λ memory.

@@ -4,7 +4,7 @@ use Rattle.std.proofs.lemmas.List.{drop-drop}
 use Rattle.rv_asm.specs.Faults.{is_start}
 use Rattle.rv_asm.specs.Layout.{labels_of}
 use Rattle.rv_asm.specs.ReadToken.{token_of}
-use Rattle.rv_asm.proofs.second_pass.has_start.Goals as goal
+use Rattle.rv_asm.proofs.sections.has_start.Goals as goal
 
 pub loop-name-preserved : goal.loop-name-preserved
 loop-name-preserved c =

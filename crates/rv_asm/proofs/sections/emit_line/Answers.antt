@@ -5,7 +5,7 @@ use Rattle.rv_asm.specs.ReadLayout.{layout_of}
 use Rattle.rv_asm.specs.ReadToken.{token_of}
 use Rattle.rv_asm.specs.Symbols.{found}
 use Rattle.rv_asm.specs.Token.{tokens_of}
-use Rattle.rv_asm.proofs.second_pass.emit_line.Goals as goal
+use Rattle.rv_asm.proofs.sections.emit_line.Goals as goal
 
 pub emit_body-requires : goal.emit_body-requires
 emit_body-requires c = ap is_too_large (sym (behind_is (found c.args.layout.now.symbols) c.args.reach (tokens_of c.args.line.now) c.in_ok-tokens.tokens.items c.as_slice-slice.result.now c.split_at.result.1.now c.in_ok-tokens.ensures c.as_slice-slice.ensures.value (c.count_labels-count.ensures.body ∙ ap (map token_of) (sym c.split_at.ensures.back)))) ∙ c.requires

@@ -1,6 +1,6 @@
 use Rattle.std.proofs.Common.{◌≡◌, ◌+◌, ◌==◌, drop}
 use Rattle.std.specs.List.{position_or_len}
-use Rattle.rv_asm.proofs.first_pass.count_before_line_feed.Given as goal
+use Rattle.rv_asm.proofs.layout.count_before_line_feed.Given as goal
 
 -- no line feed yet
 abbrev pub invariant-loop-i : goal.invariant-loop-i

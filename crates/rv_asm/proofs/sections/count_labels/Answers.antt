@@ -2,7 +2,7 @@ use Rattle.std.proofs.Common.{◌≡◌, ◌∙◌, ◌+◌, ap, sym, arith, map
 use Rattle.std.proofs.lemmas.List.{drop-drop}
 use Rattle.rv_asm.specs.Layout.{body_of}
 use Rattle.rv_asm.specs.ReadToken.{token_of}
-use Rattle.rv_asm.proofs.second_pass.count_labels.Goals as goal
+use Rattle.rv_asm.proofs.sections.count_labels.Goals as goal
 
 pub loop-name-preserved : goal.loop-name-preserved
 loop-name-preserved c =

@@ -5,7 +5,7 @@ use Rattle.rv_asm.specs.ReadToken.{token_of}
 use Rattle.rv_asm.specs.Symbols.{found}
 use Rattle.rv_asm.specs.Token.{tokens_of}
 use Rattle.rv_asm.specs.declared.symbols.Definition.TheVariants.{Label}
-use Rattle.rv_asm.proofs.first_pass.Layout.add.Goals as goal
+use Rattle.rv_asm.proofs.layout.Layout.add.Goals as goal
 
 pub returns-in-Ok-clause-added : goal.returns-in-Ok-clause-added
 returns-in-Ok-clause-added c = fault_is (layout_of c.args.self.now) (tokens_of c.args.line.now) c.in_ok-tokens.tokens.items c.as_slice.result.now c.split_at.result.1.now (Label c.args.self.now.reach.section c.offset.result) (found c.define_labels.new.self) c.in_ok-tokens.ensures c.as_slice.ensures.value (ap (Label c.args.self.now.reach.section) c.offset.ensures) (c.in_ok-count.ensures.body.1 ∙ ap (map token_of) (ap (drop c.in_ok-count.count) (c.as_slice.ensures.value ∙ sym c.as_slice-2.ensures.value) ∙ sym c.split_at.ensures.back)) c.in_ok-count.ensures.fresh c.in_ok-count.ensures.labels ∙ c.in-Ok.ensures.added

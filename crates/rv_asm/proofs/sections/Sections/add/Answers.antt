@@ -1,6 +1,6 @@
 use Rattle.rv_asm.proofs.SectionsSoFar.{section_more}
 use Rattle.rv_asm.specs.declared.operation.Section.TheVariants as section
-use Rattle.rv_asm.proofs.second_pass.Sections.add.Goals as goal
+use Rattle.rv_asm.proofs.sections.Sections.add.Goals as goal
 
 pub returns-in-Text-clause-text : goal.returns-in-Text-clause-text
 returns-in-Text-clause-text c = λ parts spells. section_more section.Text _ c.emit_line.result _ parts _ _ c.in-Text.is c.emit_line.ensures.emitted spells

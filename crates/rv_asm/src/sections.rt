@@ -17,14 +17,14 @@ ghost use Rattle.rv_asm.specs.Symbols.{found};
 
 use crate::emit::emit;
 use crate::fault::{AsmError, AsmFault};
-use crate::first_pass::{Layout, line_at, read_tokens};
-use crate::layout::{Reach, advance, modulo_word};
+use crate::layout::{Layout, line_at, read_tokens};
 use crate::operand::Operand;
 use crate::operation::{Form, Section};
+use crate::reach::{Reach, advance, modulo_word};
 use crate::statement::{Statement, make_statement, read};
 use crate::symbols::next_label;
 use crate::token::Token;
-use crate::values::{start_of, value_of};
+use crate::values::SymbolValues;
 use std::alloc::Global;
 
 /// The name of the symbol where execution starts.
@@ -73,7 +73,12 @@ fn has_start(tokens: &[Token<'_>]) -> bool
 pub fn start_address(layout: &Layout<'_>, base: u32) -> u32
     ensures { result ≡ start_address base (layout_of layout.now) }
 {
-    match value_of(&layout.symbols, base, layout.reach.text_size, START) {
+    let values = SymbolValues {
+        symbols: &layout.symbols,
+        base,
+        text_size: layout.reach.text_size,
+    };
+    match values.value_of(START) {
         Some(value) => modulo_word(value),
         None => base,
     }
@@ -109,19 +114,14 @@ fn emit_form<'a>(
         Ok(statement) => statement,
         Err(fault) => return Err(fault),
     };
-    let text_size = layout.reach.text_size;
-    let start = start_of(base, text_size, reach.section);
-    let next = advance(&layout.symbols, &statement, operands, reach)?;
-    emit(
-        &layout.symbols,
+    let values = SymbolValues {
+        symbols: &layout.symbols,
         base,
-        text_size,
-        start,
-        reach.offset(),
-        &statement,
-        operands,
-        out,
-    )?;
+        text_size: layout.reach.text_size,
+    };
+    let start = values.start_of(reach.section);
+    let next = advance(&layout.symbols, &statement, operands, reach)?;
+    emit(&values, start, reach.offset(), &statement, operands, out)?;
     let starts = match statement {
         Statement::Constant(name, _) => is_start(name),
         _ => false,

@@ -3,7 +3,7 @@ use Rattle.rv_asm.proofs.Lines.{AfterLines}
 use Rattle.rv_asm.proofs.SectionsSoFar.{SoFar}
 use Rattle.rv_asm.specs.Faults.{second_fault}
 use Rattle.rv_asm.specs.Layout.{layout, lines_of}
-use Rattle.rv_asm.proofs.second_pass.Sections.of_text.Given as goal
+use Rattle.rv_asm.proofs.sections.Sections.of_text.Given as goal
 
 -- the lines so far have no fault, and what they mean is in the sections
 abbrev pub invariant-lines : goal.invariant-lines
