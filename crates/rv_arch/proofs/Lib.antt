@@ -1,5 +1,3 @@
-pub mod InRam
-pub mod MarkedWords
 pub mod RunInvariants
 pub mod Runs
 pub mod StepLaws

@@ -8,7 +8,7 @@ use Rattle.rv_isa.specs.declared.lines.Arrival.{Arrival}
 use Rattle.rv_isa.specs.declared.lines.Lines.{Lines}
 use Rattle.rv_isa.specs.Arrivals.{lines_at}
 use Rattle.rv_arch.specs.declared.outcome.RefStep.{RefStep}
-use Rattle.rv_arch.specs.Memory.{Layout}
+use Rattle.rv_memory.specs.Memory.{Layout}
 use Rattle.rv_arch.specs.Run.{Run, ended, stepped, is_stale, count_of, lines_through}
 use Rattle.rv_arch.specs.State.{State}
 use Rattle.rv_arch.specs.Step.{Step}

@@ -7,7 +7,7 @@ use mathlib.Core.Bool.{true≢false}
 use Rattle.rv_decode.specs.Decodes.{Decodes, IsIllegal}
 use Rattle.rv_isa.specs.Cause.{code_of}
 use Rattle.rv_isa.specs.Operation.{bytes_of, width_of}
-use Rattle.rv_isa.specs.Word.{modulo_word}
+use Rattle.rv_isa.specs.Word.{modulo_word, sum}
 use Rattle.rv_isa.specs.declared.causes.Cause.{Cause}
 use Rattle.rv_isa.specs.declared.instructions.Instr.{Instr}
 use Rattle.rv_isa.specs.declared.instructions.Instr.TheVariants.{Lui, Auipc, Jal, Jalr, Branch, Load, Store, OpImmediate, Shift, Op, Fence, FenceI, Csr, Ecall, Ebreak, Mret, Wfi}
@@ -15,8 +15,8 @@ use Rattle.rv_isa.specs.declared.lines.Lines.{Lines}
 use Rattle.rv_arch.specs.declared.outcome.RefStep.{RefStep}
 use Rattle.rv_arch.specs.declared.outcome.RefStep.TheVariants.{Retired, Trap, Interrupt}
 use Rattle.rv_arch.specs.Access.{accessed, StaysInRam}
-use Rattle.rv_arch.specs.Effect.{Effect, effect, sum, Retires, Faults}
-use Rattle.rv_arch.specs.Memory.{Layout, is_in_ram, is_writable, is_aligned}
+use Rattle.rv_arch.specs.Effect.{Effect, effect, Retires, Faults}
+use Rattle.rv_memory.specs.Memory.{Layout, is_in_ram, is_writable, is_aligned}
 use Rattle.rv_arch.specs.Run.{is_retired}
 use Rattle.rv_arch.specs.State.{State, register_of}
 use Rattle.rv_arch.specs.Step.{Step, IsFetched, word_at_pc, trap_taken, interrupted, unfetched, stale, illegal, faulted, retired}

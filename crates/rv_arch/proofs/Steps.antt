@@ -10,7 +10,7 @@ use Rattle.rv_isa.specs.declared.lines.Lines.{Lines}
 use Rattle.rv_arch.specs.declared.outcome.RefStep.{RefStep}
 use Rattle.rv_arch.specs.declared.outcome.RefStep.TheVariants.{Retired, Trap, Interrupt, Stale}
 use Rattle.rv_arch.specs.Effect.{effect, Retires, Faults}
-use Rattle.rv_arch.specs.Memory.{Layout}
+use Rattle.rv_memory.specs.Memory.{Layout}
 use Rattle.rv_arch.specs.Run.{is_stale}
 use Rattle.rv_arch.specs.State.{State}
 use Rattle.rv_arch.specs.Step.{Step, IsFetched, trap_taken, word_at_pc, interrupted, unfetched, stale, illegal, faulted, retired}

@@ -1,11 +1,10 @@
 use Rattle.std.specs.Prelude.{◌≡◌, ℕ, true, Option, Some, None, IfSome}
 use Rattle.rv_isa.specs.Operation.{bytes_of, width_of}
-use Rattle.rv_isa.specs.Word.{modulo_word}
+use Rattle.rv_isa.specs.Word.{modulo_word, sum}
 use Rattle.rv_isa.specs.declared.instructions.Instr.{Instr}
 use Rattle.rv_isa.specs.declared.instructions.Instr.TheVariants.{Load, Store}
 use Rattle.rv_decode.specs.Decodes.{Decodes}
-use Rattle.rv_arch.specs.Effect.{sum}
-use Rattle.rv_arch.specs.Memory.{Layout, is_in_ram}
+use Rattle.rv_memory.specs.Memory.{Layout, is_in_ram}
 use Rattle.rv_arch.specs.State.{State, register_of}
 use Rattle.rv_arch.specs.Step.{word_at_pc}
 

@@ -48,10 +48,17 @@ interrupt_bits lines = bit lines.software 3 + bit lines.timer 7 + bit lines.exte
 abbrev pub interrupts_of : ℕ → Lines
 interrupts_of word = record { software = has_bit word 3; timer = has_bit word 7; external = has_bit word 11 }
 
+-- Privileged Architecture 20211203, 3.1.6.1: MPP in bits 12 and 11, always 3 for machine mode, MPIE in bit 7, MIE in bit 3
+abbrev pub mstatus_of : Kept → ℕ
+mstatus_of kept = 3 * 2 ^ 11 + bit kept.mstatus_mpie 7 + bit kept.mstatus_mie 3
+
+-- Privileged Architecture 20211203, 3.1.6.1: the mode before a trap, as mstatus has it
+abbrev pub mpp_of : ℕ → ℕ
+mpp_of mstatus = mstatus / 2 ^ 11 % 4
+
 -- Privileged Architecture 20211203, 3.1.1 to 3.1.17: what each CSR reads
 abbrev pub value_of : Kept → Lines → Csr → ℕ
--- 3.1.6: MPP, in bits 12 and 11, is always 3
-value_of kept lines Mstatus = 0x1800 + bit kept.mstatus_mpie 7 + bit kept.mstatus_mie 3
+value_of kept lines Mstatus = mstatus_of kept
 -- 3.1.1: MXL 1 for 32 bits, and the letters I and M
 value_of kept lines Misa = 0x40001100
 value_of kept lines Mie = interrupt_bits kept.mie
@@ -97,7 +104,7 @@ written kept Mconfigptr word = kept
 
 -- Privileged Architecture 20211203, 2.1: bits 11 and 10 of a read-only CSR's address are both 1
 abbrev pub is_read_only : ℕ → Bool
-is_read_only address = address / 1024 % 4 == 3
+is_read_only address = has_bit address 11 && has_bit address 10
 
 -- Unprivileged ISA 20191213, 9.1: csrrs and csrrc with x0, csrrsi and csrrci with 0, do not write
 abbrev pub does_write : CsrOp → Bool → Bool

@@ -1,12 +1,14 @@
-use Rattle.std.specs.Prelude.{ℕ, ◌&&◌, Option, Some, None, if◌then◌else◌}
+use Rattle.std.specs.Prelude.{ℕ, ◌&&◌, Bool, if◌then◌else◌, [], ◌∷◌, Option, None}
+use Rattle.std.specs.List.{find}
 use Rattle.rv_isa.specs.declared.lines.Lines.{Lines}
-use Rattle.rv_arch.specs.Csr.{Kept}
+use Rattle.rv_arch.specs.declared.csr.Csr.TheVariants.{Mie, Mip}
+use Rattle.rv_arch.specs.Csr.{Kept, has_bit, value_of}
 
--- Privileged Architecture 20211203, 3.1.9: the code of the interrupt that is due. mstatus.MIE and the bit of mie enable it;
--- external interrupts come before software interrupts, and these before timer interrupts.
+-- Privileged Architecture 20211203, 3.1.9: an interrupt is pending and enabled where its bit is 1 in mip and in mie
+abbrev pub is_enabled : Kept → Lines → ℕ → Bool
+is_enabled kept lines code = has_bit (value_of kept lines Mie) code && has_bit (value_of kept lines Mip) code
+
+-- Privileged Architecture 20211203, 3.1.9: the code of the interrupt that is due, where mstatus.MIE is 1: external interrupts,
+-- 11, come before software interrupts, 3, and these before timer interrupts, 7
 abbrev pub due : Kept → Lines → Option ℕ
-due kept lines =
-    if kept.mstatus_mie && (kept.mie.external && lines.external) then Some 11
-    else (if kept.mstatus_mie && (kept.mie.software && lines.software) then Some 3
-    else (if kept.mstatus_mie && (kept.mie.timer && lines.timer) then Some 7
-    else None))
+due kept lines = if kept.mstatus_mie then find (is_enabled kept lines) (11 ∷ 3 ∷ 7 ∷ []) else None

@@ -3,8 +3,7 @@ pub mod Csr
 pub mod Due
 pub mod Effect
 pub mod Machine
-pub mod Marks
-pub mod Memory
+pub mod MachineCode
 pub mod Performed
 pub mod Reset
 pub mod Run

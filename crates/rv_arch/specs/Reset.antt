@@ -2,7 +2,7 @@ use Rattle.std.specs.Prelude.{ℕ, false, ◌-◌, List, ◌++◌, length, repli
 use Rattle.std.specs.FinSet as set
 use Rattle.rv_isa.specs.declared.lines.Lines.{Lines}
 use Rattle.rv_arch.specs.Csr.{Kept}
-use Rattle.rv_arch.specs.Memory.{Layout}
+use Rattle.rv_memory.specs.Memory.{Layout}
 use Rattle.rv_arch.specs.State.{State}
 
 -- Privileged Architecture 20211203, 3.4: mstatus.MIE is 0; what the manual leaves open is 0 here

@@ -8,7 +8,7 @@ use Rattle.rv_arch.specs.declared.outcome.Stop.{Stop}
 use Rattle.rv_arch.specs.declared.outcome.Stop.TheVariants as stop
 use Rattle.rv_arch.specs.declared.outcome.RefOutcome.{RefOutcome}
 use Rattle.rv_arch.specs.Machine.{Machine}
-use Rattle.rv_arch.specs.Memory.{Layout}
+use Rattle.rv_memory.specs.Memory.{Layout}
 use Rattle.rv_arch.specs.Run.{Run, is_retired, is_trap, is_interrupt, is_breakpoint, count_of, lines_through}
 use Rattle.rv_arch.specs.State.{State}
 use Rattle.rv_arch.specs.Step.{Step}

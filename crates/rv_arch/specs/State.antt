@@ -1,6 +1,7 @@
-use Rattle.std.specs.Prelude.{ℕ, ◌==◌, ◌+◌, ◌%◌, ◌^◌, if◌then◌else◌, List, slice_index, slice_set, Option, Some, None}
+use Rattle.std.specs.Prelude.{◌≡◌, ℕ, ◌==◌, ◌*◌, ◌%◌, if◌then◌else◌, List, length, slice_index, slice_set, IsTrue, Option, Some, None}
 use Rattle.std.specs.Ordering.{nat_cmp}
 use Rattle.std.specs.FinSet as set
+use Rattle.rv_memory.specs.Memory.{Layout, is_in_ram}
 use Rattle.rv_arch.specs.Csr.{Kept}
 
 -- The state that programs see (Unprivileged ISA 20191213, 2.1; Privileged Architecture 20211203, 3.1): the pc, x0 to x31, what
@@ -21,10 +22,15 @@ register_of s r = slice_index s.registers r
 abbrev pub with_register : List ℕ → ℕ → ℕ → List ℕ
 with_register registers r value = if r == 0 then registers else slice_set registers r value
 
--- the register that changes, and its value
+-- Unprivileged ISA 20191213, 2.1: the register that changes, and its value
 abbrev pub write_of : ℕ → ℕ → Option (ℕ × ℕ)
 write_of r value = if r == 0 then None else Some (r, value)
 
--- the address of the next instruction in memory
-abbrev pub pc_plus_4 : State → ℕ
-pc_plus_4 s = (s.pc + 4) % 2 ^ 32
+-- What every state is: pc is a multiple of 4, there are 32 registers, of which x0 is 0, and as many bytes as RAM has, and a
+-- stale word lies in RAM.
+pub record IsState (layout : Layout) (s : State) : Type 0 where
+  pub pc : s.pc % 4 ≡ 0
+  pub registers : length s.registers ≡ 32
+  pub x0 : register_of s 0 ≡ 0
+  pub ram : length s.ram ≡ layout.size
+  pub stale : (word : ℕ) → IsTrue (set.contains s.stale word) → IsTrue (is_in_ram layout (4 * word) 4)

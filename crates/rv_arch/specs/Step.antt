@@ -10,7 +10,7 @@ use Rattle.rv_arch.specs.declared.outcome.RefStep.{RefStep}
 use Rattle.rv_arch.specs.declared.outcome.RefStep.TheVariants.{Retired, Trap, Interrupt, Stale}
 use Rattle.rv_arch.specs.Due.{due}
 use Rattle.rv_arch.specs.Trap.{interrupt_cause, handler_of, trapped}
-use Rattle.rv_arch.specs.Memory.{Layout, is_in_ram, number_at, word_of}
+use Rattle.rv_memory.specs.Memory.{Layout, is_in_ram, number_at, word_of}
 use Rattle.rv_arch.specs.State.{State}
 use Rattle.rv_arch.specs.Effect.{effect, Retires, Faults}
 

@@ -68,7 +68,7 @@ pub(crate) fn does_write(op: CsrOp, field_is_zero: bool) -> bool
 pub(crate) fn is_read_only(address: u32) -> bool
     ensures { result ≡ is_read_only address }
 {
-    address / 1024 % 4 == 3
+    has_bit(address, 11) && has_bit(address, 10)
 }
 
 /// The word that a CSR instruction writes.

@@ -59,7 +59,7 @@ impl Model for Csrs {
 }
 
 impl Csrs {
-    ghost use Rattle.rv_arch.specs.Csr.{value_of, written, read_at, access};
+    ghost use Rattle.rv_arch.specs.Csr.{mpp_of, mstatus_of, value_of, written, read_at, access};
     ghost use Rattle.rv_arch.specs.Trap.{trapped, returned, handler_of};
     ghost use Rattle.rv_arch.specs.Due.{due};
     ghost use Rattle.rv_arch.specs.Reset.{reset_csrs};
@@ -190,6 +190,7 @@ impl Csrs {
         ensures handler { result ≡ handler_of self.old cause }
         ensures aligned { result % 4 ≡ 0 }
         ensures kept { self.new ≡ trapped self.old pc cause value }
+        ensures mpp { mpp_of (mstatus_of self.new) ≡ 3 }
     {
         self.mstatus_mpie = self.mstatus_mie;
         self.mstatus_mie = false;
@@ -204,6 +205,7 @@ impl Csrs {
         ensures target { result ≡ self.old.mepc }
         ensures aligned { result % 4 ≡ 0 }
         ensures kept { self.new ≡ returned self.old }
+        ensures mpp { mpp_of (mstatus_of self.new) ≡ 3 }
     {
         self.mstatus_mie = self.mstatus_mpie;
         self.mstatus_mpie = true;

@@ -1,24 +1,23 @@
 ghost use Rattle.std.specs.Prelude.{◌≡◌, ◌%◌, ◌*◌, ◌^◌, ◌<◌, IfOk};
 ghost use Rattle.rv_isa.specs.Operation.{bytes_of, width_of, is_sign_extended};
-ghost use Rattle.rv_isa.specs.Word.{modulo_word};
+ghost use Rattle.rv_isa.specs.Word.{modulo_word, sum, pc_plus_4};
 ghost use Rattle.rv_arch.specs.Csr.{access};
-ghost use Rattle.rv_arch.specs.Effect.{effect, sum, writes, goes_to, jumps, branches, loads, stores, refreshes, accesses, operand_of, returns_from_trap};
-ghost use Rattle.rv_arch.specs.Memory.{extended};
+ghost use Rattle.rv_arch.specs.Effect.{effect, extended, writes, goes_to, jumps, branches, loads, stores, refreshes, accesses, returns_from_trap};
 ghost use Rattle.rv_arch.specs.Performed.{IsPerformed};
-ghost use Rattle.rv_arch.specs.State.{register_of, pc_plus_4};
+ghost use Rattle.rv_arch.specs.State.{register_of};
 
 use crate::csr::CsrOperand;
 use crate::reference::Reference;
 use rv_isa::{
-    Cause, CsrAddress, CsrOp, CsrSource, Fault, Immediate, Instr, Lines, LoadForm, Reg, Width, alu,
+    Cause, CsrAddress, CsrOp, Fault, Immediate, Instr, Lines, LoadForm, Reg, Width, alu,
     branch_taken,
 };
 
 /// The register that a retired instruction changed, with its value; or the instruction's fault.
 pub(crate) type Performed = Result<Option<(Reg, u32)>, Fault>;
 
-/// A number that a load read, as a word.
-fn extended(form: LoadForm, number: u32) -> u32
+/// A number that a load read, as a word: `lb` and `lh` extend it by its sign.
+pub fn extended(form: LoadForm, number: u32) -> u32
     requires { number < 2 ^ (8 * bytes_of (width_of form)) }
     ensures { result ≡ extended (is_sign_extended form) (bytes_of (width_of form)) number }
 {
@@ -32,7 +31,7 @@ fn extended(form: LoadForm, number: u32) -> u32
 impl Reference {
     /// Writes a register and goes on behind the instruction.
     fn compute(&mut self, rd: Reg, value: u32) -> Performed
-        ensures { IsPerformed (writes self.old.state rd value (pc_plus_4 self.old.state)) result self.old self.new }
+        ensures { IsPerformed (writes self.old.state rd value (pc_plus_4 self.old.state.pc)) result self.old self.new }
     {
         let next = self.pc_plus_4();
         let written = self.write(rd, value);
@@ -42,7 +41,7 @@ impl Reference {
 
     /// Goes on behind the instruction.
     fn pass(&mut self) -> Performed
-        ensures { IsPerformed (goes_to self.old.state (pc_plus_4 self.old.state)) result self.old self.new }
+        ensures { IsPerformed (goes_to self.old.state (pc_plus_4 self.old.state.pc)) result self.old self.new }
     {
         let next = self.pc_plus_4();
         self.go_to(next);
@@ -129,22 +128,6 @@ impl Reference {
     {
         self.make_fresh();
         self.pass()
-    }
-
-    /// The source of a CSR instruction.
-    fn operand(&self, source: CsrSource) -> CsrOperand
-        ensures { result ≡ operand_of self.now.state source }
-    {
-        match source {
-            CsrSource::Register(register) => CsrOperand {
-                value: self.register(register),
-                field_is_zero: register == Reg::ZERO,
-            },
-            CsrSource::Immediate(immediate) => CsrOperand {
-                value: immediate.value(),
-                field_is_zero: immediate.value() == 0,
-            },
-        }
     }
 
     /// Executes a CSR instruction, of which `word` is the word.

@@ -3,12 +3,10 @@
 //! against.
 #![tactic(auto)]
 
-mod byte_access;
 mod csr;
 mod csr_fields;
 mod csrs;
 mod execution;
-mod memory;
 mod observed;
 mod outcome;
 mod reference;
@@ -19,6 +17,7 @@ mod tests;
 
 pub use csr::{Csr, CsrOperand, Illegal};
 pub use csrs::Csrs;
+pub use execution::extended;
 pub use observed::Observed;
 pub use outcome::{RefOutcome, RefStep, Stop};
 pub use reference::Reference;

@@ -1,20 +1,22 @@
-ghost use Rattle.std.specs.Prelude.{◌≡◌, ◌%◌, ◌*◌, ◌^◌, ◌<◌, ◌≤◌, true, length, IfOk, IfSome, IsTrue, OnErr, None, Some};
+ghost use Rattle.std.specs.Prelude.{◌≡◌, ◌%◌, ◌*◌, ◌^◌, ◌<◌, ◌≤◌, length, IfOk, IfSome, IsTrue, OnErr, None, Some};
 ghost use Rattle.std.specs.Bool.{OnTrue};
 ghost use Rattle.std.specs.FinSet as set;
+ghost use Rattle.rv_isa.specs.Description.{IsRamBase, IsRamSize};
 ghost use Rattle.rv_isa.specs.Operation.{bytes_of};
+ghost use Rattle.rv_isa.specs.Word.{pc_plus_4, sum};
+ghost use Rattle.rv_memory.specs.Memory.{Layout, is_in_ram, is_writable, number_at, with_stored, word_of, byte_seen};
 ghost use Rattle.rv_arch.specs.Csr.{access};
 ghost use Rattle.rv_arch.specs.Due.{due};
-ghost use Rattle.rv_arch.specs.Effect.{sum};
-ghost use Rattle.rv_arch.specs.Memory.{Layout, IsRamBase, IsRamSize, is_in_ram, is_writable, number_at, with_stored, word_of, byte_seen};
-ghost use Rattle.rv_arch.specs.State.{register_of, with_register, write_of, pc_plus_4};
+ghost use Rattle.rv_arch.specs.Effect.{operand_of};
+ghost use Rattle.rv_arch.specs.State.{IsState, register_of, with_register, write_of};
 ghost use Rattle.rv_arch.specs.Step.{trap_taken};
 ghost use Rattle.rv_arch.specs.Trap.{returned};
 
 use crate::csr::{CsrOperand, Illegal};
 use crate::csrs::Csrs;
-use crate::memory::Memory;
 use crate::observed::Observed;
-use rv_isa::{CsrAddress, CsrOp, Lines, Reg, Width};
+use rv_isa::{CsrAddress, CsrOp, CsrSource, Lines, Reg, Width};
+use rv_memory::{Ram, StaleMap};
 use std::alloc::{AllocError, Global};
 use std::marker::Model;
 
@@ -24,31 +26,37 @@ pub struct Reference {
     pc: u32,
     registers: [u32; 32],
     csrs: Csrs,
-    memory: Memory,
+    ram: Ram,
+    stale: StaleMap,
     lines: Lines,
 }
 
 impl Model for Reference {
     ghost use Rattle.std.specs.Prelude.{◌≡◌, ◌%◌, slice_index};
-    ghost use Rattle.rv_arch.specs.Machine.{Machine, machine_code};
+    ghost use Rattle.rv_memory.specs.Memory.{IsSized};
+    ghost use Rattle.rv_memory.specs.Stale.{AreCovered};
+    ghost use Rattle.rv_arch.specs.Machine.{Machine};
+    ghost use Rattle.rv_arch.specs.MachineCode.{machine_code};
 
     ghost Value = { Machine };
 
     ghost coded = { machine_code };
 
     ghost view = { λ r. record {
-      layout = r.memory.layout;
+      layout = r.ram.layout;
       state = record {
         pc = r.pc;
         registers = r.registers;
         csrs = r.csrs;
-        ram = r.memory.bytes;
-        stale = r.memory.stale;
+        ram = r.ram.bytes;
+        stale = r.stale.words;
       };
       lines = r.lines;
     } };
 
-    ghost invariant = { λ r. (r.pc % 4 ≡ 0) × (slice_index r.registers 0 ≡ 0) };
+    ghost invariant = { λ r.
+        (r.pc % 4 ≡ 0) × (slice_index r.registers 0 ≡ 0) × IsSized r.ram
+        × (r.stale.base ≡ r.ram.layout.base) × (r.stale.size ≡ r.ram.layout.size) × AreCovered r.stale };
 }
 
 impl Reference {
@@ -73,12 +81,16 @@ impl Reference {
         ensures reset { IfOk result (λ reference.
             let layout : Layout = record { base = base; size = size; rom_bytes = rom_bytes } in
             reference ≡ record { layout = layout; state = reset layout image.now start; lines = no_lines }) }
+        ensures state { IfOk result (λ reference. IsState reference.layout reference.state) }
     {
+        let mut ram = Ram::new(alloc, base, size, rom_bytes)?;
+        ram.load(image);
         Ok(Reference {
             pc: start,
             registers: [0; 32],
             csrs: Csrs::reset(),
-            memory: Memory::new(alloc, base, size, rom_bytes, image)?,
+            ram,
+            stale: StaleMap::new(alloc, base, size)?,
             lines: Lines {
                 software: false,
                 timer: false,
@@ -106,7 +118,7 @@ impl Reference {
     pub fn byte(&self, address: u32) -> Option<u8>
         ensures { result ≡ byte_seen self.now.layout self.now.state.ram address }
     {
-        self.memory.byte(address)
+        self.ram.byte(address)
     }
 
     /// Whether the word that holds an address was stored to since the last FENCE.I, which no word
@@ -115,7 +127,7 @@ impl Reference {
         ensures stale { result ≡ set.contains self.now.state.stale (word_of address) }
         ensures in_ram { OnTrue result (IsTrue (is_in_ram self.now.layout address 1)) }
     {
-        self.memory.is_stale(address)
+        self.stale.is_stale(address)
     }
 }
 
@@ -123,7 +135,7 @@ impl Reference {
 impl Reference {
     /// The address of the next instruction in memory.
     pub(crate) fn pc_plus_4(&self) -> u32
-        ensures next { result ≡ pc_plus_4 self.now.state }
+        ensures next { result ≡ pc_plus_4 self.now.state.pc }
         ensures aligned { result % 4 ≡ 0 }
     {
         self.pc.wrapping_add(4)
@@ -141,6 +153,13 @@ impl Reference {
         ensures { result ≡ register_of self.now.state register }
     {
         self.registers[register.index()]
+    }
+
+    /// The source of a CSR instruction.
+    pub(crate) fn operand(&self, source: CsrSource) -> CsrOperand
+        ensures { result ≡ operand_of self.now.state.registers source }
+    {
+        CsrOperand::new(source, &self.registers)
     }
 
     /// Goes on at an address.
@@ -178,8 +197,7 @@ impl Reference {
     /// Keeps the lines of the present step.
     pub(crate) fn set_lines(&mut self, lines: Lines)
         ensures lines { self.new ≡ record self.old { lines = lines } }
-        ensures x0 { register_of self.new.state 0 ≡ 0 }
-        ensures aligned { self.new.state.pc % 4 ≡ 0 }
+        ensures state { IsState self.new.layout self.new.state }
     {
         self.lines = lines;
     }
@@ -196,28 +214,28 @@ impl Reference {
     pub(crate) fn is_in_ram(&self, address: u32, count: u32) -> bool
         ensures { result ≡ is_in_ram self.now.layout address count }
     {
-        self.memory.is_in_ram(address, count)
+        self.ram.in_range(address, count)
     }
 
     /// Whether the bytes of a store lie in RAM behind its read-only front.
     pub(crate) fn is_writable(&self, address: u32, count: u32) -> bool
         ensures { result ≡ is_writable self.now.layout address count }
     {
-        self.memory.is_writable(address, count)
+        self.ram.writable(address, count)
     }
 
     /// The number that the bytes of an access make.
     pub(crate) fn number(&self, address: u32, width: Width) -> u32
-        requires { is_in_ram self.now.layout address (bytes_of width) ≡ true }
+        requires { IsTrue (is_in_ram self.now.layout address (bytes_of width)) }
         ensures number { result ≡ number_at self.now.layout self.now.state.ram address (bytes_of width) }
         ensures fits { result < 2 ^ (8 * bytes_of width) }
     {
-        self.memory.number(address, width)
+        self.ram.number(address, width)
     }
 
     /// Stores the low bytes of a word, which makes the word at the address stale.
     pub(crate) fn store_bytes(&mut self, address: u32, width: Width, word: u32)
-        requires { is_writable self.old.layout address (bytes_of width) ≡ true }
+        requires { IsTrue (is_writable self.old.layout address (bytes_of width)) }
         ensures { self.new ≡ record self.old {
           state = record self.old.state {
             ram = with_stored self.old.layout self.old.state.ram address (bytes_of width) word;
@@ -225,14 +243,15 @@ impl Reference {
           };
         } }
     {
-        self.memory.store(address, width, word);
+        self.ram.store(address, width, word);
+        self.stale.mark(address);
     }
 
     /// Makes every word fresh.
     pub(crate) fn make_fresh(&mut self)
         ensures { self.new ≡ record self.old { state = record self.old.state { stale = set.empty } } }
     {
-        self.memory.make_fresh();
+        self.stale.clear();
     }
 
     /// Reads, and writes where the instruction does, a control and status register.

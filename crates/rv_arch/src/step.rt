@@ -4,7 +4,7 @@ ghost use Rattle.rv_decode.specs.Decodes.{Decodes};
 ghost use Rattle.rv_arch.specs.Access.{StaysInRam};
 ghost use Rattle.rv_arch.specs.Due.{due};
 ghost use Rattle.rv_arch.specs.Run.{is_retired};
-ghost use Rattle.rv_arch.specs.State.{register_of};
+ghost use Rattle.rv_arch.specs.State.{IsState};
 ghost use Rattle.rv_arch.specs.Step.{Step, IsFetched, IsOnlyStep, trap_taken, word_at_pc};
 ghost use Rattle.rv_arch.specs.Trap.{interrupt_cause};
 
@@ -87,7 +87,7 @@ impl Reference {
     }
 
     /// Takes one step, with the levels of the interrupt lines. A step costs the same however large
-    /// RAM is, save that FENCE.I goes over the marks of all words.
+    /// RAM is.
     pub fn step(&mut self, lines: Lines) -> RefStep
         ensures step { Step self.old.layout self.old.state lines result self.new.state }
         ensures layout { self.new.layout ≡ self.old.layout }
@@ -100,8 +100,8 @@ impl Reference {
         ensures registers_kept { is_retired result ≡ false → self.new.state.registers ≡ self.old.state.registers }
         ensures bytes_kept { is_retired result ≡ false → self.new.state.ram ≡ self.old.state.ram }
         ensures in_ram { is_retired result ≡ true → StaysInRam self.old.layout self.old.state }
-        ensures x0 { register_of self.new.state 0 ≡ 0 }
-        ensures aligned { self.new.state.pc % 4 ≡ 0 }
+
+        ensures state { IsState self.new.layout self.new.state }
     {
         let outcome = self.advance(lines);
         self.set_lines(lines);

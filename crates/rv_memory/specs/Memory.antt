@@ -29,13 +29,13 @@ is_writable layout address count = nat_le (layout.base + layout.rom_bytes) addre
 abbrev pub is_aligned : ℕ → ℕ → Bool
 is_aligned address count = address % count == 0
 
--- Unprivileged ISA 20191213, 1.4: the number that the bytes from an address on make, lowest byte first
+-- Unprivileged ISA 20191213, 2.6: the number that the bytes from an address on make, lowest byte first
 abbrev pub number_at : Layout → List ℕ → ℕ → ℕ → ℕ
 number_at layout bytes address count =
     let place = address - layout.base in
     number_of (slice_range bytes place (place + count))
 
--- Unprivileged ISA 20191213, 1.4: the bytes once the lowest `count` bytes of a word were stored at an address
+-- Unprivileged ISA 20191213, 2.6: the bytes once the lowest `count` bytes of a word were stored at an address
 abbrev pub with_stored : Layout → List ℕ → ℕ → ℕ → ℕ → List ℕ
 with_stored layout bytes address count word = overwritten bytes (address - layout.base) (bytes_of_number count word)
 
@@ -44,7 +44,7 @@ abbrev pub byte_seen : Layout → List ℕ → ℕ → Option ℕ
 byte_seen layout bytes address =
     if nat_le layout.base address then slice_get bytes (address - layout.base) else None
 
--- the word that a fetch at an address finds, if its four bytes lie in RAM
+-- Unprivileged ISA 20191213, 1.5: the word that a fetch at an address finds, lowest byte first, if its four bytes lie in RAM
 abbrev pub fetched_word : Layout → List ℕ → ℕ → Option ℕ
 fetched_word layout bytes pc = if is_in_ram layout pc 4 then Some (number_at layout bytes pc 4) else None
 

@@ -1,6 +1,6 @@
 use Rattle.std.specs.Prelude.{◌≡◌, ℕ, List, []}
 use Rattle.rv_arch.specs.Machine.{Machine}
-use Rattle.rv_arch.specs.Memory.{Layout}
+use Rattle.rv_memory.specs.Memory.{Layout}
 use Rattle.rv_arch.specs.Reset.{reset, no_lines}
 use Rattle.rv_arch.specs.RunOutcome.{IsRunTo}
 use Rattle.rv_arch.specs.declared.outcome.RefOutcome.{RefOutcome}

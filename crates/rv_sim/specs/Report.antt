@@ -5,7 +5,7 @@ use Rattle.std.specs.Option.{option_map}
 use Rattle.rv_isa.specs.declared.lines.Lines.{Lines}
 use Rattle.rv_arch.specs.Csr.{Kept, value_of}
 use Rattle.rv_arch.specs.Machine.{Machine}
-use Rattle.rv_arch.specs.Memory.{Layout, byte_seen}
+use Rattle.rv_memory.specs.Memory.{Layout, byte_seen}
 use Rattle.rv_arch.specs.declared.csr.Csr.TheVariants.{Mstatus, Mie, Mtvec, Mscratch, Mepc, Mcause, Mtval, Mip}
 use Rattle.rv_arch.specs.declared.outcome.RefOutcome.{RefOutcome}
 use Rattle.rv_arch.specs.declared.outcome.Stop.{Stop}
