@@ -137,7 +137,7 @@ table =
     funct7_row 0b0000001 0b101 0b0110011 (op Divu) ∷
     funct7_row 0b0000001 0b110 0b0110011 (op Rem) ∷
     funct7_row 0b0000001 0b111 0b0110011 (op Remu) ∷
-    -- machine mode (Privileged Architecture 20211203, 3.3)
+    -- machine mode (Privileged Architecture 20211203, 3.3.2 and 3.3.3)
     word_row 0b0011000_00010_00000_000_00000_1110011 Mret ∷
     word_row 0b0001000_00101_00000_000_00000_1110011 Wfi ∷
     -- Zba (Bit-Manipulation ISA-extensions 1.0.0, 1.1)

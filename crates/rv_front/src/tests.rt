@@ -1,3 +1,5 @@
+ghost use Rattle.std.specs.Prelude.{◌≡◌};
+
 use super::*;
 use rv_decode::decode;
 use rv_isa::{Description, Instr, Values};
@@ -157,8 +159,17 @@ fn a_prediction_outside_ram_halts_the_fetch_until_a_redirect(rt: HostRuntime) ->
 #[test]
 fn fetch_decodes_each_word(rt: HostRuntime) -> Result<(), Fail> {
     let (ram, mut front) = ram_and_front(&rt, &[0, 0x0000_0073])?;
-    front.fetch(0, &ram, &NotTaken);
-    assert_eq!(rt; front.take().instruction, None);
-    assert_eq!(rt; front.take().instruction, Some(Instr::Ecall));
+    for (pc, instruction) in [
+        (BASE, None),
+        (BASE + 4, Some(Instr::Ecall)),
+        (BASE - 4, None),
+    ] {
+        front.redirect(pc);
+        front.fetch(0, &ram, &NotTaken);
+        assert_eq!(rt;
+            front.peek().map(|fetched| fetched.instruction),
+            Some(instruction)
+        );
+    }
     Ok(())
 }
