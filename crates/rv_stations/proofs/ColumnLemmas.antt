@@ -1,10 +1,11 @@
 -- The operands of tags and values that were written for a producer.
-use Rattle.std.proofs.Common.{◌≡◌, sym, ℕ, ◌<◌, ◌^◌, ◌%◌, inl, inr, false, List, [], ◌∷◌, map, eqb, refl, ap, ap₂, ◌∙◌, mod-eq_of_lt}
+use Rattle.std.proofs.Common.{◌≡◌, sym, ℕ, zero, suc, ◌+◌, ◌<◌, ◌≤◌, ◌^◌, ◌%◌, inl, inr, Bool, true, false, cond, List, [], ◌∷◌, ◌++◌, length, filter, get_or, remove, map, arith, eqb, refl, ap, ap₂, ◌∙◌, mod-eq_of_lt}
 use Rattle.std.specs.Simd.Lanes.{zip2}
 use Rattle.std.proofs.lemmas.Bool.{cases_Bool, eqb-true, eq-eqb, ne_eqb}
+use Rattle.std.proofs.lemmas.List.Sums.{length-filter, count_by-le-length}
 use Rattle.rv_stations.specs.declared.waiting.Operand.TheVariants.{Value, Tag}
 use Rattle.rv_stations.specs.Waiting.{woken_operand}
-use Rattle.rv_stations.specs.Column.{operand_of, woken_tag, woken_value}
+use Rattle.rv_stations.specs.Column.{operand_of, is_producer, producers, woken_tag, woken_value}
 
 -- the number of no producer says that the value is there
 pub operand_of-value : (tag held : ℕ) → tag ≡ 18446744073709551615 → operand_of tag held ≡ Value (held % 4294967296)
@@ -15,28 +16,66 @@ pub operand_of-tag : (tag held : ℕ) → (tag ≡ 18446744073709551615 → ⊥)
 operand_of-tag tag held some = rw (ne_eqb tag 18446744073709551615 some) refl
 
 -- an operand that has its value keeps it, and one with another tag keeps that
-unwoken : (number value tag held : ℕ) → eqb tag number ≡ false → woken_operand number value (operand_of tag held) ≡ operand_of tag held
-unwoken number value tag held other = elim (cases_Bool (eqb tag 18446744073709551615)) [
+unwoken : (seq value tag held : ℕ) → eqb tag seq ≡ false → woken_operand seq value (operand_of tag held) ≡ operand_of tag held
+unwoken seq value tag held other = elim (cases_Bool (eqb tag 18446744073709551615)) [
   | inl has ↦ rw has refl
   | inr waits ↦ rw waits (rw other refl)
 ]
 
 -- a tag that is the producer's number becomes the value
-operand_of-woken : (number value tag held : ℕ) → eqb number 18446744073709551615 ≡ false → value < 2 ^ 32 → operand_of (woken_tag number tag) (woken_value number value tag held) ≡ woken_operand number value (operand_of tag held)
-operand_of-woken number value tag held some small = elim (cases_Bool (eqb tag number)) [
+operand_of-woken : (seq value tag held : ℕ) → eqb seq 18446744073709551615 ≡ false → value < 2 ^ 32 → operand_of (woken_tag seq tag) (woken_value seq value tag held) ≡ woken_operand seq value (operand_of tag held)
+operand_of-woken seq value tag held some small = elim (cases_Bool (eqb tag seq)) [
   | inl same ↦
-      let equal : tag ≡ number = eqb-true tag number same in
+      let equal : tag ≡ seq = eqb-true tag seq same in
       let waits : eqb tag 18446744073709551615 ≡ false = ap (λ n. eqb n 18446744073709551615) equal ∙ some in
       let fits : value % 4294967296 ≡ value = mod-eq_of_lt small in
       rw (same, waits) (rw (same, fits) refl)
-  | inr other ↦ rw other (sym (unwoken number value tag held other))
+  | inr other ↦ rw other (sym (unwoken seq value tag held other))
 ]
 
-pub operands-woken : (number value : ℕ) (tags values : List ℕ) → eqb number 18446744073709551615 ≡ false → value < 2 ^ 32 → zip2 operand_of (map (woken_tag number) tags) (zip2 (woken_value number value) tags values) ≡ map (woken_operand number value) (zip2 operand_of tags values)
-operands-woken number value [] values some small = refl
-operands-woken number value (t ∷ ts) [] some small = refl
-operands-woken number value (t ∷ ts) (v ∷ vs) some small =
-    ap₂ ◌∷◌ (operand_of-woken number value t v some small) (operands-woken number value ts vs some small)
+pub operands-woken : (seq value : ℕ) (tags values : List ℕ) → eqb seq 18446744073709551615 ≡ false → value < 2 ^ 32 → zip2 operand_of (map (woken_tag seq) tags) (zip2 (woken_value seq value) tags values) ≡ map (woken_operand seq value) (zip2 operand_of tags values)
+operands-woken seq value [] values some small = refl
+operands-woken seq value (t ∷ ts) [] some small = refl
+operands-woken seq value (t ∷ ts) (v ∷ vs) some small =
+    ap₂ ◌∷◌ (operand_of-woken seq value t v some small) (operands-woken seq value ts vs some small)
+
+-- where no tag is a producer's, no operand waits
+pub operands-idle : (seq value : ℕ) (tags values : List ℕ) → producers tags ≡ 0 → map (woken_operand seq value) (zip2 operand_of tags values) ≡ zip2 operand_of tags values
+operands-idle seq value [] values none = refl
+operands-idle seq value (t ∷ ts) [] none = refl
+operands-idle seq value (t ∷ ts) (v ∷ vs) none = elim (cases_Bool (eqb t 18446744073709551615)) [
+  | inl has ↦ ap₂ ◌∷◌ (rw has refl) (operands-idle seq value ts vs (rw has at none))
+  | inr waits ↦ let some : suc (producers ts) ≡ 0 = rw waits at none in absurd (omega arith)
+]
+
+-- a tag counts once at most
+pub at_most_one : (b : Bool) → cond b 1 0 ≤ 1
+at_most_one true = omega arith
+at_most_one false = omega arith
+
+pub producers-le : (tags : List ℕ) → producers tags ≤ length tags
+producers-le tags = omega (arith, length-filter is_producer tags, count_by-le-length is_producer tags)
+
+-- one more tag in the count of producers
+pub producers-push : (tags : List ℕ) (tag : ℕ) → producers (tags ++ tag ∷ []) ≡ producers tags + cond (is_producer tag) 1 0
+producers-push [] tag = elim (is_producer tag) as (λ b. length (cond b (tag ∷ []) []) ≡ 0 + cond b 1 0) [ true ↦ omega arith | false ↦ omega arith ]
+producers-push (t ∷ ts) tag =
+    let rest = producers-push ts tag in
+    elim (is_producer t) as (λ b. length (cond b (t ∷ filter is_producer (ts ++ tag ∷ [])) (filter is_producer (ts ++ tag ∷ []))) ≡ length (cond b (t ∷ filter is_producer ts) (filter is_producer ts)) + cond (is_producer tag) 1 0) [
+      | true ↦ omega (arith, rest)
+      | false ↦ rest
+    ]
+
+-- and one less
+pub producers-remove : (tags : List ℕ) (i d : ℕ) → i < length tags → producers tags ≡ producers (remove tags i) + cond (is_producer (get_or tags i d)) 1 0
+producers-remove [] i d within = absurd (omega arith)
+producers-remove (t ∷ ts) zero d within = elim (is_producer t) as (λ b. length (cond b (t ∷ filter is_producer ts) (filter is_producer ts)) ≡ producers ts + cond b 1 0) [ true ↦ omega arith | false ↦ omega arith ]
+producers-remove (t ∷ ts) (suc i) d within =
+    let rest = producers-remove ts i d (omega arith) in
+    elim (is_producer t) as (λ b. length (cond b (t ∷ filter is_producer ts) (filter is_producer ts)) ≡ length (cond b (t ∷ filter is_producer (remove ts i)) (filter is_producer (remove ts i))) + cond (is_producer (get_or ts i d)) 1 0) [
+      | true ↦ omega (arith, rest)
+      | false ↦ rest
+    ]
 
 -- an operand that waits has another tag than that of no producer
 woken_by_none : (value tag held : ℕ) → woken_operand 18446744073709551615 value (operand_of tag held) ≡ operand_of tag held

@@ -7,37 +7,37 @@ use Rattle.std.proofs.lemmas.Simd.{tops_compared, zip2_splat, put_chunk_whole, l
 use Rattle.rv_stations.specs.Column.{woken_tag, woken_value}
 
 -- the selected lanes get the number of no producer
-pub sel_l-tags : (number n : ℕ) (tags : List ℕ) → length tags ≡ n → sel_l (map (λ t. eqb t number) tags) (replicate n 18446744073709551615) tags ≡ map (woken_tag number) tags
-sel_l-tags number zero [] long = refl
-sel_l-tags number (suc n) [] long = absurd (omega arith)
-sel_l-tags number zero (t ∷ ts) long = absurd (omega arith)
-sel_l-tags number (suc n) (t ∷ ts) long = ap (λ xs. woken_tag number t ∷ xs) (sel_l-tags number n ts (omega arith))
+pub sel_l-tags : (seq n : ℕ) (tags : List ℕ) → length tags ≡ n → sel_l (map (λ t. eqb t seq) tags) (replicate n 18446744073709551615) tags ≡ map (woken_tag seq) tags
+sel_l-tags seq zero [] long = refl
+sel_l-tags seq (suc n) [] long = absurd (omega arith)
+sel_l-tags seq zero (t ∷ ts) long = absurd (omega arith)
+sel_l-tags seq (suc n) (t ∷ ts) long = ap (λ xs. woken_tag seq t ∷ xs) (sel_l-tags seq n ts (omega arith))
 
 -- the selected lanes get the value
-pub sel_l-values : (number value n : ℕ) (tags values : List ℕ) → length tags ≡ n → length values ≡ n → sel_l (map (λ t. eqb t number) tags) (replicate n value) values ≡ zip2 (woken_value number value) tags values
-sel_l-values number value zero [] values long as_long = refl
-sel_l-values number value (suc n) [] values long as_long = absurd (omega arith)
-sel_l-values number value zero (t ∷ ts) values long as_long = absurd (omega arith)
-sel_l-values number value (suc n) (t ∷ ts) [] long as_long = absurd (omega arith)
-sel_l-values number value (suc n) (t ∷ ts) (v ∷ vs) long as_long = ap (λ xs. woken_value number value t v ∷ xs) (sel_l-values number value n ts vs (omega arith) (omega arith))
+pub sel_l-values : (seq value n : ℕ) (tags values : List ℕ) → length tags ≡ n → length values ≡ n → sel_l (map (λ t. eqb t seq) tags) (replicate n value) values ≡ zip2 (woken_value seq value) tags values
+sel_l-values seq value zero [] values long as_long = refl
+sel_l-values seq value (suc n) [] values long as_long = absurd (omega arith)
+sel_l-values seq value zero (t ∷ ts) values long as_long = absurd (omega arith)
+sel_l-values seq value (suc n) (t ∷ ts) [] long as_long = absurd (omega arith)
+sel_l-values seq value (suc n) (t ∷ ts) (v ∷ vs) long as_long = ap (λ xs. woken_value seq value t v ∷ xs) (sel_l-values seq value n ts vs (omega arith) (omega arith))
 
 -- the lanes that are equal to a number
-equal_lanes : (number : ℕ) (tags : List ℕ) → length tags ≡ 8 → map (top 63) (zip2 (λ a b. cond (eqb a b) 18446744073709551615 0) tags (replicate 8 number)) ≡ map (λ t. eqb t number) tags
-equal_lanes number tags long = tops_compared w64 eqb tags (replicate 8 number) ∙ zip2_splat eqb tags 8 number long
+equal_lanes : (seq : ℕ) (tags : List ℕ) → length tags ≡ 8 → map (top 63) (zip2 (λ a b. cond (eqb a b) 18446744073709551615 0) tags (replicate 8 seq)) ≡ map (λ t. eqb t seq) tags
+equal_lanes seq tags long = tops_compared w64 eqb tags (replicate 8 seq) ∙ zip2_splat eqb tags 8 seq long
 
 -- eight tags, selected and written back
-pub put_chunk-tags : (number : ℕ) (tags : List ℕ) → length tags ≡ 8 → put_chunk 0 tags (sel_l (map (top 63) (zip2 (λ a b. cond (eqb a b) 18446744073709551615 0) (take 8 tags) (replicate 8 number))) (replicate 8 18446744073709551615) (take 8 tags)) ≡ map (woken_tag number) tags
-put_chunk-tags number tags long =
+pub put_chunk-tags : (seq : ℕ) (tags : List ℕ) → length tags ≡ 8 → put_chunk 0 tags (sel_l (map (top 63) (zip2 (λ a b. cond (eqb a b) 18446744073709551615 0) (take 8 tags) (replicate 8 seq))) (replicate 8 18446744073709551615) (take 8 tags)) ≡ map (woken_tag seq) tags
+put_chunk-tags seq tags long =
     let whole : take 8 tags ≡ tags = take_all 8 tags (omega arith) in
     rw whole (
-    ap (put_chunk 0 tags) (ap (λ ms. sel_l ms (replicate 8 18446744073709551615) tags) (equal_lanes number tags long) ∙ sel_l-tags number 8 tags long)
-    ∙ put_chunk_whole tags (map (woken_tag number) tags) (sym (length-map tags (woken_tag number))))
+    ap (put_chunk 0 tags) (ap (λ ms. sel_l ms (replicate 8 18446744073709551615) tags) (equal_lanes seq tags long) ∙ sel_l-tags seq 8 tags long)
+    ∙ put_chunk_whole tags (map (woken_tag seq) tags) (sym (length-map tags (woken_tag seq))))
 
 -- eight values
-pub put_chunk-values : (number value : ℕ) (tags values : List ℕ) → length tags ≡ 8 → length values ≡ 8 → put_chunk 0 values (sel_l (map (top 63) (zip2 (λ a b. cond (eqb a b) 18446744073709551615 0) (take 8 tags) (replicate 8 number))) (replicate 8 value) (take 8 values)) ≡ zip2 (woken_value number value) tags values
-put_chunk-values number value tags values long as_long =
+pub put_chunk-values : (seq value : ℕ) (tags values : List ℕ) → length tags ≡ 8 → length values ≡ 8 → put_chunk 0 values (sel_l (map (top 63) (zip2 (λ a b. cond (eqb a b) 18446744073709551615 0) (take 8 tags) (replicate 8 seq))) (replicate 8 value) (take 8 values)) ≡ zip2 (woken_value seq value) tags values
+put_chunk-values seq value tags values long as_long =
     let whole : take 8 tags ≡ tags = take_all 8 tags (omega arith) in
     let whole_values : take 8 values ≡ values = take_all 8 values (omega arith) in
     rw (whole, whole_values) (
-    ap (put_chunk 0 values) (ap (λ ms. sel_l ms (replicate 8 value) values) (equal_lanes number tags long) ∙ sel_l-values number value 8 tags values long as_long)
-    ∙ put_chunk_whole values (zip2 (woken_value number value) tags values) (as_long ∙ sym long ∙ sym (length-zip2 (woken_value number value) tags values (long ∙ sym as_long))))
+    ap (put_chunk 0 values) (ap (λ ms. sel_l ms (replicate 8 value) values) (equal_lanes seq tags long) ∙ sel_l-values seq value 8 tags values long as_long)
+    ∙ put_chunk_whole values (zip2 (woken_value seq value) tags values) (as_long ∙ sym long ∙ sym (length-zip2 (woken_value seq value) tags values (long ∙ sym as_long))))

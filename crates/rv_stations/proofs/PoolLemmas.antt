@@ -4,25 +4,26 @@ use Rattle.std.specs.List.Sorted.{IsPartitionPoint, IsNonDecreasingBy}
 use Rattle.std.specs.Simd.Lanes.{zip2}
 use Rattle.std.proofs.lemmas.Bool.{cases_lt}
 use Rattle.std.proofs.lemmas.List.{get_or-map, length-map}
+use Rattle.rv_isa.specs.Numbered.{AreBelow, IsInOrder}
 use Rattle.rv_isa.specs.declared.instructions.Instr.TheVariants.{Fence}
 use Rattle.rv_stations.specs.declared.waiting.Operand.{Operand}
 use Rattle.rv_stations.specs.declared.waiting.Operand.TheVariants.{Value}
 use Rattle.rv_stations.specs.declared.waiting.Waiting.{Waiting}
-use Rattle.rv_stations.specs.declared.pool.Fetched.{Fetched}
-use Rattle.rv_stations.specs.Waiting.{IsInOrder, IsYoungest, woken, woken_operand}
-use Rattle.rv_stations.specs.PoolFields.{with_fetched, both_operands, instruction_of, joined, IsSoundPool}
+use Rattle.rv_stations.specs.declared.pool.Dispatched.{Dispatched}
+use Rattle.rv_stations.specs.Waiting.{seq_of, woken, woken_operand}
+use Rattle.rv_stations.specs.PoolFields.{with_dispatched, both_operands, instruction_of, joined, IsSoundPool}
 use Rattle.rv_stations.specs.declared.pool.StationPool.TheInside.{Inside}
 use Rattle.rv_stations.proofs.ZipLemmas.{zip2-append, zip2-take, zip2-remove, slice_get-zip2, length-zip2_left}
 
 -- the lists are of one length
-pub record SameLengths (ns : List ℕ) (fs : List Fetched) (xs ys : List Operand) : Type 0 where
-  pub fetched : length fs ≡ length ns
+pub record SameLengths (ns : List ℕ) (fs : List Dispatched) (xs ys : List Operand) : Type 0 where
+  pub dispatched : length fs ≡ length ns
   pub first : length xs ≡ length ns
   pub second : length ys ≡ length ns
 
-module _ (ns : List ℕ) (fs : List Fetched) (xs ys : List Operand) (same : SameLengths ns fs xs ys) where
-  left : length (zip2 with_fetched ns fs) ≡ length ns
-  left = length-zip2_left with_fetched ns fs (sym same.fetched)
+module _ (ns : List ℕ) (fs : List Dispatched) (xs ys : List Operand) (same : SameLengths ns fs xs ys) where
+  left : length (zip2 with_dispatched ns fs) ≡ length ns
+  left = length-zip2_left with_dispatched ns fs (sym same.dispatched)
 
   right : length (zip2 both_operands xs ys) ≡ length ns
   right = length-zip2_left both_operands xs ys (same.first ∙ sym same.second) ∙ same.first
@@ -30,103 +31,80 @@ module _ (ns : List ℕ) (fs : List Fetched) (xs ys : List Operand) (same : Same
   pub length-joined : length (joined ns fs xs ys) ≡ length ns
   length-joined = length-zip2_left instruction_of _ _ (left ∙ sym right) ∙ left
 
-  pub joined-push : (n : ℕ) (f : Fetched) (x y : Operand) → joined (ns ++ n ∷ []) (fs ++ f ∷ []) (xs ++ x ∷ []) (ys ++ y ∷ []) ≡ joined ns fs xs ys ++ instruction_of (n, f) (x, y) ∷ []
+  pub joined-push : (n : ℕ) (f : Dispatched) (x y : Operand) → joined (ns ++ n ∷ []) (fs ++ f ∷ []) (xs ++ x ∷ []) (ys ++ y ∷ []) ≡ joined ns fs xs ys ++ instruction_of (n, f) (x, y) ∷ []
   joined-push n f x y =
-      ap₂ (zip2 instruction_of) (zip2-append with_fetched ns (n ∷ []) fs (f ∷ []) (sym same.fetched)) (zip2-append both_operands xs (x ∷ []) ys (y ∷ []) (same.first ∙ sym same.second))
+      ap₂ (zip2 instruction_of) (zip2-append with_dispatched ns (n ∷ []) fs (f ∷ []) (sym same.dispatched)) (zip2-append both_operands xs (x ∷ []) ys (y ∷ []) (same.first ∙ sym same.second))
       ∙ zip2-append instruction_of _ _ _ _ (left ∙ sym right)
 
   pub joined-take : (k : ℕ) → joined (take k ns) (take k fs) (take k xs) (take k ys) ≡ take k (joined ns fs xs ys)
   joined-take k =
-      ap₂ (zip2 instruction_of) (zip2-take with_fetched k ns fs) (zip2-take both_operands k xs ys)
+      ap₂ (zip2 instruction_of) (zip2-take with_dispatched k ns fs) (zip2-take both_operands k xs ys)
       ∙ zip2-take instruction_of k _ _
 
   pub joined-remove : (i : ℕ) → i < length ns → joined (remove ns i) (remove fs i) (remove xs i) (remove ys i) ≡ remove (joined ns fs xs ys) i
   joined-remove i within =
-      let in_left : i < length (zip2 with_fetched ns fs) = omega (arith, left) in
+      let in_left : i < length (zip2 with_dispatched ns fs) = omega (arith, left) in
       let in_right : i < length (zip2 both_operands xs ys) = omega (arith, right) in
       ap₂ (zip2 instruction_of)
-      (zip2-remove with_fetched i ns fs within (omega (arith, same.fetched)))
+      (zip2-remove with_dispatched i ns fs within (omega (arith, same.dispatched)))
       (zip2-remove both_operands i xs ys (omega (arith, same.first)) (omega (arith, same.second)))
       ∙ zip2-remove instruction_of i _ _ in_left in_right
 
 -- the lists of a pool's fields are of one length
-pub same_lengths : (p : Inside) → IsSoundPool p → SameLengths p.numbers.items p.fetched.items p.first.operands p.second.operands
+pub same_lengths : (p : Inside) → IsSoundPool p → SameLengths p.seqs.items p.dispatched.items p.first.operands p.second.operands
 same_lengths p sound = record {
-  fetched = omega (arith, sound.fetched);
+  dispatched = omega (arith, sound.dispatched);
   first = omega (arith, sound.first);
   second = omega (arith, sound.second);
 }
 
-pub length-pool : (p : Inside) → IsSoundPool p → length (joined p.numbers.items p.fetched.items p.first.operands p.second.operands) ≡ vec_len p.numbers
+pub length-pool : (p : Inside) → IsSoundPool p → length (joined p.seqs.items p.dispatched.items p.first.operands p.second.operands) ≡ vec_len p.seqs
 length-pool p sound = omega (arith, length-joined _ _ _ _ (same_lengths p sound))
 
 -- the parts in a place make the instruction in it
-pub slice_get-joined : (ns : List ℕ) (fs : List Fetched) (xs ys : List Operand) (i n : ℕ) (f : Fetched) (x y : Operand) → slice_get ns i ≡ Some n → slice_get fs i ≡ Some f → slice_get xs i ≡ Some x → slice_get ys i ≡ Some y → slice_get (joined ns fs xs ys) i ≡ Some (instruction_of (n, f) (x, y))
+pub slice_get-joined : (ns : List ℕ) (fs : List Dispatched) (xs ys : List Operand) (i n : ℕ) (f : Dispatched) (x y : Operand) → slice_get ns i ≡ Some n → slice_get fs i ≡ Some f → slice_get xs i ≡ Some x → slice_get ys i ≡ Some y → slice_get (joined ns fs xs ys) i ≡ Some (instruction_of (n, f) (x, y))
 slice_get-joined ns fs xs ys i n f x y at_n at_f at_x at_y =
-    slice_get-zip2 instruction_of i _ _ (n, f) (x, y) (slice_get-zip2 with_fetched i ns fs n f at_n at_f) (slice_get-zip2 both_operands i xs ys x y at_x at_y)
+    slice_get-zip2 instruction_of i _ _ (n, f) (x, y) (slice_get-zip2 with_dispatched i ns fs n f at_n at_f) (slice_get-zip2 both_operands i xs ys x y at_x at_y)
 
 -- both columns are woken
-pub joined-woken : (number value : ℕ) (ns : List ℕ) (fs : List Fetched) (xs ys : List Operand) → joined ns fs (map (woken_operand number value) xs) (map (woken_operand number value) ys) ≡ map (woken number value) (joined ns fs xs ys)
-joined-woken number value [] fs xs ys = refl
-joined-woken number value (n ∷ ns) [] xs ys = refl
-joined-woken number value (n ∷ ns) (f ∷ fs) [] ys = refl
-joined-woken number value (n ∷ ns) (f ∷ fs) (x ∷ xs) [] = refl
-joined-woken number value (n ∷ ns) (f ∷ fs) (x ∷ xs) (y ∷ ys) = ap (λ ws. woken number value (instruction_of (n, f) (x, y)) ∷ ws) (joined-woken number value ns fs xs ys)
-
--- a broadcast changes no number
-pub IsInOrder-woken : (number value : ℕ) (ws : List Waiting) → IsInOrder ws → IsInOrder (map (woken number value) ws)
-IsInOrder-woken number value ws in_order i j d before within =
-    let long = length-map ws (woken number value) in
-    let at_i = ap (λ (w : Waiting). w.number) (get_or-map (woken number value) ws i d d (omega arith)) in
-    let at_j = ap (λ (w : Waiting). w.number) (get_or-map (woken number value) ws j d d (omega arith)) in
-    omega (arith, at_i, at_j, in_order i j d before (omega arith))
+pub joined-woken : (seq value : ℕ) (ns : List ℕ) (fs : List Dispatched) (xs ys : List Operand) → joined ns fs (map (woken_operand seq value) xs) (map (woken_operand seq value) ys) ≡ map (woken seq value) (joined ns fs xs ys)
+joined-woken seq value [] fs xs ys = refl
+joined-woken seq value (n ∷ ns) [] xs ys = refl
+joined-woken seq value (n ∷ ns) (f ∷ fs) [] ys = refl
+joined-woken seq value (n ∷ ns) (f ∷ fs) (x ∷ xs) [] = refl
+joined-woken seq value (n ∷ ns) (f ∷ fs) (x ∷ xs) (y ∷ ys) = ap (λ ws. woken seq value (instruction_of (n, f) (x, y)) ∷ ws) (joined-woken seq value ns fs xs ys)
 
 -- the number in a place
-pub number-joined : (ns : List ℕ) (fs : List Fetched) (xs ys : List Operand) → SameLengths ns fs xs ys → (i : ℕ) (d : Waiting) (e : ℕ) → i < length ns → (get_or (joined ns fs xs ys) i d).number ≡ get_or ns i e
-number-joined [] fs xs ys same i d e within = absurd (omega arith)
-number-joined (n ∷ ns) [] xs ys same i d e within = absurd (omega (arith, same.fetched))
-number-joined (n ∷ ns) (f ∷ fs) [] ys same i d e within = absurd (omega (arith, same.first))
-number-joined (n ∷ ns) (f ∷ fs) (x ∷ xs) [] same i d e within = absurd (omega (arith, same.second))
-number-joined (n ∷ ns) (f ∷ fs) (x ∷ xs) (y ∷ ys) same zero d e within = refl
-number-joined (n ∷ ns) (f ∷ fs) (x ∷ xs) (y ∷ ys) same (suc i) d e within =
-    number-joined ns fs xs ys (record { fetched = omega (arith, same.fetched); first = omega (arith, same.first); second = omega (arith, same.second) }) i d e (omega arith)
+pub seq-joined : (ns : List ℕ) (fs : List Dispatched) (xs ys : List Operand) → SameLengths ns fs xs ys → (i : ℕ) (d : Waiting) (e : ℕ) → i < length ns → (get_or (joined ns fs xs ys) i d).seq ≡ get_or ns i e
+seq-joined [] fs xs ys same i d e within = absurd (omega arith)
+seq-joined (n ∷ ns) [] xs ys same i d e within = absurd (omega (arith, same.dispatched))
+seq-joined (n ∷ ns) (f ∷ fs) [] ys same i d e within = absurd (omega (arith, same.first))
+seq-joined (n ∷ ns) (f ∷ fs) (x ∷ xs) [] same i d e within = absurd (omega (arith, same.second))
+seq-joined (n ∷ ns) (f ∷ fs) (x ∷ xs) (y ∷ ys) same zero d e within = refl
+seq-joined (n ∷ ns) (f ∷ fs) (x ∷ xs) (y ∷ ys) same (suc i) d e within =
+    seq-joined ns fs xs ys (record { dispatched = omega (arith, same.dispatched); first = omega (arith, same.first); second = omega (arith, same.second) }) i d e (omega arith)
 
 -- an instruction, to stand for what a list does not hold
 some_waiting : Waiting
-some_waiting = record { number = 0; pc = 0; instruction = Fence; first = Value 0; second = Value 0 }
+some_waiting = record { seq = 0; pc = 0; instruction = Fence; first = Value 0; second = Value 0 }
 
 -- the numbers themselves rise
-pub numbers_rise : (ns : List ℕ) (fs : List Fetched) (xs ys : List Operand) → SameLengths ns fs xs ys → IsInOrder (joined ns fs xs ys) → IsNonDecreasingBy (λ (n : ℕ). n) ns
-numbers_rise ns fs xs ys same in_order i j d le within = elim (cases_lt i j) [
-  | inl before ↦ omega (arith, number-joined ns fs xs ys same i some_waiting d (omega arith), number-joined ns fs xs ys same j some_waiting d within, in_order i j some_waiting before (omega (arith, length-joined ns fs xs ys same)))
+pub seqs_rise : (ns : List ℕ) (fs : List Dispatched) (xs ys : List Operand) → SameLengths ns fs xs ys → IsInOrder seq_of (joined ns fs xs ys) → IsNonDecreasingBy (λ (n : ℕ). n) ns
+seqs_rise ns fs xs ys same in_order i j d le within = elim (cases_lt i j) [
+  | inl before ↦ omega (arith, seq-joined ns fs xs ys same i some_waiting d (omega arith), seq-joined ns fs xs ys same j some_waiting d within, in_order i j some_waiting before (omega (arith, length-joined ns fs xs ys same)))
   | inr equal ↦ let is : i ≡ j = omega arith in rw is (omega arith)
 ]
 
--- what a test does not pass is left out
-filter_none : {X : Type 0} (p : X → Bool) (xs : List X) → ((k : ℕ) (d : X) → k < length xs → p (get_or xs k d) ≡ false) → filter p xs ≡ []
-filter_none p [] fails = refl
-filter_none p (x ∷ xs) fails = rw (fails 0 x (omega arith)) (filter_none p xs (λ k d within. fails (suc k) d (omega arith)))
-
--- where a test passes up to a place and not from there on, the filter is what stands before it
-pub take-filter : {X : Type 0} (p : X → Bool) (k : ℕ) (xs : List X) → k ≤ length xs → IsPartitionPoint (λ x. p x ≡ true) (λ x. p x ≡ false) xs k → take k xs ≡ filter p xs
-take-filter p zero xs within parts = sym (filter_none p xs (λ k d low. parts.1 k d (omega arith) low))
-take-filter p (suc k) [] within parts = refl
-take-filter p (suc k) (x ∷ xs) within parts =
-    rw (parts.0 0 x (omega arith) (omega arith)) (ap (λ ys. x ∷ ys) (take-filter p k xs (omega arith) (
-      (λ i d low high. parts.0 (suc i) d (omega arith) (omega arith)),
-      (λ i d low high. parts.1 (suc i) d (omega arith) (omega arith)),
-    )))
-
 -- the last number is the greatest
-pub youngest_from_last : (ns : List ℕ) (fs : List Fetched) (xs ys : List Operand) → SameLengths ns fs xs ys → IsInOrder (joined ns fs xs ys) → (number : ℕ) → 0 < length ns → get_or ns (length ns - 1) 0 < number → IsYoungest number (joined ns fs xs ys)
-youngest_from_last ns fs xs ys same in_order number some below k d within =
+pub youngest_from_last : (ns : List ℕ) (fs : List Dispatched) (xs ys : List Operand) → SameLengths ns fs xs ys → IsInOrder seq_of (joined ns fs xs ys) → (seq : ℕ) → 0 < length ns → get_or ns (length ns - 1) 0 < seq → AreBelow seq_of seq (joined ns fs xs ys)
+youngest_from_last ns fs xs ys same in_order seq some below k d within =
     let long = length-joined ns fs xs ys same in
-    let last = number-joined ns fs xs ys same (length ns - 1) d 0 (omega arith) in
+    let last = seq-joined ns fs xs ys same (length ns - 1) d 0 (omega arith) in
     elim (cases_lt k (length ns - 1)) [
       | inl before ↦ omega (arith, in_order k (length ns - 1) d before (omega arith), last)
       | inr at_end ↦ let is : k ≡ length ns - 1 = omega arith in rw is (omega (arith, last))
     ]
 
-pub last_from_youngest : (ns : List ℕ) (fs : List Fetched) (xs ys : List Operand) → SameLengths ns fs xs ys → (number : ℕ) → 0 < length ns → IsYoungest number (joined ns fs xs ys) → get_or ns (length ns - 1) 0 < number
-last_from_youngest ns fs xs ys same number some youngest =
-    omega (arith, youngest (length ns - 1) some_waiting (omega (arith, length-joined ns fs xs ys same)), number-joined ns fs xs ys same (length ns - 1) some_waiting 0 (omega arith))
+pub last_from_youngest : (ns : List ℕ) (fs : List Dispatched) (xs ys : List Operand) → SameLengths ns fs xs ys → (seq : ℕ) → 0 < length ns → AreBelow seq_of seq (joined ns fs xs ys) → get_or ns (length ns - 1) 0 < seq
+last_from_youngest ns fs xs ys same seq some youngest =
+    omega (arith, youngest (length ns - 1) some_waiting (omega (arith, length-joined ns fs xs ys same)), seq-joined ns fs xs ys same (length ns - 1) some_waiting 0 (omega arith))

@@ -1,5 +1,5 @@
 -- The operands in a column, and how the lists of tags and of values change when a producer is broadcast.
-use Rattle.std.specs.Prelude.{ℕ, ◌%◌, List, [], ◌∷◌, ◌++◌, ◌==◌, if◌then◌else◌}
+use Rattle.std.specs.Prelude.{ℕ, ◌%◌, Bool, not, length, filter, List, [], ◌∷◌, ◌++◌, ◌==◌, if◌then◌else◌}
 use Rattle.rv_stations.specs.declared.lanes.TheConstants.{NO_PRODUCER}
 use Rattle.rv_stations.specs.declared.waiting.Operand.{Operand}
 use Rattle.rv_stations.specs.declared.waiting.Operand.TheVariants.{Value, Tag}
@@ -17,10 +17,18 @@ with_operand operand column = record column { operands = column.operands ++ oper
 abbrev pub operand_of : ℕ → ℕ → Operand
 operand_of tag value = if tag == NO_PRODUCER then Value (value % 0x1_0000_0000) else Tag tag
 
+-- the tag is the sequence number of a producer
+abbrev pub is_producer : ℕ → Bool
+is_producer tag = not (tag == NO_PRODUCER)
+
+-- how many of the tags are
+abbrev pub producers : List ℕ → ℕ
+producers tags = length (filter is_producer tags)
+
 -- a tag that is the number goes
 abbrev pub woken_tag : ℕ → ℕ → ℕ
-woken_tag number tag = if tag == number then NO_PRODUCER else tag
+woken_tag seq tag = if tag == seq then NO_PRODUCER else tag
 
 -- and the value comes
 abbrev pub woken_value : ℕ → ℕ → ℕ → ℕ → ℕ
-woken_value number value tag held = if tag == number then value else held
+woken_value seq value tag held = if tag == seq then value else held

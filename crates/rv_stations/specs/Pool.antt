@@ -1,10 +1,11 @@
 -- The reservation stations of one kind.
-use Rattle.std.specs.Prelude.{◌≡◌, ℕ, Bool, List, [], ◌∷◌, ◌++◌, map, filter, remove, nat_lt, Option, Some, None}
+use Rattle.std.specs.Prelude.{◌≡◌, ℕ, Bool, List, [], ◌∷◌, ◌++◌, map, remove, Option, Some, None}
 use Rattle.std.specs.Fn.{FnReturnsAt, Shared}
 use denote.Ref.{Bor}
+use Rattle.rv_isa.specs.Numbered.{below}
 use Rattle.rv_isa.specs.declared.values.KindValues.{KindValues}
 use Rattle.rv_stations.specs.declared.waiting.Waiting.{Waiting}
-use Rattle.rv_stations.specs.Waiting.{woken, without_oldest_ready}
+use Rattle.rv_stations.specs.Waiting.{seq_of, woken, without_oldest_ready}
 
 -- the waiting instructions in order of their numbers, and how many there may be
 pub record Pool : Type 0 where
@@ -21,7 +22,7 @@ with_waiting w pool = record pool { waiting = pool.waiting ++ w ∷ [] }
 
 -- the stations once the value of a producer is broadcast
 abbrev pub woken_pool : ℕ → ℕ → Pool → Pool
-woken_pool number value pool = record pool { waiting = map (woken number value) pool.waiting }
+woken_pool seq value pool = record pool { waiting = map (woken seq value) pool.waiting }
 
 -- the stations without the oldest instruction that is ready and passes a test
 abbrev pub issued : (Waiting → Bool) → Pool → Pool
@@ -34,7 +35,7 @@ without_place (Some at) pool = record pool { waiting = remove pool.waiting at }
 
 -- the stations without the numbers from one on
 abbrev pub squashed : ℕ → Pool → Pool
-squashed from pool = record pool { waiting = filter (λ w. nat_lt w.number from) pool.waiting }
+squashed from pool = record pool { waiting = below seq_of from pool.waiting }
 
 -- a closure answers what a test says
 abbrev pub Answers : {F : Type 0} → Shared F (Bor Waiting × Unit {0}) Bool → F → (Waiting → Bool) → Type 0

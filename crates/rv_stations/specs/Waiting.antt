@@ -1,9 +1,13 @@
 -- Instructions that wait for their operands, in order of their sequence numbers.
 use Rattle.std.specs.Prelude.{ℕ, ◌^◌, ◌<◌, Bool, true, false, ◌&&◌, ◌==◌, List, [], ◌∷◌, Option, Some, None, if◌then◌else◌}
-use Rattle.std.specs.List.{All, AllPairs}
 use Rattle.rv_stations.specs.declared.waiting.Operand.{Operand}
 use Rattle.rv_stations.specs.declared.waiting.Operand.TheVariants.{Value, Tag}
+use Rattle.rv_stations.specs.declared.waiting.Ready.{Ready}
 use Rattle.rv_stations.specs.declared.waiting.Waiting.{Waiting}
+
+-- the sequence number of an instruction
+abbrev pub seq_of : Waiting → ℕ
+seq_of w = w.seq
 
 -- the value is there
 abbrev pub has_value : Operand → Bool
@@ -19,22 +23,23 @@ IsOperand (Tag tag) = tag < 2 ^ 44
 abbrev pub is_ready : Waiting → Bool
 is_ready w = has_value w.first && has_value w.second
 
+-- an instruction with the values of its operands, where both are there
+abbrev pub ready_with : Waiting → Operand → Operand → Option Ready
+ready_with w (Value first) (Value second) = Some (record { seq = w.seq; pc = w.pc; instruction = w.instruction; first = first; second = second })
+ready_with w (Value first) (Tag tag) = None
+ready_with w (Tag tag) second = None
+
+abbrev pub ready_of : Waiting → Option Ready
+ready_of w = ready_with w w.first w.second
+
 -- an operand once the value of the producer with a number is broadcast
 abbrev pub woken_operand : ℕ → ℕ → Operand → Operand
-woken_operand number value (Value held) = Value held
-woken_operand number value (Tag tag) = if tag == number then Value value else Tag tag
+woken_operand seq value (Value held) = Value held
+woken_operand seq value (Tag tag) = if tag == seq then Value value else Tag tag
 
 -- the same of both operands of an instruction
 abbrev pub woken : ℕ → ℕ → Waiting → Waiting
-woken number value w = record w { first = woken_operand number value w.first; second = woken_operand number value w.second }
-
--- each number is below all later ones
-abbrev pub IsInOrder : List Waiting → Type 0
-IsInOrder ws = AllPairs (λ v w. v.number < w.number) ws
-
--- a number is above all that wait
-abbrev pub IsYoungest : ℕ → List Waiting → Type 0
-IsYoungest number ws = All (λ w. w.number < number) ws
+woken seq value w = record w { first = woken_operand seq value w.first; second = woken_operand seq value w.second }
 
 -- the oldest instruction that is ready and passes a test
 abbrev pub oldest_ready : (Waiting → Bool) → List Waiting → Option Waiting

@@ -1,6 +1,6 @@
-ghost use Rattle.std.specs.Prelude.{◌≡◌, ◌<◌, [], Some, length, map, remove, take, slice_get, IfOk};
+ghost use Rattle.std.specs.Prelude.{◌≡◌, ◌<◌, [], Some, length, map, remove, take, slice_get, IfOk, if◌then◌else◌};
 ghost use Rattle.rv_stations.specs.Waiting.{IsOperand, woken_operand};
-ghost use Rattle.rv_stations.specs.Column.{operand_of, with_operand};
+ghost use Rattle.rv_stations.specs.Column.{operand_of, is_producer, with_operand};
 
 use crate::lanes::{self, NO_PRODUCER};
 use crate::waiting::Operand;
@@ -13,6 +13,8 @@ pub struct OperandColumn {
     tags: Vec<u64>,
     values: Vec<u64>,
     capacity: usize,
+    /// How many operands wait for their producers.
+    waiting: usize,
 }
 
 impl Model for OperandColumn {
@@ -27,6 +29,13 @@ impl Model for OperandColumn {
     ghost invariant = { IsSoundColumn };
 }
 
+/// How many operands of a tag wait: one, or none where it has its value.
+fn waits(tag: u64) -> usize
+    ensures { result ≡ if is_producer tag then 1 else 0 }
+{
+    if lanes::is_producer(tag) { 1 } else { 0 }
+}
+
 impl OperandColumn {
     /// No operands, with room for some.
     pub fn new(alloc: Global, capacity: usize) -> Result<Self, AllocError>
@@ -36,6 +45,7 @@ impl OperandColumn {
             tags: Vec::with_capacity(alloc, capacity)?,
             values: Vec::with_capacity(alloc, capacity)?,
             capacity,
+            waiting: 0,
         })
     }
 
@@ -57,6 +67,7 @@ impl OperandColumn {
     {
         self.tags.push_reserved(tag);
         self.values.push_reserved(value);
+        self.waiting += waits(tag);
     }
 
     /// The operand at a place.
@@ -73,15 +84,19 @@ impl OperandColumn {
     }
 
     /// Gives each operand whose tag is a sequence number the value of its producer.
-    pub fn wake(&mut self, number: u64, value: u32)
-        ensures { self.new ≡ record self.old { operands = map (woken_operand number value) self.old.operands } }
+    pub fn wake(&mut self, seq: u64, value: u32)
+        ensures { self.new ≡ record self.old { operands = map (woken_operand seq value) self.old.operands } }
     {
-        let tags = self.tags.as_mut_slice();
-        let values = self.values.as_mut_slice();
-        if number == NO_PRODUCER {
+        if self.waiting == 0 {
             return;
         }
-        lanes::wake_all(tags, values, number, u64::from(value));
+        if seq == NO_PRODUCER {
+            return;
+        }
+        let tags = self.tags.as_mut_slice();
+        let values = self.values.as_mut_slice();
+        lanes::wake_all(tags, values, seq, u64::from(value));
+        self.waiting = lanes::producers(self.tags.as_slice());
     }
 
     /// Takes out the operand at a place.
@@ -89,8 +104,9 @@ impl OperandColumn {
         requires { at < length self.old.operands }
         ensures { self.new ≡ record self.old { operands = remove self.old.operands at } }
     {
-        self.tags.remove(at);
+        let tag = self.tags.remove(at);
         self.values.remove(at);
+        self.waiting -= waits(tag);
     }
 
     /// Keeps a number of operands at the front.
@@ -99,5 +115,6 @@ impl OperandColumn {
     {
         self.tags.truncate(len);
         self.values.truncate(len);
+        self.waiting = lanes::producers(self.tags.as_slice());
     }
 }

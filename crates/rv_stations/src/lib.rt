@@ -10,4 +10,4 @@ mod stations;
 mod waiting;
 
 pub use stations::Stations;
-pub use waiting::{Operand, Waiting};
+pub use waiting::{Operand, Ready, Waiting};

@@ -1,24 +1,25 @@
-ghost use Rattle.std.specs.Prelude.{◌≡◌, ◌<◌, ◌≤◌, ◌↔◌, Bool, Some, length, slice_get, IsTrue, IfOk, IfSome, option_and_then};
-ghost use Rattle.rv_stations.specs.Waiting.{IsInOrder, IsOperand, IsYoungest, is_ready, oldest_ready};
+ghost use Rattle.std.specs.Prelude.{◌≡◌, ◌<◌, ◌≤◌, ◌↔◌, Bool, Some, length, nat_le, slice_get, IsTrue, IfOk, IfSome, option_and_then};
+ghost use Rattle.rv_isa.specs.Numbered.{AreBelow, IsInOrder};
+ghost use Rattle.rv_stations.specs.Waiting.{seq_of, IsOperand, ready_of, oldest_ready};
 
 use crate::column::OperandColumn;
-use crate::waiting::Waiting;
+use crate::waiting::{Ready, Waiting};
 use rv_isa::{Instr, KindValues};
 use std::alloc::{AllocError, Global};
 use std::marker::Model;
 
-/// What the front fetched: an address, and the instruction there.
+/// What was dispatched: an instruction and its address.
 #[derive(Clone, Copy, Debug, PartialEq, Eq)]
-pub struct Fetched {
+pub struct Dispatched {
     pub pc: u32,
     pub instruction: Instr,
 }
 
-/// The reservation stations of one kind: numbers, instructions and operands in lists of their own.
+/// The reservation stations of one kind: sequence numbers, instructions and operands in lists of their own.
 #[derive(Debug, Drop)]
 pub struct StationPool {
-    numbers: Vec<u64>,
-    fetched: Vec<Fetched>,
+    seqs: Vec<u64>,
+    dispatched: Vec<Dispatched>,
     first: OperandColumn,
     second: OperandColumn,
     capacity: usize,
@@ -45,8 +46,8 @@ impl StationPool {
     {
         let capacity = kind.stations as usize;
         Ok(StationPool {
-            numbers: Vec::with_capacity(alloc, capacity)?,
-            fetched: Vec::with_capacity(alloc, capacity)?,
+            seqs: Vec::with_capacity(alloc, capacity)?,
+            dispatched: Vec::with_capacity(alloc, capacity)?,
             first: OperandColumn::new(alloc, capacity)?,
             second: OperandColumn::new(alloc, capacity)?,
             capacity,
@@ -55,40 +56,40 @@ impl StationPool {
 
     /// Whether an instruction waits in each station.
     pub fn is_full(&self) -> bool
-        ensures full { IsTrue result ↔ (length self.now.waiting ≡ self.now.capacity) }
+        ensures full { result ≡ nat_le self.now.capacity (length self.now.waiting) }
         ensures within { length self.now.waiting ≤ self.now.capacity }
     {
-        self.numbers.len() == self.capacity
+        self.seqs.len() >= self.capacity
     }
 
     /// Whether a sequence number is above all that wait.
-    pub fn is_youngest(&self, number: u64) -> bool
-        ensures { IsTrue result ↔ IsYoungest number self.now.waiting }
+    pub fn is_youngest(&self, seq: u64) -> bool
+        ensures { IsTrue result ↔ AreBelow seq_of seq self.now.waiting }
     {
-        match self.numbers.last() {
+        match self.seqs.last() {
             None => true,
-            Some(last) => *last < number,
+            Some(last) => *last < seq,
         }
     }
 
     /// How many instructions wait.
     fn len(&self) -> usize
         ensures len { result ≡ length self.now.waiting }
-        ensures in_order { IsInOrder self.now.waiting }
+        ensures in_order { IsInOrder seq_of self.now.waiting }
     {
-        self.numbers.len()
+        self.seqs.len()
     }
 
     /// Takes in an instruction that is younger than all that wait.
     pub fn insert(&mut self, waiting: Waiting)
         requires room { length self.old.waiting < self.old.capacity }
-        requires youngest { IsYoungest waiting.number self.old.waiting }
+        requires youngest { AreBelow seq_of waiting.seq self.old.waiting }
         requires first { IsOperand waiting.first }
         requires second { IsOperand waiting.second }
         ensures { self.new ≡ with_waiting waiting self.old }
     {
-        self.numbers.push_reserved(waiting.number);
-        self.fetched.push_reserved(Fetched {
+        self.seqs.push_reserved(waiting.seq);
+        self.dispatched.push_reserved(Dispatched {
             pc: waiting.pc,
             instruction: waiting.instruction,
         });
@@ -97,11 +98,11 @@ impl StationPool {
     }
 
     /// Gives each operand whose tag is a sequence number the value of its producer.
-    pub fn wake(&mut self, number: u64, value: u32)
-        ensures { self.new ≡ woken_pool number value self.old }
+    pub fn wake(&mut self, seq: u64, value: u32)
+        ensures { self.new ≡ woken_pool seq value self.old }
     {
-        self.first.wake(number, value);
-        self.second.wake(number, value);
+        self.first.wake(seq, value);
+        self.second.wake(seq, value);
     }
 
     /// The instruction in a place.
@@ -109,14 +110,14 @@ impl StationPool {
         requires { at < length self.now.waiting }
         ensures { slice_get self.now.waiting at ≡ Some result }
     {
-        let number = self.numbers[at];
-        let fetched = self.fetched[at];
+        let seq = self.seqs[at];
+        let dispatched = self.dispatched[at];
         let first = self.first.get(at);
         let second = self.second.get(at);
         Waiting {
-            number,
-            pc: fetched.pc,
-            instruction: fetched.instruction,
+            seq,
+            pc: dispatched.pc,
+            instruction: dispatched.instruction,
             first,
             second,
         }
@@ -126,10 +127,9 @@ impl StationPool {
     fn place_of_oldest_ready<F: Fn(&Waiting) -> bool>(&self, filter: &F) -> Option<usize>
         requires { F.IsAlwaysCallable filter.now }
         ensures within { IfSome result (λ at. at < length self.now.waiting) }
-        ensures ready { IfSome result (λ at. IfSome (slice_get self.now.waiting at) (λ w. IsTrue (is_ready w))) }
         ensures oldest { (test : Waiting → Bool) → Answers F.Fn filter.now test → oldest_ready test self.now.waiting ≡ option_and_then (slice_get self.now.waiting) result }
         ensures others { (test : Waiting → Bool) → Answers F.Fn filter.now test → issued test self.now ≡ without_place result self.now }
-        ensures in_order { IsInOrder self.now.waiting }
+        ensures in_order { IsInOrder seq_of self.now.waiting }
     {
         for at in 0..self.len() {
             let waiting = self.instruction_at(at);
@@ -147,32 +147,32 @@ impl StationPool {
         ensures others { self.new ≡ without_place (Some at) self.old }
     {
         let taken = self.instruction_at(at);
-        self.numbers.remove(at);
-        self.fetched.remove(at);
+        self.seqs.remove(at);
+        self.dispatched.remove(at);
         self.first.remove(at);
         self.second.remove(at);
         taken
     }
 
-    /// Takes out the oldest instruction that is ready and passes a filter, or none where none does.
-    pub fn take_oldest_ready<F: Fn(&Waiting) -> bool>(&mut self, filter: F) -> Option<Waiting>
+    /// Takes out the oldest instruction that is ready and passes a filter, and answers it with the
+    /// values of its operands; none where none is and does.
+    pub fn take_oldest_ready<F: Fn(&Waiting) -> bool>(&mut self, filter: F) -> Option<Ready>
         requires { F.IsAlwaysCallable filter }
-        ensures oldest { (test : Waiting → Bool) → Answers F.Fn filter test → result ≡ oldest_ready test self.old.waiting }
+        ensures oldest { (test : Waiting → Bool) → Answers F.Fn filter test → result ≡ option_and_then ready_of (oldest_ready test self.old.waiting) }
         ensures others { (test : Waiting → Bool) → Answers F.Fn filter test → self.new ≡ issued test self.old }
-        ensures ready { IfSome result (λ w. IsTrue (is_ready w)) }
-        ensures in_order { IsInOrder self.old.waiting }
+        ensures in_order { IsInOrder seq_of self.old.waiting }
     {
         let at = self.place_of_oldest_ready(&filter)?;
-        Some(self.take(at))
+        self.take(at).ready()
     }
 
     /// Takes out the instructions of a sequence number and of all above it.
     pub fn squash(&mut self, from: u64)
         ensures { self.new ≡ squashed from self.old }
     {
-        let kept = self.numbers.partition_point(|number| *number < from);
-        self.numbers.truncate(kept);
-        self.fetched.truncate(kept);
+        let kept = self.seqs.partition_point(|seq| *seq < from);
+        self.seqs.truncate(kept);
+        self.dispatched.truncate(kept);
         self.first.truncate(kept);
         self.second.truncate(kept);
     }

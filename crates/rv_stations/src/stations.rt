@@ -1,10 +1,11 @@
-ghost use Rattle.std.specs.Prelude.{◌≡◌, ◌<◌, ◌≤◌, ◌↔◌, Bool, length, IsTrue, IfOk, IfSome};
-ghost use Rattle.rv_stations.specs.Waiting.{IsInOrder, IsOperand, IsYoungest, is_ready, oldest_ready};
+ghost use Rattle.std.specs.Prelude.{◌≡◌, ◌<◌, ◌≤◌, ◌↔◌, Bool, length, nat_le, IsTrue, IfOk, option_and_then};
+ghost use Rattle.rv_isa.specs.Numbered.{AreBelow, IsInOrder};
+ghost use Rattle.rv_stations.specs.Waiting.{seq_of, IsOperand, ready_of, oldest_ready};
 ghost use Rattle.rv_stations.specs.Pool.{Answers, with_waiting, woken_pool, issued, squashed};
 ghost use Rattle.rv_stations.specs.Stations.{empty_pools, pool_of, with_pool, each_pool};
 
 use crate::pool::StationPool;
-use crate::waiting::Waiting;
+use crate::waiting::{Ready, Waiting};
 use rv_isa::{Description, Kind};
 use std::alloc::{AllocError, Global};
 use std::marker::Model;
@@ -44,7 +45,7 @@ impl Stations {
 
     /// Whether an instruction waits in each station of a kind.
     pub fn is_full(&self, kind: Kind) -> bool
-        ensures full { IsTrue result ↔ (length (pool_of kind self.now).waiting ≡ (pool_of kind self.now).capacity) }
+        ensures full { result ≡ nat_le (pool_of kind self.now).capacity (length (pool_of kind self.now).waiting) }
         ensures within { length (pool_of kind self.now).waiting ≤ (pool_of kind self.now).capacity }
     {
         match kind {
@@ -56,14 +57,14 @@ impl Stations {
     }
 
     /// Whether a sequence number is above those of all instructions of a kind that wait.
-    pub fn is_youngest(&self, kind: Kind, number: u64) -> bool
-        ensures { IsTrue result ↔ IsYoungest number (pool_of kind self.now).waiting }
+    pub fn is_youngest(&self, kind: Kind, seq: u64) -> bool
+        ensures { IsTrue result ↔ AreBelow seq_of seq (pool_of kind self.now).waiting }
     {
         match kind {
-            Kind::Alu => self.alu.is_youngest(number),
-            Kind::Mul => self.mul.is_youngest(number),
-            Kind::Div => self.div.is_youngest(number),
-            Kind::Mem => self.mem.is_youngest(number),
+            Kind::Alu => self.alu.is_youngest(seq),
+            Kind::Mul => self.mul.is_youngest(seq),
+            Kind::Div => self.div.is_youngest(seq),
+            Kind::Mem => self.mem.is_youngest(seq),
         }
     }
 
@@ -71,7 +72,7 @@ impl Stations {
     /// sequence numbers.
     pub fn insert(&mut self, kind: Kind, waiting: Waiting)
         requires room { length (pool_of kind self.old).waiting < (pool_of kind self.old).capacity }
-        requires youngest { IsYoungest waiting.number (pool_of kind self.old).waiting }
+        requires youngest { AreBelow seq_of waiting.seq (pool_of kind self.old).waiting }
         requires first { IsOperand waiting.first }
         requires second { IsOperand waiting.second }
         ensures { self.new ≡ with_pool kind (with_waiting waiting (pool_of kind self.old)) self.old }
@@ -86,27 +87,26 @@ impl Stations {
 
     /// Gives every operand whose tag is a sequence number the value of its producer, and changes no
     /// other.
-    pub fn wake(&mut self, number: u64, value: u32)
-        ensures { self.new ≡ each_pool (woken_pool number value) self.old }
+    pub fn wake(&mut self, seq: u64, value: u32)
+        ensures { self.new ≡ each_pool (woken_pool seq value) self.old }
     {
-        self.alu.wake(number, value);
-        self.mul.wake(number, value);
-        self.div.wake(number, value);
-        self.mem.wake(number, value);
+        self.alu.wake(seq, value);
+        self.mul.wake(seq, value);
+        self.div.wake(seq, value);
+        self.mem.wake(seq, value);
     }
 
     /// Takes out the oldest instruction of a kind that is ready, with both operands' values there, and
-    /// that passes a filter; none where there is none.
+    /// that passes a filter, and answers it with those values; none where there is none.
     pub fn take_oldest_ready<F: Fn(&Waiting) -> bool>(
         &mut self,
         kind: Kind,
         filter: F,
-    ) -> Option<Waiting>
+    ) -> Option<Ready>
         requires { F.IsAlwaysCallable filter }
-        ensures oldest { (test : Waiting → Bool) → Answers F.Fn filter test → result ≡ oldest_ready test (pool_of kind self.old).waiting }
+        ensures oldest { (test : Waiting → Bool) → Answers F.Fn filter test → result ≡ option_and_then ready_of (oldest_ready test (pool_of kind self.old).waiting) }
         ensures others { (test : Waiting → Bool) → Answers F.Fn filter test → self.new ≡ with_pool kind (issued test (pool_of kind self.old)) self.old }
-        ensures ready { IfSome result (λ w. IsTrue (is_ready w)) }
-        ensures in_order { IsInOrder (pool_of kind self.old).waiting }
+        ensures in_order { IsInOrder seq_of (pool_of kind self.old).waiting }
     {
         match kind {
             Kind::Alu => self.alu.take_oldest_ready(filter),
@@ -147,14 +147,14 @@ mod tests {
         Description::new(values).expect(rt, "a legal description")
     }
 
-    fn put(rt: &impl Abort, stations: &mut Stations, number: u64, first: Operand, second: Operand) {
+    fn put(rt: &impl Abort, stations: &mut Stations, seq: u64, first: Operand, second: Operand) {
         assert!(rt; !stations.is_full(Kind::Alu));
-        assert!(rt; stations.is_youngest(Kind::Alu, number));
+        assert!(rt; stations.is_youngest(Kind::Alu, seq));
         assert!(rt; is_in_range(first) && is_in_range(second));
         stations.insert(
             Kind::Alu,
             Waiting {
-                number,
+                seq,
                 pc: 0,
                 instruction: Instr::Fence,
                 first,
@@ -172,13 +172,13 @@ mod tests {
         }
     }
 
-    fn issue(rt: &impl Abort, stations: &mut Stations, number: u64, value: u32) {
+    fn issue(rt: &impl Abort, stations: &mut Stations, seq: u64, value: u32) {
         let issued = stations
             .take_oldest_ready(Kind::Alu, |_| true)
             .expect(rt, "a ready instruction");
-        assert_eq!(rt; issued.number, number);
-        assert_eq!(rt; issued.first, Operand::Value(value));
-        assert_eq!(rt; issued.second, Operand::Value(value));
+        assert_eq!(rt; issued.seq, seq);
+        assert_eq!(rt; issued.first, value);
+        assert_eq!(rt; issued.second, value);
     }
 
     // In lanes of eight, with and without a rest.
@@ -187,11 +187,11 @@ mod tests {
         for count in [1, 7, 8, 9, 63, 64] {
             let mut stations = Stations::new(rt.alloc(), &with_stations(&rt, count))?;
             let last = u64::from(count) - 1;
-            for number in 0..last {
+            for seq in 0..last {
                 put(
                     &rt,
                     &mut stations,
-                    number,
+                    seq,
                     Operand::Tag(100),
                     Operand::Tag(100),
                 );
@@ -216,8 +216,8 @@ mod tests {
                 "{count} stations"
             );
             stations.wake(100, 1);
-            for number in 0..last {
-                issue(&rt, &mut stations, number, 1);
+            for seq in 0..last {
+                issue(&rt, &mut stations, seq, 1);
             }
             assert!(rt;
                 stations.take_oldest_ready(Kind::Alu, |_| true).is_none(),
@@ -242,21 +242,21 @@ mod tests {
     #[test]
     fn the_filter_passes_by_older_instructions(rt: HostRuntime) -> Result<(), Fail> {
         let mut stations = Stations::new(rt.alloc(), &with_stations(&rt, 4))?;
-        for number in 5..8 {
+        for seq in 5..8 {
             put(
                 &rt,
                 &mut stations,
-                number,
+                seq,
                 Operand::Value(1),
                 Operand::Value(1),
             );
         }
-        let second = stations.take_oldest_ready(Kind::Alu, |waiting| waiting.number != 5);
-        let number = match &second {
-            Some(waiting) => waiting.number,
+        let second = stations.take_oldest_ready(Kind::Alu, |waiting| waiting.seq != 5);
+        let seq = match &second {
+            Some(waiting) => waiting.seq,
             None => 0,
         };
-        assert_eq!(rt; number, 6);
+        assert_eq!(rt; seq, 6);
         issue(&rt, &mut stations, 5, 1);
         issue(&rt, &mut stations, 7, 1);
         Ok(())
@@ -265,11 +265,11 @@ mod tests {
     #[test]
     fn squashed_numbers_come_again(rt: HostRuntime) -> Result<(), Fail> {
         let mut stations = Stations::new(rt.alloc(), &with_stations(&rt, 4))?;
-        for number in 5..9 {
+        for seq in 5..9 {
             put(
                 &rt,
                 &mut stations,
-                number,
+                seq,
                 Operand::Value(1),
                 Operand::Value(1),
             );

@@ -26,7 +26,7 @@ impl Operand {
 #[derive(Clone, Copy, Debug, PartialEq, Eq)]
 pub struct Waiting {
     /// Its sequence number.
-    pub number: u64,
+    pub seq: u64,
     /// Its address.
     pub pc: u32,
     /// What it does.
@@ -37,13 +37,47 @@ pub struct Waiting {
     pub second: Operand,
 }
 
+/// An instruction that leaves its reservation station, with the values of its operands.
+#[derive(Clone, Copy, Debug, PartialEq, Eq)]
+pub struct Ready {
+    /// Its sequence number.
+    pub seq: u64,
+    /// Its address.
+    pub pc: u32,
+    /// What it does.
+    pub instruction: Instr,
+    /// The value of register `rs1`, 0 where it has no such operand.
+    pub first: u32,
+    /// The value of register `rs2`, 0 where it has no such operand.
+    pub second: u32,
+}
+
 impl Waiting {
-    ghost use Rattle.rv_stations.specs.Waiting.{is_ready};
+    ghost use Rattle.rv_stations.specs.Waiting.{is_ready, ready_of};
 
     /// Whether both operands have their values.
     pub fn is_ready(&self) -> bool
         ensures { result ≡ is_ready self.now }
     {
         self.first.has_value() && self.second.has_value()
+    }
+
+    /// The instruction with the values of its operands, where both are there.
+    pub fn ready(&self) -> Option<Ready>
+        ensures { result ≡ ready_of self.now }
+    {
+        let Operand::Value(first) = self.first else {
+            return None;
+        };
+        let Operand::Value(second) = self.second else {
+            return None;
+        };
+        Some(Ready {
+            seq: self.seq,
+            pc: self.pc,
+            instruction: self.instruction,
+            first,
+            second,
+        })
     }
 }

@@ -4,11 +4,11 @@ use Rattle.rv_stations.proofs.PoolLemmas.{length-pool, slice_get-joined}
 use Rattle.rv_stations.proofs.ZipLemmas.{slice_get-read}
 use Rattle.rv_stations.proofs.pool.StationPool.instruction_at.Goals as goal
 
-pub index-number-requires : goal.index-number-requires
-index-number-requires c = omega (arith, rw (← c.self.view_is) at c.requires, length-pool c.self.inside c.self.invariant)
+pub index-seq-requires : goal.index-seq-requires
+index-seq-requires c = omega (arith, rw (← c.self.view_is) at c.requires, length-pool c.self.inside c.self.invariant)
 
-pub index-fetched-requires : goal.index-fetched-requires
-index-fetched-requires c = omega (arith, rw (← c.self.view_is) at c.requires, length-pool c.self.inside c.self.invariant, c.self.invariant.fetched)
+pub index-dispatched-requires : goal.index-dispatched-requires
+index-dispatched-requires c = omega (arith, rw (← c.self.view_is) at c.requires, length-pool c.self.inside c.self.invariant, c.self.invariant.dispatched)
 
 pub get-first-requires : goal.get-first-requires
 get-first-requires c = omega (arith, rw (← c.self.view_is) at c.requires, length-pool c.self.inside c.self.invariant, c.self.invariant.first)
@@ -18,7 +18,7 @@ get-second-requires c = omega (arith, rw (← c.self.view_is) at c.requires, len
 
 pub returns : goal.returns
 returns c =
-    let within : c.args.at < length c.self.inside.numbers.items = omega (arith, rw (← c.self.view_is) at c.requires, length-pool c.self.inside c.self.invariant) in
-    let number = slice_get-read c.self.inside.numbers.items c.args.at c.index-number.result.now within c.index-number.ensures in
-    let fetched = slice_get-read c.self.inside.fetched.items c.args.at c.index-fetched.result.now (omega (arith, c.self.invariant.fetched)) c.index-fetched.ensures in
-    rw (← c.self.view_is) (slice_get-joined _ _ _ _ c.args.at _ _ _ _ number fetched c.get-first.ensures c.get-second.ensures)
+    let within : c.args.at < length c.self.inside.seqs.items = omega (arith, rw (← c.self.view_is) at c.requires, length-pool c.self.inside c.self.invariant) in
+    let seq = slice_get-read c.self.inside.seqs.items c.args.at c.index-seq.result.now within c.index-seq.ensures in
+    let dispatched = slice_get-read c.self.inside.dispatched.items c.args.at c.index-dispatched.result.now (omega (arith, c.self.invariant.dispatched)) c.index-dispatched.ensures in
+    rw (← c.self.view_is) (slice_get-joined _ _ _ _ c.args.at _ _ _ _ seq dispatched c.get-first.ensures c.get-second.ensures)

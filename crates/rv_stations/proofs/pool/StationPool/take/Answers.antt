@@ -1,8 +1,9 @@
 -- The parts in the place leave together.
 use Rattle.std.proofs.Common.{◌≡◌, ◌<◌, List, length, remove, ap, arith}
 use Rattle.std.proofs.lemmas.List.Edits.{length-remove}
-use Rattle.std.proofs.lemmas.List.Quantifiers.{all_pairs_remove}
+use Rattle.rv_isa.proofs.Numbered.{IsInOrder-remove}
 use Rattle.rv_stations.specs.declared.waiting.Waiting.{Waiting}
+use Rattle.rv_stations.specs.Waiting.{seq_of}
 use Rattle.rv_stations.specs.Pool.{Pool}
 use Rattle.rv_stations.specs.PoolFields.{joined}
 use Rattle.rv_stations.proofs.PoolLemmas.{same_lengths, length-pool, joined-remove}
@@ -11,10 +12,10 @@ use Rattle.rv_stations.proofs.pool.StationPool.take.Goals as goal
 pub remove-requires : goal.remove-requires
 remove-requires c = omega (arith, rw (← c.self.view_is) at c.requires, length-pool c.self.inside c.self.invariant)
 
-within : (c : goal.After-remove-4) → c.args.at < length c.self.inside.numbers.items
+within : (c : goal.After-remove-4) → c.args.at < length c.self.inside.seqs.items
 within c = omega (arith, rw (← c.self.view_is) at c.requires, length-pool c.self.inside c.self.invariant)
 
-removed : (c : goal.After-remove-4) → joined c.remove.new.self.items c.remove-2.new.self.items c.remove-3.new.self.operands c.remove-4.new.self.operands ≡ remove (joined c.self.inside.numbers.items c.self.inside.fetched.items c.self.inside.first.operands c.self.inside.second.operands) c.args.at
+removed : (c : goal.After-remove-4) → joined c.remove.new.self.items c.remove-2.new.self.items c.remove-3.new.self.operands c.remove-4.new.self.operands ≡ remove (joined c.self.inside.seqs.items c.self.inside.dispatched.items c.self.inside.first.operands c.self.inside.second.operands) c.args.at
 removed c =
     rw (c.remove.ensures.items, c.remove-2.ensures.items, c.remove-3.ensures, c.remove-4.ensures)
     (joined-remove _ _ _ _ (same_lengths c.self.inside c.self.invariant) c.args.at (within c))
@@ -22,14 +23,14 @@ removed c =
 pub invariant_of-self : goal.invariant_of-self
 invariant_of-self c = record {
   within = omega (arith, c.remove.ensures.len, c.self.invariant.within);
-  fetched = omega (arith, c.remove.ensures.len, c.remove-2.ensures.len, c.self.invariant.fetched);
+  dispatched = omega (arith, c.remove.ensures.len, c.remove-2.ensures.len, c.self.invariant.dispatched);
   first = rw c.remove-3.ensures (omega (arith, within c, length-remove c.self.inside.first.operands c.args.at (omega (arith, within c, c.self.invariant.first)), c.remove.ensures.len, c.self.invariant.first));
   second = rw c.remove-4.ensures (omega (arith, within c, length-remove c.self.inside.second.operands c.args.at (omega (arith, within c, c.self.invariant.second)), c.remove.ensures.len, c.self.invariant.second));
-  numbers_reserved = omega (arith, c.remove.ensures.capacity, c.self.invariant.numbers_reserved);
-  fetched_reserved = omega (arith, c.remove-2.ensures.capacity, c.self.invariant.fetched_reserved);
+  seqs_reserved = omega (arith, c.remove.ensures.capacity, c.self.invariant.seqs_reserved);
+  dispatched_reserved = omega (arith, c.remove-2.ensures.capacity, c.self.invariant.dispatched_reserved);
   first_reserved = rw c.remove-3.ensures c.self.invariant.first_reserved;
   second_reserved = rw c.remove-4.ensures c.self.invariant.second_reserved;
-  in_order = rw (removed c) (all_pairs_remove (λ (v w : Waiting). v.number < w.number) _ c.args.at (omega (arith, within c, length-pool c.self.inside c.self.invariant)) c.self.invariant.in_order);
+  in_order = rw (removed c) (IsInOrder-remove seq_of c.args.at _ (omega (arith, within c, length-pool c.self.inside c.self.invariant)) c.self.invariant.in_order);
 }
 
 pub returns-clause-others : goal.returns-clause-others
