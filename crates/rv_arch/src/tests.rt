@@ -1,5 +1,7 @@
 //! The simulator's worked examples on the reference: what each program leaves.
 
+mod control_registers;
+mod instructions;
 mod programs;
 
 use crate::{CsrOperand, Csrs, Illegal, Observed, RefOutcome, Reference, Stop, run_reference};
