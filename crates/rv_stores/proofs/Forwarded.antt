@@ -1,45 +1,73 @@
--- One more store laid over the bytes of older ones.
-use Rattle.std.proofs.Common.{◌≡◌, ℕ, ◌+◌, Bool, true, false, cond, ◌&&◌, List, ◌∷◌, filter, drop, slice_get, Option, Some, None, refl}
+-- Stores laid over one another, the oldest first, give the bytes of the youngest.
+use Rattle.std.proofs.Common.{◌≡◌, ℕ, ◌+◌, Bool, true, false, cond, List, [], ◌∷◌, ◌++◌, filter, nat_lt, Option, Some, None, refl, sym, ap, ◌∙◌}
+use Rattle.std.specs.List.{fold}
 use Rattle.std.specs.Option.{option_or}
-use Rattle.std.specs.List.{list_all}
+use Rattle.std.proofs.lemmas.List.Elements.{filter-append}
 use Rattle.rv_stores.specs.declared.store.Store.{Store}
-use Rattle.rv_stores.specs.Store.{byte_at}
-use Rattle.rv_stores.specs.Queue.{youngest_byte}
-use Rattle.rv_stores.proofs.Prefix.{drop-slice_get}
+use Rattle.rv_stores.specs.Store.{byte_at, laid_over}
+use Rattle.rv_stores.specs.Queue.{forwarded, youngest_byte}
 
 option_or_assoc : (a b c : Option ℕ) → option_or (option_or a b) c ≡ option_or a (option_or b c)
 option_or_assoc None b c = refl
 option_or_assoc (Some x) b c = refl
 
-pub option_or-none : (a : Option ℕ) → option_or a None ≡ a
+option_or-none : (a : Option ℕ) → option_or a None ≡ a
 option_or-none None = refl
 option_or-none (Some x) = refl
 
-module _ (p : Store → Bool) (place : ℕ) where
-  -- the stores from i on that pass, laid over a byte found before them
-  abbrev pub laid_from : ℕ → List Store → Option ℕ → Option ℕ
-  laid_from i ss found = option_or (youngest_byte place (filter p (drop i ss))) found
+fold-laid_from : (place : ℕ) (ss : List Store) (found : Option ℕ) → fold (λ found s. option_or (byte_at place s) found) found ss ≡ option_or (youngest_byte place ss) found
+fold-laid_from place [] found = refl
+fold-laid_from place (s ∷ ss) found =
+    fold-laid_from place ss (option_or (byte_at place s) found) ∙
+    sym (option_or_assoc (youngest_byte place ss) (byte_at place s) found)
 
-  pub laid_from-passes : (ss : List Store) (i j : ℕ) (s : Store) (found : Option ℕ) → j ≡ i + 1 → slice_get ss i ≡ Some s → p s ≡ true → laid_from i ss found ≡ laid_from j ss (option_or (byte_at place s) found)
-  laid_from-passes ss i j s found e h pass = rw (drop-slice_get ss i j s e h, pass) (option_or_assoc (youngest_byte place (filter p (drop j ss))) (byte_at place s) found)
+pub fold-youngest_byte : (place : ℕ) (ss : List Store) → fold (λ found s. option_or (byte_at place s) found) None ss ≡ youngest_byte place ss
+fold-youngest_byte place ss = fold-laid_from place ss None ∙ option_or-none (youngest_byte place ss)
 
-  pub laid_from-fails : (ss : List Store) (i j : ℕ) (s : Store) (found : Option ℕ) → j ≡ i + 1 → slice_get ss i ≡ Some s → p s ≡ false → laid_from i ss found ≡ laid_from j ss found
-  laid_from-fails ss i j s found e h fail = rw (drop-slice_get ss i j s e h, fail) refl
+-- the stores of two lists
+fold-append : {S T : Type 0} (f : T → S → T) (a : T) (xs ys : List S) → fold f a (xs ++ ys) ≡ fold f (fold f a xs) ys
+fold-append f a [] ys = refl
+fold-append f a (x ∷ xs) ys = fold-append f (f a x) xs ys
 
-module _ {X : Type 0} (p q : X → Bool) where
-  pub list_all-filter_drop : (xs : List X) (i j : ℕ) (x : X) → j ≡ i + 1 → slice_get xs i ≡ Some x → list_all q (filter p (drop i xs)) ≡ cond (p x) (q x && list_all q (filter p (drop j xs))) (list_all q (filter p (drop j xs)))
-  list_all-filter_drop xs i j x e h = rw (drop-slice_get xs i j x e h) (elim (p x) as (λ b. list_all q (cond b (x ∷ filter p (drop j xs)) (filter p (drop j xs))) ≡ cond b (q x && list_all q (filter p (drop j xs))) (list_all q (filter p (drop j xs)))) [ true ↦ refl | false ↦ refl ])
+pub fold-filter_append : {S T : Type 0} (f : T → S → T) (test : S → Bool) (a : T) (xs ys : List S) → fold f a (filter test (xs ++ ys)) ≡ fold f (fold f a (filter test xs)) (filter test ys)
+fold-filter_append f test a xs ys =
+    ap (fold f a) (filter-append test xs ys) ∙ fold-append f a (filter test xs) (filter test ys)
 
-  pub list_all-skips : (xs : List X) (i : ℕ) (x : X) → slice_get xs i ≡ Some x → p x ≡ false → list_all q (filter p (drop i xs)) ≡ list_all q (filter p (drop (i + 1) xs))
-  list_all-skips xs i x at e = rw (list_all-filter_drop xs i (i + 1) x refl at, e) refl
+module _ (address count : ℕ) where
+  -- what stores lay over a byte found at one place of the access
+  abbrev over_byte : List Store → Option ℕ → ℕ → Option ℕ
+  over_byte ss found offset =
+      cond (nat_lt offset count) (option_or (youngest_byte (address + offset) ss) found) found
 
-  all_rest : (b r : Bool) → cond b r r ≡ r
-  all_rest true r = refl
-  all_rest false r = refl
+  over_byte-cons : (b : Bool) (rest own found : Option ℕ) → cond b (option_or rest (cond b (option_or own found) found)) (cond b (option_or own found) found) ≡ cond b (option_or (option_or rest own) found) found
+  over_byte-cons true rest own found = sym (option_or_assoc rest own found)
+  over_byte-cons false rest own found = refl
 
-  pub list_all-holds : (xs : List X) (i : ℕ) (x : X) → slice_get xs i ≡ Some x → q x ≡ true → list_all q (filter p (drop i xs)) ≡ list_all q (filter p (drop (i + 1) xs))
-  list_all-holds xs i x at e =
-      rw (list_all-filter_drop xs i (i + 1) x refl at, e) (all_rest (p x) (list_all q (filter p (drop (i + 1) xs))))
+  over_byte-same : (b : Bool) (found : Option ℕ) → cond b found found ≡ found
+  over_byte-same true found = refl
+  over_byte-same false found = refl
 
-  pub list_all-fails : (xs : List X) (i : ℕ) (x : X) → slice_get xs i ≡ Some x → p x ≡ true → q x ≡ false → list_all q (filter p (drop i xs)) ≡ false
-  list_all-fails xs i x at e f = rw (list_all-filter_drop xs i (i + 1) x refl at, e, f) refl
+  over_byte-nil : (found : Option ℕ) (offset : ℕ) → found ≡ over_byte [] found offset
+  over_byte-nil found offset = sym (over_byte-same (nat_lt offset count) found)
+
+  over_byte-laid : (s : Store) (ss : List Store) (found : Option ℕ) (offset : ℕ) → over_byte ss (over_byte (s ∷ []) found offset) offset ≡ over_byte (s ∷ ss) found offset
+  over_byte-laid s ss found offset =
+      over_byte-cons (nat_lt offset count) (youngest_byte (address + offset) ss) (byte_at (address + offset) s) found
+
+  four : {a b c d a' b' c' d' : Option ℕ} → a ≡ a' → b ≡ b' → c ≡ c' → d ≡ d' → a ∷ b ∷ c ∷ d ∷ [] ≡ a' ∷ b' ∷ c' ∷ d' ∷ []
+  four e f g h = λ i. e i ∷ f i ∷ g i ∷ h i ∷ []
+
+  fold-over : (ss : List Store) (a b c d : Option ℕ) → fold (λ found s. laid_over address count s found) (a ∷ b ∷ c ∷ d ∷ []) ss ≡ over_byte ss a 0 ∷ over_byte ss b 1 ∷ over_byte ss c 2 ∷ over_byte ss d 3 ∷ []
+  fold-over [] a b c d = four (over_byte-nil a 0) (over_byte-nil b 1) (over_byte-nil c 2) (over_byte-nil d 3)
+  fold-over (s ∷ ss) a b c d =
+      fold-over ss (over_byte (s ∷ []) a 0) (over_byte (s ∷ []) b 1) (over_byte (s ∷ []) c 2) (over_byte (s ∷ []) d 3) ∙
+      four (over_byte-laid s ss a 0) (over_byte-laid s ss b 1) (over_byte-laid s ss c 2) (over_byte-laid s ss d 3)
+
+  over_byte-none : (b : Bool) (rest : Option ℕ) → cond b (option_or rest None) None ≡ cond b rest None
+  over_byte-none true rest = option_or-none rest
+  over_byte-none false rest = refl
+
+  pub fold-laid_over : (ss : List Store) → fold (λ found s. laid_over address count s found) (None ∷ None ∷ None ∷ None ∷ []) ss ≡ forwarded ss address count
+  fold-laid_over ss =
+      let none : (offset : ℕ) → over_byte ss None offset ≡ cond (nat_lt offset count) (youngest_byte (address + offset) ss) None = λ offset. over_byte-none (nat_lt offset count) (youngest_byte (address + offset) ss) in
+      fold-over ss None None None None ∙ four (none 0) (none 1) (none 2) (none 3)

@@ -1,6 +1,6 @@
 pub mod Answered
+pub mod Drained
 pub mod Forwarded
 pub mod Kept
-pub mod Padded
 pub mod Prefix
 pub mod Retired

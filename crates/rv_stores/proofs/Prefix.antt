@@ -1,56 +1,37 @@
 -- Those that pass a test and come before all others.
-use Rattle.std.proofs.Common.{◌≡◌, ℕ, zero, suc, ◌+◌, ◌<◌, ◌≤◌, nat_lt, nat_eq, IsTrue, Bool, true, false, cond, List, [], ◌∷◌, filter, take, drop, slice_get, Some, MatchBool, refl, ap, subst, ◌∙◌, arith}
+use Rattle.std.proofs.Common.{◌≡◌, ℕ, suc, ◌+◌, Bool, true, false, cond, List, [], ◌∷◌, filter, take, All, refl, ap, sym, ◌∙◌, arith}
+use Rattle.std.proofs.lemmas.Bool.{true≢false}
 use Rattle.std.specs.List.{prefix_len}
-use Rattle.std.proofs.lemmas.Bool.Decides.{nat_tests}
-use Rattle.rv_stores.specs.Order.{ComeFirst}
+use Rattle.std.proofs.lemmas.List.Elements.{All-head, All-tail}
+use Rattle.rv_stores.specs.Queue.{ComeFirst}
 
-module _ {X : Type 0} where
-  pub drop-slice_get : (xs : List X) (i j : ℕ) (x : X) → j ≡ i + 1 → slice_get xs i ≡ Some x → drop i xs ≡ x ∷ drop j xs
-  drop-slice_get [] i j x e h = cc
-  drop-slice_get (y ∷ ys) zero j x e h = let one : j ≡ 1 = omega arith in rw one (cc)
-  drop-slice_get (y ∷ ys) (suc i) zero x e h = absurd (omega arith)
-  drop-slice_get (y ∷ ys) (suc i) (suc j) x e h = drop-slice_get ys i j x (omega arith) h
+module _ {X : Type 0} (p : X → Bool) where
+  pub ComeFirst-tail : (x : X) (xs : List X) → ComeFirst p (x ∷ xs) → ComeFirst p xs
+  ComeFirst-tail x xs h i j d lt within = h (suc i) (suc j) d (omega arith) (omega arith)
 
-  module _ (p : X → Bool) where
-    pub prefix_len-drop : (xs : List X) (i j : ℕ) (x : X) → j ≡ i + 1 → slice_get xs i ≡ Some x → prefix_len p (drop i xs) ≡ cond (p x) (1 + prefix_len p (drop j xs)) 0
-    prefix_len-drop xs i j x e h = ap (prefix_len p) (drop-slice_get xs i j x e h)
+  -- behind one that does not pass, none does
+  pub ComeFirst-fails : (x : X) (xs : List X) → ComeFirst p (x ∷ xs) → p x ≡ false → All (λ y. p y ≡ true → p x ≡ true) xs
+  ComeFirst-fails x xs h e k d lt = h 0 (suc k) d (omega arith) (omega arith)
 
-    take-prefix_len_one : (b : Bool) (n : ℕ) (x : X) (xs : List X) → (b ≡ true → take n xs ≡ filter p xs) → (b ≡ false → filter p xs ≡ []) → take (cond b (1 + n) 0) (x ∷ xs) ≡ cond b (x ∷ filter p xs) (filter p xs)
-    take-prefix_len_one true n x xs same none = let one : 1 + n ≡ suc n = omega arith in rw one (ap (λ l. x ∷ l) (same refl))
-    take-prefix_len_one false n x xs same none = rw none refl
+  filter-none : (x : X) → p x ≡ false → (xs : List X) → All (λ y. p y ≡ true → p x ≡ true) xs → filter p xs ≡ []
+  filter-none x e [] h = refl
+  filter-none x e (y ∷ ys) h =
+      let first : (b : Bool) → p y ≡ b → cond b (y ∷ filter p ys) (filter p ys) ≡ [] = λ b is. elim b as (λ c. p y ≡ c → cond c (y ∷ filter p ys) (filter p ys) ≡ [])
+      [ true ↦ λ passes. absurd (true≢false (sym (h 0 y (omega arith) passes) ∙ e)) | false ↦ λ fails. filter-none x e ys (All-tail (λ z. p z ≡ true → p x ≡ true) y ys h) ]
+      is in
+      first (p y) refl
 
-    -- those that pass are a beginning of the list
-    pub take-prefix_len : (xs : List X) → ComeFirst p xs → take (prefix_len p xs) xs ≡ filter p xs
-    take-prefix_len [] h = refl
-    take-prefix_len (x ∷ xs) h =
-        take-prefix_len_one (p x) (prefix_len p xs) x xs
-        (λ e. take-prefix_len xs (let P : Bool → Type 0 = λ b. MatchBool b (ComeFirst p xs) (filter p xs ≡ []) in subst P e h))
-        (λ e. let P : Bool → Type 0 = λ b. MatchBool b (ComeFirst p xs) (filter p xs ≡ []) in subst P e h)
+  take-prefix_len_one : (b : Bool) (n : ℕ) (x : X) (xs : List X) → (b ≡ true → take n xs ≡ filter p xs) → (b ≡ false → filter p xs ≡ []) → take (cond b (1 + n) 0) (x ∷ xs) ≡ cond b (x ∷ filter p xs) (filter p xs)
+  take-prefix_len_one true n x xs same none = let one : 1 + n ≡ suc n = omega arith in rw one (ap (λ l. x ∷ l) (same refl))
+  take-prefix_len_one false n x xs same none = rw none refl
 
-    pub take-prefix_len_at : (xs : List X) (n : ℕ) → n ≡ prefix_len p xs → ComeFirst p xs → take n xs ≡ filter p xs
-    take-prefix_len_at xs n e h = ap (λ k. take k xs) e ∙ take-prefix_len xs h
+  -- those that pass are a beginning of the list
+  pub take-prefix_len : (xs : List X) → ComeFirst p xs → take (prefix_len p xs) xs ≡ filter p xs
+  take-prefix_len [] h = refl
+  take-prefix_len (x ∷ xs) h =
+      take-prefix_len_one (p x) (prefix_len p xs) x xs
+      (λ e. take-prefix_len xs (ComeFirst-tail x xs h))
+      (λ e. filter-none x e xs (ComeFirst-fails x xs h e))
 
-    -- a count from the front stops at the first that does not pass
-    pub prefix_len-stops : (xs : List X) (i : ℕ) (x : X) → slice_get xs i ≡ Some x → p x ≡ false → prefix_len p xs ≡ i + prefix_len p (drop i xs) → i ≡ prefix_len p xs
-    prefix_len-stops xs i x at fails e =
-        let rest : prefix_len p (drop i xs) ≡ 0 = rw (prefix_len-drop xs i (i + 1) x refl at, fails) refl in omega arith
-
-    -- and goes on at one that passes
-    pub prefix_len-goes : (xs : List X) (i : ℕ) (x : X) → slice_get xs i ≡ Some x → p x ≡ true → prefix_len p xs ≡ i + prefix_len p (drop i xs) → prefix_len p xs ≡ i + 1 + prefix_len p (drop (i + 1) xs)
-    prefix_len-goes xs i x at passes e =
-        let rest : prefix_len p (drop i xs) ≡ 1 + prefix_len p (drop (i + 1) xs) = rw (prefix_len-drop xs i (i + 1) x refl at, passes) refl in omega arith
-
-pub lt_passes : (a b : ℕ) → a < b → nat_lt a b ≡ true
-lt_passes a b h = grind (arith, nat_tests)
-
-pub lt_fails : (a b : ℕ) → b ≤ a → nat_lt a b ≡ false
-lt_fails a b h = grind (arith, nat_tests)
-
-pub lt_holds : (a b : ℕ) → nat_lt a b ≡ true → a < b
-lt_holds a b h = grind (arith, nat_tests)
-
-pub eq_holds : (a b : ℕ) → IsTrue (nat_eq a b) → a ≡ b
-eq_holds a b h = grind (arith, nat_tests)
-
-pub eq_passes : (a b : ℕ) → a ≡ b → IsTrue (nat_eq a b)
-eq_passes a b h = grind (arith, nat_tests)
+  pub take-prefix_len_at : (xs : List X) (n : ℕ) → n ≡ prefix_len p xs → ComeFirst p xs → take n xs ≡ filter p xs
+  take-prefix_len_at xs n e h = ap (λ k. take k xs) e ∙ take-prefix_len xs h

@@ -1,4 +1,2 @@
-pub mod Bytes
-pub mod Order
 pub mod Queue
 pub mod Store

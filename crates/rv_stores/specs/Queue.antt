@@ -1,23 +1,23 @@
 -- The store queue as a list of stores, oldest first, and what the calls make and tell of it.
-use Rattle.std.specs.Prelude.{ℕ, ◌+◌, ◌<◌, nat_lt, length, List, [], ◌∷◌, filter, map, Option, None, if◌then◌else◌}
-use Rattle.std.specs.Option.{option_or}
-use Rattle.rv_stores.specs.declared.store.Write.{Write}
+use Rattle.std.specs.Prelude.{◌≡◌, ℕ, ◌+◌, ◌<◌, Bool, true, nat_lt, length, List, [], ◌∷◌, find, map, not, AllPairs, Option, None, if◌then◌else◌}
+use Rattle.std.specs.Option.{option_map, option_or}
+use Rattle.rv_isa.specs.declared.broadcast.StoreAccess.{StoreAccess}
+use Rattle.rv_isa.specs.Numbered.{below, AreBelow}
 use Rattle.rv_stores.specs.declared.store.Store.{Store}
-use Rattle.rv_stores.specs.Store.{byte_at, draining, is_committed, is_draining, retired, write_to_drain}
+use Rattle.rv_stores.specs.Store.{byte_at, draining, is_committed, is_draining, is_known, retired, access_to_drain}
 
 -- the stores, oldest first, and how many there may be
 pub record Queue : Type 0 where
   pub stores : List Store
   pub capacity : ℕ
 
--- each store's number is below n
-abbrev pub AreBelow : ℕ → List Store → Type 0
-AreBelow n [] = Unit {0}
-AreBelow n (s ∷ ss) = (s.number < n) × AreBelow n ss
+-- those that pass a test come first: none stands behind one that does not
+abbrev pub ComeFirst : {X : Type 0} → (X → Bool) → List X → Type 0
+ComeFirst passes xs = AllPairs (λ x y. passes y ≡ true → passes x ≡ true) xs
 
 -- there is room for a store, and the number is above each one that the queue holds
 abbrev pub CanEnter : ℕ → Queue → Type 0
-CanEnter number queue = (length queue.stores < queue.capacity) × AreBelow number queue.stores
+CanEnter seq queue = (length queue.stores < queue.capacity) × AreBelow (λ s. s.seq) seq queue.stores
 
 -- the stores, with the oldest one that is not committed retired
 abbrev pub with_oldest_retired : List Store → List Store
@@ -26,9 +26,9 @@ with_oldest_retired (s ∷ ss) =
     if is_committed s then s ∷ with_oldest_retired ss else record s { state = retired s.state } ∷ ss
 
 -- what the oldest store writes, where it is committed and not draining
-abbrev pub oldest_to_drain : List Store → Option Write
+abbrev pub oldest_to_drain : List Store → Option StoreAccess
 oldest_to_drain [] = None
-oldest_to_drain (s ∷ ss) = write_to_drain s
+oldest_to_drain (s ∷ ss) = access_to_drain s
 
 -- the stores, with the oldest one draining
 abbrev pub with_oldest_draining : List Store → List Store
@@ -40,9 +40,13 @@ abbrev pub without_drained : List Store → List Store
 without_drained [] = []
 without_drained (s ∷ ss) = if is_draining s then ss else s ∷ ss
 
+-- the number of the oldest store that was neither filled nor marked as faulting
+abbrev pub first_unknown : List Store → Option ℕ
+first_unknown stores = option_map (λ s. s.seq) (find (λ s. not (is_known s)) stores)
+
 -- the stores of instructions below a number
 abbrev pub older_than : ℕ → List Store → List Store
-older_than number stores = filter (λ s. nat_lt s.number number) stores
+older_than seq stores = below (λ s. s.seq) seq stores
 
 -- the byte at a place of memory of the youngest store that covers it
 abbrev pub youngest_byte : ℕ → List Store → Option ℕ

@@ -3,12 +3,11 @@
 //! them at broadcast, commits them at retirement and drains them to the cache; loads read the bytes that it forwards.
 #![tactic(auto)]
 
-mod bytes;
+mod forwarding;
 mod queue;
 mod store;
 #[cfg(test)]
 mod tests;
 
-pub use bytes::StoreBytes;
 pub use queue::StoreQueue;
-pub use store::{Stage, Store, StoreState, Write};
+pub use store::{Store, StorePhase, StoreState};

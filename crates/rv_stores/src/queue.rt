@@ -1,13 +1,14 @@
-ghost use Rattle.std.specs.Prelude.{◌≡◌, ◌≤◌, ◌↔◌, ◌++◌, ◌∷◌, [], Some, length, map, filter, nat_lt, IsTrue, IsSome, IfOk, false};
-ghost use Rattle.std.specs.List.{list_all, prefix_len};
-ghost use Rattle.rv_stores.specs.Queue.{CanEnter, forwarded, older_than, oldest_to_drain, with_oldest_draining, with_oldest_retired, without_drained, youngest_byte};
-ghost use Rattle.rv_stores.specs.Store.{answered, entered, filled_with, is_committed, is_committed_state, is_known};
+ghost use Rattle.std.specs.Prelude.{◌≡◌, ◌≤◌, ◌↔◌, ◌++◌, ◌∷◌, [], Some, length, map, filter, nat_lt, nat_le, IsTrue, IsSome, IfOk, false};
+ghost use Rattle.std.specs.List.{prefix_len};
+ghost use Rattle.rv_isa.specs.Numbered.{AreBelow};
+ghost use Rattle.rv_stores.specs.Queue.{CanEnter, first_unknown, forwarded, older_than, oldest_to_drain, with_oldest_draining, with_oldest_retired, without_drained, youngest_byte};
+ghost use Rattle.rv_stores.specs.Store.{answered, entered, filled_with, is_committed, is_committed_state};
 ghost use Rattle.rv_stores.specs.declared.store.StoreState.TheVariants.{Faulted};
 
-use crate::bytes::StoreBytes;
-use crate::store::{Stage, Store, StoreState, Write};
+use crate::forwarding::{committed_bytes, older_bytes};
+use crate::store::{Store, StorePhase, StoreState};
 use circular_buffer::HeapCircularBuffer;
-use rv_isa::Description;
+use rv_isa::{Description, StoreAccess};
 use std::alloc::{AllocError, Global};
 use std::marker::Model;
 
@@ -21,15 +22,15 @@ pub struct StoreQueue {
 }
 
 impl Model for StoreQueue {
-    ghost use Rattle.rv_stores.specs.Queue.{Queue};
-    ghost use Rattle.rv_stores.specs.Order.{IsInOrder, ComeFirst};
+    ghost use Rattle.rv_isa.specs.Numbered.{IsInOrder};
+    ghost use Rattle.rv_stores.specs.Queue.{Queue, ComeFirst};
     ghost use Rattle.rv_stores.specs.Store.{is_committed};
 
     ghost Value = { Queue };
 
     ghost view = { λ q. record { stores = q.ring.items; capacity = q.ring.capacity } };
 
-    ghost invariant = { λ q. IsInOrder q.ring.items × ComeFirst is_committed q.ring.items };
+    ghost invariant = { λ q. IsInOrder (λ store. store.seq) q.ring.items × ComeFirst is_committed q.ring.items };
 }
 
 impl StoreQueue {
@@ -45,10 +46,10 @@ impl StoreQueue {
 
     /// Whether the queue holds as many stores as it can.
     pub fn is_full(&self) -> bool
-        ensures full { IsTrue result ↔ (length self.now.stores ≡ self.now.capacity) }
+        ensures full { result ≡ nat_le self.now.capacity (length self.now.stores) }
         ensures within { length self.now.stores ≤ self.now.capacity }
     {
-        self.ring.len() == self.ring.capacity()
+        self.ring.len() >= self.ring.capacity()
     }
 
     /// Whether the queue holds no store.
@@ -59,10 +60,20 @@ impl StoreQueue {
     }
 
     /// Whether there is room for a store, and the number is above each one that the queue holds.
-    pub fn can_enter(&self, number: u64) -> bool
-        ensures { IsTrue result ↔ CanEnter number self.now }
+    pub fn can_enter(&self, seq: u64) -> bool
+        ensures { IsTrue result ↔ CanEnter seq self.now }
     {
-        self.ring.len() < self.ring.capacity() && self.older_count(number) == self.ring.len()
+        self.ring.len() < self.ring.capacity() && self.are_below(seq)
+    }
+
+    // Whether the number of each store is below a number: that of the youngest is.
+    fn are_below(&self, seq: u64) -> bool
+        ensures { IsTrue result ↔ AreBelow (λ store. store.seq) seq self.now.stores }
+    {
+        match self.ring.back() {
+            Some(youngest) => youngest.seq < seq,
+            None => true,
+        }
     }
 
     /// Whether the oldest store is committed and not draining.
@@ -71,54 +82,50 @@ impl StoreQueue {
     {
         self.ring
             .front()
-            .is_some_and(|store| store.write_to_drain().is_some())
+            .is_some_and(|store| store.access_to_drain().is_some())
     }
 
     /// Enters a store at its dispatch, behind all others.
-    pub fn enter(&mut self, number: u64)
-        requires { CanEnter number self.old }
-        ensures { self.new ≡ record self.old { stores = self.old.stores ++ entered number ∷ [] } }
+    pub fn enter(&mut self, seq: u64)
+        requires { CanEnter seq self.old }
+        ensures { self.new ≡ record self.old { stores = self.old.stores ++ entered seq ∷ [] } }
     {
         self.ring.push_back(Store {
-            number,
+            seq,
             state: StoreState::Waiting,
         });
     }
 
-    /// Fills the waiting store with this number with the bytes that it writes from an address on.
-    pub fn fill(&mut self, number: u64, address: u32, bytes: &[u8])
-        requires { length bytes.now ≤ 4 }
-        ensures { self.new ≡ record self.old { stores = map (answered number (filled_with address bytes.now)) self.old.stores } }
+    /// Fills the waiting store with this number with what it writes.
+    pub fn fill(&mut self, seq: u64, access: StoreAccess)
+        ensures { self.new ≡ record self.old { stores = map (answered seq (filled_with access)) self.old.stores } }
     {
         self.answer(
-            number,
+            seq,
             StoreState::Filled {
-                write: Write {
-                    address,
-                    bytes: StoreBytes::from_slice(bytes),
-                },
-                stage: Stage::Speculative,
+                access,
+                phase: StorePhase::Speculative,
             },
         );
     }
 
     /// Marks the waiting store with this number as faulting.
-    pub fn fill_fault(&mut self, number: u64)
-        ensures { self.new ≡ record self.old { stores = map (answered number Faulted) self.old.stores } }
+    pub fn fill_fault(&mut self, seq: u64)
+        ensures { self.new ≡ record self.old { stores = map (answered seq Faulted) self.old.stores } }
     {
-        self.answer(number, StoreState::Faulted);
+        self.answer(seq, StoreState::Faulted);
     }
 
     // What a broadcast tells of the waiting store with this number.
-    fn answer(&mut self, number: u64, news: StoreState)
+    fn answer(&mut self, seq: u64, news: StoreState)
         requires { is_committed_state news ≡ false }
-        ensures { self.new ≡ record self.old { stores = map (answered number news) self.old.stores } }
+        ensures { self.new ≡ record self.old { stores = map (answered seq news) self.old.stores } }
     {
-        let place = self.older_count(number);
+        let place = self.older_count(seq);
         let Some(store) = self.ring.get_mut(place) else {
             return;
         };
-        *store = store.answered(number, news);
+        *store = store.answered(seq, news);
     }
 
     /// Commits the oldest store that is not committed, at its retirement: one that was filled.
@@ -133,44 +140,43 @@ impl StoreQueue {
     }
 
     // How many stores come before the first that is not below a number.
-    fn older_count(&self, number: u64) -> usize
-        ensures { result ≡ prefix_len (λ store. nat_lt store.number number) self.now.stores }
+    fn older_count(&self, seq: u64) -> usize
+        ensures { result ≡ prefix_len (λ store. nat_lt store.seq seq) self.now.stores }
     {
-        for place in 0..self.ring.len() {
-            let store = self.ring.get(place).unwrap();
-            if store.number >= number {
-                return place;
-            }
-        }
-        self.ring.len()
+        self.ring.iter().take_while(|store| store.seq < seq).count()
     }
 
     // How many stores come before the first that is not committed.
     fn committed_count(&self) -> usize
         ensures { result ≡ prefix_len is_committed self.now.stores }
     {
-        for place in 0..self.ring.len() {
-            let store = self.ring.get(place).unwrap();
-            if !store.is_committed() {
-                return place;
-            }
-        }
-        self.ring.len()
+        self.ring
+            .iter()
+            .take_while(|store| store.is_committed())
+            .count()
     }
 
     /// Begins to drain the oldest store, and gives what it writes. The store stays, and forwards, until `end_drain`.
-    pub fn start_drain(&mut self) -> Write
+    pub fn start_drain(&mut self) -> StoreAccess
         requires { IsSome (oldest_to_drain self.old.stores) }
-        ensures write { oldest_to_drain self.old.stores ≡ Some result }
+        ensures access { oldest_to_drain self.old.stores ≡ Some result }
         ensures stores { self.new ≡ record self.old { stores = with_oldest_draining self.old.stores } }
     {
-        let Some(write) = self.ring.front().and_then(|store| store.write_to_drain()) else {
+        let Some(access) = self.ring.front().and_then(|store| store.access_to_drain()) else {
             unreachable!();
         };
-        if let Some(store) = self.ring.get_mut(0) {
-            store.state = store.state.draining();
-        }
-        write
+        self.drain_oldest();
+        access
+    }
+
+    // The oldest store drains from now on.
+    fn drain_oldest(&mut self)
+        ensures { self.new ≡ record self.old { stores = with_oldest_draining self.old.stores } }
+    {
+        let Some(store) = self.ring.get_mut(0) else {
+            return;
+        };
+        store.state = store.state.draining();
     }
 
     /// Takes out the store that drains, whose bytes are in the cache. Where none drains nothing changes.
@@ -182,46 +188,24 @@ impl StoreQueue {
         }
     }
 
-    /// Whether every store below a number was filled or marked as faulting.
-    pub fn older_known(&self, number: u64) -> bool
-        ensures { result ≡ list_all is_known (older_than number self.now.stores) }
+    /// The number of the oldest store that was neither filled nor marked as faulting, None where all were.
+    pub fn first_unknown(&self) -> Option<u64>
+        ensures { result ≡ first_unknown self.now.stores }
     {
-        for place in 0..self.ring.len() {
-            let store = self.ring.get(place).unwrap();
-            if store.number < number && !store.is_known() {
-                return false;
-            }
-        }
-        true
+        self.ring
+            .iter()
+            .find(|store| !store.is_known())
+            .map(|store| store.seq)
     }
 
     /// The bytes that the stores below a number forward to an access of `count` bytes at an address: each is that of the
     /// youngest such store that covers it, None where none does, and behind the end of the access.
-    pub fn overlay(&self, number: u64, address: u32, count: usize) -> [Option<u8>; 4]
-        ensures { result ≡ forwarded (older_than number self.now.stores) address count }
+    pub fn overlay(&self, seq: u64, address: u32, count: usize) -> [Option<u8>; 4]
+        ensures { result ≡ forwarded (older_than seq self.now.stores) address count }
     {
-        let byte = |offset: u8| {
-            if usize::from(offset) < count {
-                self.older_byte(number, u64::from(address) + u64::from(offset))
-            } else {
-                None
-            }
-        };
-        [byte(0), byte(1), byte(2), byte(3)]
-    }
-
-    // The byte at an address of the youngest store below a number that covers it.
-    fn older_byte(&self, number: u64, address: u64) -> Option<u8>
-        ensures { result ≡ youngest_byte address (older_than number self.now.stores) }
-    {
-        let mut byte = None;
-        for place in 0..self.ring.len() {
-            let store = self.ring.get(place).unwrap();
-            if store.number < number {
-                byte = store.byte_at(address).or(byte);
-            }
-        }
-        byte
+        let (front, back) = self.ring.as_slices();
+        let found = older_bytes(front, seq, [None; 4], address, count);
+        older_bytes(back, seq, found, address, count)
     }
 
     /// The byte at an address of the youngest committed store that covers it, None where none does: what the queue
@@ -229,14 +213,9 @@ impl StoreQueue {
     pub fn committed_byte(&self, address: u32) -> Option<u8>
         ensures { result ≡ youngest_byte address (filter is_committed self.now.stores) }
     {
-        let mut byte = None;
-        for place in 0..self.ring.len() {
-            let store = self.ring.get(place).unwrap();
-            if store.is_committed() {
-                byte = store.byte_at(u64::from(address)).or(byte);
-            }
-        }
-        byte
+        let (front, back) = self.ring.as_slices();
+        let found = committed_bytes(front, None, address);
+        committed_bytes(back, found, address)
     }
 
     /// Takes out the stores from a number on.

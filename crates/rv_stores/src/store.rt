@@ -1,20 +1,11 @@
 ghost use Rattle.std.specs.Prelude.{◌≡◌};
-ghost use Rattle.rv_stores.specs.Store.{answered, byte_at, draining, is_committed, is_draining, is_known, retired, told, write_to_drain};
+ghost use Rattle.rv_stores.specs.Store.{answered, byte_at, draining, is_committed, is_draining, is_known, laid_over, retired, told, access_to_drain};
 
-use crate::bytes::StoreBytes;
-
-/// What a store writes.
-#[derive(Clone, Copy, Debug, PartialEq, Eq)]
-pub struct Write {
-    /// The address of the first byte.
-    pub address: u32,
-    /// The bytes from there on.
-    pub bytes: StoreBytes,
-}
+use rv_isa::StoreAccess;
 
 /// How far a filled store has come on its way to the cache.
 #[derive(Clone, Copy, Debug, PartialEq, Eq)]
-pub enum Stage {
+pub enum StorePhase {
     /// It has not retired, and may still be squashed.
     Speculative,
     /// It has retired, and waits for the cache's port.
@@ -33,9 +24,9 @@ pub enum StoreState {
     /// Its broadcast told what it writes.
     Filled {
         /// What it writes.
-        write: Write,
+        access: StoreAccess,
         /// How far it has come.
-        stage: Stage,
+        phase: StorePhase,
     },
 }
 
@@ -55,9 +46,9 @@ impl StoreState {
         ensures { result ≡ retired self }
     {
         match self {
-            StoreState::Filled { write, .. } => StoreState::Filled {
-                write,
-                stage: Stage::Committed,
+            StoreState::Filled { access, .. } => StoreState::Filled {
+                access,
+                phase: StorePhase::Committed,
             },
             other => other,
         }
@@ -68,9 +59,9 @@ impl StoreState {
         ensures { result ≡ draining self }
     {
         match self {
-            StoreState::Filled { write, .. } => StoreState::Filled {
-                write,
-                stage: Stage::Draining,
+            StoreState::Filled { access, .. } => StoreState::Filled {
+                access,
+                phase: StorePhase::Draining,
             },
             other => other,
         }
@@ -81,7 +72,7 @@ impl StoreState {
 #[derive(Clone, Copy, Debug, PartialEq, Eq)]
 pub struct Store {
     /// The instruction's sequence number.
-    pub number: u64,
+    pub seq: u64,
     /// What is known of it.
     pub state: StoreState,
 }
@@ -91,11 +82,31 @@ impl Store {
     pub(crate) fn byte_at(&self, place: u64) -> Option<u8>
         ensures { result ≡ byte_at place self.now }
     {
-        let StoreState::Filled { write, .. } = self.state else {
+        let StoreState::Filled { access, .. } = self.state else {
             return None;
         };
-        let offset = place.checked_sub(u64::from(write.address))?;
-        write.bytes.as_slice().get(offset as usize).copied()
+        let offset = place.checked_sub(u64::from(access.address))?;
+        access.bytes.as_slice().get(offset as usize).copied()
+    }
+
+    // The bytes found so far for an access of `count` bytes at an address, with those of this store laid over them.
+    pub(crate) fn laid_over(
+        &self,
+        found: [Option<u8>; 4],
+        address: u32,
+        count: usize,
+    ) -> [Option<u8>; 4]
+        ensures { result ≡ laid_over address count self.now found }
+    {
+        let byte = |offset: usize| {
+            let own = self.byte_at(u64::from(address) + offset as u64);
+            if offset < count {
+                own.or(found[offset])
+            } else {
+                found[offset]
+            }
+        };
+        [byte(0), byte(1), byte(2), byte(3)]
     }
 
     // Whether its broadcast has been: it was filled or marked as faulting.
@@ -111,7 +122,7 @@ impl Store {
     {
         match self.state {
             StoreState::Waiting | StoreState::Faulted => false,
-            StoreState::Filled { stage, .. } => !matches!(stage, Stage::Speculative),
+            StoreState::Filled { phase, .. } => !matches!(phase, StorePhase::Speculative),
         }
     }
 
@@ -121,32 +132,32 @@ impl Store {
     {
         match self.state {
             StoreState::Waiting | StoreState::Faulted => false,
-            StoreState::Filled { stage, .. } => matches!(stage, Stage::Draining),
+            StoreState::Filled { phase, .. } => matches!(phase, StorePhase::Draining),
         }
     }
 
     // After the broadcast of a number: it learns the news where the number is its own and it waits.
-    pub(crate) fn answered(self, number: u64, news: StoreState) -> Store
-        ensures { result ≡ answered number news self }
+    pub(crate) fn answered(self, seq: u64, news: StoreState) -> Store
+        ensures { result ≡ answered seq news self }
     {
-        if self.number != number {
+        if self.seq != seq {
             return self;
         }
         Store {
-            number,
+            seq,
             state: self.state.told(news),
         }
     }
 
     // What it writes, where it is committed and not draining.
-    pub(crate) fn write_to_drain(&self) -> Option<Write>
-        ensures { result ≡ write_to_drain self.now }
+    pub(crate) fn access_to_drain(&self) -> Option<StoreAccess>
+        ensures { result ≡ access_to_drain self.now }
     {
         match self.state {
             StoreState::Filled {
-                write,
-                stage: Stage::Committed,
-            } => Some(write),
+                access,
+                phase: StorePhase::Committed,
+            } => Some(access),
             _ => None,
         }
     }

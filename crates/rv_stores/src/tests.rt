@@ -1,5 +1,7 @@
+ghost use Rattle.std.specs.Prelude.{◌≤◌, length};
+
 use super::*;
-use rv_isa::{Description, Values};
+use rv_isa::{Description, StoreAccess, StoreBytes, Values};
 use std::test::Fail;
 
 // A queue for 64 stores.
@@ -10,20 +12,30 @@ fn large_queue(rt: &HostRuntime) -> Result<StoreQueue, Fail> {
     Ok(StoreQueue::new(rt.alloc(), &description)?)
 }
 
+// What a store writes from an address on.
+fn access(address: u32, bytes: &[u8]) -> StoreAccess
+    requires { length bytes.now ≤ 4 }
+{
+    StoreAccess {
+        address,
+        bytes: StoreBytes::from_slice(bytes),
+    }
+}
+
 // What a plain list of stores gives for one byte: the last that was put in and covers it.
 #[derive(Clone, Copy, Debug)]
 struct PlainStore {
-    number: u64,
+    seq: u64,
     address: u32,
     width: u32,
     data: u32,
 }
 
-fn plain_byte(stores: &[PlainStore], number: u64, address: u32) -> Option<u8> {
+fn plain_byte(stores: &[PlainStore], seq: u64, address: u32) -> Option<u8> {
     let mut byte = None;
     for store in stores {
         let offset = address.wrapping_sub(store.address);
-        if store.number < number && offset < store.width {
+        if store.seq < seq && offset < store.width {
             byte = store.data.to_le_bytes().get(offset as usize).copied();
         }
     }
@@ -35,7 +47,7 @@ fn mixed_widths_forward_as_a_plain_list_of_stores(rt: HostRuntime) -> Result<(),
     let mut queue = large_queue(&rt)?;
     let mut plain = Vec::new(rt.alloc());
     let mut random = 1u32;
-    for number in 0..64u64 {
+    for seq in 0..64u64 {
         random = random.wrapping_mul(1_664_525).wrapping_add(1_013_904_223);
         let data = random;
         let bytes = data.to_le_bytes();
@@ -45,20 +57,20 @@ fn mixed_widths_forward_as_a_plain_list_of_stores(rt: HostRuntime) -> Result<(),
             _ => 4,
         };
         let address = 0x8000_0000 + ((random >> 20) & 7) / width * width;
-        assert!(rt; queue.can_enter(number));
-        queue.enter(number);
-        if number % 5 == 3 {
-            queue.fill_fault(number);
+        assert!(rt; queue.can_enter(seq));
+        queue.enter(seq);
+        if seq % 5 == 3 {
+            queue.fill_fault(seq);
         } else {
-            queue.fill(number, address, &bytes[..width as usize]);
+            queue.fill(seq, access(address, &bytes[..width as usize]));
             plain.push(PlainStore {
-                number,
+                seq,
                 address,
                 width,
                 data,
             })?;
         }
-        for load in [number, number / 2, number + 1] {
+        for load in [seq, seq / 2, seq + 1] {
             for address in 0x8000_0000..0x8000_0008 {
                 let [byte, ..] = queue.overlay(load, address, 1);
                 assert_eq!(rt;
@@ -75,14 +87,14 @@ fn mixed_widths_forward_as_a_plain_list_of_stores(rt: HostRuntime) -> Result<(),
 #[test]
 fn a_load_takes_each_byte_from_the_youngest_older_store(rt: HostRuntime) -> Result<(), Fail> {
     let mut queue = large_queue(&rt)?;
-    for (number, address, bytes) in [
+    for (seq, address, bytes) in [
         (3, 0x100, [0x11u8, 0x22, 0x33, 0x44].as_slice()),
         (5, 0x101, &[0x7f]),
         (9, 0x102, &[1, 2]),
     ] {
-        assert!(rt; queue.can_enter(number) && bytes.len() <= 4);
-        queue.enter(number);
-        queue.fill(number, address, bytes);
+        assert!(rt; queue.can_enter(seq) && bytes.len() <= 4);
+        queue.enter(seq);
+        queue.fill(seq, access(address, bytes));
     }
     assert_eq!(rt;
         queue.overlay(9, 0x100, 4),
@@ -104,9 +116,9 @@ fn a_store_drains_after_its_commit_and_forwards_until_the_drain_ends(
     let mut queue = large_queue(&rt)?;
     assert!(rt; queue.is_empty() && queue.can_enter(1));
     queue.enter(1);
-    assert!(rt; !queue.older_known(2) && queue.older_known(1));
-    queue.fill(1, 0x200, &[0xaa, 0xbb]);
-    assert!(rt; queue.older_known(2) && !queue.can_drain());
+    assert!(rt; queue.first_unknown() == Some(1));
+    queue.fill(1, access(0x200, &[0xaa, 0xbb]));
+    assert!(rt; queue.first_unknown().is_none() && !queue.can_drain());
     assert_eq!(rt; queue.committed_byte(0x201), None);
     queue.commit_oldest();
     assert!(rt; queue.can_drain());
@@ -125,10 +137,10 @@ fn a_squash_keeps_the_older_stores_and_a_trap_the_committed_ones(
     rt: HostRuntime,
 ) -> Result<(), Fail> {
     let mut queue = large_queue(&rt)?;
-    for number in [2, 4, 6, 8] {
-        assert!(rt; queue.can_enter(number));
-        queue.enter(number);
-        queue.fill(number, 0x300, &[number as u8]);
+    for seq in [2, 4, 6, 8] {
+        assert!(rt; queue.can_enter(seq));
+        queue.enter(seq);
+        queue.fill(seq, access(0x300, &[seq as u8]));
     }
     queue.commit_oldest();
     queue.squash(7);

@@ -4,21 +4,22 @@ use Rattle.circular_buffer.specs.Buffer.{buffer}
 use Rattle.rv_stores.specs.Queue.{Queue}
 use Rattle.rv_stores.specs.Store.{is_committed}
 use Rattle.rv_stores.proofs.Prefix.{take-prefix_len_at}
-use Rattle.rv_stores.proofs.Kept.{IsInOrder-filter, ComeFirst-filter, ComeFirst-older}
+use Rattle.rv_stores.proofs.Kept.{ComeFirst-filter, ComeFirst-older}
+use Rattle.rv_isa.proofs.Numbered.{IsInOrder-filter}
 use Rattle.rv_stores.proofs.queue.StoreQueue.squash.Goals as goal
 
-kept : (c : goal.After-truncate_back) → c.truncate_back.new.self ≡ buffer (filter (λ s. nat_lt s.number c.args.from) c.self.inside.ring.items) c.self.inside.ring.capacity
+kept : (c : goal.After-truncate_back) → c.truncate_back.new.self ≡ buffer (filter (λ s. nat_lt s.seq c.args.from) c.self.inside.ring.items) c.self.inside.ring.capacity
 kept c =
     let items = c.self.inside.ring.items in
-    let Count : Queue → Type 0 = λ q. c.older_count-kept.result ≡ prefix_len (λ s. nat_lt s.number c.args.from) q.stores in
-    let same : take c.older_count-kept.result items ≡ filter (λ s. nat_lt s.number c.args.from) items = take-prefix_len_at (λ s. nat_lt s.number c.args.from) items c.older_count-kept.result (subst Count (sym c.self.view_is) c.older_count-kept.ensures) (ComeFirst-older c.args.from items c.self.invariant.0) in
+    let Count : Queue → Type 0 = λ q. c.older_count-kept.result ≡ prefix_len (λ s. nat_lt s.seq c.args.from) q.stores in
+    let same : take c.older_count-kept.result items ≡ filter (λ s. nat_lt s.seq c.args.from) items = take-prefix_len_at (λ s. nat_lt s.seq c.args.from) items c.older_count-kept.result (subst Count (sym c.self.view_is) c.older_count-kept.ensures) (ComeFirst-older c.args.from items c.self.invariant.0) in
     c.truncate_back.ensures ∙ ap (λ l. buffer l c.self.inside.ring.capacity) same
 
 pub invariant_of-self : goal.invariant_of-self
 invariant_of-self c =
     rw (kept c) (
-      IsInOrder-filter (λ s. nat_lt s.number c.args.from) c.self.inside.ring.items c.self.invariant.0,
-      ComeFirst-filter is_committed (λ s. nat_lt s.number c.args.from) c.self.inside.ring.items c.self.invariant.1,
+      IsInOrder-filter (λ s. s.seq) (λ s. nat_lt s.seq c.args.from) c.self.inside.ring.items c.self.invariant.0,
+      ComeFirst-filter is_committed (λ s. nat_lt s.seq c.args.from) c.self.inside.ring.items c.self.invariant.1,
     )
 
 pub returns : goal.returns
