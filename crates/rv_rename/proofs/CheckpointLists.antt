@@ -1,87 +1,90 @@
 -- The checkpoints that a list of numbers stands for, after each change of the producers.
-use Rattle.std.proofs.Common.{◌≡◌, ℕ, ◌+◌, ◌<◌, Bool, true, false, ◌==◌, nat_le, if◌then◌else◌, List, [], ◌∷◌, ◌++◌, length, drop, map, filter, suc, refl, ap, sym, arith, le-leb, eq-eqb, ne_eqb, eqb-true, inl, inr}
-use Rattle.std.proofs.lemmas.Bool.{lt-leb, cases_lt, eqb-false}
-use Rattle.std.specs.List.{list_any, All}
-use Rattle.std.proofs.lemmas.List.Elements.{All-nil, All-cons}
+use Rattle.std.proofs.Common.{◌≡◌, ℕ, ◌+◌, ◌<◌, ◌≤◌, Bool, true, false, ◌==◌, nat_lt, if◌then◌else◌, List, [], ◌∷◌, ◌++◌, append-nil, length, drop, map, filter, suc, refl, ap, sym, ◌∙◌, arith, eq-eqb, ne_eqb, eqb-true, inl, inr}
+use Rattle.std.proofs.lemmas.Bool.{cases_lt, lt-ltb, le-ltb, eqb-false}
+use Rattle.std.specs.List.{list_any}
+use Rattle.std.proofs.lemmas.List.Elements.{All-nil}
+use Rattle.rv_isa.specs.Numbered.{below, AreBelow, IsInOrder}
+use Rattle.rv_isa.proofs.Numbered.{below-append, below-stays, below-goes, below-all, below-none, below-stops, below-below, AreBelow-cons, AreBelow-head, AreBelow-tail, IsInOrder-head}
 use Rattle.rv_rename.specs.declared.producer.Producer.{Producer}
-use Rattle.rv_rename.specs.Renaming.{ProducersBelow, CheckpointsBelow, is_oldest, without_oldest, checkpoint_without_oldest, producers_at}
-use Rattle.rv_rename.specs.Kept.{up_to, checkpoints_of, RisesFrom}
-use Rattle.rv_rename.proofs.Prefixes.{up_to-push, up_to-all, up_to-above, up_to-up_to}
+use Rattle.rv_rename.specs.Renaming.{Checkpoint, is_oldest, without_oldest, checkpoint_without_oldest, producers_at}
+use Rattle.rv_rename.specs.Kept.{checkpoint_of}
+use Rattle.rv_rename.proofs.Prefixes.{seq_of}
 
-pub length-checkpoints_of : (ns : List ℕ) (ps : List Producer) → length (checkpoints_of ns ps) ≡ length ns
-length-checkpoints_of [] ps = refl
-length-checkpoints_of (n ∷ ns) ps = ap (λ k. suc k) (length-checkpoints_of ns ps)
+-- the number of a checkpoint
+abbrev pub checkpoint_seq : Checkpoint → ℕ
+checkpoint_seq c = c.seq
 
 -- a further producer, above every checkpoint
-pub checkpoints_of-define : (ns : List ℕ) (ps : List Producer) (p : Producer) → CheckpointsBelow p.number (checkpoints_of ns ps)
-    → checkpoints_of ns (ps ++ p ∷ []) ≡ checkpoints_of ns ps
-checkpoints_of-define [] ps p below = refl
-checkpoints_of-define (n ∷ ns) ps p below = rw (up_to-push n ps p below.0, checkpoints_of-define ns ps p below.1) refl
+below-define : (n : ℕ) (ps : List Producer) (p : Producer) → n ≤ p.seq → below seq_of n (ps ++ p ∷ []) ≡ below seq_of n ps
+below-define n ps p h = below-append seq_of n ps (p ∷ []) ∙ ap (λ qs. below seq_of n ps ++ qs) (below-goes seq_of n p [] h) ∙ append-nil _
+
+pub checkpoints-define : (ns : List ℕ) (ps : List Producer) (p : Producer) → AreBelow checkpoint_seq p.seq (map (checkpoint_of ps) ns)
+    → map (checkpoint_of (ps ++ p ∷ [])) ns ≡ map (checkpoint_of ps) ns
+checkpoints-define [] ps p are = refl
+checkpoints-define (n ∷ ns) ps p are =
+    rw (
+      below-define (n + 1) ps p (omega (arith, AreBelow-head checkpoint_seq p.seq (checkpoint_of ps n) (map (checkpoint_of ps) ns) are)),
+      checkpoints-define ns ps p (AreBelow-tail checkpoint_seq p.seq (checkpoint_of ps n) (map (checkpoint_of ps) ns) are),
+    ) refl
 
 -- a further checkpoint
-pub checkpoints_of-push : (ns : List ℕ) (n : ℕ) (ps : List Producer) → ProducersBelow (n + 1) ps
-    → checkpoints_of (ns ++ n ∷ []) ps ≡ checkpoints_of ns ps ++ record { number = n; producers = ps } ∷ []
-checkpoints_of-push [] n ps below = rw (up_to-all n ps below) refl
-checkpoints_of-push (m ∷ ns) n ps below = ap (λ cs. record { number = m; producers = up_to m ps } ∷ cs) (checkpoints_of-push ns n ps below)
+pub checkpoints-push : (ns : List ℕ) (n : ℕ) (ps : List Producer) → AreBelow seq_of (n + 1) ps
+    → map (checkpoint_of ps) (ns ++ n ∷ []) ≡ map (checkpoint_of ps) ns ++ record { seq = n; producers = ps } ∷ []
+checkpoints-push [] n ps are = rw (below-all seq_of (n + 1) ps are) refl
+checkpoints-push (m ∷ ns) n ps are = ap (λ cs. checkpoint_of ps m ∷ cs) (checkpoints-push ns n ps are)
 
--- without the oldest producer
-without_oldest-up_to : (register k n : ℕ) (ps : List Producer) → RisesFrom 0 ps → is_oldest register k ps ≡ true
-    → without_oldest register k (up_to n ps) ≡ up_to n (drop 1 ps)
-without_oldest-up_to register k n [] rises oldest = refl
-without_oldest-up_to register k n (p ∷ ps) rises oldest =
-    elim (cases_lt n p.number) [
-      | inl above ↦ rw (lt-leb p.number n above) (sym (up_to-above n (p.number + 1) ps rises.1 (omega arith)))
-      | inr within ↦ rw (le-leb p.number n within, oldest) refl
+-- without a producer, where it is the oldest
+oldest-stays : (b : Bool) (n : ℕ) (p : Producer) (ps : List Producer) → p.seq < n
+    → (if b then below seq_of n ps else p ∷ below seq_of n ps) ≡ below seq_of n (if b then ps else p ∷ ps)
+oldest-stays true n p ps low = refl
+oldest-stays false n p ps low = sym (below-stays seq_of n p ps low)
+
+oldest-goes : (b : Bool) (n : ℕ) (p : Producer) (ps : List Producer) → IsInOrder seq_of (p ∷ ps) → n ≤ p.seq
+    → [] ≡ below seq_of n (if b then ps else p ∷ ps)
+oldest-goes true n p ps order high = sym (below-none seq_of n ps (λ k d lt. omega (arith, IsInOrder-head seq_of p ps order k d lt)))
+oldest-goes false n p ps order high = sym (below-stops seq_of n p ps order high)
+
+without_oldest-below : (register k n : ℕ) (ps : List Producer) → IsInOrder seq_of ps
+    → without_oldest register k (below seq_of n ps) ≡ below seq_of n (without_oldest register k ps)
+without_oldest-below register k n [] order = refl
+without_oldest-below register k n (p ∷ ps) order =
+    elim (cases_lt p.seq n) [
+      | inl low ↦ ap (without_oldest register k) (below-stays seq_of n p ps low) ∙ oldest-stays (is_oldest register k (p ∷ ps)) n p ps low
+      | inr high ↦ ap (without_oldest register k) (below-stops seq_of n p ps order high) ∙ oldest-goes (is_oldest register k (p ∷ ps)) n p ps order high
     ]
 
-pub checkpoints_of-retire : (register k : ℕ) (ns : List ℕ) (ps : List Producer) → RisesFrom 0 ps → is_oldest register k ps ≡ true
-    → map (checkpoint_without_oldest register k) (checkpoints_of ns ps) ≡ checkpoints_of ns (drop 1 ps)
-checkpoints_of-retire register k [] ps rises oldest = refl
-checkpoints_of-retire register k (n ∷ ns) ps rises oldest =
-    rw (without_oldest-up_to register k n ps rises oldest, checkpoints_of-retire register k ns ps rises oldest) refl
+pub checkpoints-retire : (register k : ℕ) (ns : List ℕ) (ps : List Producer) → IsInOrder seq_of ps
+    → map (checkpoint_without_oldest register k) (map (checkpoint_of ps) ns) ≡ map (checkpoint_of (without_oldest register k ps)) ns
+checkpoints-retire register k [] ps order = refl
+checkpoints-retire register k (n ∷ ns) ps order =
+    rw (without_oldest-below register k (n + 1) ps order, checkpoints-retire register k ns ps order) refl
 
--- a producer that is not the oldest is not the oldest of a checkpoint
-without_other-up_to : (register k n : ℕ) (ps : List Producer) → is_oldest register k ps ≡ false
-    → without_oldest register k (up_to n ps) ≡ up_to n ps
-without_other-up_to register k n [] other = refl
-without_other-up_to register k n (p ∷ ps) other =
-    elim (cases_lt n p.number) [
-      | inl above ↦ rw (lt-leb p.number n above) refl
-      | inr within ↦ rw (le-leb p.number n within, other) refl
+-- only the checkpoints below n + 1, over the producers below n + 1 or over all
+pub checkpoints-restore : (n : ℕ) (ns : List ℕ) (ps : List Producer)
+    → below checkpoint_seq n (map (checkpoint_of ps) ns) ≡ map (checkpoint_of (below seq_of n ps)) (below (λ m. m) n ns)
+checkpoints-restore n [] ps = refl
+checkpoints-restore n (m ∷ ns) ps =
+    elim (cases_lt m n) [
+      | inl low ↦ rw (lt-ltb m n low, below-below seq_of (m + 1) n ps (omega arith), checkpoints-restore n ns ps) refl
+      | inr high ↦ rw (le-ltb m n high) (checkpoints-restore n ns ps)
     ]
 
-pub checkpoints_of-other : (register k : ℕ) (ns : List ℕ) (ps : List Producer) → is_oldest register k ps ≡ false
-    → map (checkpoint_without_oldest register k) (checkpoints_of ns ps) ≡ checkpoints_of ns ps
-checkpoints_of-other register k [] ps other = refl
-checkpoints_of-other register k (n ∷ ns) ps other =
-    rw (without_other-up_to register k n ps other, checkpoints_of-other register k ns ps other) refl
+checkpoints-choice : (b : Bool) (m : ℕ) (ns : List ℕ) (ps : List Producer)
+    → (if b then checkpoint_of ps m ∷ map (checkpoint_of ps) ns else map (checkpoint_of ps) ns) ≡ map (checkpoint_of ps) (if b then m ∷ ns else ns)
+checkpoints-choice true m ns ps = refl
+checkpoints-choice false m ns ps = refl
 
--- only the checkpoints up to n, over the producers up to n or over all
-pub checkpoints_of-restore : (n : ℕ) (ns : List ℕ) (ps : List Producer)
-    → filter (λ c. nat_le c.number n) (checkpoints_of ns ps) ≡ checkpoints_of (filter (λ m. nat_le m n) ns) (up_to n ps)
-checkpoints_of-restore n [] ps = refl
-checkpoints_of-restore n (m ∷ ns) ps =
-    elim (cases_lt n m) [
-      | inl above ↦ rw (lt-leb m n above) (checkpoints_of-restore n ns ps)
-      | inr within ↦ rw (le-leb m n within, up_to-up_to m n ps within, checkpoints_of-restore n ns ps) refl
-    ]
-
-checkpoints_of-choice : (b : Bool) (m : ℕ) (ns : List ℕ) (ps : List Producer)
-    → (if b then record { number = m; producers = up_to m ps } ∷ checkpoints_of ns ps else checkpoints_of ns ps) ≡ checkpoints_of (if b then m ∷ ns else ns) ps
-checkpoints_of-choice true m ns ps = refl
-checkpoints_of-choice false m ns ps = refl
-
-pub checkpoints_of-filter : (test : ℕ → Bool) (ns : List ℕ) (ps : List Producer)
-    → filter (λ c. test c.number) (checkpoints_of ns ps) ≡ checkpoints_of (filter test ns) ps
-checkpoints_of-filter test [] ps = refl
-checkpoints_of-filter test (m ∷ ns) ps = rw (checkpoints_of-filter test ns ps) (checkpoints_of-choice (test m) m (filter test ns) ps)
+pub checkpoints-filter : (test : ℕ → Bool) (ns : List ℕ) (ps : List Producer)
+    → filter (λ c. test c.seq) (map (checkpoint_of ps) ns) ≡ map (checkpoint_of ps) (filter test ns)
+checkpoints-filter test [] ps = refl
+checkpoints-filter test (m ∷ ns) ps = rw (checkpoints-filter test ns ps) (checkpoints-choice (test m) m (filter test ns) ps)
 
 -- the producers of a checkpoint that is held
 pub producers_at-held : (n : ℕ) (ns : List ℕ) (ps now : List Producer) → list_any (λ m. m == n) ns ≡ true
-    → producers_at n (checkpoints_of ns ps) now ≡ up_to n ps
+    → producers_at n (map (checkpoint_of ps) ns) now ≡ below seq_of (n + 1) ps
 producers_at-held n [] ps now held = absurd (cc)
 producers_at-held n (m ∷ ns) ps now held =
-    let go : (b : Bool) → (m == n) ≡ b → producers_at n (checkpoints_of (m ∷ ns) ps) now ≡ up_to n ps = λ b. elim b as (λ b. (m == n) ≡ b → producers_at n (checkpoints_of (m ∷ ns) ps) now ≡ up_to n ps) [
+    let go : (b : Bool) → (m == n) ≡ b → producers_at n (map (checkpoint_of ps) (m ∷ ns)) now ≡ below seq_of (n + 1) ps = λ b. elim b as (λ b. (m == n) ≡ b → producers_at n (map (checkpoint_of ps) (m ∷ ns)) now ≡ below seq_of (n + 1) ps) [
       | true ↦ λ e. let same : m ≡ n = eqb-true m n e in rw (eq-eqb n m (sym same), same) refl
       | false ↦ λ e. rw (ne_eqb n m (λ same. eqb-false m n e (sym same))) (producers_at-held n ns ps now (rw e at held))
     ] in
@@ -89,20 +92,22 @@ producers_at-held n (m ∷ ns) ps now held =
 
 -- with no such checkpoint, they are those of now
 pub producers_at-none : (n : ℕ) (ns : List ℕ) (ps now : List Producer) → list_any (λ m. m == n) ns ≡ false
-    → producers_at n (checkpoints_of ns ps) now ≡ now
+    → producers_at n (map (checkpoint_of ps) ns) now ≡ now
 producers_at-none n [] ps now none = refl
 producers_at-none n (m ∷ ns) ps now none =
-    let go : (b : Bool) → (m == n) ≡ b → producers_at n (checkpoints_of (m ∷ ns) ps) now ≡ now = λ b. elim b as (λ b. (m == n) ≡ b → producers_at n (checkpoints_of (m ∷ ns) ps) now ≡ now) [
+    let go : (b : Bool) → (m == n) ≡ b → producers_at n (map (checkpoint_of ps) (m ∷ ns)) now ≡ now = λ b. elim b as (λ b. (m == n) ≡ b → producers_at n (map (checkpoint_of ps) (m ∷ ns)) now ≡ now) [
       | true ↦ λ e. absurd (let t : true ≡ false = rw e at none in cc)
       | false ↦ λ e. rw (ne_eqb n m (λ same. eqb-false m n e (sym same))) (producers_at-none n ns ps now (rw e at none))
     ] in
     go (m == n) refl
 
 -- the numbers tell whether every checkpoint is below n
-pub CheckpointsBelow-all : (n : ℕ) (ns : List ℕ) (ps : List Producer) → All (λ m. m < n) ns → CheckpointsBelow n (checkpoints_of ns ps)
-CheckpointsBelow-all n [] ps all = tt
-CheckpointsBelow-all n (m ∷ ns) ps all = (all 0 m (omega arith), CheckpointsBelow-all n ns ps (λ k d h. all (suc k) d (omega arith)))
-
-pub All-checkpoints : (n : ℕ) (ns : List ℕ) (ps : List Producer) → CheckpointsBelow n (checkpoints_of ns ps) → All (λ m. m < n) ns
-All-checkpoints n [] ps below = All-nil (λ m. m < n)
-All-checkpoints n (m ∷ ns) ps below = All-cons (λ m. m < n) m ns below.0 (All-checkpoints n ns ps below.1)
+pub AreBelow-checkpoints : (n : ℕ) (ns : List ℕ) (ps : List Producer)
+    → (AreBelow (λ m. m) n ns → AreBelow checkpoint_seq n (map (checkpoint_of ps) ns)) × (AreBelow checkpoint_seq n (map (checkpoint_of ps) ns) → AreBelow (λ m. m) n ns)
+AreBelow-checkpoints n [] ps = (λ are. All-nil (λ c. checkpoint_seq c < n), λ are. All-nil (λ m. m < n))
+AreBelow-checkpoints n (m ∷ ns) ps =
+    let rest = AreBelow-checkpoints n ns ps in
+    let cs = map (checkpoint_of ps) ns in (
+      λ are. AreBelow-cons checkpoint_seq n (checkpoint_of ps m) cs (AreBelow-head (λ m. m) n m ns are) (rest.0 (AreBelow-tail (λ m. m) n m ns are)),
+      λ are. AreBelow-cons (λ m. m) n m ns (AreBelow-head checkpoint_seq n (checkpoint_of ps m) cs are) (rest.1 (AreBelow-tail checkpoint_seq n (checkpoint_of ps m) cs are)),
+    )

@@ -1,10 +1,10 @@
 use rv_isa::Reg;
 
-/// An instruction in flight that writes a register. Its number is the tag of operands that wait for it.
+/// An instruction in flight that writes a register. Its sequence number is the tag of operands that wait for it.
 #[derive(Clone, Copy, Debug, PartialEq, Eq)]
 pub struct Producer {
     /// The register that it writes.
     pub register: Reg,
     /// Its sequence number.
-    pub number: u64,
+    pub seq: u64,
 }

@@ -1,6 +1,7 @@
-ghost use Rattle.std.specs.Prelude.{◌≡◌, ◌+◌, ◌<◌, ◌≤◌, ◌↔◌, IsTrue, IfOk, IfSome, [], ◌∷◌, ◌++◌, length, take};
-ghost use Rattle.rv_rename.specs.Renaming.{empty, youngest, NoneAbove, ProducersBelow, CheckpointsBelow, CanDefine, CanCheckpoint, is_oldest, defined, retired, cleared, checkpointed, restored, without_checkpoint};
-ghost use Rattle.rv_rename.specs.Kept.{up_to, IsTable};
+ghost use Rattle.std.specs.Prelude.{◌≡◌, ◌+◌, ◌<◌, ◌≤◌, ◌↔◌, nat_le, IsTrue, IfOk, IfSome, false, [], ◌∷◌, ◌++◌, length, take};
+ghost use Rattle.rv_isa.specs.Numbered.{below, AreBelow, IsInOrder};
+ghost use Rattle.rv_rename.specs.Renaming.{empty, youngest, NoneAbove, CanDefine, CanCheckpoint, is_oldest, defined, retired, cleared, checkpointed, restored, without_checkpoint};
+ghost use Rattle.rv_rename.specs.Kept.{IsTable};
 ghost use Rattle.circular_buffer.specs.Buffer.{buffer};
 
 use crate::checkpoints::{all_below, keep_up_to, remove};
@@ -21,13 +22,13 @@ pub struct RenameMap {
 }
 
 impl Model for RenameMap {
-    ghost use Rattle.std.specs.Prelude.{vec_capacity};
+    ghost use Rattle.std.specs.Prelude.{map, vec_capacity};
     ghost use Rattle.rv_rename.specs.Renaming.{Renaming};
-    ghost use Rattle.rv_rename.specs.Kept.{checkpoints_of, IsKept};
+    ghost use Rattle.rv_rename.specs.Kept.{checkpoint_of, IsKept};
 
     ghost Value = { Renaming };
 
-    ghost view = { λ m. record { capacity = m.producers.capacity; producers = m.producers.items; checkpoints = checkpoints_of m.checkpoints.items m.producers.items } };
+    ghost view = { λ m. record { capacity = m.producers.capacity; producers = m.producers.items; checkpoints = map (checkpoint_of m.producers.items) m.checkpoints.items } };
 
     ghost invariant = { λ m. IsKept m.producers.capacity m.producers.items m.table m.checkpoints.items (vec_capacity m.checkpoints) };
 }
@@ -47,10 +48,10 @@ impl RenameMap {
 
     /// Whether there is no room for a further producer.
     pub fn is_full(&self) -> bool
-        ensures full { IsTrue result ↔ (length self.now.producers ≡ self.now.capacity) }
+        ensures full { result ≡ nat_le self.now.capacity (length self.now.producers) }
         ensures within { length self.now.producers ≤ self.now.capacity }
     {
-        self.producers.len() == self.producers.capacity()
+        self.producers.len() >= self.producers.capacity()
     }
 
     /// The number of the youngest instruction in flight that writes the register.
@@ -73,35 +74,31 @@ impl RenameMap {
         requires { CanDefine seq self.old }
         ensures { self.new ≡ defined reg seq self.old }
     {
-        let producer = Producer {
-            register: reg,
-            number: seq,
-        };
-        append(&mut self.producers, producer);
+        append(&mut self.producers, Producer { register: reg, seq });
         let place = reg.index();
         self.table[place] = Some(seq);
     }
 
     fn are_producers_below(&self, seq: u64) -> bool
-        ensures { IsTrue result ↔ ProducersBelow seq self.now.producers }
+        ensures { IsTrue result ↔ AreBelow (λ p. p.seq) seq self.now.producers }
     {
         match self.producers.back() {
-            Some(youngest) => youngest.number < seq,
+            Some(youngest) => youngest.seq < seq,
             None => true,
         }
     }
 
     fn are_producers_up_to(&self, seq: u64) -> bool
-        ensures { IsTrue result ↔ ProducersBelow (seq + 1) self.now.producers }
+        ensures { IsTrue result ↔ AreBelow (λ p. p.seq) (seq + 1) self.now.producers }
     {
         match self.producers.back() {
-            Some(youngest) => youngest.number <= seq,
+            Some(youngest) => youngest.seq <= seq,
             None => true,
         }
     }
 
     fn are_checkpoints_below(&self, seq: u64) -> bool
-        ensures { IsTrue result ↔ CheckpointsBelow seq self.now.checkpoints }
+        ensures { IsTrue result ↔ AreBelow (λ c. c.seq) seq self.now.checkpoints }
     {
         all_below(&self.checkpoints, seq)
     }
@@ -114,7 +111,8 @@ impl RenameMap {
 
     /// Forgets the instruction `seq`, which writes the register, where it is the oldest producer.
     pub fn retire(&mut self, reg: Reg, seq: u64)
-        ensures { self.new ≡ retired reg seq self.old }
+        ensures oldest { self.new ≡ retired reg seq self.old }
+        ensures other { is_oldest reg seq self.old.producers ≡ false → self.new ≡ self.old }
     {
         if self.is_oldest(reg, seq) {
             self.producers.pop_front();
@@ -129,7 +127,7 @@ impl RenameMap {
         ensures { result ≡ is_oldest reg seq self.now.producers }
     {
         match self.producers.front() {
-            Some(oldest) => seq == oldest.number && reg == oldest.register,
+            Some(oldest) => seq == oldest.seq && reg == oldest.register,
             None => false,
         }
     }
@@ -183,7 +181,7 @@ fn append(producers: &mut HeapCircularBuffer<Producer>, producer: Producer)
     requires { length producers.old.items < producers.old.capacity }
     ensures { producers.new ≡ buffer (producers.old.items ++ producer ∷ []) producers.old.capacity }
 {
-    producers.extend_from_slice(&[producer]);
+    producers.push_back(producer);
 }
 
 fn empty_table() -> [Option<u64>; 32]
@@ -194,18 +192,19 @@ fn empty_table() -> [Option<u64>; 32]
 
 /// The table of the producers up to `seq`, and how many they are.
 fn table_up_to(producers: &HeapCircularBuffer<Producer>, seq: u64) -> ([Option<u64>; 32], usize)
-    ensures kept { take result.1 producers.now.items ≡ up_to seq producers.now.items }
-    ensures table { IsTable result.0 (up_to seq producers.now.items) }
+    requires { IsInOrder (λ p. p.seq) producers.now.items }
+    ensures kept { take result.1 producers.now.items ≡ below (λ p. p.seq) (seq + 1) producers.now.items }
+    ensures table { IsTable result.0 (below (λ p. p.seq) (seq + 1) producers.now.items) }
 {
     let mut table = empty_table();
     for i in 0..producers.len() {
         let Some(producer) = producers.get(i) else {
             return (table, i);
         };
-        if producer.number > seq {
+        if producer.seq > seq {
             return (table, i);
         }
-        table[producer.register.index()] = Some(producer.number);
+        table[producer.register.index()] = Some(producer.seq);
     }
     (table, producers.len())
 }

@@ -1,15 +1,16 @@
 use Rattle.std.proofs.Common.{arith}
+use Rattle.rv_isa.proofs.Numbered.{IsInOrder-push}
+use Rattle.rv_rename.proofs.Prefixes.{seq_of}
 use Rattle.rv_rename.proofs.Youngest.{IsTable-push}
-use Rattle.rv_rename.proofs.Prefixes.{RisesFrom-push}
-use Rattle.rv_rename.proofs.CheckpointLists.{checkpoints_of-define}
+use Rattle.rv_rename.proofs.CheckpointLists.{checkpoints-define}
 use Rattle.rv_rename.proofs.rename_map.RenameMap.define.Goals as goal
 
 pub invariant_of-self : goal.invariant_of-self
 invariant_of-self c =
-    let rising = rw (← c.self.view_is) at c.requires.1 in
+    let older = rw (← c.self.view_is) at c.requires.1 in
     rw (c.append.ensures, c.index-place.ensures.number) (record {
-      rising = RisesFrom-push 0 c.self.inside.producers.items (record { register = c.args.reg; number = c.args.seq }) c.self.invariant.rising (omega arith) rising;
-      table_ok = IsTable-push c.self.inside.table c.self.inside.producers.items (record { register = c.args.reg; number = c.args.seq }) (omega (arith, c.index-place.ensures)) c.self.invariant.table_ok;
+      in_order = IsInOrder-push seq_of c.self.inside.producers.items (record { register = c.args.reg; seq = c.args.seq }) c.self.invariant.in_order older;
+      table_ok = IsTable-push c.self.inside.table c.self.inside.producers.items (record { register = c.args.reg; seq = c.args.seq }) (omega (arith, c.index-place.ensures)) c.self.invariant.table_ok;
       numbers_fit = c.self.invariant.numbers_fit;
       room_ok = c.self.invariant.room_ok;
     })
@@ -17,4 +18,4 @@ invariant_of-self c =
 pub returns : goal.returns
 returns c =
     let after = rw (← c.self.view_is) at c.requires.2 in
-    rw (← c.self.view_is, c.append.ensures, checkpoints_of-define c.self.inside.checkpoints.items c.self.inside.producers.items (record { register = c.args.reg; number = c.args.seq }) after)
+    rw (← c.self.view_is, c.append.ensures, checkpoints-define c.self.inside.checkpoints.items c.self.inside.producers.items (record { register = c.args.reg; seq = c.args.seq }) after)

@@ -1,6 +1,8 @@
-use Rattle.std.proofs.Common.{◌≡◌, true, false, sym, ◌∙◌, arith, ◌==◌, nat_le}
-use Rattle.rv_rename.proofs.Prefixes.{RisesFrom-up_to}
-use Rattle.rv_rename.proofs.CheckpointLists.{checkpoints_of-restore, checkpoints_of-filter, producers_at-held, producers_at-none}
+use Rattle.std.proofs.Common.{◌≡◌, true, false, refl, sym, ◌∙◌, arith, ◌==◌, ◌+◌}
+use Rattle.rv_isa.proofs.Numbered.{IsInOrder-below, below-map}
+use Rattle.rv_rename.specs.Kept.{checkpoint_of}
+use Rattle.rv_rename.proofs.Prefixes.{seq_of}
+use Rattle.rv_rename.proofs.CheckpointLists.{checkpoint_seq, checkpoints-restore, producers_at-held, producers_at-none}
 use Rattle.std.specs.List.{list_any}
 use Rattle.rv_rename.proofs.rename_map.RenameMap.restore.Goals.{then-contains, else-contains}
 use Rattle.rv_rename.proofs.rename_map.RenameMap.restore.Goals as goal
@@ -12,7 +14,7 @@ invariant_of-self c =
           let shorter = rw w.self-inside-is at c.keep_up_to.ensures.shorter in
           let capacity = rw w.self-inside-is at c.keep_up_to.ensures.capacity in
           rw (w.self-inside-is, w.truncate_back.ensures, w.table_up_to-kept.ensures.kept) (record {
-            rising = RisesFrom-up_to c.args.seq 0 c.self.inside.producers.items c.self.invariant.rising;
+            in_order = IsInOrder-below seq_of (c.args.seq + 1) c.self.inside.producers.items c.self.invariant.in_order;
             table_ok = w.table_up_to-kept.ensures.table;
             numbers_fit = omega (arith, shorter, c.self.invariant.numbers_fit);
             room_ok = omega (arith, capacity, c.self.invariant.room_ok);
@@ -21,7 +23,7 @@ invariant_of-self c =
           let shorter = rw w.self-inside-is at c.keep_up_to.ensures.shorter in
           let capacity = rw w.self-inside-is at c.keep_up_to.ensures.capacity in
           rw w.self-inside-is (record {
-            rising = c.self.invariant.rising;
+            in_order = c.self.invariant.in_order;
             table_ok = c.self.invariant.table_ok;
             numbers_fit = omega (arith, shorter, c.self.invariant.numbers_fit);
             room_ok = omega (arith, capacity, c.self.invariant.room_ok);
@@ -41,7 +43,7 @@ returns c =
             ← c.self.view_is,
             kept,
             producers_at-held c.args.seq c.self.inside.checkpoints.items c.self.inside.producers.items c.self.inside.producers.items held,
-            checkpoints_of-restore c.args.seq c.self.inside.checkpoints.items c.self.inside.producers.items,
+            checkpoints-restore (c.args.seq + 1) c.self.inside.checkpoints.items c.self.inside.producers.items,
           )
       | else-contains w ↦
           let kept = rw w.self-inside-is at c.keep_up_to.ensures.kept in
@@ -51,6 +53,9 @@ returns c =
             ← c.self.view_is,
             kept,
             producers_at-none c.args.seq c.self.inside.checkpoints.items c.self.inside.producers.items c.self.inside.producers.items none,
-            checkpoints_of-filter (λ n. nat_le n c.args.seq) c.self.inside.checkpoints.items c.self.inside.producers.items,
+            below-map (λ m. m) checkpoint_seq (checkpoint_of c.self.inside.producers.items) (λ m. refl) (c.args.seq + 1) c.self.inside.checkpoints.items,
           )
     ]
+
+pub table_up_to-kept-requires : goal.table_up_to-kept-requires
+table_up_to-kept-requires c = c.self.invariant.in_order

@@ -1,15 +1,16 @@
-use Rattle.std.proofs.Common.{sym, ◌∙◌, arith}
+use Rattle.std.proofs.Common.{◌≡◌, true, false, sym, ◌∙◌, arith}
 use Rattle.rv_rename.proofs.Youngest.{IsTable-retire, IsTable-keep, option_eq-true, option_eq-false}
-use Rattle.rv_rename.proofs.Prefixes.{RisesFrom-drop}
-use Rattle.rv_rename.proofs.CheckpointLists.{checkpoints_of-retire, checkpoints_of-other}
+use Rattle.rv_isa.proofs.Numbered.{IsInOrder-drop}
+use Rattle.rv_rename.proofs.Prefixes.{seq_of}
+use Rattle.rv_rename.proofs.CheckpointLists.{checkpoints-retire}
 use Rattle.rv_rename.proofs.rename_map.RenameMap.retire.Goals as goal
 
 pub invariant_of-self : goal.invariant_of-self
 invariant_of-self c =
     let oldest = rw (← c.self.view_is) at (sym c.is_oldest.ensures ∙ c.if-is_oldest.true) in
     rw (c.pop_front.ensures.items, c.index-place.ensures.number) (record {
-      rising = RisesFrom-drop c.self.inside.producers.items c.self.invariant.rising;
-      table_ok = IsTable-retire c.self.inside.table c.args.reg c.args.seq c.self.inside.producers.items (omega (arith, c.index-place.ensures)) c.self.invariant.rising oldest c.self.invariant.table_ok (rw (← c.index-place.ensures.number) (option_eq-true _ c.args.seq (sym c.eq.ensures ∙ c.if-eq.true)));
+      in_order = IsInOrder-drop seq_of 1 c.self.inside.producers.items c.self.invariant.in_order;
+      table_ok = IsTable-retire c.self.inside.table c.args.reg c.args.seq c.self.inside.producers.items (omega (arith, c.index-place.ensures)) c.self.invariant.in_order oldest c.self.invariant.table_ok (rw (← c.index-place.ensures.number) (option_eq-true _ c.args.seq (sym c.eq.ensures ∙ c.if-eq.true)));
       numbers_fit = c.self.invariant.numbers_fit;
       room_ok = c.self.invariant.room_ok;
     })
@@ -18,23 +19,29 @@ pub invariant_of-self-else-eq : goal.invariant_of-self-else-eq
 invariant_of-self-else-eq c =
     let oldest = rw (← c.self.view_is) at (sym c.is_oldest.ensures ∙ c.if-is_oldest.true) in
     rw c.pop_front.ensures.items (record {
-      rising = RisesFrom-drop c.self.inside.producers.items c.self.invariant.rising;
+      in_order = IsInOrder-drop seq_of 1 c.self.inside.producers.items c.self.invariant.in_order;
       table_ok = IsTable-keep c.self.inside.table c.args.reg c.args.seq c.self.inside.producers.items oldest c.self.invariant.table_ok (rw (← c.index-place.ensures.number) (option_eq-false _ c.args.seq (sym c.eq.ensures ∙ c.if-eq.false)));
       numbers_fit = c.self.invariant.numbers_fit;
       room_ok = c.self.invariant.room_ok;
     })
 
-pub returns-then-eq : goal.returns-then-eq
-returns-then-eq c =
+pub returns-then-eq-clause-oldest : goal.returns-then-eq-clause-oldest
+returns-then-eq-clause-oldest c =
     let oldest = rw (← c.self.view_is) at (sym c.is_oldest.ensures ∙ c.if-is_oldest.true) in
-    rw (← c.self.view_is, c.pop_front.ensures.items, oldest, checkpoints_of-retire c.args.reg c.args.seq c.self.inside.checkpoints.items c.self.inside.producers.items c.self.invariant.rising oldest)
+    rw (← c.self.view_is, c.pop_front.ensures.items, oldest, checkpoints-retire c.args.reg c.args.seq c.self.inside.checkpoints.items c.self.inside.producers.items c.self.invariant.in_order, oldest)
 
-pub returns-else-eq : goal.returns-else-eq
-returns-else-eq c =
+pub returns-else-eq-clause-oldest : goal.returns-else-eq-clause-oldest
+returns-else-eq-clause-oldest c =
     let oldest = rw (← c.self.view_is) at (sym c.is_oldest.ensures ∙ c.if-is_oldest.true) in
-    rw (← c.self.view_is, c.pop_front.ensures.items, oldest, checkpoints_of-retire c.args.reg c.args.seq c.self.inside.checkpoints.items c.self.inside.producers.items c.self.invariant.rising oldest)
+    rw (← c.self.view_is, c.pop_front.ensures.items, oldest, checkpoints-retire c.args.reg c.args.seq c.self.inside.checkpoints.items c.self.inside.producers.items c.self.invariant.in_order, oldest)
 
-pub returns-else-is_oldest : goal.returns-else-is_oldest
-returns-else-is_oldest c =
+pub returns-else-is_oldest-clause-oldest : goal.returns-else-is_oldest-clause-oldest
+returns-else-is_oldest-clause-oldest c =
     let other = rw (← c.self.view_is) at (sym c.is_oldest.ensures ∙ c.if-is_oldest.false) in
-    rw (← c.self.view_is, other, checkpoints_of-other c.args.reg c.args.seq c.self.inside.checkpoints.items c.self.inside.producers.items other)
+    rw (← c.self.view_is, other, checkpoints-retire c.args.reg c.args.seq c.self.inside.checkpoints.items c.self.inside.producers.items c.self.invariant.in_order, other)
+
+pub returns-then-eq-clause-other : goal.returns-then-eq-clause-other
+returns-then-eq-clause-other c = λ other. absurd (let no : true ≡ false = sym (sym c.is_oldest.ensures ∙ c.if-is_oldest.true) ∙ other in cc)
+
+pub returns-else-eq-clause-other : goal.returns-else-eq-clause-other
+returns-else-eq-clause-other c = λ other. absurd (let no : true ≡ false = sym (sym c.is_oldest.ensures ∙ c.if-is_oldest.true) ∙ other in cc)
