@@ -5,17 +5,17 @@ use Rattle.std.proofs.lemmas.List.{take_all, drop_all, append-nil, get_or_defaul
 use Rattle.std.proofs.lemmas.List.Edits.{length-remove}
 use Rattle.std.proofs.lemmas.Bool.{cases_lt, lt-ltb, le-ltb, cond-true, cond-false}
 use Rattle.std.proofs.lemmas.Bool.Decides.{nat_tests}
-use Rattle.rv_cache.specs.declared.line.Line.{Line}
+use Rattle.rv_cache.specs.declared.line.CacheLine.{CacheLine}
 use Rattle.rv_cache.specs.Line.{is_held, is_dirty, without, accessed, victim}
 
 -- where a line is, or how many lines there are
-abbrev pub place : ℕ → List Line → ℕ
+abbrev pub place : ℕ → List CacheLine → ℕ
 place number lines = position_or_len (λ line. nat_eq line.number number) lines
 
 lt_suc : (a b c : ℕ) → c ≡ 1 + a → nat_lt a b ≡ nat_lt c (suc b)
 lt_suc a b c is = grind (arith, nat_tests)
 
-pub is_held-place : (number : ℕ) (lines : List Line) → is_held number lines ≡ nat_lt (place number lines) (length lines)
+pub is_held-place : (number : ℕ) (lines : List CacheLine) → is_held number lines ≡ nat_lt (place number lines) (length lines)
 is_held-place number [] = refl
 is_held-place number (line ∷ lines) =
     elim (nat_eq line.number number) as (λ b. (b || is_held number lines) ≡ nat_lt (cond (not b) (1 + place number lines) 0) (suc (length lines))) [
@@ -23,16 +23,16 @@ is_held-place number (line ∷ lines) =
       | false ↦ is_held-place number lines ∙ lt_suc _ _ _ refl
     ]
 
-pub without-place : (number : ℕ) (lines : List Line) → without number lines ≡ remove lines (place number lines)
+pub without-place : (number : ℕ) (lines : List CacheLine) → without number lines ≡ remove lines (place number lines)
 without-place number [] = refl
 without-place number (line ∷ lines) =
     let next : 1 + place number lines ≡ suc (place number lines) = omega arith in
     elim (nat_eq line.number number) as (λ b. cond b lines (line ∷ without number lines) ≡ remove (line ∷ lines) (cond (not b) (1 + place number lines) 0)) [
       | true ↦ refl
-      | false ↦ rw next (ap (λ (ls : List Line). line ∷ ls) (without-place number lines))
+      | false ↦ rw next (ap (λ (ls : List CacheLine). line ∷ ls) (without-place number lines))
     ]
 
-pub is_dirty-place : (number : ℕ) (lines : List Line) (other : Line) → other.dirty ≡ false → is_dirty number lines ≡ (get_or lines (place number lines) other).dirty
+pub is_dirty-place : (number : ℕ) (lines : List CacheLine) (other : CacheLine) → other.dirty ≡ false → is_dirty number lines ≡ (get_or lines (place number lines) other).dirty
 is_dirty-place number [] other clean = sym clean
 is_dirty-place number (line ∷ lines) other clean =
     let next : 1 + place number lines ≡ suc (place number lines) = omega arith in
@@ -42,7 +42,7 @@ is_dirty-place number (line ∷ lines) other clean =
     ]
 
 -- what `position` answers is that place
-pub found : (number : ℕ) (lines : List Line) (i : ℕ) → Some i ≡ position (λ line. nat_eq line.number number) lines → (i ≡ place number lines) × (place number lines < length lines)
+pub found : (number : ℕ) (lines : List CacheLine) (i : ℕ) → Some i ≡ position (λ line. nat_eq line.number number) lines → (i ≡ place number lines) × (place number lines < length lines)
 found number lines i answer = elim (cases_lt (place number lines) (length lines)) [
   | inl low ↦
       let at = cond-true (nat_lt (place number lines) (length lines)) (Some (place number lines)) None (lt-ltb _ _ low) in
@@ -52,7 +52,7 @@ found number lines i answer = elim (cases_lt (place number lines) (length lines)
       absurd (cc (answer, nowhere))
 ]
 
-pub missing : (number : ℕ) (lines : List Line) → None ≡ position (λ line. nat_eq line.number number) lines → length lines ≤ place number lines
+pub missing : (number : ℕ) (lines : List CacheLine) → None ≡ position (λ line. nat_eq line.number number) lines → length lines ≤ place number lines
 missing number lines answer = elim (cases_lt (place number lines) (length lines)) [
   | inl low ↦
       let at = cond-true (nat_lt (place number lines) (length lines)) (Some (place number lines)) None (lt-ltb _ _ low) in
@@ -61,42 +61,42 @@ missing number lines answer = elim (cases_lt (place number lines) (length lines)
 ]
 
 -- a line that is not held leaves the others as they are
-pub without_missing : (number : ℕ) (lines : List Line) → length lines ≤ place number lines → without number lines ≡ lines
+pub without_missing : (number : ℕ) (lines : List CacheLine) → length lines ≤ place number lines → without number lines ≡ lines
 without_missing number lines past =
     without-place number lines
-    ∙ ap (λ (ls : List Line). ls ++ drop (suc (place number lines)) lines) (take_all (place number lines) lines past)
-    ∙ ap (λ (ls : List Line). lines ++ ls) (drop_all (suc (place number lines)) lines (omega arith))
+    ∙ ap (λ (ls : List CacheLine). ls ++ drop (suc (place number lines)) lines) (take_all (place number lines) lines past)
+    ∙ ap (λ (ls : List CacheLine). lines ++ ls) (drop_all (suc (place number lines)) lines (omega arith))
     ∙ append-nil lines
 
-pub length-without : (number : ℕ) (lines : List Line) → place number lines < length lines → length (without number lines) + 1 ≡ length lines
-length-without number lines at = ap (λ (ls : List Line). length ls + 1) (without-place number lines) ∙ length-remove lines (place number lines) at
+pub length-without : (number : ℕ) (lines : List CacheLine) → place number lines < length lines → length (without number lines) + 1 ≡ length lines
+length-without number lines at = ap (λ (ls : List CacheLine). length ls + 1) (without-place number lines) ∙ length-remove lines (place number lines) at
 
 or-false : (b : Bool) → (b || false) ≡ b
 or-false true = refl
 or-false false = refl
 
-abbrev clean_line : Line
+abbrev clean_line : CacheLine
 clean_line = record { number = 0; dirty = false }
 
 -- an access to a line that is held
-module _ (ways number i : ℕ) (writes : Bool) (lines : List Line) (answer : Some i ≡ position (λ line. nat_eq line.number number) lines) where
+module _ (ways number i : ℕ) (writes : Bool) (lines : List CacheLine) (answer : Some i ≡ position (λ line. nat_eq line.number number) lines) where
   pub is_held-found : true ≡ is_held number lines
   is_held-found = sym (is_held-place number lines ∙ lt-ltb _ _ (found number lines i answer).1)
 
   pub victim-found : None ≡ victim ways number lines
   victim-found = sym (cond-true (is_held number lines) None (slice_get lines (ways - 1)) (sym is_held-found))
 
-  pub accessed-found : (line : Line) → length lines ≤ ways → line ≡ get_or lines i line → record { number = number; dirty = writes || line.dirty } ∷ remove lines i ≡ accessed ways number writes lines
+  pub accessed-found : (line : CacheLine) → length lines ≤ ways → line ≡ get_or lines i line → record { number = number; dirty = writes || line.dirty } ∷ remove lines i ≡ accessed ways number writes lines
   accessed-found line room read =
       let at = found number lines i answer in
       let own : get_or lines (place number lines) clean_line ≡ line = get_or_default lines (place number lines) clean_line line at.1 ∙ ap (λ n. get_or lines n line) (sym at.0) ∙ sym read in
-      let dirty = is_dirty-place number lines clean_line refl ∙ ap (λ (l : Line). l.dirty) own in
+      let dirty = is_dirty-place number lines clean_line refl ∙ ap (λ (l : CacheLine). l.dirty) own in
       let others = without-place number lines ∙ ap (λ n. remove lines n) (sym at.0) in
       let fits = length-without number lines at.1 in
       rw (← others, ← dirty) (sym (take_all ways (record { number = number; dirty = writes || is_dirty number lines } ∷ without number lines) (omega (arith, fits))))
 
 -- an access to a line that is not held
-module _ (ways number : ℕ) (writes : Bool) (lines : List Line) (answer : None ≡ position (λ line. nat_eq line.number number) lines) where
+module _ (ways number : ℕ) (writes : Bool) (lines : List CacheLine) (answer : None ≡ position (λ line. nat_eq line.number number) lines) where
   pub is_held-missing : false ≡ is_held number lines
   is_held-missing = sym (is_held-place number lines ∙ le-ltb _ _ (missing number lines answer))
 
@@ -106,7 +106,7 @@ module _ (ways number : ℕ) (writes : Bool) (lines : List Line) (answer : None 
   pub accessed-missing : 1 ≤ ways → record { number = number; dirty = writes } ∷ take (ways - 1) lines ≡ accessed ways number writes lines
   accessed-missing positive =
       let past = missing number lines answer in
-      let clean : is_dirty number lines ≡ false = is_dirty-place number lines clean_line refl ∙ ap (λ (l : Line). l.dirty) (get_or_past lines (place number lines) clean_line past) in
+      let clean : is_dirty number lines ≡ false = is_dirty-place number lines clean_line refl ∙ ap (λ (l : CacheLine). l.dirty) (get_or_past lines (place number lines) clean_line past) in
       let one_more : ways ≡ suc (ways - 1) = omega arith in
       sym (ap (λ n. take n (record { number = number; dirty = writes || is_dirty number lines } ∷ without number lines)) one_more
       ∙ rw (clean, or-false writes, without_missing number lines past) refl)

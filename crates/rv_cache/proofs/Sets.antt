@@ -2,7 +2,7 @@
 use Rattle.std.proofs.Common.{ℕ, true, false, List, [], ◌∷◌, get_or, set, take, map, replicate, cond, nat_eq, suc, zero}
 use Rattle.std.specs.Option.{IfSome}
 use Rattle.std.specs.List.{slice_get}
-use Rattle.rv_cache.specs.declared.line.Line.{Line}
+use Rattle.rv_cache.specs.declared.line.CacheLine.{CacheLine}
 use Rattle.rv_cache.specs.Line.{without}
 use Rattle.rv_cache.specs.WriteBack.{Each}
 
@@ -35,7 +35,7 @@ module _ {X : Type 0} (P : X → Type 0) where
   Each-replicate zero x is = tt
   Each-replicate (suc n) x is = (is, Each-replicate n x is)
 
-pub Each-without : (P : Line → Type 0) (number : ℕ) (lines : List Line) → Each P lines → Each P (without number lines)
+pub Each-without : (P : CacheLine → Type 0) (number : ℕ) (lines : List CacheLine) → Each P lines → Each P (without number lines)
 Each-without P number [] each = tt
 Each-without P number (line ∷ lines) each =
     elim (nat_eq line.number number) as (λ b. Each P (cond b lines (line ∷ without number lines))) [ true ↦ each.1 | false ↦ (each.0, Each-without P number lines each.1) ]

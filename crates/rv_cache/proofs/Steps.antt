@@ -8,7 +8,7 @@ use Rattle.std.proofs.lemmas.Bool.{cases_lt, cases_eq, cases_Bool, false≢true}
 use Rattle.std.proofs.lemmas.Grind.{get_or-set_at}
 use Rattle.rv_isa.specs.declared.values.CacheValues.{CacheValues}
 use Rattle.rv_memory.specs.Bytes.{overwritten}
-use Rattle.rv_cache.specs.declared.line.Line.{Line}
+use Rattle.rv_cache.specs.declared.line.CacheLine.{CacheLine}
 use Rattle.rv_cache.specs.Line.{is_held, is_dirty, without, accessed, victim, cleaned}
 use Rattle.rv_cache.specs.Cache.{Contents, accessed_sets}
 use Rattle.rv_cache.specs.WriteBack.{IsInside, AreInside, victim_written, sets_written}
@@ -20,15 +20,15 @@ use Rattle.rv_cache.proofs.Divided.{line_inside, same_line}
 
 module _ (base line_bytes : ℕ) (bytes : List ℕ) (positive : 0 < line_bytes) where
   -- a byte of a dirty line that is dropped is then the one that a program sees
-  victim_wins : (dropped : Option Line) (memory : List ℕ) → IfSome dropped (λ line. IsInside base line_bytes (length bytes) line.number) → length memory ≡ length bytes → (i : ℕ) → IsToCome base line_bytes bytes positive memory i ((line : Line) × (dropped ≡ Some line) × (line.number ≡ (base + i) / line_bytes) × (line.dirty ≡ true)) → get_or (victim_written base line_bytes bytes dropped memory) i 0 ≡ get_or bytes i 0
+  victim_wins : (dropped : Option CacheLine) (memory : List ℕ) → IfSome dropped (λ line. IsInside base line_bytes (length bytes) line.number) → length memory ≡ length bytes → (i : ℕ) → IsToCome base line_bytes bytes positive memory i ((line : CacheLine) × (dropped ≡ Some line) × (line.number ≡ (base + i) / line_bytes) × (line.dirty ≡ true)) → get_or (victim_written base line_bytes bytes dropped memory) i 0 ≡ get_or bytes i 0
   victim_wins dropped memory inside size i (inl same) =
       elim (victim_either base line_bytes bytes positive dropped memory inside size i) [ inl stays ↦ stays ∙ same | inr seen ↦ seen.0 ]
   victim_wins None memory inside size i (inr own) = absurd (cc (own.1))
   victim_wins (Some line) memory inside size i (inr own) =
       let is : line ≡ own.0 = cc (own.1) in
-      line_wins base line_bytes bytes positive line memory inside size i (inr (ap (λ (l : Line). l.number) is ∙ own.2, ap (λ (l : Line). l.dirty) is ∙ own.3))
+      line_wins base line_bytes bytes positive line memory inside size i (inr (ap (λ (l : CacheLine). l.number) is ∙ own.2, ap (λ (l : CacheLine). l.dirty) is ∙ own.3))
 
-module _ (base : ℕ) (values : CacheValues) (bytes memory : List ℕ) (sets : List (List Line)) (was : IsConsistent base values bytes sets memory) where
+module _ (base : ℕ) (values : CacheValues) (bytes memory : List ℕ) (sets : List (List CacheLine)) (was : IsConsistent base values bytes sets memory) where
   pub positive : 0 < values.line
   positive = omega (arith, was.divided.legal.0.line.0)
 
@@ -51,16 +51,16 @@ module _ (base : ℕ) (values : CacheValues) (bytes memory : List ℕ) (sets : L
     abbrev place : ℕ
     place = number % values.sets
 
-    abbrev lines : List Line
+    abbrev lines : List CacheLine
     lines = get_or sets place []
 
-    abbrev moved : Line
+    abbrev moved : CacheLine
     moved = record { number = number; dirty = writes || is_dirty number lines }
 
-    abbrev after : List Line
+    abbrev after : List CacheLine
     after = accessed values.ways number writes lines
 
-    abbrev dropped : Option Line
+    abbrev dropped : Option CacheLine
     dropped = victim values.ways number lines
 
     pub dropped_inside : IfSome dropped (λ line. IsInside base values.line (length bytes) line.number)
@@ -76,7 +76,7 @@ module _ (base : ℕ) (values : CacheValues) (bytes memory : List ℕ) (sets : L
     filled_after : AreFilled base values (length bytes) (set sets place after)
     filled_after =
         let own = line_inside base (length bytes) values.line address positive was.divided.base_aligned was.divided.whole_lines above below in
-        let Inside = λ (line : Line). IsInside base values.line (length bytes) line.number in
+        let Inside = λ (line : CacheLine). IsInside base values.line (length bytes) line.number in
         record {
           count = length-set sets place after ∙ was.filled.count;
           room = Each-set (λ ls. length ls ≤ values.ways) sets place after (omega (arith, length-take values.ways (moved ∷ without number lines))) was.filled.room;
@@ -111,12 +111,12 @@ module _ (base : ℕ) (values : CacheValues) (bytes memory : List ℕ) (sets : L
     consistent_after = record { divided = was.divided; filled = filled_after; size = length_after; in_step = in_step_after }
 
   -- a line that was just written is dirty
-  dirty_after_write : (number : ℕ) (old_sets : List (List Line)) (lines : List Line) → sets ≡ set old_sets (number % values.sets) (accessed values.ways number true lines) → is_dirty number (get_or sets (number % values.sets) []) ≡ true
+  dirty_after_write : (number : ℕ) (old_sets : List (List CacheLine)) (lines : List CacheLine) → sets ≡ set old_sets (number % values.sets) (accessed values.ways number true lines) → is_dirty number (get_or sets (number % values.sets) []) ≡ true
   dirty_after_write number old_sets lines is =
       let place = number % values.sets in
       let now = accessed values.ways number true lines in
       let same_count = ap length is ∙ length-set old_sets place now in
-      ap (λ (ss : List (List Line)). is_dirty number (get_or ss place [])) is
+      ap (λ (ss : List (List CacheLine)). is_dirty number (get_or ss place [])) is
       ∙ ap (is_dirty number) (get_or-set_at old_sets place place now [] refl (omega (arith, place_in number, same_count)))
       ∙ is_dirty_written values.ways number lines was.divided.legal.0.ways.0
 

@@ -7,7 +7,7 @@ use Rattle.std.proofs.lemmas.List.Edits.{length-between, get_or-between}
 use Rattle.std.proofs.lemmas.Bool.{cases_lt, cases_Bool, cond-true, cond-false, eqb-true, false≢true}
 use Rattle.std.proofs.lemmas.Nat.{div-add-mod', div-mul-add}
 use Rattle.rv_memory.specs.Bytes.{overwritten}
-use Rattle.rv_cache.specs.declared.line.Line.{Line}
+use Rattle.rv_cache.specs.declared.line.CacheLine.{CacheLine}
 use Rattle.rv_cache.specs.Line.{is_dirty}
 use Rattle.rv_cache.specs.WriteBack.{IsInside, AreInside, Each, offset_of, line_written, victim_written, lines_written, sets_written}
 
@@ -42,7 +42,7 @@ in_line base line_bytes i number positive from is =
     (omega (arith, whole, start), omega (arith, whole, start))
 
 -- the line that is dirty is the first, or a later one
-pub is_dirty_cases : (number : ℕ) (line : Line) (lines : List Line) → is_dirty number (line ∷ lines) ≡ true → ((line.number ≡ number) × (line.dirty ≡ true)) ⊎ (is_dirty number lines ≡ true)
+pub is_dirty_cases : (number : ℕ) (line : CacheLine) (lines : List CacheLine) → is_dirty number (line ∷ lines) ≡ true → ((line.number ≡ number) × (line.dirty ≡ true)) ⊎ (is_dirty number lines ≡ true)
 is_dirty_cases number line lines dirty = elim (cases_Bool (nat_eq line.number number)) [
   | inl same ↦ inl (eqb-true line.number number same, sym (cond-true (nat_eq line.number number) line.dirty (is_dirty number lines) same) ∙ dirty)
   | inr other ↦ inr (sym (cond-false (nat_eq line.number number) line.dirty (is_dirty number lines) other) ∙ dirty)
@@ -53,10 +53,10 @@ module _ (base line_bytes : ℕ) (bytes : List ℕ) (positive : 0 < line_bytes) 
   abbrev pub IsToCome : List ℕ → ℕ → Type 0 → Type 0
   IsToCome memory i dirty = (get_or memory i 0 ≡ get_or bytes i 0) ⊎ dirty
 
-  abbrev pub IsLineOf : Line → ℕ → Type 0
+  abbrev pub IsLineOf : CacheLine → ℕ → Type 0
   IsLineOf line i = (line.number ≡ (base + i) / line_bytes) × (line.dirty ≡ true)
 
-  module _ (line : Line) (memory : List ℕ) (inside : IsInside base line_bytes (length bytes) line.number) (size : length memory ≡ length bytes) where
+  module _ (line : CacheLine) (memory : List ℕ) (inside : IsInside base line_bytes (length bytes) line.number) (size : length memory ≡ length bytes) where
     abbrev block : List ℕ
     block = slice_range bytes (offset_of base line_bytes line.number) (offset_of base line_bytes line.number + line_bytes)
 
@@ -113,11 +113,11 @@ module _ (base line_bytes : ℕ) (bytes : List ℕ) (positive : 0 < line_bytes) 
         ∙ get_or-between bytes off (off + line_bytes) (i - off) 0 (omega arith)
         ∙ ap (λ j. get_or bytes j 0) (omega arith)
 
-  pub length-lines_written : (lines : List Line) (memory : List ℕ) → AreInside base line_bytes (length bytes) lines → length memory ≡ length bytes → length (lines_written base line_bytes bytes lines memory) ≡ length bytes
+  pub length-lines_written : (lines : List CacheLine) (memory : List ℕ) → AreInside base line_bytes (length bytes) lines → length memory ≡ length bytes → length (lines_written base line_bytes bytes lines memory) ≡ length bytes
   length-lines_written [] memory inside size = size
   length-lines_written (line ∷ lines) memory inside size = length-lines_written lines _ inside.1 (length-line_written line memory inside.0 size)
 
-  pub lines_win : (lines : List Line) (memory : List ℕ) → AreInside base line_bytes (length bytes) lines → length memory ≡ length bytes → (i : ℕ) → IsToCome memory i (is_dirty ((base + i) / line_bytes) lines ≡ true) → get_or (lines_written base line_bytes bytes lines memory) i 0 ≡ get_or bytes i 0
+  pub lines_win : (lines : List CacheLine) (memory : List ℕ) → AreInside base line_bytes (length bytes) lines → length memory ≡ length bytes → (i : ℕ) → IsToCome memory i (is_dirty ((base + i) / line_bytes) lines ≡ true) → get_or (lines_written base line_bytes bytes lines memory) i 0 ≡ get_or bytes i 0
   lines_win [] memory inside size i (inl same) = same
   lines_win [] memory inside size i (inr dirty) = absurd (false≢true dirty)
   lines_win (line ∷ lines) memory inside size i to_come =
@@ -129,11 +129,11 @@ module _ (base line_bytes : ℕ) (bytes : List ℕ) (positive : 0 < line_bytes) 
         ]
       ])
 
-  pub length-sets_written : (sets : List (List Line)) (memory : List ℕ) → Each (AreInside base line_bytes (length bytes)) sets → length memory ≡ length bytes → length (sets_written base line_bytes bytes sets memory) ≡ length bytes
+  pub length-sets_written : (sets : List (List CacheLine)) (memory : List ℕ) → Each (AreInside base line_bytes (length bytes)) sets → length memory ≡ length bytes → length (sets_written base line_bytes bytes sets memory) ≡ length bytes
   length-sets_written [] memory inside size = size
   length-sets_written (lines ∷ sets) memory inside size = length-sets_written sets _ inside.1 (length-lines_written lines memory inside.0 size)
 
-  pub sets_win : (sets : List (List Line)) (memory : List ℕ) → Each (AreInside base line_bytes (length bytes)) sets → length memory ≡ length bytes → (i k : ℕ) → IsToCome memory i (is_dirty ((base + i) / line_bytes) (get_or sets k []) ≡ true) → get_or (sets_written base line_bytes bytes sets memory) i 0 ≡ get_or bytes i 0
+  pub sets_win : (sets : List (List CacheLine)) (memory : List ℕ) → Each (AreInside base line_bytes (length bytes)) sets → length memory ≡ length bytes → (i k : ℕ) → IsToCome memory i (is_dirty ((base + i) / line_bytes) (get_or sets k []) ≡ true) → get_or (sets_written base line_bytes bytes sets memory) i 0 ≡ get_or bytes i 0
   sets_win [] memory inside size i k (inl same) = same
   sets_win [] memory inside size i k (inr dirty) = absurd (false≢true dirty)
   sets_win (lines ∷ sets) memory inside size i zero to_come =
@@ -143,11 +143,11 @@ module _ (base line_bytes : ℕ) (bytes : List ℕ) (positive : 0 < line_bytes) 
   sets_win (lines ∷ sets) memory inside size i (suc k) (inr dirty) =
       sets_win sets _ inside.1 (length-lines_written lines memory inside.0 size) i k (inr dirty)
 
-  pub length-victim_written : (victim : Option Line) (memory : List ℕ) → IfSome victim (λ line. IsInside base line_bytes (length bytes) line.number) → length memory ≡ length bytes → length (victim_written base line_bytes bytes victim memory) ≡ length bytes
+  pub length-victim_written : (victim : Option CacheLine) (memory : List ℕ) → IfSome victim (λ line. IsInside base line_bytes (length bytes) line.number) → length memory ≡ length bytes → length (victim_written base line_bytes bytes victim memory) ≡ length bytes
   length-victim_written None memory inside size = size
   length-victim_written (Some line) memory inside size = length-line_written line memory inside size
 
-  pub victim_either : (victim : Option Line) (memory : List ℕ) → IfSome victim (λ line. IsInside base line_bytes (length bytes) line.number) → length memory ≡ length bytes → (i : ℕ) → (get_or (victim_written base line_bytes bytes victim memory) i 0 ≡ get_or memory i 0) ⊎ ((get_or (victim_written base line_bytes bytes victim memory) i 0 ≡ get_or bytes i 0) × (line : Line) × (victim ≡ Some line) × ((base + i) / line_bytes ≡ line.number))
+  pub victim_either : (victim : Option CacheLine) (memory : List ℕ) → IfSome victim (λ line. IsInside base line_bytes (length bytes) line.number) → length memory ≡ length bytes → (i : ℕ) → (get_or (victim_written base line_bytes bytes victim memory) i 0 ≡ get_or memory i 0) ⊎ ((get_or (victim_written base line_bytes bytes victim memory) i 0 ≡ get_or bytes i 0) × (line : CacheLine) × (victim ≡ Some line) × ((base + i) / line_bytes ≡ line.number))
   victim_either None memory inside size i = inl refl
   victim_either (Some line) memory inside size i =
       elim (line_either line memory inside size i) [ inl stays ↦ inl stays | inr seen ↦ inr (seen.0, line, refl, seen.1) ]

@@ -1,7 +1,7 @@
 -- What the backing holds once lines were written to it.
 use Rattle.std.specs.Prelude.{ℕ, ◌+◌, ◌-◌, ◌*◌, ◌≤◌, if◌then◌else◌, List, [], ◌∷◌, slice_range, Option, Some, None}
 use Rattle.rv_memory.specs.Bytes.{overwritten}
-use Rattle.rv_cache.specs.declared.line.Line.{Line}
+use Rattle.rv_cache.specs.declared.line.CacheLine.{CacheLine}
 
 -- each element has a property
 abbrev pub Each : {X : Type 0} → (X → Type 0) → List X → Type 0
@@ -13,7 +13,7 @@ module _ (base line_bytes : ℕ) where
   abbrev pub IsInside : ℕ → ℕ → Type 0
   IsInside size number = (base ≤ number * line_bytes) × (number * line_bytes + line_bytes ≤ base + size)
 
-  abbrev pub AreInside : ℕ → List Line → Type 0
+  abbrev pub AreInside : ℕ → List CacheLine → Type 0
   AreInside size lines = Each (λ line. IsInside size line.number) lines
 
   -- how many bytes lie before a line
@@ -21,18 +21,18 @@ module _ (base line_bytes : ℕ) where
   offset_of number = number * line_bytes - base
 
   -- a dirty line's bytes, as a program sees them, replace those that memory has there
-  abbrev pub line_written : List ℕ → Line → List ℕ → List ℕ
+  abbrev pub line_written : List ℕ → CacheLine → List ℕ → List ℕ
   line_written bytes line memory =
       if line.dirty then overwritten memory (offset_of line.number) (slice_range bytes (offset_of line.number) (offset_of line.number + line_bytes)) else memory
 
-  abbrev pub victim_written : List ℕ → Option Line → List ℕ → List ℕ
+  abbrev pub victim_written : List ℕ → Option CacheLine → List ℕ → List ℕ
   victim_written bytes None memory = memory
   victim_written bytes (Some line) memory = line_written bytes line memory
 
-  abbrev pub lines_written : List ℕ → List Line → List ℕ → List ℕ
+  abbrev pub lines_written : List ℕ → List CacheLine → List ℕ → List ℕ
   lines_written bytes [] memory = memory
   lines_written bytes (line ∷ lines) memory = lines_written bytes lines (line_written bytes line memory)
 
-  abbrev pub sets_written : List ℕ → List (List Line) → List ℕ → List ℕ
+  abbrev pub sets_written : List ℕ → List (List CacheLine) → List ℕ → List ℕ
   sets_written bytes [] memory = memory
   sets_written bytes (lines ∷ sets) memory = sets_written bytes sets (lines_written bytes lines memory)

@@ -1,9 +1,8 @@
-ghost use Rattle.std.specs.Prelude.{◌≡◌, ◌+◌, ◌-◌, ◌%◌, ◌^◌, ◌≤◌, ◌++◌, true, false, [], length, map, replicate, slice_index, IfOk};
-ghost use Rattle.rv_isa.specs.Description.{IsLegalCost};
+ghost use Rattle.std.specs.Prelude.{◌≡◌, ◌+◌, ◌-◌, ◌%◌, ◌^◌, ◌≤◌, ◌++◌, ◌↔◌, IsTrue, true, false, [], length, map, replicate, slice_index, IfOk};
+ghost use Rattle.rv_isa.specs.Description.{IsLegalCost, IsRamBase};
 ghost use Rattle.rv_memory.specs.Bytes.{overwritten};
-ghost use Rattle.rv_memory.specs.Ram.{IsRamBase};
 ghost use Rattle.rv_cache.specs.Line.{cleaned, dirty_total};
-ghost use Rattle.rv_cache.specs.Cache.{IsAccess, IsCached, IsUpdated, IsUpdatedElsewhere, access_cost, accessed_sets, cost_of_access, memory_after, seen, seen_after};
+ghost use Rattle.rv_cache.specs.Cache.{IsAccess, IsAligned, IsCached, IsInMemory, IsUpdated, IsUpdatedElsewhere, access_cost, accessed_sets, cost_of_access, memory_after, seen, seen_after};
 
 use crate::set::{Access, Set};
 use crate::write_back::{write_back_sets, write_back_victim};
@@ -134,6 +133,29 @@ impl<M: Backing> Cache<M> {
         )
     }
 
+    /// Whether 1, 2 or 4 bytes from an address on, a multiple of their number, lie in the cached memory: what `read` and
+    /// `write` ask for.
+    pub fn can_access(&self, address: u32, count: usize) -> bool
+        ensures { IsTrue result ↔ IsAccess self.now address count }
+    {
+        is_aligned(address, count) && self.is_inside(address, count)
+    }
+
+    // Whether so many bytes from an address on lie in the cached memory.
+    fn is_inside(&self, address: u32, count: usize) -> bool
+        ensures { IsTrue result ↔ IsInMemory self.now address count }
+    {
+        let size = self.bytes.len();
+        self.base <= address && count <= size && (address - self.base) as usize <= size - count
+    }
+
+    /// Whether an address lies in the cached memory: what `peek` asks for.
+    pub fn is_cached(&self, address: u32) -> bool
+        ensures { IsTrue result ↔ IsCached self.now address }
+    {
+        self.base <= address && ((address - self.base) as usize) < self.bytes.len()
+    }
+
     /// The byte at an address as a program sees it; no access.
     pub fn peek(&self, address: u32) -> u8
         requires { IsCached self.now address }
@@ -157,6 +179,18 @@ fn overwrite(bytes: &mut [u8], offset: usize, part: &[u8])
     ensures { bytes.new ≡ overwritten bytes.old offset part.now }
 {
     bytes[offset..offset + part.len()].copy_from_slice(part);
+}
+
+// Whether bytes are 1, 2 or 4, and an address is a multiple of their number.
+fn is_aligned(address: u32, count: usize) -> bool
+    ensures { IsTrue result ↔ IsAligned address count }
+{
+    match count {
+        1 => true,
+        2 => address % 2 == 0,
+        4 => address % 4 == 0,
+        _ => false,
+    }
 }
 
 // Sets that hold no line.

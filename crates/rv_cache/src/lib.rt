@@ -13,4 +13,4 @@ mod tests;
 mod write_back;
 
 pub use cache::Cache;
-pub use line::Line;
+pub use line::CacheLine;

@@ -3,7 +3,7 @@ ghost use Rattle.std.specs.List.{position};
 ghost use Rattle.rv_cache.specs.Line.{accessed, is_held, victim, cleaned, dirty_count};
 ghost use Rattle.rv_cache.specs.WriteBack.{AreInside, lines_written};
 
-use crate::Line;
+use crate::CacheLine;
 use crate::write_back::write_back_lines;
 use arrayvec::ArrayVec;
 use rv_memory::Backing;
@@ -14,20 +14,20 @@ use std::marker::Model;
 pub struct Access {
     pub is_hit: bool,
     /// The line that the set dropped to make room.
-    pub victim: Option<Line>,
+    pub victim: Option<CacheLine>,
 }
 
 /// The lines of a set, most recently used first.
 #[derive(Debug, Drop)]
 pub struct Set {
-    lines: ArrayVec<Line, 16>,
+    lines: ArrayVec<CacheLine, 16>,
 }
 
 impl Model for Set {
     ghost use Rattle.std.specs.Prelude.{List, length, ◌≤◌};
-    ghost use Rattle.rv_cache.specs.declared.line.Line.{Line};
+    ghost use Rattle.rv_cache.specs.declared.line.CacheLine.{CacheLine};
 
-    ghost Value = { List Line };
+    ghost Value = { List CacheLine };
 
     ghost view = { λ s. s.lines.items };
 
@@ -55,8 +55,8 @@ impl Set {
         match place_of(self.lines.as_slice(), number) {
             Some(place) => {
                 let line = self.lines.remove(place);
-                let dirty = writes | line.dirty;
-                self.lines.insert(0, Line { number, dirty });
+                let dirty = line.is_dirty_after(writes);
+                self.lines.insert(0, CacheLine { number, dirty });
                 Access {
                     is_hit: true,
                     victim: None,
@@ -66,7 +66,7 @@ impl Set {
                 let victim = take_last_if_full(&mut self.lines, ways);
                 self.lines.insert(
                     0,
-                    Line {
+                    CacheLine {
                         number,
                         dirty: writes,
                     },
@@ -101,14 +101,14 @@ impl Set {
 }
 
 // Where a line is among the lines of a set.
-fn place_of(lines: &[Line], number: u32) -> Option<usize>
+fn place_of(lines: &[CacheLine], number: u32) -> Option<usize>
     ensures { result ≡ position (λ line. nat_eq line.number number) lines.now }
 {
     lines.iter().position(|line| line.number == number)
 }
 
 // Makes room for a line where there are as many as there may be.
-fn take_last_if_full(lines: &mut ArrayVec<Line, 16>, ways: usize) -> Option<Line>
+fn take_last_if_full(lines: &mut ArrayVec<CacheLine, 16>, ways: usize) -> Option<CacheLine>
     requires ways { 1 ≤ ways }
     requires room { length lines.old.items ≤ ways }
     ensures rest { lines.new.items ≡ take (ways - 1) lines.old.items }

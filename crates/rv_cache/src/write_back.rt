@@ -2,7 +2,7 @@ ghost use Rattle.std.specs.Prelude.{◌≡◌, ◌*◌, ◌≤◌, if◌then◌e
 ghost use Rattle.rv_cache.specs.Line.{cleaned, dirty_count, dirty_total};
 ghost use Rattle.rv_cache.specs.WriteBack.{IsInside, AreInside, Each, line_written, lines_written, sets_written, victim_written};
 
-use crate::Line;
+use crate::CacheLine;
 use crate::set::Set;
 use rv_memory::Backing;
 
@@ -13,7 +13,7 @@ pub fn write_back_line<M: Backing>(
     bytes: &[u8],
     base: u32,
     line_bytes: u32,
-    line: &mut Line,
+    line: &mut CacheLine,
 ) -> u32
     requires inside { IsInside base line_bytes (length bytes.now) line.old.number }
     requires size { length (M.bytes backing.old) ≡ length bytes.now }
@@ -39,7 +39,7 @@ pub fn write_back_lines<M: Backing>(
     bytes: &[u8],
     base: u32,
     line_bytes: u32,
-    lines: &mut [Line],
+    lines: &mut [CacheLine],
 ) -> u32
     requires inside { AreInside base line_bytes (length bytes.now) lines.old }
     requires size { length (M.bytes backing.old) ≡ length bytes.now }
@@ -88,7 +88,7 @@ pub fn write_back_victim<M: Backing>(
     bytes: &[u8],
     base: u32,
     line_bytes: u32,
-    victim: Option<Line>,
+    victim: Option<CacheLine>,
 )
     requires inside { IfSome victim (λ line. IsInside base line_bytes (length bytes.now) line.number) }
     requires size { length (M.bytes backing.old) ≡ length bytes.now }

@@ -1,12 +1,12 @@
 use Rattle.std.proofs.Common.{◌≤◌, List, length, sym, subst}
-use Rattle.rv_cache.specs.declared.line.Line.{Line}
+use Rattle.rv_cache.specs.declared.line.CacheLine.{CacheLine}
 use Rattle.rv_cache.proofs.Places.{is_held-found, is_held-missing, victim-found, victim-missing, accessed-found, accessed-missing}
 use Rattle.rv_cache.proofs.set.Set.access.Goals as goal
 
 pub returns-in-Some-clause-lines : goal.returns-in-Some-clause-lines
 returns-in-Some-clause-lines c =
     let answer = rw c.as_slice.ensures.value at c.in-Some.ensures in
-    rw (c.insert.ensures.items, c.remove-line.ensures.items, ← c.self.view_is) (accessed-found c.args.ways c.args.number c.in-Some.place c.args.writes c.self.inside.lines.items answer c.remove-line.result (subst (λ (ls : List Line). length ls ≤ c.args.ways) (sym c.self.view_is) c.requires.room) c.remove-line.ensures.value)
+    rw (c.insert.ensures.items, c.is_dirty_after-dirty.ensures, c.remove-line.ensures.items, ← c.self.view_is) (accessed-found c.args.ways c.args.number c.in-Some.place c.args.writes c.self.inside.lines.items answer c.remove-line.result (subst (λ (ls : List CacheLine). length ls ≤ c.args.ways) (sym c.self.view_is) c.requires.room) c.remove-line.ensures.value)
 
 pub returns-in-Some-clause-hit : goal.returns-in-Some-clause-hit
 returns-in-Some-clause-hit c =
