@@ -2,3 +2,4 @@ pub mod LastLevels
 pub mod Levels
 pub mod Numbered
 pub mod Padded
+pub mod TwoRegisters

@@ -1,4 +1,4 @@
--- Numbers as bytes of memory, the lowest byte at the lowest address (Unprivileged ISA 20191213, 1.4).
+-- Numbers as bytes of memory, the lowest byte at the lowest address (Unprivileged ISA 20191213, 2.6).
 use Rattle.std.specs.Prelude.{ℕ, zero, suc, ◌+◌, ◌*◌, ◌/◌, ◌%◌, List, [], ◌∷◌, ◌++◌, take}
 
 -- the number that bytes make

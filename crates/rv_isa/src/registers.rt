@@ -1,4 +1,4 @@
-ghost use Rattle.std.specs.Prelude.{◌≡◌, ℕ, ◌<◌, ◌↔◌, IsSome, IfSome};
+ghost use Rattle.std.specs.Prelude.{◌≡◌, ℕ, ◌<◌, ◌↔◌, Some, IsSome, IfSome};
 
 use std::marker::Model;
 
@@ -48,6 +48,14 @@ impl Reg {
         ensures in_range { result < 32 }
     {
         usize::from(self.number())
+    }
+
+    // The register as an operand that is read.
+    pub(crate) fn operand(self) -> Option<Self>
+        ensures register { result ≡ Some self }
+        ensures in_range { IfSome result (λ r. r < 32) }
+    {
+        Some(Reg { value: self.value })
     }
 }
 
