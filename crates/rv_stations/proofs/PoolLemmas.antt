@@ -1,9 +1,8 @@
 -- The waiting instructions that four lists of one length tell, as an edit of all four leaves them.
-use Rattle.std.proofs.Common.{◌≡◌, ℕ, zero, suc, ◌-◌, ◌<◌, ◌≤◌, Bool, true, false, List, [], ◌∷◌, ◌++◌, length, get_or, take, map, filter, remove, slice_get, Some, refl, ap, ap₂, sym, ◌∙◌, inl, inr, vec_len, arith}
-use Rattle.std.specs.List.Sorted.{IsPartitionPoint, IsNonDecreasingBy}
+use Rattle.std.proofs.Common.{◌≡◌, ℕ, zero, suc, ◌-◌, ◌<◌, List, [], ◌∷◌, ◌++◌, length, get_or, take, map, remove, slice_get, Some, refl, ap, ap₂, sym, ◌∙◌, inl, inr, vec_len, arith}
+use Rattle.std.specs.List.Sorted.{IsNonDecreasingBy}
 use Rattle.std.specs.Simd.Lanes.{zip2}
 use Rattle.std.proofs.lemmas.Bool.{cases_lt}
-use Rattle.std.proofs.lemmas.List.{get_or-map, length-map}
 use Rattle.rv_isa.specs.Numbered.{AreBelow, IsInOrder}
 use Rattle.rv_isa.specs.declared.instructions.Instr.TheVariants.{Fence}
 use Rattle.rv_stations.specs.declared.waiting.Operand.{Operand}

@@ -1,7 +1,7 @@
 -- The tag and the value leave together.
-use Rattle.std.proofs.Common.{◌≡◌, ℕ, ◌<◌, ◌+◌, cond, length, remove, List, ap, arith, sym}
+use Rattle.std.proofs.Common.{ℕ, ◌<◌, cond, length, List, ap, arith}
 use Rattle.rv_stations.specs.declared.waiting.Operand.{Operand}
-use Rattle.rv_stations.specs.Column.{Column, operand_of, is_producer, producers}
+use Rattle.rv_stations.specs.Column.{Column, operand_of, is_producer}
 use Rattle.rv_stations.proofs.ColumnLemmas.{producers-remove}
 use Rattle.rv_stations.proofs.ZipLemmas.{length-zip2_left, zip2-remove}
 use Rattle.rv_stations.proofs.column.OperandColumn.remove.Goals as goal

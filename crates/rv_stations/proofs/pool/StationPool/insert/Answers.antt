@@ -1,5 +1,5 @@
 -- One more part in each list makes one more instruction.
-use Rattle.std.proofs.Common.{◌≡◌, ◌<◌, ◌++◌, ◌∷◌, [], List, ap, arith}
+use Rattle.std.proofs.Common.{◌≡◌, ◌++◌, ◌∷◌, [], List, ap, arith}
 use Rattle.std.proofs.lemmas.List.{length_push}
 use Rattle.rv_isa.proofs.Numbered.{IsInOrder-push}
 use Rattle.rv_stations.specs.declared.waiting.Waiting.{Waiting}
