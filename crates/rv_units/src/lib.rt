@@ -8,5 +8,4 @@ mod unit_pool;
 mod units;
 
 pub use bus::{Bus, PendingResult};
-pub use unit_pool::Start;
 pub use units::Units;

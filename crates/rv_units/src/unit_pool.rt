@@ -1,26 +1,21 @@
-ghost use Rattle.std.specs.Prelude.{◌≡◌, IsTrue, IfOk};
-ghost use Rattle.rv_units.specs.Pool.{free_pool, holds_unit, is_free, started};
+ghost use Rattle.std.specs.Prelude.{◌≡◌, length, IsTrue, IfOk};
+ghost use Rattle.rv_units.specs.Pool.{free_pool, holds_unit, holding, is_free, started};
 
-use rv_isa::KindValues;
+use rv_isa::{Issue, KindValues};
 use std::alloc::{AllocError, Global};
 use std::marker::Model;
 
-/// The start of an execution.
-#[derive(Clone, Copy, Debug, PartialEq, Eq)]
-pub struct Start {
-    /// The cycle of its issue.
-    pub cycle: u64,
-    /// How many cycles it takes.
-    pub cost: u32,
-}
-
-/// The units of one kind, with the starts that still hold one of them. Squashed executions hold
-/// theirs to the end.
+/// The units of one kind. Squashed executions hold theirs to the end.
 #[derive(Debug, Drop)]
 pub struct UnitPool {
-    starts: Vec<Start>,
     units: usize,
     is_pipelined: bool,
+    /// Of pipelined units, which are free again in the next cycle: the cycle of the latest start, and
+    /// how many started in it.
+    latest: u64,
+    count: usize,
+    /// Of others: the starts that still hold one.
+    starts: Vec<Issue>,
 }
 
 impl Model for UnitPool {
@@ -35,13 +30,11 @@ impl Model for UnitPool {
     ghost invariant = { IsSoundPool };
 }
 
-/// Whether an execution holds its unit in a cycle: a pipelined unit takes another one in the next
-/// cycle, one that is not only after the last of the cost's cycles.
-fn holds_unit(start: &Start, is_pipelined: bool, cycle: u64) -> bool
-    ensures { result ≡ holds_unit is_pipelined cycle start.now }
+/// Whether an execution holds its unit in a cycle.
+fn holds_unit(start: &Issue, cycle: u64) -> bool
+    ensures { result ≡ holds_unit cycle start.now }
 {
-    let cycles = if is_pipelined { 1 } else { start.cost };
-    start.cycle <= cycle && cycle - start.cycle < u64::from(cycles)
+    start.cycle <= cycle && cycle - start.cycle < u64::from(start.cost)
 }
 
 impl UnitPool {
@@ -51,23 +44,32 @@ impl UnitPool {
     {
         let units = kind.units as usize;
         Ok(UnitPool {
-            starts: Vec::with_capacity(alloc, units)?,
             units,
             is_pipelined: kind.pipelined,
+            latest: 0,
+            count: 0,
+            starts: Vec::with_capacity(alloc, units)?,
         })
     }
 
-    /// Whether a unit is free in a cycle: fewer executions hold one than there are.
+    /// How many units are held in a cycle.
+    fn held(&self, cycle: u64) -> usize
+        ensures { result ≡ length (holding cycle self.now.starts) }
+    {
+        if self.is_pipelined {
+            return if self.latest == cycle { self.count } else { 0 };
+        }
+        self.starts
+            .iter()
+            .filter(|start| holds_unit(start, cycle))
+            .count()
+    }
+
+    /// Whether a unit is free in a cycle: fewer are held than there are.
     pub fn free(&self, cycle: u64) -> bool
         ensures { result ≡ is_free cycle self.now }
     {
-        let is_pipelined = self.is_pipelined;
-        let held = self
-            .starts
-            .iter()
-            .filter(|start| holds_unit(start, is_pipelined, cycle))
-            .count();
-        held < self.units
+        self.held(cycle) < self.units
     }
 
     /// Starts an execution in a cycle, and forgets those that hold no unit in it.
@@ -75,9 +77,12 @@ impl UnitPool {
         requires { IsTrue (is_free cycle self.old) }
         ensures { self.new ≡ started cost cycle self.old }
     {
-        let is_pipelined = self.is_pipelined;
-        self.starts
-            .retain(|start| holds_unit(start, is_pipelined, cycle));
-        self.starts.push_reserved(Start { cycle, cost });
+        if self.is_pipelined {
+            self.count = self.held(cycle) + 1;
+            self.latest = cycle;
+            return;
+        }
+        self.starts.retain(|start| holds_unit(start, cycle));
+        self.starts.push_reserved(Issue { cycle, cost });
     }
 }
