@@ -1,5 +1,5 @@
 -- The starts of a pipelined kind, all of one cycle.
-use Rattle.std.proofs.Common.{◌≡◌, ℕ, ◌+◌, ◌++◌, length, eqb, ◌&&◌, zero, suc, Bool, true, false, cond, List, [], ◌∷◌, replicate, inl, inr, nat_le, nat_lt, refl, sym, ap, ◌∙◌, arith}
+use Rattle.std.proofs.Common.{◌≡◌, ℕ, ◌+◌, ◌++◌, length, eqb, zero, suc, true, false, cond, List, [], ◌∷◌, replicate, inl, inr, nat_le, nat_lt, refl, sym, ap, ◌∙◌, arith}
 use Rattle.std.proofs.lemmas.List.{length-replicate, replicate_more}
 use Rattle.std.proofs.lemmas.Bool.{cases_lt, cases_Bool, eqb-true, eq-eqb, true≢false, le-leb, lt-leb, lt-ltb, le-ltb, and_from, and_left, and_right}
 use Rattle.rv_isa.specs.declared.issues.Issue.{Issue}

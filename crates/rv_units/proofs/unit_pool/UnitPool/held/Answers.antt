@@ -1,7 +1,6 @@
 -- In the cycle of the latest starts all of them hold a unit, in another one none does.
-use Rattle.std.proofs.Common.{rules, ◌≡◌, ap, sym, ◌∙◌, length}
+use Rattle.std.proofs.Common.{ap, sym, length}
 use Rattle.std.proofs.lemmas.List.{length-replicate}
-use Rattle.rv_units.specs.Pool.{holding}
 use Rattle.rv_units.proofs.PoolLemmas.{holding-now, holding-then}
 use Rattle.rv_units.proofs.unit_pool.UnitPool.held.Goals as goal
 

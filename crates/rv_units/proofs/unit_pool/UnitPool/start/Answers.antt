@@ -1,5 +1,5 @@
 -- One more start of the cycle, or one more that holds a unit.
-use Rattle.std.proofs.Common.{rules, arith, ap, ◌∙◌, ◌≡◌, ◌+◌, ◌++◌, ◌∷◌, ◌<◌, [], List, true, false, length, replicate}
+use Rattle.std.proofs.Common.{rules, arith, ap, ◌∙◌, ◌≡◌, ◌++◌, ◌∷◌, ◌<◌, [], List, false, length}
 use Rattle.std.proofs.lemmas.Fn.{filter_same}
 use Rattle.std.proofs.lemmas.Bool.{ltb-true}
 use Rattle.rv_isa.specs.declared.issues.Issue.{Issue}
