@@ -1,0 +1,2 @@
+pub mod HardwareCode
+mod Rows

@@ -1,0 +1,211 @@
+-- Short programs, computed from the definition: each gives the steps that were worked out by hand.
+use Rattle.std.specs.Prelude.{◌≡◌, ℕ, zero, suc, ◌+◌, nat_lt, false, if◌then◌else◌, List, [], ◌∷◌, ◌++◌, length, Option, Some, None, is_none, option_and_then, refl}
+use Rattle.rv_isa.specs.Bytes.{bytes_of_number}
+use Rattle.rv_isa.specs.Standard.{standard_values}
+use Rattle.rv_isa.specs.Word.{pc_plus_4}
+use Rattle.rv_isa.specs.declared.causes.Cause.TheVariants.{InstructionAccessFault, IllegalInstruction, Breakpoint}
+use Rattle.rv_isa.specs.declared.values.Recovery.TheVariants.{Early}
+use Rattle.rv_isa.specs.declared.values.Values.{Values}
+use Rattle.rv_arch.specs.Reset.{no_lines}
+use Rattle.rv_decode.specs.Decodes.{instruction_of}
+use Rattle.rv_decode.specs.InstructionTable.{table}
+use Rattle.rv_memory.specs.Memory.{Memory, fetched_word}
+use Rattle.rv_front.specs.FetchBuffer.{FetchBuffer}
+use Rattle.rv_front.specs.declared.fetched.Fetched.{Fetched}
+use Rattle.rv_hardware.specs.Commit.{Committing}
+use Rattle.rv_hardware.specs.Cycle.{commit_with, execute}
+use Rattle.rv_hardware.specs.Hardware.{Hardware}
+use Rattle.rv_hardware.specs.Reset.{reset_hardware}
+use Rattle.rv_hardware.specs.declared.step.Step.{Step}
+use Rattle.rv_hardware.specs.declared.step.Step.TheVariants.{Retired, Trap}
+
+-- a fetched word that is predicted to go on at the next address
+abbrev fetched_at : ℕ → ℕ → Option ℕ → Fetched
+fetched_at cycle pc word =
+    record { pc = pc; word = word; instruction = option_and_then instruction_of word; predicted = pc_plus_4 pc; cycle = cycle }
+
+-- the buffer with one more word
+abbrev with_word : FetchBuffer → Fetched → FetchBuffer
+with_word front word =
+    record front { entries = front.entries ++ word ∷ []; next_pc = word.predicted; halted = is_none word.word }
+
+-- so many words more, while there is room
+abbrev with_words : Memory → ℕ → ℕ → FetchBuffer → FetchBuffer
+with_words ram cycle zero front = front
+with_words ram cycle (suc width) front =
+    if front.halted then front
+    else (if nat_lt (length front.entries) front.capacity
+    then with_words ram cycle width (with_word front (fetched_at cycle front.next_pc (fetched_word ram.layout ram.bytes front.next_pc)))
+    else front)
+
+-- the hardware after dispatch, once its words were fetched
+abbrev with_fetch : Hardware → Hardware
+with_fetch h = record h { front = with_words h.cache.backing h.cycle h.front.width h.front; cycle = h.cycle + 1 }
+
+-- the steps of so many cycles without interrupts, in a program that makes no word stale
+abbrev steps_from : ℕ → Hardware → List Step
+steps_from zero h = []
+steps_from (suc cycles) h =
+    let committing : Committing = commit_with (λ words word. false) no_lines h in
+    committing.steps ++ steps_from cycles (with_fetch (execute committing.hardware).hardware)
+
+-- words in memory
+abbrev in_memory : List ℕ → List ℕ
+in_memory [] = []
+in_memory (word ∷ words) = bytes_of_number 4 word ++ in_memory words
+
+abbrev steps_of : Values → List ℕ → ℕ → List Step
+steps_of values words cycles = steps_from cycles (reset_hardware values (in_memory words) 0x8000_0000)
+
+-- the standard machine with a smaller RAM, which the programs do not leave
+abbrev machine : Values
+machine = record standard_values { ram_size = 8192 }
+
+-- an instruction that was executed at once: fetched, dispatched, issued, at a cost, broadcast and retired
+abbrev executed : ℕ → ℕ → Option (ℕ × ℕ) → ℕ → ℕ → ℕ → ℕ → ℕ → ℕ → Step
+executed pc word written fetched dispatched issued cost broadcast retired = Retired (record {
+  pc = pc;
+  word = word;
+  written = written;
+  fetched = fetched;
+  dispatched = dispatched;
+  execution = Some (record { issued = issued; cost = cost; broadcast = broadcast });
+  retired = retired;
+})
+
+-- a trap at a breakpoint
+abbrev breakpoint : ℕ → ℕ → Step
+breakpoint pc cycle = Trap pc Breakpoint 0 cycle
+
+-- `ebreak`, and instructions that the programs share
+abbrev ebreak : ℕ
+ebreak = 0x00100073
+
+-- a serialising instruction, which uses no unit
+abbrev serialised : ℕ → ℕ → Option (ℕ × ℕ) → ℕ → ℕ → ℕ → Step
+serialised pc word written fetched dispatched retired = Retired (record {
+  pc = pc;
+  word = word;
+  written = written;
+  fetched = fetched;
+  dispatched = dispatched;
+  execution = None;
+  retired = retired;
+})
+
+-- addi x1,x0,5 on a machine of width 1
+one_instruction_on_a_narrow_machine : steps_of (record machine { fetch_width = 1; dispatch_width = 1; commit_width = 1; bus_width = 1; alu = record machine.alu { units = 1 } }) (0x00500093 ∷ ebreak ∷ []) 6 ≡
+    executed 0x80000000 0x00500093 (Some (1, 5)) 0 1 2 1 3 4 ∷
+    breakpoint 0x80000004 5 ∷
+    []
+unfolding instruction_of table
+one_instruction_on_a_narrow_machine = refl
+
+-- a dependent instruction issues in the cycle after its operand's broadcast
+dependent_instruction_waits : steps_of (machine) (0x00100093 ∷ 0x00108113 ∷ ebreak ∷ []) 7 ≡
+    executed 0x80000000 0x00100093 (Some (1, 1)) 0 1 2 1 3 4 ∷
+    executed 0x80000004 0x00108113 (Some (2, 2)) 0 1 4 1 5 6 ∷
+    breakpoint 0x80000008 6 ∷
+    []
+unfolding instruction_of table
+dependent_instruction_waits = refl
+
+-- a division of 8 cycles; what is younger is broadcast before it and retires behind it
+younger_result_comes_first : steps_of (record machine { div = record machine.div { latency = 8 } }) (0x020042b3 ∷ 0x00100313 ∷ ebreak ∷ []) 13 ≡
+    executed 0x80000000 0x020042b3 (Some (5, 4294967295)) 0 1 2 8 10 11 ∷
+    executed 0x80000004 0x00100313 (Some (6, 1)) 0 1 2 1 3 11 ∷
+    breakpoint 0x80000008 12 ∷
+    []
+unfolding instruction_of table
+younger_result_comes_first = refl
+
+-- two results on a bus of width 1
+narrow_bus_sends_the_older_result_first : steps_of (record machine { bus_width = 1 }) (0x00100093 ∷ 0x00200113 ∷ ebreak ∷ []) 6 ≡
+    executed 0x80000000 0x00100093 (Some (1, 1)) 0 1 2 1 3 4 ∷
+    executed 0x80000004 0x00200113 (Some (2, 2)) 0 1 2 1 4 5 ∷
+    breakpoint 0x80000008 5 ∷
+    []
+unfolding instruction_of table
+narrow_bus_sends_the_older_result_first = refl
+
+-- a load that misses the cache keeps the port; the next one hits
+load_misses_and_the_next_one_hits : steps_of (machine) (0x800012b7 ∷ 0x0002a383 ∷ 0x0042a403 ∷ ebreak ∷ []) 18 ≡
+    executed 0x80000000 0x800012b7 (Some (5, 2147487744)) 0 1 2 1 3 4 ∷
+    executed 0x80000004 0x0002a383 (Some (7, 0)) 0 1 4 11 15 16 ∷
+    executed 0x80000008 0x0042a403 (Some (8, 0)) 1 2 15 1 16 17 ∷
+    breakpoint 0x8000000c 17 ∷
+    []
+unfolding instruction_of table
+load_misses_and_the_next_one_hits = refl
+
+-- a load takes its bytes from the store before it
+store_is_forwarded_to_a_load : steps_of (machine) (0x800012b7 ∷ 0x00700313 ∷ 0x0062a023 ∷ 0x0002a383 ∷ ebreak ∷ []) 9 ≡
+    executed 0x80000000 0x800012b7 (Some (5, 2147487744)) 0 1 2 1 3 4 ∷
+    executed 0x80000004 0x00700313 (Some (6, 7)) 0 1 2 1 3 4 ∷
+    executed 0x80000008 0x0062a023 None 1 2 4 1 5 6 ∷
+    executed 0x8000000c 0x0002a383 (Some (7, 7)) 1 2 6 1 7 8 ∷
+    breakpoint 0x80000010 8 ∷
+    []
+unfolding instruction_of table
+store_is_forwarded_to_a_load = refl
+
+-- beq x0,x0 by 8 is predicted not to be taken
+wrong_prediction_is_mended_at_retirement : steps_of (machine) (0x00000463 ∷ 0 ∷ ebreak ∷ []) 7 ≡
+    executed 0x80000000 0x00000463 None 0 1 2 1 3 4 ∷
+    breakpoint 0x80000008 6 ∷
+    []
+unfolding instruction_of table
+wrong_prediction_is_mended_at_retirement = refl
+
+-- the same with early recovery
+wrong_prediction_is_mended_at_broadcast : steps_of (record machine { recovery = Early }) (0x00000463 ∷ 0 ∷ ebreak ∷ []) 6 ≡
+    executed 0x80000000 0x00000463 None 0 1 2 1 3 4 ∷
+    breakpoint 0x80000008 5 ∷
+    []
+unfolding instruction_of table
+wrong_prediction_is_mended_at_broadcast = refl
+
+-- no program: an illegal word, and then access faults at 0
+empty_memory_traps_again_and_again : steps_of (machine) ([]) 10 ≡
+    Trap 0x80000000 IllegalInstruction 0 2 ∷
+    Trap 0 InstructionAccessFault 0 4 ∷
+    Trap 0 InstructionAccessFault 0 6 ∷
+    Trap 0 InstructionAccessFault 0 8 ∷
+    []
+unfolding instruction_of table
+empty_memory_traps_again_and_again = refl
+
+-- a reorder buffer with one entry
+reorder_buffer_of_one : steps_of (record machine { rob = 1 }) (0x00100093 ∷ ebreak ∷ []) 6 ≡
+    executed 0x80000000 0x00100093 (Some (1, 1)) 0 1 2 1 3 4 ∷
+    breakpoint 0x80000004 5 ∷
+    []
+unfolding instruction_of table
+reorder_buffer_of_one = refl
+
+-- csrrs x5,mip,x0 behind a division
+serialising_instruction_waits_for_the_head : steps_of (machine) (0x02004333 ∷ 0x344022f3 ∷ ebreak ∷ []) 22 ≡
+    executed 0x80000000 0x02004333 (Some (6, 4294967295)) 0 1 2 16 18 19 ∷
+    serialised 0x80000004 0x344022f3 (Some (5, 0)) 0 1 19 ∷
+    breakpoint 0x80000008 21 ∷
+    []
+unfolding instruction_of table
+serialising_instruction_waits_for_the_head = refl
+
+-- a wrong prediction behind a division is mended when the branch retires
+branch_beside_a_division : steps_of (machine) (0x020042b3 ∷ 0x00000463 ∷ 0 ∷ ebreak ∷ []) 22 ≡
+    executed 0x80000000 0x020042b3 (Some (5, 4294967295)) 0 1 2 16 18 19 ∷
+    executed 0x80000004 0x00000463 None 0 1 2 1 3 19 ∷
+    breakpoint 0x8000000c 21 ∷
+    []
+unfolding instruction_of table
+branch_beside_a_division = refl
+
+-- or, with early recovery, when its result is broadcast
+branch_beside_a_division_mended_early : steps_of (record machine { recovery = Early }) (0x020042b3 ∷ 0x00000463 ∷ 0 ∷ ebreak ∷ []) 21 ≡
+    executed 0x80000000 0x020042b3 (Some (5, 4294967295)) 0 1 2 16 18 19 ∷
+    executed 0x80000004 0x00000463 None 0 1 2 1 3 19 ∷
+    breakpoint 0x8000000c 20 ∷
+    []
+unfolding instruction_of table
+branch_beside_a_division_mended_early = refl

@@ -1,0 +1,105 @@
+-- What the instructions in flight have done so far, oldest first.
+use Rattle.std.specs.Prelude.{ℕ, ◌+◌, ◌-◌, ◌==◌, Bool, true, false, if◌then◌else◌, List, [], ◌∷◌, Option, Some, None, is_some}
+use Rattle.rv_isa.specs.Operands.{target_of}
+use Rattle.rv_isa.specs.declared.broadcast.Message.{Message}
+use Rattle.rv_isa.specs.declared.broadcast.StoreAccess.{StoreAccess}
+use Rattle.rv_isa.specs.declared.instructions.Instr.{Instr}
+use Rattle.rv_isa.specs.declared.instructions.Instr.TheVariants.{FenceI, Csr, Mret, Store, Jal, Jalr, Branch}
+use Rattle.rv_arch.specs.State.{with_register}
+use Rattle.rv_memory.specs.Bytes.{overwritten}
+use Rattle.rv_rob.specs.declared.entry.Entry.{Entry}
+use Rattle.rv_rob.specs.declared.entry.Stage.{Stage}
+use Rattle.rv_rob.specs.declared.entry.Stage.TheVariants.{Waiting, Running, Finished}
+use Rattle.rv_stores.specs.declared.store.Store.{Store as QueuedStore}
+use Rattle.rv_stores.specs.declared.store.StoreState.{StoreState}
+use Rattle.rv_stores.specs.declared.store.StoreState.TheVariants as store
+use Rattle.rv_stores.specs.declared.store.StorePhase.TheVariants.{Speculative}
+
+-- an instruction that waits to be the oldest, and beside which nothing younger is in flight
+abbrev pub is_serialising : Option Instr → Bool
+is_serialising (Some FenceI) = true
+is_serialising (Some (Csr op rd csr source)) = true
+is_serialising (Some Mret) = true
+is_serialising _ = false
+
+abbrev pub is_store : Option Instr → Bool
+is_store (Some (Store width rs1 rs2 offset)) = true
+is_store _ = false
+
+-- an instruction whose next pc its execution tells
+abbrev pub is_branch_or_jump : Option Instr → Bool
+is_branch_or_jump (Some (Jal rd offset)) = true
+is_branch_or_jump (Some (Jalr rd rs1 offset)) = true
+is_branch_or_jump (Some (Branch condition rs1 rs2 offset)) = true
+is_branch_or_jump _ = false
+
+abbrev pub is_waiting : Stage → Bool
+is_waiting Waiting = true
+is_waiting (Running issue message) = false
+is_waiting (Finished issue cycle message) = false
+
+-- what was broadcast, or was known at dispatch
+abbrev pub broadcast_of : Stage → Option Message
+broadcast_of Waiting = None
+broadcast_of (Running issue message) = None
+broadcast_of (Finished issue cycle message) = Some message
+
+abbrev pub target_of_word : Option Instr → Option ℕ
+target_of_word None = None
+target_of_word (Some instruction) = target_of instruction
+
+-- the instruction writes the register
+abbrev pub is_target : ℕ → Option ℕ → Bool
+is_target register None = false
+is_target register (Some target) = target == register
+
+abbrev pub writes : Entry → ℕ → Bool
+writes e register = is_target register (target_of_word e.instruction)
+
+-- a register is known behind some instructions where the youngest of them that writes it was broadcast
+abbrev pub is_known_from : Bool → List Entry → ℕ → Bool
+is_known_from known [] register = known
+is_known_from known (e ∷ es) register =
+    is_known_from (if writes e register then is_some (broadcast_of e.stage) else known) es register
+
+abbrev pub is_known : List Entry → ℕ → Bool
+is_known older register = is_known_from true older register
+
+-- the registers once a result was written to its target
+abbrev pub with_value : List ℕ → Option ℕ → Option Message → List ℕ
+with_value registers None message = registers
+with_value registers (Some target) None = registers
+with_value registers (Some target) (Some message) = with_register registers target message.value
+
+-- the registers behind some instructions, as far as their results were broadcast
+abbrev pub registers_behind : List ℕ → List Entry → List ℕ
+registers_behind registers [] = registers
+registers_behind registers (e ∷ es) =
+    registers_behind (with_value registers (target_of_word e.instruction) (broadcast_of e.stage)) es
+
+-- what is known of a store: a faulting one covers no byte
+abbrev pub store_of_message : Option StoreAccess → StoreState
+store_of_message None = store.Faulted
+store_of_message (Some access) = store.Filled access Speculative
+
+abbrev pub store_of_broadcast : Option Message → StoreState
+store_of_broadcast None = store.Waiting
+store_of_broadcast (Some message) = store_of_message message.store
+
+-- the stores among some instructions, the first of which has a sequence number
+abbrev pub stores_of : ℕ → List Entry → List QueuedStore
+stores_of seq [] = []
+stores_of seq (e ∷ es) =
+    if is_store e.instruction
+    then record { seq = seq; state = store_of_broadcast (broadcast_of e.stage) } ∷ stores_of (seq + 1) es
+    else stores_of (seq + 1) es
+
+abbrev pub with_store : ℕ → StoreState → List ℕ → List ℕ
+with_store base store.Waiting bytes = bytes
+with_store base store.Faulted bytes = bytes
+with_store base (store.Filled access phase) bytes = overwritten bytes (access.address - base) access.bytes
+
+-- the bytes of memory from address base on, once stores have written theirs, the oldest first
+abbrev pub memory_behind : ℕ → List QueuedStore → List ℕ → List ℕ
+memory_behind base [] bytes = bytes
+memory_behind base (s ∷ ss) bytes = memory_behind base ss (with_store base s.state bytes)

@@ -1,0 +1,17 @@
+pub mod Step
+pub mod Report
+pub mod Repeated
+pub mod Hardware
+pub mod InFlight
+pub mod Seen
+pub mod Result
+pub mod Squash
+pub mod Retirement
+pub mod Commit
+pub mod Drain
+pub mod Issue
+pub mod Broadcast
+pub mod Dispatch
+pub mod Cycle
+pub mod Reset
+pub mod Run

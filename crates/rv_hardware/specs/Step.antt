@@ -1,0 +1,22 @@
+-- What a reported step shows.
+use Rattle.std.specs.Prelude.{ℕ, Bool, true, false}
+use Rattle.rv_isa.specs.declared.causes.Cause.{Cause}
+use Rattle.rv_isa.specs.declared.causes.Cause.TheVariants as cause
+use Rattle.rv_hardware.specs.declared.step.Step.{Step}
+use Rattle.rv_hardware.specs.declared.step.Step.TheVariants.{Retired, Trap, Interrupt}
+
+-- the cycle of a step: that of its retirement, trap or interrupt
+abbrev pub stamp_of : Step → ℕ
+stamp_of (Retired row) = row.retired
+stamp_of (Trap pc cause value cycle) = cycle
+stamp_of (Interrupt pc cause cycle) = cycle
+
+abbrev pub is_breakpoint_cause : Cause → Bool
+is_breakpoint_cause cause.Breakpoint = true
+is_breakpoint_cause _ = false
+
+-- the step is a trap with cause 3
+abbrev pub is_breakpoint : Step → Bool
+is_breakpoint (Retired row) = false
+is_breakpoint (Trap pc cause value cycle) = is_breakpoint_cause cause
+is_breakpoint (Interrupt pc cause cycle) = false

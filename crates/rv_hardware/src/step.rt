@@ -1,0 +1,91 @@
+ghost use Rattle.std.specs.Prelude.{◌≡◌};
+
+use rv_isa::{Cause, Reg};
+
+/// The execution of a retired instruction.
+#[derive(Clone, Copy, Debug, PartialEq, Eq)]
+pub struct Execution {
+    /// The cycle in which it left its reservation station.
+    pub issued: u64,
+    /// The cycles from there until its result could be broadcast.
+    pub cost: u32,
+    /// The cycle of its broadcast.
+    pub broadcast: u64,
+}
+
+/// An instruction that retired, and when it passed through the hardware.
+#[derive(Clone, Copy, Debug, PartialEq, Eq)]
+pub struct Row {
+    /// Its address.
+    pub pc: u32,
+    /// The word that was fetched there.
+    pub word: u32,
+    /// The register that it wrote, never x0, with the value.
+    pub written: Option<(Reg, u32)>,
+    /// The cycle of its fetch.
+    pub fetched: u64,
+    /// The cycle of its dispatch.
+    pub dispatched: u64,
+    /// Its execution, or None where it uses no unit.
+    pub execution: Option<Execution>,
+    /// The cycle of its retirement.
+    pub retired: u64,
+}
+
+/// What the hardware reports of an instruction or an interrupt, in program order.
+#[derive(Clone, Copy, Debug, PartialEq, Eq)]
+pub enum Step {
+    /// An instruction retired.
+    Retired(Row),
+    /// The instruction at `pc`, or its fetch, trapped; `value` is the word in `mtval`.
+    Trap {
+        pc: u32,
+        cause: Cause,
+        value: u32,
+        cycle: u64,
+    },
+    /// An interrupt was taken before the instruction at `pc`; `cause` is the word in `mcause`.
+    Interrupt {
+        pc: u32,
+        cause: u32,
+        cycle: u64,
+    },
+}
+
+impl Step {
+    ghost use Rattle.rv_hardware.specs.Step.{stamp_of, is_breakpoint};
+
+    /// The cycle of the step: that of its retirement, trap or interrupt.
+    pub fn stamp(&self) -> u64
+        ensures { result ≡ stamp_of self.now }
+    {
+        match *self {
+            Step::Retired(row) => row.retired,
+            Step::Trap { cycle, .. } | Step::Interrupt { cycle, .. } => cycle,
+        }
+    }
+
+    /// Whether the step is a trap with cause 3.
+    pub fn is_breakpoint(&self) -> bool
+        ensures { result ≡ is_breakpoint self.now }
+    {
+        matches!(
+            self,
+            Step::Trap {
+                cause: Cause::Breakpoint,
+                ..
+            }
+        )
+    }
+}
+
+/// An interrupt at pc 0 in cycle 0, which fills places that are not read.
+impl Default for Step {
+    fn default() -> Self {
+        Step::Interrupt {
+            pc: 0,
+            cause: 0,
+            cycle: 0,
+        }
+    }
+}
