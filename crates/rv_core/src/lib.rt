@@ -1,0 +1,22 @@
+//! The core: a speculative, out-of-order machine by Tomasulo's algorithm with a reorder buffer, cycle by cycle. It joins
+//! the parts (reorder buffer, reservation stations, common data bus, rename map, store queue, units, cache, front) into
+//! the hardware that `rv_hardware` defines.
+#![tactic(auto)]
+
+mod broadcast;
+mod commit;
+mod cycles;
+mod dispatch;
+mod drain;
+mod errors;
+mod execute;
+mod issue;
+mod load;
+mod machine;
+mod outcome;
+mod parts;
+
+pub use cycles::run;
+pub use errors::{NewError, OutOfMemory};
+pub use machine::Core;
+pub use outcome::{CycleReport, Outcome};

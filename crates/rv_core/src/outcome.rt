@@ -1,0 +1,52 @@
+use arrayvec::ArrayVec;
+use rv_arch::Stop;
+use rv_hardware::{Stall, StallCounts, Step};
+
+/// What a cycle did.
+#[derive(Debug, Drop)]
+pub struct CycleReport {
+    /// The steps in program order.
+    pub steps: ArrayVec<Step, 8>,
+    /// How many instructions were dispatched.
+    pub dispatched: u32,
+    /// What the first instruction that waited, waited for, where none was dispatched.
+    pub stall: Option<Stall>,
+    /// Why a run stops with this cycle, if it does.
+    pub stop: Option<Stop>,
+}
+
+/// What a cycle did beside its steps.
+#[derive(Clone, Copy, Debug, PartialEq, Eq)]
+pub(crate) struct CycleEnd {
+    pub(crate) dispatched: u32,
+    pub(crate) stall: Option<Stall>,
+    pub(crate) stop: Option<Stop>,
+}
+
+/// What a run did.
+#[derive(Debug, Drop)]
+pub struct Outcome {
+    /// The steps in program order.
+    pub steps: Vec<Step>,
+    /// The cycles that dispatched nothing, by the reason.
+    pub stalls: StallCounts,
+    /// The cycles that dispatched something.
+    pub busy: u64,
+    /// The cycles done.
+    pub cycles: u64,
+    /// The greatest number of consecutive cycles without a step.
+    pub longest_gap: u64,
+    /// Why the run ended.
+    pub stop: Stop,
+}
+
+/// The counts of a run so far.
+#[derive(Clone, Copy, Debug, Default, PartialEq, Eq)]
+pub(crate) struct Progress {
+    pub(crate) stalls: StallCounts,
+    pub(crate) busy: u64,
+    pub(crate) cycles: u64,
+    // The cycles since the last step, and the most that there were.
+    pub(crate) silent: u64,
+    pub(crate) longest_gap: u64,
+}
