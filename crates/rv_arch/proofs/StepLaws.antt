@@ -54,15 +54,6 @@ effect_in_ram layout s lines word Ebreak written next retires = tt
 effect_in_ram layout s lines word Mret written next retires = tt
 effect_in_ram layout s lines word Wfi written next retires = tt
 
--- what doesn't retire changes no register and no byte
-pub only_retired_changes : {layout : Layout} {s t : State} {lines : Lines} {o : RefStep} → Step layout s lines o t → is_retired o ≡ false → (t.registers ≡ s.registers) × (t.ram ≡ s.ram)
-only_retired_changes (interrupted code due) other = (refl, refl)
-only_retired_changes (unfetched due out) other = (refl, refl)
-only_retired_changes (stale due inside marked) other = (refl, refl)
-only_retired_changes (illegal fetched none) other = (refl, refl)
-only_retired_changes (faulted fetched i decoded cause value faults) other = (refl, refl)
-only_retired_changes (retired fetched i decoded written next retires) other = absurd (cc)
-
 -- the word at pc is one instruction at most, or it is none
 pub record IsOneAtMost (layout : Layout) (s : State) (lines : Lines) : Type 0 where
   pub one : (i j : Instr) → IsFetched layout s lines → Decodes (word_at_pc layout s) i → Decodes (word_at_pc layout s) j → i ≡ j

@@ -1,5 +1,5 @@
 -- The rules of a step, for an outcome and a state that are known by equations.
-use Rattle.std.proofs.Common.{◌≡◌, ℕ, true, false, refl}
+use Rattle.std.proofs.Common.{◌≡◌, ℕ, true, false, refl, sym, subst}
 use Rattle.std.specs.Prelude.{Option}
 use Rattle.rv_decode.specs.Decodes.{Decodes, IsIllegal}
 use Rattle.rv_isa.specs.Cause.{code_of}
@@ -44,6 +44,9 @@ stale_keeps (illegal fetched none) found = cc
 stale_keeps (faulted fetched i decoded cause value faults) found = cc
 stale_keeps (retired fetched i decoded written next retires) found = cc
 
+pub stale_once : {layout : Layout} {s t : State} {lines : Lines} {o : RefStep} → Step layout s lines o t → is_stale o ≡ true → Step layout t lines o t
+stale_once {layout} {s} {t} {lines} {o} step found = subst (λ u. Step layout u lines o t) (sym (stale_keeps step found)) step
+
 pub stale_again : {layout : Layout} {s t : State} {lines : Lines} {o : RefStep} → Step layout s lines o t → is_stale o ≡ true → Step layout t lines (Stale t.pc) t
 stale_again (interrupted code due) found = cc
 stale_again (unfetched due out) found = cc
@@ -51,14 +54,6 @@ stale_again (stale due inside marked) found = stale due inside marked
 stale_again (illegal fetched none) found = cc
 stale_again (faulted fetched i decoded cause value faults) found = cc
 stale_again (retired fetched i decoded written next retires) found = cc
-
-pub stale_once : {layout : Layout} {s t : State} {lines : Lines} {o : RefStep} → Step layout s lines o t → is_stale o ≡ true → Step layout t lines o t
-stale_once (interrupted code due) found = cc
-stale_once (unfetched due out) found = cc
-stale_once (stale due inside marked) found = stale due inside marked
-stale_once (illegal fetched none) found = cc
-stale_once (faulted fetched i decoded cause value faults) found = cc
-stale_once (retired fetched i decoded written next retires) found = cc
 
 pub not_stale : (o : RefStep) → ((pc : ℕ) → o ≡ Stale pc → ⊥) → is_stale o ≡ false
 not_stale (Retired pc word written) other = refl

@@ -17,15 +17,9 @@ abbrev pub layout_code : Coded Layout
 layout_code =
     code_by (ℕ × (ℕ × ℕ)) (coded× coded_ℕ (coded× coded_ℕ coded_ℕ)) (λ l. (l.base, (l.size, l.rom_bytes))) (λ p. record { base = p.0; size = p.1.0; rom_bytes = p.1.1 }) (λ _. refl)
 
-abbrev pub stale_code : Coded (set.FinSet nat_cmp)
-stale_code = set.code coded_ℕ
-
-abbrev pub words_code : Coded (ℕ × (ℕ × (ℕ × (ℕ × ℕ))))
-words_code = coded× coded_ℕ (coded× coded_ℕ (coded× coded_ℕ (coded× coded_ℕ coded_ℕ)))
-
 abbrev pub kept_code : Coded Kept
 kept_code =
-    code_by (Bool × (Bool × (Lines × (ℕ × (ℕ × (ℕ × (ℕ × ℕ))))))) (coded× coded_bool (coded× coded_bool (coded× lines_code words_code)))
+    code_by (Bool × (Bool × (Lines × (ℕ × (ℕ × (ℕ × (ℕ × ℕ))))))) (coded× coded_bool (coded× coded_bool (coded× lines_code (coded× coded_ℕ (coded× coded_ℕ (coded× coded_ℕ (coded× coded_ℕ coded_ℕ)))))))
     (λ k. (k.mstatus_mie, (k.mstatus_mpie, (k.mie, (k.mtvec, (k.mscratch, (k.mepc, (k.mcause, k.mtval))))))))
     (λ p. record {
       mstatus_mie = p.0;
@@ -41,7 +35,7 @@ kept_code =
 
 abbrev pub state_code : Coded State
 state_code =
-    code_by (ℕ × (List ℕ × (Kept × (List ℕ × set.FinSet nat_cmp)))) (coded× coded_ℕ (coded× (coded_list coded_ℕ) (coded× kept_code (coded× (coded_list coded_ℕ) stale_code))))
+    code_by (ℕ × (List ℕ × (Kept × (List ℕ × set.FinSet nat_cmp)))) (coded× coded_ℕ (coded× (coded_list coded_ℕ) (coded× kept_code (coded× (coded_list coded_ℕ) (set.code coded_ℕ)))))
     (λ s. (s.pc, (s.registers, (s.csrs, (s.ram, s.stale)))))
     (λ p. record { pc = p.0; registers = p.1.0; csrs = p.1.1.0; ram = p.1.1.1.0; stale = p.1.1.1.1 })
     (λ _. refl)

@@ -71,11 +71,7 @@ impl Csrs {
         Csrs {
             mstatus_mie: false,
             mstatus_mpie: false,
-            mie: Lines {
-                software: false,
-                timer: false,
-                external: false,
-            },
+            mie: Lines::default(),
             mtvec: 0,
             mscratch: 0,
             mepc: 0,

@@ -1,4 +1,4 @@
-ghost use Rattle.std.specs.Prelude.{◌≡◌, ◌%◌, ◌*◌, ◌^◌, ◌<◌, IfOk};
+ghost use Rattle.std.specs.Prelude.{◌≡◌, ◌%◌, ◌*◌, ◌^◌, ◌<◌, IfOk, Err};
 ghost use Rattle.rv_isa.specs.Operation.{bytes_of, width_of, is_sign_extended};
 ghost use Rattle.rv_isa.specs.Word.{modulo_word, sum, pc_plus_4};
 ghost use Rattle.rv_arch.specs.Csr.{access};
@@ -28,6 +28,13 @@ pub fn extended(form: LoadForm, number: u32) -> u32
     }
 }
 
+/// What an instruction that faults does.
+fn fault(cause: Cause, value: u32) -> Performed
+    ensures { result ≡ Err (record { cause = cause; value = value }) }
+{
+    Err(Fault { cause, value })
+}
+
 impl Reference {
     /// Writes a register and goes on behind the instruction.
     fn compute(&mut self, rd: Reg, value: u32) -> Performed
@@ -53,10 +60,7 @@ impl Reference {
         ensures { IsPerformed (jumps self.old.state rd target) result self.old self.new }
     {
         if target % 4 != 0 {
-            return Err(Fault {
-                cause: Cause::InstructionAddressMisaligned,
-                value: target,
-            });
+            return fault(Cause::InstructionAddressMisaligned, target);
         }
         let link = self.pc_plus_4();
         let written = self.write(rd, link);
@@ -74,10 +78,7 @@ impl Reference {
             self.go_to(target);
             Ok(None)
         } else {
-            Err(Fault {
-                cause: Cause::InstructionAddressMisaligned,
-                value: target,
-            })
+            fault(Cause::InstructionAddressMisaligned, target)
         }
     }
 
@@ -87,16 +88,10 @@ impl Reference {
     {
         let width = form.width();
         if address % width.bytes() != 0 {
-            return Err(Fault {
-                cause: Cause::LoadAddressMisaligned,
-                value: address,
-            });
+            return fault(Cause::LoadAddressMisaligned, address);
         }
         if !self.is_in_ram(address, width.bytes()) {
-            return Err(Fault {
-                cause: Cause::LoadAccessFault,
-                value: address,
-            });
+            return fault(Cause::LoadAccessFault, address);
         }
         let number = self.number(address, width);
         self.compute(rd, extended(form, number))
@@ -107,16 +102,10 @@ impl Reference {
         ensures { IsPerformed (stores self.old.layout self.old.state width address word) result self.old self.new }
     {
         if address % width.bytes() != 0 {
-            return Err(Fault {
-                cause: Cause::StoreAddressMisaligned,
-                value: address,
-            });
+            return fault(Cause::StoreAddressMisaligned, address);
         }
         if !self.is_writable(address, width.bytes()) {
-            return Err(Fault {
-                cause: Cause::StoreAccessFault,
-                value: address,
-            });
+            return fault(Cause::StoreAccessFault, address);
         }
         self.store_bytes(address, width, word);
         self.pass()
@@ -144,10 +133,7 @@ impl Reference {
     {
         match self.access(op, csr, operand, lines) {
             Ok(old) => self.compute(rd, old),
-            Err(_) => Err(Fault {
-                cause: Cause::IllegalInstruction,
-                value: word,
-            }),
+            Err(_) => fault(Cause::IllegalInstruction, word),
         }
     }
 
@@ -239,14 +225,8 @@ impl Reference {
                 let operand = self.operand(source);
                 self.access_csr(word, op, rd, csr, operand, lines)
             }
-            Instr::Ecall => Err(Fault {
-                cause: Cause::EnvironmentCall,
-                value: 0,
-            }),
-            Instr::Ebreak => Err(Fault {
-                cause: Cause::Breakpoint,
-                value: 0,
-            }),
+            Instr::Ecall => fault(Cause::EnvironmentCall, 0),
+            Instr::Ebreak => fault(Cause::Breakpoint, 0),
             Instr::Mret => self.return_to_trapped(),
         }
     }

@@ -1,13 +1,11 @@
 -- What is appended, one part after another.
 use Rattle.std.proofs.Common.{◌≡◌, ◌∙◌, ◌+◌, ◌-◌, ℕ, suc, zero, List, [], ◌∷◌, ◌++◌, map, take, length, Bool, true, false, cond, Option, Result, Ok, Err, sym, refl, ap, arith, append_assoc, drop, if◌then◌else◌, ◌==◌}
 use Rattle.std.specs.Prelude.{replicate, ℤ}
-use Rattle.std.proofs.lemmas.Bool.{false_from_ne_true}
-use Rattle.std.proofs.lemmas.Bool.Decides.{Decides-eqb}
-use Rattle.std.proofs.lemmas.List.{take_all, drop-drop}
+use Rattle.std.proofs.lemmas.List.{append-nil, take_all, drop-drop}
 use Rattle.rv_asm.specs.ReadOperand.{operand_of}
 use Rattle.rv_asm.specs.declared.operand.Operand as read
 use Rattle.std.specs.Int.{to_le_bytes, w32}
-use Rattle.rv_asm.specs.Emitted.{Appends, Emits}
+use Rattle.rv_asm.specs.Emitted.{Appends}
 use Rattle.rv_asm.specs.Meaning.{Cell, Byte', Word', Spells, nothing, byte, word, IsWordOf, bytes_at, data_of, data_value, fits_width}
 use Rattle.rv_asm.specs.Operand.{Operand}
 use Rattle.rv_asm.specs.Statement.{and_then}
@@ -15,10 +13,6 @@ use Rattle.rv_asm.specs.declared.fault.AsmFault.{AsmFault}
 use Rattle.rv_asm.specs.declared.fault.AsmFault.TheVariants.{OutOfRange}
 use Rattle.rv_isa.specs.declared.operations.Width.{Width}
 use Rattle.rv_isa.specs.declared.instructions.Instr.{Instr}
-
-pub append_nil : {A : Type 0} (xs : List A) → xs ++ [] ≡ xs
-append_nil [] = refl
-append_nil (x ∷ xs) = ap (λ l. x ∷ l) (append_nil xs)
 
 pub spells_append : {p q : List Cell} {x y : List ℕ} → Spells p x → Spells q y → Spells (p ++ q) (x ++ y)
 spells_append nothing s = s
@@ -29,10 +23,10 @@ pub appends_more : {p q : List Cell} {a b c : List ℕ} → Appends p a b → Ap
 appends_more {a = a} r s = record { bytes = r.bytes ++ s.bytes; spells = spells_append r.spells s.spells; appended = s.appended ∙ ap (λ l. l ++ s.bytes) r.appended ∙ append_assoc a r.bytes s.bytes }
 
 pub appends_nothing : (a : List ℕ) → Appends [] a a
-appends_nothing a = record { bytes = []; spells = nothing; appended = sym (append_nil a) }
+appends_nothing a = record { bytes = []; spells = nothing; appended = sym (append-nil a) }
 
 pub appends_word : (i : Instr) (w : ℕ) (old new : List ℕ) → IsWordOf i w → new ≡ old ++ to_le_bytes w32 w → Appends (Word' i ∷ []) old new
-appends_word i w old new is e = record { bytes = to_le_bytes w32 w ++ []; spells = word is nothing; appended = e ∙ ap (λ l. old ++ l) (sym (append_nil (to_le_bytes w32 w))) }
+appends_word i w old new is e = record { bytes = to_le_bytes w32 w ++ []; spells = word is nothing; appended = e ∙ ap (λ l. old ++ l) (sym (append-nil (to_le_bytes w32 w))) }
 
 spells_bytes : (bytes : List ℕ) → Spells (map Byte' bytes) bytes
 spells_bytes [] = nothing
@@ -82,30 +76,9 @@ module _ (value : List ℕ → Option ℤ) (width : Width) (all rest behind : Li
         ∙ ap (λ n. and_then (data_of value width behind) (λ others. Ok ((r.parts ++ bytes_at width n) ++ others))) (sym number_is);
   }
 
-  pub emitted_bad : fits_width width number ≡ false → data_of value width all ≡ Err OutOfRange
-  emitted_bad misfits = r.so_far ∙ ap (λ l. and_then (data_of value width l) (λ others. Ok (r.parts ++ others))) rest_is
-      ∙ ap (λ b. and_then (cond b (and_then (data_of value width behind) (λ others. Ok (bytes_at width (data_value value o) ++ others))) (Err OutOfRange)) (λ others. Ok (r.parts ++ others))) (ap (fits_width width) (sym number_is) ∙ misfits)
-
-pub emitted_all : (value : List ℕ → Option ℤ) (width : Width) (all rest : List Operand) (old now : List ℕ) → EmittedSome value width all rest old now → rest ≡ [] → Emits (data_of value width all) old now
-emitted_all value width all rest old now r none = record {
-  parts = r.parts;
-  means = r.so_far ∙ ap (λ l. and_then (data_of value width l) (λ others. Ok (r.parts ++ others))) none ∙ ap Ok (append_nil r.parts);
-  appends = r.appends;
-}
-
 -- what is left of operands begins with the next one
 pub rest_at : (ops : List read.Operand) (i : ℕ) (o : read.Operand) (others : List read.Operand) → drop i ops ≡ o ∷ others → map operand_of (drop i ops) ≡ operand_of o ∷ map operand_of (drop (i + 1) ops)
 rest_at ops i o others e = ap (map operand_of) e ∙ ap (λ l. operand_of o ∷ map operand_of l) (ap (drop 1) (sym e) ∙ drop-drop 1 i ops)
-
-pub nothing_left : (ops rest : List read.Operand) (i : ℕ) → rest ≡ drop i ops → length rest ≡ 0 → map operand_of (drop i ops) ≡ []
-nothing_left ops rest i rest_is none = ap (map operand_of) (sym rest_is ∙ no_items rest none)
-  where
-    no_items : (l : List read.Operand) → length l ≡ 0 → l ≡ []
-    no_items [] e = refl
-    no_items (x ∷ xs) e = absurd (omega (arith, e))
-
-pub nonzero : (n : ℕ) → (n ≡ 0 → ⊥) → (n == 0) ≡ false
-nonzero n h = false_from_ne_true (n == 0) (λ e. h ((Decides-eqb n 0).0 e))
 
 pub joined_spells : (text_parts data_parts : List Cell) (count wanted : ℕ) (old middle more new : List ℕ) (empty : Bool) → empty ≡ false → count ≡ wanted → Spells text_parts old → Spells data_parts more → Appends (replicate count (Byte' 0)) old middle → new ≡ middle ++ more → Spells (text_parts ++ (if empty then [] else (replicate wanted (Byte' 0) ++ data_parts))) new
 joined_spells text_parts data_parts count wanted old middle more new empty is_false same t d r e =

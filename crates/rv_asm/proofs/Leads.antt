@@ -5,11 +5,11 @@ use Rattle.rv_asm.proofs.Lines.{lines_from}
 use Rattle.rv_asm.proofs.OnlyLi.{is_usual, usual_reading}
 use Rattle.rv_asm.proofs.SameSize.{same_size}
 use Rattle.rv_asm.proofs.SectionsSoFar.{clean_at}
-use Rattle.rv_asm.specs.Earliest.{earliest}
+use Rattle.rv_asm.specs.Faults.{earliest}
 use Rattle.rv_asm.specs.FirstPass.{first_fault, body_fault, is_unmet, reading_fault, redefines, repeats, size_fault}
 use Rattle.rv_asm.specs.Layout.{Line, Unreadable, Readable, Layout, Meanings, advance, behind, extended, is_too_large, label_at, labelled, layout, line_of, lines_of, lines_onto, statement_in}
 use Rattle.rv_asm.specs.Operand.{Operand}
-use Rattle.rv_asm.specs.SecondPass.{reach_behind}
+use Rattle.rv_asm.specs.Layout.{reach_behind}
 use Rattle.rv_asm.specs.Statement.{Statement, and_then, needed, reading, statement}
 use Rattle.rv_asm.specs.Token.{Token, tokens_of}
 use Rattle.rv_asm.specs.declared.fault.AsmFault.{AsmFault}

@@ -2,7 +2,7 @@
 use Rattle.std.proofs.Common.{◌≡◌, ◌+◌, ◌∙◌, ◌==◌, ℕ, List, [], ◌∷◌, length, drop, Option, Some, None, MatchOption, sym, ap, suc, add-one}
 use Rattle.std.specs.List.{slice_split}
 use Rattle.std.specs.Option.{option_map, option_or}
-use Rattle.rv_asm.specs.Earliest.{earliest}
+use Rattle.rv_asm.specs.Faults.{earliest}
 use Rattle.rv_asm.specs.Layout.{Line, line_of, lines_of, lines_onto}
 use Rattle.rv_asm.specs.Token.{tokens_of}
 use Rattle.rv_asm.specs.declared.fault.AsmFault.{AsmFault}

@@ -1,6 +1,7 @@
 -- Of the mnemonics, li alone loads a number, and takes a register and a number or a symbol.
 use Rattle.std.proofs.Common.{◌≡◌, ◌∙◌, ℕ, List, [], ◌∷◌, Bool, true, false, ◌&&◌, if◌then◌else◌, Option, Some, None, Ok, ok_or, ap, sym, refl}
 use Rattle.std.specs.List.{list_all}
+use Rattle.std.proofs.lemmas.Bool.{and_parts}
 use Rattle.std.specs.Str.{bytes_eq}
 use Rattle.rv_asm.specs.Mnemonic.{form_named, mnemonics}
 use Rattle.rv_asm.specs.Names.{named}
@@ -20,10 +21,6 @@ is_usual (form.Instruction operation.LoadNumber place.Rd place.Known place.Empty
 is_usual (form.Instruction operation.LoadNumber first second third) = false
 is_usual other = true
 
-both : (a b : Bool) → (a && b) ≡ true → (a ≡ true) × (b ≡ true)
-both true b e = (refl, e)
-both false b e = absurd (cc)
-
 usual_of_two : (taken : Bool) (first found : Form) (other : Option Form) → is_usual first ≡ true → (other ≡ Some found → is_usual found ≡ true) → (if taken then Some first else other) ≡ Some found → is_usual found ≡ true
 usual_of_two true first found other here later is = let same : first ≡ found = cc in ap is_usual (sym same) ∙ here
 usual_of_two false first found other here later is = later is
@@ -31,7 +28,7 @@ usual_of_two false first found other here later is = later is
 usual_row : (rows : List (List ℕ × Form)) (name : List ℕ) (found : Form) → list_all (λ row. is_usual row.1) rows ≡ true → named rows name ≡ Some found → is_usual found ≡ true
 usual_row [] name found all is = absurd (cc)
 usual_row (row ∷ rows) name found all is =
-    let each = both (is_usual row.1) (list_all (λ row. is_usual row.1) rows) all in
+    let each = and_parts (is_usual row.1) (list_all (λ row. is_usual row.1) rows) all in
     usual_of_two (bytes_eq row.0 name) row.1 found (named rows name) each.0 (usual_row rows name found each.1) is
 
 usual_form : (name : List ℕ) (found : Form) → form_named name ≡ Some found → is_usual found ≡ true

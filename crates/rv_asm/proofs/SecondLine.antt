@@ -3,20 +3,17 @@ use Rattle.std.proofs.Common.{◌≡◌, ◌∙◌, ◌%◌, ◌==◌, ◌||◌,
 use Rattle.std.specs.List.{list_any}
 use Rattle.std.specs.Option.{option_or}
 use Rattle.std.specs.Result.{result_err}
-use Rattle.rv_asm.proofs.LineAdded.{readable}
+use Rattle.rv_asm.proofs.LineAdded.{line_is}
 use Rattle.rv_asm.specs.Faults.{constant_starts, is_start, second_fault, start_fault}
 use Rattle.rv_asm.specs.Layout.{Readable, Layout, Meanings, behind, labels_of, body_of, line_of, statement_in}
 use Rattle.rv_asm.specs.Meaning.{Cell, cells_in, start_address}
 use Rattle.rv_asm.specs.ReadToken.{token_of}
-use Rattle.rv_asm.specs.SecondPass.{reach_behind}
+use Rattle.rv_asm.specs.Layout.{reach_behind}
 use Rattle.rv_asm.specs.Token.{Token}
 use Rattle.rv_asm.specs.declared.fault.AsmFault.{AsmFault}
 use Rattle.rv_asm.specs.declared.fault.AsmFault.TheVariants.{BadToken, Misaligned}
 use Rattle.rv_asm.specs.declared.reach.Reach.{Reach}
 use Rattle.rv_asm.specs.declared.token.Token as read
-
-line_is : (o : Option (List Token)) (items slice body : List read.Token) → ok_or o BadToken ≡ Ok (map token_of items) → slice ≡ items → body_of (map token_of slice) ≡ map token_of body → line_of o ≡ Readable (labels_of (map token_of slice)) (map token_of body)
-line_is o items slice body tokens_are slice_is body_is = readable o (map token_of items) tokens_are ∙ ap (λ l. Readable (labels_of (map token_of l)) (body_of (map token_of l))) (sym slice_is) ∙ ap (Readable (labels_of (map token_of slice))) body_is
 
 -- a line whose statement has no fault has that of its start
 pub second_is : (base : ℕ) (whole : Layout) (reach : Reach) (o : Option (List Token)) (items slice body : List read.Token) (parts : List Cell) (label_starts constant : Bool) (found : Option AsmFault) → ok_or o BadToken ≡ Ok (map token_of items) → slice ≡ items → body_of (map token_of slice) ≡ map token_of body → cells_in base whole reach (statement_in (map token_of body)) ≡ Ok parts → label_starts ≡ list_any is_start (labels_of (map token_of slice)) → constant ≡ constant_starts (statement_in (map token_of body)) → found ≡ (if label_starts || constant then (if start_address base whole % 4 == 0 then None else Some Misaligned) else None) → second_fault base whole reach (line_of o) ≡ found

@@ -3,7 +3,7 @@ use Rattle.std.proofs.Common.{◌≡◌, ◌∙◌, ◌+◌, ℕ, List, [], ◌�
 use Rattle.std.specs.Option.{option_map, option_or}
 use Rattle.rv_asm.proofs.Emitted.{spells_append}
 use Rattle.rv_asm.proofs.Lines.{Finds, lines_from}
-use Rattle.rv_asm.specs.Earliest.{earliest}
+use Rattle.rv_asm.specs.Faults.{earliest}
 use Rattle.rv_asm.specs.Emitted.{Emits}
 use Rattle.rv_asm.specs.Layout.{Line, Layout, layout, line_of, lines_onto}
 use Rattle.rv_asm.specs.Meaning.{Cell, Spells, contents, contents_in, line_cells}

@@ -4,7 +4,7 @@ use Rattle.std.specs.Prelude.{◌==◌}
 use Rattle.std.specs.List.{take_while, prefix_len}
 use Rattle.std.specs.Option.{option_map}
 use Rattle.std.specs.Char.{is_ascii_digit}
-use Rattle.std.proofs.lemmas.Bool.Decides.{nat_tests}
+use Rattle.std.proofs.lemmas.Bool.{eq-eqb, ne_eqb, or_parts}
 use Rattle.std.proofs.lemmas.List.Folds.{length-prefix_len}
 use Rattle.rv_asm.specs.Token.{Token, Name, Number, Text, Lexeme, is_separator, begins_name, is_name_byte, first_lexeme, number_of, quoted_length, unescaped, mark_of}
 
@@ -50,20 +50,9 @@ module _ (separates comments names digits quotes : Bool) (line : List ℕ) where
   unfolding first_by
   by_mark not_gap not_comment not_name not_number not_string = rw (not_gap, not_comment, not_name, not_number, not_string) refl
 
-not_digit : (names digits : Bool) → (names || digits) ≡ false → (names ≡ false) × (digits ≡ false)
-not_digit false false is_false = (refl, refl)
-not_digit false true is_false = (refl, is_false)
-not_digit true digits is_false = absurd (cc)
-
 digit_by : (names digits : Bool) → (names || digits) ≡ true → names ≡ false → digits ≡ true
 digit_by false digits is_true no_name = is_true
 digit_by true digits is_true no_name = absurd cc
-
-test_true : (a b : ℕ) → a ≡ b → (a == b) ≡ true
-test_true a b same = grind (arith, nat_tests)
-
-test_false : (a b : ℕ) → (a ≡ b → ⊥) → (a == b) ≡ false
-test_false a b different = grind (arith, nat_tests)
 
 module _ (line : List ℕ) (some_bytes : 0 < length line) where
   first_lexeme-first_by : first_lexeme line ≡ first_by (is_separator (get_or line 0 0)) (get_or line 0 0 == 35) (begins_name (get_or line 0 0)) (is_ascii_digit (get_or line 0 0)) (get_or line 0 0 == 34) line
@@ -79,7 +68,7 @@ module _ (line : List ℕ) (some_bytes : 0 < length line) where
 
   module _ (no_separator : is_separator (get_or line 0 0) ≡ false) where
     pub first_lexeme-comment : get_or line 0 0 ≡ 35 → first_lexeme line ≡ Some (gap (length line))
-    first_lexeme-comment is = first_lexeme-first_by ∙ by_comment _ _ _ _ _ line no_separator (test_true _ _ is)
+    first_lexeme-comment is = first_lexeme-first_by ∙ by_comment _ _ _ _ _ line no_separator (eq-eqb _ _ is)
 
     module _ (no_comment : get_or line 0 0 ≡ 35 → ⊥) where
       module _ (size : ℕ) (size_is : size ≡ prefix_len is_name_byte line) where
@@ -91,19 +80,19 @@ module _ (line : List ℕ) (some_bytes : 0 < length line) where
 
         pub first_lexeme-name : begins_name (get_or line 0 0) ≡ true → first_lexeme line ≡ Some (lexeme (Name (take size line)) size)
         first_lexeme-name is =
-            first_lexeme-first_by ∙ by_name _ _ _ _ _ line no_separator (test_false _ _ no_comment) is ∙ (λ i. Some (lexeme (Name (word_is i)) (word_length_is i)))
+            first_lexeme-first_by ∙ by_name _ _ _ _ _ line no_separator (ne_eqb _ _ no_comment) is ∙ (λ i. Some (lexeme (Name (word_is i)) (word_length_is i)))
 
         pub first_lexeme-number : is_name_byte (get_or line 0 0) ≡ true → begins_name (get_or line 0 0) ≡ false → first_lexeme line ≡ option_map (λ n. lexeme (Number n) size) (number_of (take size line))
         first_lexeme-number in_word no_name =
-            first_lexeme-first_by ∙ by_number _ _ _ _ _ line no_separator (test_false _ _ no_comment) no_name (digit_by _ _ in_word no_name) ∙ (λ i. option_map (λ n. lexeme (Number n) (word_length_is i)) (number_of (word_is i)))
+            first_lexeme-first_by ∙ by_number _ _ _ _ _ line no_separator (ne_eqb _ _ no_comment) no_name (digit_by _ _ in_word no_name) ∙ (λ i. option_map (λ n. lexeme (Number n) (word_length_is i)) (number_of (word_is i)))
 
       module _ (no_word : is_name_byte (get_or line 0 0) ≡ false) where
         pub first_lexeme-string : get_or line 0 0 ≡ 34 → first_lexeme line ≡ option_map (λ n. lexeme (Text (unescaped (take n (drop 1 line)))) (n + 2)) (quoted_length (drop 1 line))
         first_lexeme-string is =
-            let neither = not_digit _ _ no_word in
-            first_lexeme-first_by ∙ by_string _ _ _ _ _ line no_separator (test_false _ _ no_comment) neither.0 neither.1 (test_true _ _ is)
+            let neither = or_parts _ _ no_word in
+            first_lexeme-first_by ∙ by_string _ _ _ _ _ line no_separator (ne_eqb _ _ no_comment) neither.0 neither.1 (eq-eqb _ _ is)
 
         pub first_lexeme-mark : (get_or line 0 0 ≡ 34 → ⊥) → first_lexeme line ≡ option_map (λ mark. lexeme mark 1) (mark_of (get_or line 0 0))
         first_lexeme-mark no_quote =
-            let neither = not_digit _ _ no_word in
-            first_lexeme-first_by ∙ by_mark _ _ _ _ _ line no_separator (test_false _ _ no_comment) neither.0 neither.1 (test_false _ _ no_quote)
+            let neither = or_parts _ _ no_word in
+            first_lexeme-first_by ∙ by_mark _ _ _ _ _ line no_separator (ne_eqb _ _ no_comment) neither.0 neither.1 (ne_eqb _ _ no_quote)

@@ -1,10 +1,9 @@
 -- The fault of a text.
-use Rattle.std.specs.Prelude.{ℕ, ◌%◌, ◌==◌, ◌||◌, List, Bool, false, if◌then◌else◌, Option, Some, None, Result, Ok, codes}
+use Rattle.std.specs.Prelude.{ℕ, ◌+◌, ◌%◌, ◌==◌, ◌||◌, List, [], ◌∷◌, length, Bool, false, if◌then◌else◌, Option, Some, None, Result, Ok, codes}
 use Rattle.std.specs.List.{list_any}
-use Rattle.std.specs.Option.{option_or}
+use Rattle.std.specs.Option.{option_map, option_or}
 use Rattle.std.specs.Result.{result_err}
 use Rattle.std.specs.Str.{bytes_eq}
-use Rattle.rv_asm.specs.Earliest.{earliest}
 use Rattle.rv_asm.specs.FirstPass.{first_fault}
 use Rattle.rv_asm.specs.Layout.{Line, Unreadable, Readable, Layout, layout, statement_in}
 use Rattle.rv_asm.specs.Meaning.{line_cells, start_address}
@@ -37,6 +36,11 @@ start_fault base whole line = if defines_start line then start_misalignment base
 -- the fault that the second pass finds in a line: of its statement, or of the start
 abbrev pub second_fault : ℕ → Layout → Reach → Line → Option AsmFault
 second_fault base whole reach line = option_or (result_err (line_cells base whole reach line)) (start_fault base whole line)
+
+-- the first line with a fault, in view of the lines before it: its fault, and its number from 1; the last line stands first
+abbrev pub earliest : (List Line → Line → Option AsmFault) → List Line → Option (AsmFault × ℕ)
+earliest fault [] = None
+earliest fault (line ∷ earlier) = option_or (earliest fault earlier) (option_map (λ found. (found, length earlier + 1)) (fault earlier line))
 
 -- the earliest fault of the first pass, and of the second
 abbrev pub first_fault_of : List Line → Option (AsmFault × ℕ)

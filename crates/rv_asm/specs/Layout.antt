@@ -186,3 +186,8 @@ extended layout (Readable labels body) = behind (labelled layout.meanings (label
 abbrev pub layout : List Line → Layout
 layout [] = record { reach = start; meanings = λ name. None }
 layout (line ∷ earlier) = extended (layout earlier) line
+
+-- how far the text has come behind a line, where the symbols have these meanings already
+abbrev pub reach_behind : Meanings → Reach → Line → Reach
+reach_behind meanings reach Unreadable = reach
+reach_behind meanings reach (Readable labels body) = (behind meanings reach (statement_in body)).reach

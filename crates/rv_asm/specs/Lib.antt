@@ -1,5 +1,4 @@
 pub mod Answer
-pub mod Earliest
 pub mod Emitted
 pub mod Faults
 pub mod FirstPass
@@ -8,11 +7,9 @@ pub mod Meaning
 pub mod Mnemonic
 pub mod Names
 pub mod Operand
-pub mod ReadLayout
 pub mod ReadOperand
 pub mod ReadStatement
 pub mod ReadToken
-pub mod SecondPass
 pub mod Statement
 pub mod Symbols
 pub mod Token

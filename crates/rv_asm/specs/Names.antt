@@ -10,91 +10,33 @@ named (row ∷ rows) name = if bytes_eq row.0 name then Some row.1 else named ro
 -- Unprivileged ISA 20191213, 25, table 25.1: the registers' names
 unfoldable pub register_names : List (List ℕ × ℕ)
 register_names =
-    (codes "x0", 0) ∷
-    (codes "x1", 1) ∷
-    (codes "x2", 2) ∷
-    (codes "x3", 3) ∷
-    (codes "x4", 4) ∷
-    (codes "x5", 5) ∷
-    (codes "x6", 6) ∷
-    (codes "x7", 7) ∷
-    (codes "x8", 8) ∷
-    (codes "x9", 9) ∷
-    (codes "x10", 10) ∷
-    (codes "x11", 11) ∷
-    (codes "x12", 12) ∷
-    (codes "x13", 13) ∷
-    (codes "x14", 14) ∷
-    (codes "x15", 15) ∷
-    (codes "x16", 16) ∷
-    (codes "x17", 17) ∷
-    (codes "x18", 18) ∷
-    (codes "x19", 19) ∷
-    (codes "x20", 20) ∷
-    (codes "x21", 21) ∷
-    (codes "x22", 22) ∷
-    (codes "x23", 23) ∷
-    (codes "x24", 24) ∷
-    (codes "x25", 25) ∷
-    (codes "x26", 26) ∷
-    (codes "x27", 27) ∷
-    (codes "x28", 28) ∷
-    (codes "x29", 29) ∷
-    (codes "x30", 30) ∷
-    (codes "x31", 31) ∷
-    (codes "zero", 0) ∷
-    (codes "ra", 1) ∷
-    (codes "sp", 2) ∷
-    (codes "gp", 3) ∷
-    (codes "tp", 4) ∷
-    (codes "t0", 5) ∷
-    (codes "t1", 6) ∷
-    (codes "t2", 7) ∷
-    (codes "s0", 8) ∷
-    (codes "fp", 8) ∷
-    (codes "s1", 9) ∷
-    (codes "a0", 10) ∷
-    (codes "a1", 11) ∷
-    (codes "a2", 12) ∷
-    (codes "a3", 13) ∷
-    (codes "a4", 14) ∷
-    (codes "a5", 15) ∷
-    (codes "a6", 16) ∷
-    (codes "a7", 17) ∷
-    (codes "s2", 18) ∷
-    (codes "s3", 19) ∷
-    (codes "s4", 20) ∷
-    (codes "s5", 21) ∷
-    (codes "s6", 22) ∷
-    (codes "s7", 23) ∷
-    (codes "s8", 24) ∷
-    (codes "s9", 25) ∷
-    (codes "s10", 26) ∷
-    (codes "s11", 27) ∷
-    (codes "t3", 28) ∷
-    (codes "t4", 29) ∷
-    (codes "t5", 30) ∷
-    (codes "t6", 31) ∷
+    (codes "x0", 0) ∷ (codes "x1", 1) ∷ (codes "x2", 2) ∷ (codes "x3", 3) ∷
+    (codes "x4", 4) ∷ (codes "x5", 5) ∷ (codes "x6", 6) ∷ (codes "x7", 7) ∷
+    (codes "x8", 8) ∷ (codes "x9", 9) ∷ (codes "x10", 10) ∷ (codes "x11", 11) ∷
+    (codes "x12", 12) ∷ (codes "x13", 13) ∷ (codes "x14", 14) ∷ (codes "x15", 15) ∷
+    (codes "x16", 16) ∷ (codes "x17", 17) ∷ (codes "x18", 18) ∷ (codes "x19", 19) ∷
+    (codes "x20", 20) ∷ (codes "x21", 21) ∷ (codes "x22", 22) ∷ (codes "x23", 23) ∷
+    (codes "x24", 24) ∷ (codes "x25", 25) ∷ (codes "x26", 26) ∷ (codes "x27", 27) ∷
+    (codes "x28", 28) ∷ (codes "x29", 29) ∷ (codes "x30", 30) ∷ (codes "x31", 31) ∷
+    (codes "zero", 0) ∷ (codes "ra", 1) ∷ (codes "sp", 2) ∷ (codes "gp", 3) ∷ (codes "tp", 4) ∷
+    (codes "t0", 5) ∷ (codes "t1", 6) ∷ (codes "t2", 7) ∷
+    (codes "s0", 8) ∷ (codes "fp", 8) ∷ (codes "s1", 9) ∷
+    (codes "a0", 10) ∷ (codes "a1", 11) ∷ (codes "a2", 12) ∷ (codes "a3", 13) ∷
+    (codes "a4", 14) ∷ (codes "a5", 15) ∷ (codes "a6", 16) ∷ (codes "a7", 17) ∷
+    (codes "s2", 18) ∷ (codes "s3", 19) ∷ (codes "s4", 20) ∷ (codes "s5", 21) ∷ (codes "s6", 22) ∷
+    (codes "s7", 23) ∷ (codes "s8", 24) ∷ (codes "s9", 25) ∷ (codes "s10", 26) ∷ (codes "s11", 27) ∷
+    (codes "t3", 28) ∷ (codes "t4", 29) ∷ (codes "t5", 30) ∷ (codes "t6", 31) ∷
     []
 
 -- Privileged Architecture 20211203, 2.2: the names of the CSRs that the machine has, and their addresses
 unfoldable pub csr_names : List (List ℕ × ℕ)
 csr_names =
-    (codes "mstatus", 0x300) ∷
-    (codes "misa", 0x301) ∷
-    (codes "mie", 0x304) ∷
-    (codes "mtvec", 0x305) ∷
-    (codes "mstatush", 0x310) ∷
-    (codes "mscratch", 0x340) ∷
-    (codes "mepc", 0x341) ∷
-    (codes "mcause", 0x342) ∷
-    (codes "mtval", 0x343) ∷
-    (codes "mip", 0x344) ∷
-    (codes "mvendorid", 0xf11) ∷
-    (codes "marchid", 0xf12) ∷
-    (codes "mimpid", 0xf13) ∷
-    (codes "mhartid", 0xf14) ∷
-    (codes "mconfigptr", 0xf15) ∷
+    (codes "mstatus", 0x300) ∷ (codes "misa", 0x301) ∷ (codes "mie", 0x304) ∷
+    (codes "mtvec", 0x305) ∷ (codes "mstatush", 0x310) ∷
+    (codes "mscratch", 0x340) ∷ (codes "mepc", 0x341) ∷ (codes "mcause", 0x342) ∷
+    (codes "mtval", 0x343) ∷ (codes "mip", 0x344) ∷
+    (codes "mvendorid", 0xf11) ∷ (codes "marchid", 0xf12) ∷ (codes "mimpid", 0xf13) ∷
+    (codes "mhartid", 0xf14) ∷ (codes "mconfigptr", 0xf15) ∷
     []
 
 abbrev pub register_named : List ℕ → Option ℕ

@@ -1,8 +1,10 @@
--- The symbols of the program.
+-- The symbols of the program, and its layout.
 use Rattle.std.specs.Prelude.{ℕ, ℤ, List, Option}
 use Rattle.std.specs.HashMap.{get_by}
 use Rattle.std.specs.Str.{bytes_eq}
+use Rattle.rv_asm.specs.Layout.{Layout}
 use Rattle.rv_asm.specs.Meaning.{value_of}
+use Rattle.rv_asm.specs.declared.layout.Layout as read
 use Rattle.rv_asm.specs.declared.symbols.Definition.{Definition}
 use Rattle.rv_asm.specs.declared.symbols.Symbols.{Symbols}
 use Rattle.rv_asm.specs.declared.values.SymbolValues.{SymbolValues}
@@ -14,3 +16,7 @@ found symbols name = get_by (λ key. bytes_eq name key.now) symbols.defined
 -- the value of a name
 abbrev pub value_in : SymbolValues → List ℕ → Option ℤ
 value_in values = value_of values.base values.text_size (found values.symbols.now)
+
+-- what the layout of the program stands for
+abbrev pub layout_of : read.Layout → Layout
+layout_of program = record { reach = program.reach; meanings = found program.symbols }

@@ -52,14 +52,8 @@ pub fn assemble(alloc: Global, text: &[u8], base: u32) -> Result<Image, AsmError
     ensures refused { RefusedAt (fault_of base (lines_of text.now)) result }
     ensures memory { IfErr result (λ error. error.fault ≡ AsmFault.Memory → error.line ≡ 0) }
 {
-    let program = match Layout::of_text(alloc, text) {
-        Ok(program) => program,
-        Err(error) => return Err(error),
-    };
-    let sections = match Sections::of_text(alloc, &program, base, text) {
-        Ok(sections) => sections,
-        Err(error) => return Err(error),
-    };
+    let program = Layout::of_text(alloc, text)?;
+    let sections = Sections::of_text(alloc, &program, base, text)?;
     let start = start_address(&program, base);
     match joined(program.reach.text_size, program.reach.data_size, sections) {
         Ok(bytes) => Ok(Image {

@@ -123,7 +123,7 @@ fn add_body<'a>(
 }
 
 impl<'a> Layout<'a> {
-    ghost use Rattle.rv_asm.specs.ReadLayout.{layout_of};
+    ghost use Rattle.rv_asm.specs.Symbols.{layout_of};
 
     /// The layout of no lines.
     pub fn new(alloc: Global) -> Self

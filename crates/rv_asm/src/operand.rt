@@ -97,10 +97,7 @@ fn operand_of_three<'a>(
 {
     match three_tokens(first, second, third) {
         Some(expression) => Some(Operand::Value(expression)),
-        None => match in_parentheses(first, second, third) {
-            Some(register) => Some(Operand::Indirect(None, register)),
-            None => None,
-        },
+        None => Some(Operand::Indirect(None, in_parentheses(first, second, third)?)),
     }
 }
 

@@ -8,10 +8,10 @@ ghost use Rattle.rv_asm.specs.Faults.{second_fault_of, start_misalignment};
 ghost use Rattle.rv_asm.specs.Layout.{behind, body_of, is_too_large, labels_of, layout, lines_of};
 ghost use Rattle.rv_asm.specs.Layout.{statement_in, line_in};
 ghost use Rattle.rv_asm.specs.Meaning.{Cell, Spells, cells_in, contents_in, line_cells, start_address, section_parts};
-ghost use Rattle.rv_asm.specs.ReadLayout.{layout_of};
+ghost use Rattle.rv_asm.specs.Symbols.{layout_of};
 ghost use Rattle.rv_asm.specs.ReadOperand.{operands_in};
 ghost use Rattle.rv_asm.specs.ReadToken.{tokens_in};
-ghost use Rattle.rv_asm.specs.SecondPass.{reach_behind};
+ghost use Rattle.rv_asm.specs.Layout.{reach_behind};
 ghost use Rattle.rv_asm.specs.Statement.{statement};
 ghost use Rattle.rv_asm.specs.Symbols.{found};
 
@@ -37,34 +37,20 @@ fn is_start(name: &[u8]) -> bool
     name == START
 }
 
-/// How many tokens the labels at the front of a line are.
-fn count_labels(tokens: &[Token<'_>]) -> usize
-    ensures in_range { result ≤ length tokens.now }
-    ensures body { body_of (tokens_in tokens.now) ≡ tokens_in (drop result tokens.now) }
+/// How many tokens the labels at the front of a line are, and whether one of them is `_start`.
+fn front_labels(tokens: &[Token<'_>]) -> (usize, bool)
+    ensures in_range { result.0 ≤ length tokens.now }
+    ensures body { body_of (tokens_in tokens.now) ≡ tokens_in (drop result.0 tokens.now) }
+    ensures starts { result.1 ≡ list_any is_start (labels_of (tokens_in tokens.now)) }
 {
     let mut count = 0;
-    loop {
-        let (_, rest) = tokens.split_at(count);
-        let Some(_name) = next_label(rest) else {
-            return count;
-        };
-        count += 2;
-    }
-}
-
-/// Whether one of the labels at the front of a line is `_start`.
-fn has_start(tokens: &[Token<'_>]) -> bool
-    ensures { result ≡ list_any is_start (labels_of (tokens_in tokens.now)) }
-{
-    let mut count = 0;
+    let mut starts = false;
     loop {
         let (_, rest) = tokens.split_at(count);
         let Some(name) = next_label(rest) else {
-            return false;
+            return (count, starts);
         };
-        if is_start(name) {
-            return true;
-        }
+        starts |= is_start(name);
         count += 2;
     }
 }
@@ -196,10 +182,9 @@ fn emit_line<'a>(
 {
     let tokens = read_tokens(alloc, line)?;
     let slice = tokens.as_slice();
-    let count = count_labels(slice);
+    let (count, label_starts) = front_labels(slice);
     let (_, body) = slice.split_at(count);
     let left = emit_body(alloc, layout, base, reach, body, out)?;
-    let label_starts = has_start(slice);
     match start_fault(layout, base, label_starts, left.starts) {
         None => Ok(left.reach),
         Some(fault) => Err(fault),

@@ -53,10 +53,7 @@ impl<'s, 'a> SymbolValues<'s, 'a> {
         match *value {
             Expression::Number(number) => Some(i128::from(number)),
             Expression::Symbol(name) => self.value_of(name),
-            Expression::Sum(name, number) => match self.value_of(name) {
-                Some(symbol) => Some(symbol + i128::from(number)),
-                None => None,
-            },
+            Expression::Sum(name, number) => Some(self.value_of(name)? + i128::from(number)),
         }
     }
 }

@@ -1,6 +1,7 @@
 -- Which dirty line an access drops.
 use Rattle.std.proofs.Common.{◌≡◌, ℕ, ◌+◌, ◌-◌, ◌≤◌, Bool, true, false, cond, nat_eq, ◌||◌, List, [], ◌∷◌, length, take, Some, None, suc, zero, refl, sym, ap, ◌∙◌, inl, inr, arith}
 use Rattle.std.specs.List.{slice_get}
+use Rattle.std.proofs.Math.Bool.{or-true}
 use Rattle.std.proofs.lemmas.List.{nil_from_length}
 use Rattle.std.proofs.lemmas.Option.{slice_get_past}
 use Rattle.std.proofs.lemmas.Bool.{cases_lt, cases_Bool, cond-true, cond-false, eqb-true, eqb-false, ne_eqb, false≢true, le-ltb, eq-eqb, or_left, or_right}
@@ -36,10 +37,6 @@ last_is_dirty q (suc n) (line ∷ lines) short dirty gone = elim (cases_Bool (na
   | inr other ↦
       last_is_dirty q n lines (omega arith) (sym (cond-false (nat_eq line.number q) line.dirty (is_dirty q lines) other) ∙ dirty) (sym (cond-false (nat_eq line.number q) line.dirty (is_dirty q (take n lines)) other) ∙ gone)
 ]
-
-or-true : (b : Bool) → (b || true) ≡ true
-or-true true = refl
-or-true false = refl
 
 module _ (ways n number q : ℕ) (writes : Bool) (lines : List CacheLine) (one_more : ways ≡ n + 1) (room : length lines ≤ ways) where
   -- what is dirty once a line was accessed

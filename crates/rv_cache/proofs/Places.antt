@@ -2,6 +2,7 @@
 use Rattle.std.proofs.Common.{◌≡◌, ℕ, ◌+◌, ◌-◌, ◌<◌, ◌≤◌, Bool, true, false, cond, not, nat_eq, nat_lt, List, [], ◌∷◌, ◌++◌, length, get_or, take, drop, Some, None, suc, refl, sym, ap, ◌∙◌, inl, inr, ◌||◌, arith}
 use Rattle.std.specs.List.{remove, position, position_or_len, slice_get}
 use Rattle.std.proofs.lemmas.List.{take_all, drop_all, append-nil, get_or_default, get_or_past}
+use Rattle.std.proofs.Math.Bool.{or-false}
 use Rattle.std.proofs.lemmas.List.Edits.{length-remove}
 use Rattle.std.proofs.lemmas.Bool.{cases_lt, lt-ltb, le-ltb, cond-true, cond-false}
 use Rattle.std.proofs.lemmas.Bool.Decides.{nat_tests}
@@ -70,10 +71,6 @@ without_missing number lines past =
 
 pub length-without : (number : ℕ) (lines : List CacheLine) → place number lines < length lines → length (without number lines) + 1 ≡ length lines
 length-without number lines at = ap (λ (ls : List CacheLine). length ls + 1) (without-place number lines) ∙ length-remove lines (place number lines) at
-
-or-false : (b : Bool) → (b || false) ≡ b
-or-false true = refl
-or-false false = refl
 
 abbrev clean_line : CacheLine
 clean_line = record { number = 0; dirty = false }

@@ -1,9 +1,10 @@
 -- What the parts of the core stand for.
-use Rattle.std.specs.Prelude.{◌≡◌, ◌≤◌, ◌^◌, filter}
-use Rattle.rv_isa.specs.Description.{IsLegal}
+use Rattle.std.specs.Prelude.{◌≡◌, filter}
 use Rattle.rv_stores.specs.Store.{is_committed}
 use Rattle.rv_hardware.specs.Hardware.{Hardware}
 use Rattle.rv_core.specs.declared.parts.Parts.TheInside.{Inside}
+use Rattle.rv_core.specs.Soundness.{IsSoundHardware}
+use Rattle.rv_core.specs.Ties.{AreTied}
 
 -- the hardware that the parts are: stations, bus and rename map are functions of the instructions in flight
 abbrev pub hardware_of : Inside → Hardware
@@ -25,6 +26,7 @@ hardware_of parts = record {
 
 -- what holds of the parts between two phases
 pub record IsSound (parts : Inside) : Type 0 where
-  pub legal : IsLegal parts.values
-  pub cycles : parts.cycle ≤ 2 ^ 40
-  pub port : parts.port_free ≤ 2 ^ 43
+  pub sound : IsSoundHardware (hardware_of parts)
+  pub tied : AreTied (hardware_of parts) parts.rename parts.stations parts.bus parts.stores
+  pub stale_base : parts.stale.base ≡ parts.values.ram_base
+  pub stale_size : parts.stale.size ≡ parts.values.ram_size

@@ -1,17 +1,32 @@
+ghost use Rattle.std.specs.Prelude.{◌≡◌, ◌+◌, ◌&&◌, true, Some, map};
+ghost use Rattle.rv_rob.specs.Entry.{predicting};
+ghost use Rattle.rv_rob.specs.ReorderBuffer.{changed, cut_from, entry_of};
+ghost use Rattle.rv_rob.specs.declared.entry.Entry.{Entry as EntryOf};
+ghost use Rattle.rv_stores.specs.Store.{answered};
+ghost use Rattle.rv_hardware.specs.Broadcast.{broadcast, broadcast_turn, is_mispredicted, mends_early};
+ghost use Rattle.rv_hardware.specs.InFlight.{is_branch_or_jump, store_of_message};
+ghost use Rattle.rv_hardware.specs.Squash.{redirected};
+ghost use Rattle.rv_core.specs.Turns.{turn_of};
+
 use crate::parts::Parts;
 use rv_isa::{Instr, Message, Recovery};
-use rv_rob::Entry;
+use rv_rob::{Entry, Rob};
+use rv_stores::StoreQueue;
 use rv_units::PendingResult;
 
 /// Whether an instruction's next pc is told by its execution.
-pub(crate) fn is_branch_or_jump(instruction: &Option<Instr>) -> bool {
+pub(crate) fn is_branch_or_jump(instruction: &Option<Instr>) -> bool
+    ensures { result ≡ is_branch_or_jump instruction.now }
+{
     matches!(
         instruction,
         Some(Instr::Jal { .. } | Instr::Jalr { .. } | Instr::Branch { .. })
     )
 }
 
-fn is_mispredicted(entry: &Entry, message: &Message) -> bool {
+fn is_mispredicted(entry: &Entry, message: &Message) -> bool
+    ensures { result ≡ is_mispredicted entry.now message.now }
+{
     is_branch_or_jump(&entry.instruction)
         && message.fault.is_none()
         && message.next_pc != entry.predicted_next
@@ -19,7 +34,9 @@ fn is_mispredicted(entry: &Entry, message: &Message) -> bool {
 
 impl Parts {
     /// Broadcast: the oldest results go on the common data bus, up to its width.
-    pub(crate) fn broadcast(&mut self) {
+    pub(crate) fn broadcast(&mut self)
+        ensures { self.new ≡ broadcast self.old }
+    {
         for _ in 0..self.values.bus_width {
             if !self.broadcast_one() {
                 return;
@@ -28,51 +45,66 @@ impl Parts {
     }
 
     // Broadcasts the oldest result, and tells whether the phase goes on.
-    fn broadcast_one(&mut self) -> bool {
-        let Some(result) = self.bus.grant_one(self.cycle) else {
+    fn broadcast_one(&mut self) -> bool
+        ensures { broadcast_turn self.old ≡ turn_of result self.new }
+    {
+        let Some(pending) = self.bus.grant_one(self.cycle) else {
             return false;
         };
-        self.rob.finish(result.seq, result.message, self.cycle);
-        self.stations.wake(result.seq, result.message.value);
-        self.fill_store(&result);
-        if self.recovers_from(&result) {
-            self.recover(result.seq, result.message.next_pc);
+        let recovers = recovers_from(&self.rob, self.values.recovery, &pending);
+        self.rob.finish(pending.seq, pending.message, self.cycle);
+        self.stations.wake(pending.seq, pending.message.value);
+        fill_store(&mut self.stores, &pending);
+        if recovers {
+            self.recover(pending.seq, pending.message.next_pc);
             return false;
         }
         true
     }
 
-    fn fill_store(&mut self, pending: &PendingResult) {
-        match pending.message.store {
-            Some(access) => self.stores.fill(pending.seq, access),
-            None => {
-                if pending.message.fault.is_some() {
-                    self.stores.fill_fault(pending.seq);
-                }
-            }
-        }
-    }
-
-    // Whether a wrong prediction is mended with this pending.
-    fn recovers_from(&self, pending: &PendingResult) -> bool {
-        if self.values.recovery == Recovery::Commit {
-            return false;
-        }
-        match self.rob.get(pending.seq) {
-            Some(entry) => is_mispredicted(entry, &pending.message),
-            None => false,
-        }
-    }
-
-    // Squashes everything younger than an instruction, and begins to fetch anew where it goes on.
-    fn recover(&mut self, seq: u64, next_pc: u32) {
-        let from = seq.saturating_add(1);
-        self.rob.cut(from);
+    // Squashes everything younger than a branch or a jump, and begins to fetch anew where it goes on.
+    fn recover(&mut self, seq: u64, next_pc: u32)
+        requires early { mends_early self.old.values.recovery ≡ true }
+        requires jump { (e : EntryOf) × (entry_of seq self.old.rob.retired self.old.rob.entries ≡ Some e) × (is_branch_or_jump e.instruction ≡ true) }
+        ensures { self.new ≡ record self.old { rob = cut_from (seq + 1) (changed (predicting next_pc) seq self.old.rob); front = redirected next_pc self.old.front } }
+    {
         self.rob.correct_prediction(seq, next_pc);
+        let from = seq + 1;
+        self.rob.cut(from);
         self.stations.squash(from);
         self.bus.squash(from);
         self.stores.squash(from);
         self.rename.restore(seq);
         self.front.redirect(next_pc);
+    }
+}
+
+// A store learns what it writes, or that it faults; any other instruction has no place in the queue.
+fn fill_store(stores: &mut StoreQueue, pending: &PendingResult)
+    ensures { stores.new ≡ record stores.old { stores = map (answered pending.now.seq (store_of_message pending.now.message.store)) stores.old.stores } }
+{
+    match pending.message.store {
+        Some(access) => stores.fill(pending.seq, access),
+        None => stores.fill_fault(pending.seq),
+    }
+}
+
+// Whether everything younger is squashed with this result: early recovery mends a wrong prediction.
+fn recovers_from(rob: &Rob, recovery: Recovery, pending: &PendingResult) -> bool
+    ensures { (e : EntryOf) → entry_of pending.now.seq rob.now.retired rob.now.entries ≡ Some e → result ≡ (mends_early recovery && is_mispredicted e pending.now.message) }
+{
+    match recovery {
+        Recovery::Commit => false,
+        Recovery::Early => is_sent_astray(rob, pending),
+    }
+}
+
+// Whether a result goes on elsewhere than was predicted.
+fn is_sent_astray(rob: &Rob, pending: &PendingResult) -> bool
+    ensures { (e : EntryOf) → entry_of pending.now.seq rob.now.retired rob.now.entries ≡ Some e → result ≡ is_mispredicted e pending.now.message }
+{
+    match rob.get(pending.seq) {
+        Some(entry) => is_mispredicted(entry, &pending.message),
+        None => false,
     }
 }

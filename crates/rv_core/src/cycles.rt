@@ -1,3 +1,12 @@
+ghost use Rattle.std.specs.Prelude.{◌≡◌, ◌<◌, IfErr, IfOk, MatchResult};
+ghost use Rattle.rv_isa.specs.Description.{gap_bound_of};
+ghost use Rattle.rv_hardware.specs.Headline.{IsTrueRun, IsTrueStop};
+ghost use Rattle.rv_hardware.specs.Laws.{Laws};
+ghost use Rattle.rv_hardware.specs.Seen.{layout_of, seen};
+ghost use Rattle.rv_core.specs.Progress.{IsBounded, progress_after};
+ghost use Rattle.rv_core.specs.RunDone.{IsCutShort, IsOutcome};
+ghost use Rattle.rv_hardware.specs.Report.{counted};
+
 use crate::errors::OutOfMemory;
 use crate::machine::Core;
 use crate::outcome::{CycleEnd, Outcome, Progress};
@@ -18,7 +27,29 @@ pub fn run(
     core: &mut Core,
     arrivals: &Arrivals,
     limit: u64,
-) -> Result<Outcome, OutOfMemory> {
+) -> Result<Outcome, OutOfMemory>
+    ensures cycles { MatchResult result (λ outcome. IsOutcome arrivals.now limit core.old core.new outcome) (λ done. IsCutShort arrivals.now limit core.old core.new done) }
+    ensures true_run { IfOk result (λ outcome. IsTrueRun (layout_of core.old.values) arrivals.now core.old.cycle core.new.cycle (seen core.old) outcome.steps.items (seen core.new)) }
+    ensures true_stop { IfOk result (λ outcome. IsTrueStop (layout_of core.old.values) arrivals.now limit core.old.cycle core.new.cycle outcome.steps.items (seen core.new) outcome.stop) }
+    ensures true_so_far { IfErr result (λ done. IsTrueRun (layout_of core.old.values) arrivals.now core.old.cycle core.new.cycle (seen core.old) done.steps.items (seen core.new)) }
+    ensures laws { IfOk result (λ outcome. Laws core.old.values core.old.cycle core.new.cycle outcome.steps.items) }
+    ensures laws_so_far { IfErr result (λ done. Laws core.old.values core.old.cycle core.new.cycle done.steps.items) }
+    ensures gap { IfOk result (λ outcome. outcome.longest_gap < gap_bound_of core.old.values) }
+    ensures gap_so_far { IfErr result (λ done. done.longest_gap < gap_bound_of core.old.values) }
+{
+    // Of hardware that a reset and cycles lead to, the headline, the laws and the bound hold.
+    let _ = core.cycles_done();
+    run_cycles(alloc, core, arrivals, limit)
+}
+
+fn run_cycles(
+    alloc: Global,
+    core: &mut Core,
+    arrivals: &Arrivals,
+    limit: u64,
+) -> Result<Outcome, OutOfMemory>
+    ensures { MatchResult result (λ outcome. IsOutcome arrivals.now limit core.old core.new outcome) (λ done. IsCutShort arrivals.now limit core.old core.new done) }
+{
     let mut steps = Vec::new(alloc);
     let mut progress = Progress::default();
     for _ in 0..limit {
@@ -38,36 +69,45 @@ pub fn run(
     Ok(progress.outcome(steps, Stop::Limit))
 }
 
-// One more cycle that dispatched nothing. A core does no more than 2^40 cycles, so no count saturates.
-fn count_stall(stalls: &mut StallCounts, stall: Stall) {
+// One more cycle that dispatched nothing.
+fn count_stall(stalls: &mut StallCounts, stall: Stall)
+    requires fetch { stalls.old.fetch < 18446744073709551615 }
+    requires serial { stalls.old.serial < 18446744073709551615 }
+    requires rob { stalls.old.rob < 18446744073709551615 }
+    requires station { stalls.old.station < 18446744073709551615 }
+    requires store { stalls.old.store < 18446744073709551615 }
+    ensures { stalls.new ≡ counted stall stalls.old }
+{
     match stall {
-        Stall::Fetch => stalls.fetch = stalls.fetch.saturating_add(1),
-        Stall::Serial => stalls.serial = stalls.serial.saturating_add(1),
-        Stall::Rob => stalls.rob = stalls.rob.saturating_add(1),
-        Stall::Station => stalls.station = stalls.station.saturating_add(1),
-        Stall::Store => stalls.store = stalls.store.saturating_add(1),
+        Stall::Fetch => stalls.fetch += 1,
+        Stall::Serial => stalls.serial += 1,
+        Stall::Rob => stalls.rob += 1,
+        Stall::Station => stalls.station += 1,
+        Stall::Store => stalls.store += 1,
     }
 }
 
 impl Progress {
     // Counts one more cycle.
-    fn count(&mut self, is_silent: bool, end: &CycleEnd) {
-        self.cycles = self.cycles.saturating_add(1);
+    fn count(&mut self, is_silent: bool, end: &CycleEnd)
+        requires bounded { IsBounded self.old }
+        requires room { self.old.cycles < 18446744073709551615 }
+        ensures { self.new ≡ progress_after is_silent end.now self.old }
+    {
+        self.cycles += 1;
         if end.dispatched > 0 {
-            self.busy = self.busy.saturating_add(1);
+            self.busy += 1;
         }
         if let Some(stall) = end.stall {
             count_stall(&mut self.stalls, stall);
         }
-        self.silent = if is_silent {
-            self.silent.saturating_add(1)
-        } else {
-            0
-        };
+        self.silent = if is_silent { self.silent + 1 } else { 0 };
         self.longest_gap = self.longest_gap.max(self.silent);
     }
 
-    fn outcome(self, steps: Vec<Step>, stop: Stop) -> Outcome {
+    fn outcome(self, steps: Vec<Step>, stop: Stop) -> Outcome
+        ensures { result ≡ record { steps = steps; stalls = self.stalls; busy = self.busy; cycles = self.cycles; longest_gap = self.longest_gap; stop = stop } }
+    {
         Outcome {
             steps,
             stalls: self.stalls,
@@ -78,7 +118,9 @@ impl Progress {
         }
     }
 
-    fn out_of_memory(self, steps: Vec<Step>) -> OutOfMemory {
+    fn out_of_memory(self, steps: Vec<Step>) -> OutOfMemory
+        ensures { result ≡ record { steps = steps; stalls = self.stalls; busy = self.busy; cycles = self.cycles; longest_gap = self.longest_gap } }
+    {
         OutOfMemory {
             steps,
             stalls: self.stalls,

@@ -1,4 +1,21 @@
-ghost use Rattle.rv_stations.specs.Waiting.{IsOperand};
+ghost use Rattle.std.specs.Prelude.{◌≡◌, ℕ, ◌<◌, ◌≤◌, ◌^◌, ◌&&◌, nat_le, length, true, false, None, Some, IfSome, option_and_then};
+ghost use Rattle.std.specs.List.{AllPairs, list_any};
+ghost use Rattle.rv_isa.specs.Numbered.{AreBelow};
+ghost use Rattle.rv_isa.specs.declared.operations.Kind.{Kind as KindOf};
+ghost use Rattle.rv_rename.specs.Renaming.{CanDefine, CanCheckpoint};
+ghost use Rattle.rv_decode.specs.Decodes.{instruction_of};
+ghost use Rattle.rv_rob.specs.ReorderBuffer.{next_number, pushed};
+ghost use Rattle.rv_stations.specs.Stations.{pool_of};
+ghost use Rattle.rv_stations.specs.Waiting.{IsOperand, seq_of};
+ghost use Rattle.rv_stores.specs.Queue.{CanEnter};
+ghost use Rattle.rv_hardware.specs.Broadcast.{mends_early};
+ghost use Rattle.rv_hardware.specs.Dispatch.{dispatch, dispatch_turn, entry_of_fetched, first_stage, reason_of, stall_of};
+ghost use Rattle.rv_hardware.specs.Hardware.{Hardware};
+ghost use Rattle.rv_hardware.specs.InFlight.{broadcast_of, is_branch_or_jump, is_serialising, is_store, target_of_word};
+ghost use Rattle.rv_hardware.specs.Issue.{kind_of_word};
+ghost use Rattle.rv_core.specs.Entering.{are_full_for, with_instruction, with_jump, with_store, with_target};
+ghost use Rattle.rv_core.specs.Ties.{operand_by, operand_of, producers_of, status_behind, values_in};
+ghost use Rattle.rv_core.specs.Told.{dispatch_told, dispatching};
 
 use crate::broadcast::is_branch_or_jump;
 use crate::execute::finishes;
@@ -12,36 +29,55 @@ use rv_stations::{Operand, Stations, Waiting};
 use rv_stores::StoreQueue;
 
 /// Whether an instruction waits to be the oldest, with nothing younger in flight beside it.
-fn is_serialising(instruction: &Option<Instr>) -> bool {
+fn is_serialising(instruction: &Option<Instr>) -> bool
+    ensures { result ≡ is_serialising instruction.now }
+{
     matches!(
         instruction,
         Some(Instr::FenceI | Instr::Csr { .. } | Instr::Mret)
     )
 }
 
-fn is_store(instruction: &Option<Instr>) -> bool {
+fn is_store(instruction: &Option<Instr>) -> bool
+    ensures { result ≡ is_store instruction.now }
+{
     matches!(instruction, Some(Instr::Store { .. }))
 }
 
-fn kind_of(instruction: &Option<Instr>) -> Option<Kind> {
+fn kind_of(instruction: &Option<Instr>) -> Option<Kind>
+    ensures { result ≡ kind_of_word instruction.now }
+{
     kind(instruction.as_ref()?)
+}
+
+fn target_of(instruction: &Option<Instr>) -> Option<Reg>
+    ensures target { result ≡ target_of_word instruction.now }
+    ensures in_range { IfSome result (λ register. register < 32) }
+{
+    target(instruction.as_ref()?)
 }
 
 impl Parts {
     /// Dispatch: fetched instructions enter the reorder buffer in order, up to a width. Tells how many did, and what
     /// the first that waited, waited for, where none did.
-    pub(crate) fn dispatch(&mut self) -> (u32, Option<Stall>) {
-        for dispatched in 0..self.values.dispatch_width {
+    pub(crate) fn dispatch(&mut self) -> (u32, Option<Stall>)
+        ensures hardware { self.new ≡ (dispatch self.old).hardware }
+        ensures dispatched { result.0 ≡ (dispatch self.old).dispatched }
+        ensures stall { result.1 ≡ stall_of (dispatch self.old) }
+    {
+        let width = self.values.dispatch_width;
+        for dispatched in 0..width {
             if let Some(stall) = self.dispatch_one() {
-                let reason = if dispatched == 0 { Some(stall) } else { None };
-                return (dispatched, reason);
+                return (dispatched, reason_for(dispatched, stall));
             }
         }
-        (self.values.dispatch_width, None)
+        (width, None)
     }
 
     // Dispatches the oldest fetched instruction, or tells what it waits for.
-    fn dispatch_one(&mut self) -> Option<Stall> {
+    fn dispatch_one(&mut self) -> Option<Stall>
+        ensures { (dispatched : ℕ) → dispatch_turn (dispatching self.old dispatched) ≡ dispatch_told result self.new dispatched }
+    {
         let Some(fetched) = self.front.peek() else {
             return Some(Stall::Fetch);
         };
@@ -54,155 +90,219 @@ impl Parts {
     }
 
     // The first of the reasons for which an instruction waits.
-    fn reason_to_wait(&self, fetched: &Fetched) -> Option<Stall> {
-        if self.is_serial() {
+    fn reason_to_wait(&self, fetched: &Fetched) -> Option<Stall>
+        ensures { result ≡ reason_of self.now fetched.now }
+    {
+        if is_serial(&self.rob) {
             return Some(Stall::Serial);
         }
         if self.rob.is_full() {
             return Some(Stall::Rob);
         }
-        if let Some(kind) = kind_of(&fetched.instruction) {
-            if self.stations.is_full(kind) {
-                return Some(Stall::Station);
-            }
+        if are_full_for(&self.stations, kind_of(&fetched.instruction)) {
+            return Some(Stall::Station);
         }
-        if is_store(&fetched.instruction) && self.stores.is_full() {
+        if waits_for_queue(&self.stores, &fetched.instruction) {
             return Some(Stall::Store);
         }
         None
     }
 
-    // Whether a serialising instruction is in flight: it is the youngest then.
-    fn is_serial(&self) -> bool {
-        match self.rob.youngest() {
-            Some(entry) => is_serialising(&entry.instruction),
-            None => false,
-        }
-    }
-
     // Enters an instruction into the structures that it needs, the reorder buffer last.
-    fn enter(&mut self, fetched: &Fetched) {
+    fn enter(&mut self, fetched: &Fetched)
+        requires waits_not { reason_of self.old fetched.now ≡ None }
+        requires decoded { fetched.now.instruction ≡ option_and_then instruction_of fetched.now.word }
+        ensures { self.new ≡ record self.old { rob = pushed (entry_of_fetched self.old fetched.now) self.old.rob } }
+    {
         let seq = self.rob.next_number();
-        let stage = self.first_stage(fetched, seq);
+        let entry = entering(fetched, self.cycle);
+        station(
+            &mut self.stations,
+            &self.rename,
+            &self.rob,
+            &self.registers,
+            fetched,
+            seq,
+        );
         enter_store(&mut self.stores, &fetched.instruction, seq);
         define_target(&mut self.rename, &fetched.instruction, seq);
-        if self.values.recovery == Recovery::Early {
-            checkpoint_jump(&mut self.rename, &fetched.instruction, seq);
-        }
-        let entry = Entry {
-            pc: fetched.pc,
-            word: fetched.word,
-            instruction: fetched.instruction,
-            predicted_next: fetched.predicted,
-            fetched: fetched.cycle,
-            dispatched: self.cycle,
-            stage,
-        };
-        push(&mut self.rob, entry);
-    }
-
-    // An instruction with a unit waits in a station, a serialising one to be the oldest; any other is finished at once.
-    fn first_stage(&mut self, fetched: &Fetched, seq: u64) -> Stage {
-        if let Some(instruction) = fetched.instruction {
-            if let Some(kind) = kind(&instruction) {
-                self.station(kind, fetched.pc, instruction, seq);
-                return Stage::Waiting;
-            }
-        }
-        if is_serialising(&fetched.instruction) {
-            return Stage::Waiting;
-        }
-        Stage::Finished {
-            issue: None,
-            cycle: self.cycle,
-            message: finishes(fetched.pc, fetched.word, &fetched.instruction),
-        }
-    }
-
-    fn station(&mut self, kind: Kind, pc: u32, instruction: Instr, seq: u64) {
-        let [first, second] = sources(&instruction);
-        let waiting = Waiting {
+        checkpoint_jump(
+            &mut self.rename,
+            self.values.recovery,
+            &fetched.instruction,
             seq,
-            pc,
-            instruction,
-            first: self.operand_of(first),
-            second: self.operand_of(second),
-        };
-        insert(&mut self.stations, kind, waiting);
+        );
+        self.rob.push(entry);
     }
+}
 
-    // A register's value, from the registers or a finished instruction, or the tag of the youngest that writes it.
-    fn operand_of(&self, register: Option<Reg>) -> Operand
-        ensures { IsOperand result }
-    {
-        let Some(register) = register else {
-            return Operand::Value(0);
-        };
-        let Some(producer) = self.rename.lookup(register) else {
-            return Operand::Value(self.register(register));
-        };
-        match self.rob.get(producer) {
-            Some(
-                Entry {
-                    stage: Stage::Finished { message, .. },
-                    ..
-                },
-            ) => Operand::Value(message.value),
-            _ if producer < 1 << 44 => Operand::Tag(producer),
-            _ => Operand::Value(0),
-        }
+// A cycle that dispatched something did not stall.
+fn reason_for(dispatched: u32, stall: Stall) -> Option<Stall>
+    ensures { (h : Hardware) → result ≡ stall_of (record { hardware = h; dispatched = dispatched; waits_for = Some stall }) }
+{
+    if dispatched == 0 { Some(stall) } else { None }
+}
+
+// Whether a serialising instruction is in flight: it is the youngest then.
+fn is_serial(rob: &Rob) -> bool
+    requires { AllPairs (λ older younger. is_serialising older.instruction ≡ false) rob.now.entries }
+    ensures { result ≡ list_any (λ e. is_serialising e.instruction) rob.now.entries }
+{
+    match rob.youngest() {
+        Some(entry) => is_serialising(&entry.instruction),
+        None => false,
+    }
+}
+
+fn are_full_for(stations: &Stations, kind: Option<Kind>) -> bool
+    ensures { result ≡ are_full_for kind stations.now }
+{
+    match kind {
+        Some(kind) => stations.is_full(kind),
+        None => false,
+    }
+}
+
+fn waits_for_queue(stores: &StoreQueue, instruction: &Option<Instr>) -> bool
+    ensures { result ≡ (is_store instruction.now && nat_le stores.now.capacity (length stores.now.stores)) }
+{
+    is_store(instruction) && stores.is_full()
+}
+
+fn entering(fetched: &Fetched, cycle: u64) -> Entry
+    ensures { (h : Hardware) → h.cycle ≡ cycle → result ≡ entry_of_fetched h fetched.now }
+{
+    Entry {
+        pc: fetched.pc,
+        word: fetched.word,
+        instruction: fetched.instruction,
+        predicted_next: fetched.predicted,
+        fetched: fetched.cycle,
+        dispatched: cycle,
+        stage: entering_stage(fetched, cycle),
+    }
+}
+
+// An instruction with a unit waits in a station, a serialising one to be the oldest; any other is finished at once.
+fn entering_stage(fetched: &Fetched, cycle: u64) -> Stage
+    ensures { (h : Hardware) → h.cycle ≡ cycle → result ≡ first_stage h fetched.now }
+{
+    if kind_of(&fetched.instruction).is_some() {
+        return Stage::Waiting;
+    }
+    if is_serialising(&fetched.instruction) {
+        return Stage::Waiting;
+    }
+    Stage::Finished {
+        issue: None,
+        cycle,
+        message: finishes(fetched.pc, fetched.word, &fetched.instruction),
+    }
+}
+
+// An instruction with a unit goes into a station of its kind, with what is known of its operands.
+fn station(
+    stations: &mut Stations,
+    rename: &RenameMap,
+    rob: &Rob,
+    registers: &[u32; 32],
+    fetched: &Fetched,
+    seq: u64,
+)
+    requires producers { rename.now.producers ≡ producers_of rob.now.retired rob.now.entries }
+    requires numbers { next_number rob.now ≤ 2 ^ 44 }
+    requires room { are_full_for (kind_of_word fetched.now.instruction) stations.old ≡ false }
+    requires youngest { (kind : KindOf) → AreBelow seq_of seq (pool_of kind stations.old).waiting }
+    ensures { stations.new ≡ with_instruction (status_behind (values_in registers.now) rob.now.retired rob.now.entries) seq fetched.now.pc fetched.now.instruction stations.old }
+{
+    let Some(instruction) = fetched.instruction else {
+        return;
+    };
+    let Some(kind) = kind(&instruction) else {
+        return;
+    };
+    let [first, second] = sources(&instruction);
+    let waiting = Waiting {
+        seq,
+        pc: fetched.pc,
+        instruction,
+        first: operand_of(rename, rob, registers, first),
+        second: operand_of(rename, rob, registers, second),
+    };
+    stations.insert(kind, waiting);
+}
+
+// A register's value, from the registers or a finished instruction, or the tag of the youngest that writes it.
+fn operand_of(rename: &RenameMap, rob: &Rob, registers: &[u32; 32], source: Option<Reg>) -> Operand
+    requires producers { rename.now.producers ≡ producers_of rob.now.retired rob.now.entries }
+    requires numbers { next_number rob.now ≤ 2 ^ 44 }
+    ensures operand { result ≡ operand_of (status_behind (values_in registers.now) rob.now.retired rob.now.entries) source }
+    ensures known { IsOperand result }
+{
+    let Some(register) = source else {
+        return Operand::Value(0);
+    };
+    let Some(producer) = rename.lookup(register) else {
+        return Operand::Value(registers[register.index()]);
+    };
+    match rob.get(producer) {
+        Some(entry) => operand_by(producer, &entry.stage),
+        None => Operand::Value(0),
+    }
+}
+
+// What an instruction gives for its target: the value that it brought, or its number.
+fn operand_by(seq: u64, stage: &Stage) -> Operand
+    requires { seq < 2 ^ 44 }
+    ensures operand { result ≡ operand_by seq (broadcast_of stage.now) }
+    ensures known { IsOperand result }
+{
+    match stage {
+        Stage::Finished { message, .. } => Operand::Value(message.value),
+        _ => Operand::Tag(seq),
     }
 }
 
 // The instruction is the youngest that writes its target.
-fn define_target(rename: &mut RenameMap, instruction: &Option<Instr>, seq: u64) {
-    let Some(instruction) = instruction else {
-        return;
-    };
-    let Some(register) = target(instruction) else {
-        return;
-    };
-    if rename.can_define(seq) {
+fn define_target(rename: &mut RenameMap, instruction: &Option<Instr>, seq: u64)
+    requires { CanDefine seq rename.old }
+    ensures defined { rename.new ≡ with_target seq (target_of_word instruction.now) rename.old }
+    ensures in_range { IfSome (target_of_word instruction.now) (λ register. register < 32) }
+{
+    if let Some(register) = target_of(instruction) {
         rename.define(register, seq);
     }
 }
 
 // A branch or a jump notes who writes each register, for a wrong prediction.
-fn checkpoint_jump(rename: &mut RenameMap, instruction: &Option<Instr>, seq: u64) {
-    if !is_branch_or_jump(instruction) {
-        return;
-    }
-    if rename.can_checkpoint(seq) {
+fn checkpoint_jump(
+    rename: &mut RenameMap,
+    recovery: Recovery,
+    instruction: &Option<Instr>,
+    seq: u64,
+)
+    requires { CanCheckpoint seq rename.old }
+    ensures { rename.new ≡ with_jump (mends_early recovery && is_branch_or_jump instruction.now) seq rename.old }
+{
+    if takes_checkpoint(recovery, instruction) {
         rename.checkpoint(seq);
     }
 }
 
-fn enter_store(stores: &mut StoreQueue, instruction: &Option<Instr>, seq: u64) {
-    if !is_store(instruction) {
-        return;
-    }
-    if stores.can_enter(seq) {
-        stores.enter(seq);
-    }
-}
-
-fn push(rob: &mut Rob, entry: Entry) {
-    if rob.is_full() {
-        return;
-    }
-    if rob.next_number() < 1 << 44 {
-        rob.push(entry);
-    }
-}
-
-fn insert(stations: &mut Stations, kind: Kind, waiting: Waiting)
-    requires first { IsOperand waiting.first }
-    requires second { IsOperand waiting.second }
+fn takes_checkpoint(recovery: Recovery, instruction: &Option<Instr>) -> bool
+    ensures { result ≡ (mends_early recovery && is_branch_or_jump instruction.now) }
 {
-    if stations.is_full(kind) {
-        return;
+    match recovery {
+        Recovery::Early => is_branch_or_jump(instruction),
+        Recovery::Commit => false,
     }
-    if stations.is_youngest(kind, waiting.seq) {
-        stations.insert(kind, waiting);
+}
+
+fn enter_store(stores: &mut StoreQueue, instruction: &Option<Instr>, seq: u64)
+    requires { is_store instruction.now ≡ true → CanEnter seq stores.old }
+    ensures { stores.new ≡ with_store (is_store instruction.now) seq stores.old }
+{
+    if is_store(instruction) {
+        stores.enter(seq);
     }
 }

@@ -1,17 +1,47 @@
-use crate::execute::operates;
+ghost use Rattle.std.specs.Prelude.{◌≡◌, ℕ, ◌+◌, ◌^◌, ◌<◌, ◌≤◌, IsTrue, true, false, is_some, length, option_and_then};
+ghost use Rattle.rv_isa.specs.Operands.{kind_of};
+ghost use Rattle.rv_isa.specs.declared.lines.Lines.{Lines};
+ghost use Rattle.rv_arch.specs.State.{State};
+ghost use Rattle.rv_stations.specs.Pool.{issued as taken_from};
+ghost use Rattle.rv_stations.specs.Stations.{pool_of as stations_of_kind, with_pool as with_stations};
+ghost use Rattle.rv_stations.specs.Waiting.{ready_of, oldest_ready};
+ghost use Rattle.rv_stores.specs.Queue.{older_than};
+ghost use Rattle.rv_units.specs.Bus.{holds, with_result};
+ghost use Rattle.rv_units.specs.Pool.{is_free, started as started_unit};
+ghost use Rattle.rv_units.specs.Units.{pool_of, with_pool};
+ghost use Rattle.rv_hardware.specs.Result.{result_in};
+ghost use Rattle.rv_core.specs.Access.{IsBehind, IsOverRam, cache_after, load_path, path_cost, port_after};
+ghost use Rattle.rv_core.specs.Execution.{Reads};
+ghost use Rattle.rv_core.specs.Load.{goes};
+
+use crate::execute::executes;
+use crate::load::{Executed, Times, load, may_go};
 use crate::parts::Parts;
-use rv_isa::{Issue, Kind, Message};
+use rv_cache::Cache;
+use rv_isa::{Immediate, Instr, Issue, Kind, LoadForm, Message, Reg};
+use rv_memory::Ram;
+use rv_rob::Rob;
+use rv_stations::{Ready, Stations};
+use rv_stores::StoreQueue;
 use rv_units::{Bus, Units};
 
 impl Parts {
+    ghost use Rattle.rv_hardware.specs.Issue.{issue, issue_kind, issue_turn};
+    ghost use Rattle.rv_core.specs.Turns.{turn_of};
+
     /// Issue: for each kind, while a unit is free, the oldest ready instruction leaves its station.
-    pub(crate) fn issue(&mut self) {
-        for kind in Kind::ALL {
-            self.issue_kind(kind);
-        }
+    pub(crate) fn issue(&mut self)
+        ensures { self.new ≡ issue self.old }
+    {
+        self.issue_kind(Kind::Alu);
+        self.issue_kind(Kind::Mul);
+        self.issue_kind(Kind::Div);
+        self.issue_kind(Kind::Mem);
     }
 
-    fn issue_kind(&mut self, kind: Kind) {
+    fn issue_kind(&mut self, kind: Kind)
+        ensures { self.new ≡ issue_kind kind self.old }
+    {
         for _ in 0..self.values.of_kind(kind).units {
             if !self.issue_one(kind) {
                 return;
@@ -20,47 +50,99 @@ impl Parts {
     }
 
     // Issues the oldest ready instruction of a kind, and tells whether the phase goes on.
-    fn issue_one(&mut self, kind: Kind) -> bool {
+    fn issue_one(&mut self, kind: Kind) -> bool
+        ensures { turn_of result self.new ≡ issue_turn kind self.old }
+    {
         if !self.units.free(kind, self.cycle) {
             return false;
         }
-        match kind {
-            Kind::Mem => self.issue_access(),
-            Kind::Alu | Kind::Mul | Kind::Div => self.issue_operation(kind),
-        }
-    }
-
-    fn issue_operation(&mut self, kind: Kind) -> bool {
-        let Some(ready) = self.stations.take_oldest_ready(kind, |_| true) else {
+        let port_idle = self.is_port_idle();
+        let Some(ready) = take_ready(
+            &mut self.stations,
+            kind,
+            &self.cache,
+            &self.stores,
+            port_idle,
+        ) else {
             return false;
         };
-        let message = operates(&ready.instruction, ready.pc, ready.first, ready.second);
-        let cost = self.values.of_kind(kind).latency;
-        self.start(kind, ready.seq, cost, &message);
+        let times = Times {
+            latency: self.values.of_kind(kind).latency,
+            forward: self.values.forward,
+            cycle: self.cycle,
+            port_free: self.port_free,
+        };
+        let executed = execute(&mut self.cache, &self.stores, &times, &ready);
+        self.port_free = executed.port_free;
+        let issue = Issue {
+            cycle: self.cycle,
+            cost: executed.cost,
+        };
+        hold_unit(&mut self.units, kind, issue);
+        accept(&mut self.bus, ready.seq, &executed.message, issue);
+        self.rob.start(ready.seq, issue, executed.message);
         true
     }
+}
 
-    /// Begins an execution: a unit is held, and the result waits for its broadcast.
-    pub(crate) fn start(&mut self, kind: Kind, seq: u64, cost: u32, message: &Message) {
-        let cycle = self.cycle;
-        hold_unit(&mut self.units, kind, cost, cycle);
-        accept(&mut self.bus, seq, message, cycle + u64::from(cost));
-        let issue = Issue { cycle, cost };
-        self.rob.start(seq, issue, *message);
+// Executes an instruction with the values of its registers.
+fn execute(cache: &mut Cache<Ram>, queue: &StoreQueue, times: &Times, ready: &Ready) -> Executed
+    requires over_ram { IsOverRam cache.old }
+    requires cycle { times.now.cycle ≤ 2 ^ 40 }
+    ensures cost { result.cost ≡ path_cost times.now.latency times.now.forward cache.old (load_path cache.old.backing.layout (older_than ready.now.seq queue.now.stores) ready.now.first ready.now.instruction) }
+    ensures port { result.port_free ≡ port_after times.now.cycle times.now.port_free cache.old (load_path cache.old.backing.layout (older_than ready.now.seq queue.now.stores) ready.now.first ready.now.instruction) }
+    ensures cache { cache.new ≡ cache_after cache.old (load_path cache.old.backing.layout (older_than ready.now.seq queue.now.stores) ready.now.first ready.now.instruction) }
+    ensures message { is_some (kind_of ready.now.instruction) ≡ true → (s : State) (lines : Lines) (word : ℕ) → Reads s ready.now.pc ready.now.first ready.now.second ready.now.instruction → IsBehind cache.old (older_than ready.now.seq queue.now.stores) s → result.message ≡ result_in cache.old.backing.layout s lines word ready.now.instruction }
+{
+    match ready.instruction {
+        Instr::Load {
+            form,
+            rd,
+            offset,
+            ..
+        } => load(cache, queue, times, ready, form, rd, offset),
+        _ => Executed {
+            message: executes(cache.backing(), ready),
+            cost: times.latency,
+            port_free: times.port_free,
+        },
     }
 }
 
-fn hold_unit(units: &mut Units, kind: Kind, cost: u32, cycle: u64) {
-    if units.free(kind, cycle) {
-        units.start(kind, cost, cycle);
+// Takes the oldest instruction of a kind that is ready and may go.
+fn take_ready(
+    stations: &mut Stations,
+    kind: Kind,
+    cache: &Cache<Ram>,
+    queue: &StoreQueue,
+    port_idle: bool,
+) -> Option<Ready>
+    ensures oldest { result ≡ option_and_then ready_of (oldest_ready (goes kind cache.now.backing.layout queue.now.stores port_idle) (stations_of_kind kind stations.old).waiting) }
+    ensures others { stations.new ≡ with_stations kind (taken_from (goes kind cache.now.backing.layout queue.now.stores port_idle) (stations_of_kind kind stations.old)) stations.old }
+{
+    if kind == Kind::Mem {
+        let first_unknown = queue.first_unknown();
+        return stations.take_oldest_ready(Kind::Mem, |waiting| {
+            may_go(cache, queue, first_unknown, port_idle, waiting)
+        });
     }
+    stations.take_oldest_ready(kind, |_| true)
 }
 
-fn accept(bus: &mut Bus, seq: u64, message: &Message, ready: u64) {
-    if bus.is_full() {
-        return;
-    }
-    if !bus.holds(seq) {
-        bus.accept(seq, *message, ready);
-    }
+// An execution holds a unit of its kind.
+fn hold_unit(units: &mut Units, kind: Kind, issue: Issue)
+    requires { IsTrue (is_free issue.cycle (pool_of kind units.old)) }
+    ensures { units.new ≡ with_pool kind (started_unit issue.cost issue.cycle (pool_of kind units.old)) units.old }
+{
+    units.start(kind, issue.cost, issue.cycle);
+}
+
+// A result waits for its broadcast.
+fn accept(bus: &mut Bus, seq: u64, message: &Message, issue: Issue)
+    requires cycle { issue.cycle ≤ 2 ^ 40 }
+    requires room { length bus.old.results < bus.old.capacity }
+    requires absent { holds seq bus.old.results ≡ false }
+    ensures { bus.new ≡ with_result seq message.now (issue.cycle + issue.cost) bus.old }
+{
+    bus.accept(seq, *message, issue.cycle + u64::from(issue.cost));
 }

@@ -15,6 +15,7 @@ mod load;
 mod machine;
 mod outcome;
 mod parts;
+mod seen;
 
 pub use cycles::run;
 pub use errors::{NewError, OutOfMemory};

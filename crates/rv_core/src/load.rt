@@ -1,7 +1,18 @@
-use crate::execute::{address, computes, faults, store_access, stores};
-use crate::parts::Parts;
+ghost use Rattle.std.specs.Prelude.{◌≡◌, ◌+◌, ◌^◌, ◌*◌, ◌<◌, ◌≤◌, None, take};
+ghost use Rattle.rv_isa.specs.Bytes.{number_of};
+ghost use Rattle.rv_isa.specs.Operation.{bytes_of, width_of, is_sign_extended};
+ghost use Rattle.rv_isa.specs.Word.{modulo_word, sum};
+ghost use Rattle.rv_arch.specs.Effect.{extended, loads};
+ghost use Rattle.rv_arch.specs.State.{State};
+ghost use Rattle.rv_stores.specs.Queue.{older_than};
+ghost use Rattle.rv_hardware.specs.Result.{effect_message};
+ghost use Rattle.rv_core.specs.Access.{IsBehind, IsOverRam, cache_after, defined_path, path_cost, port_after};
+ghost use Rattle.rv_core.specs.Load.{load_fault, is_forwarded, path_of, bytes_over, may_go, needs_port};
+
+use crate::execute::{address, computes, faults};
+use rv_arch::extended;
 use rv_cache::Cache;
-use rv_isa::{Cause, Immediate, Instr, Kind, LoadForm, Message, Reg, Width};
+use rv_isa::{Cause, Immediate, Instr, LoadForm, Message, Reg, Width};
 use rv_memory::Ram;
 use rv_stations::{Operand, Ready, Waiting};
 use rv_stores::StoreQueue;
@@ -12,13 +23,15 @@ enum Path {
     /// It faults.
     Without(Cause),
     /// Every byte comes from older stores.
-    FromStores([u8; 4]),
+    FromStores([Option<u8>; 4]),
     /// The cache is accessed; the bytes that older stores give are laid over.
     FromCache([Option<u8>; 4]),
 }
 
 // The fault of an access, if it has one: alignment is tested before the range.
-fn load_fault(ram: &Ram, address: u32, width: Width) -> Option<Cause> {
+fn load_fault(ram: &Ram, address: u32, width: Width) -> Option<Cause>
+    ensures { result ≡ load_fault ram.now.layout address (bytes_of width) }
+{
     if address % width.bytes() != 0 {
         Some(Cause::LoadAddressMisaligned)
     } else if !ram.in_range(address, width.bytes()) {
@@ -28,37 +41,38 @@ fn load_fault(ram: &Ram, address: u32, width: Width) -> Option<Cause> {
     }
 }
 
-fn store_fault(ram: &Ram, address: u32, width: Width) -> Option<Cause> {
-    if address % width.bytes() != 0 {
-        Some(Cause::StoreAddressMisaligned)
-    } else if !ram.writable(address, width.bytes()) {
-        Some(Cause::StoreAccessFault)
-    } else {
-        None
-    }
-}
-
-// The bytes of an overlay, where it gives as many as are read.
-fn all_forwarded(overlay: &[Option<u8>; 4], width: Width) -> Option<[u8; 4]> {
+// Whether the stores forward every byte that is read.
+fn is_forwarded(overlay: &[Option<u8>; 4], width: Width) -> bool
+    ensures { result ≡ is_forwarded overlay.now (bytes_of width) }
+{
     match width {
-        Width::Byte => Some([overlay[0]?, 0, 0, 0]),
-        Width::Half => Some([overlay[0]?, overlay[1]?, 0, 0]),
-        Width::Word => Some([overlay[0]?, overlay[1]?, overlay[2]?, overlay[3]?]),
+        Width::Byte => overlay[0].is_some(),
+        Width::Half => overlay[0].is_some() && overlay[1].is_some(),
+        Width::Word => {
+            overlay[0].is_some()
+                && overlay[1].is_some()
+                && overlay[2].is_some()
+                && overlay[3].is_some()
+        }
     }
 }
 
-fn path_of(cache: &Cache<Ram>, queue: &StoreQueue, seq: u64, address: u32, width: Width) -> Path {
+fn path_of(cache: &Cache<Ram>, queue: &StoreQueue, seq: u64, address: u32, width: Width) -> Path
+    ensures { result ≡ path_of cache.now.backing.layout (older_than seq queue.now.stores) address (bytes_of width) }
+{
     if let Some(cause) = load_fault(cache.backing(), address, width) {
         return Path::Without(cause);
     }
     let overlay = queue.overlay(seq, address, width.bytes() as usize);
-    match all_forwarded(&overlay, width) {
-        Some(bytes) => Path::FromStores(bytes),
-        None => Path::FromCache(overlay),
+    if is_forwarded(&overlay, width) {
+        return Path::FromStores(overlay);
     }
+    Path::FromCache(overlay)
 }
 
-fn laid_over(overlay: &[Option<u8>; 4], bytes: [u8; 4]) -> [u8; 4] {
+fn laid_over(overlay: &[Option<u8>; 4], bytes: [u8; 4]) -> [u8; 4]
+    ensures { result ≡ bytes_over overlay.now bytes }
+{
     [
         overlay[0].unwrap_or(bytes[0]),
         overlay[1].unwrap_or(bytes[1]),
@@ -67,27 +81,36 @@ fn laid_over(overlay: &[Option<u8>; 4], bytes: [u8; 4]) -> [u8; 4] {
     ]
 }
 
-// The value of a load of these bytes, extended by its sign or by zeros.
-fn value_of(form: LoadForm, bytes: [u8; 4]) -> u32 {
-    let half = u16::from_le_bytes([bytes[0], bytes[1]]);
-    match form {
-        LoadForm::Byte => i32::from(bytes[0].cast_signed()).cast_unsigned(),
-        LoadForm::Half => i32::from(half.cast_signed()).cast_unsigned(),
-        LoadForm::Word => u32::from_le_bytes(bytes),
-        LoadForm::ByteUnsigned => u32::from(bytes[0]),
-        LoadForm::HalfUnsigned => u32::from(half),
+// The number that the first bytes make, the lowest byte first.
+fn number_of(bytes: [u8; 4], width: Width) -> u32
+    ensures number { result ≡ number_of (take (bytes_of width) bytes) }
+    ensures fits { result < 2 ^ (8 * bytes_of width) }
+{
+    match width {
+        Width::Byte => u32::from(bytes[0]),
+        Width::Half => u32::from(u16::from_le_bytes([bytes[0], bytes[1]])),
+        Width::Word => u32::from_le_bytes(bytes),
     }
+}
+
+// The value of a load of these bytes, extended by its sign or by zeros.
+fn value_of(form: LoadForm, bytes: [u8; 4]) -> u32
+    ensures { result ≡ extended (is_sign_extended form) (bytes_of (width_of form)) (number_of (take (bytes_of (width_of form)) bytes)) }
+{
+    extended(form, number_of(bytes, form.width()))
 }
 
 // Whether a waiting access may go: a load waits until every older store was broadcast, and for the port where it
 // needs it.
-fn may_go(
+pub(crate) fn may_go(
     cache: &Cache<Ram>,
     queue: &StoreQueue,
     first_unknown: Option<u64>,
     port_idle: bool,
     waiting: &Waiting,
-) -> bool {
+) -> bool
+    ensures { result ≡ may_go cache.now.backing.layout queue.now.stores first_unknown port_idle waiting.now }
+{
     let Instr::Load { form, offset, .. } = waiting.instruction else {
         return true;
     };
@@ -103,85 +126,78 @@ fn may_go(
         return false;
     };
     let place = address(base, offset);
-    !matches!(
-        path_of(cache, queue, waiting.seq, place, form.width()),
-        Path::FromCache(_)
-    )
+    !path_of(cache, queue, waiting.seq, place, form.width()).needs_port()
 }
 
-impl Parts {
-    /// Issues the oldest ready load or store that may go.
-    pub(crate) fn issue_access(&mut self) -> bool {
-        let first_unknown = self.stores.first_unknown();
-        let port_idle = self.is_port_idle();
-        let (cache, queue) = (&self.cache, &self.stores);
-        let taken = self.stations.take_oldest_ready(Kind::Mem, |waiting| {
-            may_go(cache, queue, first_unknown, port_idle, waiting)
-        });
-        let Some(ready) = taken else {
-            return false;
-        };
-        self.issue_taken(&ready);
-        true
+impl Path {
+    // Whether the cache is accessed.
+    fn needs_port(&self) -> bool
+        ensures { result ≡ needs_port self.now }
+    {
+        matches!(self, Path::FromCache(_))
     }
+}
 
-    fn issue_taken(&mut self, ready: &Ready) {
-        match ready.instruction {
-            Instr::Load {
-                form,
-                rd,
-                offset,
-                ..
-            } => self.issue_load(ready, form, rd, offset),
-            Instr::Store { width, offset, .. } => self.issue_store(ready, width, offset),
-            _ => {}
+/// What an execution gives, how many cycles it takes, and from when on the port is idle.
+#[derive(Clone, Copy, Debug, PartialEq, Eq)]
+pub(crate) struct Executed {
+    pub(crate) message: Message,
+    pub(crate) cost: u32,
+    pub(crate) port_free: u64,
+}
+
+/// What the time of an execution depends on.
+#[derive(Clone, Copy, Debug, PartialEq, Eq)]
+pub(crate) struct Times {
+    /// The cycles of the unit, and those of a load to which stores forward all bytes.
+    pub(crate) latency: u32,
+    pub(crate) forward: u32,
+    /// The number of the cycle, and the first one in which the port is idle.
+    pub(crate) cycle: u64,
+    pub(crate) port_free: u64,
+}
+
+/// Loads from the stores older than an instruction, and from the cache where they do not forward all bytes.
+pub(crate) fn load(
+    cache: &mut Cache<Ram>,
+    queue: &StoreQueue,
+    times: &Times,
+    ready: &Ready,
+    form: LoadForm,
+    rd: Reg,
+    offset: Immediate,
+) -> Executed
+    requires over_ram { IsOverRam cache.old }
+    requires cycle { times.now.cycle ≤ 2 ^ 40 }
+    ensures cost { result.cost ≡ path_cost times.now.latency times.now.forward cache.old (defined_path (sum ready.now.first (modulo_word offset)) (path_of cache.old.backing.layout (older_than ready.now.seq queue.now.stores) (sum ready.now.first (modulo_word offset)) (bytes_of (width_of form)))) }
+    ensures port { result.port_free ≡ port_after times.now.cycle times.now.port_free cache.old (defined_path (sum ready.now.first (modulo_word offset)) (path_of cache.old.backing.layout (older_than ready.now.seq queue.now.stores) (sum ready.now.first (modulo_word offset)) (bytes_of (width_of form)))) }
+    ensures cache { cache.new ≡ cache_after cache.old (defined_path (sum ready.now.first (modulo_word offset)) (path_of cache.old.backing.layout (older_than ready.now.seq queue.now.stores) (sum ready.now.first (modulo_word offset)) (bytes_of (width_of form)))) }
+    ensures message { (s : State) → s.pc ≡ ready.now.pc → IsBehind cache.old (older_than ready.now.seq queue.now.stores) s → result.message ≡ effect_message None (loads cache.old.backing.layout s form rd (sum ready.now.first (modulo_word offset))) }
+{
+    let place = address(ready.first, offset);
+    let width = form.width();
+    match path_of(cache, queue, ready.seq, place, width) {
+        Path::Without(cause) => Executed {
+            message: faults(cause, place),
+            cost: times.latency,
+            port_free: times.port_free,
+        },
+        Path::FromStores(overlay) => {
+            let value = value_of(form, laid_over(&overlay, [0; 4]));
+            Executed {
+                message: computes(rd, value, ready.pc),
+                cost: times.forward,
+                port_free: times.port_free,
+            }
         }
-    }
-
-    fn issue_store(&mut self, ready: &Ready, width: Width, offset: Immediate) {
-        let place = address(ready.first, offset);
-        let message = match store_fault(self.cache.backing(), place, width) {
-            Some(cause) => faults(cause, place),
-            None => stores(ready.pc, store_access(place, width, ready.second)),
-        };
-        self.start(Kind::Mem, ready.seq, self.values.mem.latency, &message);
-    }
-
-    fn issue_load(&mut self, ready: &Ready, form: LoadForm, rd: Reg, offset: Immediate) {
-        let place = address(ready.first, offset);
-        let (message, cost) = match path_of(
-            &self.cache,
-            &self.stores,
-            ready.seq,
-            place,
-            form.width(),
-        ) {
-            Path::Without(cause) => (faults(cause, place), self.values.mem.latency),
-            Path::FromStores(bytes) => (
-                computes(rd, value_of(form, bytes), ready.pc),
-                self.values.forward,
-            ),
-            Path::FromCache(overlay) => self.read(ready, form, rd, place, overlay),
-        };
-        self.start(Kind::Mem, ready.seq, cost, &message);
-    }
-
-    // Reads the cache, which keeps the port busy, and lays the older stores' bytes over.
-    fn read(
-        &mut self,
-        ready: &Ready,
-        form: LoadForm,
-        rd: Reg,
-        place: u32,
-        overlay: [Option<u8>; 4],
-    ) -> (Message, u32) {
-        let count = form.width().bytes() as usize;
-        if !self.cache.can_access(place, count) {
-            return (faults(Cause::LoadAccessFault, place), 1);
+        Path::FromCache(overlay) => {
+            let (bytes, cost) = cache.read(place, width.bytes() as usize);
+            let value = value_of(form, laid_over(&overlay, bytes));
+            Executed {
+                message: computes(rd, value, ready.pc),
+                cost,
+                port_free: times.cycle + u64::from(cost),
+            }
         }
-        let (bytes, cost) = self.cache.read(place, count);
-        self.port_free = self.cycle + u64::from(cost);
-        let value = value_of(form, laid_over(&overlay, bytes));
-        (computes(rd, value, ready.pc), cost)
     }
 }

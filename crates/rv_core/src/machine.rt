@@ -1,6 +1,14 @@
-ghost use Rattle.std.specs.Prelude.{◌≡◌, ◌<◌, ◌^◌, nat_le};
+ghost use Rattle.std.specs.Prelude.{◌≡◌, ◌+◌, ◌^◌, ◌<◌, ◌≤◌, ◌↔◌, List, ◌++◌, length, nat_le, vec_len, vec_capacity, IsTrue, IfOk, IfErr};
 ghost use Rattle.std.specs.FinSet as set;
-ghost use Rattle.rv_memory.specs.Memory.{word_of};
+ghost use Rattle.rv_memory.specs.Memory.{byte_seen, word_of};
+ghost use Rattle.rv_hardware.specs.Cycle.{IsCycle, any_prediction};
+ghost use Rattle.rv_hardware.specs.Headline.{IsTrueCycle};
+ghost use Rattle.rv_hardware.specs.Run.{Reachable};
+ghost use Rattle.rv_hardware.specs.Reset.{IsLoadable, reset_hardware};
+ghost use Rattle.rv_hardware.specs.Seen.{layout_of, seen};
+ghost use Rattle.rv_hardware.specs.declared.step.Step.{Step as StepOf};
+ghost use Rattle.rv_core.specs.Told.{IsCommitStop, exhausted_report, report_of_cycle, report_with};
+ghost use Rattle.rv_core.specs.declared.errors.NewError.TheVariants as refusal;
 
 use crate::errors::NewError;
 use crate::outcome::{CycleEnd, CycleReport};
@@ -35,6 +43,11 @@ impl Model for Core {
     ghost coded = { hardware_code };
 
     ghost view = { λ core. core.parts };
+
+    ghost use Rattle.std.specs.Prelude.{vec_capacity};
+    ghost use Rattle.rv_core.specs.Reached.{IsReached};
+
+    ghost invariant = { λ core. IsReached core.parts (vec_capacity core.steps) };
 }
 
 impl Core {
@@ -50,24 +63,39 @@ impl Core {
         description: &Description,
         image: &Image,
         predictor: Box<dyn Predictor>,
-    ) -> Result<Core, NewError> {
-        let values = description.values();
-        let fits = image.base == values.ram_base
-            && image.bytes.len() <= values.ram_size as usize
-            && image.start % 4 == 0;
-        if !fits {
+    ) -> Result<Core, NewError>
+        ensures made { IfOk result (λ core. core ≡ reset_hardware description.now image.now.bytes image.now.start) }
+        ensures fits { IfOk result (λ core. IsLoadable description.now image.now.base image.now.bytes image.now.start) }
+        ensures refused { IfErr result (λ error. (error ≡ refusal.ImageDoesNotFit) ↔ (IsLoadable description.now image.now.base image.now.bytes image.now.start → ⊥)) }
+    {
+        if !fits(description, image) {
             return Err(NewError::ImageDoesNotFit);
         }
+        let parts = Parts::new(alloc, description, image)?;
+        let steps = Vec::with_capacity(alloc, 8)?;
         Ok(Core {
-            parts: Parts::new(alloc, description, image)?,
+            parts,
             predictor,
-            steps: Vec::with_capacity(alloc, 8)?,
+            steps,
         })
     }
 
     /// Does one cycle with these levels of the interrupt lines, and takes no memory. A core that has done 2^40 cycles
     /// does nothing, and stops as exhausted.
-    pub fn cycle(&mut self, lines: Lines) -> CycleReport {
+    pub fn cycle(&mut self, lines: Lines) -> CycleReport
+        ensures cycled { self.old.cycle < 2 ^ 40 → IsCycle any_prediction lines self.old (report_of_cycle result) self.new }
+        ensures exhausted { self.old.cycle ≡ 2 ^ 40 → (self.new ≡ self.old) × (report_of_cycle result ≡ exhausted_report) }
+        ensures true_cycle { self.old.cycle < 2 ^ 40 → IsTrueCycle (layout_of self.old.values) lines self.old.cycle (seen self.old) result.steps.items result.stop (seen self.new) }
+    {
+        // Of hardware that a reset and cycles lead to, the headline holds.
+        let _ = self.cycles_done();
+        self.next_cycle(lines)
+    }
+
+    fn next_cycle(&mut self, lines: Lines) -> CycleReport
+        ensures cycled { self.old.cycle < 2 ^ 40 → IsCycle any_prediction lines self.old (report_of_cycle result) self.new }
+        ensures exhausted { self.old.cycle ≡ 2 ^ 40 → (self.new ≡ self.old) × (report_of_cycle result ≡ exhausted_report) }
+    {
         self.steps.clear();
         if self.is_exhausted() {
             return CycleReport {
@@ -90,21 +118,26 @@ impl Core {
 
     /// Does one cycle, and appends its steps to a list that has room for eight.
     pub(crate) fn advance(&mut self, lines: Lines, steps: &mut Vec<Step>) -> CycleEnd
-        requires { self.old.cycle < 2 ^ 40 }
+        requires cycles { self.old.cycle < 2 ^ 40 }
+        requires room { vec_len steps.old + 8 ≤ vec_capacity steps.old }
+        ensures stop { IsCommitStop result.stop }
+        ensures cycle { (done : List StepOf) × (steps.new.items ≡ steps.old.items ++ done) × IsCycle any_prediction lines self.old (report_with done result) self.new }
     {
         self.parts.advance(lines, &mut *self.predictor, steps)
     }
 
     /// Whether the core has done all the cycles that it counts.
     pub(crate) fn is_exhausted(&self) -> bool
-        ensures { result ≡ nat_le (2 ^ 40) self.now.cycle }
+        ensures exhausted { result ≡ nat_le (2 ^ 40) self.now.cycle }
+        ensures within { self.now.cycle ≤ 2 ^ 40 }
     {
         self.parts.cycle >= LAST_CYCLE
     }
 
     /// How many cycles the core has done, which is the number of the next one.
     pub fn cycles_done(&self) -> u64
-        ensures { result ≡ self.now.cycle }
+        ensures number { result ≡ self.now.cycle }
+        ensures reached { Reachable self.now }
     {
         self.parts.cycle
     }
@@ -127,15 +160,10 @@ impl Core {
 
     /// The byte that programs see at an address, or `None` outside RAM: that of the youngest retired store that the
     /// cache does not hold yet, else the cache's.
-    pub fn byte(&self, address: u32) -> Option<u8> {
-        let parts = &self.parts;
-        if !parts.cache.is_cached(address) {
-            return None;
-        }
-        match parts.stores.committed_byte(address) {
-            Some(byte) => Some(byte),
-            None => Some(parts.cache.peek(address)),
-        }
+    pub fn byte(&self, address: u32) -> Option<u8>
+        ensures { result ≡ byte_seen (layout_of self.now.values) (seen self.now).ram address }
+    {
+        self.parts.byte(address)
     }
 
     /// Whether the word that holds an address was stored to since the last FENCE.I, which no word outside RAM was.
@@ -146,13 +174,24 @@ impl Core {
     }
 }
 
-// The steps of a cycle, of which there are eight at most.
-fn listed(steps: &[Step]) -> ArrayVec<Step, 8> {
+// Whether the described RAM can hold an image.
+fn fits(description: &Description, image: &Image) -> bool
+    ensures { IsTrue result ↔ IsLoadable description.now image.now.base image.now.bytes image.now.start }
+{
+    let values = description.values();
+    image.base == values.ram_base
+        && image.bytes.len() <= values.ram_size as usize
+        && image.start % 4 == 0
+}
+
+// The steps of a cycle.
+fn listed(steps: &[Step]) -> ArrayVec<Step, 8>
+    requires { length steps.now ≤ 8 }
+    ensures { result.items ≡ steps.now }
+{
     let mut listed = ArrayVec::new();
     for step in steps {
-        if !listed.is_full() {
-            listed.push(*step);
-        }
+        listed.push(*step);
     }
     listed
 }

@@ -1,9 +1,23 @@
-ghost use Rattle.std.specs.Prelude.{◌≡◌, ◌≤◌, ◌<◌, ◌^◌, length};
+ghost use Rattle.std.specs.Prelude.{◌≡◌, ◌+◌, ◌*◌, ◌^◌, ◌≤◌, ◌<◌, List, [], ◌++◌, filter, length, vec_len, vec_capacity, nat_le, IfOk};
+ghost use Rattle.std.specs.FinSet as set;
+ghost use Rattle.rv_front.specs.FetchBuffer.{FetchesInto};
+ghost use Rattle.rv_rob.specs.ReorderBuffer.{cut_from, empty};
+ghost use Rattle.rv_rename.specs.Renaming.{cleared, empty as no_producers};
+ghost use Rattle.rv_stations.specs.Pool.{squashed as squashed_pool};
+ghost use Rattle.rv_stations.specs.Stations.{each_pool, empty_pools};
+ghost use Rattle.rv_stores.specs.Store.{is_committed};
+ghost use Rattle.rv_units.specs.Bus.{empty_bus, squashed as squashed_bus};
+ghost use Rattle.rv_units.specs.Units.{free_pools};
+ghost use Rattle.rv_hardware.specs.Cycle.{IsCycle, any_prediction};
+ghost use Rattle.rv_hardware.specs.Reset.{reset_hardware};
+ghost use Rattle.rv_hardware.specs.Squash.{flushed};
+ghost use Rattle.rv_hardware.specs.declared.step.Step.{Step as StepOf};
+ghost use Rattle.rv_core.specs.Told.{IsCommitStop, report_with};
 
 use crate::outcome::CycleEnd;
 use rv_arch::Csrs;
 use rv_cache::Cache;
-use rv_front::{Front, Predictor};
+use rv_front::{FetchStop, Front, Predictor};
 use rv_hardware::Step;
 use rv_isa::{Description, Image, Lines, Reg, Values};
 use rv_memory::{Ram, StaleMap};
@@ -60,10 +74,12 @@ impl Parts {
         image: &Image,
     ) -> Result<Parts, AllocError>
         requires { length image.now.bytes ≤ description.now.ram_size }
+        ensures { IfOk result (λ parts. parts ≡ reset_hardware description.now image.now.bytes image.now.start) }
     {
+        let front = Front::new(alloc, description, image.start)?;
         let (cache, stale) = memory_at_reset(alloc, description, image)?;
-        let (stations, units, bus) = empty_units(alloc, description)?;
         let (rob, rename, stores) = empty_buffers(alloc, description)?;
+        let (stations, units, bus) = empty_units(alloc, description)?;
         Ok(Parts {
             values: description.values(),
             pc: image.start,
@@ -78,7 +94,7 @@ impl Parts {
             bus,
             rename,
             rob,
-            front: Front::new(alloc, description, image.start)?,
+            front,
             cycle: 0,
             lines: Lines::default(),
         })
@@ -91,7 +107,13 @@ impl Parts {
         predictor: &mut dyn Predictor,
         steps: &mut Vec<Step>,
     ) -> CycleEnd
-        requires { self.old.cycle < 2 ^ 40 }
+        requires cycles { self.old.cycle < 2 ^ 40 }
+        requires numbers { self.old.rob.retired ≤ 8 * self.old.cycle }
+        requires room { vec_len steps.old + 8 ≤ vec_capacity steps.old }
+        ensures cycle { (done : List StepOf) × (steps.new.items ≡ steps.old.items ++ done) × (length done ≤ 8) × IsCycle any_prediction lines self.old (report_with done result) self.new }
+        ensures stop { IsCommitStop result.stop }
+        ensures numbers { self.new.rob.retired ≤ 8 * self.new.cycle }
+        ensures capacity { vec_capacity steps.new ≡ vec_capacity steps.old }
     {
         let cycle = self.cycle;
         self.lines = lines;
@@ -109,14 +131,19 @@ impl Parts {
         }
     }
 
-    /// Fetch: words are read along the predicted pcs, from RAM past the cache.
-    fn fetch(&mut self, predictor: &dyn Predictor) {
+    /// Fetch: words are read along the predicted pcs, from RAM past the cache. Tells why it stopped.
+    fn fetch(&mut self, predictor: &dyn Predictor) -> FetchStop
+        ensures fetched { FetchesInto (answers predictor.now) self.old.cache.backing self.old.cycle self.old.front self.new.front result }
+        ensures others { self.new ≡ record self.old { front = self.new.front } }
+    {
         self.front
-            .fetch(self.cycle, self.cache.backing(), predictor);
+            .fetch(self.cycle, self.cache.backing(), predictor)
     }
 
     /// Whether the cache's port is idle in this cycle.
-    pub(crate) fn is_port_idle(&self) -> bool {
+    pub(crate) fn is_port_idle(&self) -> bool
+        ensures { result ≡ nat_le self.now.port_free self.now.cycle }
+    {
         self.port_free <= self.cycle
     }
 
@@ -126,15 +153,39 @@ impl Parts {
     }
 
     /// Squashes everything in flight, and begins to fetch anew at the committed pc.
-    pub(crate) fn flush(&mut self) {
-        let oldest = self.rob.retired();
-        self.rob.cut(oldest);
-        self.stations.squash(oldest);
-        self.bus.squash(oldest);
-        self.rename.clear();
-        self.stores.squash_uncommitted();
+    pub(crate) fn flush(&mut self)
+        ensures { self.new ≡ flushed self.old }
+    {
+        squash_all(
+            &mut self.rob,
+            &mut self.stations,
+            &mut self.bus,
+            &mut self.rename,
+            &mut self.stores,
+        );
         self.front.redirect(self.pc);
     }
+}
+
+/// Leaves nothing in flight: no entry, no waiting instruction, no result, no producer, and no store but the retired ones.
+pub(crate) fn squash_all(
+    rob: &mut Rob,
+    stations: &mut Stations,
+    bus: &mut Bus,
+    rename: &mut RenameMap,
+    stores: &mut StoreQueue,
+)
+    ensures rob { rob.new ≡ cut_from 0 rob.old }
+    ensures stations { stations.new ≡ each_pool (squashed_pool 0) stations.old }
+    ensures bus { bus.new ≡ squashed_bus 0 bus.old }
+    ensures rename { rename.new ≡ cleared rename.old }
+    ensures stores { stores.new ≡ record stores.old { stores = filter is_committed stores.old.stores } }
+{
+    rob.cut(0);
+    stations.squash(0);
+    bus.squash(0);
+    rename.clear();
+    stores.squash_uncommitted();
 }
 
 // The cache over RAM with an image at its front, and no stale word.
@@ -144,6 +195,8 @@ fn memory_at_reset(
     image: &Image,
 ) -> Result<(Cache<Ram>, StaleMap), AllocError>
     requires { length image.now.bytes ≤ description.now.ram_size }
+    ensures cache { IfOk result (λ made. made.0 ≡ (reset_hardware description.now image.now.bytes image.now.start).cache) }
+    ensures stale { IfOk result (λ made. made.1 ≡ record { base = description.now.ram_base; size = description.now.ram_size; words = set.empty }) }
 {
     let values = description.values();
     let mut ram = Ram::new(alloc, values.ram_base, values.ram_size, values.rom_bytes)?;
@@ -156,17 +209,25 @@ fn memory_at_reset(
 fn empty_units(
     alloc: Global,
     description: &Description,
-) -> Result<(Stations, Units, Bus), AllocError> {
-    let stations = Stations::new(alloc, description)?;
-    let units = Units::new(alloc, description)?;
+) -> Result<(Stations, Units, Bus), AllocError>
+    ensures stations { IfOk result (λ made. made.0 ≡ empty_pools description.now) }
+    ensures units { IfOk result (λ made. made.1 ≡ free_pools description.now) }
+    ensures bus { IfOk result (λ made. made.2 ≡ empty_bus description.now) }
+{
     let bus = Bus::new(alloc, description)?;
+    let units = Units::new(alloc, description)?;
+    let stations = Stations::new(alloc, description)?;
     Ok((stations, units, bus))
 }
 
 fn empty_buffers(
     alloc: Global,
     description: &Description,
-) -> Result<(Rob, RenameMap, StoreQueue), AllocError> {
+) -> Result<(Rob, RenameMap, StoreQueue), AllocError>
+    ensures rob { IfOk result (λ made. made.0 ≡ empty description.now.rob) }
+    ensures rename { IfOk result (λ made. made.1 ≡ no_producers description.now.rob) }
+    ensures stores { IfOk result (λ made. made.2 ≡ record { stores = []; capacity = description.now.store_queue }) }
+{
     let rob = Rob::new(alloc, description)?;
     let rename = RenameMap::new(alloc, description)?;
     let stores = StoreQueue::new(alloc, description)?;

@@ -21,11 +21,6 @@ unfolding instruction_of
 instruction_of-funct3_row third code form alone word is_code is_third =
     first_fit-alone word (funct3_row third code form) table alone (and_funct3 word ∙ omega arith)
 
-pub instruction_of-funct7_row : (seventh third code : ℕ) (form : ℕ → Instr) → narrow 0xfe00707f (seventh * 2 ^ 25 + third * 2 ^ 12 + code) table ≡ funct7_row seventh third code form ∷ [] → (word : ℕ) → word < 2 ^ 32 → opcode word ≡ code → funct3 word ≡ third → funct7 word ≡ seventh → instruction_of word ≡ Some (form word)
-unfolding instruction_of
-instruction_of-funct7_row seventh third code form alone word small is_code is_third is_seventh =
-    first_fit-alone word (funct7_row seventh third code form) table alone (and_funct7 word small ∙ omega arith)
-
 -- ---- none is left
 
 pub instruction_of-none : (word mask value : ℕ) → bit_and word mask ≡ value → narrow mask value table ≡ [] → instruction_of word ≡ None

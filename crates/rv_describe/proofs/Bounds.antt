@@ -3,7 +3,7 @@ use Rattle.std.proofs.Common.{◌≡◌, ℕ, ◌≤◌, ◌%◌, pos, negsuc, B
 use Rattle.std.specs.Prelude.{option_and_then, nat_lt, nat_le, ◌==◌}
 use lib.Count.{ones}
 use Rattle.std.specs.Int.{is_power_of_two}
-use Rattle.std.proofs.lemmas.Bool.{cases_Bool, and_parts}
+use Rattle.std.proofs.lemmas.Bool.{cases_Bool, and_parts, eqb-true}
 use Rattle.std.proofs.lemmas.Bool.Decides.{nat_tests}
 use Rattle.toml.specs.Data.{Members, as_integer, table, string, integer, float, boolean, datetime, array}
 use Rattle.rv_isa.specs.Description.{Within}
@@ -50,9 +50,6 @@ passed false fault none = absurd (cc)
 within_lies : (low high n : ℕ) → lies low high n ≡ true → Within low high n
 within_lies low high n passes = let (above, below) = and_parts (nat_le low n) (nat_le n high) passes in (grind (arith, nat_tests), grind (arith, nat_tests))
 
-multiple : (unit n : ℕ) → (n % unit == 0) ≡ true → n % unit ≡ 0
-multiple unit n passes = grind (arith, nat_tests)
-
 -- what the bounds say of a number without fault
 pub within_whole : (low high size n : ℕ) → bounds_fault (Whole low high) size n ≡ None → Within low high n
 within_whole low high size n none = within_lies low high n (passed _ _ none)
@@ -60,12 +57,12 @@ within_whole low high size n none = within_lies low high n (passed _ _ none)
 pub within_pages : (low high size n : ℕ) → bounds_fault (Pages low high) size n ≡ None → Within low high n × (n % 4096 ≡ 0)
 within_pages low high size n none =
     let (within, whole) = and_parts (lies low high n) (n % 4096 == 0) (passed _ _ none) in
-    (within_lies low high n within, multiple 4096 n whole)
+    (within_lies low high n within, eqb-true (n % 4096) 0 whole)
 
 pub within_words : (low high size n : ℕ) → bounds_fault (Words low high) size n ≡ None → Within low high n × (n % 4 ≡ 0)
 within_words low high size n none =
     let (within, whole) = and_parts (lies low high n) (n % 4 == 0) (passed _ _ none) in
-    (within_lies low high n within, multiple 4 n whole)
+    (within_lies low high n within, eqb-true (n % 4) 0 whole)
 
 pub within_powers : (low high size n : ℕ) → bounds_fault (Powers low high) size n ≡ None → Within low high n × IsTrue (is_power_of_two n)
 within_powers low high size n none =
@@ -77,7 +74,7 @@ within_powers low high size n none =
 pub within_front : (size n : ℕ) → bounds_fault Front size n ≡ None → (n ≤ size) × (n % 4096 ≡ 0)
 within_front size n none =
     let (within, whole) = and_parts (nat_le n size) (n % 4096 == 0) (passed _ _ none) in
-    (grind (arith, nat_tests), multiple 4096 n whole)
+    (grind (arith, nat_tests), eqb-true (n % 4096) 0 whole)
 
 -- no front is one
 pub bounds_fault-no_front : (size : ℕ) → bounds_fault Front size 0 ≡ None

@@ -2,6 +2,9 @@
 use Rattle.std.specs.Prelude.{List, ℕ, Option, Some, None}
 use Rattle.toml.specs.Data.{Data, table, Members, get_member, string, integer, float, boolean, datetime, array}
 use Rattle.rv_describe.specs.Key.{KeyRow}
+use Rattle.toml.specs.View.{view}
+use Rattle.rv_describe.specs.declared.held.Held.{Held as Look}
+use Rattle.rv_describe.specs.declared.held.Held.TheVariants.{Absent, Misplaced, Present}
 
 -- nothing, no table where the key's table must stand, or a value
 pub data Held : Type 0 where
@@ -38,3 +41,9 @@ abbrev pub value_in : Held → Option Data
 value_in absent = None
 value_in misplaced = None
 value_in (present value) = Some value
+
+-- what the program's look-up shows
+abbrev pub seen : Look → Held
+seen Absent = absent
+seen Misplaced = misplaced
+seen (Present value) = present (view value.now)

@@ -67,44 +67,18 @@ row_of ReportDumpWords = inside (codes "report") (codes "dump_words") (Number (W
 -- the order in which the keys are tested
 unfoldable pub order : List Key
 order =
-    RamBase ∷
-    RamSize ∷
-    RomBytes ∷
-    FetchWidth ∷
-    DispatchWidth ∷
-    CommitWidth ∷
-    BusWidth ∷
-    FetchBuffer ∷
-    Rob ∷
-    StoreQueue ∷
-    Forward ∷
-    Recovery ∷
-    AluStations ∷
-    AluUnits ∷
-    AluLatency ∷
-    AluPipelined ∷
-    MulStations ∷
-    MulUnits ∷
-    MulLatency ∷
-    MulPipelined ∷
-    DivStations ∷
-    DivUnits ∷
-    DivLatency ∷
-    DivPipelined ∷
-    MemStations ∷
-    MemUnits ∷
-    MemLatency ∷
-    MemPipelined ∷
-    CacheSets ∷
-    CacheWays ∷
-    CacheLine ∷
-    CacheHit ∷
-    CacheMiss ∷
-    CacheWriteBack ∷
-    PredictorKind ∷
-    PredictorEntries ∷
-    ReportDumpAddress ∷
-    ReportDumpWords ∷ []
+    RamBase ∷ RamSize ∷ RomBytes ∷
+    FetchWidth ∷ DispatchWidth ∷ CommitWidth ∷ BusWidth ∷ FetchBuffer ∷
+    Rob ∷ StoreQueue ∷ Forward ∷ Recovery ∷
+    AluStations ∷ AluUnits ∷ AluLatency ∷ AluPipelined ∷
+    MulStations ∷ MulUnits ∷ MulLatency ∷ MulPipelined ∷
+    DivStations ∷ DivUnits ∷ DivLatency ∷ DivPipelined ∷
+    MemStations ∷ MemUnits ∷ MemLatency ∷ MemPipelined ∷
+    CacheSets ∷ CacheWays ∷ CacheLine ∷
+    CacheHit ∷ CacheMiss ∷ CacheWriteBack ∷
+    PredictorKind ∷ PredictorEntries ∷
+    ReportDumpAddress ∷ ReportDumpWords ∷
+    []
 
 -- the text of a key: its name, behind its table's and a dot
 abbrev pub joined : Option (List ℕ) → List ℕ → List ℕ

@@ -8,6 +8,5 @@ pub mod Held
 pub mod Key
 pub mod Legal
 pub mod Names
-pub mod Seen
 pub mod Setting
 pub mod Unknown

@@ -22,10 +22,8 @@ fn value_error(table: &Table) -> Option<DescriptionError>
     if let Some(place) = first_place(table, ValueFault::OutOfRange) {
         return Some(DescriptionError::OutOfRange { place });
     }
-    match first_place(table, ValueFault::NotPowerOfTwo) {
-        Some(place) => Some(DescriptionError::NotPowerOfTwo { place }),
-        None => None,
-    }
+    let place = first_place(table, ValueFault::NotPowerOfTwo)?;
+    Some(DescriptionError::NotPowerOfTwo { place })
 }
 
 fn first_error(table: &Table) -> Option<DescriptionError>

@@ -55,23 +55,14 @@ pub fn has_unknown_field(entry: &Value) -> bool
 fn integer_at(table: &Table, name: &str) -> Option<i64>
     ensures { result ≡ integer_at name.now (table_view table.now) }
 {
-    match table.get(name) {
-        Some(value) => value.as_integer(),
-        None => None,
-    }
+    table.get(name)?.as_integer()
 }
 
 /// The line that the string at `line` names, `Some(None)` for another string.
 fn line_at(table: &Table) -> Option<Option<Line>>
     ensures { result ≡ line_at (table_view table.now) }
 {
-    match table.get("line") {
-        Some(value) => match value.as_str() {
-            Some(name) => Some(line_named(name)),
-            None => None,
-        },
-        None => None,
-    }
+    Some(line_named(table.get("line")?.as_str()?))
 }
 
 /// The integer at `level`, 1 where there is no such field.

@@ -2,7 +2,7 @@ ghost use Rattle.std.specs.Prelude.{◌≡◌, Some, option_map};
 ghost use Rattle.toml.specs.View.{view, table_view};
 ghost use Rattle.rv_describe.specs.Held.{at_name, held, within_table};
 ghost use Rattle.rv_describe.specs.Key.{shown};
-ghost use Rattle.rv_describe.specs.Seen.{seen};
+ghost use Rattle.rv_describe.specs.Held.{seen};
 ghost use Rattle.rv_describe.specs.Setting.{value_at};
 ghost use Rattle.toml.specs.Data.{get_member};
 

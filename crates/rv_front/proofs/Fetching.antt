@@ -1,7 +1,7 @@
 -- A cycle's fetch, word by word.
-use Rattle.std.proofs.Common.{◌≡◌, ℕ, suc, ◌-◌, ◌<◌, ◌≤◌, Bool, true, false, nat_eq, nat_lt, is_none, List, [], ◌∷◌, ◌++◌, length, Option, Some, None, MatchBool, MatchOption, refl, sym, ap, subst, ◌∙◌, arith, append_assoc, length-append}
+use Rattle.std.proofs.Common.{◌≡◌, ℕ, suc, ◌-◌, ◌<◌, Bool, true, false, nat_eq, nat_lt, is_none, List, [], ◌∷◌, ◌++◌, length, Option, Some, None, MatchBool, MatchOption, refl, sym, ap, subst, ◌∙◌, arith, append_assoc, length-append}
 use Rattle.std.proofs.lemmas.List.{append-nil}
-use Rattle.std.proofs.lemmas.Bool.Decides.{nat_tests}
+use Rattle.std.proofs.lemmas.Bool.{ltb-true, ltb-false}
 use Rattle.circular_buffer.specs.Buffer.{keep_last}
 use Rattle.rv_isa.specs.Word.{pc_plus_4}
 use Rattle.rv_memory.specs.Memory.{Memory}
@@ -9,12 +9,6 @@ use Rattle.rv_front.specs.declared.fetched.Fetched.{Fetched}
 use Rattle.rv_front.specs.declared.fetched.FetchStop.{FetchStop}
 use Rattle.rv_front.specs.declared.fetched.FetchStop.TheVariants.{Width, Room, Prediction, Halted}
 use Rattle.rv_front.specs.FetchBuffer.{Answers, FetchBuffer, Fetches, FetchesInto, FetchesOne, IsFetchedAt, IsLinked, is_halted, stop_behind, stop_for}
-
-lt_holds : (a b : ℕ) → nat_lt a b ≡ true → a < b
-lt_holds a b h = grind (arith, nat_tests)
-
-lt_fails : (a b : ℕ) → nat_lt a b ≡ false → b ≤ a
-lt_fails a b h = grind (arith, nat_tests)
 
 -- a front by its fields
 front_is : (f : FetchBuffer) (es : List Fetched) (capacity width : ℕ) (halted : Bool) → f.entries ≡ es → f.capacity ≡ capacity → f.width ≡ width → f.halted ≡ halted → f ≡ record { entries = es; capacity = capacity; width = width; next_pc = f.next_pc; halted = halted }
@@ -52,9 +46,6 @@ module _ (answers : Answers) (ram : Memory) (cycle : ℕ) where
     pub halted_is : now.halted ≡ false
     pub rest : (es : List Fetched) (next : ℕ) (stop : FetchStop) → Fetches answers ram cycle left (now.capacity - length now.entries) now.next_pc es next stop → Fetches answers ram cycle old.width (old.capacity - length old.entries) old.next_pc (added ++ es) next stop
 
-  pub Fetching-begin : (old : FetchBuffer) → old.halted ≡ false → Fetching old old.width old
-  Fetching-begin old runs = record { added = []; entries_are = sym (append-nil old.entries); capacity_is = refl; width_is = refl; halted_is = runs; rest = λ es next stop h. h }
-
   -- ---- one more word
   less_room : (capacity : ℕ) (es : List Fetched) (e : Fetched) → length es < capacity → capacity - length es ≡ suc (capacity - length (es ++ e ∷ []))
   less_room capacity es e h = omega (arith, length-append es (e ∷ []))
@@ -62,18 +53,13 @@ module _ (answers : Answers) (ram : Memory) (cycle : ℕ) where
   step_in : (old now new : FetchBuffer) (left more : ℕ) (b : Bool) → nat_lt (length now.entries) now.capacity ≡ b → left ≡ suc more → Fetching old left now → MatchBool b ((e : Fetched) × IsFetchedAt answers ram cycle now.next_pc e × (None ≡ stop_behind e) × (new ≡ record now { entries = now.entries ++ e ∷ []; next_pc = e.predicted; halted = is_none e.word })) ((new ≡ now) × (None ≡ Some Room)) → Fetching old more new
   step_in old now new left more false full el f one = absurd (cc)
   step_in old now new left more true room el f (e, at, is, news) =
-      let entries : new.entries ≡ now.entries ++ e ∷ [] = ap (λ b. b.entries) news in
-      let capacity : new.capacity ≡ now.capacity = ap (λ b. b.capacity) news in
-      let next_pc : new.next_pc ≡ e.predicted = ap (λ b. b.next_pc) news in
-      let halted : new.halted ≡ is_none e.word = ap (λ b. b.halted) news in
-      let width : new.width ≡ now.width = ap (λ b. b.width) news in
-      let less = less_room now.capacity now.entries e (lt_holds _ _ room) in
+      let less = less_room now.capacity now.entries e (ltb-true _ _ room) in
       record {
         added = f.added ++ e ∷ [];
-        entries_are = entries ∙ (ap (λ l. l ++ e ∷ []) f.entries_are ∙ append_assoc old.entries f.added (e ∷ []));
-        capacity_is = capacity ∙ f.capacity_is;
-        width_is = width ∙ f.width_is;
-        halted_is = halted ∙ runs_on e.word (nat_eq e.predicted (pc_plus_4 e.pc)) (sym is);
+        entries_are = ap (λ (b : FetchBuffer). b.entries) news ∙ (ap (λ l. l ++ e ∷ []) f.entries_are ∙ append_assoc old.entries f.added (e ∷ []));
+        capacity_is = ap (λ (b : FetchBuffer). b.capacity) news ∙ f.capacity_is;
+        width_is = ap (λ (b : FetchBuffer). b.width) news ∙ f.width_is;
+        halted_is = ap (λ (b : FetchBuffer). b.halted) news ∙ runs_on e.word (nat_eq e.predicted (pc_plus_4 e.pc)) (sym is);
         rest = λ es next stop h.
             let Now : FetchBuffer → Type 0 = λ b. Fetches answers ram cycle more (b.capacity - length b.entries) b.next_pc es next stop in
             let Left : ℕ → Type 0 = λ n. Fetches answers ram cycle n (now.capacity - length now.entries) now.next_pc (e ∷ es) next stop in
@@ -94,7 +80,7 @@ module _ (answers : Answers) (ram : Memory) (cycle : ℕ) where
   end_in : (old now new : FetchBuffer) (left more : ℕ) (stop : FetchStop) (b : Bool) → old.halted ≡ false → nat_lt (length now.entries) now.capacity ≡ b → left ≡ suc more → Fetching old left now → MatchBool b ((e : Fetched) × IsFetchedAt answers ram cycle now.next_pc e × (Some stop ≡ stop_behind e) × (new ≡ record now { entries = now.entries ++ e ∷ []; next_pc = e.predicted; halted = is_none e.word })) ((new ≡ now) × (Some stop ≡ Some Room)) → FetchesInto answers ram cycle old new stop
   end_in old now new left more stop false runs full el f one =
       let why : stop ≡ Room = cc in
-      let none : now.capacity - length now.entries ≡ 0 = omega (arith, lt_fails (length now.entries) now.capacity full) in
+      let none : now.capacity - length now.entries ≡ 0 = omega (arith, ltb-false (length now.entries) now.capacity full) in
       let Left : ℕ → Type 0 = λ n. Fetches answers ram cycle n (now.capacity - length now.entries) now.next_pc [] now.next_pc Room in
       let Free : ℕ → Type 0 = λ r. Fetches answers ram cycle (suc more) r now.next_pc [] now.next_pc Room in
       let whole = f.rest [] now.next_pc Room (subst Left (sym el) (subst Free (sym none) (refl, refl))) in
@@ -102,20 +88,15 @@ module _ (answers : Answers) (ram : Memory) (cycle : ℕ) where
       let P : FetchBuffer → Type 0 = λ b. FetchesInto answers ram cycle old b stop in
       subst P (sym one.0) (rw why same)
   end_in old now new left more stop true runs room el f (e, at, is, news) =
-      let entries : new.entries ≡ now.entries ++ e ∷ [] = ap (λ b. b.entries) news in
-      let capacity : new.capacity ≡ now.capacity = ap (λ b. b.capacity) news in
-      let next_pc : new.next_pc ≡ e.predicted = ap (λ b. b.next_pc) news in
-      let halted : new.halted ≡ is_none e.word = ap (λ b. b.halted) news in
-      let width : new.width ≡ now.width = ap (λ b. b.width) news in
-      let less = less_room now.capacity now.entries e (lt_holds _ _ room) in
+      let less = less_room now.capacity now.entries e (ltb-true _ _ room) in
       let Left : ℕ → Type 0 = λ n. Fetches answers ram cycle n (now.capacity - length now.entries) now.next_pc (e ∷ []) e.predicted stop in
       let Free : ℕ → Type 0 = λ r. Fetches answers ram cycle (suc more) r now.next_pc (e ∷ []) e.predicted stop in
       let last = Fetches-last more (now.capacity - length (now.entries ++ e ∷ [])) now.next_pc e stop at (sym is) in
       let whole = f.rest (e ∷ []) e.predicted stop (subst Left (sym el) (subst Free (sym less) last)) in
-      into old new stop (f.added ++ e ∷ []) runs (rw next_pc whole)
-      (entries ∙ (ap (λ l. l ++ e ∷ []) f.entries_are ∙ append_assoc old.entries f.added (e ∷ [])))
-      (capacity ∙ f.capacity_is) (width ∙ f.width_is)
-      (halted ∙ ends e.word (nat_eq e.predicted (pc_plus_4 e.pc)) stop (sym is))
+      into old new stop (f.added ++ e ∷ []) runs (rw (ap (λ (b : FetchBuffer). b.next_pc) news) whole)
+      (ap (λ (b : FetchBuffer). b.entries) news ∙ (ap (λ l. l ++ e ∷ []) f.entries_are ∙ append_assoc old.entries f.added (e ∷ [])))
+      (ap (λ (b : FetchBuffer). b.capacity) news ∙ f.capacity_is) (ap (λ (b : FetchBuffer). b.width) news ∙ f.width_is)
+      (ap (λ (b : FetchBuffer). b.halted) news ∙ ends e.word (nat_eq e.predicted (pc_plus_4 e.pc)) stop (sym is))
 
   pub Fetching-end : (old now new : FetchBuffer) (left more : ℕ) (stop : FetchStop) → old.halted ≡ false → left ≡ suc more → Fetching old left now → FetchesOne answers ram cycle now new (Some stop) → FetchesInto answers ram cycle old new stop
   Fetching-end old now new left more stop runs el f one = end_in old now new left more stop (nat_lt (length now.entries) now.capacity) runs refl el f one

@@ -209,3 +209,28 @@ branch_beside_a_division_mended_early : steps_of (record machine { recovery = Ea
     []
 unfolding instruction_of table
 branch_beside_a_division_mended_early = refl
+
+-- two stores into two lines, and FENCE.I, which waits for both and then for the write-back of both lines
+fence_waits_for_stores_and_write_back : steps_of machine (0x80000437 ∷ 0x02040413 ∷ 0x00842023 ∷ 0x04842023 ∷ 0x0000100f ∷ 0x00042483 ∷ ebreak ∷ []) 56 ≡
+    executed 0x80000000 0x80000437 (Some (8, 0x80000000)) 0 1 2 1 3 4 ∷
+    executed 0x80000004 0x02040413 (Some (8, 0x80000020)) 0 1 4 1 5 6 ∷
+    executed 0x80000008 0x00842023 None 1 2 6 1 7 8 ∷
+    executed 0x8000000c 0x04842023 None 1 2 7 1 8 9 ∷
+    serialised 0x80000010 0x0000100f None 2 3 51 ∷
+    executed 0x80000014 0x00042483 (Some (9, 0x80000020)) 51 52 53 1 54 55 ∷
+    breakpoint 0x80000018 55 ∷
+    []
+unfolding instruction_of table
+fence_waits_for_stores_and_write_back = refl
+
+-- a store queue with one place: the next store is dispatched when the one before it has left the cache's port
+store_queue_of_one : steps_of (record machine { store_queue = 1 }) (0x80000437 ∷ 0x02040413 ∷ 0x00842023 ∷ 0x00842223 ∷ 0x00842423 ∷ ebreak ∷ []) 27 ≡
+    executed 0x80000000 0x80000437 (Some (8, 0x80000000)) 0 1 2 1 3 4 ∷
+    executed 0x80000004 0x02040413 (Some (8, 0x80000020)) 0 1 4 1 5 6 ∷
+    executed 0x80000008 0x00842023 None 1 2 6 1 7 8 ∷
+    executed 0x8000000c 0x00842223 None 1 19 20 1 21 22 ∷
+    executed 0x80000010 0x00842423 None 2 23 24 1 25 26 ∷
+    breakpoint 0x80000014 26 ∷
+    []
+unfolding instruction_of table
+store_queue_of_one = refl

@@ -15,3 +15,7 @@ pub mod Dispatch
 pub mod Cycle
 pub mod Reset
 pub mod Run
+pub mod Headline
+pub mod Gap
+pub mod Stamps
+pub mod Laws

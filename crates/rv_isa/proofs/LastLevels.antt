@@ -21,17 +21,12 @@ last_or-front : (b : Bool) (before : Bool) (a : Arrival) (rest : List Arrival) �
 last_or-front true before a rest = refl
 last_or-front false before a rest = refl
 
-software_after : (lines : Lines) (xs : List Arrival) → (lines_after lines xs).software ≡ last_or lines.software (filter (λ a. is_line Software a.line) xs)
-software_after lines [] = refl
-software_after lines (a ∷ xs) = software_after (line_set lines a) xs ∙ last_or-front (is_line Software a.line) lines.software a (filter (λ b. is_line Software b.line) xs)
-
-timer_after : (lines : Lines) (xs : List Arrival) → (lines_after lines xs).timer ≡ last_or lines.timer (filter (λ a. is_line Timer a.line) xs)
-timer_after lines [] = refl
-timer_after lines (a ∷ xs) = timer_after (line_set lines a) xs ∙ last_or-front (is_line Timer a.line) lines.timer a (filter (λ b. is_line Timer b.line) xs)
-
-external_after : (lines : Lines) (xs : List Arrival) → (lines_after lines xs).external ≡ last_or lines.external (filter (λ a. is_line External a.line) xs)
-external_after lines [] = refl
-external_after lines (a ∷ xs) = external_after (line_set lines a) xs ∙ last_or-front (is_line External a.line) lines.external a (filter (λ b. is_line External b.line) xs)
+-- a line's level after some arrivals
+line_after : (line : Line) (level : Lines → Bool) → ((lines : Lines) (a : Arrival) → level (line_set lines a) ≡ cond (is_line line a.line) a.level (level lines)) → (lines : Lines) (xs : List Arrival) → level (lines_after lines xs) ≡ last_or (level lines) (filter (λ a. is_line line a.line) xs)
+line_after line level sets lines [] = refl
+line_after line level sets lines (a ∷ xs) =
+    let rest = filter (λ b. is_line line b.line) xs in
+    line_after line level sets (line_set lines a) xs ∙ ap (λ b. last_or b rest) (sets lines a) ∙ last_or-front (is_line line a.line) (level lines) a rest
 
 filter-front : {X : Type 0} (p : X → Bool) (b : Bool) (x : X) (rest : List X) → filter p (cond b (x ∷ rest) rest) ≡ cond b (cond (p x) (x ∷ filter p rest) (filter p rest)) (filter p rest)
 filter-front p true x rest = refl
@@ -58,7 +53,7 @@ pub lines_at-lines_after : (arrivals : List Arrival) (cycle : ℕ) → lines_at 
 lines_at-lines_after arrivals cycle =
     let up_to = filter (λ a. nat_le a.cycle cycle) arrivals in
     λ i. record {
-      software = (level_at-last_or Software arrivals cycle ∙ sym (software_after low up_to)) i;
-      timer = (level_at-last_or Timer arrivals cycle ∙ sym (timer_after low up_to)) i;
-      external = (level_at-last_or External arrivals cycle ∙ sym (external_after low up_to)) i;
+      software = (level_at-last_or Software arrivals cycle ∙ sym (line_after Software (λ lines. lines.software) (λ lines a. refl) low up_to)) i;
+      timer = (level_at-last_or Timer arrivals cycle ∙ sym (line_after Timer (λ lines. lines.timer) (λ lines a. refl) low up_to)) i;
+      external = (level_at-last_or External arrivals cycle ∙ sym (line_after External (λ lines. lines.external) (λ lines a. refl) low up_to)) i;
     }

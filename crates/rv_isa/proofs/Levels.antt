@@ -1,14 +1,15 @@
-use Rattle.std.proofs.Common.{Option, Some, None, leb-false, IfSome, subst, find, nat_lt, slice_get, le-leb, ◌≡◌, ℕ, zero, suc, ◌+◌, ◌<◌, ◌≤◌, Bool, true, false, List, [], ◌∷◌, ◌++◌, length, take, drop, slice_index_or, filter, refl, arith, ◌∙◌, sym, ap, min, ◌-◌, nat_le, slice_set}
+use Rattle.std.proofs.Common.{Some, None, leb-false, IfSome, subst, find, nat_lt, slice_get, le-leb, ◌≡◌, ℕ, zero, suc, ◌+◌, ◌<◌, ◌≤◌, Bool, true, false, List, [], ◌∷◌, ◌++◌, length, take, drop, slice_index_or, filter, refl, arith, ◌∙◌, sym, ap, min, ◌-◌, nat_le, slice_set}
 use Rattle.std.specs.List.Sorted.{IsNonDecreasingBy}
 use Rattle.std.proofs.lemmas.Grind.{common_steps}
 use Rattle.std.specs.Option.{option_map}
 use Rattle.std.proofs.lemmas.Bool.{lt-leb}
 use Rattle.std.proofs.lemmas.Bool.Decides.{nat_tests}
 use Rattle.std.proofs.lemmas.Option.{slice_get-get_or, slice_get_past}
+use Rattle.std.proofs.Math.Seq.{take-add}
 use Rattle.std.proofs.lemmas.List.{take_min}
 use Rattle.rv_isa.specs.declared.lines.Lines.{Lines}
 use Rattle.rv_isa.specs.declared.lines.Arrival.{Arrival}
-use Rattle.rv_isa.specs.Levels.{lines_after, line_set, low}
+use Rattle.rv_isa.specs.Levels.{IsSplit, lines_after, line_set, low}
 use Rattle.rv_isa.specs.Arrivals.{lines_at, next_arrival, AreSteady}
 use Rattle.rv_isa.proofs.LastLevels.{lines_at-lines_after}
 
@@ -16,12 +17,6 @@ use Rattle.rv_isa.proofs.LastLevels.{lines_at-lines_after}
 pub lines_after-append : (lines : Lines) (xs ys : List Arrival) → lines_after lines (xs ++ ys) ≡ lines_after (lines_after lines xs) ys
 lines_after-append lines [] ys = refl
 lines_after-append lines (a ∷ xs) ys = lines_after-append (line_set lines a) xs ys
-
--- a prefix, and what follows it
-pub take-plus : {X : Type 0} (m n : ℕ) (xs : List X) → take (m + n) xs ≡ take m xs ++ take n (drop m xs)
-take-plus zero n xs = grind (arith, common_steps)
-take-plus (suc m) n [] = grind (arith, common_steps)
-take-plus (suc m) n (x ∷ xs) = let e : suc m + n ≡ suc (m + n) = omega arith in rw e (ap (λ r. x ∷ r) (take-plus m n xs))
 
 -- where each element is at least the one before it, it is at least every earlier one
 pub cycles_rise : (xs : List Arrival) → ((k : ℕ) (d : Arrival) → k + 1 < length xs → (slice_index_or xs k d).cycle ≤ (slice_index_or xs (k + 1) d).cycle) → IsNonDecreasingBy (λ a. a.cycle) xs
@@ -47,14 +42,14 @@ filter_prefix p (x ∷ xs) (suc i) le on off =
 pub lines_after-more : (before lines : Lines) (xs rest : List Arrival) (m n w : ℕ) → w ≡ min (length rest) n → rest ≡ drop m xs → lines ≡ lines_after before (take m xs) → lines_after lines (take w rest) ≡ lines_after before (take (m + n) xs)
 lines_after-more before lines xs rest m n w count from here =
     let same : take w rest ≡ take n rest = grind (arith, take_min n rest) in
-    rw (same, from, here, take-plus m n xs) (sym (lines_after-append before (take m xs) (take n (drop m xs))))
+    rw (same, from, here, take-add m n xs) (sym (lines_after-append before (take m xs) (take n (drop m xs))))
 
 -- the levels in a cycle, from those after a first part of the arrivals that are not later
 pub lines_at-from : (arrivals : List Arrival) (cycle count from : ℕ) (lines : Lines) → count ≤ length arrivals → from ≤ count → ((k : ℕ) (d : Arrival) → k < count → nat_le (slice_index_or arrivals k d).cycle cycle ≡ true) → ((k : ℕ) (d : Arrival) → count ≤ k → k < length arrivals → nat_le (slice_index_or arrivals k d).cycle cycle ≡ false) → lines ≡ lines_after low (take from arrivals) → lines_after lines (take (count - from) (drop from arrivals)) ≡ lines_at arrivals cycle
 lines_at-from arrivals cycle count from lines within before on off here =
     let sum : from + (count - from) ≡ count = omega arith in
     let passed : filter (λ a. nat_le a.cycle cycle) arrivals ≡ take count arrivals = filter_prefix (λ a. nat_le a.cycle cycle) arrivals count within on off in
-    let split : take count arrivals ≡ take from arrivals ++ take (count - from) (drop from arrivals) = ap (λ n. take n arrivals) (sym sum) ∙ take-plus from (count - from) arrivals in
+    let split : take count arrivals ≡ take from arrivals ++ take (count - from) (drop from arrivals) = ap (λ n. take n arrivals) (sym sum) ∙ take-add from (count - from) arrivals in
     rw (here, lines_at-lines_after arrivals cycle, passed, split) (sym (lines_after-append low (take from arrivals) (take (count - from) (drop from arrivals))))
 
 -- one more place of a table
@@ -83,13 +78,6 @@ lines_at-steady arrivals cycle c n within order on off le before =
     let late : c < (slice_index_or arrivals n d).cycle = subst (λ o. IfSome (option_map (λ (a : Arrival). a.cycle) o) (λ next. c < next)) some before in
     lt-leb _ _ (omega (arith, late, order n k d ge lt))) in
     lines_at-lines_after arrivals c ∙ ap (lines_after low) (second ∙ sym first) ∙ sym (lines_at-lines_after arrivals cycle)
-
--- the arrivals, of which exactly the first n are not later than a cycle
-pub record IsSplit (cycle : ℕ) (arrivals : List Arrival) (n : ℕ) : Type 0 where
-  pub within : n ≤ length arrivals
-  pub order : IsNonDecreasingBy (λ a. a.cycle) arrivals
-  pub on : (k : ℕ) (d : Arrival) → k < n → nat_le (slice_index_or arrivals k d).cycle cycle ≡ true
-  pub off : (k : ℕ) (d : Arrival) → n ≤ k → k < length arrivals → nat_le (slice_index_or arrivals k d).cycle cycle ≡ false
 
 module _ (cycle : ℕ) (arrivals : List Arrival) (n : ℕ) (split : IsSplit cycle arrivals n) where
   pub next_arrival-none : length arrivals ≤ n → None ≡ next_arrival arrivals cycle

@@ -3,7 +3,7 @@ use Rattle.std.proofs.Common.{◌≡◌, ℕ, zero, suc, ◌+◌, ◌<◌, ◌�
 use Rattle.std.specs.List.Sorted.{IsNonDecreasingBy}
 use Rattle.std.proofs.lemmas.Bool.{cases_lt, lt-ltb, le-ltb}
 use Rattle.std.proofs.lemmas.List.{get_or-append-add, get_or_append_left, length-append}
-use Rattle.std.proofs.lemmas.List.Elements.{filter-append, All-append, All-push, All-head, All-tail, All-cons, All-filter, All-take, All-drop, All-map}
+use Rattle.std.proofs.lemmas.List.Elements.{filter-append, All-append, All-push, All-head, All-tail, All-cons, All-take, All-drop, All-map}
 use Rattle.std.proofs.lemmas.List.Kept.{AllPairs-cons, AllPairs-filter}
 use Rattle.std.proofs.lemmas.List.Quantifiers.{all_pairs_push, all_pairs_remove}
 use Rattle.rv_isa.specs.Numbered.{below, AreBelow, IsInOrder}
@@ -69,10 +69,6 @@ module _ {X : Type 0} (seq : X → ℕ) where
   pub AreBelow-right : (n : ℕ) (xs ys : List X) → AreBelow seq n (xs ++ ys) → AreBelow seq n ys
   AreBelow-right n xs ys are k d lt = let at = get_or-append-add xs ys k d in omega (arith, ap seq at, are (length xs + k) d (omega (arith, length-append xs ys)))
 
-  -- what stays below another number
-  pub AreBelow-below : (m n : ℕ) (xs : List X) → AreBelow seq m xs → AreBelow seq m (below seq n xs)
-  AreBelow-below m n xs are = All-filter (λ z. nat_lt (seq z) n) (λ z. seq z < m) xs are
-
   -- those below n are below n
   pub below-AreBelow : (n : ℕ) (xs : List X) → AreBelow seq n (below seq n xs)
   below-AreBelow n [] = λ k d lt. absurd (omega arith)
@@ -122,11 +118,6 @@ module _ {X : Type 0} (seq : X → ℕ) where
   IsInOrder-drop zero xs order = order
   IsInOrder-drop (suc k) [] order = order
   IsInOrder-drop (suc k) (x ∷ xs) order = IsInOrder-drop k xs (IsInOrder-tail x xs order)
-
-  pub IsInOrder-take : (k : ℕ) (xs : List X) → IsInOrder seq xs → IsInOrder seq (take k xs)
-  IsInOrder-take zero xs order = λ i j d lt within. absurd (omega arith)
-  IsInOrder-take (suc k) [] order = order
-  IsInOrder-take (suc k) (x ∷ xs) order = IsInOrder-cons x (take k xs) (All-take (λ z. seq x < seq z) k xs (IsInOrder-head x xs order)) (IsInOrder-take k xs (IsInOrder-tail x xs order))
 
   -- the numbers do not fall
   pub IsInOrder-non_decreasing : (xs : List X) → IsInOrder seq xs → IsNonDecreasingBy seq xs

@@ -1,4 +1,5 @@
-use Rattle.std.specs.Prelude.{◌≡◌, ℕ, ◌*◌, ◌<◌, false, cond, List, [], ◌∷◌, take, slice_index_or}
+use Rattle.std.specs.Prelude.{◌≡◌, ℕ, ◌*◌, ◌<◌, ◌≤◌, true, false, cond, nat_le, List, [], ◌∷◌, length, take, slice_index_or}
+use Rattle.std.specs.List.Sorted.{IsNonDecreasingBy}
 use Rattle.rv_isa.specs.declared.lines.Line.TheVariants.{Software, Timer, External}
 use Rattle.rv_isa.specs.declared.lines.Lines.{Lines}
 use Rattle.rv_isa.specs.declared.lines.Arrival.{Arrival}
@@ -26,3 +27,10 @@ lines_after lines (a ∷ later) = lines_after (line_set lines a) later
 -- place k holds the levels after the first k blocks
 abbrev pub HoldsLevels : List Arrival → List Lines → Type 0
 HoldsLevels arrivals levels = (k : ℕ) (d : Lines) → k < BLOCKS → slice_index_or levels k d ≡ lines_after low (take (k * BLOCK) arrivals)
+
+-- exactly the first n of the arrivals, which are in order, are not later than a cycle
+pub record IsSplit (cycle : ℕ) (arrivals : List Arrival) (n : ℕ) : Type 0 where
+  pub within : n ≤ length arrivals
+  pub order : IsNonDecreasingBy (λ a. a.cycle) arrivals
+  pub on : (k : ℕ) (d : Arrival) → k < n → nat_le (slice_index_or arrivals k d).cycle cycle ≡ true
+  pub off : (k : ℕ) (d : Arrival) → n ≤ k → k < length arrivals → nat_le (slice_index_or arrivals k d).cycle cycle ≡ false

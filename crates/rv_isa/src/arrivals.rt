@@ -1,6 +1,7 @@
 ghost use Rattle.std.specs.Prelude.{◌≡◌, ◌↔◌, IsSome, IfSome, IsTrue, ◌<◌};
 ghost use Rattle.std.specs.List.Sorted.{IsNonDecreasingBy};
 ghost use Rattle.rv_isa.specs.Arrivals.{IsLegalArrivals};
+ghost use Rattle.rv_isa.specs.Levels.{IsSplit};
 
 use crate::line_levels::{BLOCK, BLOCKS, levels_of, lines_after};
 use crate::lines::{Arrival, Lines};
@@ -58,7 +59,7 @@ impl Arrivals {
         ensures { result ≡ lines_at self.now cycle }
     {
         let items = self.items.as_slice();
-        let count = items.partition_point(|arrival| arrival.cycle <= cycle);
+        let count = count_until(items, cycle);
         let block = count / BLOCK;
         lines_after(self.levels[block], &items[block * BLOCK..count])
     }
@@ -71,10 +72,17 @@ impl Arrivals {
         ensures steady { AreSteady self.now cycle result }
     {
         let items = self.items.as_slice();
-        let count = items.partition_point(|arrival| arrival.cycle <= cycle);
-        let next = items.get(count)?;
+        let next = items.get(count_until(items, cycle))?;
         Some(next.cycle)
     }
+}
+
+// How many arrivals are not later than a cycle.
+fn count_until(items: &[Arrival], cycle: u64) -> usize
+    requires { IsNonDecreasingBy (λ a. a.cycle) items.now }
+    ensures { IsSplit cycle items.now result }
+{
+    items.partition_point(|arrival| arrival.cycle <= cycle)
 }
 
 fn is_legal(items: &[Arrival]) -> bool

@@ -1,5 +1,5 @@
 -- How a rename map is kept: the producers, a table of the youngest of each register, and the checkpoints' numbers.
-use Rattle.std.specs.Prelude.{◌≡◌, ℕ, ◌+◌, ◌<◌, ◌≤◌, List, length, map, Option, None, slice_index_or}
+use Rattle.std.specs.Prelude.{◌≡◌, ℕ, ◌+◌, ◌<◌, ◌≤◌, List, length, Option, None, slice_index_or}
 use Rattle.rv_isa.specs.Numbered.{below, IsInOrder}
 use Rattle.rv_rename.specs.declared.producer.Producer.{Producer}
 use Rattle.rv_rename.specs.Renaming.{Checkpoint, youngest}

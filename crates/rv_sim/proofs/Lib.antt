@@ -1,6 +1,7 @@
 mod Ending
+mod JobParts
 mod Limits
 mod Parses
+mod Places
 mod Reading
 mod Running
-mod Writing

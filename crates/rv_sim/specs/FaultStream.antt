@@ -2,7 +2,7 @@
 use Rattle.std.specs.Prelude.{◌≡◌, ◌⊎◌, ℕ, List, Bool, true, Option, Result, Ok, Err}
 use Rattle.std.specs.Io.KnownBytes.{Appends}
 use Rattle.rv_sim.specs.Fault.{fault_line}
-use Rattle.rv_sim.specs.Written.{AppendsBeginning}
+use Rattle.rv_report.specs.Written.{AppendsBeginning}
 use Rattle.rv_sim.specs.declared.errors.SimError.{SimError}
 
 -- the bytes that are held, where they are known, and whether a write failed

@@ -1,12 +1,13 @@
 pub mod Command
 pub mod Fault
 pub mod FaultStream
-pub mod Line
+pub mod ImageRefusal
+pub mod JobRefusal
+pub mod JobText
+pub mod Parts
 pub mod Program
-pub mod ReadField
+pub mod ReadParts
 pub mod ReferenceReport
-pub mod Report
 pub mod Task
 pub mod TextImage
 pub mod Usage
-pub mod Written

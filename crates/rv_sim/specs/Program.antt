@@ -3,6 +3,7 @@ use Rattle.std.specs.Prelude.{◌≡◌, ◌⊎◌, ℕ, List, Option, Result, I
 use Rattle.rv_sim.specs.Fault.{exit_status, fault_line, fault_status, input_fault_line, input_fault_status}
 use Rattle.rv_sim.specs.FaultStream.{FaultStream, Tells, TellsOf}
 use Rattle.rv_sim.specs.Task.{Asks, Ends, Refuses}
+use Rattle.rv_sim.specs.Usage.{TellsWantOfMemory}
 use Rattle.rv_sim.specs.declared.command.Command.{Command}
 use Rattle.rv_sim.specs.declared.errors.SimError.{SimError}
 use Rattle.rv_sim.specs.declared.input.InputError.{InputError}
@@ -21,11 +22,16 @@ abbrev pub IsRefused : Command → List ℕ → FaultStream → FaultStream → 
 IsRefused command input old new status =
     (error : SimError) × Refuses command input error × Tells old new (fault_line error) × (status ≡ fault_status error)
 
--- what the command asks was done, or failed, which is told
+-- a task was done, or failed, which is told; memory for the predictor of its machine may be refused before
+abbrev pub EndsWithin : Task → Option (List ℕ) → Option (List ℕ) → FaultStream → FaultStream → ℕ → Type 0
+EndsWithin task old-output new-output old new status =
+    TellsWantOfMemory old-output new-output old new status
+    ⊎ ((outcome : Result ℕ SimError) × Ends task old-output new-output outcome × TellsOf old new outcome × (status ≡ exit_status outcome))
+
+-- what the command asks of the input was done, or failed
 abbrev pub IsEnded : Command → List ℕ → Option (List ℕ) → Option (List ℕ) → FaultStream → FaultStream → ℕ → Type 0
 IsEnded command input old-output new-output old new status =
-    (task : Task) × Asks command input task
-    × (outcome : Result ℕ SimError) × Ends task old-output new-output outcome × TellsOf old new outcome × (status ≡ exit_status outcome)
+    (task : Task) × Asks command input task × EndsWithin task old-output new-output old new status
 
 -- the program with a command and the bytes that remain of its input: how the known bytes of its output and its fault lines change, and
 -- the exit status

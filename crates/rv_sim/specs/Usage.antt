@@ -5,7 +5,7 @@ use Rattle.clap.specs.declared.error.kind.ErrorKind.{ErrorKind}
 use Rattle.clap.specs.declared.error.kind.ErrorKind.TheVariants.{DisplayHelp, DisplayVersion, OutOfMemory}
 use Rattle.rv_sim.specs.Fault.{fault_line, fault_status}
 use Rattle.rv_sim.specs.FaultStream.{FaultStream, Tells}
-use Rattle.rv_sim.specs.Written.{AppendsBeginning}
+use Rattle.rv_report.specs.Written.{AppendsBeginning}
 use Rattle.rv_sim.specs.declared.errors.SimError.{SimError}
 use Rattle.rv_sim.specs.declared.errors.SimError.TheVariants.{Memory, WriteFailed}
 

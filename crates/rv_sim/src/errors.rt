@@ -1,7 +1,8 @@
 ghost use Rattle.std.specs.Prelude.{◌≡◌};
 
-use crate::output::ReportError;
 use rv_asm::AsmError;
+use rv_describe::{ArrivalsError, DescriptionError};
+use rv_report::ReportError;
 use std::alloc::AllocError;
 use thiserror::Error;
 
@@ -11,10 +12,16 @@ pub enum SimError {
     /// The job has more than 33,554,432 bytes.
     #[error("job too long")]
     TooLong,
-    /// The first fault of the text.
+    /// The fault of the description.
+    #[error("description")]
+    Description(DescriptionError),
+    /// The fault of the arrivals.
+    #[error("arrivals")]
+    Arrivals(ArrivalsError),
+    /// The first fault of the assembly.
     #[error("assembly")]
     Assembly(AsmError),
-    /// The image is longer than RAM, or its start is no multiple of 4.
+    /// The image is longer than the RAM that is described, or its start is no multiple of 4.
     #[error("image does not fit")]
     ImageDoesNotFit,
     /// Memory was refused.

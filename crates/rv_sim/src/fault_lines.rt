@@ -5,7 +5,7 @@ ghost use Rattle.rv_sim.specs.FaultStream.{Tells};
 use crate::errors::SimError;
 use crate::faults::{fault_status, input_fault_line, input_fault_status, write_fault};
 use crate::input::InputError;
-use crate::output::put;
+use rv_report::put;
 use std::io::Write;
 use std::marker::Model;
 

@@ -1,14 +1,15 @@
 ghost use Rattle.std.specs.Prelude.{◌≡◌, OnOk, OnErr};
 ghost use Rattle.std.specs.Io.KnownBytes.{Appends};
-ghost use Rattle.rv_sim.specs.Fault.{fault_line, fault_name, fault_status, input_fault_line, input_fault_status, stop_status};
-ghost use Rattle.rv_sim.specs.Written.{AppendsBeginning};
+ghost use Rattle.rv_sim.specs.Fault.{arrivals_kind, arrivals_line, description_kind, description_line, fault_line, fault_name, fault_status, input_fault_line, input_fault_status, stop_status};
+ghost use Rattle.rv_report.specs.Written.{AppendsBeginning};
 
 use crate::errors::SimError;
 use crate::input::InputError;
-use crate::output::{ReportError, put, put_all};
 use itoa::Buffer;
 use rv_arch::Stop;
 use rv_asm::AsmFault;
+use rv_describe::{ArrivalsError, DescriptionError, key_name};
+use rv_report::{ReportError, put, put_all};
 use std::io::Write;
 
 #[tactic(auto, unfolding(crate::specs::Fault::fault_name))]
@@ -29,6 +30,64 @@ fn name(fault: AsmFault) -> &'static str
     }
 }
 
+#[tactic(auto, unfolding(crate::specs::Fault::description_kind))]
+fn description_kind(error: DescriptionError) -> &'static str
+    ensures { result.now ≡ description_kind error }
+{
+    match error {
+        DescriptionError::NotToml => "NotToml",
+        DescriptionError::UnknownKey => "UnknownKey",
+        DescriptionError::WrongKind { .. } => "WrongKind ",
+        DescriptionError::OutOfRange { .. } => "OutOfRange ",
+        DescriptionError::NotPowerOfTwo { .. } => "NotPowerOfTwo ",
+        DescriptionError::Memory => "Memory",
+    }
+}
+
+// The line that tells a description's fault, with the key that it names.
+#[tactic(auto, unfolding(crate::specs::Fault::description_line))]
+fn write_description_fault<W: Write>(
+    writer: &mut W,
+    error: DescriptionError,
+) -> Result<(), ReportError>
+    ensures whole { OnOk result (Appends (W.contents writer.old) (W.contents writer.new) (description_line error)) }
+    ensures beginning { OnErr result (AppendsBeginning (W.contents writer.old) (W.contents writer.new) (description_line error)) }
+{
+    let kind = description_kind(error).as_bytes();
+    let key = key_name(error.place()).as_bytes();
+    put_all(writer, &[b"error: description: ", kind, key, b"\n"])
+}
+
+#[tactic(auto, unfolding(crate::specs::Fault::arrivals_kind))]
+fn arrivals_kind(error: ArrivalsError) -> &'static str
+    ensures { result.now ≡ arrivals_kind error }
+{
+    match error {
+        ArrivalsError::NotToml => "NotToml",
+        ArrivalsError::UnknownKey => "UnknownKey",
+        ArrivalsError::WrongKind { .. } => "WrongKind ",
+        ArrivalsError::OutOfRange { .. } => "OutOfRange ",
+        ArrivalsError::Unsorted { .. } => "Unsorted ",
+        ArrivalsError::Memory => "Memory",
+    }
+}
+
+// The line that tells a fault of arrivals, with the number of the entry that it names.
+#[tactic(auto, unfolding(crate::specs::Fault::arrivals_line, crate::specs::Fault::entry_text))]
+fn write_arrivals_fault<W: Write>(writer: &mut W, error: ArrivalsError) -> Result<(), ReportError>
+    ensures whole { OnOk result (Appends (W.contents writer.old) (W.contents writer.new) (arrivals_line error)) }
+    ensures beginning { OnErr result (AppendsBeginning (W.contents writer.old) (W.contents writer.new) (arrivals_line error)) }
+{
+    let kind = arrivals_kind(error).as_bytes();
+    let entry = error.entry();
+    if entry == 0 {
+        return put_all(writer, &[b"error: arrivals: ", kind, b"\n"]);
+    }
+    let mut buffer = Buffer::new();
+    let number = buffer.format(entry).as_bytes();
+    put_all(writer, &[b"error: arrivals: ", kind, number, b"\n"])
+}
+
 /// Writes the line that tells a fault.
 #[tactic(auto, unfolding(crate::specs::Fault::fault_line))]
 pub(crate) fn write_fault<W: Write>(writer: &mut W, error: SimError) -> Result<(), ReportError>
@@ -37,6 +96,8 @@ pub(crate) fn write_fault<W: Write>(writer: &mut W, error: SimError) -> Result<(
 {
     match error {
         SimError::TooLong => put(writer, b"error: job too long\n"),
+        SimError::Description(error) => write_description_fault(writer, error),
+        SimError::Arrivals(error) => write_arrivals_fault(writer, error),
         SimError::Assembly(error) => {
             let mut buffer = Buffer::new();
             let line = buffer.format(error.line).as_bytes();
@@ -81,7 +142,11 @@ pub(crate) fn fault_status(error: SimError) -> u8
     ensures { result ≡ fault_status error }
 {
     match error {
-        SimError::TooLong | SimError::Assembly(_) | SimError::ImageDoesNotFit => 1,
+        SimError::TooLong
+        | SimError::Description(_)
+        | SimError::Arrivals(_)
+        | SimError::Assembly(_)
+        | SimError::ImageDoesNotFit => 1,
         SimError::WriteFailed => 4,
         SimError::Memory => 5,
     }

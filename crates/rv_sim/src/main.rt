@@ -3,19 +3,15 @@
 #![tactic(auto)]
 
 mod command;
-mod digits;
 mod errors;
 mod fault_lines;
 mod faults;
-mod fields;
 mod input;
 mod job;
 mod job_text;
-mod options;
-mod output;
+mod parts;
 mod program;
 mod reference;
-mod report;
 mod task;
 #[cfg(test)]
 mod tests;

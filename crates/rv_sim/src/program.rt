@@ -1,13 +1,16 @@
 ghost use Rattle.std.specs.Prelude.{◌≡◌, IfOk, OnOk, IfErr};
 ghost use Rattle.rv_sim.specs.Fault.{input_fault_line, input_fault_status};
 ghost use Rattle.rv_sim.specs.FaultStream.{Tells};
-ghost use Rattle.rv_sim.specs.Program.{IsInputOf, Runs};
+ghost use Rattle.rv_sim.specs.Program.{EndsWithin, IsInputOf, Runs};
 ghost use Rattle.rv_sim.specs.declared.input.InputError.{InputError as OneError};
 
 use crate::command::Command;
+use crate::errors::SimError;
 use crate::fault_lines::FaultLines;
 use crate::input::read_input;
-use crate::task::{begin, finish};
+use crate::task::{Task, begin, finish};
+use rv_front::{BackwardTaken, Bimodal, NotTaken};
+use rv_isa::PredictorKind;
 use std::alloc::Global;
 use std::io::{Read, Write};
 
@@ -25,6 +28,37 @@ fn take_input<R: Read, E: Write>(
     match read_input(alloc, reader) {
         Ok(input) => Ok(input),
         Err(error) => Err(errors.tell_unread(error)),
+    }
+}
+
+// Does a task with the predictor of its machine.
+fn finish_task<W: Write, E: Write>(
+    alloc: Global,
+    task: Task,
+    output: &mut W,
+    errors: &mut FaultLines<E>,
+) -> u8
+    ensures { EndsWithin task (W.contents output.old) (W.contents output.new) errors.old errors.new result }
+{
+    let predictor = task.predictor();
+    match predictor.kind {
+        PredictorKind::NotTaken => match Box::new(alloc, NotTaken) {
+            Ok(boxed) => finish(alloc, task, boxed, output, errors),
+            Err(_) => errors.tell(SimError::Memory),
+        },
+        PredictorKind::BackwardTaken => match Box::new(alloc, BackwardTaken) {
+            Ok(boxed) => finish(alloc, task, boxed, output, errors),
+            Err(_) => errors.tell(SimError::Memory),
+        },
+        PredictorKind::Bimodal => {
+            let Ok(bimodal) = Bimodal::new(alloc, predictor.entries) else {
+                return errors.tell(SimError::Memory);
+            };
+            match Box::new(alloc, bimodal) {
+                Ok(boxed) => finish(alloc, task, boxed, output, errors),
+                Err(_) => errors.tell(SimError::Memory),
+            }
+        }
     }
 }
 
@@ -47,7 +81,7 @@ pub fn run<R: Read, W: Write, E: Write>(
         Err(status) => return status,
     };
     match begin(alloc, command, input.as_slice(), errors) {
-        Ok(task) => finish(alloc, task, output, errors),
+        Ok(task) => finish_task(alloc, task, output, errors),
         Err(status) => status,
     }
 }

@@ -1,26 +1,31 @@
-ghost use Rattle.std.specs.Prelude.{◌≡◌, ◌⊎◌, ℕ, List, [], IfOk, IfErr};
+ghost use Rattle.std.specs.Prelude.{◌≡◌, ◌⊎◌, ℕ, List, IfOk, IfErr};
 ghost use Rattle.std.specs.Io.KnownBytes.{Appends, Keeps};
-ghost use Rattle.rv_sim.specs.ReferenceReport.{IsReferenceReport};
-ghost use Rattle.rv_sim.specs.Written.{AppendsBeginning};
+ghost use Rattle.rv_sim.specs.ReferenceReport.{IsReferenceReport, shown};
+ghost use Rattle.rv_report.specs.Written.{AppendsBeginning};
 
 use crate::errors::SimError;
-use crate::job::{Job, RAM_BASE, RAM_SIZE};
-use crate::options::Options;
-use crate::report::write_reference;
+use crate::job::Job;
 use rv_arch::{Reference, Stop, run_reference};
-use rv_isa::Arrivals;
+use rv_isa::ReportValues;
+use rv_report::{Options, write_reference};
 use std::alloc::Global;
 use std::io::Write;
 
-// No line ever changes its level.
-fn no_arrivals(alloc: Global) -> Arrivals
-    ensures { result ≡ [] }
+// The options, with what a description asks to dump.
+fn with_dump(report: &ReportValues, options: &Options) -> Options
+    ensures { result ≡ shown report.now options.now }
 {
-    Arrivals::new(Vec::new(alloc)).unwrap()
+    Options {
+        trace: options.trace,
+        limit: options.limit,
+        dump_address: report.dump_address,
+        dump_words: report.dump_words,
+    }
 }
 
-/// Runs a job on the machine that takes one step at a time, up to a breakpoint, a stale word or the
-/// options' limit of steps, and writes the report of the run. Answers why the run ended.
+/// Runs a job on the machine that takes one step at a time, with the job's arrivals at the numbers of
+/// the steps, up to a breakpoint, a stale word or the options' limit of steps, and writes the report
+/// of the run, with the dump that the job's description asks for. Answers why the run ended.
 ///
 /// Fails by `Memory`, and has written nothing then, or by `WriteFailed`, and has written a beginning
 /// of the report.
@@ -31,17 +36,25 @@ pub fn reference<W: Write>(
     writer: &mut W,
 ) -> Result<Stop, SimError>
     ensures report { IfOk result (λ stop. (text : List ℕ)
-        × IsReferenceReport job.image.bytes job.image.start options.now stop text
+        × IsReferenceReport job options.now stop text
         × Appends (W.contents writer.old) (W.contents writer.new) text) }
     ensures beginning { result ≡ Err SimError.WriteFailed → (stop : Stop) × (text : List ℕ)
-        × IsReferenceReport job.image.bytes job.image.start options.now stop text
+        × IsReferenceReport job options.now stop text
         × AppendsBeginning (W.contents writer.old) (W.contents writer.new) text }
     ensures nothing { result ≡ Err SimError.Memory → Keeps (W.contents writer.old) (W.contents writer.new) }
     ensures errors { IfErr result (λ e. (e ≡ SimError.Memory) ⊎ (e ≡ SimError.WriteFailed)) }
 {
-    let bytes = job.image.bytes.as_slice();
-    let mut machine = Reference::new(alloc, RAM_BASE, RAM_SIZE, 0, bytes, job.image.start)?;
-    let outcome = run_reference(&mut machine, &no_arrivals(alloc), options.limit);
-    write_reference(&outcome, &machine, options, writer)?;
+    let values = job.description.values();
+    let options = with_dump(&values.report, options);
+    let mut machine = Reference::new(
+        alloc,
+        values.ram_base,
+        values.ram_size,
+        values.rom_bytes,
+        job.image.bytes.as_slice(),
+        job.image.start,
+    )?;
+    let outcome = run_reference(&mut machine, &job.arrivals, options.limit);
+    write_reference(&outcome, &machine, &options, writer)?;
     Ok(outcome.stop)
 }

@@ -1,33 +1,64 @@
 ghost use Rattle.std.specs.Prelude.{◌≡◌, ℕ, length, IfOk, IfErr, OnOk, OnErr, Result};
 ghost use Rattle.std.specs.Io.KnownBytes.{Appends};
+ghost use Rattle.rv_isa.specs.Description.{IsLegalPredictor};
 ghost use Rattle.rv_sim.specs.Fault.{fault_line, fault_status, exit_status};
 ghost use Rattle.rv_sim.specs.FaultStream.{Tells, TellsOf};
-ghost use Rattle.rv_sim.specs.Task.{Asks, Refuses, Ends, check_line};
-ghost use Rattle.rv_sim.specs.Written.{AppendsBeginning};
+ghost use Rattle.rv_sim.specs.ImageRefusal.{RefusesImage};
+ghost use Rattle.rv_sim.specs.Task.{Asks, Refuses, Ends, check_line, predictor_of};
+ghost use Rattle.rv_report.specs.Written.{AppendsBeginning};
 ghost use Rattle.rv_sim.specs.declared.errors.SimError.{SimError as OneError};
 
 use crate::command::Command;
-use crate::digits::hexadecimal;
 use crate::errors::SimError;
 use crate::fault_lines::FaultLines;
 use crate::faults::stop_status;
 use crate::job::Job;
-use crate::job_text::{read_image, read_job};
-use crate::options::Options;
-use crate::output::{ReportError, put_all};
+use crate::job_text::{read_image, read_job, read_machine, read_parts};
 use crate::reference::reference;
 use itoa::Buffer;
-use rv_isa::Image;
+use rv_front::Predictor;
+use rv_isa::{Description, Image, PredictorValues};
+use rv_report::{Options, ReportError, hexadecimal, put_all};
 use std::alloc::Global;
 use std::io::Write;
 
 /// What was read, and what is to be done with it.
-#[derive(Debug, Drop)]
+#[derive(Drop)]
 pub enum Task {
     /// Run a job on the machine that takes one step at a time.
-    Reference { job: Job, options: Options },
+    Reference {
+        job: Job,
+        options: Options,
+    },
     /// Say which image the job makes.
-    Check { image: Image },
+    Check {
+        description: Description,
+        image: Image,
+    },
+}
+
+impl Task {
+    /// Which predictor guides the fetch of the machine, and how many entries it has.
+    pub fn predictor(&self) -> PredictorValues
+        ensures predictor { result ≡ predictor_of self.now }
+        ensures legal { IsLegalPredictor result }
+    {
+        match self {
+            Task::Reference { job, .. } => job.description.values().predictor,
+            Task::Check { description, .. } => description.values().predictor,
+        }
+    }
+}
+
+// The image that a job's text makes on the machine that it describes. The arrivals are not read.
+fn read_check(alloc: Global, input: &[u8]) -> Result<Task, SimError>
+    ensures task { IfOk result (Asks Command.Check input.now) }
+    ensures refused { IfErr result (RefusesImage input.now) }
+{
+    let parts = read_parts(input)?;
+    let description = read_machine(alloc, parts.description)?;
+    let image = read_image(alloc, description.values().ram_base, parts.assembly)?;
+    Ok(Task::Check { description, image })
 }
 
 fn read_task(alloc: Global, command: &Command, input: &[u8]) -> Result<Task, SimError>
@@ -45,10 +76,7 @@ fn read_task(alloc: Global, command: &Command, input: &[u8]) -> Result<Task, Sim
             };
             Ok(Task::Reference { job, options })
         }
-        Command::Check => {
-            let image = read_image(alloc, input)?;
-            Ok(Task::Check { image })
-        }
+        Command::Check => read_check(alloc, input),
     }
 }
 
@@ -96,7 +124,7 @@ fn perform<W: Write>(alloc: Global, task: Task, output: &mut W) -> Result<u8, Si
             let stop = reference(alloc, job, &options, output)?;
             Ok(stop_status(stop))
         }
-        Task::Check { image } => {
+        Task::Check { image, .. } => {
             write_check(output, &image)?;
             Ok(0)
         }
@@ -104,10 +132,11 @@ fn perform<W: Write>(alloc: Global, task: Task, output: &mut W) -> Result<u8, Si
 }
 
 /// Does the task: writes the report, or the line that says which image the job makes, to `output`,
-/// and answers the exit status. A fault is told on `errors`.
+/// and answers the exit status. A fault is told on `errors`. No task asks the predictor yet.
 pub fn finish<W: Write, E: Write>(
     alloc: Global,
     task: Task,
+    _predictor: Box<dyn Predictor>,
     output: &mut W,
     errors: &mut FaultLines<E>,
 ) -> u8

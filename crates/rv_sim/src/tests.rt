@@ -2,6 +2,7 @@ mod commands;
 mod examples;
 mod helpers;
 mod hostile;
+mod parts;
 mod prefixes;
 mod reading;
 mod refusals;

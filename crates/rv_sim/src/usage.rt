@@ -5,9 +5,9 @@ ghost use Rattle.rv_sim.specs.Usage.{ShowsUsage};
 
 use crate::errors::SimError;
 use crate::fault_lines::FaultLines;
-use crate::output::put;
 use clap::Error;
 use clap::error::ErrorKind;
+use rv_report::put;
 use std::alloc::Global;
 use std::io::Write;
 

@@ -3,9 +3,19 @@ use Rattle.std.proofs.Common.{◌≡◌, sym, ℕ, zero, suc, ◌+◌, ◌<◌, 
 use Rattle.std.specs.Simd.Lanes.{zip2}
 use Rattle.std.proofs.lemmas.Bool.{cases_Bool, eqb-true, eq-eqb, ne_eqb}
 use Rattle.std.proofs.lemmas.List.Sums.{length-filter, count_by-le-length}
+use Rattle.std.proofs.lemmas.Simd.{length-zip2}
 use Rattle.rv_stations.specs.declared.waiting.Operand.TheVariants.{Value, Tag}
 use Rattle.rv_stations.specs.Waiting.{woken_operand}
-use Rattle.rv_stations.specs.Column.{operand_of, is_producer, producers, woken_tag, woken_value}
+use Rattle.rv_stations.specs.Column.{Column, operand_of, is_producer, producers, woken_tag, woken_value}
+use Rattle.rv_stations.specs.ColumnFields.{column, IsSoundColumn}
+use Rattle.rv_stations.specs.declared.column.OperandColumn.TheInside.{Inside}
+
+-- there are as many operands as tags
+pub length-column : (p : Inside) → IsSoundColumn p → length (zip2 operand_of p.tags.items p.values.items) ≡ length p.tags.items
+length-column p sound = length-zip2 operand_of p.tags.items p.values.items (omega (arith, sound.as_many))
+
+pub place_within : (p : Inside) → IsSoundColumn p → (seen : Column) → column p ≡ seen → (at : ℕ) → at < length seen.operands → at < length p.tags.items
+place_within p sound seen is at within = omega (arith, rw (← is) at within, length-column p sound)
 
 -- the number of no producer says that the value is there
 pub operand_of-value : (tag held : ℕ) → tag ≡ 18446744073709551615 → operand_of tag held ≡ Value (held % 4294967296)

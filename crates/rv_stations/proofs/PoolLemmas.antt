@@ -3,6 +3,7 @@ use Rattle.std.proofs.Common.{◌≡◌, ℕ, zero, suc, ◌-◌, ◌<◌, List,
 use Rattle.std.specs.List.Sorted.{IsNonDecreasingBy}
 use Rattle.std.specs.Simd.Lanes.{zip2}
 use Rattle.std.proofs.lemmas.Bool.{cases_lt}
+use Rattle.std.proofs.lemmas.Simd.{length-zip2}
 use Rattle.rv_isa.specs.Numbered.{AreBelow, IsInOrder}
 use Rattle.rv_isa.specs.declared.instructions.Instr.TheVariants.{Fence}
 use Rattle.rv_stations.specs.declared.waiting.Operand.{Operand}
@@ -12,7 +13,7 @@ use Rattle.rv_stations.specs.declared.pool.Dispatched.{Dispatched}
 use Rattle.rv_stations.specs.Waiting.{seq_of, woken, woken_operand}
 use Rattle.rv_stations.specs.PoolFields.{with_dispatched, both_operands, instruction_of, joined, IsSoundPool}
 use Rattle.rv_stations.specs.declared.pool.StationPool.TheInside.{Inside}
-use Rattle.rv_stations.proofs.ZipLemmas.{zip2-append, zip2-take, zip2-remove, slice_get-zip2, length-zip2_left}
+use Rattle.rv_stations.proofs.ZipLemmas.{zip2-append, zip2-take, zip2-remove, slice_get-zip2}
 
 -- the lists are of one length
 pub record SameLengths (ns : List ℕ) (fs : List Dispatched) (xs ys : List Operand) : Type 0 where
@@ -22,13 +23,13 @@ pub record SameLengths (ns : List ℕ) (fs : List Dispatched) (xs ys : List Oper
 
 module _ (ns : List ℕ) (fs : List Dispatched) (xs ys : List Operand) (same : SameLengths ns fs xs ys) where
   left : length (zip2 with_dispatched ns fs) ≡ length ns
-  left = length-zip2_left with_dispatched ns fs (sym same.dispatched)
+  left = length-zip2 with_dispatched ns fs (sym same.dispatched)
 
   right : length (zip2 both_operands xs ys) ≡ length ns
-  right = length-zip2_left both_operands xs ys (same.first ∙ sym same.second) ∙ same.first
+  right = length-zip2 both_operands xs ys (same.first ∙ sym same.second) ∙ same.first
 
   pub length-joined : length (joined ns fs xs ys) ≡ length ns
-  length-joined = length-zip2_left instruction_of _ _ (left ∙ sym right) ∙ left
+  length-joined = length-zip2 instruction_of _ _ (left ∙ sym right) ∙ left
 
   pub joined-push : (n : ℕ) (f : Dispatched) (x y : Operand) → joined (ns ++ n ∷ []) (fs ++ f ∷ []) (xs ++ x ∷ []) (ys ++ y ∷ []) ≡ joined ns fs xs ys ++ instruction_of (n, f) (x, y) ∷ []
   joined-push n f x y =

@@ -1,6 +1,6 @@
 -- A search for the oldest ready instruction that passes a test.
-use Rattle.std.proofs.Common.{◌≡◌, ℕ, zero, suc, ◌+◌, ◌≤◌, Bool, true, false, ◌&&◌, List, [], ◌∷◌, ◌++◌, length, take, drop, remove, slice_get, Some, None, refl, ap, sym, ◌∙◌, arith}
-use Rattle.std.proofs.lemmas.List.{append-nil, append_assoc, drop_all, take_all}
+use Rattle.std.proofs.Common.{◌≡◌, ℕ, zero, suc, ◌+◌, Bool, true, false, ◌&&◌, List, [], ◌∷◌, ◌++◌, take, drop, remove, slice_get, Some, refl, ap, sym, ◌∙◌, arith}
+use Rattle.std.proofs.lemmas.List.{append_assoc}
 use Rattle.rv_stations.specs.declared.waiting.Waiting.{Waiting}
 use Rattle.rv_stations.specs.Waiting.{is_ready, oldest_ready, without_oldest_ready}
 
@@ -41,10 +41,3 @@ Searching-found test ws at w is passes s =
     let oldest : oldest_ready test (drop at ws) ≡ Some w = rw (here, passes) refl in
     let others : without_oldest_ready test (drop at ws) ≡ drop (suc at) ws = rw (here, passes) (ap (λ n. drop n ws) next) in
     (sym s.same_oldest ∙ oldest ∙ sym is, sym s.same_others ∙ ap (λ us. take at ws ++ us) others)
-
-pub Searching-none : (test : Waiting → Bool) (ws : List Waiting) (at : ℕ) → length ws ≤ at → Searching test ws at → (oldest_ready test ws ≡ None) × (without_oldest_ready test ws ≡ ws)
-Searching-none test ws at over s =
-    let none = drop_all at ws over in
-    let oldest : oldest_ready test (drop at ws) ≡ None = rw none refl in
-    let others : without_oldest_ready test (drop at ws) ≡ [] = rw none refl in
-    (sym s.same_oldest ∙ oldest, sym s.same_others ∙ ap (λ us. take at ws ++ us) others ∙ append-nil (take at ws) ∙ take_all at ws over)

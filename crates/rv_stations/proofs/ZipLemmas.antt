@@ -1,5 +1,5 @@
 -- Lists joined element by element, as an edit of both leaves them.
-use Rattle.std.proofs.Common.{◌≡◌, ℕ, zero, suc, ◌<◌, List, [], ◌∷◌, ◌++◌, length, get_or, take, remove, slice_get, Some, refl, ap, arith}
+use Rattle.std.proofs.Common.{◌≡◌, ℕ, zero, suc, ◌<◌, List, [], ◌∷◌, ◌++◌, length, take, remove, slice_get, Some, refl, ap, arith}
 use Rattle.std.specs.Simd.Lanes.{zip2}
 
 module _ {X Y Z : Type 0} (f : X → Y → Z) where
@@ -27,20 +27,3 @@ module _ {X Y Z : Type 0} (f : X → Y → Z) where
   slice_get-zip2 i (a ∷ as') [] x y at_x at_y = cc
   slice_get-zip2 zero (a ∷ as') (b ∷ bs) x y at_x at_y = cc
   slice_get-zip2 (suc i) (a ∷ as') (b ∷ bs) x y at_x at_y = slice_get-zip2 i as' bs x y at_x at_y
-
-  pub length-zip2_left : (xs : List X) (ys : List Y) → length xs ≡ length ys → length (zip2 f xs ys) ≡ length xs
-  length-zip2_left [] ys long = refl
-  length-zip2_left (x ∷ xs) [] long = absurd (omega arith)
-  length-zip2_left (x ∷ xs) (y ∷ ys) long = ap suc (length-zip2_left xs ys (omega arith))
-
--- what an index reads
-pub slice_get-read : {X : Type 0} (xs : List X) (i : ℕ) (x : X) → i < length xs → x ≡ get_or xs i x → slice_get xs i ≡ Some x
-slice_get-read [] i x within read = absurd (omega arith)
-slice_get-read (y ∷ ys) zero x within read = cc
-slice_get-read (y ∷ ys) (suc i) x within read = slice_get-read ys i x (omega arith) read
-
--- what stands within the list
-pub slice_get_in : {X : Type 0} (xs : List X) (i : ℕ) (d : X) → i < length xs → slice_get xs i ≡ Some (get_or xs i d)
-slice_get_in [] i d within = absurd (omega arith)
-slice_get_in (y ∷ ys) zero d within = refl
-slice_get_in (y ∷ ys) (suc i) d within = slice_get_in ys i d (omega arith)

@@ -3,5 +3,4 @@ pub mod ColumnFields
 pub mod Pool
 pub mod PoolFields
 pub mod Stations
-pub mod StationsFields
 pub mod Waiting

@@ -24,9 +24,7 @@ impl Model for Stations {
 
     ghost Value = { Pools };
 
-    ghost use Rattle.rv_stations.specs.StationsFields.{pools};
-
-    ghost view = { pools };
+    ghost view = { λ s. record { alu = s.alu; mul = s.mul; div = s.div; mem = s.mem } };
 }
 
 impl Stations {

@@ -1,5 +1,5 @@
 -- The start of a drain changes the oldest store.
-use Rattle.std.proofs.Common.{◌≡◌, ℕ, suc, ◌+◌, true, List, [], ◌∷◌, slice_get, slice_set, Some, None, refl, ap, arith}
+use Rattle.std.proofs.Common.{◌≡◌, ℕ, suc, true, List, [], ◌∷◌, slice_get, slice_set, Some, None, refl, ap, arith}
 use Rattle.std.proofs.lemmas.List.Kept.{AllPairs-cons}
 use Rattle.rv_isa.specs.Numbered.{IsInOrder}
 use Rattle.rv_isa.proofs.Numbered.{IsInOrder-cons, IsInOrder-head, IsInOrder-tail}

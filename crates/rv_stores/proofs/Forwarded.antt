@@ -3,6 +3,7 @@ use Rattle.std.proofs.Common.{◌≡◌, ℕ, ◌+◌, Bool, true, false, cond, 
 use Rattle.std.specs.List.{fold}
 use Rattle.std.specs.Option.{option_or}
 use Rattle.std.proofs.lemmas.List.Elements.{filter-append}
+use Rattle.std.proofs.lemmas.List.Sums.{fold-append}
 use Rattle.rv_stores.specs.declared.store.Store.{Store}
 use Rattle.rv_stores.specs.Store.{byte_at, laid_over}
 use Rattle.rv_stores.specs.Queue.{forwarded, youngest_byte}
@@ -25,10 +26,6 @@ pub fold-youngest_byte : (place : ℕ) (ss : List Store) → fold (λ found s. o
 fold-youngest_byte place ss = fold-laid_from place ss None ∙ option_or-none (youngest_byte place ss)
 
 -- the stores of two lists
-fold-append : {S T : Type 0} (f : T → S → T) (a : T) (xs ys : List S) → fold f a (xs ++ ys) ≡ fold f (fold f a xs) ys
-fold-append f a [] ys = refl
-fold-append f a (x ∷ xs) ys = fold-append f (f a x) xs ys
-
 pub fold-filter_append : {S T : Type 0} (f : T → S → T) (test : S → Bool) (a : T) (xs ys : List S) → fold f a (filter test (xs ++ ys)) ≡ fold f (fold f a (filter test xs)) (filter test ys)
 fold-filter_append f test a xs ys =
     ap (fold f a) (filter-append test xs ys) ∙ fold-append f a (filter test xs) (filter test ys)

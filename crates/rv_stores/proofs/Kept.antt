@@ -1,6 +1,7 @@
 -- What keeps a queue's order: a change of states, and a younger store at the end.
-use Rattle.std.proofs.Common.{◌≡◌, ℕ, zero, suc, ◌+◌, ◌-◌, ◌<◌, ◌≤◌, Bool, true, false, nat_lt, IsTrue, List, [], ◌∷◌, ◌++◌, length, drop, filter, slice_get, Option, Some, None, refl, sym, ◌∙◌, arith, length-append}
+use Rattle.std.proofs.Common.{◌≡◌, ℕ, ◌-◌, ◌<◌, Bool, true, false, nat_lt, List, [], ◌∷◌, ◌++◌, length, drop, filter, Some, None, refl, sym, ◌∙◌, arith, length-append}
 use Rattle.std.proofs.lemmas.Bool.{true≢false}
+use Rattle.std.proofs.lemmas.Option.{none-some, slice_get-get_or}
 use Rattle.std.proofs.lemmas.Bool.Decides.{nat_tests}
 use Rattle.std.proofs.lemmas.List.Kept.{AllPairs-filter}
 use Rattle.std.proofs.lemmas.List.Quantifiers.{all_pairs_push}
@@ -35,22 +36,11 @@ keep_last-room capacity ss t h =
     let none : length (ss ++ t ∷ []) - capacity ≡ 0 = omega (arith, length-append ss (t ∷ [])) in rw none refl
 
 -- ---- the youngest store tells of all
-past_end : {X : Type 0} (xs : List X) (i : ℕ) → slice_get xs i ≡ None → length xs ≤ i
-past_end [] i h = omega arith
-past_end (x ∷ xs) zero h = absurd (cc)
-past_end (x ∷ xs) (suc i) h = let rest = past_end xs i h in omega (arith, rest)
-
 pub AreBelow-none : (n : ℕ) (ss : List Store) → last_item ss ≡ None → AreBelow (λ s. s.seq) n ss
-AreBelow-none n ss h k d lt = let past = past_end ss (length ss - 1) h in absurd (omega (arith, past, lt))
+AreBelow-none n ss h k d lt = absurd (none-some _ (sym h ∙ slice_get-get_or ss (length ss - 1) d (omega arith)))
 
 pub AreBelow-youngest : (n : ℕ) (ss : List Store) (s : Store) → IsInOrder (λ t. t.seq) ss → last_item ss ≡ Some s → s.seq < n → AreBelow (λ t. t.seq) n ss
 AreBelow-youngest n ss s order at lt = AreBelow-last (λ t. t.seq) n (length ss - 1) ss s order (omega arith) at lt
 
 pub youngest-below : (n : ℕ) (ss : List Store) (s : Store) → last_item ss ≡ Some s → AreBelow (λ t. t.seq) n ss → s.seq < n
 youngest-below n ss s at are = AreBelow-slice_get (λ t. t.seq) n (length ss - 1) ss s are at
-
-pub lt_passes : (a b : ℕ) → a < b → IsTrue (nat_lt a b)
-lt_passes a b h = grind (arith, nat_tests)
-
-pub lt_holds : (a b : ℕ) → IsTrue (nat_lt a b) → a < b
-lt_holds a b h = grind (arith, nat_tests)

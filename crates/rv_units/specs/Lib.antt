@@ -3,4 +3,3 @@ pub mod BusFields
 pub mod Pool
 pub mod PoolFields
 pub mod Units
-pub mod UnitsFields

@@ -21,9 +21,7 @@ impl Model for Units {
 
     ghost Value = { Pools };
 
-    ghost use Rattle.rv_units.specs.UnitsFields.{pools};
-
-    ghost view = { pools };
+    ghost view = { λ s. record { alu = s.alu; mul = s.mul; div = s.div; mem = s.mem } };
 }
 
 impl Units {

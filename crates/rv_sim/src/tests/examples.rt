@@ -75,6 +75,57 @@ next:   add x5, x5, x6
         ebreak
 ";
 
+const SQUARES: &str =
+    "# The squares of 1 to 4 on a small machine with RAM from 0 on, whose description asks for the four words at the end:
+# m 00000100 00000001, m 00000104 00000004, m 00000108 00000009 and m 0000010c 00000010.
+# A test runs this text too: crates/rv_sim/src/tests/examples.rt.
+ram_base = 0
+ram_size = 4096
+rob = 4
+recovery = \"early\"
+
+[cache]
+sets = 1
+ways = 1
+line = 4
+
+[report]
+dump_address = 0x100
+dump_words = 4
+%%
+        li t0, 1                # the number
+        li t1, 0x100            # where its square goes
+        li t2, 5                # the number behind the last
+next:   mul t3, t0, t0
+        sw t3, 0(t1)
+        addi t1, t1, 4
+        addi t0, t0, 1
+        bne t0, t2, next
+        ebreak
+";
+
+const TIMER: &str =
+    "# An interrupt of the timer, at step 50, ends a wait. At the end s0, which is x8, is its cause (80000007).
+# A test runs this text too: crates/rv_sim/src/tests/examples.rt.
+%%
+[[arrival]]
+cycle = 50
+line = \"timer\"
+%%
+        la t0, handler
+        csrw mtvec, t0
+        li t0, 0x80             # the timer's bit of mie
+        csrw mie, t0
+        csrsi mstatus, 8        # from here on interrupts are taken
+wait:   beqz s0, wait
+        ebreak
+
+handler:
+        csrr s0, mcause
+        csrw mie, x0            # the line stays high: no second interrupt
+        mret
+";
+
 #[test]
 fn the_examples_end_with_what_their_comments_say(rt: HostRuntime) -> Result<(), Fail> {
     let cases = [
@@ -82,7 +133,9 @@ fn the_examples_end_with_what_their_comments_say(rt: HostRuntime) -> Result<(), 
         (FACTORIAL, "x10 00000078"),
         (FIBONACCI, "x10 00000037"),
         (LARGEST, "x11 0000002a"),
+        (SQUARES, "m 0000010c 00000010"),
         (SUM, "x5 00000037"),
+        (TIMER, "x8 80000007"),
     ];
     for (text, line) in cases {
         let ended = run_text(rt.alloc(), WHOLE, text.as_bytes());

@@ -1,34 +1,34 @@
 use crate::errors::SimError;
-use crate::job::{Job, RAM_BASE};
-use crate::options::Options;
+use crate::job::Job;
+use crate::job_text::read_job;
 use crate::reference::reference;
 use crate::tests::helpers::{Closed, Narrow, has_line};
 use rv_arch::Stop;
-use rv_isa::Image;
+use rv_report::Options;
 use std::alloc::Global;
 use std::test::Fail;
 
-// `addi x1,x0,5` and `ebreak`.
-const FIVE: [u8; 8] = [0x93, 0x00, 0x50, 0x00, 0x73, 0x00, 0x10, 0x00];
+const OPTIONS: Options = Options {
+    trace: false,
+    limit: 100_000,
+    dump_address: 0,
+    dump_words: 0,
+};
 
-const fn with_dump(address: u32, words: u32) -> Options {
-    Options {
-        trace: false,
-        limit: 100_000,
-        dump_address: address,
-        dump_words: words,
-    }
+const INSIDE: &[u8] =
+    b"report.dump_address = 0x80000004\nreport.dump_words = 2\n%%\naddi x1,x0,5\nebreak\n";
+
+const WRAPPED: &[u8] =
+    b"[report]\ndump_address = 0xfffffffc\ndump_words = 2\n%%\naddi x1,x0,5\nebreak\n";
+
+fn job(alloc: Global, text: &[u8]) -> Result<Job, Fail> {
+    read_job(alloc, text).map_err(|_| Fail::from("a job was refused"))
 }
 
-fn job(alloc: Global) -> Result<Job, Fail> {
-    let image = Image::from_bytes(alloc, RAM_BASE, &FIVE, RAM_BASE)?;
-    Ok(Job { image })
-}
-
-// The report with some words of memory.
-fn report(alloc: Global, options: &Options) -> Result<Vec<u8>, Fail> {
+// The report of a job.
+fn report(alloc: Global, text: &[u8]) -> Result<Vec<u8>, Fail> {
     let mut report = Vec::new(alloc);
-    let stop = reference(alloc, job(alloc)?, options, &mut report)?;
+    let stop = reference(alloc, job(alloc, text)?, &OPTIONS, &mut report)?;
     if stop == Stop::Breakpoint {
         Ok(report)
     } else {
@@ -38,10 +38,10 @@ fn report(alloc: Global, options: &Options) -> Result<Vec<u8>, Fail> {
 
 #[test]
 fn words_of_memory_follow_and_go_on_past_the_last_address(rt: HostRuntime) -> Result<(), Fail> {
-    let inside = report(rt.alloc(), &with_dump(0x8000_0004, 2))?;
+    let inside = report(rt.alloc(), INSIDE)?;
     assert!(rt; has_line(inside.as_slice(), "m 80000004 00100073"));
     assert!(rt; has_line(inside.as_slice(), "m 80000008 00000000"));
-    let wrapped = report(rt.alloc(), &with_dump(0xffff_fffc, 2))?;
+    let wrapped = report(rt.alloc(), WRAPPED)?;
     assert!(rt; has_line(wrapped.as_slice(), "m fffffffc --------"));
     assert!(rt; has_line(wrapped.as_slice(), "m 00000000 --------"));
     Ok(())
@@ -50,15 +50,14 @@ fn words_of_memory_follow_and_go_on_past_the_last_address(rt: HostRuntime) -> Re
 #[test]
 fn a_writer_that_takes_few_bytes_gets_the_whole_report(rt: HostRuntime) -> Result<(), Fail> {
     let alloc = rt.alloc();
-    let options = with_dump(0, 0);
-    let whole = report(alloc, &options)?;
+    let whole = report(alloc, INSIDE)?;
     for width in [1, 3, 64] {
         let mut narrow = Narrow {
             width,
             room: 10_000,
             taken: Vec::new(alloc),
         };
-        reference(alloc, job(alloc)?, &options, &mut narrow)?;
+        reference(alloc, job(alloc, INSIDE)?, &OPTIONS, &mut narrow)?;
         assert_eq!(rt; narrow.taken.as_slice(), whole.as_slice(), "at {width}");
     }
     Ok(())
@@ -67,20 +66,19 @@ fn a_writer_that_takes_few_bytes_gets_the_whole_report(rt: HostRuntime) -> Resul
 #[test]
 fn a_writer_that_fails_has_a_beginning_of_the_report(rt: HostRuntime) -> Result<(), Fail> {
     let alloc = rt.alloc();
-    let options = with_dump(0x8000_0000, 1);
-    let whole = report(alloc, &options)?;
+    let whole = report(alloc, INSIDE)?;
     for room in [0, 1, 15, 16, 100, 400] {
         let mut full = Narrow {
             width: 9,
             room,
             taken: Vec::new(alloc),
         };
-        let result = reference(alloc, job(alloc)?, &options, &mut full);
+        let result = reference(alloc, job(alloc, INSIDE)?, &OPTIONS, &mut full);
         assert_eq!(rt; result, Err(SimError::WriteFailed));
         assert_eq!(rt; full.taken.len(), room);
         assert!(rt; whole.starts_with(full.taken.as_slice()));
     }
-    let result = reference(alloc, job(alloc)?, &options, &mut Closed);
+    let result = reference(alloc, job(alloc, INSIDE)?, &OPTIONS, &mut Closed);
     assert_eq!(rt; result, Err(SimError::WriteFailed));
     Ok(())
 }

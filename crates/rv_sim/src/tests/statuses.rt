@@ -2,6 +2,8 @@ use crate::command::Command;
 use crate::fault_lines::FaultLines;
 use crate::task::{begin, finish};
 use crate::tests::helpers::{Closed, Narrow, WHOLE, missing, run_text};
+use rv_front::NotTaken;
+use rv_isa::{PredictorKind, PredictorValues};
 use std::test::Fail;
 
 const STORE_INTO_CODE: &str = "la x5,t\nli x6,0x00100393\nsw x6,0(x5)\nt: addi x7,x0,2\nebreak\n";
@@ -52,7 +54,8 @@ fn an_output_that_is_full_gives_status_4(rt: HostRuntime) -> Result<(), Fail> {
         let Ok(task) = begin(alloc, &command, b"ebreak\n", &mut errors) else {
             return Err(Fail::from("a text was refused"));
         };
-        assert_eq!(rt; finish(alloc, task, &mut output, &mut errors), 4);
+        let predictor = Box::new(alloc, NotTaken)?;
+        assert_eq!(rt; finish(alloc, task, predictor, &mut output, &mut errors), 4);
         assert_eq!(rt; output.taken.len(), room);
         assert!(rt; errors.is_whole());
         assert_eq!(rt;
@@ -75,7 +78,42 @@ fn a_fault_that_cannot_be_told_has_its_status_too(rt: HostRuntime) -> Result<(),
         return Err(Fail::from("a text was refused"));
     };
     assert!(rt; errors.is_whole());
-    assert_eq!(rt; finish(alloc, task, &mut Closed, &mut errors), 4);
+    let predictor = Box::new(alloc, NotTaken)?;
+    assert_eq!(rt; finish(alloc, task, predictor, &mut Closed, &mut errors), 4);
     assert!(rt; !errors.is_whole());
+    Ok(())
+}
+
+#[test]
+fn a_task_has_the_predictor_that_is_described(rt: HostRuntime) -> Result<(), Fail> {
+    let alloc = rt.alloc();
+    let cases: [(&[u8], PredictorKind, u32); 4] = [
+        (b"ebreak\n", PredictorKind::Bimodal, 64),
+        (
+            b"predictor.entries = 7\n%%\nebreak\n",
+            PredictorKind::Bimodal,
+            7,
+        ),
+        (
+            b"predictor.kind = \"not_taken\"\n%%\nebreak\n",
+            PredictorKind::NotTaken,
+            64,
+        ),
+        (
+            b"predictor.kind = \"backward_taken\"\n%%\nebreak\n",
+            PredictorKind::BackwardTaken,
+            64,
+        ),
+    ];
+    for (text, kind, entries) in cases {
+        for command in [WHOLE, Command::Check] {
+            let mut errors = FaultLines::new(Vec::new(alloc));
+            let Ok(task) = begin(alloc, &command, text, &mut errors) else {
+                return Err(Fail::from("a job was refused"));
+            };
+            assert_eq!(rt; task.predictor(), PredictorValues { kind, entries });
+            assert_eq!(rt; run_text(alloc, command, text).status, 0);
+        }
+    }
     Ok(())
 }

@@ -1,5 +1,11 @@
-use Rattle.std.proofs.Common.{◌≡◌, ℕ, ◌%◌, ◌<◌, length, ap, ◌∙◌, sym, arith}
+use Rattle.std.proofs.Common.{◌≡◌, ℕ, ◌%◌, ◌<◌, length, ap, ◌∙◌, sym, replicate, [], arith}
 use Rattle.rv_cache.proofs.Divided.{line_divides, base_divides}
+use Rattle.rv_memory.specs.Bytes.{overwritten}
+use Rattle.rv_memory.specs.Memory.{Memory}
+use Rattle.rv_cache.specs.Cache.{Contents}
+use Rattle.rv_hardware.specs.Reset.{memory_at_reset as reset_bytes}
+use Rattle.rv_hardware.specs.Seen.{layout_of}
+use Rattle.rv_core.proofs.TiedReset.{image_over_zeros}
 use Rattle.rv_core.proofs.parts.memory_at_reset.Goals as goal
 
 pub new-requires-3-clause-lines : goal.new-requires-3-clause-lines
@@ -16,3 +22,21 @@ new-requires-3-clause-lines c =
     let whole : values.ram_size % line ≡ 0 = base_divides values.ram_size line positive divides legal.memory.size.2 in
     ap (λ n. n % c.args.description.now.cache.line) (sized ∙ kept ∙ made)
     ∙ (ap (λ v. values.ram_size % v.cache.line) (sym c.values-values.ensures.values) ∙ whole)
+
+pub returns-clause-cache : goal.returns-clause-cache
+returns-clause-cache c =
+    let d = c.args.description.now in
+    let image = c.args.image.now.bytes in
+    let ram : c.load.new.self ≡ record { layout = layout_of d; bytes = reset_bytes d image } =
+    c.load.ensures.loaded ∙
+    (λ i. record (c.in_ok-ram.ensures i) { bytes = overwritten (c.in_ok-ram.ensures i).bytes 0 (c.as_slice.ensures i) }) ∙
+    (λ i. record { layout = layout_of (c.values-values.ensures.values i); bytes = overwritten (replicate (c.values-values.ensures.values i).ram_size 0) 0 image }) ∙
+    ap (λ bytes. record { layout = layout_of d; bytes = bytes }) (image_over_zeros d.ram_size image) in
+    let made : ℕ → Memory → Contents Memory = λ base memory. record {
+      base = base;
+      values = d.cache;
+      bytes = memory.bytes;
+      sets = replicate d.cache.sets [];
+      backing = memory;
+    } in
+    c.in_ok-cache.ensures ∙ (λ i. made (c.values-values.ensures.values i).ram_base (ram i))

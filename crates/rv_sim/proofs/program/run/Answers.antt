@@ -10,8 +10,8 @@ returns-in-Ok-begin g c =
     let silent = c.in-Ok.ensures.nothing_told in
     let asked = rw same at c.in-Ok-begin.ensures.task in
     let begun = c.in-Ok-begin.ensures.nothing_told in
-    let ended = rw (begun, silent) at c.finish.ensures in
-    inr (c.in-Ok.input.items, c.in-Ok.ensures.input, inr (c.in-Ok-begin.task, asked, ended.0, ended.1, ended.2, ended.3))
+    let ended = rw (begun, silent) at c.finish_task.ensures in
+    inr (c.in-Ok.input.items, c.in-Ok.ensures.input, inr (c.in-Ok-begin.task, asked, ended))
 
 pub returns : goal.returns
 returns g c =

@@ -1,16 +1,25 @@
-use Rattle.std.proofs.Common.{refl}
-use Rattle.rv_sim.specs.Report.{reference_report}
-use Rattle.rv_sim.proofs.Running.{run_from_reset}
+use Rattle.std.proofs.Common.{◌≡◌, ◌∙◌, ap, refl}
+use Rattle.rv_isa.specs.declared.values.Values.{Values}
+use Rattle.rv_report.specs.ReferenceReport.{reference_report}
+use Rattle.rv_sim.specs.ReferenceReport.{at_reset, shown}
+use Rattle.rv_report.specs.declared.options.Options.{Options}
+use Rattle.rv_sim.proofs.Running.{run_from_same}
 use Rattle.rv_sim.proofs.reference.reference.Goals as goal
 
 pub returns-in_err-write_reference-clause-beginning : goal.returns-in_err-write_reference-clause-beginning
 returns-in_err-write_reference-clause-beginning g c failed =
     let outcome = c.run_reference-outcome.result in
     let end = c.run_reference-outcome.new.reference in
-    let ran = run_from_reset _ _ _ _ _ _ _ _ c.run_reference-outcome.ensures c.no_arrivals.ensures c.in_ok-machine.ensures.reset c.as_slice-bytes.ensures in (
+    let described : c.values-values.result ≡ c.args.job.description = c.values-values.ensures.values in
+    let options_are : c.with_dump-options.result ≡ shown c.args.job.description.report c.args.options.now =
+    c.with_dump-options.ensures ∙ ap (λ (values : Values). shown values.report c.args.options.now) described in
+    let start_is : c.in_ok-machine.machine ≡ at_reset c.values-values.result c.as_slice.result.now c.args.job.image.start = c.in_ok-machine.ensures.reset in
+    let at_start : c.in_ok-machine.machine ≡ at_reset c.args.job.description c.args.job.image.bytes c.args.job.image.start =
+    start_is ∙ (λ i. at_reset (described i) (c.as_slice.ensures i) c.args.job.image.start) in
+    let ran = run_from_same _ _ _ _ _ _ _ c.run_reference-outcome.ensures (ap (λ (options : Options). options.limit) options_are) at_start in (
       outcome.stop,
-      reference_report outcome end c.args.options.now,
-      record { outcome = outcome; end = end; run = ran; stopped = refl; text_is = refl },
+      reference_report outcome end c.with_dump-options.result,
+      record { outcome = outcome; end = end; run = ran; stopped = refl; text_is = ap (reference_report outcome end) options_are },
       c.in_err-write_reference.ensures.beginning,
     )
 
@@ -18,8 +27,14 @@ pub returns-clause-report : goal.returns-clause-report
 returns-clause-report g c =
     let outcome = c.run_reference-outcome.result in
     let end = c.run_reference-outcome.new.reference in
-    let ran = run_from_reset _ _ _ _ _ _ _ _ c.run_reference-outcome.ensures c.no_arrivals.ensures c.in_ok-machine.ensures.reset c.as_slice-bytes.ensures in (
-      reference_report outcome end c.args.options.now,
-      record { outcome = outcome; end = end; run = ran; stopped = refl; text_is = refl },
+    let described : c.values-values.result ≡ c.args.job.description = c.values-values.ensures.values in
+    let options_are : c.with_dump-options.result ≡ shown c.args.job.description.report c.args.options.now =
+    c.with_dump-options.ensures ∙ ap (λ (values : Values). shown values.report c.args.options.now) described in
+    let start_is : c.in_ok-machine.machine ≡ at_reset c.values-values.result c.as_slice.result.now c.args.job.image.start = c.in_ok-machine.ensures.reset in
+    let at_start : c.in_ok-machine.machine ≡ at_reset c.args.job.description c.args.job.image.bytes c.args.job.image.start =
+    start_is ∙ (λ i. at_reset (described i) (c.as_slice.ensures i) c.args.job.image.start) in
+    let ran = run_from_same _ _ _ _ _ _ _ c.run_reference-outcome.ensures (ap (λ (options : Options). options.limit) options_are) at_start in (
+      reference_report outcome end c.with_dump-options.result,
+      record { outcome = outcome; end = end; run = ran; stopped = refl; text_is = ap (reference_report outcome end) options_are },
       c.in_ok-write_reference.ensures.whole,
     )

@@ -1,6 +1,6 @@
 use Rattle.std.proofs.Common.{◌∙◌, ap, sym, map, drop}
 use Rattle.rv_asm.proofs.LineAdded.{fault_is, layout_is}
-use Rattle.rv_asm.specs.ReadLayout.{layout_of}
+use Rattle.rv_asm.specs.Symbols.{layout_of}
 use Rattle.rv_asm.specs.ReadToken.{token_of}
 use Rattle.rv_asm.specs.Symbols.{found}
 use Rattle.rv_asm.specs.Token.{tokens_of}

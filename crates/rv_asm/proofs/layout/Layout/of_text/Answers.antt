@@ -2,7 +2,7 @@ use Rattle.std.proofs.Common.{◌≡◌, ◌∙◌, ap, sym}
 use Rattle.rv_asm.proofs.Lines.{refused_at}
 use Rattle.rv_asm.specs.FirstPass.{first_fault}
 use Rattle.rv_asm.specs.Layout.{layout, line_of}
-use Rattle.rv_asm.specs.ReadLayout.{layout_of}
+use Rattle.rv_asm.specs.Symbols.{layout_of}
 use Rattle.rv_asm.specs.Token.{tokens_of}
 use Rattle.rv_asm.proofs.layout.Layout.of_text.Goals as goal
 

@@ -2,7 +2,7 @@ use Rattle.std.proofs.Common.{◌≡◌, ◌≤◌, ◌-◌, length}
 use Rattle.rv_asm.proofs.Lines.{AfterLines}
 use Rattle.rv_asm.specs.FirstPass.{first_fault}
 use Rattle.rv_asm.specs.Layout.{layout}
-use Rattle.rv_asm.specs.ReadLayout.{layout_of}
+use Rattle.rv_asm.specs.Symbols.{layout_of}
 use Rattle.rv_asm.proofs.layout.Layout.of_text.Given as goal
 
 -- the lines so far have no fault, and the layout is theirs

@@ -5,7 +5,7 @@ use Rattle.rv_asm.proofs.SectionsSoFar.{SoFar, so_far_more}
 use Rattle.rv_asm.specs.Faults.{second_fault}
 use Rattle.rv_asm.specs.Layout.{layout, line_of, lines_of}
 use Rattle.rv_asm.specs.Meaning.{nothing}
-use Rattle.rv_asm.specs.ReadLayout.{layout_of}
+use Rattle.rv_asm.specs.Symbols.{layout_of}
 use Rattle.rv_asm.specs.Token.{tokens_of}
 use Rattle.rv_asm.proofs.sections.Sections.of_text.Goals as goal
 

@@ -1,6 +1,7 @@
 use Rattle.std.proofs.Common.{◌≡◌, Some, refl, sym}
 use Rattle.circular_buffer.specs.Buffer.{last_item}
-use Rattle.rv_stores.proofs.Kept.{AreBelow-none, AreBelow-youngest, youngest-below, lt_passes, lt_holds}
+use Rattle.rv_stores.proofs.Kept.{AreBelow-none, AreBelow-youngest, youngest-below}
+use Rattle.std.proofs.lemmas.Bool.{lt-ltb, ltb-true}
 use Rattle.rv_stores.proofs.queue.StoreQueue.are_below.Goals as goal
 
 pub returns-in-Some : goal.returns-in-Some
@@ -9,8 +10,8 @@ returns-in-Some c =
     let youngest = c.in-Some.youngest.now in
     let at : last_item items ≡ Some youngest = sym c.in-Some.ensures in
     rw (← c.self.view_is) (
-      λ lt. AreBelow-youngest c.args.seq items youngest c.self.invariant.0 at (lt_holds youngest.seq c.args.seq lt),
-      λ are. lt_passes youngest.seq c.args.seq (youngest-below c.args.seq items youngest at are),
+      λ lt. AreBelow-youngest c.args.seq items youngest c.self.invariant.0 at (ltb-true youngest.seq c.args.seq lt),
+      λ are. lt-ltb youngest.seq c.args.seq (youngest-below c.args.seq items youngest at are),
     )
 
 pub returns-in-None : goal.returns-in-None

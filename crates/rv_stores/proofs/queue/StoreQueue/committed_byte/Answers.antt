@@ -1,4 +1,4 @@
-use Rattle.std.proofs.Common.{◌≡◌, ◌∙◌, filter, fold, Option, None, ℕ, sym, ap}
+use Rattle.std.proofs.Common.{◌∙◌, filter, fold, Option, None, ℕ, sym, ap}
 use Rattle.std.specs.Option.{option_or}
 use Rattle.rv_stores.specs.declared.store.Store.{Store}
 use Rattle.rv_stores.specs.Store.{byte_at, is_committed}

@@ -1,4 +1,4 @@
-use Rattle.std.proofs.Common.{◌≡◌, refl, sym}
+use Rattle.std.proofs.Common.{refl, sym}
 use Rattle.rv_stores.proofs.Drained.{with_oldest_draining-set, with_oldest_draining-same, IsInOrder-draining, ComeFirst-draining}
 use Rattle.rv_stores.proofs.queue.StoreQueue.drain_oldest.Goals as goal
 

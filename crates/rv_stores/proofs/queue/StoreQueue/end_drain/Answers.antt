@@ -1,4 +1,3 @@
-use Rattle.std.proofs.Common.{◌≡◌}
 use Rattle.rv_isa.proofs.Numbered.{IsInOrder-drop}
 use Rattle.rv_stores.specs.Store.{is_committed}
 use Rattle.rv_stores.proofs.Kept.{ComeFirst-rest}

@@ -1,4 +1,4 @@
-use Rattle.std.proofs.Common.{◌≡◌, ◌∙◌, List, [], ◌∷◌, nat_lt, fold, Option, None, ℕ, sym, ap}
+use Rattle.std.proofs.Common.{◌∙◌, List, [], ◌∷◌, nat_lt, fold, Option, None, ℕ, sym, ap}
 use Rattle.rv_stores.specs.declared.store.Store.{Store}
 use Rattle.rv_stores.specs.Store.{laid_over}
 use Rattle.rv_stores.specs.Queue.{older_than}

@@ -1,0 +1,76 @@
+-- The fetch phase keeps what holds of the hardware.
+use Rattle.std.proofs.Common.{◌≡◌, ℕ, zero, suc, Bool, true, false, List, [], ◌∷◌, ◌++◌, length, ◌-◌, Option, None, Some, option_and_then, MatchBool, MatchOption, sym, subst}
+use Rattle.std.specs.List.{All}
+use Rattle.std.proofs.lemmas.List.Elements.{All-append, All-cons, All-nil}
+use Rattle.rv_decode.specs.Decodes.{instruction_of}
+use Rattle.rv_memory.specs.Memory.{Memory}
+use Rattle.rv_front.specs.FetchBuffer.{Answers, FetchBuffer, Fetches, FetchesInto, is_halted, stop_behind}
+use Rattle.rv_front.specs.declared.fetched.FetchStop.{FetchStop}
+use Rattle.rv_front.specs.declared.fetched.FetchStop.TheVariants.{Halted}
+use Rattle.rv_front.specs.declared.fetched.Fetched.{Fetched}
+use Rattle.rv_core.specs.Parts.{IsSound}
+use Rattle.rv_core.specs.declared.parts.Parts.TheInside.{Inside}
+
+-- the instruction is the word's
+abbrev pub IsDecoded : Fetched → Type 0
+IsDecoded f = f.instruction ≡ option_and_then instruction_of f.word
+
+-- no more words, or as many as follow
+rest_decoded : (rest : Type 0) (es : List Fetched) (next predicted : ℕ) (stop : FetchStop) (behind : Option FetchStop) → (rest → All IsDecoded es) →
+    MatchOption behind rest (λ reason. (es ≡ []) × (next ≡ predicted) × (stop ≡ reason)) → All IsDecoded es
+rest_decoded rest es next predicted stop None follow is = follow is
+rest_decoded rest es next predicted stop (Some reason) follow is = subst (All IsDecoded) (sym is.0) (All-nil IsDecoded)
+
+words_decoded : (answers : Answers) (ram : Memory) (cycle width room pc : ℕ) (es : List Fetched) (next : ℕ) (stop : FetchStop) →
+    Fetches answers ram cycle width room pc es next stop → All IsDecoded es
+words_decoded answers ram cycle width room pc [] next stop fetches = All-nil IsDecoded
+words_decoded answers ram cycle zero room pc (e ∷ es) next stop fetches = absurd fetches
+words_decoded answers ram cycle (suc width) zero pc (e ∷ es) next stop fetches = absurd fetches
+words_decoded answers ram cycle (suc width) (suc room) pc (e ∷ es) next stop fetches =
+    All-cons IsDecoded e es fetches.0.instruction_is
+    (rest_decoded (Fetches answers ram cycle width room e.predicted es next stop) es next e.predicted stop (stop_behind e)
+    (words_decoded answers ram cycle width room e.predicted es next stop) fetches.1)
+
+buffer_decoded : (answers : Answers) (ram : Memory) (cycle : ℕ) (old new : FetchBuffer) (stop : FetchStop) → All IsDecoded old.entries → (halted : Bool) →
+    MatchBool halted ((new ≡ old) × (stop ≡ Halted))
+    ((added : List Fetched) × Fetches answers ram cycle old.width (old.capacity - length old.entries) old.next_pc added new.next_pc stop
+    × (new ≡ record old { entries = old.entries ++ added; next_pc = new.next_pc; halted = is_halted stop })) →
+    All IsDecoded new.entries
+buffer_decoded answers ram cycle old new stop all true is = subst (λ (f : FetchBuffer). All IsDecoded f.entries) (sym is.0) all
+buffer_decoded answers ram cycle old new stop all false is =
+    subst (λ (f : FetchBuffer). All IsDecoded f.entries) (sym is.2)
+    (All-append IsDecoded old.entries is.0 all
+    (words_decoded answers ram cycle old.width (old.capacity - length old.entries) old.next_pc is.0 new.next_pc stop is.1))
+
+pub fetched_decoded : (answers : Answers) (ram : Memory) (cycle : ℕ) (old new : FetchBuffer) (stop : FetchStop) →
+    All IsDecoded old.entries → FetchesInto answers ram cycle old new stop → All IsDecoded new.entries
+fetched_decoded answers ram cycle old new stop all fetches = buffer_decoded answers ram cycle old new stop all old.halted fetches
+
+-- the front alone changes
+pub sound_with_front : (parts : Inside) (front : FetchBuffer) → IsSound parts → All IsDecoded front.entries → IsSound (record parts { front = front })
+sound_with_front parts front before decoded = record {
+  sound = record {
+    legal = before.sound.legal;
+    cycles = before.sound.cycles;
+    port = before.sound.port;
+    registers = before.sound.registers;
+    cache = record { base = before.sound.cache.base; values = before.sound.cache.values; bytes = before.sound.cache.bytes; layout = before.sound.cache.layout };
+    entries = record {
+      capacity = before.sound.entries.capacity;
+      within = before.sound.entries.within;
+      numbers = before.sound.entries.numbers;
+      each = before.sound.entries.each;
+      serial = before.sound.entries.serial;
+    };
+    stores = record { each = before.sound.stores.each; older = before.sound.stores.older };
+    fetched = decoded;
+  };
+  tied = record {
+    renamed = before.tied.renamed;
+    stationed = before.tied.stationed;
+    pending = before.tied.pending;
+    queued = before.tied.queued;
+  };
+  stale_base = before.stale_base;
+  stale_size = before.stale_size;
+}

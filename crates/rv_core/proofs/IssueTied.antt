@@ -1,0 +1,147 @@
+-- After the start of an instruction the parts are still told by the instructions in flight.
+use Rattle.std.proofs.Common.{◌≡◌, ℕ, ◌+◌, ◌^◌, ◌<◌, ◌≤◌, Bool, true, false, List, [], ◌∷◌, ◌++◌, length, All, Some, refl, sym, ap, ◌∙◌, arith}
+use Rattle.std.proofs.lemmas.Bool.{and_right}
+use Rattle.std.proofs.lemmas.List.Elements.{All-head, All-tail}
+use Rattle.rv_isa.specs.declared.broadcast.Message.{Message}
+use Rattle.rv_isa.specs.declared.issues.Issue.{Issue}
+use Rattle.rv_isa.specs.declared.operations.Kind.{Kind}
+use Rattle.rv_isa.specs.declared.operations.Kind.TheVariants.{Alu, Mul, Div, Mem}
+use Rattle.rv_isa.specs.declared.values.Values.{Values}
+use Rattle.rv_cache.specs.Cache.{Contents}
+use Rattle.rv_memory.specs.Memory.{Memory}
+use Rattle.rv_rename.specs.Renaming.{Renaming}
+use Rattle.rv_rob.specs.Entry.{started}
+use Rattle.rv_rob.specs.ReorderBuffer.{ReorderBuffer, changed}
+use Rattle.rv_rob.specs.declared.entry.Entry.{Entry}
+use Rattle.rv_stations.specs.Pool.{issued}
+use Rattle.rv_stations.specs.Stations.{Pools, pool_of, with_pool}
+use Rattle.rv_stations.specs.Waiting.{without_oldest_ready}
+use Rattle.rv_stations.specs.declared.waiting.Waiting.{Waiting}
+use Rattle.rv_stores.specs.Queue.{Queue}
+use Rattle.rv_units.specs.Bus.{Pending, holds, placed, with_result}
+use Rattle.rv_units.specs.Units.{Pools as UnitPools}
+use Rattle.rv_hardware.specs.Dispatch.{is_stationed}
+use Rattle.rv_hardware.specs.Hardware.{Hardware}
+use Rattle.rv_hardware.specs.InFlight.{is_serialising, is_store, is_waiting, stores_of}
+use Rattle.rv_hardware.specs.Issue.{is_of_kind, kind_of_word}
+use Rattle.rv_core.specs.Soundness.{AreSoundEntries, IsDescribedCache, IsLegalWrite, IsSoundEntry, IsSoundHardware}
+use Rattle.rv_core.specs.Ties.{AreTied, bus_of, pending_from, pool_of_kind, stations_of, values_in, waiting_from}
+use Rattle.rv_core.proofs.IssueReady.{kind_there}
+use Rattle.rv_core.proofs.IssueSearch.{waits}
+use Rattle.rv_core.proofs.IssueStarted.{All_started, others_started, pending_absent, pending_room, pending_started, stores_started, with_entry-at}
+use Rattle.rv_core.proofs.TiedEntries.{length-with_entry, pairs-with_entry}
+use Rattle.rv_core.proofs.TiedRenaming.{renaming-same}
+
+pub pool_of-stations : (kind : Kind) (values : Values) (registers : List ℕ) (rob : ReorderBuffer) → pool_of kind (stations_of values registers rob) ≡ pool_of_kind values registers rob kind
+pool_of-stations Alu values registers rob = refl
+pool_of-stations Mul values registers rob = refl
+pool_of-stations Div values registers rob = refl
+pool_of-stations Mem values registers rob = refl
+
+-- the stations of one kind, and those of the others
+with_pool-stations : (kind : Kind) (values : Values) (registers : List ℕ) (rob rob' : ReorderBuffer) → ((k : Kind) → is_of_kind k (Some kind) ≡ false → pool_of_kind values registers rob k ≡ pool_of_kind values registers rob' k) → with_pool kind (pool_of_kind values registers rob' kind) (stations_of values registers rob) ≡ stations_of values registers rob'
+with_pool-stations Alu values registers rob rob' same = λ j. record { alu = pool_of_kind values registers rob' Alu; mul = same Mul refl j; div = same Div refl j; mem = same Mem refl j }
+with_pool-stations Mul values registers rob rob' same = λ j. record { alu = same Alu refl j; mul = pool_of_kind values registers rob' Mul; div = same Div refl j; mem = same Mem refl j }
+with_pool-stations Div values registers rob rob' same = λ j. record { alu = same Alu refl j; mul = same Mul refl j; div = pool_of_kind values registers rob' Div; mem = same Mem refl j }
+with_pool-stations Mem values registers rob rob' same = λ j. record { alu = same Alu refl j; mul = same Mul refl j; div = same Div refl j; mem = pool_of_kind values registers rob' Mem }
+
+pub All-at : (P : Entry → Type 0) (before : List Entry) (e : Entry) (rest : List Entry) → All P (before ++ e ∷ rest) → P e
+All-at P [] e rest all = All-head P e rest all
+All-at P (x ∷ before) e rest all = All-at P before e rest (All-tail P x (before ++ e ∷ rest) all)
+
+module _ (h : Hardware) (kind : Kind) (before : List Entry) (e : Entry) (rest : List Entry)
+    (split : h.rob.entries ≡ before ++ e ∷ rest) (there : is_stationed kind e ≡ true) (n : ℕ) (at : n ≡ h.rob.retired + length before) where
+  waiting : is_waiting e.stage ≡ true
+  waiting = waits kind e there
+
+  -- there is room on the bus, which does not hold the number
+  pub room_on_bus : (bus : Pending) → bus ≡ bus_of h.values h.rob → length h.rob.entries ≤ h.values.rob → length bus.results < bus.capacity
+  room_on_bus bus tied within =
+      let fits : length (pending_from h.rob.retired h.rob.entries) < h.values.rob =
+      rw split (omega (arith, pending_room e rest waiting h.rob.retired before, ap length split, within)) in
+      rw tied fits
+
+  pub absent_from_bus : (bus : Pending) → bus ≡ bus_of h.values h.rob → holds n bus.results ≡ false
+  absent_from_bus bus tied =
+      ap (λ (b : Pending). holds n b.results) tied
+      ∙ ap (λ es. holds n (pending_from h.rob.retired es)) split
+      ∙ ap (λ m. holds m (pending_from h.rob.retired (before ++ e ∷ rest))) at
+      ∙ pending_absent e rest waiting h.rob.retired before
+
+  module _ (issue : Issue) (message : Message) where
+    abbrev pub rob_started : ReorderBuffer
+    rob_started = changed (started issue message) n h.rob
+
+    entries_started : rob_started.entries ≡ before ++ started issue message e ∷ rest
+    entries_started =
+        ap (λ es. (changed (started issue message) n (record h.rob { entries = es })).entries) split
+        ∙ with_entry-at (started issue message) n h.rob.retired before e rest at
+
+    stationed : (stations : Pools) (test : Waiting → Bool) → stations ≡ stations_of h.values h.registers h.rob → without_oldest_ready test (waiting_from kind (values_in h.registers) h.rob.retired h.rob.entries) ≡ waiting_from kind (values_in h.registers) h.rob.retired (before ++ started issue message e ∷ rest) → with_pool kind (issued test (pool_of kind stations)) stations ≡ stations_of h.values h.registers rob_started
+    stationed stations test tied left =
+        let n0 = h.rob.retired in
+        let status = values_in h.registers in
+        let own : issued test (pool_of kind (stations_of h.values h.registers h.rob)) ≡ pool_of_kind h.values h.registers rob_started kind =
+        ap (issued test) (pool_of-stations kind h.values h.registers h.rob)
+        ∙ (λ j. record { waiting = (left ∙ ap (waiting_from kind status n0) (sym entries_started)) j; capacity = (pool_of_kind h.values h.registers h.rob kind).capacity }) in
+        ap (λ s. with_pool kind (issued test (pool_of kind s)) s) tied
+        ∙ ap (λ p. with_pool kind p (stations_of h.values h.registers h.rob)) own
+        ∙ with_pool-stations kind h.values h.registers h.rob rob_started
+        (λ k other.
+        let away : is_stationed k e ≡ false = and_right (is_waiting e.stage) (is_of_kind k (kind_of_word e.instruction)) (ap (is_of_kind k) (kind_there kind e there) ∙ other) in
+        let same : waiting_from k status n0 h.rob.entries ≡ waiting_from k status n0 rob_started.entries =
+        ap (waiting_from k status n0) split ∙ sym (others_started issue message e rest k waiting away status n0 before) ∙ ap (waiting_from k status n0) (sym entries_started) in
+        λ j. record { waiting = same j; capacity = (pool_of_kind h.values h.registers h.rob k).capacity })
+
+    pending : (bus : Pending) → bus ≡ bus_of h.values h.rob → with_result n message (issue.cycle + issue.cost) bus ≡ bus_of h.values rob_started
+    pending bus tied =
+        let n0 = h.rob.retired in
+        let results : placed (record { seq = n; message = message; ready = issue.cycle + issue.cost }) (pending_from n0 h.rob.entries) ≡ pending_from n0 rob_started.entries =
+        (λ j. placed (record { seq = at j; message = message; ready = issue.cycle + issue.cost }) (pending_from n0 (split j)))
+        ∙ pending_started e rest waiting n0 before issue message
+        ∙ ap (pending_from n0) (sym entries_started) in
+        ap (with_result n message (issue.cycle + issue.cost)) tied
+        ∙ (λ j. record { results = results j; capacity = h.values.rob; width = h.values.bus_width })
+
+    stores_same : stores_of h.rob.retired h.rob.entries ≡ stores_of h.rob.retired rob_started.entries
+    stores_same =
+        ap (stores_of h.rob.retired) split
+        ∙ sym (stores_started issue message e rest waiting h.rob.retired before)
+        ∙ ap (stores_of h.rob.retired) (sym entries_started)
+
+    module _ (cache : Contents Memory) (port_free : ℕ) (units : UnitPools) where
+      -- the hardware after the start, whatever became of cache, port and units
+      abbrev pub hardware_started : Hardware
+      hardware_started = record h { cache = cache; port_free = port_free; units = units; rob = rob_started }
+
+      pub tied_started : (rename : Renaming) (stations : Pools) (bus : Pending) (queue : Queue) (test : Waiting → Bool) → AreTied h rename stations bus queue → without_oldest_ready test (waiting_from kind (values_in h.registers) h.rob.retired h.rob.entries) ≡ waiting_from kind (values_in h.registers) h.rob.retired (before ++ started issue message e ∷ rest) → AreTied hardware_started rename (with_pool kind (issued test (pool_of kind stations)) stations) (with_result n message (issue.cycle + issue.cost) bus) queue
+      tied_started rename stations bus queue test tied left = record {
+        renamed = tied.renamed ∙ sym (renaming-same (started issue message) (λ x. refl) n h.values h.rob);
+        stationed = stationed stations test tied.stationed left;
+        pending = pending bus tied.pending;
+        queued = tied.queued ∙ (λ j. record { stores = h.committed ++ stores_same j; capacity = h.values.store_queue });
+      }
+
+      entries_sound : AreSoundEntries h → IsLegalWrite h.values (is_store e.instruction) message.fault message.store → AreSoundEntries hardware_started
+      entries_sound sound legal =
+          let each : All (IsSoundEntry h.values) (before ++ e ∷ rest) = rw (← split) sound.each in
+          let own : IsSoundEntry h.values e = All-at (IsSoundEntry h.values) before e rest each in
+          record {
+            capacity = sound.capacity;
+            within = omega (arith, sound.within, length-with_entry (started issue message) n h.rob.retired h.rob.entries);
+            numbers = sound.numbers;
+            each = rw entries_started (All_started issue message e rest (IsSoundEntry h.values) before (record { decoded = own.decoded; target = own.target; writes = legal }) each);
+            serial = pairs-with_entry (λ a b. is_serialising a.instruction ≡ false) (started issue message) (λ a b r. r) (λ a b r. r) n h.rob.retired h.rob.entries sound.serial;
+          }
+
+      pub sound_started : IsSoundHardware h → IsDescribedCache hardware_started → port_free ≤ 2 ^ 43 → IsLegalWrite h.values (is_store e.instruction) message.fault message.store → IsSoundHardware hardware_started
+      sound_started sound described port legal = record {
+        legal = sound.legal;
+        cycles = sound.cycles;
+        port = port;
+        registers = sound.registers;
+        cache = described;
+        entries = entries_sound sound.entries legal;
+        stores = record { each = sound.stores.each; older = sound.stores.older };
+        fetched = sound.fetched;
+      }

@@ -1,0 +1,63 @@
+-- The value that a load takes from the older stores and the cache is that of its effect.
+use Rattle.std.proofs.Common.{◌≡◌, ℕ, ◌+◌, ◌-◌, ◌≤◌, List, ◌++◌, length, take, Option, None, refl, sym, ap, ◌∙◌, subst, arith}
+use Rattle.std.specs.List.{slice_range}
+use Rattle.rv_isa.specs.Bytes.{number_of}
+use Rattle.rv_isa.specs.Operation.{bytes_of, width_of, is_sign_extended}
+use Rattle.rv_isa.specs.Word.{pc_plus_4}
+use Rattle.rv_isa.specs.declared.operations.LoadForm.{LoadForm}
+use Rattle.rv_arch.specs.Effect.{extended, loads, writes}
+use Rattle.rv_arch.specs.State.{State}
+use Rattle.rv_cache.specs.Cache.{Contents}
+use Rattle.rv_memory.specs.Memory.{Memory, number_at}
+use Rattle.rv_stores.specs.Queue.{forwarded}
+use Rattle.rv_stores.specs.declared.store.Store.{Store}
+use Rattle.rv_hardware.specs.InFlight.{memory_behind}
+use Rattle.rv_hardware.specs.Result.{effect_message}
+use Rattle.rv_core.specs.Access.{IsBehind, IsOverRam}
+use Rattle.rv_core.specs.Load.{bytes_over, load_fault, path_of}
+use Rattle.rv_core.specs.declared.load.Path.TheVariants.{FromStores, FromCache}
+use Rattle.rv_core.proofs.LoadBytes.{bytes_from_cache, bytes_from_stores}
+use Rattle.rv_core.proofs.LoadEffect.{PathFacts, load_gives, load_within, path_facts}
+
+module _ (cache : Contents Memory) (ss : List Store) (over : IsOverRam cache) (s : State) (behind : IsBehind cache ss s) (form : LoadForm) (rd address : ℕ) where
+  abbrev count : ℕ
+  count = bytes_of (width_of form)
+
+  abbrev place : ℕ
+  place = address - cache.base
+
+  -- a load of these bytes
+  abbrev pub value_over : List (Option ℕ) → List ℕ → ℕ
+  value_over overlay below = extended (is_sign_extended form) count (number_of (take count (bytes_over overlay below)))
+
+  module _ (fault : load_fault cache.backing.layout address count ≡ None) where
+    from : cache.base ≤ address
+    from = omega (arith, over.base, (load_within cache.backing.layout address count fault).1)
+
+    to : address + count ≤ cache.base + length cache.bytes
+    to = omega (arith, over.base, over.size, (load_within cache.backing.layout address count fault).2)
+
+    number_behind : number_at cache.backing.layout s.ram address count ≡ number_of (slice_range (memory_behind cache.base ss cache.bytes) place (place + count))
+    number_behind =
+        λ j. number_of (slice_range (behind.ram j) (address - sym over.base j) (address - sym over.base j + count))
+
+    gives : (overlay : List (Option ℕ)) (below : List ℕ) → overlay ≡ forwarded ss address count → slice_range (memory_behind cache.base ss cache.bytes) place (place + count) ≡ take count (bytes_over (forwarded ss address count) below) → effect_message None (writes s rd (value_over overlay below) (pc_plus_4 s.pc)) ≡ effect_message None (loads cache.backing.layout s form rd address)
+    gives overlay below same bytes =
+        let value : extended (is_sign_extended form) count (number_at cache.backing.layout s.ram address count) ≡ value_over overlay below =
+        ap (extended (is_sign_extended form) count) (number_behind ∙ ap number_of (bytes ∙ ap (λ o. take count (bytes_over o below)) (sym same))) in
+        ap (λ v. effect_message None (writes s rd v (pc_plus_4 s.pc))) (sym value)
+        ∙ sym (load_gives cache.backing.layout address s form rd fault)
+
+  pub from_stores : (overlay : List (Option ℕ)) (below : List ℕ) → path_of cache.backing.layout ss address count ≡ FromStores overlay → effect_message None (writes s rd (value_over overlay below) (pc_plus_4 s.pc)) ≡ effect_message None (loads cache.backing.layout s form rd address)
+  from_stores overlay below is =
+      let facts : PathFacts (load_fault cache.backing.layout address count) (forwarded ss address count) count (FromStores overlay) =
+      subst (λ p. PathFacts (load_fault cache.backing.layout address count) (forwarded ss address count) count p) is (path_facts (load_fault cache.backing.layout address count) (forwarded ss address count) count) in
+      gives facts.0 overlay below facts.1
+      (bytes_from_stores cache.base (length cache.bytes) ss cache.bytes refl behind.inside address (width_of form) (from facts.0) (to facts.0) below facts.2)
+
+  pub from_cache : (overlay : List (Option ℕ)) (padding : List ℕ) → path_of cache.backing.layout ss address count ≡ FromCache overlay → effect_message None (writes s rd (value_over overlay (slice_range cache.bytes place (place + count) ++ padding)) (pc_plus_4 s.pc)) ≡ effect_message None (loads cache.backing.layout s form rd address)
+  from_cache overlay padding is =
+      let facts : PathFacts (load_fault cache.backing.layout address count) (forwarded ss address count) count (FromCache overlay) =
+      subst (λ p. PathFacts (load_fault cache.backing.layout address count) (forwarded ss address count) count p) is (path_facts (load_fault cache.backing.layout address count) (forwarded ss address count) count) in
+      gives facts.0 overlay (slice_range cache.bytes place (place + count) ++ padding) facts.1
+      (bytes_from_cache cache.base (length cache.bytes) ss cache.bytes refl behind.inside address (width_of form) (from facts.0) (to facts.0) padding)

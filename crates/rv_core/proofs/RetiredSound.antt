@@ -1,0 +1,72 @@
+-- The head retires: what holds of the hardware goes on to hold.
+use Rattle.std.proofs.Common.{◌≡◌, ℕ, suc, ◌+◌, ◌*◌, ◌<◌, Bool, true, false, ◌==◌, if◌then◌else◌, slice_set, List, ◌∷◌, ◌++◌, append-nil, length, Option, None, Some, refl, ap, sym, ◌∙◌, arith, length-set, subst}
+use Rattle.std.specs.List.{All, AllPairs}
+use Rattle.std.proofs.lemmas.List.Elements.{All-tail, All-push}
+use Rattle.rv_isa.proofs.Numbered.{AreBelow-weaken, AreBelow-push}
+use Rattle.rv_isa.specs.declared.broadcast.Message.{Message}
+use Rattle.rv_isa.specs.declared.broadcast.StoreAccess.{StoreAccess}
+use Rattle.rv_isa.specs.declared.values.Values.{Values}
+use Rattle.rv_arch.specs.State.{with_register}
+use Rattle.rv_rob.specs.declared.entry.Entry.{Entry}
+use Rattle.rv_stores.specs.declared.store.Store.{Store as QueuedStore}
+use Rattle.rv_stores.specs.declared.store.StorePhase.TheVariants.{Committed}
+use Rattle.rv_stores.specs.declared.store.StoreState.TheVariants.{Filled}
+use Rattle.rv_hardware.specs.Hardware.{Hardware}
+use Rattle.rv_hardware.specs.InFlight.{is_serialising, is_store, target_of_word, with_value}
+use Rattle.rv_hardware.specs.Retirement.{committed_store, with_result}
+use Rattle.rv_core.proofs.RetiredHead.{buffer_behind}
+use Rattle.rv_core.proofs.RetiredStores.{AreRetired}
+use Rattle.rv_core.specs.Soundness.{AreSoundEntries, AreSoundStores, IsLegalWrite, IsRetiredStore, IsSoundEntry, IsSoundHardware}
+
+pub register_count : (registers : List ℕ) (r value : ℕ) → length (with_register registers r value) ≡ length registers
+register_count registers r value = kept (r == 0) registers r value where
+  kept : (is_zero : Bool) (registers : List ℕ) (r value : ℕ) → length (if is_zero then registers else slice_set registers r value) ≡ length registers
+  kept true registers r value = refl
+  kept false registers r value = length-set registers r value
+
+value_count : (registers : List ℕ) (target : Option ℕ) (m : Message) → length (with_value registers target (Some m)) ≡ length registers
+value_count registers None m = refl
+value_count registers (Some r) m = register_count registers r m.value
+
+-- the retired stores, with what the head writes
+retired_with : (values : Values) (ss : List QueuedStore) (seq : ℕ) (is_store : Bool) (written : Option StoreAccess) →
+    AreRetired values ss → IsLegalWrite values is_store None written → AreRetired values (ss ++ committed_store seq written)
+retired_with values ss seq is_store None are legal = rw (append-nil ss) are
+retired_with values ss seq false (Some access) are legal = absurd legal
+retired_with values ss seq true (Some access) are legal =
+    All-push (λ (t : QueuedStore). IsRetiredStore values t.state) ss (record { seq = seq; state = Filled access Committed }) are legal
+
+older_with : (ss : List QueuedStore) (seq : ℕ) (written : Option StoreAccess) → All (λ (s : QueuedStore). s.seq < seq) ss →
+    All (λ (s : QueuedStore). s.seq < seq + 1) (ss ++ committed_store seq written)
+older_with ss seq None are = rw (append-nil ss) (AreBelow-weaken (λ (s : QueuedStore). s.seq) seq (seq + 1) ss (omega arith) are)
+older_with ss seq (Some access) are =
+    AreBelow-push (λ (s : QueuedStore). s.seq) (seq + 1) ss (record { seq = seq; state = Filled access Committed })
+    (AreBelow-weaken (λ (s : QueuedStore). s.seq) seq (seq + 1) ss (omega arith) are) (omega arith)
+
+pub sound_behind_head : (h : Hardware) (e : Entry) (es : List Entry) (m : Message) → IsSoundHardware h → h.rob.entries ≡ e ∷ es →
+    h.rob.retired < 8 * h.cycle + 8 → IsLegalWrite h.values (is_store e.instruction) None m.store →
+    IsSoundHardware (with_result e m h)
+sound_behind_head h e es m sound entries room legal =
+    let after = buffer_behind h.rob e es entries in
+    record {
+      legal = sound.legal;
+      cycles = sound.cycles;
+      port = sound.port;
+      registers = value_count h.registers (target_of_word e.instruction) m ∙ sound.registers;
+      cache = record { base = sound.cache.base; values = sound.cache.values; bytes = sound.cache.bytes; layout = sound.cache.layout };
+      entries = subst (λ rob. AreSoundEntries (record (with_result e m h) { rob = rob })) (sym after) (record {
+        capacity = sound.entries.capacity;
+        within = omega (arith, ap length entries, sound.entries.within);
+        numbers = omega (arith, room);
+        each = All-tail (IsSoundEntry h.values) e es (subst (All (IsSoundEntry h.values)) entries sound.entries.each);
+        serial =
+            let all : AllPairs (λ (older younger : Entry). is_serialising older.instruction ≡ false) (e ∷ es) =
+            subst (λ l. AllPairs (λ (older younger : Entry). is_serialising older.instruction ≡ false) l) entries sound.entries.serial in
+            λ i j d lt within. all (suc i) (suc j) d (omega (arith, lt)) (omega (arith, within));
+      });
+      stores = subst (λ rob. AreSoundStores (record (with_result e m h) { rob = rob })) (sym after) (record {
+        each = retired_with h.values h.committed h.rob.retired (is_store e.instruction) m.store sound.stores.each legal;
+        older = older_with h.committed h.rob.retired m.store sound.stores.older;
+      });
+      fetched = sound.fetched;
+    }

@@ -1,0 +1,199 @@
+-- A run under way, and one more cycle of it.
+use Rattle.std.proofs.Common.{◌≡◌, ℕ, suc, ◌+◌, ◌≤◌, max, ◌==◌, Bool, true, false, not, cond, List, [], ◌∷◌, ◌++◌, length, Option, Some, None, refl, sym, ap, ◌∙◌, arith, append_assoc, length-append, nat_eq, eq-eqb, ne_eqb}
+use Rattle.std.specs.List.{sum_by}
+use Rattle.std.proofs.lemmas.List.Sums.{count_by-le-length, sum_by-append}
+use Rattle.std.proofs.Math.Nat.{le-max_left, le-max_right, max-eq_right, max-le}
+use Rattle.rv_isa.specs.Arrivals.{lines_at}
+use Rattle.rv_isa.specs.declared.lines.Arrival.{Arrival}
+use Rattle.rv_hardware.specs.Cycle.{IsCycle, any_prediction}
+use Rattle.rv_hardware.specs.Hardware.{Hardware}
+use Rattle.rv_hardware.specs.Report.{Report}
+use Rattle.rv_hardware.specs.Run.{Cycles, ended, cycled, NoneStops, busy_of, counted_stall, is_silent, longest_gap_from, stalls_from, stalls_of, steps_of}
+use Rattle.rv_hardware.specs.declared.report.Stall.{Stall}
+use Rattle.rv_hardware.specs.declared.report.Stall.TheVariants as stall
+use Rattle.rv_hardware.specs.declared.report.StallCounts.{StallCounts}
+use Rattle.rv_hardware.specs.declared.step.Step.{Step}
+use Rattle.rv_core.specs.Progress.{IsBounded, progress_after, progress_of, silence_after, silence_from}
+use Rattle.rv_core.specs.RunDone.{IsRun}
+use Rattle.rv_core.specs.Told.{report_with}
+use Rattle.rv_core.specs.declared.outcome.CycleEnd.{CycleEnd}
+use Rattle.rv_core.specs.declared.outcome.Progress.{Progress}
+
+-- ---- each count, with one more report at the end
+
+steps_of-push : (rs : List Report) (r : Report) → steps_of (rs ++ r ∷ []) ≡ steps_of rs ++ r.steps
+steps_of-push [] r = append-none r.steps where
+  append-none : (xs : List Step) → xs ++ [] ≡ xs
+  append-none [] = refl
+  append-none (x ∷ xs) = ap (λ l. x ∷ l) (append-none xs)
+steps_of-push (x ∷ rs) r = ap (λ l. x.steps ++ l) (steps_of-push rs r) ∙ sym (append_assoc x.steps (steps_of rs) r.steps)
+
+stalls_from-push : (counts : StallCounts) (rs : List Report) (r : Report) → stalls_from counts (rs ++ r ∷ []) ≡ counted_stall r.stall (stalls_from counts rs)
+stalls_from-push counts [] r = refl
+stalls_from-push counts (x ∷ rs) r = stalls_from-push (counted_stall x.stall counts) rs r
+
+silence_from-push : (n : ℕ) (rs : List Report) (r : Report) → silence_from n (rs ++ r ∷ []) ≡ silence_after (is_silent r.steps) (silence_from n rs)
+silence_from-push n [] r = refl
+silence_from-push n (x ∷ rs) r = silence_from-push (silence_after (is_silent x.steps) n) rs r
+
+max-assoc : (a b c : ℕ) → max a (max b c) ≡ max (max a b) c
+max-assoc a b c = le_antisymm (max-le (lte (le-max_left a b) (le-max_left (max a b) c)) (max-le (lte (le-max_right a b) (le-max_left (max a b) c)) (le-max_right (max a b) c))) (max-le (max-le (le-max_left a (max b c)) (lte (le-max_left b c) (le-max_right a (max b c)))) (lte (le-max_right b c) (le-max_right a (max b c)))) where
+  lte : {i j k : ℕ} → i ≤ j → j ≤ k → i ≤ k
+  lte p q = omega (arith, p, q)
+
+  le_antisymm : {i j : ℕ} → i ≤ j → j ≤ i → i ≡ j
+  le_antisymm p q = omega (arith, p, q)
+
+longest_one : (b : Bool) (n : ℕ) → cond b (n + 1) (max n 0) ≡ max n (silence_after b n)
+longest_one true n = sym (max-eq_right (omega arith))
+longest_one false n = refl
+
+longest_past : (b : Bool) (n : ℕ) (rs : List Report) (r : Report) → longest_gap_from (n + 1) (rs ++ r ∷ []) ≡ max (longest_gap_from (n + 1) rs) (silence_after (is_silent r.steps) (silence_from (n + 1) rs)) → longest_gap_from 0 (rs ++ r ∷ []) ≡ max (longest_gap_from 0 rs) (silence_after (is_silent r.steps) (silence_from 0 rs)) → cond b (longest_gap_from (n + 1) (rs ++ r ∷ [])) (max n (longest_gap_from 0 (rs ++ r ∷ []))) ≡ max (cond b (longest_gap_from (n + 1) rs) (max n (longest_gap_from 0 rs))) (silence_after (is_silent r.steps) (silence_from (silence_after b n) rs))
+longest_past true n rs r silent loud = silent
+longest_past false n rs r silent loud = ap (max n) loud ∙ max-assoc n (longest_gap_from 0 rs) (silence_after (is_silent r.steps) (silence_from 0 rs))
+
+-- whether the silence before is counted on or begun anew
+longest_gap_from-push : (n : ℕ) (rs : List Report) (r : Report) → longest_gap_from n (rs ++ r ∷ []) ≡ max (longest_gap_from n rs) (silence_after (is_silent r.steps) (silence_from n rs))
+longest_gap_from-push n [] r = longest_one (is_silent r.steps) n
+longest_gap_from-push n (x ∷ rs) r =
+    longest_past (is_silent x.steps) n rs r (longest_gap_from-push (n + 1) rs r) (longest_gap_from-push 0 rs r)
+
+busy_one : (idle : Bool) (n : ℕ) → n + (cond (not idle) 1 0 + 0) ≡ cond idle n (n + 1)
+busy_one true n = omega arith
+busy_one false n = omega arith
+
+busy_of-push : (rs : List Report) (r : Report) → busy_of (rs ++ r ∷ []) ≡ cond (r.dispatched == 0) (busy_of rs) (busy_of rs + 1)
+busy_of-push rs r =
+    let p : Report → ℕ = λ x. cond (not (x.dispatched == 0)) 1 0 in
+    sum_by-append p rs (r ∷ []) ∙ ap (λ n. busy_of rs + n) (last r) ∙ busy_one (r.dispatched == 0) (busy_of rs) where
+      last : (x : Report) → sum_by (λ (y : Report). cond (not (y.dispatched == 0)) 1 0) (x ∷ []) ≡ cond (not (x.dispatched == 0)) 1 0 + 0
+      last x = omega arith
+
+progress_of-push : (rs : List Report) (done : List Step) (end : CycleEnd) → progress_of (rs ++ report_with done end ∷ []) ≡ progress_after (is_silent done) end (progress_of rs)
+progress_of-push rs done end =
+    let r : Report = report_with done end in
+    let count : length (rs ++ r ∷ []) ≡ length rs + 1 = omega (arith, length-append rs (r ∷ [])) in
+    λ j. record {
+      stalls = stalls_from-push (stalls_of []) rs r j;
+      busy = busy_of-push rs r j;
+      cycles = count j;
+      silent = silence_from-push 0 rs r j;
+      longest_gap = longest_gap_from-push 0 rs r j;
+    }
+
+-- ---- no count is above that of the cycles
+
+silence-past : (b : Bool) (n : ℕ) (rs : List Report) → silence_from (n + 1) rs ≤ n + 1 + length rs → silence_from 0 rs ≤ 0 + length rs → silence_from (silence_after b n) rs ≤ n + suc (length rs)
+silence-past true n rs silent loud = omega (arith, silent)
+silence-past false n rs silent loud = omega (arith, loud)
+
+silence-bound : (n : ℕ) (rs : List Report) → silence_from n rs ≤ n + length rs
+silence-bound n [] = omega arith
+silence-bound n (x ∷ rs) = silence-past (is_silent x.steps) n rs (silence-bound (n + 1) rs) (silence-bound 0 rs)
+
+-- so many cycles count no more for any reason
+abbrev StallsAtMost : ℕ → StallCounts → Type 0
+StallsAtMost n c = (c.fetch ≤ n) × (c.serial ≤ n) × (c.rob ≤ n) × (c.station ≤ n) × (c.store ≤ n)
+
+stall-bound : (o : Option Stall) (n : ℕ) (c : StallCounts) → StallsAtMost n c → StallsAtMost (n + 1) (counted_stall o c)
+stall-bound None n c b = (omega (arith, b.0), omega (arith, b.1), omega (arith, b.2), omega (arith, b.3), omega (arith, b.4))
+stall-bound (Some stall.Fetch) n c b = (omega (arith, b.0), omega (arith, b.1), omega (arith, b.2), omega (arith, b.3), omega (arith, b.4))
+stall-bound (Some stall.Serial) n c b = (omega (arith, b.0), omega (arith, b.1), omega (arith, b.2), omega (arith, b.3), omega (arith, b.4))
+stall-bound (Some stall.Rob) n c b = (omega (arith, b.0), omega (arith, b.1), omega (arith, b.2), omega (arith, b.3), omega (arith, b.4))
+stall-bound (Some stall.Station) n c b = (omega (arith, b.0), omega (arith, b.1), omega (arith, b.2), omega (arith, b.3), omega (arith, b.4))
+stall-bound (Some stall.Store) n c b = (omega (arith, b.0), omega (arith, b.1), omega (arith, b.2), omega (arith, b.3), omega (arith, b.4))
+
+stalls-bound : (n : ℕ) (c : StallCounts) (rs : List Report) → StallsAtMost n c → StallsAtMost (n + length rs) (stalls_from c rs)
+stalls-bound n c [] b = (omega (arith, b.0), omega (arith, b.1), omega (arith, b.2), omega (arith, b.3), omega (arith, b.4))
+stalls-bound n c (x ∷ rs) b =
+    let rest = stalls-bound (n + 1) (counted_stall x.stall c) rs (stall-bound x.stall n c b) in
+    (omega (arith, rest.0), omega (arith, rest.1), omega (arith, rest.2), omega (arith, rest.3), omega (arith, rest.4))
+
+pub progress-bounded : (rs : List Report) → IsBounded (progress_of rs)
+progress-bounded rs =
+    let stalls = stalls-bound 0 (stalls_of []) rs (omega arith, omega arith, omega arith, omega arith, omega arith) in
+    record {
+      busy = count_by-le-length (λ r. not (r.dispatched == 0)) rs;
+      silent = omega (arith, silence-bound 0 rs);
+      fetch = omega (arith, stalls.0);
+      serial = omega (arith, stalls.1);
+      rob = omega (arith, stalls.2);
+      station = omega (arith, stalls.3);
+      store = omega (arith, stalls.4);
+    }
+
+-- ---- a run under way
+
+NoneStops-push : (rs : List Report) (r : Report) → NoneStops rs → r.stop ≡ None → NoneStops (rs ++ r ∷ [])
+NoneStops-push [] r none is = (is, tt)
+NoneStops-push (x ∷ rs) r none is = (none.0, NoneStops-push rs r none.1 is)
+
+module _ (arrivals : List Arrival) where
+  Cycles-push : {old now new : Hardware} {rs : List Report} {r : Report} → Cycles arrivals old rs now → IsCycle any_prediction (lines_at arrivals now.cycle) now r new → Cycles arrivals old (rs ++ r ∷ []) new
+  Cycles-push ended last = cycled last ended
+  Cycles-push (cycled first rest) last = cycled first (Cycles-push rest last)
+
+  -- the cycles so far, none of which stopped the run, and what was told of them
+  pub record IsUnderWay (old now : Hardware) (progress : Progress) (steps : List Step) : Type 0 where
+    pub reports : List Report
+    pub goes : Cycles arrivals old reports now
+    pub none_stops : NoneStops reports
+    pub counted : progress ≡ progress_of reports
+    pub listed : steps ≡ steps_of reports
+
+  pub begins : (h : Hardware) (progress : Progress) (steps : List Step) → progress ≡ progress_of [] → steps ≡ [] → IsUnderWay h h progress steps
+  begins h progress steps counts none = record { reports = []; goes = ended; none_stops = tt; counted = counts; listed = none }
+
+  module _ (old now new : Hardware) (progress : Progress) (steps steps' done : List Step) (end : CycleEnd) (way : IsUnderWay old now progress steps)
+      (cycle : IsCycle any_prediction (lines_at arrivals now.cycle) now (report_with done end) new) (more : steps' ≡ steps ++ done) where
+    abbrev pub reports_now : List Report
+    reports_now = way.reports ++ report_with done end ∷ []
+
+    pub goes_now : Cycles arrivals old reports_now new
+    goes_now = Cycles-push way.goes cycle
+
+    pub counted_now : progress_after (is_silent done) end progress ≡ progress_of reports_now
+    counted_now = ap (progress_after (is_silent done) end) way.counted ∙ sym (progress_of-push way.reports done end)
+
+    pub listed_now : steps' ≡ steps_of reports_now
+    listed_now = more ∙ ap (λ l. l ++ done) way.listed ∙ sym (steps_of-push way.reports (report_with done end))
+
+    pub goes_on : end.stop ≡ None → IsUnderWay old new (progress_after (is_silent done) end progress) steps'
+    goes_on none = record {
+      reports = reports_now;
+      goes = goes_now;
+      none_stops = NoneStops-push way.reports (report_with done end) way.none_stops none;
+      counted = counted_now;
+      listed = listed_now;
+    }
+
+    -- a cycle is silent where the list of steps stays as long
+    pub silent_is : (a b : ℕ) → a ≡ length steps' → b ≡ length steps → nat_eq a b ≡ is_silent done
+    silent_is a b after before = by_done done (after ∙ ap length more ∙ length-append steps done) where
+      by_done : (xs : List Step) → a ≡ length steps + length xs → nat_eq a b ≡ is_silent xs
+      by_done [] is = eq-eqb a b (omega (arith, is, before))
+      by_done (x ∷ xs) is = ne_eqb a b (λ same. omega (arith, is, before, same))
+
+    -- what is told of a run that this cycle ends
+    pub told_now : (progress' : Progress) → progress' ≡ progress_after (is_silent done) end progress → IsRun arrivals old new reports_now steps' progress'.stalls progress'.busy progress'.cycles progress'.longest_gap
+    told_now progress' is =
+        let counts : progress' ≡ progress_of reports_now = is ∙ counted_now in
+        record {
+          cycled = goes_now;
+          steps_are = listed_now;
+          stalls_are = ap (λ (p : Progress). p.stalls) counts;
+          busy_is = ap (λ (p : Progress). p.busy) counts;
+          cycles_are = ap (λ (p : Progress). p.cycles) counts;
+          longest_gap_is = ap (λ (p : Progress). p.longest_gap) counts;
+        }
+
+  -- what is told of a run under way
+  pub told : (old now : Hardware) (progress : Progress) (steps : List Step) (way : IsUnderWay old now progress steps) → IsRun arrivals old now way.reports steps progress.stalls progress.busy progress.cycles progress.longest_gap
+  told old now progress steps way = record {
+    cycled = way.goes;
+    steps_are = way.listed;
+    stalls_are = ap (λ (p : Progress). p.stalls) way.counted;
+    busy_is = ap (λ (p : Progress). p.busy) way.counted;
+    cycles_are = ap (λ (p : Progress). p.cycles) way.counted;
+    longest_gap_is = ap (λ (p : Progress). p.longest_gap) way.counted;
+  }

@@ -1,0 +1,44 @@
+-- The byte that programs see is the youngest retired store's, else the cache's.
+use Rattle.std.proofs.Common.{◌≡◌, ℕ, ◌+◌, ◌-◌, ◌≤◌, nat_le, get_or, slice_get, Option, Some, None, inl, inr, sym, ap, ◌∙◌, arith}
+use Rattle.std.specs.Option.{unwrap_or}
+use Rattle.std.proofs.lemmas.Bool.{cases_lt, cond-true, cond-false, le-leb, lt-leb}
+use Rattle.std.proofs.lemmas.Option.{slice_get_past}
+use Rattle.rv_cache.specs.Cache.{IsCached}
+use Rattle.rv_memory.specs.Memory.{byte_seen}
+use Rattle.rv_stores.specs.Queue.{youngest_byte}
+use Rattle.rv_hardware.specs.Hardware.{Hardware}
+use Rattle.rv_hardware.specs.Seen.{layout_of, seen}
+use Rattle.rv_core.specs.Access.{LieIn}
+use Rattle.rv_core.specs.Soundness.{IsSoundHardware}
+use Rattle.rv_core.proofs.BehindStores.{length-memory_behind, slice_get-memory_behind}
+use Rattle.rv_core.proofs.IssueWrites.{committed_inside}
+
+module _ (h : Hardware) (sound : IsSoundHardware h) (address : ℕ) where
+  inside : LieIn h.values.ram_base h.values.ram_size h.committed
+  inside = committed_inside h.values h.committed sound.stores.each
+
+  abbrev byte : Option ℕ
+  byte = byte_seen (layout_of h.values) (seen h).ram address
+
+  from_base : h.values.ram_base ≤ address → byte ≡ slice_get (seen h).ram (address - h.values.ram_base)
+  from_base from = cond-true (nat_le h.values.ram_base address) _ None (le-leb h.values.ram_base address from)
+
+  -- outside RAM there is none
+  pub none_outside : (IsCached h.cache address → ⊥) → None ≡ byte
+  none_outside outside = elim (cases_lt address h.values.ram_base) [
+    | inl below ↦ sym (cond-false (nat_le h.values.ram_base address) _ None (lt-leb h.values.ram_base address below))
+    | inr from ↦ elim (cases_lt address (h.values.ram_base + h.values.ram_size)) [
+      | inl within ↦ absurd (outside (omega (arith, sound.cache.base), omega (arith, sound.cache.base, sound.cache.bytes)))
+      | inr past ↦
+          let long = length-memory_behind h.values.ram_base h.values.ram_size h.committed h.cache.bytes sound.cache.bytes inside in
+          sym (from_base from ∙ slice_get_past (seen h).ram (address - h.values.ram_base) (omega (arith, long)))
+    ]
+  ]
+
+  -- in RAM it is the youngest store's, or the cache's
+  pub some_inside : IsCached h.cache address → (n : ℕ) → n ≡ unwrap_or (youngest_byte address h.committed) (get_or h.cache.bytes (address - h.cache.base) 0) → Some n ≡ byte
+  some_inside cached n is =
+      ap (λ m. Some m) (is ∙ ap (λ b. unwrap_or (youngest_byte address h.committed) (get_or h.cache.bytes (address - b) 0)) sound.cache.base)
+      ∙ sym (from_base (omega (arith, cached.0, sound.cache.base))
+      ∙ slice_get-memory_behind h.values.ram_base h.values.ram_size address h.committed h.cache.bytes sound.cache.bytes inside
+      (omega (arith, cached.0, sound.cache.base)) (omega (arith, cached.1, sound.cache.base, sound.cache.bytes)))

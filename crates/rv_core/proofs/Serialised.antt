@@ -1,0 +1,36 @@
+-- A serialising head retires, which squashes what is behind it.
+use Rattle.std.proofs.Common.{◌≡◌, ℕ, ◌+◌, ◌*◌, ◌<◌, List, ◌∷◌, length, Option, None, Some, refl, ap, ◌∙◌, arith, length-set}
+use Rattle.rv_isa.proofs.Numbered.{AreBelow-weaken}
+use Rattle.rv_rob.specs.ReorderBuffer.{ReorderBuffer, head_retired}
+use Rattle.rv_rob.specs.declared.entry.Entry.{Entry}
+use Rattle.rv_stores.specs.declared.store.Store.{Store as QueuedStore}
+use Rattle.rv_hardware.specs.Hardware.{Hardware}
+use Rattle.rv_core.proofs.Flushed.{IsSoundBehind}
+use Rattle.rv_core.proofs.RetiredHead.{buffer_behind}
+use Rattle.rv_core.specs.Retiring.{registers_with}
+use Rattle.rv_core.specs.Soundness.{IsSoundHardware}
+
+pub written_count : (written : Option (ℕ × ℕ)) (registers : List ℕ) → length (registers_with written registers) ≡ length registers
+written_count None registers = refl
+written_count (Some written) registers = length-set registers written.0 written.1
+
+pub sound_behind_serial : (h : Hardware) (e : Entry) (es : List Entry) (pc : ℕ) (written : Option (ℕ × ℕ)) → IsSoundHardware h →
+    h.rob.entries ≡ e ∷ es → h.rob.retired < 8 * h.cycle + 8 →
+    IsSoundBehind (record h { pc = pc; registers = registers_with written h.registers; rob = head_retired h.rob })
+sound_behind_serial h e es pc written sound entries room =
+    let after = buffer_behind h.rob e es entries in
+    record {
+      legal = sound.legal;
+      cycles = sound.cycles;
+      port = sound.port;
+      registers = written_count written h.registers ∙ sound.registers;
+      cache = record { base = sound.cache.base; values = sound.cache.values; bytes = sound.cache.bytes; layout = sound.cache.layout };
+      capacity = ap (λ (r : ReorderBuffer). r.capacity) after ∙ sound.entries.capacity;
+      numbers = omega (arith, ap (λ (r : ReorderBuffer). r.retired) after, room);
+      stores = record {
+        each = sound.stores.each;
+        older =
+            AreBelow-weaken (λ (s : QueuedStore). s.seq) h.rob.retired (head_retired h.rob).retired h.committed
+            (omega (arith, ap (λ (r : ReorderBuffer). r.retired) after)) sound.stores.older;
+      };
+    }

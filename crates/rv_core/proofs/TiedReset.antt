@@ -1,0 +1,54 @@
+-- The parts at reset: nothing is in flight.
+use Rattle.std.proofs.Common.{◌≡◌, ℕ, ◌+◌, ◌-◌, ◌≤◌, Bool, true, false, cond, List, [], ◌++◌, length, drop, replicate, refl, ap, length-append, arith}
+use Rattle.std.proofs.lemmas.List.{drop-replicate, length-replicate}
+use Rattle.rv_isa.specs.Description.{IsLegal}
+use Rattle.rv_isa.specs.declared.values.Values.{Values}
+use Rattle.rv_rename.specs.Renaming.{Checkpoint, empty as no_producers}
+use Rattle.rv_stations.specs.Stations.{empty_pools}
+use Rattle.rv_units.specs.Bus.{empty_bus}
+use Rattle.rv_hardware.specs.Broadcast.{mends_early}
+use Rattle.rv_hardware.specs.Reset.{reset_hardware}
+use Rattle.rv_core.specs.Soundness.{IsSoundHardware}
+use Rattle.rv_core.specs.Ties.{AreTied}
+
+no_checkpoints : (early : Bool) → (let none : List Checkpoint = [] in none) ≡ cond early [] []
+no_checkpoints true = refl
+no_checkpoints false = refl
+
+-- an image that is written over zeros has zeros behind it
+pub image_over_zeros : (size : ℕ) (image : List ℕ) → image ++ drop (0 + length image) (replicate size 0) ≡ image ++ replicate (size - length image) 0
+image_over_zeros size image =
+    let none : 0 + length image ≡ length image = omega arith in
+    rw none (ap (λ (rest : List ℕ). image ++ rest) (drop-replicate (length image) size 0))
+
+module _ (values : Values) (image : List ℕ) (start : ℕ) where
+  pub reset-tied : AreTied (reset_hardware values image start) (no_producers values.rob) (empty_pools values) (empty_bus values) (record { stores = []; capacity = values.store_queue })
+  reset-tied = record {
+    renamed = ap (λ checkpoints. record { capacity = values.rob; producers = []; checkpoints = checkpoints }) (no_checkpoints (mends_early values.recovery));
+    stationed = refl;
+    pending = refl;
+    queued = refl;
+  }
+
+  pub reset-sound : IsLegal values → length image ≤ values.ram_size → IsSoundHardware (reset_hardware values image start)
+  reset-sound legal fits = record {
+    legal = legal;
+    cycles = omega arith;
+    port = omega arith;
+    registers = length-replicate {A = ℕ} 32 0;
+    cache = record {
+      base = refl;
+      values = refl;
+      bytes = omega (arith, fits, length-append image (replicate (values.ram_size - length image) 0), length-replicate {A = ℕ} (values.ram_size - length image) 0);
+      layout = refl;
+    };
+    entries = record {
+      capacity = refl;
+      within = omega arith;
+      numbers = omega arith;
+      each = λ k d lt. absurd (omega arith);
+      serial = λ i j d lt within. absurd (omega arith);
+    };
+    stores = record { each = λ k d lt. absurd (omega arith); older = λ k d lt. absurd (omega arith) };
+    fetched = λ k d lt. absurd (omega arith);
+  }

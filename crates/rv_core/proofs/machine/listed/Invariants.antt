@@ -1,0 +1,6 @@
+use Rattle.std.proofs.Common.{◌≡◌, take}
+use Rattle.rv_core.proofs.machine.listed.Given as goal
+
+-- the steps so far
+abbrev pub invariant-loop-step : goal.invariant-loop-step
+invariant-loop-step l = l.listed.items ≡ take l.step-index l.steps

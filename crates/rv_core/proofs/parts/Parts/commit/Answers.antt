@@ -1,0 +1,92 @@
+use Rattle.std.proofs.Common.{◌+◌, ◌-◌, ◌++◌, refl, ap, sym, ◌∙◌, arith}
+use Rattle.rv_arch.specs.Due.{due}
+use Rattle.rv_hardware.specs.Hardware.{Hardware}
+use Rattle.rv_hardware.specs.Commit.{Committing}
+use Rattle.rv_core.proofs.CommitLoop.{none_committed, committed_whole, committed_more, steps_with}
+use Rattle.rv_core.specs.HeadTurn.{committing, turn_left}
+use Rattle.rv_core.proofs.parts.Parts.commit.Goals as goal
+
+pub loop-init : goal.loop-init
+loop-init g c = (
+  none_committed c.args.self.now c.args.steps.now.items (c.self.inside.values.commit_width - 0)
+      (omega (arith, ap (λ (h : Hardware). h.values.commit_width) c.self.view_is))
+      (ap (λ (h : Hardware). due h.csrs h.lines) (sym c.self.view_is) ∙ sym c.due_interrupt.ensures.due ∙ c.in_default.is),
+  refl,
+)
+
+pub returns-in-Waits-clause-hardware : goal.returns-in-Waits-clause-hardware
+returns-in-Waits-clause-hardware g c =
+    ap (λ (x : Committing). x.hardware) (committed_whole c.args.self.now c.loop.self c.args.steps.now.items c.loop.steps.items c.loop.counter
+    (c.self.inside.values.commit_width - c.loop.counter) c.loop.invariant.0 c.commit_head.result c.commit_head.new.self
+    (committing c.commit_head.new.self c.loop.invariant.0.steps) (omega (arith, c.loop-test.true)) c.commit_head.ensures.turn
+    (ap (turn_left c.commit_head.new.self c.loop.invariant.0.steps) c.in-Waits.is))
+
+pub returns-in-Waits-clause-steps : goal.returns-in-Waits-clause-steps
+returns-in-Waits-clause-steps g c =
+    c.loop.invariant.0.appended
+    ∙ ap (λ (x : Committing). c.args.steps.now.items ++ x.steps) (committed_whole c.args.self.now c.loop.self c.args.steps.now.items c.loop.steps.items c.loop.counter
+    (c.self.inside.values.commit_width - c.loop.counter) c.loop.invariant.0 c.commit_head.result c.commit_head.new.self
+    (committing c.commit_head.new.self c.loop.invariant.0.steps) (omega (arith, c.loop-test.true)) c.commit_head.ensures.turn
+    (ap (turn_left c.commit_head.new.self c.loop.invariant.0.steps) c.in-Waits.is))
+
+pub returns-in-Waits-clause-stop : goal.returns-in-Waits-clause-stop
+returns-in-Waits-clause-stop g c =
+    ap (λ (x : Committing). x.stop) (committed_whole c.args.self.now c.loop.self c.args.steps.now.items c.loop.steps.items c.loop.counter
+    (c.self.inside.values.commit_width - c.loop.counter) c.loop.invariant.0 c.commit_head.result c.commit_head.new.self
+    (committing c.commit_head.new.self c.loop.invariant.0.steps) (omega (arith, c.loop-test.true)) c.commit_head.ensures.turn
+    (ap (turn_left c.commit_head.new.self c.loop.invariant.0.steps) c.in-Waits.is))
+
+pub returns-in-Stale-clause-hardware : goal.returns-in-Stale-clause-hardware
+returns-in-Stale-clause-hardware g c =
+    ap (λ (x : Committing). x.hardware) (committed_whole c.args.self.now c.loop.self c.args.steps.now.items c.loop.steps.items c.loop.counter
+    (c.self.inside.values.commit_width - c.loop.counter) c.loop.invariant.0 c.commit_head.result c.commit_head.new.self
+    _ (omega (arith, c.loop-test.true)) c.commit_head.ensures.turn
+    (ap (turn_left c.commit_head.new.self c.loop.invariant.0.steps) c.in-Stale.is))
+
+pub returns-in-Stale-clause-steps : goal.returns-in-Stale-clause-steps
+returns-in-Stale-clause-steps g c =
+    c.loop.invariant.0.appended
+    ∙ ap (λ (x : Committing). c.args.steps.now.items ++ x.steps) (committed_whole c.args.self.now c.loop.self c.args.steps.now.items c.loop.steps.items c.loop.counter
+    (c.self.inside.values.commit_width - c.loop.counter) c.loop.invariant.0 c.commit_head.result c.commit_head.new.self
+    _ (omega (arith, c.loop-test.true)) c.commit_head.ensures.turn
+    (ap (turn_left c.commit_head.new.self c.loop.invariant.0.steps) c.in-Stale.is))
+
+pub returns-in-Stale-clause-stop : goal.returns-in-Stale-clause-stop
+returns-in-Stale-clause-stop g c =
+    ap (λ (x : Committing). x.stop) (committed_whole c.args.self.now c.loop.self c.args.steps.now.items c.loop.steps.items c.loop.counter
+    (c.self.inside.values.commit_width - c.loop.counter) c.loop.invariant.0 c.commit_head.result c.commit_head.new.self
+    _ (omega (arith, c.loop-test.true)) c.commit_head.ensures.turn
+    (ap (turn_left c.commit_head.new.self c.loop.invariant.0.steps) c.in-Stale.is))
+
+pub returns-in-Ends-clause-hardware : goal.returns-in-Ends-clause-hardware
+returns-in-Ends-clause-hardware g c =
+    ap (λ (x : Committing). x.hardware) (committed_whole c.args.self.now c.loop.self c.args.steps.now.items c.loop.steps.items c.loop.counter
+    (c.self.inside.values.commit_width - c.loop.counter) c.loop.invariant.0 c.commit_head.result c.commit_head.new.self
+    _ (omega (arith, c.loop-test.true)) c.commit_head.ensures.turn
+    (ap (turn_left c.commit_head.new.self c.loop.invariant.0.steps) c.in-Ends.is))
+
+pub returns-in-Ends-clause-steps : goal.returns-in-Ends-clause-steps
+returns-in-Ends-clause-steps g c =
+    steps_with c.args.steps.now.items c.loop.steps.items c.append-in-Ends.new.items.items c.loop.invariant.0.steps c.in-Ends.step
+    c.loop.invariant.0.appended c.append-in-Ends.ensures.items
+    ∙ ap (λ (x : Committing). c.args.steps.now.items ++ x.steps) (committed_whole c.args.self.now c.loop.self c.args.steps.now.items c.loop.steps.items c.loop.counter
+    (c.self.inside.values.commit_width - c.loop.counter) c.loop.invariant.0 c.commit_head.result c.commit_head.new.self
+    _ (omega (arith, c.loop-test.true)) c.commit_head.ensures.turn
+    (ap (turn_left c.commit_head.new.self c.loop.invariant.0.steps) c.in-Ends.is))
+
+pub returns-in-Ends-clause-stop : goal.returns-in-Ends-clause-stop
+returns-in-Ends-clause-stop g c =
+    c.stop_with.ensures
+    ∙ ap (λ (x : Committing). x.stop) (committed_whole c.args.self.now c.loop.self c.args.steps.now.items c.loop.steps.items c.loop.counter
+    (c.self.inside.values.commit_width - c.loop.counter) c.loop.invariant.0 c.commit_head.result c.commit_head.new.self
+    _ (omega (arith, c.loop-test.true)) c.commit_head.ensures.turn
+    (ap (turn_left c.commit_head.new.self c.loop.invariant.0.steps) c.in-Ends.is))
+
+pub loop-preserved : goal.loop-preserved
+loop-preserved g c = (
+  committed_more c.args.self.now c.loop.self c.args.steps.now.items c.loop.steps.items c.append-in-GoesOn.new.items.items c.loop.counter
+      (c.self.inside.values.commit_width - c.loop.counter) (c.self.inside.values.commit_width - (c.loop.counter + 1)) c.loop.invariant.0
+      c.commit_head.result c.commit_head.new.self c.in-GoesOn.step (omega (arith, c.loop-test.true)) c.commit_head.ensures.turn c.in-GoesOn.is
+      c.commit_head.ensures.kept c.append-in-GoesOn.ensures.items,
+  c.append-in-GoesOn.ensures.capacity ∙ c.loop.invariant.1,
+)

@@ -1,0 +1,9 @@
+use Rattle.rv_core.proofs.Entered.{decoded-first, sound-taken}
+use Rattle.rv_core.proofs.parts.Parts.dispatch_one.Goals as goal
+
+pub invariant_of-self : goal.invariant_of-self
+invariant_of-self c = sound-taken c.self.inside c.take-fetched.new.self c.self.invariant c.take-fetched.ensures.rest
+
+pub enter-requires-clause-decoded : goal.enter-requires-clause-decoded
+enter-requires-clause-decoded c =
+    decoded-first c.self.inside.front.entries c.take-fetched.result c.take-fetched.ensures.first c.self.invariant.sound.fetched

@@ -1,0 +1,45 @@
+use Rattle.std.proofs.Common.{◌≡◌, ◌<◌, ap, ◌∙◌}
+use Rattle.rv_stores.specs.Queue.{Queue, without_drained}
+use Rattle.rv_hardware.specs.Drain.{end_drain}
+use Rattle.rv_hardware.specs.Hardware.{Hardware}
+use Rattle.rv_hardware.specs.InFlight.{stores_of}
+use Rattle.rv_stores.specs.declared.store.Store.{Store as QueuedStore}
+use Rattle.rv_core.proofs.Drained.{kept_when_drained, none_drains, without_drained_behind}
+use Rattle.rv_core.proofs.Stored.{sound_with_cache, parts_with_cache, view_with_cache}
+use Rattle.rv_core.specs.Parts.{hardware_of, IsSound}
+use Rattle.rv_core.specs.Soundness.{IsRetiredStore, IsSoundHardware}
+use Rattle.rv_core.specs.Ties.{queue_of}
+use Rattle.rv_core.specs.declared.parts.Parts.TheInside.{Inside}
+use Rattle.rv_core.proofs.parts.Parts.end_drain.Goals as goal
+
+abbrev next : Inside → Hardware
+next p = end_drain (hardware_of p)
+
+sound : (p : Inside) → IsSound p → IsSoundHardware (next p)
+sound p before =
+    let h = hardware_of p in
+    sound_with_cache h h.cache (without_drained h.committed) h.port_free before.sound
+    (record { base = before.sound.cache.base; values = before.sound.cache.values; bytes = before.sound.cache.bytes; layout = before.sound.cache.layout })
+    (kept_when_drained (λ (s : QueuedStore). IsRetiredStore h.values s.state) h.committed before.sound.stores.each)
+    (kept_when_drained (λ (s : QueuedStore). s.seq < h.rob.retired) h.committed before.sound.stores.older) before.sound.port
+
+queued : (p : Inside) (stores : Queue) → IsSound p → stores ≡ record p.stores { stores = without_drained p.stores.stores } → stores ≡ queue_of (next p)
+queued p stores before is =
+    let h = hardware_of p in
+    is
+    ∙ ap (λ (q : Queue). record q { stores = without_drained q.stores }) before.tied.queued
+    ∙ ap (λ l. record { stores = l; capacity = h.values.store_queue })
+    (without_drained_behind h.committed (stores_of h.rob.retired h.rob.entries) (none_drains h.rob.retired h.rob.entries))
+
+pub invariant_of-self : goal.invariant_of-self
+invariant_of-self c =
+    let p = c.self.inside in
+    parts_with_cache p p.cache (next p).committed c.end_drain.new.self p.port_free c.self.invariant (sound p c.self.invariant)
+    (queued p c.end_drain.new.self c.self.invariant c.end_drain.ensures)
+
+pub returns : goal.returns
+returns c =
+    let p = c.self.inside in
+    view_with_cache p p.cache (next p).committed c.end_drain.new.self p.port_free (sound p c.self.invariant)
+    (queued p c.end_drain.new.self c.self.invariant c.end_drain.ensures)
+    ∙ ap end_drain c.self.view_is

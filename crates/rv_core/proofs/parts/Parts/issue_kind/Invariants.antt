@@ -1,0 +1,9 @@
+use Rattle.std.proofs.Common.{◌≡◌, ◌-◌}
+use Rattle.rv_hardware.specs.Issue.{issue_kind, issue_turn}
+use Rattle.rv_hardware.specs.Repeated.{repeated}
+use Rattle.rv_core.proofs.parts.Parts.issue_kind.Given as goal
+
+-- what is still to come from here leads to the same
+abbrev pub invariant-loop : goal.invariant-loop
+invariant-loop l =
+    repeated (issue_turn l.kind) (l.end - l.counter) l.self ≡ issue_kind l.kind l.fn.self

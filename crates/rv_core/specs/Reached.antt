@@ -1,0 +1,10 @@
+-- What holds of a core between its calls.
+use Rattle.std.specs.Prelude.{ℕ, ◌*◌, ◌≤◌}
+use Rattle.rv_hardware.specs.Hardware.{Hardware}
+use Rattle.rv_hardware.specs.Run.{Reachable}
+
+-- its hardware is one that a reset and cycles lead to, and its list of steps has room for a cycle's
+pub record IsReached (h : Hardware) (room : ℕ) : Type 0 where
+  pub reached : Reachable h
+  pub numbers : h.rob.retired ≤ 8 * h.cycle
+  pub has_room : 8 ≤ room

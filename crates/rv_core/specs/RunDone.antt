@@ -1,0 +1,29 @@
+-- What a run of a core tells, and what it tells where there is no memory for the steps of a further cycle.
+use Rattle.std.specs.Prelude.{◌≡◌, ℕ, ◌<◌, List, length}
+use Rattle.rv_isa.specs.declared.lines.Arrival.{Arrival}
+use Rattle.rv_hardware.specs.Hardware.{Hardware}
+use Rattle.rv_hardware.specs.Report.{Report}
+use Rattle.rv_hardware.specs.Run.{Cycles, IsStop, NoneStops, busy_of, longest_gap_of, stalls_of, steps_of}
+use Rattle.rv_hardware.specs.declared.report.StallCounts.{StallCounts}
+use Rattle.rv_hardware.specs.declared.step.Step.{Step}
+use Rattle.rv_core.specs.declared.errors.OutOfMemory.{OutOfMemory}
+use Rattle.rv_core.specs.declared.outcome.Outcome.{Outcome}
+
+-- cycles one after another, with all their steps and counts
+pub record IsRun (arrivals : List Arrival) (old new : Hardware) (reports : List Report) (steps : List Step) (stalls : StallCounts) (busy cycles longest_gap : ℕ) : Type 0 where
+  pub cycled : Cycles arrivals old reports new
+  pub steps_are : steps ≡ steps_of reports
+  pub stalls_are : stalls ≡ stalls_of reports
+  pub busy_is : busy ≡ busy_of reports
+  pub cycles_are : cycles ≡ length reports
+  pub longest_gap_is : longest_gap ≡ longest_gap_of reports
+
+-- a run of at most `limit` cycles that ended
+abbrev pub IsOutcome : List Arrival → ℕ → Hardware → Hardware → Outcome → Type 0
+IsOutcome arrivals limit old new outcome =
+    (reports : List Report) × IsRun arrivals old new reports outcome.steps.items outcome.stalls outcome.busy outcome.cycles outcome.longest_gap × IsStop limit reports new outcome.stop
+
+-- one that ended for want of memory: nothing stopped it, and it had cycles left
+abbrev pub IsCutShort : List Arrival → ℕ → Hardware → Hardware → OutOfMemory → Type 0
+IsCutShort arrivals limit old new done =
+    (reports : List Report) × IsRun arrivals old new reports done.steps.items done.stalls done.busy done.cycles done.longest_gap × NoneStops reports × (length reports < limit)

@@ -1,0 +1,43 @@
+-- What a turn of a phase leaves, as its answer tells.
+use Rattle.std.specs.Prelude.{ℕ, ◌+◌, List, [], Option, Some, None}
+use Rattle.rv_arch.specs.declared.outcome.Stop.{Stop}
+use Rattle.rv_arch.specs.declared.outcome.Stop.TheVariants.{Breakpoint, Stale, Limit, Exhausted}
+use Rattle.rv_hardware.specs.Dispatch.{Dispatching}
+use Rattle.rv_hardware.specs.Hardware.{Hardware}
+use Rattle.rv_hardware.specs.Repeated.{Turn, GoesOn, Ends}
+use Rattle.rv_hardware.specs.Report.{Report}
+use Rattle.rv_hardware.specs.declared.report.Stall.{Stall}
+use Rattle.rv_hardware.specs.declared.step.Step.{Step}
+use Rattle.rv_core.specs.declared.outcome.CycleEnd.{CycleEnd}
+use Rattle.rv_core.specs.declared.outcome.CycleReport.{CycleReport}
+
+-- the dispatch phase once so many instructions were dispatched
+abbrev pub dispatching : Hardware → ℕ → Dispatching
+dispatching h dispatched = record { hardware = h; dispatched = dispatched; waits_for = None }
+
+-- a turn of the dispatch phase, which tells what the instruction waits for, if it does
+abbrev pub dispatch_told : Option Stall → Hardware → ℕ → Turn Dispatching
+dispatch_told None h dispatched = GoesOn (dispatching h (dispatched + 1))
+dispatch_told (Some reason) h dispatched =
+    Ends (record { hardware = h; dispatched = dispatched; waits_for = Some reason })
+
+-- what a cycle reports, of its steps and of what it did beside them
+abbrev pub report_with : List Step → CycleEnd → Report
+report_with steps end = record { steps = steps; dispatched = end.dispatched; stall = end.stall; stop = end.stop }
+
+-- what a cycle of a core reports
+abbrev pub report_of_cycle : CycleReport → Report
+report_of_cycle report =
+    record { steps = report.steps.items; dispatched = report.dispatched; stall = report.stall; stop = report.stop }
+
+-- the report of a core that has done all the cycles that it counts
+abbrev pub exhausted_report : Report
+exhausted_report = record { steps = []; dispatched = 0; stall = None; stop = Some Exhausted }
+
+-- why a commit stops a run, if it does: a breakpoint, or a stale word
+abbrev pub IsCommitStop : Option Stop → Type 0
+IsCommitStop None = Unit {0}
+IsCommitStop (Some Breakpoint) = Unit {0}
+IsCommitStop (Some (Stale pc)) = Unit {0}
+IsCommitStop (Some Limit) = ⊥
+IsCommitStop (Some Exhausted) = ⊥

@@ -1,0 +1,86 @@
+-- What the broadcast phase keeps: what a result on the bus and the mending of a wrong prediction keep.
+use Rattle.std.proofs.Common.{◌≡◌, ℕ, ◌+◌, ◌&&◌, List, [], ◌∷◌, ◌++◌, length, Option, Some, None, refl, sym, ap, subst, ◌∙◌}
+use Rattle.rv_isa.specs.declared.broadcast.Message.{Message}
+use Rattle.rv_rob.specs.Entry.{finished, predicting}
+use Rattle.rv_rob.specs.ReorderBuffer.{with_entry, entries_below}
+use Rattle.rv_rob.specs.declared.entry.Entry.{Entry}
+use Rattle.rv_hardware.specs.Broadcast.{broadcast, broadcast_oldest, broadcast_result, broadcast_turn, has_result, is_mispredicted, mends_early, result_at, with_broadcast, with_recovery}
+use Rattle.rv_hardware.specs.Hardware.{Hardware}
+use Rattle.rv_hardware.specs.Issue.{oldest}
+use Rattle.rv_hardware.specs.Repeated.{GoesOn, Ends}
+use Rattle.rv_hardware.specs.Squash.{redirected}
+use Rattle.rv_hardware.proofs.GapForms.{with_entries}
+use Rattle.rv_hardware.proofs.GapLists.{by_test, oldest-found, with_entry-found, entries_below-found}
+use Rattle.rv_hardware.proofs.Repeated.{Leaves, kept_by_turns}
+
+-- only what is older than an instruction, and the instruction, are in flight, and fetch begins anew at a pc
+abbrev pub with_mended : ℕ → List Entry → Hardware → Hardware
+with_mended next es h = record h { rob = record h.rob { entries = es }; front = redirected next h.front }
+
+-- what holds once the result of an instruction was broadcast, and is kept where a wrong prediction is mended
+module _ (P : Hardware → List Entry → Entry → Type 0) (Q : Hardware → Type 0) where
+  pub record IsMadeByBroadcast : Type 0 where
+    pub broadcasts : (h : Hardware) (older younger : List Entry) (e : Entry) (message : Message) → P h older e →
+        h.rob.entries ≡ older ++ e ∷ younger → result_at h.cycle e.stage ≡ Some message →
+        Q (with_entries (older ++ finished message h.cycle e ∷ younger) h)
+    pub mends : (h : Hardware) (older younger : List Entry) (e : Entry) (next : ℕ) → Q h →
+        h.rob.entries ≡ older ++ e ∷ younger → Q (with_mended next (older ++ predicting next e ∷ []) h)
+
+abbrev pub IsKeptByBroadcast : (Hardware → Type 0) → Type 0
+IsKeptByBroadcast P = IsMadeByBroadcast (λ h older e. P h) P
+
+module _ {P : Hardware → List Entry → Entry → Type 0} {Q : Hardware → Type 0} (made : IsMadeByBroadcast P Q) where
+  on_the_bus : (h : Hardware) (older younger : List Entry) (e : Entry) (message : Message) → P h older e →
+      h.rob.entries ≡ older ++ e ∷ younger → result_at h.cycle e.stage ≡ Some message →
+      Q (with_broadcast (h.rob.retired + length older) message h)
+  on_the_bus h older younger e message holds split gives =
+      let change : Entry → Entry = finished message h.cycle in
+      let seq : ℕ = h.rob.retired + length older in
+      let all : with_entry change seq h.rob.retired h.rob.entries ≡ older ++ change e ∷ younger =
+      ap (λ es. with_entry change seq h.rob.retired es) split ∙ with_entry-found change seq h.rob.retired older younger e refl in
+      subst (λ es. Q (with_entries es h)) (sym all) (made.broadcasts h older younger e message holds split gives)
+
+  mended : (h : Hardware) (older younger : List Entry) (e : Entry) (message : Message) → P h older e →
+      h.rob.entries ≡ older ++ e ∷ younger → result_at h.cycle e.stage ≡ Some message →
+      Q (with_recovery (h.rob.retired + length older) message (with_broadcast (h.rob.retired + length older) message h))
+  mended h older younger e message holds split gives =
+      let seq : ℕ = h.rob.retired + length older in
+      let over : Entry → Entry = finished message h.cycle in
+      let right : Entry → Entry = predicting message.next_pc in
+      let es : List Entry = older ++ over e ∷ younger in
+      let broadcasted : with_entry over seq h.rob.retired h.rob.entries ≡ es =
+      ap (λ l. with_entry over seq h.rob.retired l) split ∙ with_entry-found over seq h.rob.retired older younger e refl in
+      let all : entries_below (seq + 1) h.rob.retired (with_entry right seq h.rob.retired (with_entry over seq h.rob.retired h.rob.entries)) ≡ older ++ right (over e) ∷ [] =
+      ap (λ l. entries_below (seq + 1) h.rob.retired (with_entry right seq h.rob.retired l)) broadcasted
+      ∙ ap (λ l. entries_below (seq + 1) h.rob.retired l) (with_entry-found right seq h.rob.retired older younger (over e) refl)
+      ∙ entries_below-found seq h.rob.retired older younger (right (over e)) refl in
+      subst (λ l. Q (with_mended message.next_pc l h)) (sym all)
+      (made.mends (with_entries es h) older younger (over e) message.next_pc (made.broadcasts h older younger e message holds split gives) refl)
+
+  -- the result of an instruction is broadcast
+  pub result-makes : (h : Hardware) (older younger : List Entry) (e : Entry) (message : Message) → P h older e →
+      h.rob.entries ≡ older ++ e ∷ younger → result_at h.cycle e.stage ≡ Some message →
+      Leaves Q (broadcast_result h (h.rob.retired + length older) e (Some message))
+  result-makes h older younger e message holds split gives =
+      let seq : ℕ = h.rob.retired + length older in
+      by_test (Leaves Q) (mends_early h.values.recovery && is_mispredicted e message) (Ends (with_recovery seq message (with_broadcast seq message h))) (GoesOn (with_broadcast seq message h))
+      (λ wrong. mended h older younger e message holds split gives) (λ right. on_the_bus h older younger e message holds split gives)
+
+module _ {P : Hardware → Type 0} (kept : IsKeptByBroadcast P) where
+  after_result : (h : Hardware) (older younger : List Entry) (e : Entry) (result : Option Message) → P h →
+      h.rob.entries ≡ older ++ e ∷ younger → result_at h.cycle e.stage ≡ result →
+      Leaves P (broadcast_result h (h.rob.retired + length older) e result)
+  after_result h older younger e None holds split gives = holds
+  after_result h older younger e (Some message) holds split gives = result-makes kept h older younger e message holds split gives
+
+  after_oldest : (h : Hardware) (found : Option (List Entry × Entry)) → oldest (has_result h.cycle) h.rob.entries ≡ found → P h → Leaves P (broadcast_oldest h found)
+  after_oldest h None is holds = holds
+  after_oldest h (Some (older, e)) is holds =
+      let found = oldest-found (has_result h.cycle) h.rob.entries older e is in
+      after_result h older found.younger e (result_at h.cycle e.stage) holds found.split refl
+
+  pub broadcast_turn-keeps : (h : Hardware) → P h → Leaves P (broadcast_turn h)
+  broadcast_turn-keeps h holds = after_oldest h (oldest (has_result h.cycle) h.rob.entries) refl holds
+
+  pub broadcast-keeps : (h : Hardware) → P h → P (broadcast h)
+  broadcast-keeps h holds = kept_by_turns P broadcast_turn broadcast_turn-keeps h.values.bus_width h holds

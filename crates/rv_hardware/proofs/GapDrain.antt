@@ -1,0 +1,24 @@
+-- What the drain phase keeps: what the end of a store's access and the start of another keep.
+use Rattle.std.proofs.Common.{◌≡◌, true, nat_le, Option, Some, None, refl}
+use Rattle.rv_isa.specs.declared.broadcast.StoreAccess.{StoreAccess}
+use Rattle.rv_stores.specs.Queue.{oldest_to_drain}
+use Rattle.rv_hardware.specs.Drain.{drain, end_drain, start_drain, with_drained}
+use Rattle.rv_hardware.specs.Hardware.{Hardware}
+use Rattle.rv_hardware.proofs.GapLists.{by_test}
+
+module _ (P : Hardware → Type 0) where
+  pub record IsKeptByDrain : Type 0 where
+    pub leaves : (h : Hardware) → P h → nat_le h.port_free h.cycle ≡ true → P (end_drain h)
+    pub drains : (h : Hardware) (access : StoreAccess) → P h → nat_le h.port_free h.cycle ≡ true → oldest_to_drain h.committed ≡ Some access →
+        P (with_drained access h)
+
+module _ {P : Hardware → Type 0} (kept : IsKeptByDrain P) where
+  pub start_drain-keeps : (h : Hardware) (access : Option StoreAccess) → P h → nat_le h.port_free h.cycle ≡ true → oldest_to_drain h.committed ≡ access →
+      P (start_drain access h)
+  start_drain-keeps h None holds idle is = holds
+  start_drain-keeps h (Some access) holds idle is = kept.drains h access holds idle is
+
+  pub drain-keeps : (h : Hardware) → P h → P (drain h)
+  drain-keeps h holds =
+      by_test P (nat_le h.port_free h.cycle) (start_drain (oldest_to_drain (end_drain h).committed) (end_drain h)) h
+      (λ idle. start_drain-keeps (end_drain h) (oldest_to_drain (end_drain h).committed) (kept.leaves h holds idle) idle refl) (λ busy. holds)

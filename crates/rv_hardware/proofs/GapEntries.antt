@@ -1,0 +1,175 @@
+-- What is true of each instruction in flight: one that waits has a unit to wait for or waits to be the oldest, only a store
+-- tells what it writes, and where no word was fetched, a fault is known.
+use Rattle.std.proofs.Common.{◌≡◌, ℕ, Bool, true, false, cond, ◌||◌, List, ◌∷◌, ◌++◌, Option, Some, None, is_some, ◌+◌, nat_le, option_and_then, refl, sym, subst}
+use Rattle.rv_isa.specs.declared.broadcast.Message.{Message}
+use Rattle.rv_isa.specs.declared.broadcast.StoreAccess.{StoreAccess}
+use Rattle.rv_isa.specs.declared.causes.Fault.{Fault}
+use Rattle.rv_isa.specs.declared.instructions.Instr.{Instr}
+use Rattle.rv_isa.specs.declared.instructions.Instr.TheVariants.{Store}
+use Rattle.rv_isa.specs.declared.lines.Lines.{Lines}
+use Rattle.rv_isa.specs.declared.operations.Kind.{Kind}
+use Rattle.rv_isa.specs.declared.values.Values.{Values}
+use Rattle.rv_arch.specs.Effect.{Effect, Retires, Faults, effect}
+use Rattle.rv_arch.specs.State.{State}
+use Rattle.rv_cache.specs.WriteBack.{Each}
+use Rattle.rv_memory.specs.Memory.{Layout, Memory}
+use Rattle.rv_decode.specs.Decodes.{instruction_of}
+use Rattle.rv_front.specs.FetchBuffer.{IsFetchedAt}
+use Rattle.rv_hardware.specs.Cycle.{any_prediction}
+use Rattle.rv_hardware.proofs.GapFetch.{each-fetched}
+use Rattle.rv_rob.specs.Entry.{finished, predicting, started}
+use Rattle.rv_rob.specs.declared.entry.Entry.{Entry}
+use Rattle.rv_rob.specs.declared.entry.Stage.{Stage}
+use Rattle.rv_rob.specs.declared.entry.Stage.TheVariants.{Waiting, Running, Finished}
+use Rattle.rv_front.specs.declared.fetched.Fetched.{Fetched}
+use Rattle.rv_hardware.specs.Broadcast.{result_at}
+use Rattle.rv_hardware.specs.Dispatch.{entry_of_fetched, stage_by}
+use Rattle.rv_hardware.specs.Hardware.{Hardware}
+use Rattle.rv_hardware.specs.InFlight.{is_serialising, is_store}
+use Rattle.rv_hardware.specs.Issue.{kind_of_word}
+use Rattle.rv_hardware.specs.Reset.{reset_hardware}
+use Rattle.rv_hardware.specs.Result.{access_of, effect_message, result_of_word}
+use Rattle.rv_hardware.specs.Seen.{layout_of, seen_behind}
+use Rattle.rv_hardware.proofs.GapCycle.{IsKept}
+use Rattle.rv_hardware.proofs.GapEach.{Each-back, Each-change, Each-front, Each-push}
+use Rattle.rv_hardware.proofs.GapForms.{IsResult}
+
+-- what a message says of a store is said by a store
+abbrev pub TellsStore : Option Instr → Option StoreAccess → Type 0
+TellsStore instruction None = Unit {0}
+TellsStore instruction (Some access) = is_store instruction ≡ true
+
+-- a word was fetched, or a fault is known
+abbrev pub HasWordOr : Option Fault → Option ℕ → Type 0
+HasWordOr fault (Some word) = Unit {0}
+HasWordOr None None = ⊥
+HasWordOr (Some fault) None = Unit {0}
+
+abbrev IsTold : Option ℕ → Option Instr → Message → Type 0
+IsTold word instruction message = HasWordOr message.fault word × TellsStore instruction message.store
+
+abbrev pub IsShaped : Option ℕ → Option Instr → Stage → Type 0
+IsShaped word instruction Waiting =
+    HasWordOr None word × ((is_some (kind_of_word instruction) || is_serialising instruction) ≡ true)
+IsShaped word instruction (Running issue message) = IsTold word instruction message
+IsShaped word instruction (Finished issue cycle message) = IsTold word instruction message
+
+abbrev pub Shaped : Entry → Type 0
+Shaped e = IsShaped e.word e.instruction e.stage
+
+-- where no word was fetched there is no instruction
+abbrev HasWordFor : Option ℕ → Option Instr → Type 0
+HasWordFor (Some word) instruction = Unit {0}
+HasWordFor None None = Unit {0}
+HasWordFor None (Some instruction) = ⊥
+
+abbrev pub FetchedShape : Fetched → Type 0
+FetchedShape f = HasWordFor f.word f.instruction
+
+abbrev pub HasShape : Hardware → Type 0
+HasShape h = Each Shaped h.rob.entries × Each FetchedShape h.front.entries
+
+-- ---- what an instruction gives
+tells_store : (s : State) (instruction : Instr) → TellsStore (Some instruction) (access_of s instruction)
+tells_store s (Store width rs1 rs2 offset) = refl
+tells_store s _ = tt
+
+told_effect : (s : State) (word : ℕ) (instruction : Instr) (effect : Effect) → IsTold (Some word) (Some instruction) (effect_message (access_of s instruction) effect)
+told_effect s word instruction (Retires written next) = (tt, tells_store s instruction)
+told_effect s word instruction (Faults cause value) = (tt, tt)
+
+told_word : (layout : Layout) (s : State) (lines : Lines) (word : Option ℕ) (instruction : Option Instr) → IsTold word instruction (result_of_word layout s lines word instruction)
+told_word layout s lines None instruction = (tt, tt)
+told_word layout s lines (Some word) None = (tt, tt)
+told_word layout s lines (Some word) (Some instruction) = told_effect s word instruction (effect layout s lines word instruction)
+
+told_result : (word : Option ℕ) (instruction : Option Instr) (message : Message) → IsResult word instruction message → IsTold word instruction message
+told_result word instruction message result =
+    subst (IsTold word instruction) (sym result.is) (told_word result.layout result.state result.lines word instruction)
+
+-- ---- a broadcast
+told_broadcast : (b : Bool) (word : Option ℕ) (instruction : Option Instr) (given message : Message) → cond b (Some given) None ≡ Some message → IsTold word instruction given → IsTold word instruction message
+told_broadcast true word instruction given message is told =
+    let same : given ≡ message = cc in
+    subst (IsTold word instruction) same told
+told_broadcast false word instruction given message is told = absurd (cc)
+
+told_at : (cycle : ℕ) (word : Option ℕ) (instruction : Option Instr) (stage : Stage) (message : Message) → result_at cycle stage ≡ Some message → IsShaped word instruction stage → IsTold word instruction message
+told_at cycle word instruction Waiting message is shaped = absurd (cc)
+told_at cycle word instruction (Running issue given) message is shaped =
+    told_broadcast (nat_le (issue.cycle + issue.cost) cycle) word instruction given message is shaped
+told_at cycle word instruction (Finished issue finished given) message is shaped = absurd (cc)
+
+-- ---- a dispatch
+word_for : (word : Option ℕ) (instruction : Option Instr) → HasWordFor word instruction → (is_some (kind_of_word instruction) || is_serialising instruction) ≡ true → HasWordOr None word
+word_for (Some word) instruction has waits = tt
+word_for None None has waits = absurd (cc)
+word_for None (Some instruction) has waits = absurd has
+
+or_true : (b : Bool) → (b || true) ≡ true
+or_true true = refl
+or_true false = refl
+
+shaped_by : (word : Option ℕ) (instruction : Option Instr) (kind : Option Kind) (serialising : Bool) (cycle : ℕ) (message : Message) →
+    kind_of_word instruction ≡ kind → is_serialising instruction ≡ serialising → HasWordFor word instruction → IsTold word instruction message →
+    IsShaped word instruction (stage_by kind serialising (Finished None cycle message))
+shaped_by word instruction (Some kind) serialising cycle message of_kind serial has told =
+    let waits : (is_some (kind_of_word instruction) || is_serialising instruction) ≡ true = rw of_kind refl in
+    (word_for word instruction has waits, waits)
+shaped_by word instruction None true cycle message of_kind serial has told =
+    let waits : (is_some (kind_of_word instruction) || is_serialising instruction) ≡ true = rw serial (or_true (is_some (kind_of_word instruction))) in
+    (word_for word instruction has waits, waits)
+shaped_by word instruction None false cycle message of_kind serial has told = told
+
+shaped_entry : (h : Hardware) (f : Fetched) → FetchedShape f → Shaped (entry_of_fetched h f)
+shaped_entry h f has =
+    shaped_by f.word f.instruction (kind_of_word f.instruction) (is_serialising f.instruction) h.cycle _ refl refl has
+    (told_word (layout_of h.values) (seen_behind h h.rob.entries f.pc) h.lines f.word f.instruction)
+
+-- ---- a fetch
+no_word : (word : Option ℕ) (instruction : Option Instr) → instruction ≡ option_and_then instruction_of word → HasWordFor word instruction
+no_word (Some word) instruction is = tt
+no_word None None is = tt
+no_word None (Some instruction) is = absurd (cc)
+
+fetched_shape : (ram : Memory) (cycle pc : ℕ) (f : Fetched) → IsFetchedAt any_prediction ram cycle pc f → FetchedShape f
+fetched_shape ram cycle pc f at = no_word f.word f.instruction at.instruction_is
+
+pub shape-kept : IsKept HasShape
+shape-kept = record {
+  phases = record {
+    lines = λ h levels shape. shape;
+    commit = record {
+      empties = λ h s retired shape. (tt, tt);
+      retires = λ h e es s message shape split known faultless.
+          let all : Each Shaped (e ∷ es) = subst (Each Shaped) split shape.0 in
+          (all.1, shape.1);
+      writes_back = λ h shape drained. shape;
+    };
+    drain = record { leaves = λ h shape idle. shape; drains = λ h access shape idle is. shape };
+    issue = λ k. record {
+      accesses = λ h older younger e address shape split ready by. shape;
+      starts = λ h older younger e cost message shape split waits of_kind result costs.
+          (Each-change Shaped older younger e (started (record { cycle = h.cycle; cost = cost }) message e) (λ shaped. told_result e.word e.instruction message result) (subst (Each Shaped) split shape.0), shape.1);
+    };
+    broadcast = record {
+      broadcasts = λ h older younger e message shape split gives.
+          (Each-change Shaped older younger e (finished message h.cycle e) (told_at h.cycle e.word e.instruction e.stage message gives) (subst (Each Shaped) split shape.0), shape.1);
+      mends = λ h older younger e next shape split.
+          let all : Each Shaped (older ++ e ∷ younger) = subst (Each Shaped) split shape.0 in
+          (Each-push Shaped older (predicting next e) (Each-back Shaped older (e ∷ younger) all).0 (Each-front Shaped older (e ∷ younger) all), tt);
+    };
+    dispatch = record {
+      dispatches = λ h fetched rest shape first none.
+          let words : Each FetchedShape (fetched ∷ rest) = subst (Each FetchedShape) first shape.1 in
+          (Each-push Shaped h.rob.entries (entry_of_fetched h fetched) (shaped_entry h fetched words.0) shape.0, words.1);
+    };
+  };
+  fetch = record {
+    fetches = λ ram cycle h front stop shape fetches.
+        (shape.0, each-fetched ram cycle h.front front stop FetchedShape (fetched_shape ram cycle) fetches shape.1);
+  };
+}
+
+pub shape-at_reset : (values : Values) (image : List ℕ) (start : ℕ) → HasShape (reset_hardware values image start)
+shape-at_reset values image start = (tt, tt)

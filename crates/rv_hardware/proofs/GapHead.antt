@@ -1,0 +1,37 @@
+-- The oldest instruction in flight, and what becomes of it in the phases behind commit.
+use Rattle.std.proofs.Common.{◌≡◌, true, false, List, [], ◌∷◌, ◌++◌, Option, sym, subst, ◌∙◌}
+use Rattle.rv_isa.specs.declared.instructions.Instr.{Instr}
+use Rattle.rv_rob.specs.declared.entry.Entry.{Entry}
+use Rattle.rv_rob.specs.declared.entry.Stage.{Stage}
+use Rattle.rv_hardware.specs.InFlight.{is_waiting}
+
+-- the oldest is this instruction, in such a stage
+abbrev pub HeadIs : Option Instr → (Stage → Type 0) → List Entry → Type 0
+HeadIs instruction R [] = ⊥
+HeadIs instruction R (e ∷ es) = (e.instruction ≡ instruction) × R e.stage
+
+module _ (instruction : Option Instr) (R : Stage → Type 0) where
+  pub head-change : (older younger : List Entry) (old new : Entry) → new.instruction ≡ old.instruction → (old.instruction ≡ instruction → R old.stage → R new.stage) →
+      HeadIs instruction R (older ++ old ∷ younger) → HeadIs instruction R (older ++ new ∷ younger)
+  head-change [] younger old new same keeps head = (same ∙ head.0, keeps head.0 head.1)
+  head-change (o ∷ older) younger old new same keeps head = head
+
+  pub head-cut : (older younger : List Entry) (old new : Entry) → new.instruction ≡ old.instruction → new.stage ≡ old.stage →
+      HeadIs instruction R (older ++ old ∷ younger) → HeadIs instruction R (older ++ new ∷ [])
+  head-cut [] younger old new same stage head = (same ∙ head.0, subst R (sym stage) head.1)
+  head-cut (o ∷ older) younger old new same stage head = head
+
+  pub head-push : (es : List Entry) (e : Entry) → HeadIs instruction R es → HeadIs instruction R (es ++ e ∷ [])
+  head-push [] e head = absurd head
+  head-push (x ∷ es) e head = head
+
+  pub head-weaken : (Q : Stage → Type 0) → ((stage : Stage) → R stage → Q stage) → (es : List Entry) → HeadIs instruction R es → HeadIs instruction Q es
+  head-weaken Q weaker [] head = absurd head
+  head-weaken Q weaker (e ∷ es) head = (head.0, weaker e.stage head.1)
+
+-- it waits, or it has begun its execution
+abbrev pub Waits : Stage → Type 0
+Waits stage = is_waiting stage ≡ true
+
+abbrev pub HasBegun : Stage → Type 0
+HasBegun stage = is_waiting stage ≡ false

@@ -1,0 +1,83 @@
+-- The stores that wait for the cache's port are retired ones, and only the oldest may have begun its access.
+use Rattle.std.proofs.Common.{◌≡◌, ℕ, true, false, List, [], ◌∷◌, ◌++◌, Option, Some, None, refl, sym, subst}
+use Rattle.std.proofs.lemmas.List.{append-nil}
+use Rattle.rv_isa.specs.declared.broadcast.StoreAccess.{StoreAccess}
+use Rattle.rv_isa.specs.declared.values.Values.{Values}
+use Rattle.rv_cache.specs.WriteBack.{Each}
+use Rattle.rv_stores.specs.Queue.{with_oldest_draining, without_drained}
+use Rattle.rv_stores.specs.Store.{draining, is_committed, is_committed_state, is_draining}
+use Rattle.rv_stores.specs.declared.store.Store.{Store}
+use Rattle.rv_stores.specs.declared.store.StorePhase.TheVariants.{Committed}
+use Rattle.rv_stores.specs.declared.store.StoreState.{StoreState}
+use Rattle.rv_stores.specs.declared.store.StoreState.TheVariants.{Waiting, Faulted, Filled}
+use Rattle.rv_hardware.specs.Hardware.{Hardware}
+use Rattle.rv_hardware.specs.Reset.{reset_hardware}
+use Rattle.rv_hardware.specs.Retirement.{committed_store}
+use Rattle.rv_hardware.proofs.GapCycle.{IsKept}
+use Rattle.rv_hardware.proofs.GapEach.{Each-push}
+use Rattle.rv_hardware.proofs.GapLists.{by_test}
+
+-- retired, and its access has not begun
+abbrev pub CanDrain : Store → Type 0
+CanDrain s = (is_committed s ≡ true) × (is_draining s ≡ false)
+
+abbrev pub IsQueue : List Store → Type 0
+IsQueue [] = Unit {0}
+IsQueue (s ∷ ss) = (is_committed s ≡ true) × Each CanDrain ss
+
+abbrev pub HasQueue : Hardware → Type 0
+HasQueue h = IsQueue h.committed
+
+pub queue_of_all : (ss : List Store) → Each CanDrain ss → IsQueue ss
+queue_of_all [] each = tt
+queue_of_all (s ∷ ss) each = (each.0.0, each.1)
+
+queue_push : (ss : List Store) (s : Store) → CanDrain s → IsQueue ss → IsQueue (ss ++ s ∷ [])
+queue_push [] s can queue = (can.0, tt)
+queue_push (t ∷ ss) s can queue = (queue.0, Each-push CanDrain ss s can queue.1)
+
+queue_retired : (ss : List Store) (seq : ℕ) (access : Option StoreAccess) → IsQueue ss → IsQueue (ss ++ committed_store seq access)
+queue_retired ss seq None queue = subst IsQueue (sym (append-nil ss)) queue
+queue_retired ss seq (Some access) queue = queue_push ss (record { seq = seq; state = Filled access Committed }) (refl, refl) queue
+
+pub queue_without : (ss : List Store) → IsQueue ss → IsQueue (without_drained ss)
+queue_without [] queue = tt
+queue_without (s ∷ ss) queue = by_test IsQueue (is_draining s) ss (s ∷ ss) (λ over. queue_of_all ss queue.1) (λ waits. queue)
+
+still_committed : (state : StoreState) → is_committed_state state ≡ true → is_committed_state (draining state) ≡ true
+still_committed Waiting is = is
+still_committed Faulted is = is
+still_committed (Filled access phase) is = refl
+
+pub queue_draining : (ss : List Store) → IsQueue ss → IsQueue (with_oldest_draining ss)
+queue_draining [] queue = tt
+queue_draining (s ∷ ss) queue = (still_committed s.state queue.0, queue.1)
+
+pub queue-kept : IsKept HasQueue
+queue-kept = record {
+  phases = record {
+    lines = λ h levels queue. queue;
+    commit = record {
+      empties = λ h s retired queue. queue;
+      retires = λ h e es s message queue split known faultless. queue_retired h.committed h.rob.retired message.store queue;
+      writes_back = λ h queue drained. queue;
+    };
+    drain = record {
+      leaves = λ h queue idle. queue_without h.committed queue;
+      drains = λ h access queue idle is. queue_draining h.committed queue;
+    };
+    issue = λ k. record {
+      accesses = λ h older younger e address queue split ready by. queue;
+      starts = λ h older younger e cost message queue split waits of_kind result costs. queue;
+    };
+    broadcast = record {
+      broadcasts = λ h older younger e message queue split gives. queue;
+      mends = λ h older younger e next queue split. queue;
+    };
+    dispatch = record { dispatches = λ h fetched rest queue first none. queue };
+  };
+  fetch = record { fetches = λ ram cycle h front stop queue fetches. queue };
+}
+
+pub queue-at_reset : (values : Values) (image : List ℕ) (start : ℕ) → HasQueue (reset_hardware values image start)
+queue-at_reset values image start = tt

@@ -1,0 +1,95 @@
+-- When the oldest instruction is ready, and which instructions access the cache.
+use Rattle.std.proofs.Common.{◌≡◌, ℕ, ◌≤◌, Bool, true, false, not, ◌&&◌, ◌||◌, nat_le, List, [], ◌∷◌, ◌++◌, Option, Some, None, inl, inr, ◌⊎◌, refl, sym, ap, ◌∙◌, arith}
+use Rattle.std.proofs.lemmas.Bool.{and_from, or_right}
+use Rattle.std.proofs.lemmas.Bool.Decides.{nat_tests}
+use Rattle.std.specs.List.{list_all}
+use Rattle.rv_isa.specs.declared.instructions.Instr.{Instr}
+use Rattle.rv_isa.specs.declared.instructions.Instr.TheVariants.{Load}
+use Rattle.rv_isa.specs.declared.operations.Kind.{Kind}
+use Rattle.rv_isa.specs.declared.operations.Kind.TheVariants as kind
+use Rattle.rv_arch.specs.State.{State}
+use Rattle.rv_rob.specs.declared.entry.Entry.{Entry}
+use Rattle.rv_stores.specs.Store.{is_known as is_known_store}
+use Rattle.rv_stores.specs.declared.store.Store.{Store as QueuedStore}
+use Rattle.rv_hardware.specs.Hardware.{Hardware}
+use Rattle.rv_hardware.specs.InFlight.{is_waiting, stores_of}
+use Rattle.rv_hardware.specs.Issue.{Path, Without, FromStores, FromCache, has_operands, has_port, is_load, is_of_kind, is_ready, kind_of_word, may_load, path, path_of, sources_of_word}
+use Rattle.rv_hardware.specs.Seen.{seen_behind, stores_behind}
+use Rattle.rv_hardware.proofs.GapIssue.{ready-parts}
+
+-- ---- kinds
+pub same_kind : (j k : Kind) → is_of_kind j (Some k) ≡ true → j ≡ k
+same_kind kind.Alu kind.Alu is = refl
+same_kind kind.Mul kind.Mul is = refl
+same_kind kind.Div kind.Div is = refl
+same_kind kind.Mem kind.Mem is = refl
+same_kind j k is = absurd (cc)
+
+own_kind : (k : Kind) → is_of_kind k (Some k) ≡ true
+own_kind kind.Alu = refl
+own_kind kind.Mul = refl
+own_kind kind.Div = refl
+own_kind kind.Mem = refl
+
+pub loads_of_mem : (instruction : Option Instr) → is_load instruction ≡ true → kind_of_word instruction ≡ Some kind.Mem
+loads_of_mem (Some (Load form rd rs1 offset)) is = refl
+loads_of_mem instruction is = absurd (cc)
+
+-- ---- an access to the cache
+loads_by : (h : Hardware) (older : List Entry) (s : State) (instruction : Option Instr) (address : ℕ) → path_of h older s instruction ≡ FromCache address → is_load instruction ≡ true
+loads_by h older s (Some (Load form rd rs1 offset)) address by = refl
+loads_by h older s instruction address by = absurd (cc)
+
+port_of_load : (load known port : Bool) → (not load || (known && port)) ≡ true → load ≡ true → port ≡ true
+port_of_load false known port may is = absurd (cc)
+port_of_load true false port may is = absurd (cc)
+port_of_load true true port may is = may
+
+pub record IsAccess (h : Hardware) (k : Kind) (e : Entry) : Type 0 where
+  pub load : is_load e.instruction ≡ true
+  pub of_mem : k ≡ kind.Mem
+  pub idle : nat_le h.port_free h.cycle ≡ true
+
+pub cache_access : (h : Hardware) (k : Kind) (older : List Entry) (e : Entry) (address : ℕ) → is_ready h k older e ≡ true → path h older e ≡ FromCache address → IsAccess h k e
+cache_access h k older e address ready by =
+    let parts = ready-parts h k older e ready in
+    let load = loads_by h older (seen_behind h older e.pc) e.instruction address by in
+    let port = port_of_load (is_load e.instruction) (list_all is_known_store (stores_behind h older)) (has_port h (path h older e)) parts.loads load in
+    record {
+      load = load;
+      of_mem = same_kind k kind.Mem (sym (ap (is_of_kind k) (loads_of_mem e.instruction load)) ∙ parts.of_kind);
+      idle = sym (ap (has_port h) by) ∙ port;
+    }
+
+-- ---- the oldest instruction: its operands are known, and no store before it is unknown
+known_operands : (sources : List (Option ℕ)) → has_operands [] sources ≡ true
+known_operands [] = refl
+known_operands (None ∷ sources) = known_operands sources
+known_operands (Some register ∷ sources) = known_operands sources
+
+-- it is no load, or no retired store is left and the port is idle
+abbrev pub CanGo : Option Instr → Hardware → Type 0
+CanGo instruction h = (is_load instruction ≡ false) ⊎ ((h.committed ≡ []) × (h.port_free ≤ h.cycle))
+
+le_passes : (a b : ℕ) → a ≤ b → nat_le a b ≡ true
+le_passes a b is = grind (arith, nat_tests)
+
+idle_port : (h : Hardware) (p : Path) → h.port_free ≤ h.cycle → has_port h p ≡ true
+idle_port h Without idle = refl
+idle_port h FromStores idle = refl
+idle_port h (FromCache address) idle = le_passes h.port_free h.cycle idle
+
+may_go : (h : Hardware) (e : Entry) → CanGo e.instruction h → may_load h [] e ≡ true
+may_go h e (inl other) = rw other refl
+may_go h e (inr (none, idle)) =
+    let known : list_all is_known_store (stores_behind h []) ≡ true = ap (λ (ss : List QueuedStore). list_all is_known_store (ss ++ stores_of h.rob.retired [])) none in
+    or_right (not (is_load e.instruction)) (list_all is_known_store (stores_behind h []) && has_port h (path h [] e))
+    (and_from (list_all is_known_store (stores_behind h [])) (has_port h (path h [] e)) known (idle_port h (path h [] e) idle))
+
+pub ready_head : (h : Hardware) (k : Kind) (e : Entry) → is_waiting e.stage ≡ true → kind_of_word e.instruction ≡ Some k → CanGo e.instruction h → is_ready h k [] e ≡ true
+ready_head h k e waits of_kind can =
+    let of : is_of_kind k (kind_of_word e.instruction) ≡ true = ap (is_of_kind k) of_kind ∙ own_kind k in
+    and_from (is_waiting e.stage && is_of_kind k (kind_of_word e.instruction) && has_operands [] (sources_of_word e.instruction)) (may_load h [] e)
+    (and_from (is_waiting e.stage && is_of_kind k (kind_of_word e.instruction)) (has_operands [] (sources_of_word e.instruction))
+    (and_from (is_waiting e.stage) (is_of_kind k (kind_of_word e.instruction)) waits of) (known_operands (sources_of_word e.instruction)))
+    (may_go h e can)

@@ -1,0 +1,59 @@
+-- What holds of all hardware that a reset and cycles lead to.
+use Rattle.std.proofs.Common.{ℕ, List}
+use Rattle.rv_isa.specs.Description.{IsLegal}
+use Rattle.rv_isa.specs.declared.lines.Lines.{Lines}
+use Rattle.rv_isa.specs.declared.values.Values.{Values}
+use Rattle.rv_hardware.specs.Cycle.{IsCycle, any_prediction}
+use Rattle.rv_hardware.specs.Hardware.{Hardware}
+use Rattle.rv_hardware.specs.Report.{Report}
+use Rattle.rv_hardware.specs.Reset.{reset_hardware}
+use Rattle.rv_hardware.specs.Run.{Reachable}
+use Rattle.rv_hardware.proofs.GapCycle.{cycle-keeps}
+use Rattle.rv_hardware.proofs.GapHalted.{IsHalted, halted-kept, halted-at_reset}
+use Rattle.rv_hardware.proofs.GapPort.{HasPort, port-kept, port-at_reset}
+use Rattle.rv_hardware.proofs.GapQueue.{HasQueue, queue-kept, queue-at_reset}
+use Rattle.rv_hardware.proofs.GapRunning.{AreEnding, ending-kept, ending-at_reset}
+use Rattle.rv_hardware.proofs.GapSerial.{IsSerialLast, last-kept, last-at_reset}
+use Rattle.rv_hardware.proofs.GapSizes.{HasSizes, sizes-kept, sizes-at_reset}
+use Rattle.rv_hardware.proofs.GapStores.{HasStores, stores-kept, stores-at_reset}
+use Rattle.rv_hardware.proofs.GapUnits.{AreHeld, held-kept, held-at_reset}
+use Rattle.rv_hardware.proofs.Repeated.{always}
+
+pub record IsSound (h : Hardware) : Type 0 where
+  pub sizes : HasSizes h
+  pub queue : HasQueue h
+  pub stores : HasStores h
+  pub ending : AreEnding h
+  pub held : AreHeld h
+  pub port : HasPort h
+  pub last : IsSerialLast h
+  pub halted : IsHalted h
+
+pub sound-cycle : {lines : Lines} {old new : Hardware} {report : Report} → IsCycle any_prediction lines old report new → IsSound old → IsSound new
+sound-cycle cycle sound = record {
+  sizes = cycle-keeps sizes-kept cycle sound.sizes;
+  queue = cycle-keeps queue-kept cycle sound.queue;
+  stores = cycle-keeps stores-kept cycle sound.stores;
+  ending = cycle-keeps ending-kept cycle sound.ending;
+  held = cycle-keeps held-kept cycle sound.held;
+  port = cycle-keeps port-kept cycle sound.port;
+  last = cycle-keeps last-kept cycle sound.last;
+  halted = cycle-keeps halted-kept cycle sound.halted;
+}
+
+pub sound-at_reset : (values : Values) (image : List ℕ) (start : ℕ) → IsLegal values → IsSound (reset_hardware values image start)
+sound-at_reset values image start legal = record {
+  sizes = sizes-at_reset values image start legal;
+  queue = queue-at_reset values image start;
+  stores = stores-at_reset values image start;
+  ending = ending-at_reset values image start;
+  held = held-at_reset values image start;
+  port = port-at_reset values image start;
+  last = last-at_reset values image start;
+  halted = halted-at_reset values image start;
+}
+
+pub sound : {h : Hardware} → Reachable h → IsSound h
+sound reached =
+    always IsSound (λ values base image start legal loadable. sound-at_reset values image start legal)
+    (λ old new lines report reachable before counted cycle. sound-cycle cycle before) reached

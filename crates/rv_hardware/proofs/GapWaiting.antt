@@ -1,0 +1,167 @@
+-- The oldest instruction that waits and can go leaves for a unit in the issue phase, or no unit of its kind is free.
+use Rattle.std.proofs.Common.{◌≡◌, ℕ, suc, ◌+◌, ◌-◌, ◌≤◌, true, false, List, [], ◌∷◌, Option, Some, inl, inr, ◌⊎◌, refl, sym, ap, subst, ◌∙◌, arith}
+use Rattle.std.proofs.lemmas.Bool.{cases_Bool}
+use Rattle.rv_isa.specs.Description.{kind_values}
+use Rattle.rv_isa.specs.declared.broadcast.Message.{Message}
+use Rattle.rv_isa.specs.declared.instructions.Instr.{Instr}
+use Rattle.rv_isa.specs.declared.operations.Kind.{Kind}
+use Rattle.rv_isa.specs.declared.operations.Kind.TheVariants as kind
+use Rattle.rv_rob.specs.Entry.{started}
+use Rattle.rv_rob.specs.ReorderBuffer.{with_entry}
+use Rattle.rv_rob.specs.declared.entry.Entry.{Entry}
+use Rattle.rv_units.specs.Pool.{Pool, is_free}
+use Rattle.rv_units.specs.Units.{Pools, pool_of, with_pool}
+use Rattle.rv_hardware.specs.Hardware.{Hardware}
+use Rattle.rv_hardware.specs.Issue.{Path, Without, FromStores, FromCache, is_load, is_of_kind, is_ready, issue, issue_kind, issue_oldest, issue_turn, issued, kind_of_word, oldest, oldest_from, path, with_access, with_start}
+use Rattle.rv_hardware.specs.Repeated.{Turn, GoesOn, Ends, followed_by, repeated}
+use Rattle.rv_hardware.proofs.GapHead.{HasBegun, HeadIs, Waits, head-change}
+use Rattle.rv_hardware.proofs.GapIssue.{IsKeptByIssue, issue_kind-keeps, issue_turn-keeps}
+use Rattle.rv_hardware.proofs.GapLists.{answer, by_test, with_entry-found}
+use Rattle.rv_hardware.proofs.GapReady.{CanGo, cache_access, loads_of_mem, ready_head, same_kind}
+use Rattle.rv_hardware.proofs.Repeated.{Leaves, kept_by_turns}
+
+other_pool : (j k : Kind) (pool : Pool) (units : Pools) → (j ≡ k → ⊥) → pool_of k (with_pool j pool units) ≡ pool_of k units
+other_pool kind.Alu kind.Alu pool units other = absurd (other refl)
+other_pool kind.Mul kind.Mul pool units other = absurd (other refl)
+other_pool kind.Div kind.Div pool units other = absurd (other refl)
+other_pool kind.Mem kind.Mem pool units other = absurd (other refl)
+other_pool kind.Alu kind.Mul pool units other = refl
+other_pool kind.Alu kind.Div pool units other = refl
+other_pool kind.Alu kind.Mem pool units other = refl
+other_pool kind.Mul kind.Alu pool units other = refl
+other_pool kind.Mul kind.Div pool units other = refl
+other_pool kind.Mul kind.Mem pool units other = refl
+other_pool kind.Div kind.Alu pool units other = refl
+other_pool kind.Div kind.Mul pool units other = refl
+other_pool kind.Div kind.Mem pool units other = refl
+other_pool kind.Mem kind.Alu pool units other = refl
+other_pool kind.Mem kind.Mul pool units other = refl
+other_pool kind.Mem kind.Div pool units other = refl
+
+-- ---- once it has begun, it has
+begun_by_issue : (instruction : Option Instr) (j : Kind) → IsKeptByIssue (λ h. HeadIs instruction HasBegun h.rob.entries) j
+begun_by_issue instruction j = record {
+  accesses = λ h older younger e address head split ready by. head;
+  starts = λ h older younger e cost message head split waits of_kind result costs.
+      head-change instruction HasBegun older younger e (started (record { cycle = h.cycle; cost = cost }) message e) refl (λ same before. refl)
+      (subst (HeadIs instruction HasBegun) split head);
+}
+
+pub begun-issue_kind : (instruction : Option Instr) (j : Kind) (h : Hardware) → HeadIs instruction HasBegun h.rob.entries → HeadIs instruction HasBegun (issue_kind j h).rob.entries
+begun-issue_kind instruction j h head = issue_kind-keeps (begun_by_issue instruction j) h head
+
+module _ (instruction : Option Instr) (k : Kind) (of_kind : kind_of_word instruction ≡ Some k) (pool : Pool) (cycle : ℕ) where
+  -- it waits, and can go
+  abbrev pub CanStart : Hardware → Type 0
+  CanStart h = HeadIs instruction Waits h.rob.entries × (pool_of k h.units ≡ pool) × (h.cycle ≡ cycle) × CanGo instruction h × (1 ≤ (kind_values h.values k).units)
+
+  abbrev pub IsAfterIssue : Hardware → Type 0
+  IsAfterIssue h = (CanStart h × (is_free cycle pool ≡ false)) ⊎ HeadIs instruction HasBegun h.rob.entries
+
+  -- ---- the turns of another kind
+  still_can : (j : Kind) (h after : Hardware) → (j ≡ k → ⊥) → j ≡ kind.Mem → CanGo instruction h → CanGo instruction after
+  still_can j h after other mem can = elim (cases_Bool (is_load instruction)) [
+    | inl load ↦
+        let own : Some k ≡ Some kind.Mem = sym of_kind ∙ loads_of_mem instruction load in
+        let same : k ≡ kind.Mem = cc in
+        absurd (other (mem ∙ sym same))
+    | inr no_load ↦ inl no_load
+  ]
+
+  others_keep : (j : Kind) → (j ≡ k → ⊥) → IsKeptByIssue CanStart j
+  others_keep j other = record {
+    accesses = λ h older younger e address can split ready by.
+        (can.0, can.1, can.2, still_can j h (with_access (FromCache address) h) other (cache_access h j older e address ready by).of_mem can.3, can.4);
+    starts = λ h older younger e cost message can split waits is_kind result costs. (
+      head-change instruction Waits older younger e (started (record { cycle = h.cycle; cost = cost }) message e) refl
+          (λ same before. absurd (other (same_kind j k (sym (ap (λ i. is_of_kind j (kind_of_word i)) same ∙ ap (is_of_kind j) of_kind) ∙ is_kind))))
+          (subst (HeadIs instruction Waits) split can.0),
+      other_pool j k _ h.units other ∙ can.1,
+      can.2,
+      can.3,
+      can.4,
+    );
+  }
+
+  others_turn : (j : Kind) → (j ≡ k → ⊥) → (h : Hardware) → CanStart h → CanStart (issue_kind j h)
+  others_turn j other h can = issue_kind-keeps (others_keep j other) h can
+
+  after_others : (j : Kind) → (j ≡ k → ⊥) → (h : Hardware) → IsAfterIssue h → IsAfterIssue (issue_kind j h)
+  after_others j other h (inl (can, held)) = inl (others_turn j other h can, held)
+  after_others j other h (inr begun) = inr (begun-issue_kind instruction j h begun)
+
+  -- ---- the turns of its own kind
+  starts_head : (h : Hardware) (e : Entry) (es : List Entry) (cost : ℕ) (message : Message) → h.rob.entries ≡ e ∷ es → e.instruction ≡ instruction →
+      HeadIs instruction HasBegun (with_start k (h.rob.retired + 0) cost message h).rob.entries
+  starts_head h e es cost message split is =
+      let start : Entry → Entry = started (record { cycle = h.cycle; cost = cost }) message in
+      let all : with_entry start (h.rob.retired + 0) h.rob.retired h.rob.entries ≡ start e ∷ es =
+      ap (λ l. with_entry start (h.rob.retired + 0) h.rob.retired l) split ∙ with_entry-found start (h.rob.retired + 0) h.rob.retired [] es e refl in
+      subst (HeadIs instruction HasBegun) (sym all) (is, refl)
+
+  starts_by : (h : Hardware) (e : Entry) (es : List Entry) (p : Path) (cost : ℕ) (message : Message) → h.rob.entries ≡ e ∷ es → e.instruction ≡ instruction →
+      HeadIs instruction HasBegun (with_start k (h.rob.retired + 0) cost message (with_access p h)).rob.entries
+  starts_by h e es Without cost message split is = starts_head h e es cost message split is
+  starts_by h e es FromStores cost message split is = starts_head h e es cost message split is
+  starts_by h e es (FromCache address) cost message split is = starts_head (with_access (FromCache address) h) e es cost message split is
+
+  first_turn : (h : Hardware) (entries : List Entry) → h.rob.entries ≡ entries → CanStart h → (is_free cycle pool ≡ true) → Leaves (λ (after : Hardware). HeadIs instruction HasBegun after.rob.entries) (issue_oldest k h (oldest (is_ready h k) entries))
+  first_turn h [] split can free = absurd (subst (HeadIs instruction Waits) split can.0)
+  first_turn h (e ∷ es) split can free =
+      let head : HeadIs instruction Waits (e ∷ es) = subst (HeadIs instruction Waits) split can.0 in
+      let ready = ready_head h k e head.1 (ap kind_of_word head.0 ∙ of_kind) (subst (λ i. CanGo i h) (sym head.0) can.3) in
+      let begun : HeadIs instruction HasBegun (issued k h [] e).rob.entries = starts_by h e es (path h [] e) _ _ split head.0 in
+      by_test (λ found. Leaves (λ (after : Hardware). HeadIs instruction HasBegun after.rob.entries) (issue_oldest k h found)) (is_ready h k [] e) (answer [] e) (oldest_from (is_ready h k) (e ∷ []) es)
+      (λ yes_ready. begun) (λ not_ready. absurd (cc (ready, not_ready)))
+
+  begun_after : (units : ℕ) (t : Turn Hardware) → Leaves (λ (after : Hardware). HeadIs instruction HasBegun after.rob.entries) t → HeadIs instruction HasBegun (followed_by (repeated (issue_turn k) units) t).rob.entries
+  begun_after units (GoesOn h) begun = kept_by_turns (λ (after : Hardware). HeadIs instruction HasBegun after.rob.entries) (issue_turn k) (issue_turn-keeps (begun_by_issue instruction k)) units h begun
+  begun_after units (Ends h) begun = begun
+
+  own_turns : (units : ℕ) (h : Hardware) → CanStart h → IsAfterIssue (repeated (issue_turn k) (suc units) h)
+  own_turns units h can =
+      let free : is_free h.cycle (pool_of k h.units) ≡ is_free cycle pool = ap (λ c. is_free c (pool_of k h.units)) can.2 ∙ ap (is_free cycle) can.1 in
+      by_test (λ t. IsAfterIssue (followed_by (repeated (issue_turn k) units) t)) (is_free h.cycle (pool_of k h.units)) (issue_oldest k h (oldest (is_ready h k) h.rob.entries)) (Ends h)
+      (λ passes. inr (begun_after units (issue_oldest k h (oldest (is_ready h k) h.rob.entries)) (first_turn h h.rob.entries refl can (sym free ∙ passes))))
+      (λ held. inl (can, sym free ∙ held))
+
+  own_kind : (h : Hardware) → CanStart h → IsAfterIssue (issue_kind k h)
+  own_kind h can =
+      let some : (kind_values h.values k).units ≡ suc ((kind_values h.values k).units - 1) = omega (arith, can.4) in
+      subst (λ units. IsAfterIssue (repeated (issue_turn k) units h)) (sym some) (own_turns ((kind_values h.values k).units - 1) h can)
+
+-- the four kinds, one after another
+pub after_issue : (instruction : Option Instr) (k : Kind) (of_kind : kind_of_word instruction ≡ Some k) (pool : Pool) (cycle : ℕ) (h : Hardware) →
+    CanStart instruction k of_kind pool cycle h → IsAfterIssue instruction k of_kind pool cycle (issue h)
+after_issue instruction kind.Alu of_kind pool cycle h can =
+    let alu : Hardware = issue_kind kind.Alu h in
+    let mul : Hardware = issue_kind kind.Mul alu in
+    let div : Hardware = issue_kind kind.Div mul in
+    let first = own_kind instruction kind.Alu of_kind pool cycle h can in
+    let second = after_others instruction kind.Alu of_kind pool cycle kind.Mul (λ same. cc) alu first in
+    let third = after_others instruction kind.Alu of_kind pool cycle kind.Div (λ same. cc) mul second in
+    after_others instruction kind.Alu of_kind pool cycle kind.Mem (λ same. cc) div third
+after_issue instruction kind.Mul of_kind pool cycle h can =
+    let alu : Hardware = issue_kind kind.Alu h in
+    let mul : Hardware = issue_kind kind.Mul alu in
+    let div : Hardware = issue_kind kind.Div mul in
+    let first = others_turn instruction kind.Mul of_kind pool cycle kind.Alu (λ same. cc) h can in
+    let second = own_kind instruction kind.Mul of_kind pool cycle alu first in
+    let third = after_others instruction kind.Mul of_kind pool cycle kind.Div (λ same. cc) mul second in
+    after_others instruction kind.Mul of_kind pool cycle kind.Mem (λ same. cc) div third
+after_issue instruction kind.Div of_kind pool cycle h can =
+    let alu : Hardware = issue_kind kind.Alu h in
+    let mul : Hardware = issue_kind kind.Mul alu in
+    let div : Hardware = issue_kind kind.Div mul in
+    let first = others_turn instruction kind.Div of_kind pool cycle kind.Alu (λ same. cc) h can in
+    let second = others_turn instruction kind.Div of_kind pool cycle kind.Mul (λ same. cc) alu first in
+    let third = own_kind instruction kind.Div of_kind pool cycle mul second in
+    after_others instruction kind.Div of_kind pool cycle kind.Mem (λ same. cc) div third
+after_issue instruction kind.Mem of_kind pool cycle h can =
+    let alu : Hardware = issue_kind kind.Alu h in
+    let mul : Hardware = issue_kind kind.Mul alu in
+    let div : Hardware = issue_kind kind.Div mul in
+    let first = others_turn instruction kind.Mem of_kind pool cycle kind.Alu (λ same. cc) h can in
+    let second = others_turn instruction kind.Mem of_kind pool cycle kind.Mul (λ same. cc) alu first in
+    let third = others_turn instruction kind.Mem of_kind pool cycle kind.Div (λ same. cc) mul second in
+    own_kind instruction kind.Mem of_kind pool cycle div third

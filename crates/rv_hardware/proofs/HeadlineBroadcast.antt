@@ -1,0 +1,143 @@
+-- The broadcast phase changes nothing that programs see, and fetch goes on where the program does.
+use Rattle.std.proofs.Common.{◌≡◌, ℕ, ◌+◌, ◌%◌, ◌==◌, ◌&&◌, not, nat_le, Bool, true, false, List, [], ◌∷◌, ◌++◌, length, Option, Some, None, is_none, refl, sym, ap, subst, ◌∙◌, arith}
+use Rattle.std.specs.Prelude.{if◌then◌else◌}
+use Rattle.std.proofs.lemmas.Bool.{and_parts, false≢true}
+use Rattle.rv_isa.specs.declared.broadcast.Message.{Message}
+use Rattle.rv_isa.specs.declared.instructions.Instr.{Instr}
+use Rattle.rv_isa.specs.declared.instructions.Instr.TheVariants.{FenceI, Csr, Mret}
+use Rattle.rv_isa.specs.declared.lines.Lines.{Lines}
+use Rattle.rv_isa.specs.declared.values.Values.{Values}
+use Rattle.rv_arch.specs.Effect.{Effect, Retires, Faults, effect}
+use Rattle.rv_arch.specs.Reset.{no_lines}
+use Rattle.rv_arch.specs.State.{State}
+use Rattle.rv_memory.specs.Memory.{Layout}
+use Rattle.rv_rob.specs.Entry.{finished, predicting, issue_of}
+use Rattle.rv_rob.specs.ReorderBuffer.{ReorderBuffer, changed, with_entry, entries_below}
+use Rattle.rv_rob.specs.declared.entry.Entry.{Entry}
+use Rattle.rv_rob.specs.declared.entry.Stage.{Stage}
+use Rattle.rv_rob.specs.declared.entry.Stage.TheVariants.{Waiting, Running, Finished}
+use Rattle.rv_isa.specs.Operands.{target_of}
+use Rattle.rv_isa.specs.declared.broadcast.StoreAccess.{StoreAccess}
+use Rattle.rv_hardware.specs.Broadcast.{result_at as result_by, has_result, mends_early, is_mispredicted, with_broadcast, with_recovery, broadcast_result, broadcast_oldest, broadcast_turn, broadcast}
+use Rattle.rv_hardware.specs.Hardware.{Hardware}
+use Rattle.rv_hardware.specs.InFlight.{is_serialising, is_branch_or_jump}
+use Rattle.rv_hardware.specs.Issue.{oldest}
+use Rattle.rv_hardware.specs.Repeated.{GoesOn, Ends}
+use Rattle.rv_hardware.specs.Result.{access_of, effect_message, result_of_word}
+use Rattle.rv_hardware.specs.Seen.{layout_of, seen}
+use Rattle.rv_hardware.specs.Squash.{redirected}
+use Rattle.rv_hardware.proofs.HeadlineFold.{result_at, behind, IsResult, AreInFlight}
+use Rattle.rv_hardware.proofs.HeadlineInvariant.{FollowsProgram, IsSoundAt, with_other_program}
+use Rattle.rv_hardware.proofs.HeadlineRetires.{IsTold, effect_told}
+use Rattle.rv_hardware.proofs.HeadlineSplit.{IsOldest, oldest_found, behind-append, with_entry-here, entries_below-here, AreInFlight-older, AreInFlight-append}
+use Rattle.rv_hardware.proofs.HeadlineStage.{behind_aligned, here_in_flight, FollowsProgram-staged}
+use Rattle.rv_hardware.proofs.Repeated.{Leaves, kept_by_turns}
+
+-- ---- the pc behind an instruction that does not fault is a multiple of 4
+aligned_effect : (layout : Layout) (s : State) (target : Option ℕ) (access : Option StoreAccess) (effect : Effect) → IsTold layout s target access effect →
+    is_none (effect_message access effect).fault ≡ true → (effect_message access effect).next_pc % 4 ≡ 0
+aligned_effect layout s target access (Retires written next) told none = told.aligned
+aligned_effect layout s target access (Faults cause value) told none = absurd (false≢true none)
+
+pub aligned_result : (layout : Layout) (s : State) (lines : Lines) (word : Option ℕ) (i : Option Instr) → s.pc % 4 ≡ 0 → is_serialising i ≡ false →
+    is_none (result_of_word layout s lines word i).fault ≡ true → (result_of_word layout s lines word i).next_pc % 4 ≡ 0
+aligned_result layout s lines None i here plain none = absurd (false≢true none)
+aligned_result layout s lines (Some word) None here plain none = absurd (false≢true none)
+aligned_result layout s lines (Some word) (Some i) here plain none =
+    aligned_effect layout s (target_of i) (access_of s i) (effect layout s lines word i) (effect_told layout s here lines word i plain) none
+
+plain_jump : (i : Option Instr) → is_branch_or_jump i ≡ true → is_serialising i ≡ false
+plain_jump (Some FenceI) jumps = absurd (false≢true jumps)
+plain_jump (Some (Csr op rd csr source)) jumps = absurd (false≢true jumps)
+plain_jump (Some Mret) jumps = absurd (false≢true jumps)
+plain_jump _ jumps = refl
+
+-- what is brought was in execution
+running : (cycle : ℕ) (stage : Stage) (message result : Message) → result_by cycle stage ≡ Some message → IsResult result stage → message ≡ result
+running cycle Waiting message result brought is = absurd (cc)
+running cycle (Running issue found) message result brought is = by_time (nat_le (issue.cycle + issue.cost) cycle) brought ∙ is where
+  by_time : (b : Bool) → (if b then Some found else None) ≡ Some message → message ≡ found
+  by_time true is = cc
+  by_time false is = absurd (cc)
+running cycle (Finished issue at found) message result brought is = absurd (cc)
+
+module _ (values : Values) (cycle : ℕ) (state : State) (h : Hardware) (is : IsSoundAt values cycle state h) (older : List Entry) (e : Entry) (younger : List Entry)
+    (entries : h.rob.entries ≡ older ++ e ∷ younger) (seq : ℕ) (at : seq ≡ h.rob.retired + length older) (message : Message) where
+  abbrev layout : Layout
+  layout = layout_of h.values
+
+  abbrev s : State
+  s = seen h
+
+  abbrev stage : Stage
+  stage = Finished (issue_of e.stage) h.cycle message
+
+  abbrev known : Entry
+  known = record e { stage = stage }
+
+  broadcast_entries : (with_broadcast seq message h).rob.entries ≡ older ++ known ∷ younger
+  broadcast_entries =
+      ap (λ (es : List Entry). with_entry (finished message h.cycle) seq h.rob.retired es) entries ∙ with_entry-here (finished message h.cycle) seq h.rob.retired older e younger at
+
+  module _ (result : message ≡ result_at layout (behind layout older s) e) where
+    program_known : FollowsProgram layout s (with_broadcast seq message h).rob.entries h.front
+    program_known = FollowsProgram-staged layout s older e younger stage h.front h.rob.entries _ entries broadcast_entries result is.sound.program
+
+    broadcast_one : IsSoundAt values cycle state (with_broadcast seq message h)
+    broadcast_one = with_other_program values cycle state h is h.units (changed (finished message h.cycle) seq h.rob) h.front program_known
+
+    -- ---- early recovery: fetch begins anew where the instruction goes on
+    abbrev mended : Entry
+    mended = record known { predicted_next = message.next_pc }
+
+    recovered_entries : (with_recovery seq message (with_broadcast seq message h)).rob.entries ≡ older ++ mended ∷ []
+    recovered_entries =
+        ap (λ (es : List Entry). entries_below (seq + 1) h.rob.retired (with_entry (predicting message.next_pc) seq h.rob.retired es)) broadcast_entries
+        ∙ ap (entries_below (seq + 1) h.rob.retired) (with_entry-here (predicting message.next_pc) seq h.rob.retired older known younger at)
+        ∙ entries_below-here (seq + 1) h.rob.retired older mended younger (omega arith)
+
+    recovered_one : message.next_pc % 4 ≡ 0 → IsSoundAt values cycle state (with_recovery seq message (with_broadcast seq message h))
+    recovered_one aligned =
+        let all : AreInFlight layout s s (older ++ known ∷ younger) = subst (AreInFlight layout s s) broadcast_entries program_known.in_flight in
+        let here = here_in_flight layout s older known younger all in
+        let now : AreInFlight layout s s (older ++ mended ∷ []) =
+        AreInFlight-append layout s s older (mended ∷ []) (AreInFlight-older layout s s older (known ∷ younger) all)
+        (record { pc = here.pc; word = here.word; instruction = here.instruction; aligned = aligned; result = here.result }, tt) in
+        let rob : ReorderBuffer = (with_recovery seq message (with_broadcast seq message h)).rob in
+        with_other_program values cycle state h is h.units rob (redirected message.next_pc h.front) (record {
+          in_flight = subst (AreInFlight layout s s) (sym recovered_entries) now;
+          buffered = sym (ap (λ (es : List Entry). (behind layout es s).pc) recovered_entries ∙ ap (λ (t : State). t.pc) (behind-append layout older (mended ∷ []) s));
+          aligned = aligned;
+        })
+
+    aligned_next : is_mispredicted known message ≡ true → message.next_pc % 4 ≡ 0
+    aligned_next wrong =
+        let parts = and_parts (is_branch_or_jump e.instruction && is_none message.fault) (not (message.next_pc == e.predicted_next)) wrong in
+        let kinds = and_parts (is_branch_or_jump e.instruction) (is_none message.fault) parts.0 in
+        let here = here_in_flight layout s older e younger (subst (AreInFlight layout s s) entries is.sound.program.in_flight) in
+        let start = behind_aligned layout s s older s (AreInFlight-older layout s s older (e ∷ younger) (subst (AreInFlight layout s s) entries is.sound.program.in_flight)) is.sound.pc_aligned in
+        ap (λ (m : Message). m.next_pc % 4) result
+        ∙ aligned_result layout (behind layout older s) no_lines e.word e.instruction start (plain_jump e.instruction kinds.0) (sym (ap (λ (m : Message). is_none m.fault) result) ∙ kinds.1)
+
+    entry_by : (mends wrong : Bool) → is_mispredicted e message ≡ wrong →
+        Leaves (IsSoundAt values cycle state) (if mends && wrong then Ends (with_recovery seq message (with_broadcast seq message h)) else GoesOn (with_broadcast seq message h))
+    entry_by true true wrong = recovered_one (aligned_next wrong)
+    entry_by true false wrong = broadcast_one
+    entry_by false wrong is_wrong = broadcast_one
+
+module _ (values : Values) (cycle : ℕ) (state : State) where
+  result_kept : (h : Hardware) (older : List Entry) (e : Entry) (o : Option Message) → result_by h.cycle e.stage ≡ o → IsSoundAt values cycle state h → IsOldest (has_result h.cycle) [] h.rob.entries older e →
+      Leaves (IsSoundAt values cycle state) (broadcast_result h (h.rob.retired + length older) e o)
+  result_kept h older e None brought is found = is
+  result_kept h older e (Some message) brought is found =
+      let entries : h.rob.entries ≡ older ++ e ∷ found.younger = found.entries_are ∙ ap (λ (es : List Entry). es ++ e ∷ found.younger) (sym found.older_is) in
+      let here = here_in_flight (layout_of h.values) (seen h) older e found.younger (subst (AreInFlight (layout_of h.values) (seen h) (seen h)) entries is.sound.program.in_flight) in
+      entry_by values cycle state h is older e found.younger entries (h.rob.retired + length older) refl message (running h.cycle e.stage message _ brought here.result)
+      (mends_early h.values.recovery) (is_mispredicted e message) refl
+
+  oldest_kept : (h : Hardware) (o : Option (List Entry × Entry)) → oldest (has_result h.cycle) h.rob.entries ≡ o → IsSoundAt values cycle state h → Leaves (IsSoundAt values cycle state) (broadcast_oldest h o)
+  oldest_kept h None at is = is
+  oldest_kept h (Some found) at is = result_kept h found.0 found.1 _ refl is (oldest_found (has_result h.cycle) h.rob.entries found.0 found.1 at)
+
+  pub broadcast_kept : (h : Hardware) → IsSoundAt values cycle state h → IsSoundAt values cycle state (broadcast h)
+  broadcast_kept h is = kept_by_turns (IsSoundAt values cycle state) broadcast_turn (λ now. oldest_kept now _ refl) h.values.bus_width h is

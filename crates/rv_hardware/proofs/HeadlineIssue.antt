@@ -1,0 +1,123 @@
+-- The issue phase changes nothing that programs see, and what it computes is the one-at-a-time machine's.
+use Rattle.std.proofs.Common.{◌≡◌, ℕ, ◌+◌, ◌&&◌, ◌||◌, not, Bool, true, false, List, [], ◌∷◌, ◌++◌, length, Option, Some, None, refl, sym, ap, subst, ◌∙◌, inl, inr}
+use Rattle.std.specs.Prelude.{if◌then◌else◌}
+use Rattle.std.specs.List.{list_all}
+use Rattle.std.proofs.lemmas.Bool.{and_parts, false≢true}
+use Rattle.rv_isa.specs.Description.{kind_values}
+use Rattle.rv_isa.specs.declared.Issue.{Issue}
+use Rattle.rv_isa.specs.declared.broadcast.Message.{Message}
+use Rattle.rv_isa.specs.declared.instructions.Instr.{Instr}
+use Rattle.rv_isa.specs.declared.instructions.Instr.TheVariants.{FenceI, Csr, Mret}
+use Rattle.rv_isa.specs.declared.operations.Kind.{Kind}
+use Rattle.rv_isa.specs.declared.operations.Kind.TheVariants as kind
+use Rattle.rv_isa.specs.declared.values.Values.{Values}
+use Rattle.rv_arch.specs.State.{State}
+use Rattle.rv_rob.specs.Entry.{started}
+use Rattle.rv_rob.specs.ReorderBuffer.{changed}
+use Rattle.rv_rob.specs.declared.entry.Entry.{Entry}
+use Rattle.rv_rob.specs.declared.entry.Stage.TheVariants.{Running}
+use Rattle.rv_stores.specs.Store.{is_known as is_known_store}
+use Rattle.rv_units.specs.Pool.{is_free, started as started_unit}
+use Rattle.rv_units.specs.Units.{pool_of, with_pool}
+use Rattle.rv_hardware.specs.Hardware.{Hardware}
+use Rattle.rv_hardware.specs.InFlight.{is_serialising, is_waiting}
+use Rattle.rv_hardware.specs.Issue.{Path, Without, FromStores, FromCache, path, cost_of, has_port, is_load, is_of_kind, kind_of_word, sources_of_word, has_operands, may_load, is_ready, oldest, with_access, with_start, issued, issue_oldest, issue_turn, issue_kind, issue}
+use Rattle.rv_hardware.specs.Repeated.{Ends}
+use Rattle.rv_hardware.specs.Seen.{layout_of, seen, stores_behind}
+use Rattle.rv_hardware.proofs.HeadlineDrain.{with_other_memory}
+use Rattle.rv_hardware.proofs.HeadlineFold.{result_at, behind, AreInFlight}
+use Rattle.rv_hardware.proofs.HeadlineInvariant.{IsSoundAt, with_other_program}
+use Rattle.rv_hardware.proofs.HeadlineKnown.{issued_result}
+use Rattle.rv_hardware.proofs.HeadlineSplit.{IsOldest, oldest_found, with_entry-here, AreInFlight-older}
+use Rattle.rv_hardware.proofs.HeadlineStage.{here_in_flight, FollowsProgram-staged}
+use Rattle.rv_hardware.proofs.HeadlineVictim.{access_mixed}
+use Rattle.rv_hardware.proofs.HeadlineWords.{memory_behind-fresh}
+use Rattle.rv_hardware.proofs.Repeated.{Leaves, kept_by_turns}
+
+-- an instruction with a unit is not serialising
+no_kind : (k : Kind) → is_of_kind k None ≡ false
+no_kind kind.Alu = refl
+no_kind kind.Mul = refl
+no_kind kind.Div = refl
+no_kind kind.Mem = refl
+
+pub plain_by_kind : (k : Kind) (i : Option Instr) → is_of_kind k (kind_of_word i) ≡ true → is_serialising i ≡ false
+plain_by_kind k (Some FenceI) of = absurd (false≢true (sym (no_kind k) ∙ of))
+plain_by_kind k (Some (Csr op rd csr source)) of = absurd (false≢true (sym (no_kind k) ∙ of))
+plain_by_kind k (Some Mret) of = absurd (false≢true (sym (no_kind k) ∙ of))
+plain_by_kind k _ of = refl
+
+loads_known : (load known port : Bool) → (not load || (known && port)) ≡ true → load ≡ true → known ≡ true
+loads_known true known port may is = (and_parts known port may).0
+loads_known false known port may is = absurd (false≢true is)
+
+module _ (values : Values) (cycle : ℕ) (state : State) where
+  -- ---- an access to the cache
+  pub access_kept : (p : Path) (h : Hardware) → IsSoundAt values cycle state h → IsSoundAt values cycle state (with_access p h)
+  access_kept Without h is = is
+  access_kept FromStores h is = is
+  access_kept (FromCache address) h is =
+      let was = is.sound.memory in
+      let mixed = access_mixed h.cache address h.cache.backing.bytes (was.ram_size ∙ sym was.cache_size) in
+      with_other_memory values cycle state h is (with_access (FromCache address) h) refl refl refl refl refl refl refl (record {
+        base_aligned = was.base_aligned;
+        size_aligned = was.size_aligned;
+        layout = was.layout;
+        cache_base = was.cache_base;
+        cache_size = was.cache_size;
+        ram_size = mixed.size ∙ was.cache_size;
+        retired = was.retired;
+        drains = was.drains;
+        fresh = λ i fresh. elim (mixed.either i) [
+          | inl stays ↦ stays ∙ was.fresh i fresh
+          | inr cached ↦ cached ∙ sym (memory_behind-fresh (layout_of h.values) h.stale h.committed h.cache.bytes was.retired was.cache_size i fresh)
+        ];
+        inside = was.inside;
+      })
+
+  -- ---- the start of an execution
+  start_kept : (k : Kind) (cost seq : ℕ) (message : Message) (older : List Entry) (e : Entry) (younger : List Entry) (h : Hardware) → IsSoundAt values cycle state h →
+      h.rob.entries ≡ older ++ e ∷ younger → seq ≡ h.rob.retired + length older → message ≡ result_at (layout_of h.values) (behind (layout_of h.values) older (seen h)) e →
+      IsSoundAt values cycle state (with_start k seq cost message h)
+  start_kept k cost seq message older e younger h is entries at result =
+      let issue : Issue = record { cycle = h.cycle; cost = cost } in
+      with_other_program values cycle state h is (with_pool k (started_unit cost h.cycle (pool_of k h.units)) h.units) (changed (started issue message) seq h.rob) h.front
+      (FollowsProgram-staged (layout_of h.values) (seen h) older e younger (Running issue message) h.front h.rob.entries _ entries
+      (ap (λ (es : List Entry). (changed (started issue message) seq (record h.rob { entries = es })).entries) entries ∙ with_entry-here (started issue message) seq h.rob.retired older e younger at)
+      result is.sound.program)
+
+  started_kept : (p : Path) (k : Kind) (cost seq : ℕ) (message : Message) (older : List Entry) (e : Entry) (younger : List Entry) (h : Hardware) → IsSoundAt values cycle state h →
+      h.rob.entries ≡ older ++ e ∷ younger → seq ≡ h.rob.retired + length older → message ≡ result_at (layout_of h.values) (behind (layout_of h.values) older (seen h)) e →
+      IsSoundAt values cycle state (with_start k seq cost message (with_access p h))
+  started_kept Without k cost seq message older e younger h is entries at result = start_kept k cost seq message older e younger h is entries at result
+  started_kept FromStores k cost seq message older e younger h is entries at result = start_kept k cost seq message older e younger h is entries at result
+  started_kept (FromCache address) k cost seq message older e younger h is entries at result =
+      start_kept k cost seq message older e younger (with_access (FromCache address) h) (access_kept (FromCache address) h is) entries at result
+
+  issued_kept : (k : Kind) (h : Hardware) (older : List Entry) (e : Entry) → IsSoundAt values cycle state h → IsOldest (is_ready h k) [] h.rob.entries older e → IsSoundAt values cycle state (issued k h older e)
+  issued_kept k h older e is found =
+      let entries : h.rob.entries ≡ older ++ e ∷ found.younger = found.entries_are ∙ ap (λ (es : List Entry). es ++ e ∷ found.younger) (sym found.older_is) in
+      let all : AreInFlight (layout_of h.values) (seen h) (seen h) (older ++ e ∷ found.younger) = subst (AreInFlight (layout_of h.values) (seen h) (seen h)) entries is.sound.program.in_flight in
+      let here = here_in_flight (layout_of h.values) (seen h) older e found.younger all in
+      let passes = and_parts _ (may_load h older e) found.passes in
+      let ready = and_parts _ (has_operands older (sources_of_word e.instruction)) passes.0 in
+      let waits = and_parts (is_waiting e.stage) (is_of_kind k (kind_of_word e.instruction)) ready.0 in
+      let result = issued_result h older e (AreInFlight-older (layout_of h.values) (seen h) (seen h) older (e ∷ found.younger) all) here.pc
+      (plain_by_kind k e.instruction waits.1) ready.1 (loads_known (is_load e.instruction) (list_all is_known_store (stores_behind h older)) (has_port h (path h older e)) passes.1) in
+      started_kept (path h older e) k (cost_of h k (path h older e)) (h.rob.retired + length older) _ older e found.younger h is entries refl result
+
+  oldest_kept : (k : Kind) (h : Hardware) (o : Option (List Entry × Entry)) → oldest (is_ready h k) h.rob.entries ≡ o → IsSoundAt values cycle state h → Leaves (IsSoundAt values cycle state) (issue_oldest k h o)
+  oldest_kept k h None at is = is
+  oldest_kept k h (Some found) at is = issued_kept k h found.0 found.1 is (oldest_found (is_ready h k) h.rob.entries found.0 found.1 at)
+
+  turn_by : (b : Bool) (k : Kind) (h : Hardware) → IsSoundAt values cycle state h →
+      Leaves (IsSoundAt values cycle state) (if b then issue_oldest k h (oldest (is_ready h k) h.rob.entries) else Ends h)
+  turn_by true k h is = oldest_kept k h _ refl is
+  turn_by false k h is = is
+
+  kind_kept : (k : Kind) (h : Hardware) → IsSoundAt values cycle state h → IsSoundAt values cycle state (issue_kind k h)
+  kind_kept k h is =
+      kept_by_turns (IsSoundAt values cycle state) (issue_turn k) (λ now. turn_by (is_free now.cycle (pool_of k now.units)) k now) (kind_values h.values k).units h is
+
+  pub issue_kept : (h : Hardware) → IsSoundAt values cycle state h → IsSoundAt values cycle state (issue h)
+  issue_kept h is = kind_kept kind.Mem _ (kind_kept kind.Div _ (kind_kept kind.Mul _ (kind_kept kind.Alu h is)))

@@ -1,0 +1,42 @@
+-- At reset programs see the one-at-a-time machine's reset.
+use Rattle.std.proofs.Common.{◌≡◌, ℕ, ◌-◌, ◌≤◌, List, length, replicate, refl, sym, ◌∙◌, arith, length-append}
+use Rattle.std.specs.Ordering.{nat_cmp}
+use Rattle.std.specs.FinSet as set
+use Rattle.std.proofs.lemmas.Bool.{false≢true}
+use Rattle.std.proofs.lemmas.List.{length-replicate}
+use Rattle.rv_isa.specs.Description.{IsLegal}
+use Rattle.rv_isa.specs.declared.values.Values.{Values}
+use Rattle.rv_arch.specs.Reset.{reset}
+use Rattle.rv_hardware.specs.Reset.{memory_at_reset, reset_hardware, IsLoadable}
+use Rattle.rv_hardware.specs.Seen.{layout_of, seen}
+use Rattle.rv_hardware.proofs.HeadlineInvariant.{IsSound}
+
+pub seen_at_reset : (values : Values) (image : List ℕ) (start : ℕ) → seen (reset_hardware values image start) ≡ reset (layout_of values) image start
+seen_at_reset values image start = refl
+
+length-memory_at_reset : (values : Values) (image : List ℕ) → length image ≤ values.ram_size → length (memory_at_reset values image) ≡ values.ram_size
+length-memory_at_reset values image fits =
+    let zeros : List ℕ = replicate (values.ram_size - length image) 0 in
+    let size : length zeros ≡ values.ram_size - length image = length-replicate {A = ℕ} (values.ram_size - length image) 0 in
+    omega (arith, length-append image zeros)
+
+pub reset_sound : (values : Values) (base : ℕ) (image : List ℕ) (start : ℕ) → IsLegal values → IsLoadable values base image start → IsSound (reset_hardware values image start)
+reset_sound values base image start legal loadable =
+    let size = length-memory_at_reset values image loadable.fits in
+    record {
+      pc_aligned = loadable.aligned;
+      mepc_aligned = refl;
+      memory = record {
+        base_aligned = omega (arith, legal.memory.base.1);
+        size_aligned = omega (arith, legal.memory.size.2);
+        layout = refl;
+        cache_base = refl;
+        cache_size = size;
+        ram_size = size;
+        retired = tt;
+        drains = tt;
+        fresh = λ i fresh. refl;
+        inside = λ word marked. absurd (false≢true (sym (set.contains-empty nat_cmp word) ∙ marked));
+      };
+      program = record { in_flight = tt; buffered = refl; aligned = loadable.aligned };
+    }

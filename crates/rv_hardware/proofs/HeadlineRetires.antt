@@ -1,0 +1,180 @@
+-- What an instruction's retirement makes of a state is what its message tells.
+use Rattle.std.proofs.Common.{◌≡◌, ℕ, zero, suc, ◌+◌, ◌/◌, ◌%◌, ◌≤◌, Bool, true, false, not, cond, nat_eq, List, length, Option, Some, None, IfSome, slice_set, refl, sym, ap, subst, inl, inr, ◌∙◌, true≢false, arith}
+use Rattle.std.specs.Prelude.{if◌then◌else◌}
+use Rattle.std.specs.Option.{option_map}
+use Rattle.std.proofs.lemmas.Bool.{cond-false, eqb-true}
+use Rattle.std.proofs.lemmas.Bool.Decides.{nat_tests}
+use Rattle.rv_isa.specs.Bytes.{bytes_of_number}
+use Rattle.rv_isa.specs.Operands.{target_of, written}
+use Rattle.rv_isa.specs.Comparison.{holds}
+use Rattle.rv_isa.specs.Operation.{bytes_of, width_of, is_sign_extended}
+use Rattle.rv_isa.specs.Word.{sum, modulo_word, pc_plus, pc_plus_4}
+use Rattle.rv_isa.specs.declared.broadcast.Message.{Message}
+use Rattle.rv_isa.specs.declared.broadcast.StoreAccess.{StoreAccess}
+use Rattle.rv_isa.specs.declared.causes.Cause.{Cause}
+use Rattle.rv_isa.specs.declared.causes.Cause.TheVariants.{InstructionAddressMisaligned, LoadAddressMisaligned, LoadAccessFault}
+use Rattle.rv_isa.specs.declared.instructions.Instr.{Instr}
+use Rattle.rv_isa.specs.declared.instructions.Instr.TheVariants.{Lui, Auipc, Jal, Jalr, Branch, Load, Store, OpImmediate, Shift, Op, Fence, FenceI, Csr, Ecall, Ebreak, Mret, Wfi}
+use Rattle.rv_isa.specs.declared.lines.Lines.{Lines}
+use Rattle.rv_isa.specs.declared.operations.LoadForm.{LoadForm}
+use Rattle.rv_isa.specs.declared.operations.Width.{Width}
+use Rattle.rv_isa.specs.declared.operations.Width.TheVariants.{Byte, Half, Word}
+use Rattle.rv_arch.specs.Effect.{Effect, Retires, Faults, effect, writes, goes_to, loads, extended}
+use Rattle.rv_arch.specs.State.{State, register_of}
+use Rattle.rv_memory.specs.Memory.{Layout, is_aligned, is_in_ram, is_writable, number_at}
+use Rattle.rv_cache.specs.Cache.{IsAligned}
+use Rattle.rv_hardware.specs.InFlight.{is_serialising, with_value, with_store, store_of_message}
+use Rattle.rv_hardware.specs.Result.{access_of, effect_message, value_written}
+use Rattle.rv_hardware.specs.Retirement.{stale_after}
+
+-- the bytes of a store lie in RAM, behind its read-only front, and within one word
+pub record IsStoreAccess (layout : Layout) (access : StoreAccess) : Type 0 where
+  pub above : layout.base ≤ access.address
+  pub below : access.address + length access.bytes ≤ layout.base + layout.size
+  pub one_word : access.address % 4 + length access.bytes ≤ 4
+  pub some : 1 ≤ length access.bytes
+  pub aligned : IsAligned access.address (length access.bytes)
+  pub writable : is_writable layout access.address (length access.bytes) ≡ true
+
+-- a retirement from a state to the next, with a written register, as a message tells it
+pub record IsRetirement (layout : Layout) (s next : State) (target : Option ℕ) (message : Message) (register : Option (ℕ × ℕ)) : Type 0 where
+  pub next_is : next ≡ record {
+    pc = message.next_pc;
+    registers = with_value s.registers target (Some message);
+    csrs = s.csrs;
+    ram = with_store layout.base (store_of_message message.store) s.ram;
+    stale = stale_after message.store s.stale;
+  }
+  pub register_is : register ≡ option_map (λ (r : ℕ). (r, message.value)) target
+  pub no_fault : message.fault ≡ None
+  pub aligned : message.next_pc % 4 ≡ 0
+  pub store : IfSome message.store (IsStoreAccess layout)
+
+-- ... where the effect is a retirement
+abbrev pub IsTold : Layout → State → Option ℕ → Option StoreAccess → Effect → Type 0
+IsTold layout s target access (Retires register next) = IsRetirement layout s next target (effect_message access (Retires register next)) register
+IsTold layout s target access (Faults cause value) = Unit {0}
+
+pub aligned_next : (pc : ℕ) → pc % 4 ≡ 0 → pc_plus_4 pc % 4 ≡ 0
+aligned_next pc aligned = omega arith
+
+is_aligned_by_4 : (target : ℕ) → is_aligned target 4 ≡ true → target % 4 ≡ 0
+is_aligned_by_4 target aligned = eqb-true (target % 4) 0 aligned
+
+module _ (layout : Layout) (s : State) (here : s.pc % 4 ≡ 0) where
+  registers_by : (none : Bool) (rd value : ℕ) (message : Message) → nat_eq rd 0 ≡ none → message.value ≡ value_written (cond {A = Option (ℕ × ℕ)} none None (Some (rd, value))) →
+      with_value s.registers (cond none None (Some rd)) (Some message) ≡ cond none s.registers (slice_set s.registers rd value)
+  registers_by true rd value message is same = refl
+  registers_by false rd value message is same =
+      cond-false (nat_eq rd 0) s.registers (slice_set s.registers rd message.value) is ∙ ap (slice_set s.registers rd) same
+
+  register_by : (none : Bool) (rd value : ℕ) (message : Message) → message.value ≡ value_written (cond {A = Option (ℕ × ℕ)} none None (Some (rd, value))) →
+      cond {A = Option (ℕ × ℕ)} none None (Some (rd, value)) ≡ option_map (λ (r : ℕ). (r, message.value)) (cond none None (Some rd))
+  register_by true rd value message same = refl
+  register_by false rd value message same =
+      let register : ℕ → Option (ℕ × ℕ) = λ v. Some (rd, v) in ap register (sym same)
+
+  writes_told : (rd value next : ℕ) → next % 4 ≡ 0 → IsTold layout s (written rd) None (writes s rd value next)
+  writes_told rd value next aligned =
+      let message : Message = effect_message None (writes s rd value next) in
+      record {
+        next_is = ap (λ (registers : List ℕ). record s { pc = next; registers = registers }) (sym (registers_by (nat_eq rd 0) rd value message refl refl));
+        register_is = register_by (nat_eq rd 0) rd value message refl;
+        no_fault = refl;
+        aligned = aligned;
+        store = tt;
+      }
+
+  goes_told : (next : ℕ) → next % 4 ≡ 0 → IsTold layout s None None (goes_to s next)
+  goes_told next aligned = record { next_is = refl; register_is = refl; no_fault = refl; aligned = aligned; store = tt }
+
+  jumps_by : (b : Bool) (cause : Cause) (rd target : ℕ) → is_aligned target 4 ≡ b → IsTold layout s (written rd) None (if b then writes s rd (pc_plus_4 s.pc) target else Faults cause target)
+  jumps_by true cause rd target is = writes_told rd (pc_plus_4 s.pc) target (is_aligned_by_4 target is)
+  jumps_by false cause rd target is = tt
+
+  branches_by : (taken b : Bool) (cause : Cause) (target : ℕ) → is_aligned target 4 ≡ b →
+      IsTold layout s None None (if taken then (if b then goes_to s target else Faults cause target) else goes_to s (pc_plus_4 s.pc))
+  branches_by false b cause target is = goes_told (pc_plus_4 s.pc) (aligned_next s.pc here)
+  branches_by true true cause target is = goes_told target (is_aligned_by_4 target is)
+  branches_by true false cause target is = tt
+
+  loads_by : (aligned inside : Bool) (a b : Cause) (rd address value : ℕ) →
+      IsTold layout s (written rd) None (if not aligned then Faults a address else (if not inside then Faults b address else writes s rd value (pc_plus_4 s.pc)))
+  loads_by false inside a b rd address value = tt
+  loads_by true false a b rd address value = tt
+  loads_by true true a b rd address value = writes_told rd value (pc_plus_4 s.pc) (aligned_next s.pc here)
+
+  length-bytes_of_number : (count number : ℕ) → length (bytes_of_number count number) ≡ count
+  length-bytes_of_number zero number = refl
+  length-bytes_of_number (suc count) number = ap suc (length-bytes_of_number count (number / 256))
+
+  one_word_of : (width : Width) (address : ℕ) → is_aligned address (bytes_of width) ≡ true → address % 4 + bytes_of width ≤ 4
+  one_word_of Byte address aligned = omega arith
+  one_word_of Half address aligned = let even : address % 2 ≡ 0 = eqb-true (address % 2) 0 aligned in omega arith
+  one_word_of Word address aligned = let fourth : address % 4 ≡ 0 = eqb-true (address % 4) 0 aligned in omega arith
+
+  some_bytes : (width : Width) → 1 ≤ bytes_of width
+  some_bytes Byte = omega arith
+  some_bytes Half = omega arith
+  some_bytes Word = omega arith
+
+  aligned_bytes : (width : Width) (address : ℕ) → is_aligned address (bytes_of width) ≡ true → IsAligned address (bytes_of width)
+  aligned_bytes Byte address aligned = (inl refl, eqb-true (address % 1) 0 aligned)
+  aligned_bytes Half address aligned = (inr (inl refl), eqb-true (address % 2) 0 aligned)
+  aligned_bytes Word address aligned = (inr (inr refl), eqb-true (address % 4) 0 aligned)
+
+  inside_of : (address count : ℕ) → is_writable layout address count ≡ true → (layout.base ≤ address) × (address + count ≤ layout.base + layout.size)
+  inside_of address count writable = (grind (arith, nat_tests), grind (arith, nat_tests))
+
+  stores_by : (aligned writable : Bool) (a b : Cause) (width : Width) (address word : ℕ) →
+      is_aligned address (bytes_of width) ≡ aligned → is_writable layout address (bytes_of width) ≡ writable →
+      let access : StoreAccess = record { address = address; bytes = bytes_of_number (bytes_of width) word } in
+      IsTold layout s None (Some access)
+      (if not aligned then Faults a address else (if not writable then Faults b address else Retires None (record s {
+        pc = pc_plus_4 s.pc;
+        ram = with_store layout.base (store_of_message (Some access)) s.ram;
+        stale = stale_after (Some access) s.stale;
+      })))
+  stores_by false writable a b width address word is_a is_w = tt
+  stores_by true false a b width address word is_a is_w = tt
+  stores_by true true a b width address word is_a is_w =
+      let inside = inside_of address (bytes_of width) is_w in
+      let size = length-bytes_of_number (bytes_of width) word in
+      record {
+        next_is = refl;
+        register_is = refl;
+        no_fault = refl;
+        aligned = aligned_next s.pc here;
+        store = record {
+          above = inside.0;
+          below = omega (arith, inside.1, size);
+          one_word = omega (arith, one_word_of width address is_a, size);
+          some = omega (arith, some_bytes width, size);
+          aligned = subst (IsAligned address) (sym size) (aligned_bytes width address is_a);
+          writable = ap (is_writable layout address) size ∙ is_w;
+        };
+      }
+
+  loaded : (form : LoadForm) (rd address : ℕ) → IsTold layout s (written rd) None (loads layout s form rd address)
+  loaded form rd address =
+      loads_by (is_aligned address (bytes_of (width_of form))) (is_in_ram layout address (bytes_of (width_of form))) LoadAddressMisaligned LoadAccessFault rd address
+      (extended (is_sign_extended form) (bytes_of (width_of form)) (number_at layout s.ram address (bytes_of (width_of form))))
+
+  pub effect_told : (lines : Lines) (word : ℕ) (i : Instr) → is_serialising (Some i) ≡ false → IsTold layout s (target_of i) (access_of s i) (effect layout s lines word i)
+  effect_told lines word (Lui rd immediate) plain = writes_told rd _ _ (aligned_next s.pc here)
+  effect_told lines word (Auipc rd immediate) plain = writes_told rd _ _ (aligned_next s.pc here)
+  effect_told lines word (Jal rd offset) plain = jumps_by _ _ rd _ refl
+  effect_told lines word (Jalr rd rs1 offset) plain = jumps_by _ _ rd _ refl
+  effect_told lines word (Branch condition rs1 rs2 offset) plain = branches_by (holds condition (register_of s rs1) (register_of s rs2)) (is_aligned (pc_plus s.pc offset) 4) InstructionAddressMisaligned (pc_plus s.pc offset) refl
+  effect_told lines word (Load form rd rs1 offset) plain = loaded form rd (sum (register_of s rs1) (modulo_word offset))
+  effect_told lines word (Store width rs1 rs2 offset) plain = stores_by _ _ _ _ width _ _ refl refl
+  effect_told lines word (OpImmediate op rd rs1 immediate) plain = writes_told rd _ _ (aligned_next s.pc here)
+  effect_told lines word (Shift op rd rs1 amount) plain = writes_told rd _ _ (aligned_next s.pc here)
+  effect_told lines word (Op op rd rs1 rs2) plain = writes_told rd _ _ (aligned_next s.pc here)
+  effect_told lines word Fence plain = goes_told _ (aligned_next s.pc here)
+  effect_told lines word FenceI plain = absurd (true≢false plain)
+  effect_told lines word (Csr op rd csr source) plain = absurd (true≢false plain)
+  effect_told lines word Ecall plain = tt
+  effect_told lines word Ebreak plain = tt
+  effect_told lines word Mret plain = absurd (true≢false plain)
+  effect_told lines word Wfi plain = goes_told _ (aligned_next s.pc here)

@@ -1,0 +1,96 @@
+-- Steps that are reported one after another.
+use Rattle.std.proofs.Common.{◌≡◌, ℕ, zero, suc, ◌||◌, Bool, true, false, List, [], ◌∷◌, ◌++◌, Option, Some, refl, sym, ap, ◌∙◌, true≢false}
+use Rattle.std.specs.Prelude.{◌↔◌}
+use Rattle.std.specs.List.{All, list_any}
+use Rattle.std.proofs.lemmas.Bool.{false≢true, or_from}
+use Rattle.std.proofs.lemmas.List.Elements.{All-nil, All-cons, All-append}
+use Rattle.std.proofs.lemmas.List.Folds.{list_any-append}
+use Rattle.rv_isa.specs.declared.lines.Lines.{Lines}
+use Rattle.rv_arch.specs.State.{State}
+use Rattle.rv_arch.specs.Step.{Step as MachineStep}
+use Rattle.rv_arch.specs.declared.outcome.RefStep.TheVariants as machine
+use Rattle.rv_arch.specs.declared.outcome.Stop.{Stop}
+use Rattle.rv_arch.specs.declared.outcome.Stop.TheVariants as stop
+use Rattle.rv_memory.specs.Memory.{Layout}
+use Rattle.rv_hardware.specs.Headline.{told, is_retirement, Lead, nowhere, onwards, EndAtTraps, IsTrueCycle}
+use Rattle.rv_hardware.specs.Repeated.{Turn, GoesOn, Ends, followed_by, repeated}
+use Rattle.rv_hardware.specs.Step.{stamp_of, is_breakpoint}
+use Rattle.rv_hardware.specs.declared.step.Step.{Step}
+use Rattle.rv_hardware.specs.declared.step.Step.TheVariants as step
+
+-- ---- turns that keep one property while they go on, and leave another
+abbrev pub LeavesEither : {S : Type 0} → (S → Type 0) → (S → Type 0) → Turn S → Type 0
+LeavesEither P Q (GoesOn s) = P s
+LeavesEither P Q (Ends s) = Q s
+
+pub left_by_turns : {S : Type 0} (P Q : S → Type 0) (turn : S → Turn S) → ((s : S) → P s → LeavesEither P Q (turn s)) → ((s : S) → P s → Q s) →
+    (width : ℕ) (s : S) → P s → Q (repeated turn width s)
+left_by_turns P Q turn keeps stops zero s holds = stops s holds
+left_by_turns P Q turn keeps stops (suc width) s holds = rest (turn s) (keeps s holds) (left_by_turns P Q turn keeps stops width) where
+  rest : (t : Turn _) → LeavesEither P Q t → ((s : _) → P s → Q (repeated turn width s)) → Q (followed_by (repeated turn width) t)
+  rest (GoesOn next) left more = more next left
+  rest (Ends next) left more = left
+
+-- ---- retirements in one cycle
+abbrev pub AreRetirements : ℕ → List Step → Type 0
+AreRetirements cycle [] = Unit {0}
+AreRetirements cycle (x ∷ xs) = (is_retirement x ≡ true) × (stamp_of x ≡ cycle) × AreRetirements cycle xs
+
+pub retirements_push : (cycle : ℕ) (xs : List Step) (x : Step) → AreRetirements cycle xs → is_retirement x ≡ true → stamp_of x ≡ cycle → AreRetirements cycle (xs ++ x ∷ [])
+retirements_push cycle [] x all retires stamped = (retires, stamped, tt)
+retirements_push cycle (y ∷ xs) x all retires stamped = (all.0, all.1, retirements_push cycle xs x all.2 retires stamped)
+
+stamps : (cycle : ℕ) (xs : List Step) → AreRetirements cycle xs → All (λ s. stamp_of s ≡ cycle) xs
+stamps cycle [] all = All-nil (λ s. stamp_of s ≡ cycle)
+stamps cycle (x ∷ xs) all = All-cons (λ s. stamp_of s ≡ cycle) x xs all.1 (stamps cycle xs all.2)
+
+ends : (cycle : ℕ) (xs : List Step) → AreRetirements cycle xs → EndAtTraps xs
+ends cycle [] all = tt
+ends cycle (x ∷ xs) all = ((λ traps. absurd (true≢false (sym all.0 ∙ traps))), ends cycle xs all.2)
+
+ends_push : (cycle : ℕ) (xs : List Step) (x : Step) → AreRetirements cycle xs → EndAtTraps (xs ++ x ∷ [])
+ends_push cycle [] x all = ((λ traps. refl), tt)
+ends_push cycle (y ∷ xs) x all = ((λ traps. absurd (true≢false (sym all.0 ∙ traps))), ends_push cycle xs x all.2)
+
+retirement_breaks_nothing : (x : Step) → is_retirement x ≡ true → is_breakpoint x ≡ false
+retirement_breaks_nothing (step.Retired row) retires = refl
+retirement_breaks_nothing (step.Trap pc cause value cycle) retires = absurd (false≢true retires)
+retirement_breaks_nothing (step.Interrupt pc cause cycle) retires = refl
+
+no_breakpoint : (cycle : ℕ) (xs : List Step) → AreRetirements cycle xs → list_any is_breakpoint xs ≡ false
+no_breakpoint cycle [] all = refl
+no_breakpoint cycle (x ∷ xs) all = or_from (is_breakpoint x) (list_any is_breakpoint xs) (retirement_breaks_nothing x all.0) (no_breakpoint cycle xs all.2)
+
+pub lead_push : {layout : Layout} {lines : Lines} {s t u : State} {xs : List Step} → Lead layout lines s xs t → (x : Step) → MachineStep layout t lines (told x) u → Lead layout lines s (xs ++ x ∷ []) u
+lead_push nowhere x takes = onwards takes nowhere
+lead_push (onwards first rest) x takes = onwards first (lead_push rest x takes)
+
+or-none : (b : Bool) → (b || false) ≡ b
+or-none true = refl
+or-none false = refl
+
+module _ (layout : Layout) (lines : Lines) (cycle : ℕ) (before s : State) (xs : List Step) (leads : Lead layout lines before xs s) (all : AreRetirements cycle xs) where
+  -- a cycle that reports retirements alone
+  pub true_retirements : (ending : Option Stop) → (ending ≡ Some stop.Breakpoint → ⊥) → ((pc : ℕ) → ending ≡ Some (stop.Stale pc) → MachineStep layout s lines (machine.Stale pc) s) →
+      IsTrueCycle layout lines cycle before xs ending s
+  true_retirements ending breaks stale = record {
+    leads = leads;
+    precise = ends cycle xs all;
+    stamped = stamps cycle xs all;
+    breakpoint = ((λ is. absurd (breaks is)), (λ is. absurd (false≢true (sym (no_breakpoint cycle xs all) ∙ is))));
+    stale = stale;
+  }
+
+  -- ... and one more step at its end
+  pub true_push : (x : Step) (t : State) (ending : Option Stop) → MachineStep layout s lines (told x) t → stamp_of x ≡ cycle →
+      (ending ≡ Some stop.Breakpoint) ↔ (is_breakpoint x ≡ true) → ((pc : ℕ) → ending ≡ Some (stop.Stale pc) → ⊥) → IsTrueCycle layout lines cycle before (xs ++ x ∷ []) ending t
+  true_push x t ending takes stamped breaks stale =
+      let any : list_any is_breakpoint (xs ++ x ∷ []) ≡ is_breakpoint x =
+      list_any-append is_breakpoint xs (x ∷ []) ∙ ap (λ (b : Bool). b || (is_breakpoint x || false)) (no_breakpoint cycle xs all) ∙ or-none (is_breakpoint x) in
+      record {
+        leads = lead_push leads x takes;
+        precise = ends_push cycle xs x all;
+        stamped = All-append (λ s. stamp_of s ≡ cycle) xs (x ∷ []) (stamps cycle xs all) (All-cons (λ s. stamp_of s ≡ cycle) x [] stamped (All-nil (λ s. stamp_of s ≡ cycle)));
+        breakpoint = ((λ is. any ∙ breaks.0 is), (λ is. breaks.1 (sym any ∙ is)));
+        stale = λ pc is. absurd (stale pc is);
+      }

@@ -1,0 +1,99 @@
+-- What the stores in flight write lies in writable RAM.
+use Rattle.std.proofs.Common.{◌≡◌, ℕ, ◌+◌, ◌%◌, Bool, true, false, List, [], ◌∷◌, ◌++◌, Option, Some, None, IfSome, refl, sym, subst, inl, inr}
+use Rattle.std.specs.Prelude.{if◌then◌else◌}
+use Rattle.std.proofs.lemmas.Bool.{cases_Bool, false≢true}
+use Rattle.rv_isa.specs.Operands.{target_of}
+use Rattle.rv_isa.specs.declared.broadcast.Message.{Message}
+use Rattle.rv_isa.specs.declared.broadcast.StoreAccess.{StoreAccess}
+use Rattle.rv_isa.specs.declared.instructions.Instr.{Instr}
+use Rattle.rv_isa.specs.declared.instructions.Instr.TheVariants.{Store}
+use Rattle.rv_isa.specs.declared.lines.Lines.{Lines}
+use Rattle.rv_arch.specs.Effect.{Effect, Retires, Faults, effect}
+use Rattle.rv_arch.specs.Reset.{no_lines}
+use Rattle.rv_arch.specs.State.{State}
+use Rattle.rv_memory.specs.Memory.{Layout}
+use Rattle.rv_cache.specs.WriteBack.{Each}
+use Rattle.rv_rob.specs.declared.entry.Entry.{Entry}
+use Rattle.rv_rob.specs.declared.entry.Stage.{Stage}
+use Rattle.rv_rob.specs.declared.entry.Stage.TheVariants.{Waiting, Running, Finished}
+use Rattle.rv_hardware.specs.Hardware.{Hardware}
+use Rattle.rv_hardware.specs.InFlight.{is_serialising, is_store, broadcast_of, store_of_message, store_of_broadcast, stores_of}
+use Rattle.rv_hardware.specs.Result.{access_of, effect_message, result_of_word}
+use Rattle.rv_hardware.specs.Run.{Reachable}
+use Rattle.rv_hardware.specs.Seen.{layout_of, seen, stores_behind}
+use Rattle.rv_hardware.proofs.HeadlineBytes.{IsStateInside, IsInside}
+use Rattle.rv_hardware.proofs.HeadlineCycle.{always_sound}
+use Rattle.rv_hardware.proofs.HeadlineFold.{result_at, executed, IsResult, AreInFlight}
+use Rattle.rv_hardware.proofs.HeadlineInvariant.{IsSound}
+use Rattle.rv_hardware.proofs.HeadlineKnown.{no_store}
+use Rattle.rv_hardware.proofs.HeadlineRetires.{IsTold, IsStoreAccess, effect_told}
+use Rattle.rv_hardware.proofs.HeadlineSplit.{AreInFlight-older}
+use Rattle.rv_hardware.proofs.HeadlineWords.{IsRetiredStore, Each-weaker}
+
+serialising_is_no_store : (i : Option Instr) → is_serialising i ≡ true → is_store i ≡ false
+serialising_is_no_store (Some (Store width rs1 rs2 offset)) serial = absurd (false≢true serial)
+serialising_is_no_store _ serial = refl
+
+store_of_effect : (layout : Layout) (s : State) (target : Option ℕ) (access : Option StoreAccess) (effect : Effect) → IsTold layout s target access effect →
+    IfSome (effect_message access effect).store (IsStoreAccess layout)
+store_of_effect layout s target access (Retires register next) told = told.store
+store_of_effect layout s target access (Faults cause value) told = tt
+
+store_inside : (layout : Layout) (s : State) (lines : Lines) (word : Option ℕ) (i : Option Instr) → s.pc % 4 ≡ 0 → IfSome (result_of_word layout s lines word i).store (IsStoreAccess layout)
+store_inside layout s lines None i here = tt
+store_inside layout s lines (Some word) None here = tt
+store_inside layout s lines (Some word) (Some i) here = elim (cases_Bool (is_serialising (Some i))) [
+  | inl serial ↦ subst (λ (o : Option StoreAccess). IfSome o (IsStoreAccess layout)) (sym (no_store layout s lines (Some word) (Some i) (serialising_is_no_store (Some i) serial))) tt
+  | inr plain ↦ store_of_effect layout s (target_of i) (access_of s i) (effect layout s lines word i) (effect_told layout s here lines word i plain)
+]
+
+-- what an instruction that executes, or did, writes to memory
+abbrev pub IsStageInside : Layout → Stage → Type 0
+IsStageInside layout Waiting = Unit {0}
+IsStageInside layout (Running issue message) = IfSome message.store (IsStoreAccess layout)
+IsStageInside layout (Finished issue cycle message) = IfSome message.store (IsStoreAccess layout)
+
+stage_inside : (layout : Layout) (result : Message) (stage : Stage) → IfSome result.store (IsStoreAccess layout) → IsResult result stage → IsStageInside layout stage
+stage_inside layout result Waiting legal is = tt
+stage_inside layout result (Running issue message) legal is = subst (λ (m : Message). IfSome m.store (IsStoreAccess layout)) (sym is) legal
+stage_inside layout result (Finished issue cycle message) legal is = subst (λ (m : Message). IfSome m.store (IsStoreAccess layout)) (sym is) legal
+
+pub stages_inside : (layout : Layout) (now : State) (es : List Entry) (s : State) → s.pc % 4 ≡ 0 → AreInFlight layout now s es → Each (λ e. IsStageInside layout e.stage) es
+stages_inside layout now [] s here all = tt
+stages_inside layout now (e ∷ es) s here all =
+    (stage_inside layout (result_at layout s e) e.stage (store_inside layout s no_lines e.word e.instruction here) all.0.result, stages_inside layout now es (executed layout e s) all.0.aligned all.1)
+
+message_inside : (layout : Layout) (access : Option StoreAccess) → IfSome access (IsStoreAccess layout) → IsStateInside layout (store_of_message access)
+message_inside layout None legal = tt
+message_inside layout (Some access) legal = legal
+
+broadcast_inside : (layout : Layout) (stage : Stage) → IsStageInside layout stage → IsStateInside layout (store_of_broadcast (broadcast_of stage))
+broadcast_inside layout Waiting legal = tt
+broadcast_inside layout (Running issue message) legal = tt
+broadcast_inside layout (Finished issue cycle message) legal = message_inside layout message.store legal
+
+stores_of_inside : (layout : Layout) (es : List Entry) (seq : ℕ) → Each (λ e. IsStageInside layout e.stage) es → Each (IsInside layout) (stores_of seq es)
+stores_of_inside layout [] seq all = tt
+stores_of_inside layout (e ∷ es) seq all = by_test (is_store e.instruction) (stores_of_inside layout es (seq + 1) all.1) where
+  by_test : (b : Bool) → Each (IsInside layout) (stores_of (seq + 1) es) →
+      Each (IsInside layout) (if b then record { seq = seq; state = store_of_broadcast (broadcast_of e.stage) } ∷ stores_of (seq + 1) es else stores_of (seq + 1) es)
+  by_test true rest = (broadcast_inside layout e.stage all.0, rest)
+  by_test false rest = rest
+
+Each-append : {X : Type 0} (P : X → Type 0) (xs ys : List X) → Each P xs → Each P ys → Each P (xs ++ ys)
+Each-append P [] ys before after = after
+Each-append P (x ∷ xs) ys before after = (before.0, Each-append P xs ys before.1 after)
+
+-- the stores that are older than an instruction in flight
+pub stores_inside : (h : Hardware) → Reachable h → (older younger : List Entry) → h.rob.entries ≡ older ++ younger → Each (IsInside (layout_of h.values)) (stores_behind h older)
+stores_inside h reached older younger entries =
+    let is : IsSound h = always_sound reached in
+    let layout = layout_of h.values in
+    let all : AreInFlight layout (seen h) (seen h) older = AreInFlight-older layout (seen h) (seen h) older younger (subst (AreInFlight layout (seen h) (seen h)) entries is.program.in_flight) in
+    Each-append (IsInside layout) h.committed (stores_of h.rob.retired older)
+    (Each-weaker (λ s retired. subst (IsStateInside layout) (sym retired.state_is) retired.legal) h.committed is.memory.retired)
+    (stores_of_inside layout older h.rob.retired (stages_inside layout (seen h) older (seen h) is.pc_aligned all))
+
+-- ... and those that retired, each of which made its word stale
+pub retired_stores : (h : Hardware) → Reachable h → Each (IsRetiredStore (layout_of h.values) h.stale) h.committed
+retired_stores h reached = (always_sound reached).memory.retired

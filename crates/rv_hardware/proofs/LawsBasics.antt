@@ -1,0 +1,190 @@
+-- What every phase keeps: the shape, sound rows, instructions and words, and marks that only go on.
+use Rattle.std.proofs.Common.{◌≡◌, ℕ, ◌+◌, ◌≤◌, ◌&&◌, ◌||◌, Bool, true, false, is_some, List, [], ◌∷◌, Option, Some, None, option_and_then, inl, inr, refl, sym, subst, ap, ◌∙◌, arith}
+use Rattle.std.specs.List.{list_any}
+use Rattle.rv_decode.specs.Decodes.{instruction_of}
+use Rattle.rv_isa.specs.declared.broadcast.Message.{Message}
+use Rattle.rv_isa.specs.declared.instructions.Instr.{Instr}
+use Rattle.rv_isa.specs.declared.issues.Issue.{Issue}
+use Rattle.rv_isa.specs.declared.lines.Lines.{Lines}
+use Rattle.rv_isa.specs.declared.operations.Kind.{Kind}
+use Rattle.rv_isa.specs.declared.values.Values.{Values}
+use Rattle.rv_arch.specs.State.{State}
+use Rattle.rv_memory.specs.Memory.{Layout}
+use Rattle.rv_front.specs.declared.fetched.Fetched.{Fetched}
+use Rattle.rv_rob.specs.Entry.{issue_of, started, finished, predicting}
+use Rattle.rv_rob.specs.declared.entry.Entry.{Entry}
+use Rattle.rv_rob.specs.declared.entry.Stage.{Stage}
+use Rattle.rv_rob.specs.declared.entry.Stage.TheVariants.{Waiting, Running, Finished}
+use Rattle.rv_hardware.specs.Dispatch.{stage_by, entry_of_fetched}
+use Rattle.rv_hardware.specs.Hardware.{Hardware}
+use Rattle.rv_hardware.specs.InFlight.{is_serialising, is_waiting}
+use Rattle.rv_hardware.specs.Issue.{has_operands, is_of_kind, is_ready, kind_of_word, may_load, sources_of_word}
+use Rattle.rv_hardware.specs.Result.{result_of_word}
+use Rattle.rv_hardware.specs.Seen.{layout_of, seen_behind}
+use Rattle.rv_hardware.specs.Stamps.{rows_of}
+use Rattle.rv_hardware.specs.declared.step.Step.{Step}
+use Rattle.rv_hardware.proofs.LawsLists.{Every, EveryPair}
+use Rattle.rv_hardware.proofs.LawsMarks.{mark_of_entry, mark_of_fetched, start_of_issue, start_of_stage, broadcast_of_stage}
+use Rattle.rv_hardware.proofs.LawsRow.{SoundRow}
+use Rattle.rv_hardware.proofs.LawsShape.{HasShape}
+use Rattle.rv_hardware.proofs.LawsSound.{SoundCost, SoundEntry, SoundStage, SoundFetched, is_of_kind_is}
+
+-- a serialising instruction is the youngest
+abbrev pub SerialIsLast : List Entry → Type 0
+SerialIsLast es = EveryPair (λ a x. is_serialising a.instruction ≡ false) es
+
+-- in cycle `now`: dispatches, executions, fetches and retirements lie below bounds
+pub record Basics (v : Values) (now dispatch_bound issue_bound stage_bound fetch_bound row_bound : ℕ) (steps : List Step) (h : Hardware) : Type 0 where
+  pub cycle : h.cycle ≡ now
+  pub shape : HasShape v h
+  pub rows : Every (SoundRow v row_bound) (rows_of steps)
+  pub entries : Every (SoundEntry v dispatch_bound issue_bound stage_bound) h.rob.entries
+  pub fetched : Every (SoundFetched fetch_bound) h.front.entries
+  pub serial : SerialIsLast h.rob.entries
+
+pub and_first : (a b : Bool) → (a && b) ≡ true → a ≡ true
+and_first true b h = refl
+and_first false b h = absurd (cc)
+
+pub and_second : (a b : Bool) → (a && b) ≡ true → b ≡ true
+and_second true b h = h
+and_second false b h = absurd (cc)
+
+pub and_fails : (a b : Bool) → (a && b) ≡ false → a ≡ true → b ≡ false
+and_fails true b h is = h
+and_fails false b h is = absurd (cc)
+
+pub and_both : (a b : Bool) → a ≡ true → b ≡ true → (a && b) ≡ true
+and_both true b is h = h
+and_both false b is h = absurd (cc)
+
+pub is_waiting_is : (st : Stage) → is_waiting st ≡ true → st ≡ Waiting
+is_waiting_is Waiting h = refl
+is_waiting_is (Running issue message) h = absurd (cc)
+is_waiting_is (Finished issue cycle message) h = absurd (cc)
+
+-- what an instruction that leaves its station has
+pub record Ready (h : Hardware) (k : Kind) (older : List Entry) (e : Entry) : Type 0 where
+  pub waits : e.stage ≡ Waiting
+  pub kind : is_of_kind k (kind_of_word e.instruction) ≡ true
+  pub operands : has_operands older (sources_of_word e.instruction) ≡ true
+  pub load : may_load h older e ≡ true
+
+pub ready_has : (h : Hardware) (k : Kind) (older : List Entry) (e : Entry) → is_ready h k older e ≡ true → Ready h k older e
+ready_has h k older e ready =
+    let three = and_first (is_waiting e.stage && is_of_kind k (kind_of_word e.instruction) && has_operands older (sources_of_word e.instruction)) (may_load h older e) ready in
+    let two = and_first (is_waiting e.stage && is_of_kind k (kind_of_word e.instruction)) (has_operands older (sources_of_word e.instruction)) three in
+    record {
+      waits = is_waiting_is e.stage (and_first (is_waiting e.stage) (is_of_kind k (kind_of_word e.instruction)) two);
+      kind = and_second (is_waiting e.stage) (is_of_kind k (kind_of_word e.instruction)) two;
+      operands = and_second (is_waiting e.stage && is_of_kind k (kind_of_word e.instruction)) (has_operands older (sources_of_word e.instruction)) three;
+      load = and_second (is_waiting e.stage && is_of_kind k (kind_of_word e.instruction) && has_operands older (sources_of_word e.instruction)) (may_load h older e) ready;
+    }
+
+some_kind : (k : Kind) (o : Option Kind) → is_of_kind k o ≡ true → is_some o ≡ true
+some_kind k None h = absurd (let none = is_of_kind_is k None h in cc)
+some_kind k (Some j) h = refl
+
+-- the entries of each phase are sound
+
+pub started_sound : (v : Values) (now b : ℕ) (k : Kind) (e : Entry) (cost : ℕ) (message : Message) → SoundEntry v now (now + 1) b e →
+    is_of_kind k (kind_of_word e.instruction) ≡ true → SoundCost v e.instruction (start_of_issue (record { cycle = now; cost = cost }) message) →
+    SoundEntry v now (now + 1) b (started (record { cycle = now; cost = cost }) message e)
+started_sound v now b k e cost message sound kind costs = record {
+  decoded = sound.decoded;
+  after_fetch = sound.after_fetch;
+  by_now = sound.by_now;
+  stage = (some_kind k (kind_of_word e.instruction) kind, sound.by_now, omega arith, costs);
+}
+
+pub started_mark : (now : ℕ) (e : Entry) (cost : ℕ) (message : Message) →
+    mark_of_entry (started (record { cycle = now; cost = cost }) message e) ≡ record (mark_of_entry e) { start = Some (start_of_issue (record { cycle = now; cost = cost }) message); broadcast = None }
+started_mark now e cost message = refl
+
+finished_stage : (v : Values) (i : Option Instr) (D now : ℕ) (st : Stage) (issue : Issue) (message : Message) → st ≡ Running issue message → issue.cycle + issue.cost ≤ now →
+    SoundStage v i D (now + 1) (now + 1) st → SoundStage v i D (now + 1) (now + 1) (Finished (issue_of st) now message)
+finished_stage v i D now st issue message at over sound =
+    let held = subst (SoundStage v i D (now + 1) (now + 1)) at sound in
+    subst (λ o. SoundStage v i D (now + 1) (now + 1) (Finished o now message)) (sym (ap issue_of at)) (held.0, held.1, over, omega arith, held.3)
+
+pub finished_sound : (v : Values) (now : ℕ) (e : Entry) (issue : Issue) (message : Message) → SoundEntry v now (now + 1) (now + 1) e →
+    e.stage ≡ Running issue message → issue.cycle + issue.cost ≤ now → SoundEntry v now (now + 1) (now + 1) (finished message now e)
+finished_sound v now e issue message sound at over = record {
+  decoded = sound.decoded;
+  after_fetch = sound.after_fetch;
+  by_now = sound.by_now;
+  stage = finished_stage v e.instruction e.dispatched now e.stage issue message at over sound.stage;
+}
+
+pub predicting_sound : (v : Values) (d a b next : ℕ) (e : Entry) → SoundEntry v d a b e → SoundEntry v d a b (predicting next e)
+predicting_sound v d a b next e sound = record { decoded = sound.decoded; after_fetch = sound.after_fetch; by_now = sound.by_now; stage = sound.stage }
+
+pub finished_mark : (now : ℕ) (e : Entry) (issue : Issue) (message : Message) → e.stage ≡ Running issue message →
+    mark_of_entry (finished message now e) ≡ record (mark_of_entry e) { broadcast = Some now }
+finished_mark now e issue message at = λ i. record {
+  instruction = e.instruction;
+  fetched = e.fetched;
+  dispatched = Some e.dispatched;
+  start = (ap (λ o. start_of_stage (Finished o now message)) (ap issue_of at) ∙ sym (ap start_of_stage at)) i;
+  broadcast = ap (λ o. broadcast_of_stage (Finished o now message)) (ap issue_of at) i;
+  retired = None;
+}
+
+-- an instruction that is dispatched
+
+no_word_faults : (layout : Layout) (s : State) (lines : Lines) (word : Option ℕ) (i : Option Instr) → i ≡ option_and_then instruction_of word → i ≡ None →
+    is_some (result_of_word layout s lines word i).fault ≡ true
+no_word_faults layout s lines None i decoded none = refl
+no_word_faults layout s lines (Some word) i decoded none = rw none refl
+
+first_stage_sound : (v : Values) (D bound : ℕ) (i : Option Instr) (message : Message) (o : Option Kind) (serial : Bool) → kind_of_word i ≡ o → is_serialising i ≡ serial →
+    (i ≡ None → is_some message.fault ≡ true) → SoundStage v i D bound bound (stage_by o serial (Finished None D message))
+first_stage_sound v D bound i message (Some k) serial kind is faults = inl (ap is_some kind)
+first_stage_sound v D bound i message None true kind is faults = inr is
+first_stage_sound v D bound i message None false kind is faults = (kind, is, refl, faults)
+
+pub dispatched_sound : (v : Values) (now : ℕ) (h : Hardware) (f : Fetched) → h.cycle ≡ now → SoundFetched now f → SoundEntry v (now + 1) (now + 1) (now + 1) (entry_of_fetched h f)
+dispatched_sound v now h f at sound = record {
+  decoded = sound.1;
+  after_fetch = omega (arith, at, sound.0);
+  by_now = omega (arith, at);
+  stage = first_stage_sound v h.cycle (now + 1) f.instruction _ (kind_of_word f.instruction) (is_serialising f.instruction) refl refl
+      (no_word_faults (layout_of h.values) (seen_behind h h.rob.entries f.pc) h.lines f.word f.instruction sound.1);
+}
+
+first_start : (D : ℕ) (o : Option Kind) (serial : Bool) (message : Message) → start_of_stage (stage_by o serial (Finished None D message)) ≡ None
+first_start D (Some k) serial message = refl
+first_start D None true message = refl
+first_start D None false message = refl
+
+first_broadcast : (D : ℕ) (o : Option Kind) (serial : Bool) (message : Message) → broadcast_of_stage (stage_by o serial (Finished None D message)) ≡ None
+first_broadcast D (Some k) serial message = refl
+first_broadcast D None true message = refl
+first_broadcast D None false message = refl
+
+pub dispatched_mark : (h : Hardware) (f : Fetched) → mark_of_entry (entry_of_fetched h f) ≡ record (mark_of_fetched f) { dispatched = Some h.cycle }
+dispatched_mark h f =
+    let message = result_of_word (layout_of h.values) (seen_behind h h.rob.entries f.pc) h.lines f.word f.instruction in
+    λ i. record {
+      instruction = f.instruction;
+      fetched = f.cycle;
+      dispatched = Some h.cycle;
+      start = first_start h.cycle (kind_of_word f.instruction) (is_serialising f.instruction) message i;
+      broadcast = first_broadcast h.cycle (kind_of_word f.instruction) (is_serialising f.instruction) message i;
+      retired = None;
+    }
+
+or_fails_first : (a b : Bool) → (a || b) ≡ false → a ≡ false
+or_fails_first true b h = absurd (cc)
+or_fails_first false b h = refl
+
+or_fails_second : (a b : Bool) → (a || b) ≡ false → b ≡ false
+or_fails_second true b h = absurd (cc)
+or_fails_second false b h = h
+
+pub none_serialises : (es : List Entry) → list_any (λ e. is_serialising e.instruction) es ≡ false → Every (λ e. is_serialising e.instruction ≡ false) es
+none_serialises [] h = tt
+none_serialises (e ∷ es) h = (
+  or_fails_first (is_serialising e.instruction) (list_any (λ x. is_serialising x.instruction) es) h,
+  none_serialises es (or_fails_second (is_serialising e.instruction) (list_any (λ x. is_serialising x.instruction) es) h),
+)

@@ -1,0 +1,84 @@
+-- What a turn of the broadcast phase does.
+use Rattle.std.proofs.Common.{◌≡◌, ℕ, ◌+◌, ◌≤◌, ◌&&◌, Bool, true, false, cond, not, is_none, nat_le, List, [], ◌∷◌, ◌++◌, length, Option, Some, None, refl, sym, subst, ap, ◌∙◌}
+use Rattle.std.proofs.lemmas.Bool.{leb-true}
+use Rattle.rv_isa.specs.declared.broadcast.Message.{Message}
+use Rattle.rv_isa.specs.declared.issues.Issue.{Issue}
+use Rattle.rv_rob.specs.Entry.{finished, predicting}
+use Rattle.rv_rob.specs.ReorderBuffer.{with_entry, entries_below}
+use Rattle.rv_rob.specs.declared.entry.Entry.{Entry}
+use Rattle.rv_rob.specs.declared.entry.Stage.{Stage}
+use Rattle.rv_rob.specs.declared.entry.Stage.TheVariants.{Waiting, Running, Finished}
+use Rattle.rv_hardware.specs.Broadcast.{result_at, has_result, mends_early, is_mispredicted, with_broadcast, with_recovery, broadcast_result, broadcast_oldest, broadcast_turn}
+use Rattle.rv_hardware.specs.Hardware.{Hardware}
+use Rattle.rv_hardware.specs.Issue.{oldest}
+use Rattle.rv_hardware.specs.Repeated.{Turn, GoesOn, Ends}
+use Rattle.rv_hardware.proofs.LawsLists.{EveryBehind}
+use Rattle.rv_hardware.proofs.LawsOldest.{Finds, oldest_finds, with_entry-behind, entries_below-behind}
+
+-- the result of an execution that is over
+pub record HasResult (cycle : ℕ) (st : Stage) : Type 0 where
+  pub issue : Issue
+  pub message : Message
+  pub runs : st ≡ Running issue message
+  pub over : issue.cycle + issue.cost ≤ cycle
+  pub result : result_at cycle st ≡ Some message
+
+running_result : (b : Bool) (cycle : ℕ) (issue : Issue) (message : Message) → nat_le (issue.cycle + issue.cost) cycle ≡ b →
+    not (is_none (cond b (Some message) None)) ≡ true → HasResult cycle (Running issue message)
+running_result true cycle issue message is some =
+    record { issue = issue; message = message; runs = refl; over = leb-true (issue.cycle + issue.cost) cycle is; result = rw is refl }
+running_result false cycle issue message is some = absurd (cc)
+
+pub result_cases : (cycle : ℕ) (st : Stage) → not (is_none (result_at cycle st)) ≡ true → HasResult cycle st
+result_cases cycle Waiting some = absurd (cc)
+result_cases cycle (Running issue message) some = running_result (nat_le (issue.cycle + issue.cost) cycle) cycle issue message refl some
+result_cases cycle (Finished issue broadcast message) some = absurd (cc)
+
+-- what a broadcast finds
+pub record Sends (h : Hardware) (older younger : List Entry) (e : Entry) (issue : Issue) (message : Message) : Type 0 where
+  pub place : h.rob.entries ≡ older ++ e ∷ younger
+  pub runs : e.stage ≡ Running issue message
+  pub over : issue.cycle + issue.cost ≤ h.cycle
+  pub oldest_one : EveryBehind (λ before x. has_result h.cycle before x ≡ false) [] older
+
+-- no result is ready, or the oldest is broadcast, and early recovery squashes what is younger
+pub data BroadcastTurn (h : Hardware) : Turn Hardware → Type 0 where
+  none_ready : EveryBehind (λ before x. has_result h.cycle before x ≡ false) [] h.rob.entries → BroadcastTurn h (Ends h)
+  sends : (older younger : List Entry) (e : Entry) (issue : Issue) (message : Message) → Sends h older younger e issue message →
+      (mends_early h.values.recovery && is_mispredicted e message) ≡ false →
+      BroadcastTurn h (GoesOn (with_broadcast (h.rob.retired + length older) message h))
+  mends : (older younger : List Entry) (e : Entry) (issue : Issue) (message : Message) → Sends h older younger e issue message →
+      (mends_early h.values.recovery && is_mispredicted e message) ≡ true →
+      BroadcastTurn h (Ends (with_recovery (h.rob.retired + length older) message (with_broadcast (h.rob.retired + length older) message h)))
+
+entry_turn : (h : Hardware) (older younger : List Entry) (e : Entry) (issue : Issue) (message : Message) → Sends h older younger e issue message →
+    (b : Bool) → (mends_early h.values.recovery && is_mispredicted e message) ≡ b →
+    BroadcastTurn h (cond b (Ends (with_recovery (h.rob.retired + length older) message (with_broadcast (h.rob.retired + length older) message h))) (GoesOn (with_broadcast (h.rob.retired + length older) message h)))
+entry_turn h older younger e issue message is true early = mends older younger e issue message is early
+entry_turn h older younger e issue message is false early = sends older younger e issue message is early
+
+found_turn : (h : Hardware) (found : Option (List Entry × Entry)) → Finds (has_result h.cycle) h.rob.entries found → BroadcastTurn h (broadcast_oldest h found)
+found_turn h None finds = none_ready finds
+found_turn h (Some found) finds =
+    let held = result_cases h.cycle found.1.stage finds.2 in
+    let is : Sends h found.0 finds.0 found.1 held.issue held.message = record { place = finds.1; runs = held.runs; over = held.over; oldest_one = finds.3 } in
+    subst (λ r. BroadcastTurn h (broadcast_result h (h.rob.retired + length found.0) found.1 r)) (sym held.result)
+    (entry_turn h found.0 finds.0 found.1 held.issue held.message is (mends_early h.values.recovery && is_mispredicted found.1 held.message) refl)
+
+pub broadcast_turn_is : (h : Hardware) → BroadcastTurn h (broadcast_turn h)
+broadcast_turn_is h = found_turn h (oldest (has_result h.cycle) h.rob.entries) (oldest_finds (has_result h.cycle) h.rob.entries)
+
+-- the entry that is broadcast is the one that changes
+pub sent_entries : (h : Hardware) (older younger : List Entry) (e : Entry) (message : Message) → h.rob.entries ≡ older ++ e ∷ younger →
+    (with_broadcast (h.rob.retired + length older) message h).rob.entries ≡ older ++ finished message h.cycle e ∷ younger
+sent_entries h older younger e message at =
+    ap (λ es. with_entry (finished message h.cycle) (h.rob.retired + length older) h.rob.retired es) at ∙
+    with_entry-behind (finished message h.cycle) h.rob.retired older younger e
+
+pub mended_entries : (h : Hardware) (older younger : List Entry) (e : Entry) (message : Message) → h.rob.entries ≡ older ++ e ∷ younger →
+    (with_recovery (h.rob.retired + length older) message (with_broadcast (h.rob.retired + length older) message h)).rob.entries ≡
+    older ++ predicting message.next_pc (finished message h.cycle e) ∷ []
+mended_entries h older younger e message at =
+    ap (λ es. entries_below (h.rob.retired + length older + 1) h.rob.retired (with_entry (predicting message.next_pc) (h.rob.retired + length older) h.rob.retired es)) (sent_entries h older younger e message at) ∙
+    ap (entries_below (h.rob.retired + length older + 1) h.rob.retired) (with_entry-behind (predicting message.next_pc) h.rob.retired older younger (finished message h.cycle e)) ∙
+    entries_below-behind h.rob.retired older younger (predicting message.next_pc (finished message h.cycle e))

@@ -1,0 +1,72 @@
+-- What a turn of the dispatch phase does.
+use Rattle.std.proofs.Common.{◌≡◌, ◌+◌, ◌&&◌, Bool, true, false, cond, nat_le, List, [], ◌∷◌, length, Some, None, refl}
+use Rattle.std.specs.List.{list_any}
+use Rattle.rv_front.specs.declared.fetched.Fetched.{Fetched}
+use Rattle.rv_hardware.specs.Dispatch.{Dispatching, has_full_stations, with_dispatched, dispatch_unless, dispatch_turn, dispatch_turn_of}
+use Rattle.rv_hardware.specs.Hardware.{Hardware}
+use Rattle.rv_hardware.specs.InFlight.{is_serialising, is_store}
+use Rattle.rv_hardware.specs.Issue.{kind_of_word}
+use Rattle.rv_hardware.specs.Repeated.{Turn, GoesOn, Ends}
+use Rattle.rv_hardware.specs.Seen.{stores_behind}
+use Rattle.rv_hardware.specs.declared.report.Stall.{Stall}
+use Rattle.rv_hardware.specs.declared.report.Stall.TheVariants as stall
+
+-- the four things that an instruction may wait for
+abbrev pub has_serial : Hardware → Bool
+has_serial h = list_any (λ e. is_serialising e.instruction) h.rob.entries
+
+abbrev pub has_full_buffer : Hardware → Bool
+has_full_buffer h = nat_le h.rob.capacity (length h.rob.entries)
+
+abbrev pub has_full_queue : Hardware → Fetched → Bool
+has_full_queue h f = is_store f.instruction && nat_le h.values.store_queue (length (stores_behind h h.rob.entries))
+
+pub record WaitsForNothing (h : Hardware) (f : Fetched) : Type 0 where
+  pub serial : has_serial h ≡ false
+  pub buffer : has_full_buffer h ≡ false
+  pub stations : has_full_stations h (kind_of_word f.instruction) ≡ false
+  pub queue : has_full_queue h f ≡ false
+
+-- why it waits
+pub data WaitsFor (h : Hardware) (f : Fetched) : Type 0 where
+  for_serial : has_serial h ≡ true → WaitsFor h f
+  for_buffer : has_full_buffer h ≡ true → WaitsFor h f
+  for_station : has_full_stations h (kind_of_word f.instruction) ≡ true → WaitsFor h f
+  for_queue : has_full_queue h f ≡ true → WaitsFor h f
+
+-- the fetch buffer is empty, the oldest word waits, or it is dispatched
+pub data DispatchTurn (d : Dispatching) : Turn Dispatching → Type 0 where
+  buffer_empty : d.hardware.front.entries ≡ [] → DispatchTurn d (Ends (record d { waits_for = Some stall.Fetch }))
+  waits : (f : Fetched) (fs : List Fetched) (reason : Stall) → d.hardware.front.entries ≡ f ∷ fs → WaitsFor d.hardware f →
+      DispatchTurn d (Ends (record d { waits_for = Some reason }))
+  dispatches : (f : Fetched) (fs : List Fetched) → d.hardware.front.entries ≡ f ∷ fs → WaitsForNothing d.hardware f →
+      DispatchTurn d (GoesOn (record d { hardware = with_dispatched f fs d.hardware; dispatched = d.dispatched + 1 }))
+
+module _ (d : Dispatching) (f : Fetched) (fs : List Fetched) (at : d.hardware.front.entries ≡ f ∷ fs) where
+  by_queue : (b : Bool) → has_full_queue d.hardware f ≡ b → has_serial d.hardware ≡ false → has_full_buffer d.hardware ≡ false →
+      has_full_stations d.hardware (kind_of_word f.instruction) ≡ false →
+      DispatchTurn d (dispatch_unless (cond b (Some stall.Store) None) f fs d)
+  by_queue true is s r k = waits f fs stall.Store at (for_queue is)
+  by_queue false is s r k = dispatches f fs at (record { serial = s; buffer = r; stations = k; queue = is })
+
+  by_station : (b : Bool) → has_full_stations d.hardware (kind_of_word f.instruction) ≡ b → has_serial d.hardware ≡ false → has_full_buffer d.hardware ≡ false →
+      DispatchTurn d (dispatch_unless (cond b (Some stall.Station) (cond (has_full_queue d.hardware f) (Some stall.Store) None)) f fs d)
+  by_station true is s r = waits f fs stall.Station at (for_station is)
+  by_station false is s r = by_queue (has_full_queue d.hardware f) refl s r is
+
+  by_buffer : (b : Bool) → has_full_buffer d.hardware ≡ b → has_serial d.hardware ≡ false →
+      DispatchTurn d (dispatch_unless (cond b (Some stall.Rob) (cond (has_full_stations d.hardware (kind_of_word f.instruction)) (Some stall.Station) (cond (has_full_queue d.hardware f) (Some stall.Store) None))) f fs d)
+  by_buffer true is s = waits f fs stall.Rob at (for_buffer is)
+  by_buffer false is s = by_station (has_full_stations d.hardware (kind_of_word f.instruction)) refl s is
+
+  by_serial : (b : Bool) → has_serial d.hardware ≡ b →
+      DispatchTurn d (dispatch_unless (cond b (Some stall.Serial) (cond (has_full_buffer d.hardware) (Some stall.Rob) (cond (has_full_stations d.hardware (kind_of_word f.instruction)) (Some stall.Station) (cond (has_full_queue d.hardware f) (Some stall.Store) None)))) f fs d)
+  by_serial true is = waits f fs stall.Serial at (for_serial is)
+  by_serial false is = by_buffer (has_full_buffer d.hardware) refl is
+
+turn_of : (d : Dispatching) (fs : List Fetched) → d.hardware.front.entries ≡ fs → DispatchTurn d (dispatch_turn_of fs d)
+turn_of d [] at = buffer_empty at
+turn_of d (f ∷ fs) at = by_serial d f fs at (has_serial d.hardware) refl
+
+pub dispatch_turn_is : (d : Dispatching) → DispatchTurn d (dispatch_turn d)
+dispatch_turn_is d = turn_of d d.hardware.front.entries refl

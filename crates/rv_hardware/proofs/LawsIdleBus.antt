@@ -1,0 +1,205 @@
+-- The bus is not idle while a result waits.
+use Rattle.std.proofs.Common.{◌≡◌, ℕ, suc, ◌+◌, ◌≤◌, ◌<◌, ◌==◌, ◌&&◌, count_by, Bool, true, false, cond, nat_le, List, [], ◌∷◌, ◌++◌, map, length, append_assoc, Option, Some, None, IfSome, refl, sym, subst, ap, ◌∙◌, arith, le-leb, eq-eqb}
+use Rattle.rv_isa.specs.declared.values.Values.{Values}
+use Rattle.rv_front.specs.declared.fetched.Fetched.{Fetched}
+use Rattle.rv_rob.specs.Entry.{finished, predicting}
+use Rattle.rv_rob.specs.declared.entry.Entry.{Entry}
+use Rattle.rv_isa.specs.declared.broadcast.Message.{Message}
+use Rattle.rv_isa.specs.declared.issues.Issue.{Issue}
+use Rattle.rv_hardware.specs.Broadcast.{broadcast, broadcast_turn, has_result, with_broadcast}
+use Rattle.rv_hardware.specs.Hardware.{Hardware}
+use Rattle.rv_hardware.specs.Repeated.{Turn}
+use Rattle.rv_hardware.specs.Stamps.{rows_of, passes, EachBehind, is_broadcast_in}
+use Rattle.rv_hardware.specs.declared.step.Execution.{Execution}
+use Rattle.rv_hardware.specs.declared.step.Row.{Row}
+use Rattle.rv_hardware.specs.declared.step.Step.{Step}
+use Rattle.rv_hardware.proofs.LawsAdvance.{IsBefore, IsSentIfReady, Advances, retires, starts, is_sent, enters, IsSent, Kept}
+use Rattle.rv_hardware.proofs.LawsBroadcast.{BroadcastTurn, none_ready as no_result, sends, mends, Sends, broadcast_turn_is, sent_entries, mended_entries}
+use Rattle.rv_hardware.proofs.LawsCounted.{until_not, behind_law, behind_count}
+use Rattle.rv_hardware.proofs.LawsCycle.{Anything, anything_is_kept, History, history_is_legal, history_is_sound, issued_all, sent_all, dispatching}
+use Rattle.rv_hardware.proofs.LawsEvidence.{rows_sent, entries_sent}
+use Rattle.rv_hardware.proofs.LawsLists.{Every, Every-all, Every-place, Every-append, EveryBehind, EveryBehind-all, EveryBehind-left, EveryBehind-append, EveryBehind-moved, EveryBehind-set, EveryBehind-right, Beginning-EveryBehind, count, count-set-grows, count-set-one_more}
+use Rattle.rv_hardware.proofs.LawsPast.{rows_obey}
+use Rattle.rv_hardware.proofs.LawsPhases.{Broadcasts, broadcast_turn_keeps, dispatch_keeps, goes_later, send_is, with_marks}
+use Rattle.rv_hardware.proofs.LawsRow.{SoundRow}
+use Rattle.rv_hardware.proofs.LawsBasics.{and_second}
+use Rattle.rv_hardware.proofs.LawsTurns.{Leads, turns_within}
+use Rattle.rv_hardware.proofs.LawsMarks.{Mark, Start, mark_of_row, mark_of_entry, mark_of_fetched, marks, marks_in, marks_at_entry, as_of, at_end, was_fetched, until, broadcast_of_execution}
+use Rattle.rv_hardware.proofs.LawsWidths.{is_at}
+
+abbrev pub is_sent_in : ℕ → Mark → Bool
+is_sent_in c m = is_at c m.broadcast
+
+-- a result waits at the end of a cycle
+abbrev pub IsReady : ℕ → Option Start → Type 0
+IsReady c None = ⊥
+IsReady c (Some s) = s.cycle + s.cost ≤ c
+
+abbrev pub WaitsForBus : ℕ → Mark → Type 0
+WaitsForBus c m = IsReady c m.start × (m.broadcast ≡ None)
+
+-- where one waits, so many that are older were broadcast in the cycle
+abbrev pub BusyBus : ℕ → ℕ → List Mark → Mark → Type 0
+BusyBus k c before m = WaitsForBus c m → k ≤ count (is_sent_in c) before
+
+-- none of these waits
+ready_is_sent : (now : ℕ) (o : Option Start) (p : Option ℕ) → IfSome o (λ s. s.cycle + s.cost ≤ now → IsBefore (now + 1) p) → IsReady now o → p ≡ None → ⊥
+ready_is_sent now None p h ready none = absurd ready
+ready_is_sent now (Some s) p h ready none = subst (IsBefore (now + 1)) none (h ready)
+
+none_waits_here : (k now : ℕ) (before : List Mark) (m : Mark) → IsSentIfReady now m → BusyBus k now before m
+none_waits_here k now before m sent waits = absurd (ready_is_sent now m.start m.broadcast sent waits.0 waits.1)
+
+pub none_waits : (k now : ℕ) (before xs : List Mark) → Every (IsSentIfReady now) xs → EveryBehind (BusyBus k now) before xs
+none_waits k now before xs h = EveryBehind-all (IsSentIfReady now) (BusyBus k now) (none_waits_here k now) before xs h
+
+pub words_do_not_wait : (now : ℕ) (fs : List Fetched) → Every (IsSentIfReady now) (map mark_of_fetched fs)
+words_do_not_wait now [] = tt
+words_do_not_wait now (f ∷ fs) = (tt, words_do_not_wait now fs)
+
+-- a broadcast of the oldest: one more for what is younger
+pub one_more : (k now : ℕ) (xs ys : List Mark) (m n : Mark) → IsSent now xs m n → EveryBehind (BusyBus k now) [] (xs ++ m ∷ ys) → EveryBehind (BusyBus (suc k) now) [] (xs ++ n ∷ ys)
+one_more k now xs ys m n a h =
+    let sent : n.broadcast ≡ Some now = ap (λ x. x.broadcast) a.becomes in
+    let right = EveryBehind-right (BusyBus k now) [] xs (m ∷ ys) h in
+    EveryBehind-append (BusyBus (suc k) now) [] xs (n ∷ ys) (none_waits (suc k) now [] xs a.oldest) (
+      λ waits. absurd (not_none now (sym sent ∙ waits.1)),
+      EveryBehind-moved (BusyBus k now) (BusyBus (suc k) now) (xs ++ m ∷ []) (xs ++ n ∷ [])
+          (λ mid z busy waits.
+          let grown : count (is_sent_in now) ((xs ++ n ∷ []) ++ mid) ≡ suc (count (is_sent_in now) ((xs ++ m ∷ []) ++ mid)) = rw (append_assoc xs (n ∷ []) mid, append_assoc xs (m ∷ []) mid) (count-set-one_more (is_sent_in now) xs mid m n (ap (is_at now) a.not_yet) (ap (is_at now) sent ∙ eq-eqb now now refl)) in
+          let before = busy waits in
+          omega (arith, grown, before))
+          ys right.1,
+    )
+  where
+    not_none : (now : ℕ) → Some now ≡ None → ⊥
+    not_none now e = absurd (cc)
+
+-- a mark that goes on
+busy_goes_on : (k : ℕ) (v : Values) (now : ℕ) (xs : List Mark) (m n : Mark) → Advances v now xs m n → BusyBus k now xs m → BusyBus k now xs n
+busy_goes_on k v now xs m n (retires a) h waits = h (subst (IsReady now) (ap (λ x. x.start) a.becomes) waits.0, sym (ap (λ x. x.broadcast) a.becomes) ∙ waits.1)
+busy_goes_on k v now xs m n (starts a) h waits = absurd (too_early (subst (IsReady now) (ap (λ x. x.start) a.becomes) waits.0))
+  where
+    too_early : a.start.cycle + a.start.cost ≤ now → ⊥
+    too_early le = omega (arith, le, a.now_is, a.positive)
+busy_goes_on k v now xs m n (is_sent a) h waits = absurd (not_none (sym (ap (λ x. x.broadcast) a.becomes) ∙ waits.1))
+  where
+    not_none : Some now ≡ None → ⊥
+    not_none e = absurd (cc)
+busy_goes_on k v now xs m n (enters a) h waits = h (subst (IsReady now) (ap (λ x. x.start) a.becomes) waits.0, sym (ap (λ x. x.broadcast) a.becomes) ∙ waits.1)
+
+sent_goes_on : (v : Values) (now : ℕ) (xs : List Mark) (m n : Mark) → Advances v now xs m n → is_sent_in now m ≡ true → is_sent_in now n ≡ true
+sent_goes_on v now xs m n (retires a) h = rw (ap (λ x. x.broadcast) a.becomes) h
+sent_goes_on v now xs m n (starts a) h = rw (ap (λ x. x.broadcast) a.becomes) h
+sent_goes_on v now xs m n (is_sent a) h = ap (is_at now) (ap (λ (x : Mark). x.broadcast) a.becomes) ∙ eq-eqb now now refl
+sent_goes_on v now xs m n (enters a) h = rw (ap (λ x. x.broadcast) a.becomes) h
+
+pub busy_is_kept : (k : ℕ) (v : Values) (now : ℕ) → Kept v now (EveryBehind (BusyBus k now) [])
+busy_is_kept k v now = record {
+  cut = λ xs ys h. EveryBehind-left (BusyBus k now) [] xs ys h;
+  set = λ xs ys m n a h. EveryBehind-set (BusyBus k now) xs ys m n (busy_goes_on k v now xs m n a)
+      (λ mid z busy waits. let grown = count-set-grows (is_sent_in now) xs mid m n (sent_goes_on v now xs m n a) in let before = busy waits in omega (arith, grown, before)) h;
+}
+
+-- the broadcast phase
+
+module _ (v : Values) (now total : ℕ) (steps : List Step) where
+  abbrev Bus : ℕ → Hardware → Type 0
+  Bus k h = Broadcasts v now Anything (anything_is_kept v now) steps h × EveryBehind (BusyBus k now) [] (marks_in steps h)
+
+  rows_wait_not : (h : Hardware) → Broadcasts v now Anything (anything_is_kept v now) steps h → Every (IsSentIfReady now) (map mark_of_entry h.rob.entries) → EveryBehind (BusyBus total now) [] (marks_in steps h)
+  rows_wait_not h p es =
+      none_waits total now [] (marks_in steps h)
+      (Every-append (IsSentIfReady now) (map mark_of_row (rows_of steps)) (map mark_of_entry h.rob.entries ++ map mark_of_fetched h.front.entries) (rows_sent v now (rows_of steps) p.basics.rows)
+      (Every-append (IsSentIfReady now) (map mark_of_entry h.rob.entries) (map mark_of_fetched h.front.entries) es (words_do_not_wait now h.front.entries)))
+
+  after_send : (k : ℕ) (h : Hardware) (older younger : List Entry) (e : Entry) (issue : Issue) (message : Message) (sent : Sends h older younger e issue message) → Bus k h →
+      EveryBehind (BusyBus (suc k) now) [] (marks_in steps (with_broadcast (h.rob.retired + length older) message h))
+  after_send k h older younger e issue message sent p =
+      let x : Entry = finished message h.cycle e in
+      let xs : List Mark = map mark_of_row (rows_of steps) ++ map mark_of_entry older in
+      let ys : List Mark = map mark_of_entry younger ++ map mark_of_fetched h.front.entries in
+      rw (sent_entries h older younger e message sent.place, marks_at_entry steps older younger x h.front.entries)
+      (one_more k now xs ys (mark_of_entry e) (mark_of_entry x) (send_is v now Anything (anything_is_kept v now) steps h older younger e issue message sent p.0)
+      (subst (EveryBehind (BusyBus k now) []) (ap (λ es. marks steps es h.front.entries) sent.place ∙ marks_at_entry steps older younger e h.front.entries) p.1))
+
+  bus_leads : (k : ℕ) (h : Hardware) (t : Turn Hardware) → k < total → BroadcastTurn h t → Bus k h → Leads (Broadcasts v now Anything (anything_is_kept v now) steps) (Broadcasts v now Anything (anything_is_kept v now) steps) t →
+      Leads (Bus (suc k)) (λ g. EveryBehind (BusyBus total now) [] (marks_in steps g)) t
+  bus_leads k h _ lt (no_result none) p goes =
+      rows_wait_not h p.0 (entries_sent v now (now + 1) now [] h.rob.entries p.0.basics.entries (subst (λ n. EveryBehind (λ before z. has_result n before z ≡ false) [] h.rob.entries) p.0.basics.cycle none))
+  bus_leads k h _ lt (sends older younger e issue message sent late) p goes = (goes, after_send k h older younger e issue message sent p)
+  bus_leads k h _ lt (mends older younger e issue message sent early) p goes =
+      let x : Entry = finished message h.cycle e in
+      let y : Entry = predicting message.next_pc x in
+      let evidence = send_is v now Anything (anything_is_kept v now) steps h older younger e issue message sent p.0 in
+      let xs : List Mark = map mark_of_row (rows_of steps) ++ map mark_of_entry older in
+      rw (mended_entries h older younger e message sent.place, marks_at_entry steps older [] y [])
+      (EveryBehind-append (BusyBus total now) [] xs (mark_of_entry y ∷ []) (none_waits total now [] xs evidence.oldest)
+      (λ waits. absurd (was_sent (ap (λ (m : Mark). m.broadcast) evidence.becomes) waits.1), tt))
+    where
+      was_sent : (mark_of_entry (finished message h.cycle e)).broadcast ≡ Some now → (mark_of_entry (finished message h.cycle e)).broadcast ≡ None → ⊥
+      was_sent some none = absurd (cc)
+
+  pub bus_is_busy : (h : Hardware) → h.values.bus_width ≡ total → Broadcasts v now Anything (anything_is_kept v now) steps h → EveryBehind (BusyBus total now) [] (marks_in steps (broadcast h))
+  bus_is_busy h width p =
+      turns_within total Bus (λ g. EveryBehind (BusyBus total now) [] (marks_in steps g)) broadcast_turn
+      (λ k g lt q. bus_leads k g (broadcast_turn g) lt (broadcast_turn_is g) q (broadcast_turn_keeps v now Anything (anything_is_kept v now) steps g (broadcast_turn g) (broadcast_turn_is g) q.0))
+      (λ g q. q.1) h.values.bus_width 0 h (omega (arith, width)) (p, EveryBehind-all (λ m. Unit {0}) (BusyBus 0 now) (λ before m u waits. omega arith) [] (marks_in steps h) (Every-all (λ m. Unit {0}) (λ m. tt) (marks_in steps h)))
+
+-- at the end of each cycle, and so of the rows
+
+sent_row : (c : ℕ) (x : Option Execution) → is_at c (until c (broadcast_of_execution x)) ≡ true → passes (λ y. y.broadcast == c) x ≡ true
+sent_row c None h = absurd (cc)
+sent_row c (Some x) h = by_stamp (nat_le x.broadcast c) h
+  where
+    by_stamp : (b : Bool) → is_at c (cond b (Some x.broadcast) None) ≡ true → (x.broadcast == c) ≡ true
+    by_stamp true h' = h'
+    by_stamp false h' = absurd (cc)
+
+busy_marks : (v : Values) {steps : List Step} {h : Hardware} → History v steps h → (c : ℕ) → c < h.cycle → EveryBehind (BusyBus v.bus_width c) [] (as_of c (map mark_of_row (rows_of steps)))
+busy_marks v history =
+    rows_obey v (λ c ms. EveryBehind (BusyBus v.bus_width c) [] ms) (λ c xs ys b h. Beginning-EveryBehind (BusyBus v.bus_width c) xs ys b h)
+    (λ earlier old new lines report before after passed.
+    let all : List Step = earlier ++ report.steps in
+    let legal = history_is_legal v before in
+    let now : ℕ = old.cycle in
+    let h : Hardware = issued_all lines old in
+    let issued = goes_later v now now (now + 1) now now (now + 1) now (now + 1) (now + 1) (now + 1) Anything all h (omega arith) (omega arith) (omega arith) (omega arith) (with_marks v now now (now + 1) now now (now + 1) _ Anything all h tt passed.issues) in
+    let busy = bus_is_busy v now v.bus_width all h (ap (λ (w : Values). w.bus_width) passed.issues.basics.shape.values) issued in
+    let g : Hardware = sent_all lines old in
+    let sent = goes_later v now now (now + 1) (now + 1) now (now + 1) (now + 1) (now + 1) (now + 1) (now + 1) (EveryBehind (BusyBus v.bus_width now) []) all g (omega arith) (omega arith) (omega arith) (omega arith) (with_marks v now now (now + 1) (now + 1) now (now + 1) _ (EveryBehind (BusyBus v.bus_width now) []) all g busy passed.sends) in
+    let dispatched = dispatch_keeps v now (EveryBehind (BusyBus v.bus_width now) []) (busy_is_kept v.bus_width v now) all g sent in
+    rw (passed.new_marks) (EveryBehind-append (BusyBus v.bus_width now) [] (marks_in all (dispatching lines old).hardware) (map mark_of_fetched passed.fetches.added) dispatched.marks
+    (none_waits v.bus_width now (marks_in all (dispatching lines old).hardware) (map mark_of_fetched passed.fetches.added) (words_do_not_wait now passed.fetches.added))))
+    history
+
+bus_by : (v : Values) (c : ℕ) (before : List Row) (row : Row) (o : Option Execution) → row.execution ≡ o → BusyBus v.bus_width c (as_of c (map mark_of_row before)) (at_end c (mark_of_row row)) →
+    IfSome o (λ x. x.issued + x.cost ≤ c → c < x.broadcast → v.bus_width ≤ count_by (is_broadcast_in c) before)
+bus_by v c before row None at busy = tt
+bus_by v c before row (Some x) at busy = λ ready later.
+    let waits : WaitsForBus c (at_end c (mark_of_row row)) = (rw (at, le-leb x.issued c (omega (arith, ready))) ready, ap (λ o. until c (broadcast_of_execution o)) at ∙ until_not c x.broadcast later) in
+    let held = busy waits in
+    let fewer = behind_count (is_sent_in c) (is_broadcast_in c) c before (Every-all (λ a. (was_fetched c (mark_of_row a) && is_sent_in c (at_end c (mark_of_row a))) ≡ true → is_broadcast_in c a ≡ true) (λ a h. sent_row c a.execution (and_second (was_fetched c (mark_of_row a)) (is_sent_in c (at_end c (mark_of_row a))) h)) before) in
+    omega (arith, held, fewer)
+
+in_cycle : (v : Values) (c bound : ℕ) (row : Row) (o : Option Execution) → row.execution ≡ o → SoundRow v bound row → IfSome o (λ x. x.issued + x.cost ≤ c → c < x.broadcast → (row.fetched ≤ c) × (c < bound))
+in_cycle v c bound row None at sound = tt
+in_cycle v c bound row (Some x) at sound = λ ready later.
+    let between = subst (λ q. IfSome q (λ x. (row.dispatched < x.issued) × (x.issued + x.cost ≤ x.broadcast) × (x.broadcast < row.retired))) at sound.stamps.executed_between in
+    (omega (arith, ready, between.0, sound.stamps.dispatched_after_fetch), omega (arith, later, between.2, sound.below))
+
+abbrev BusOf : Values → ℕ → List Row → Row → Type 0
+BusOf v from before row = IfSome row.execution (λ x. (c : ℕ) → from ≤ c → x.issued + x.cost ≤ c → c < x.broadcast → v.bus_width ≤ count_by (is_broadcast_in c) before)
+
+pub law_of_no_idle_bus : (v : Values) {steps : List Step} {h : Hardware} → History v steps h →
+    EachBehind (λ before row. IfSome row.execution (λ x. (c : ℕ) → 0 ≤ c → x.issued + x.cost ≤ c → c < x.broadcast → v.bus_width ≤ count_by (is_broadcast_in c) before)) (rows_of steps)
+law_of_no_idle_bus v {steps} {h} history before after row at = by_execution row.execution refl
+  where
+    sound : SoundRow v h.cycle row
+    sound = Every-place (SoundRow v h.cycle) before after row (subst (Every (SoundRow v h.cycle)) at (history_is_sound v history).rows)
+
+    by_execution : (o : Option Execution) → row.execution ≡ o → IfSome o (λ x. (c : ℕ) → 0 ≤ c → x.issued + x.cost ≤ c → c < x.broadcast → v.bus_width ≤ count_by (is_broadcast_in c) before)
+    by_execution None e = tt
+    by_execution (Some x) e = λ c from ready later.
+        let here = in_cycle v c h.cycle row (Some x) e sound ready later in
+        bus_by v c before row (Some x) e (behind_law (BusyBus v.bus_width c) c (rows_of steps) before after row (busy_marks v history c here.1) at here.0) ready later

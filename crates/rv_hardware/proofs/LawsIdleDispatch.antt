@@ -1,0 +1,267 @@
+-- A fetched instruction that is no store waits for nothing but room and the width.
+use Rattle.std.proofs.Common.{◌≡◌, ℕ, suc, ◌≤◌, ◌<◌, ◌⊎◌, ◌&&◌, ◌||◌, ◌==◌, Bool, true, false, cond, is_some, is_none, nat_le, nat_lt, List, [], ◌∷◌, ◌++◌, map, filter, length, count_by, All, Option, Some, None, inl, inr, refl, sym, subst, ap, ◌∙◌, arith, true≢false, eq-eqb}
+use Rattle.std.proofs.lemmas.Bool.{leb-true, leb-false, lt-ltb}
+use Rattle.std.proofs.lemmas.List.Elements.{All-head, All-tail}
+use Rattle.std.proofs.lemmas.List.Sums.{length-filter}
+use Rattle.std.specs.List.{list_any}
+use Rattle.rv_isa.specs.Description.{kind_values}
+use Rattle.rv_isa.specs.declared.operations.Kind.{Kind}
+use Rattle.rv_isa.specs.declared.values.Values.{Values}
+use Rattle.rv_front.specs.declared.fetched.Fetched.{Fetched}
+use Rattle.rv_rob.specs.declared.entry.Entry.{Entry}
+use Rattle.rv_rob.specs.declared.entry.Stage.{Stage}
+use Rattle.rv_rob.specs.declared.entry.Stage.TheVariants.{Waiting, Running, Finished}
+use Rattle.rv_hardware.specs.Dispatch.{Dispatching, dispatch, dispatch_turn, entry_of_fetched, has_full_stations, is_stationed}
+use Rattle.rv_hardware.specs.Hardware.{Hardware}
+use Rattle.rv_hardware.specs.InFlight.{is_serialising, is_store, is_waiting}
+use Rattle.rv_hardware.specs.Issue.{is_of_kind, kind_of_word}
+use Rattle.rv_hardware.specs.Repeated.{Turn}
+use Rattle.rv_hardware.specs.Stamps.{rows_of, EachBehind, instruction_of_row, passes, is_store_row, is_row_of_kind, is_dispatched_in, is_in_flight_in, is_stationed_in}
+use Rattle.rv_hardware.specs.declared.step.Execution.{Execution}
+use Rattle.rv_hardware.specs.declared.step.Row.{Row}
+use Rattle.rv_hardware.specs.declared.step.Step.{Step}
+use Rattle.rv_hardware.proofs.LawsAdvance.{is_in_flight_mark, is_stationed_mark}
+use Rattle.rv_hardware.proofs.LawsBasics.{and_first, and_second, and_both}
+use Rattle.rv_hardware.proofs.LawsCycle.{History, history_is_sound, sent_all, dispatching}
+use Rattle.rv_hardware.proofs.LawsCounted.{behind_law, behind_count, until_by, until_not}
+use Rattle.rv_hardware.proofs.LawsDispatch.{DispatchTurn, buffer_empty, waits, dispatches, dispatch_turn_is, WaitsFor, for_serial, for_buffer, for_station, for_queue}
+use Rattle.rv_hardware.proofs.LawsFetch.{IsNew}
+use Rattle.rv_hardware.proofs.LawsLists.{Every, EachBehind-EveryBehind, Every-all, Every-filter, Every-left, Every-right, Every-map, Every-place, Every-weaker, EveryBehind, EveryBehind-all, EveryBehind-append, Beginning-EveryBehind, count, count-append, count-le, count-map, count-count_by, count-yes}
+use Rattle.rv_hardware.proofs.LawsMarks.{Mark, Start, mark_of_row, mark_of_entry, mark_of_fetched, at_end, as_of, was_fetched, until, start_until, start_of_stage, start_of_execution}
+use Rattle.rv_hardware.proofs.LawsPairs.{Older, rows_are_older}
+use Rattle.rv_hardware.proofs.LawsPast.{rows_obey}
+use Rattle.rv_hardware.proofs.LawsRow.{SoundRow}
+use Rattle.rv_hardware.proofs.LawsShape.{HasShape}
+use Rattle.rv_hardware.proofs.LawsSound.{is_of_kind_is, kind_is_asked}
+use Rattle.rv_hardware.proofs.LawsTurns.{Leads, turns_within}
+use Rattle.rv_hardware.proofs.LawsWidths.{is_at}
+
+-- a word that could have been dispatched in a cycle: it is the oldest that was not, and no serialising instruction is in flight
+pub record MayEnter (c : ℕ) (before : List Mark) (m : Mark) : Type 0 where
+  pub fetched : m.fetched < c
+  pub not_yet : m.dispatched ≡ None
+  pub plain : is_store m.instruction ≡ false
+  pub olders : Every (λ x. is_some x.dispatched ≡ true) before
+  pub serial : Every (λ x. is_serialising x.instruction ≡ true → is_some x.retired ≡ true) before
+
+-- the width or a room was used up
+abbrev pub NoRoom : Values → ℕ → List Mark → Mark → Type 0
+NoRoom v c before m =
+    (v.dispatch_width ≤ count (λ x. is_at c x.dispatched) before) ⊎ (v.rob ≤ count is_in_flight_mark before) ⊎
+    ((k : Kind) × (is_of_kind k (kind_of_word m.instruction) ≡ true) × ((kind_values v k).stations ≤ count (is_stationed_mark k) before))
+
+abbrev pub EntersSoon : Values → ℕ → List Mark → Mark → Type 0
+EntersSoon v c before m = MayEnter c before m → NoRoom v c before m
+
+-- what the dispatch phase leaves
+module _ (v : Values) (now : ℕ) where
+  abbrev dispatched_now : Entry → Bool
+  dispatched_now e = e.dispatched == now
+
+  abbrev Left : Dispatching → Type 0
+  Left d = (f : Fetched) (fs : List Fetched) → d.hardware.front.entries ≡ f ∷ fs → (v.dispatch_width ≤ count dispatched_now d.hardware.rob.entries) ⊎ WaitsFor d.hardware f
+
+  abbrev Entering : ℕ → Dispatching → Type 0
+  Entering k d = (d.hardware.cycle ≡ now) × (k ≤ count dispatched_now d.hardware.rob.entries)
+
+  same_head : (f g : Fetched) (fs gs : List Fetched) → f ∷ fs ≡ g ∷ gs → f ≡ g
+  same_head f g fs gs e = cc
+
+  left_leads : (k : ℕ) (d : Dispatching) (t : Turn Dispatching) → DispatchTurn d t → Entering k d → Leads (Entering (suc k)) Left t
+  left_leads k d _ (buffer_empty none) p = λ f fs at. absurd (let no_more = sym none ∙ at in cc)
+  left_leads k d _ (waits f fs reason at why) p = λ g gs at'. inr (subst (WaitsFor d.hardware) (same_head f g fs gs (sym at ∙ at')) why)
+  left_leads k d _ (dispatches f fs at nothing) p =
+      let all = count-append dispatched_now d.hardware.rob.entries (entry_of_fetched d.hardware f ∷ []) in
+      let one = count-yes dispatched_now (entry_of_fetched d.hardware f) [] (eq-eqb d.hardware.cycle now p.0) in
+      (p.0, omega (arith, all, one, p.1))
+
+  pub dispatch_leaves : (h : Hardware) → h.values.dispatch_width ≡ v.dispatch_width → h.cycle ≡ now → Left (dispatch h)
+  dispatch_leaves h width cycle =
+      turns_within v.dispatch_width Entering Left dispatch_turn (λ k d lt p. left_leads k d (dispatch_turn d) (dispatch_turn_is d) p) (λ d p f fs at. inl p.1)
+      h.values.dispatch_width 0 (record { hardware = h; dispatched = 0; waits_for = None }) (omega (arith, width)) (cycle, omega arith)
+
+-- entries as marks
+
+in_flight_entries : (es : List Entry) → count is_in_flight_mark (map mark_of_entry es) ≡ length es
+in_flight_entries [] = refl
+in_flight_entries (e ∷ es) = ap suc (in_flight_entries es)
+
+stationed_mark : (k : Kind) (i : Bool) (st : Stage) → (is_waiting st && i) ≡ true → (i && (true && is_none (start_of_stage st))) ≡ true
+stationed_mark k i Waiting h = and_both i true h refl
+stationed_mark k i (Running issue message) h = absurd (cc)
+stationed_mark k i (Finished issue cycle message) h = absurd (cc)
+
+stationed_entries : (k : Kind) (es : List Entry) → length (filter (is_stationed k) es) ≤ count (is_stationed_mark k) (map mark_of_entry es)
+stationed_entries k es =
+    let same = length-filter (is_stationed k) es ∙ sym (count-count_by (is_stationed k) es) in
+    let all = count-map (is_stationed_mark k) mark_of_entry es in
+    let some = count-le (is_stationed k) (λ e. is_stationed_mark k (mark_of_entry e)) es (Every-all (λ e. is_stationed k e ≡ true → is_stationed_mark k (mark_of_entry e) ≡ true) (λ e h. stationed_mark k (is_of_kind k (kind_of_word e.instruction)) e.stage h) es) in
+    omega (arith, same, all, some)
+
+serial_by : (b : Bool) (rest : Bool) (r : Bool) → (b ≡ true → false ≡ true) → (rest ≡ true → ⊥) → (b || rest) ≡ true → ⊥
+serial_by true rest r first others any = absurd (true≢false (sym (first refl)))
+serial_by false rest r first others any = others any
+
+no_serial : (es : List Entry) → Every (λ x. is_serialising x.instruction ≡ true → is_some x.retired ≡ true) (map mark_of_entry es) → list_any (λ e. is_serialising e.instruction) es ≡ true → ⊥
+no_serial [] h any = absurd (cc)
+no_serial (e ∷ es) h any = serial_by (is_serialising e.instruction) (list_any (λ x. is_serialising x.instruction) es) true h.0 (λ rest. no_serial es h.1 rest) any
+
+module _ (v : Values) (now : ℕ) (rows : List Row) (h : Hardware) (shape : HasShape v h) (f : Fetched) where
+  abbrev olders_of : List Mark
+  olders_of = map mark_of_row rows ++ map mark_of_entry h.rob.entries
+
+  at_least : (p : Mark → Bool) → count p (map mark_of_entry h.rob.entries) ≤ count p olders_of
+  at_least p = let all = count-append p (map mark_of_row rows) (map mark_of_entry h.rob.entries) in omega (arith, all)
+
+  by_station : (o : Option Kind) → kind_of_word f.instruction ≡ o → has_full_stations h o ≡ true → NoRoom v now olders_of (mark_of_fetched f)
+  by_station None is full = absurd (cc)
+  by_station (Some k) is full =
+      let held = leb-true (kind_values h.values k).stations (length (filter (is_stationed k) h.rob.entries)) full in
+      let same = ap (λ (w : Values). (kind_values w k).stations) shape.values in
+      let some = stationed_entries k h.rob.entries in
+      let all = at_least (is_stationed_mark k) in
+      inr (inr (k, ap (is_of_kind k) is ∙ kind_is_asked k, omega (arith, held, same, some, all)))
+
+  by_reason : MayEnter now olders_of (mark_of_fetched f) → WaitsFor h f → NoRoom v now olders_of (mark_of_fetched f)
+  by_reason may (for_serial is) = absurd (no_serial h.rob.entries (Every-right (λ x. is_serialising x.instruction ≡ true → is_some x.retired ≡ true) (map mark_of_row rows) (map mark_of_entry h.rob.entries) may.serial) is)
+  by_reason may (for_buffer is) =
+      let full = leb-true h.rob.capacity (length h.rob.entries) is in
+      let some = in_flight_entries h.rob.entries in
+      let all = at_least is_in_flight_mark in
+      inr (inl (omega (arith, full, some, all, shape.buffer)))
+  by_reason may (for_station is) = by_station (kind_of_word f.instruction) refl is
+  by_reason may (for_queue is) = absurd (true≢false (sym (and_first (is_store f.instruction) _ is) ∙ may.plain))
+
+  pub head_waits : (v.dispatch_width ≤ count (dispatched_now v now) h.rob.entries) ⊎ WaitsFor h f → EntersSoon v now olders_of (mark_of_fetched f)
+  head_waits (inl wide) may =
+      let some = count-map (λ x. is_at now x.dispatched) mark_of_entry h.rob.entries in
+      let all = at_least (λ x. is_at now x.dispatched) in
+      inl (omega (arith, wide, some, all))
+  head_waits (inr why) may = by_reason may why
+
+was_dispatched : {P : Type 0} (m : Mark) → is_some m.dispatched ≡ true → m.dispatched ≡ None → P
+was_dispatched m is none = absurd (true≢false (sym is ∙ ap is_some none))
+
+-- behind a word that was not dispatched none may enter
+none_behind : (v : Values) (now : ℕ) (pre xs : List Mark) → (Every (λ x. is_some x.dispatched ≡ true) pre → ⊥) → EveryBehind (EntersSoon v now) pre xs
+none_behind v now pre [] no_more = tt
+none_behind v now pre (x ∷ xs) no_more = ((λ may. absurd (no_more may.olders)), none_behind v now (pre ++ x ∷ []) xs (λ all. no_more (Every-left (λ z. is_some z.dispatched ≡ true) pre (x ∷ []) all)))
+
+words_wait : (v : Values) (now : ℕ) (rows : List Row) (h : Hardware) (shape : HasShape v h) (fs : List Fetched) → h.front.entries ≡ fs →
+    ((f : Fetched) (gs : List Fetched) → h.front.entries ≡ f ∷ gs → (v.dispatch_width ≤ count (dispatched_now v now) h.rob.entries) ⊎ WaitsFor h f) →
+    EveryBehind (EntersSoon v now) (map mark_of_row rows ++ map mark_of_entry h.rob.entries) (map mark_of_fetched fs)
+words_wait v now rows h shape [] at left = tt
+words_wait v now rows h shape (f ∷ fs) at left = (
+  head_waits v now rows h shape f (left f fs at),
+  none_behind v now ((map mark_of_row rows ++ map mark_of_entry h.rob.entries) ++ mark_of_fetched f ∷ []) (map mark_of_fetched fs)
+      (λ all. was_dispatched (mark_of_fetched f) (Every-place (λ x. is_some x.dispatched ≡ true) (map mark_of_row rows ++ map mark_of_entry h.rob.entries) [] (mark_of_fetched f) all) refl),
+)
+
+dispatched_ones : (v : Values) (now : ℕ) (before xs : List Mark) → Every (λ x. is_some x.dispatched ≡ true) xs → EveryBehind (EntersSoon v now) before xs
+dispatched_ones v now before xs h = EveryBehind-all (λ x. is_some x.dispatched ≡ true) (EntersSoon v now) (λ b x is may. was_dispatched x is may.not_yet) before xs h
+
+rows_dispatched : (rows : List Row) → Every (λ x. is_some x.dispatched ≡ true) (map mark_of_row rows)
+rows_dispatched [] = tt
+rows_dispatched (row ∷ rows) = (refl, rows_dispatched rows)
+
+entries_dispatched : (es : List Entry) → Every (λ x. is_some x.dispatched ≡ true) (map mark_of_entry es)
+entries_dispatched [] = tt
+entries_dispatched (e ∷ es) = (refl, entries_dispatched es)
+
+soon_marks : (v : Values) {steps : List Step} {h : Hardware} → History v steps h → (c : ℕ) → c < h.cycle → EveryBehind (EntersSoon v c) [] (as_of c (map mark_of_row (rows_of steps)))
+soon_marks v history =
+    rows_obey v (λ c ms. EveryBehind (EntersSoon v c) [] ms) (λ c xs ys b h. Beginning-EveryBehind (EntersSoon v c) xs ys b h)
+    (λ earlier old new lines report before after passed.
+    let all : List Step = earlier ++ report.steps in
+    let now : ℕ = old.cycle in
+    let d : Hardware = (dispatching lines old).hardware in
+    let left = dispatch_leaves v now (sent_all lines old) (ap (λ (w : Values). w.dispatch_width) passed.sends.basics.shape.values) passed.sends.basics.cycle in
+    let rows : List Mark = map mark_of_row (rows_of all) in
+    let es : List Mark = map mark_of_entry d.rob.entries in
+    let fs : List Mark = map mark_of_fetched d.front.entries in
+    rw (passed.new_marks) (EveryBehind-append (EntersSoon v now) [] (rows ++ (es ++ fs)) (map mark_of_fetched passed.fetches.added)
+    (EveryBehind-append (EntersSoon v now) [] rows (es ++ fs) (dispatched_ones v now [] rows (rows_dispatched (rows_of all)))
+    (EveryBehind-append (EntersSoon v now) rows es fs (dispatched_ones v now rows es (entries_dispatched d.rob.entries)) (words_wait v now (rows_of all) d passed.dispatches.basics.shape d.front.entries refl left)))
+    (EveryBehind-all (λ m. now ≤ m.fetched) (EntersSoon v now) (λ b x le may. absurd (too_new now x le may.fetched)) (rows ++ (es ++ fs)) (map mark_of_fetched passed.fetches.added)
+    (Every-map (λ m. now ≤ m.fetched) mark_of_fetched passed.fetches.added (Every-weaker (IsNew now) (λ f. now ≤ f.cycle) (λ f w. omega (arith, w.0)) passed.fetches.added passed.fetches.are_new)))))
+    history
+  where
+    too_new : (now : ℕ) (x : Mark) → now ≤ x.fetched → x.fetched < now → ⊥
+    too_new now x le lt = omega arith
+
+-- so of the rows
+
+pub Every-All : {X : Type 0} (P : X → Type 0) (xs : List X) → All P xs → Every P xs
+Every-All P [] h = tt
+Every-All P (x ∷ xs) h = (All-head P x xs h, Every-All P xs (All-tail P x xs h))
+
+pub as_of_rows : (P : Mark → Type 0) (c : ℕ) (rows : List Row) → Every (λ row. P (at_end c (mark_of_row row))) rows → Every P (as_of c (map mark_of_row rows))
+as_of_rows P c rows h =
+    Every-map P (at_end c) (filter (was_fetched c) (map mark_of_row rows))
+    (Every-filter (λ m. P (at_end c m)) (was_fetched c) (map mark_of_row rows) (Every-map (λ m. P (at_end c m)) mark_of_row rows h))
+
+dispatched_row : (c d : ℕ) (b : Bool) → nat_le d c ≡ b → is_at c (cond b (Some d) None) ≡ true → (d == c) ≡ true
+dispatched_row c d true is h = h
+dispatched_row c d false is h = absurd (cc)
+
+some_until : (c d : ℕ) (b : Bool) → nat_le d c ≡ b → is_some (cond b (Some d) None) ≡ true → nat_le d c ≡ true
+some_until c d true is h = is
+some_until c d false is h = absurd (cc)
+
+none_until : (c d : ℕ) (b : Bool) → nat_le d c ≡ b → is_none (cond b (Some d) None) ≡ true → nat_lt c d ≡ true
+none_until c d true is h = absurd (cc)
+none_until c d false is h = lt-ltb c d (leb-false d c is)
+
+flight_row : (c : ℕ) (row : Row) → is_in_flight_mark (at_end c (mark_of_row row)) ≡ true → is_in_flight_in c row ≡ true
+flight_row c row h =
+    let two = and_first (is_some (until c (Some row.dispatched))) (is_none (until c (Some row.retired))) h in
+    let one = and_second (is_some (until c (Some row.dispatched))) (is_none (until c (Some row.retired))) h in
+    and_both (nat_le row.dispatched c) (nat_lt c row.retired) (some_until c row.dispatched (nat_le row.dispatched c) refl two) (none_until c row.retired (nat_le row.retired c) refl one)
+
+started_row : (c : ℕ) (x : Option Execution) → is_some x ≡ true → is_none (start_until c (start_of_execution x)) ≡ true → passes (λ y. nat_lt c y.issued) x ≡ true
+started_row c None some h = absurd (cc)
+started_row c (Some x) some h = by_stamp (nat_le x.issued c) refl h
+  where
+    by_stamp : (b : Bool) → nat_le x.issued c ≡ b → is_none {T = Start} (cond b (Some (record { cycle = x.issued; cost = x.cost; faults = false })) None) ≡ true → nat_lt c x.issued ≡ true
+    by_stamp true is h' = absurd (cc)
+    by_stamp false is h' = lt-ltb c x.issued (leb-false x.issued c is)
+
+some_kind : (k : Kind) (o : Option Kind) → is_of_kind k o ≡ true → is_some o ≡ true
+some_kind k None h = absurd (let none = is_of_kind_is k None h in cc)
+some_kind k (Some j) h = refl
+
+station_row : (v : Values) (bound c : ℕ) (k : Kind) (row : Row) → SoundRow v bound row → is_stationed_mark k (at_end c (mark_of_row row)) ≡ true → is_stationed_in k c row ≡ true
+station_row v bound c k row sound h =
+    let kind = and_first (is_row_of_kind k row) (is_some (until c (Some row.dispatched)) && is_none (start_until c (start_of_execution row.execution))) h in
+    let both = and_second (is_row_of_kind k row) (is_some (until c (Some row.dispatched)) && is_none (start_until c (start_of_execution row.execution))) h in
+    let held = some_until c row.dispatched (nat_le row.dispatched c) refl (and_first (is_some (until c (Some row.dispatched))) (is_none (start_until c (start_of_execution row.execution))) both) in
+    let later = started_row c row.execution (sound.stamps.executed_by_a_unit ∙ some_kind k _ kind) (and_second (is_some (until c (Some row.dispatched))) (is_none (start_until c (start_of_execution row.execution))) both) in
+    and_both (is_row_of_kind k row && nat_le row.dispatched c) (passes (λ y. nat_lt c y.issued) row.execution) (and_both (is_row_of_kind k row) (nat_le row.dispatched c) kind held) later
+
+module _ (v : Values) (bound c : ℕ) (before : List Row) (row : Row) (older : Every (Older v bound row) before) (row_sound : SoundRow v bound row) where
+  fewer : (p : Mark → Bool) (q : Row → Bool) → ((a : Row) → SoundRow v bound a → p (at_end c (mark_of_row a)) ≡ true → q a ≡ true) → count p (as_of c (map mark_of_row before)) ≤ count_by q before
+  fewer p q f = behind_count p q c before (Every-weaker (Older v bound row) (λ a. (was_fetched c (mark_of_row a) && p (at_end c (mark_of_row a))) ≡ true → q a ≡ true) (λ a o h. f a o.sound (and_second (was_fetched c (mark_of_row a)) (p (at_end c (mark_of_row a))) h)) before older)
+
+  room_of_rows : NoRoom v c (as_of c (map mark_of_row before)) (at_end c (mark_of_row row)) →
+      (v.dispatch_width ≤ count_by (is_dispatched_in c) before) ⊎ (v.rob ≤ count_by (is_in_flight_in c) before) ⊎ ((kind : Kind) × (is_row_of_kind kind row ≡ true) × ((kind_values v kind).stations ≤ count_by (is_stationed_in kind c) before))
+  room_of_rows (inl wide) = let less = fewer (λ x. is_at c x.dispatched) (is_dispatched_in c) (λ a s h. dispatched_row c a.dispatched (nat_le a.dispatched c) refl h) in inl (omega (arith, wide, less))
+  room_of_rows (inr (inl full)) = let less = fewer is_in_flight_mark (is_in_flight_in c) (λ a s h. flight_row c a h) in inr (inl (omega (arith, full, less)))
+  room_of_rows (inr (inr full)) = let less = fewer (is_stationed_mark full.0) (is_stationed_in full.0 c) (λ a s h. station_row v bound c full.0 a s h) in inr (inr (full.0, full.1, omega (arith, full.2, less)))
+
+  may_enter : is_store_row row ≡ false → row.fetched < c → c < row.dispatched → Every (λ a. a.dispatched ≤ c) before → MayEnter c (as_of c (map mark_of_row before)) (at_end c (mark_of_row row))
+  may_enter plain after later all = record {
+    fetched = after;
+    not_yet = until_not c row.dispatched later;
+    plain = plain;
+    olders = as_of_rows (λ x. is_some x.dispatched ≡ true) c before (Every-weaker (λ a. a.dispatched ≤ c) (λ a. is_some (until c (Some a.dispatched)) ≡ true) (λ a le. ap is_some (until_by c a.dispatched le)) before all);
+    serial = as_of_rows (λ x. is_serialising x.instruction ≡ true → is_some x.retired ≡ true) c before (Every-weaker (Older v bound row) (λ a. is_serialising (instruction_of_row a) ≡ true → is_some (until c (Some a.retired)) ≡ true)
+        (λ a o is. let late = o.serial is in ap is_some (until_by c a.retired (omega (arith, late, after)))) before older);
+  }
+
+pub law_of_no_idle_dispatch : (v : Values) {steps : List Step} {h : Hardware} → History v steps h →
+    EachBehind (λ before row. is_store_row row ≡ false → (c : ℕ) → 0 ≤ c → row.fetched < c → c < row.dispatched → All (λ earlier. earlier.dispatched ≤ c) before → (v.dispatch_width ≤ count_by (is_dispatched_in c) before) ⊎ (v.rob ≤ count_by (is_in_flight_in c) before) ⊎ ((kind : Kind) × (is_row_of_kind kind row ≡ true) × ((kind_values v kind).stations ≤ count_by (is_stationed_in kind c) before))) (rows_of steps)
+law_of_no_idle_dispatch v {steps} {h} history before after row at plain c from fetched later all =
+    let sound : SoundRow v h.cycle row = Every-place (SoundRow v h.cycle) before after row (subst (Every (SoundRow v h.cycle)) at (history_is_sound v history).rows) in
+    let older = EachBehind-EveryBehind (λ b r. Every (Older v h.cycle r) b) (rows_of steps) (rows_are_older v history) before after row at in
+    let soon = behind_law (EntersSoon v c) c (rows_of steps) before after row (soon_marks v history c (omega (arith, later, sound.stamps.retired_after_dispatch, sound.below))) at (omega (arith, fetched)) in
+    room_of_rows v h.cycle c before row older sound (soon (may_enter v h.cycle c before row older sound plain fetched later (Every-All (λ a. a.dispatched ≤ c) before all)))

@@ -1,0 +1,125 @@
+-- The law that no pipelined unit is idle, of the rows.
+use Rattle.std.proofs.Common.{◌≡◌, ℕ, ◌+◌, ◌≤◌, ◌<◌, ◌&&◌, ◌==◌, Bool, true, false, cond, is_some, nat_le, List, [], ◌∷◌, map, count_by, Option, Some, None, IfSome, option_map, refl, sym, subst, ap, ◌∙◌, arith, le-leb}
+use Rattle.rv_isa.specs.Description.{kind_values}
+use Rattle.rv_isa.specs.declared.operations.Kind.{Kind}
+use Rattle.rv_isa.specs.declared.values.Values.{Values}
+use Rattle.rv_hardware.specs.Hardware.{Hardware}
+use Rattle.rv_hardware.specs.InFlight.{is_serialising}
+use Rattle.rv_hardware.specs.Issue.{kind_of_word}
+use Rattle.rv_hardware.specs.Laws.{HasOperandsIn}
+use Rattle.rv_hardware.specs.Stamps.{rows_of, EachBehind, last_from, last_that, instruction_of_row, is_load_row, is_row_of_kind, passes, producer_among, sources_of_row, writes_register, is_issued_in}
+use Rattle.rv_hardware.specs.declared.step.Execution.{Execution}
+use Rattle.rv_hardware.specs.declared.step.Row.{Row}
+use Rattle.rv_hardware.specs.declared.step.Step.{Step}
+use Rattle.rv_hardware.proofs.LawsAdvance.{IsBefore, writes_mark, IsKnownMark, OperandsKnown}
+use Rattle.rv_hardware.proofs.LawsBasics.{and_first, and_second, and_both}
+use Rattle.rv_hardware.proofs.LawsCounted.{behind_law, behind_count, until_by}
+use Rattle.rv_hardware.proofs.LawsCycle.{History, history_is_sound}
+use Rattle.rv_hardware.proofs.LawsIdleDispatch.{Every-All, as_of_rows}
+use Rattle.rv_hardware.proofs.LawsIdleUnit.{MayStart, BusyUnits}
+use Rattle.rv_hardware.proofs.LawsIdleUnitPhases.{units_are_busy}
+use Rattle.rv_hardware.proofs.LawsLists.{Every, Every-place, Every-weaker, EveryBehind, EachBehind-EveryBehind, EveryBehind-EveryPair, Beginning-EveryBehind}
+use Rattle.rv_hardware.proofs.LawsMarks.{Mark, mark_of_row, as_of, as_of-cons, at_end, was_fetched, until, start_until, start_until_now, start_of_execution, broadcast_of_execution}
+use Rattle.rv_hardware.proofs.LawsOrder.{history_is_orderly}
+use Rattle.rv_hardware.proofs.LawsPairs.{Older, rows_are_older}
+use Rattle.rv_hardware.proofs.LawsPast.{rows_obey}
+use Rattle.rv_hardware.proofs.LawsRooms.{row_pairs}
+use Rattle.rv_hardware.proofs.LawsRow.{SoundRow}
+use Rattle.rv_hardware.proofs.LawsUnitRows.{starts_at, begins_mark}
+
+busy_rows : (v : Values) (k : Kind) → (kind_values v k).pipelined ≡ true → {steps : List Step} {h : Hardware} → History v steps h → (c : ℕ) → c < h.cycle → EveryBehind (BusyUnits k (kind_values v k).units c) [] (as_of c (map mark_of_row (rows_of steps)))
+busy_rows v k line history =
+    rows_obey v (λ c ms. EveryBehind (BusyUnits k (kind_values v k).units c) [] ms) (λ c xs ys b h. Beginning-EveryBehind (BusyUnits k (kind_values v k).units c) xs ys b h)
+    (λ earlier old new lines report before after passed. units_are_busy v k line earlier lines old new report _ before passed) history
+
+-- rows that were all fetched
+all_fetched : (c : ℕ) (rows : List Row) → Every (λ a. a.fetched ≤ c) rows → as_of c (map mark_of_row rows) ≡ map (λ a. at_end c (mark_of_row a)) rows
+all_fetched c [] h = refl
+all_fetched c (row ∷ rows) h =
+    as_of-cons c (mark_of_row row) (map mark_of_row rows) ∙ ap (λ b. cond b (at_end c (mark_of_row row) ∷ as_of c (map mark_of_row rows)) (as_of c (map mark_of_row rows))) (le-leb row.fetched c h.0) ∙
+    ap (λ l. at_end c (mark_of_row row) ∷ l) (all_fetched c rows h.1)
+
+module _ (c : ℕ) where
+  abbrev ended_row : Row → Mark
+  ended_row a = at_end c (mark_of_row a)
+
+  either : (b : Bool) (row : Row) (o : Option Row) → option_map ended_row (cond b (Some row) o) ≡ cond b (Some (ended_row row)) (option_map ended_row o)
+  either true row o = refl
+  either false row o = refl
+
+  last_of : (register : ℕ) (o : Option Row) (rows : List Row) → last_from (option_map ended_row o) (writes_mark register) (map ended_row rows) ≡ option_map ended_row (last_from o (writes_register register) rows)
+  last_of register o [] = refl
+  last_of register o (row ∷ rows) =
+      ap (λ q. last_from q (writes_mark register) (map ended_row rows)) (sym (either (writes_register register row) row o)) ∙
+      last_of register (cond (writes_register register row) (Some row) o) rows
+
+  known_by : (x : Option Execution) (some : Bool) → is_some x ≡ some → IfSome x (λ y. y.broadcast < c) → some ≡ true → IsBefore c (until c (broadcast_of_execution x))
+  known_by None some same h is = absurd (cc)
+  known_by (Some x) some same h is = rw (until_by c x.broadcast (omega (arith, h))) h
+
+  module _ (v : Values) (bound : ℕ) (before : List Row) (row : Row) (older : Every (Older v bound row) before) where
+    found_known : (o : Option Row) → IfSome o (SoundRow v bound) → IfSome o (λ p. IfSome p.execution (λ y. y.broadcast < c)) → IfSome (option_map ended_row o) (IsKnownMark c)
+    found_known None s h = tt
+    found_known (Some p) s h = λ some. known_by p.execution (is_some (kind_of_word (instruction_of_row p))) s.stamps.executed_by_a_unit h some
+
+    found_sound : (o : Option Row) (test : Row → Bool) (rows : List Row) → IfSome o (SoundRow v bound) → Every (SoundRow v bound) rows → IfSome (last_from o test rows) (SoundRow v bound)
+    found_sound o test [] h sound = h
+    found_sound o test (r ∷ rows) h sound = found_sound (cond (test r) (Some r) o) test rows (pick (test r) h) sound.1
+      where
+        pick : (b : Bool) → IfSome o (SoundRow v bound) → IfSome (cond b (Some r) o) (SoundRow v bound)
+        pick true k = sound.0
+        pick false k = k
+
+    sources_known : (sources : List (Option ℕ)) → Every (λ source. IfSome (producer_among before source) (λ p. IfSome p.execution (λ y. y.broadcast < c))) sources → OperandsKnown c (map ended_row before) sources
+    sources_known [] h = tt
+    sources_known (None ∷ sources) h = (tt, sources_known sources h.1)
+    sources_known (Some register ∷ sources) h = (
+      rw (last_of register None before) (found_known (last_that (writes_register register) before) (found_sound None (writes_register register) before tt (Every-weaker (Older v bound row) (SoundRow v bound) (λ a o. o.sound) before older)) h.0),
+      sources_known sources h.1,
+    )
+
+begun_at : (c : ℕ) (x : Option Execution) → starts_at c (start_until c (start_of_execution x)) ≡ true → passes (λ y. y.issued == c) x ≡ true
+begun_at c None h = absurd (cc)
+begun_at c (Some x) h = by_stamp (nat_le x.issued c) h
+  where
+    by_stamp : (b : Bool) → starts_at c (cond b (Some (record { cycle = x.issued; cost = x.cost; faults = false })) None) ≡ true → (x.issued == c) ≡ true
+    by_stamp true h' = h'
+    by_stamp false h' = absurd (cc)
+
+pub law_of_no_idle_unit : (v : Values) {steps : List Step} {h : Hardware} → History v steps h → (kind : Kind) → (kind_values v kind).pipelined ≡ true →
+    EachBehind (λ before row. is_row_of_kind kind row ≡ true → is_load_row row ≡ false → IfSome row.execution (λ x. (c : ℕ) → 0 ≤ c → row.dispatched < c → c < x.issued → HasOperandsIn c before row → (kind_values v kind).units ≤ count_by (is_issued_in kind c) before)) (rows_of steps)
+law_of_no_idle_unit v {steps} {h} history k line before after row at kind plain = by_execution row.execution refl
+  where
+    sound : SoundRow v h.cycle row
+    sound = Every-place (SoundRow v h.cycle) before after row (subst (Every (SoundRow v h.cycle)) at (history_is_sound v history).rows)
+
+    older : Every (Older v h.cycle row) before
+    older = EachBehind-EveryBehind (λ b r. Every (Older v h.cycle r) b) (rows_of steps) (rows_are_older v history) before after row at
+
+    in_order : Every (λ a. a.fetched ≤ row.fetched) before
+    in_order = EachBehind-EveryBehind (λ b r. Every (λ a. a.fetched ≤ r.fetched) b) (rows_of steps) (EveryBehind-EveryPair (λ a b. a.fetched ≤ b.fetched) [] (rows_of steps) tt (row_pairs (λ m n. m.fetched ≤ n.fetched) (λ a b. a.fetched ≤ b.fetched) (λ a b le. le) steps h (history_is_orderly v history).fetched)) before after row at
+
+    by_execution : (o : Option Execution) → row.execution ≡ o → IfSome o (λ x. (c : ℕ) → 0 ≤ c → row.dispatched < c → c < x.issued → HasOperandsIn c before row → (kind_values v k).units ≤ count_by (is_issued_in k c) before)
+    by_execution None e = tt
+    by_execution (Some x) e = λ c from dispatched later operands.
+        let between = subst (λ o. IfSome o (λ x. (row.dispatched < x.issued) × (x.issued + x.cost ≤ x.broadcast) × (x.broadcast < row.retired))) e sound.stamps.executed_between in
+        let fetched : row.fetched ≤ c = omega (arith, dispatched, sound.stamps.dispatched_after_fetch) in
+        let all = Every-weaker (λ a. a.fetched ≤ row.fetched) (λ a. a.fetched ≤ c) (λ a le. omega (arith, le, fetched)) before in_order in
+        let may : MayStart k c (as_of c (map mark_of_row before)) (at_end c (mark_of_row row)) = record {
+          kind = kind;
+          plain = plain;
+          dispatched = rw (until_by c row.dispatched (omega (arith, dispatched))) dispatched;
+          not_yet = ap (λ o. start_until c (start_of_execution o)) e ∙ not_until c x later;
+          operands = rw (all_fetched c before all) (sources_known c v h.cycle before row older (sources_of_row row) (Every-All (λ source. IfSome (producer_among before source) (λ p. IfSome p.execution (λ y. y.broadcast < c))) (sources_of_row row) operands));
+          serial = as_of_rows (λ m. is_serialising m.instruction ≡ true → IsBefore c m.retired) c before (Every-weaker (Older v h.cycle row) (λ a. is_serialising (instruction_of_row a) ≡ true → IsBefore c (until c (Some a.retired))) (λ a o is. retired_before c a row (o.serial is) dispatched) before older);
+        } in
+        let busy = behind_law (BusyUnits k (kind_values v k).units c) c (rows_of steps) before after row (busy_rows v k line history c (omega (arith, later, between.1, between.2, sound.below))) at fetched may in
+        let fewer = behind_count (begins_mark k c) (is_issued_in k c) c before (Every-weaker (Older v h.cycle row) (λ a. (was_fetched c (mark_of_row a) && begins_mark k c (at_end c (mark_of_row a))) ≡ true → is_issued_in k c a ≡ true)
+        (λ a o g. let both = and_second (was_fetched c (mark_of_row a)) (begins_mark k c (at_end c (mark_of_row a))) g in and_both (is_row_of_kind k a) (passes (λ y. y.issued == c) a.execution) (and_first (is_row_of_kind k a) (starts_at c (start_until c (start_of_execution a.execution))) both) (begun_at c a.execution (and_second (is_row_of_kind k a) (starts_at c (start_until c (start_of_execution a.execution))) both))) before older) in
+        omega (arith, busy, fewer)
+      where
+        not_until : (c : ℕ) (x : Execution) → c < x.issued → start_until c (Some (record { cycle = x.issued; cost = x.cost; faults = false })) ≡ None
+        not_until c x lt = start_until_now c (record { cycle = x.issued; cost = x.cost; faults = false }) lt
+
+        retired_before : (c : ℕ) (a r : Row) → a.retired ≤ row.fetched → row.dispatched < c → IsBefore c (until c (Some a.retired))
+        retired_before c a r le lt = rw (until_by c a.retired (omega (arith, le, lt, sound.stamps.dispatched_after_fetch))) (omega (arith, le, lt, sound.stamps.dispatched_after_fetch))

@@ -1,0 +1,350 @@
+-- Lists: what holds of every element, counts, beginnings, and the place of an element.
+use Rattle.std.proofs.Common.{◌≡◌, ℕ, suc, ◌+◌, ◌≤◌, Bool, true, false, cond, List, [], ◌∷◌, ◌++◌, map, filter, length, All, AllPairs, count_by, refl, sym, ap, ◌∙◌, arith, append_assoc, append-nil}
+use Rattle.std.proofs.lemmas.List.Elements.{All-cons, All-nil}
+use Rattle.std.proofs.lemmas.List.Kept.{AllPairs-cons}
+use Rattle.std.proofs.lemmas.List.Recursion.{is_count_by}
+use Rattle.rv_hardware.specs.Stamps.{EachBehind}
+
+-- P of each element, by recursion
+abbrev pub Every : {X : Type 0} → (X → Type 0) → List X → Type 0
+Every P [] = Unit {0}
+Every P (x ∷ xs) = P x × Every P xs
+
+-- R of each element and each later one, by recursion
+abbrev pub EveryPair : {X : Type 0} → (X → X → Type 0) → List X → Type 0
+EveryPair R [] = Unit {0}
+EveryPair R (x ∷ xs) = Every (R x) xs × EveryPair R xs
+
+-- P of each element and of those before it, by recursion
+abbrev pub EveryBehind : {X : Type 0} → (List X → X → Type 0) → List X → List X → Type 0
+EveryBehind P before [] = Unit {0}
+EveryBehind P before (x ∷ xs) = P before x × EveryBehind P (before ++ x ∷ []) xs
+
+-- how many pass a test, by recursion
+abbrev pub count : {X : Type 0} → (X → Bool) → List X → ℕ
+count p [] = 0
+count p (x ∷ xs) = cond (p x) (suc (count p xs)) (count p xs)
+
+-- ys begins with xs
+abbrev pub Beginning : {X : Type 0} → List X → List X → Type 0
+Beginning {X} xs ys = (rest : List X) × (ys ≡ xs ++ rest)
+
+module _ {X : Type 0} (P : X → Type 0) where
+  pub All-Every : (xs : List X) → Every P xs → All P xs
+  All-Every [] h = All-nil P
+  All-Every (x ∷ xs) h = All-cons P x xs h.0 (All-Every xs h.1)
+
+  pub Every-append : (xs ys : List X) → Every P xs → Every P ys → Every P (xs ++ ys)
+  Every-append [] ys h g = g
+  Every-append (x ∷ xs) ys h g = (h.0, Every-append xs ys h.1 g)
+
+  pub Every-left : (xs ys : List X) → Every P (xs ++ ys) → Every P xs
+  Every-left [] ys h = tt
+  Every-left (x ∷ xs) ys h = (h.0, Every-left xs ys h.1)
+
+  pub Every-right : (xs ys : List X) → Every P (xs ++ ys) → Every P ys
+  Every-right [] ys h = h
+  Every-right (x ∷ xs) ys h = Every-right xs ys h.1
+
+  pub Every-weaker : (Q : X → Type 0) → ((x : X) → P x → Q x) → (xs : List X) → Every P xs → Every Q xs
+  Every-weaker Q f [] h = tt
+  Every-weaker Q f (x ∷ xs) h = (f x h.0, Every-weaker Q f xs h.1)
+
+  pub Every-all : ((x : X) → P x) → (xs : List X) → Every P xs
+  Every-all f [] = tt
+  Every-all f (x ∷ xs) = (f x, Every-all f xs)
+
+  pub Every-both : (Q R : X → Type 0) → ((x : X) → P x → Q x → R x) → (xs : List X) → Every P xs → Every Q xs → Every R xs
+  Every-both Q R f [] h g = tt
+  Every-both Q R f (x ∷ xs) h g = (f x h.0 g.0, Every-both Q R f xs h.1 g.1)
+
+  pub Every-map : {Y : Type 0} (f : Y → X) (ys : List Y) → Every (λ y. P (f y)) ys → Every P (map f ys)
+  Every-map f [] h = tt
+  Every-map f (y ∷ ys) h = (h.0, Every-map f ys h.1)
+
+  pub Every-unmap : {Y : Type 0} (f : Y → X) (ys : List Y) → Every P (map f ys) → Every (λ y. P (f y)) ys
+  Every-unmap f [] h = tt
+  Every-unmap f (y ∷ ys) h = (h.0, Every-unmap f ys h.1)
+
+  Every-pick : (b : Bool) (x : X) (xs : List X) → P x → Every P xs → Every P (cond b (x ∷ xs) xs)
+  Every-pick true x xs h g = (h, g)
+  Every-pick false x xs h g = g
+
+  pub Every-filter : (p : X → Bool) (xs : List X) → Every P xs → Every P (filter p xs)
+  Every-filter p [] h = tt
+  Every-filter p (x ∷ xs) h = Every-pick (p x) x (filter p xs) h.0 (Every-filter p xs h.1)
+
+module _ {X : Type 0} (R : X → X → Type 0) where
+  pub AllPairs-EveryPair : (xs : List X) → EveryPair R xs → AllPairs R xs
+  AllPairs-EveryPair [] h = λ i j d lt within. absurd (omega arith)
+  AllPairs-EveryPair (x ∷ xs) h = AllPairs-cons R x xs (All-Every (R x) xs h.0) (AllPairs-EveryPair xs h.1)
+
+  -- each of a list to each of another
+  abbrev pub Across : List X → List X → Type 0
+  Across xs ys = Every (λ x. Every (R x) ys) xs
+
+  pub EveryPair-append : (xs ys : List X) → EveryPair R xs → EveryPair R ys → Across xs ys → EveryPair R (xs ++ ys)
+  EveryPair-append [] ys h g a = g
+  EveryPair-append (x ∷ xs) ys h g a = (Every-append (R x) xs ys h.0 a.0, EveryPair-append xs ys h.1 g a.1)
+
+  pub EveryPair-left : (xs ys : List X) → EveryPair R (xs ++ ys) → EveryPair R xs
+  EveryPair-left [] ys h = tt
+  EveryPair-left (x ∷ xs) ys h = (Every-left (R x) xs ys h.0, EveryPair-left xs ys h.1)
+
+  pub EveryPair-right : (xs ys : List X) → EveryPair R (xs ++ ys) → EveryPair R ys
+  EveryPair-right [] ys h = h
+  EveryPair-right (x ∷ xs) ys h = EveryPair-right xs ys h.1
+
+  pub EveryPair-across : (xs ys : List X) → EveryPair R (xs ++ ys) → Across xs ys
+  EveryPair-across [] ys h = tt
+  EveryPair-across (x ∷ xs) ys h = (Every-right (R x) xs ys h.0, EveryPair-across xs ys h.1)
+
+  pub EveryPair-weaker : (S : X → X → Type 0) → ((x y : X) → R x y → S x y) → (xs : List X) → EveryPair R xs → EveryPair S xs
+  EveryPair-weaker S f [] h = tt
+  EveryPair-weaker S f (x ∷ xs) h = (Every-weaker (R x) (S x) (f x) xs h.0, EveryPair-weaker S f xs h.1)
+
+  pub EveryPair-map : {Y : Type 0} (f : Y → X) (ys : List Y) → EveryPair (λ x y. R (f x) (f y)) ys → EveryPair R (map f ys)
+  EveryPair-map f [] h = tt
+  EveryPair-map f (y ∷ ys) h = (Every-map (R (f y)) f ys h.0, EveryPair-map f ys h.1)
+
+  pub EveryPair-unmap : {Y : Type 0} (f : Y → X) (ys : List Y) → EveryPair R (map f ys) → EveryPair (λ x y. R (f x) (f y)) ys
+  EveryPair-unmap f [] h = tt
+  EveryPair-unmap f (y ∷ ys) h = (Every-unmap (R (f y)) f ys h.0, EveryPair-unmap f ys h.1)
+
+  -- another element at a place
+  pub EveryPair-set : (xs ys : List X) (x y : X) → ((z : X) → R z x → R z y) → ((z : X) → R x z → R y z) → EveryPair R (xs ++ x ∷ ys) → EveryPair R (xs ++ y ∷ ys)
+  EveryPair-set [] ys x y f g h = (Every-weaker (R x) (R y) g ys h.0, h.1)
+  EveryPair-set (z ∷ xs) ys x y f g h =
+      (Every-append (R z) xs (y ∷ ys) (Every-left (R z) xs (x ∷ ys) h.0) (f z (Every-right (R z) xs (x ∷ ys) h.0).0, (Every-right (R z) xs (x ∷ ys) h.0).1), EveryPair-set xs ys x y f g h.1)
+
+module _ {X : Type 0} (P : X → Type 0) where
+  pub Every-set : (xs ys : List X) (x y : X) → P y → Every P (xs ++ x ∷ ys) → Every P (xs ++ y ∷ ys)
+  Every-set [] ys x y is h = (is, h.1)
+  Every-set (z ∷ xs) ys x y is h = (h.0, Every-set xs ys x y is h.1)
+
+  pub Every-place : (xs ys : List X) (x : X) → Every P (xs ++ x ∷ ys) → P x
+  Every-place [] ys x h = h.0
+  Every-place (z ∷ xs) ys x h = Every-place xs ys x h.1
+
+module _ {X : Type 0} (p : X → Bool) where
+  pub count-count_by : (xs : List X) → count p xs ≡ count_by p xs
+  count-count_by xs = is_count_by (count p) p refl (λ y ys. ap (λ n. cond (p y) n (count p ys)) (suc_is (count p ys))) xs
+    where
+      suc_is : (n : ℕ) → suc n ≡ 1 + n
+      suc_is n = omega arith
+
+  cond-suc : (b : Bool) (n m : ℕ) → cond b (suc (n + m)) (n + m) ≡ cond b (suc n) n + m
+  cond-suc true n m = omega arith
+  cond-suc false n m = refl
+
+  pub count-append : (xs ys : List X) → count p (xs ++ ys) ≡ count p xs + count p ys
+  count-append [] ys = omega arith
+  count-append (x ∷ xs) ys = rw (count-append xs ys) (cond-suc (p x) (count p xs) (count p ys))
+
+  pub count-none : (xs : List X) → Every (λ x. p x ≡ false) xs → count p xs ≡ 0
+  count-none [] h = refl
+  count-none (x ∷ xs) h = rw h.0 (count-none xs h.1)
+
+  pub count-yes : (x : X) (xs : List X) → p x ≡ true → count p (x ∷ xs) ≡ suc (count p xs)
+  count-yes x xs h = rw h refl
+
+  pub count-no : (x : X) (xs : List X) → p x ≡ false → count p (x ∷ xs) ≡ count p xs
+  count-no x xs h = rw h refl
+
+  pub count-map : {Y : Type 0} (f : Y → X) (ys : List Y) → count p (map f ys) ≡ count (λ y. p (f y)) ys
+  count-map f [] = refl
+  count-map f (y ∷ ys) = rw (count-map f ys) refl
+
+  cond-le : (b c : Bool) (n m : ℕ) → (b ≡ true → c ≡ true) → n ≤ m → cond b (suc n) n ≤ cond c (suc m) m
+  cond-le true true n m f le = omega arith
+  cond-le true false n m f le = absurd (cc_false (f refl))
+    where
+      cc_false : false ≡ true → ⊥
+      cc_false e = absurd (cc)
+  cond-le false true n m f le = omega arith
+  cond-le false false n m f le = le
+
+  pub count-le : (q : X → Bool) (xs : List X) → Every (λ x. p x ≡ true → q x ≡ true) xs → count p xs ≤ count q xs
+  count-le q [] h = omega arith
+  count-le q (x ∷ xs) h = cond-le (p x) (q x) (count p xs) (count q xs) h.0 (count-le q xs h.1)
+
+  pub count-length : (xs : List X) → count p xs ≤ length xs
+  count-length [] = omega arith
+  count-length (x ∷ xs) = cond-le (p x) true (count p xs) (length xs) (λ e. refl) (count-length xs)
+
+  count-more : (x : X) (xs : List X) → count p xs ≤ count p (x ∷ xs)
+  count-more x xs = cond-le false (p x) (count p xs) (count p xs) (λ e. absurd (cc)) (omega arith)
+
+  count-picked : (b : Bool) (x : X) (xs ys : List X) → count p xs ≤ count p ys → count p (cond b (x ∷ xs) xs) ≤ count p (x ∷ ys)
+  count-picked true x xs ys le = cond-le (p x) (p x) (count p xs) (count p ys) (λ e. e) le
+  count-picked false x xs ys le = let more = count-more x ys in omega arith
+
+  pub count-filter : (q : X → Bool) (xs : List X) → count p (filter q xs) ≤ count p xs
+  count-filter q [] = omega arith
+  count-filter q (x ∷ xs) = count-picked (q x) x (filter q xs) xs (count-filter q xs)
+
+  -- another element at a place
+  pub count-set-same : (xs ys : List X) (x y : X) → p x ≡ p y → count p (xs ++ x ∷ ys) ≡ count p (xs ++ y ∷ ys)
+  count-set-same xs ys x y same =
+      count-append xs (x ∷ ys) ∙ ap (λ b. count p xs + cond b (suc (count p ys)) (count p ys)) same ∙ sym (count-append xs (y ∷ ys))
+
+  cond-bounds : (b : Bool) (n : ℕ) → (n ≤ cond b (suc n) n) × (cond b (suc n) n ≤ suc n)
+  cond-bounds true n = (omega arith, omega arith)
+  cond-bounds false n = (omega arith, omega arith)
+
+  pub count-set-more : (xs ys : List X) (x y : X) → count p (xs ++ y ∷ ys) ≤ suc (count p (xs ++ x ∷ ys))
+  count-set-more xs ys x y =
+      let old = count-append xs (x ∷ ys) in
+      let new = count-append xs (y ∷ ys) in
+      let low = cond-bounds (p x) (count p ys) in
+      let high = cond-bounds (p y) (count p ys) in
+      omega (arith, old, new, low.0, high.1)
+
+  -- one that passes where the other did
+  pub count-set-grows : (xs ys : List X) (x y : X) → (p x ≡ true → p y ≡ true) → count p (xs ++ x ∷ ys) ≤ count p (xs ++ y ∷ ys)
+  count-set-grows xs ys x y f =
+      let old = count-append xs (x ∷ ys) in
+      let new = count-append xs (y ∷ ys) in
+      let le = cond-le (p x) (p y) (count p ys) (count p ys) f (omega arith) in
+      omega (arith, old, new, le)
+
+  -- one that passes where the other did not
+  pub count-set-one_more : (xs ys : List X) (x y : X) → p x ≡ false → p y ≡ true → count p (xs ++ y ∷ ys) ≡ suc (count p (xs ++ x ∷ ys))
+  count-set-one_more xs ys x y no_more is =
+      let old = count-append xs (x ∷ ys) ∙ ap (λ b. count p xs + cond b (suc (count p ys)) (count p ys)) no_more in
+      let new = count-append xs (y ∷ ys) ∙ ap (λ b. count p xs + cond b (suc (count p ys)) (count p ys)) is in
+      omega (arith, old, new)
+
+  -- one that does not pass gives way
+  pub count-set-less : (xs ys : List X) (x y : X) → p y ≡ false → count p (xs ++ y ∷ ys) ≤ count p (xs ++ x ∷ ys)
+  count-set-less xs ys x y no_more =
+      let old = count-append xs (x ∷ ys) in
+      let new = count-append xs (y ∷ ys) ∙ ap (λ b. count p xs + cond b (suc (count p ys)) (count p ys)) no_more in
+      let low = cond-bounds (p x) (count p ys) in
+      omega (arith, old, new, low.0)
+
+  pub count-push : (xs : List X) (x : X) → count p (xs ++ x ∷ []) ≤ suc (count p xs)
+  count-push xs x =
+      let new = count-append xs (x ∷ []) in
+      let high = cond-bounds (p x) 0 in
+      omega (arith, new, high.1)
+
+  pub count-push-no : (xs : List X) (x : X) → p x ≡ false → count p (xs ++ x ∷ []) ≡ count p xs
+  count-push-no xs x fails = count-append xs (x ∷ []) ∙ ap (λ b. count p xs + cond b 1 0) fails ∙ plus_none (count p xs)
+    where
+      plus_none : (n : ℕ) → n + 0 ≡ n
+      plus_none n = omega arith
+
+  pub count-push-most : (xs ys : List X) (x : X) → count p (xs ++ x ∷ ys) ≤ suc (count p xs + count p ys)
+  count-push-most xs ys x =
+      let all = count-append xs (x ∷ ys) in
+      let high = cond-bounds (p x) (count p ys) in
+      omega (arith, all, high.1)
+
+  pub count-left : (xs ys : List X) → count p xs ≤ count p (xs ++ ys)
+  count-left xs ys = let all = count-append xs ys in omega (arith, all)
+
+-- beginnings
+
+module _ {X : Type 0} where
+  pub Beginning-self : (xs : List X) → Beginning xs xs
+  Beginning-self xs = ([], sym (append-nil xs))
+
+  pub Beginning-trans : (xs ys zs : List X) → Beginning xs ys → Beginning ys zs → Beginning xs zs
+  Beginning-trans xs ys zs f g = (f.0 ++ g.0, g.1 ∙ ap (λ l. l ++ g.0) f.1 ∙ append_assoc xs f.0 g.0)
+
+  pub Beginning-append : (xs ys : List X) → Beginning xs (xs ++ ys)
+  Beginning-append xs ys = (ys, refl)
+
+  pub Beginning-count : (p : X → Bool) (xs ys : List X) → Beginning xs ys → count p xs ≤ count p ys
+  Beginning-count p xs ys f = rw (f.1, count-append p xs f.0) (omega arith)
+
+  pub Beginning-Every : (P : X → Type 0) (xs ys : List X) → Beginning xs ys → Every P ys → Every P xs
+  Beginning-Every P xs ys f h = Every-left P xs f.0 (rw f.1 at h)
+
+  pub Beginning-EveryPair : (R : X → X → Type 0) (xs ys : List X) → Beginning xs ys → EveryPair R ys → EveryPair R xs
+  Beginning-EveryPair R xs ys f h = EveryPair-left R xs f.0 (rw f.1 at h)
+
+  pub EveryBehind-left : (P : List X → X → Type 0) (before xs ys : List X) → EveryBehind P before (xs ++ ys) → EveryBehind P before xs
+  EveryBehind-left P before [] ys h = tt
+  EveryBehind-left P before (x ∷ xs) ys h = (h.0, EveryBehind-left P (before ++ x ∷ []) xs ys h.1)
+
+  pub EveryBehind-append : (P : List X → X → Type 0) (before xs ys : List X) → EveryBehind P before xs → EveryBehind P (before ++ xs) ys → EveryBehind P before (xs ++ ys)
+  EveryBehind-append P before [] ys h g = rw (append-nil before) at g
+  EveryBehind-append P before (x ∷ xs) ys h g = (h.0, EveryBehind-append P (before ++ x ∷ []) xs ys h.1 (rw (← append_assoc before (x ∷ []) xs) at g))
+
+  pub EveryBehind-right : (P : List X → X → Type 0) (before xs ys : List X) → EveryBehind P before (xs ++ ys) → EveryBehind P (before ++ xs) ys
+  EveryBehind-right P before [] ys h = rw (append-nil before) h
+  EveryBehind-right P before (x ∷ xs) ys h = rw (← append_assoc before (x ∷ []) xs) (EveryBehind-right P (before ++ x ∷ []) xs ys h.1)
+
+  pub Beginning-EveryBehind : (P : List X → X → Type 0) (xs ys : List X) → Beginning xs ys → EveryBehind P [] ys → EveryBehind P [] xs
+  Beginning-EveryBehind P xs ys f h = EveryBehind-left P [] xs f.0 (rw f.1 at h)
+
+  -- behind another beginning
+  moved : (P Q : List X → X → Type 0) (pre pre' : List X) → ((mid : List X) (z : X) → P (pre ++ mid) z → Q (pre' ++ mid) z) → (acc ys : List X) →
+      EveryBehind P (pre ++ acc) ys → EveryBehind Q (pre' ++ acc) ys
+  moved P Q pre pre' f acc [] h = tt
+  moved P Q pre pre' f acc (y ∷ ys) h =
+      (f acc y h.0, rw (append_assoc pre' acc (y ∷ [])) (moved P Q pre pre' f (acc ++ y ∷ []) ys (rw (append_assoc pre acc (y ∷ [])) at h.1)))
+
+  pub EveryBehind-moved : (P Q : List X → X → Type 0) (pre pre' : List X) → ((mid : List X) (z : X) → P (pre ++ mid) z → Q (pre' ++ mid) z) → (ys : List X) → EveryBehind P pre ys → EveryBehind Q pre' ys
+  EveryBehind-moved P Q pre pre' f ys h = rw (append-nil pre') at (moved P Q pre pre' f [] ys (rw (append-nil pre) (h)))
+
+  -- where nothing is behind it
+  pub EveryBehind-all : (Q : X → Type 0) (P : List X → X → Type 0) → ((before : List X) (x : X) → Q x → P before x) → (before xs : List X) → Every Q xs → EveryBehind P before xs
+  EveryBehind-all Q P f before [] h = tt
+  EveryBehind-all Q P f before (x ∷ xs) h = (f before x h.0, EveryBehind-all Q P f (before ++ x ∷ []) xs h.1)
+
+  -- another element at a place
+  pub EveryBehind-set : (P : List X → X → Type 0) (xs ys : List X) (m n : X) → (P xs m → P xs n) → ((mid : List X) (z : X) → P (xs ++ m ∷ mid) z → P (xs ++ n ∷ mid) z) →
+      EveryBehind P [] (xs ++ m ∷ ys) → EveryBehind P [] (xs ++ n ∷ ys)
+  EveryBehind-set P xs ys m n f g h =
+      let right = EveryBehind-right P [] xs (m ∷ ys) h in
+      let rest = moved P P (xs ++ m ∷ []) (xs ++ n ∷ []) (λ mid z is. rw (append_assoc xs (n ∷ []) mid) (g mid z (rw (append_assoc xs (m ∷ []) mid) at is))) [] ys (rw (append-nil (xs ++ m ∷ [])) (right.1)) in
+      EveryBehind-append P [] xs (n ∷ ys) (EveryBehind-left P [] xs (m ∷ ys) h) (f right.0, rw (append-nil (xs ++ n ∷ [])) at rest)
+
+  -- at any place
+  pub EveryBehind-at : (P : List X → X → Type 0) (before after : List X) (x : X) → EveryBehind P [] (before ++ x ∷ after) → P before x
+  EveryBehind-at P before after x h = (EveryBehind-right P [] before (x ∷ after) h).0
+
+  pub Every-at : (P : X → Type 0) (before after : List X) (x : X) → Every P (before ++ x ∷ after) → P x
+  Every-at P before after x h = (Every-right P before (x ∷ after) h).0
+
+  -- each element that stands behind some others
+  pub EachBehind-EveryBehind : (P : List X → X → Type 0) (xs : List X) → EveryBehind P [] xs → EachBehind P xs
+  EachBehind-EveryBehind P xs h before after x at = EveryBehind-at P before after x (rw at at h)
+
+map-append : {X Y : Type 0} (f : X → Y) (xs ys : List X) → map f (xs ++ ys) ≡ map f xs ++ map f ys
+map-append f [] ys = refl
+map-append f (x ∷ xs) ys = ap (λ l. f x ∷ l) (map-append f xs ys)
+
+pub EveryBehind-unmap : {X Y : Type 0} (P : List X → X → Type 0) (f : Y → X) (before ys : List Y) → EveryBehind P (map f before) (map f ys) → EveryBehind (λ b y. P (map f b) (f y)) before ys
+EveryBehind-unmap P f before [] h = tt
+EveryBehind-unmap P f before (y ∷ ys) h = (h.0, EveryBehind-unmap P f (before ++ y ∷ []) ys (rw (map-append f before (y ∷ [])) (h.1)))
+
+pub EveryBehind-weaker : {X : Type 0} (P Q : List X → X → Type 0) → ((before : List X) (x : X) → P before x → Q before x) → (before xs : List X) → EveryBehind P before xs → EveryBehind Q before xs
+EveryBehind-weaker P Q f before [] h = tt
+EveryBehind-weaker P Q f before (x ∷ xs) h = (f before x h.0, EveryBehind-weaker P Q f (before ++ x ∷ []) xs h.1)
+
+pub EveryBehind-both : {X : Type 0} (P : X → Type 0) (Q R : List X → X → Type 0) → ((before : List X) (x : X) → P x → Q before x → R before x) → (before xs : List X) → Every P xs → EveryBehind Q before xs → EveryBehind R before xs
+EveryBehind-both P Q R f before [] g h = tt
+EveryBehind-both P Q R f before (x ∷ xs) g h = (f before x g.0 h.0, EveryBehind-both P Q R f (before ++ x ∷ []) xs g.1 h.1)
+
+-- pairs and what stands behind
+
+module _ {X : Type 0} (R : X → X → Type 0) where
+  behind_one : (before : List X) (x : X) (more ys : List X) → EveryBehind (λ b y. Every (λ a. R a y) b) (before ++ x ∷ more) ys → Every (R x) ys
+  behind_one before x more [] h = tt
+  behind_one before x more (y ∷ ys) h =
+      (Every-place (λ a. R a y) before more x h.0, behind_one before x (more ++ y ∷ []) ys (rw (append_assoc before (x ∷ more) (y ∷ [])) at h.1))
+
+  pub EveryPair-EveryBehind : (before xs : List X) → EveryBehind (λ b y. Every (λ a. R a y) b) before xs → EveryPair R xs
+  EveryPair-EveryBehind before [] h = tt
+  EveryPair-EveryBehind before (x ∷ xs) h = (behind_one before x [] xs h.1, EveryPair-EveryBehind (before ++ x ∷ []) xs h.1)
+
+  pub EveryBehind-EveryPair : (before xs : List X) → Across R before xs → EveryPair R xs → EveryBehind (λ b y. Every (λ a. R a y) b) before xs
+  EveryBehind-EveryPair before [] a h = tt
+  EveryBehind-EveryPair before (x ∷ xs) a h = (
+    Every-weaker (λ z. Every (R z) (x ∷ xs)) (λ z. R z x) (λ z w. w.0) before a,
+    EveryBehind-EveryPair (before ++ x ∷ []) xs (Every-append (λ z. Every (R z) xs) before (x ∷ []) (Every-weaker (λ z. Every (R z) (x ∷ xs)) (λ z. Every (R z) xs) (λ z w. w.1) before a) (h.0, tt)) h.1,
+  )

@@ -1,0 +1,243 @@
+-- The marks of a run's rows, of the instructions in flight and of the fetched words, and these as they stood at the end of a cycle.
+use Rattle.std.proofs.Common.{◌≡◌, ℕ, ◌<◌, ◌≤◌, Bool, true, false, cond, nat_le, if◌then◌else◌, List, [], ◌∷◌, ◌++◌, map, filter, Option, Some, None, is_some, refl, sym, ap, ◌∙◌, arith, append_assoc, append-nil}
+use Rattle.std.proofs.lemmas.Bool.{lt-leb}
+use Rattle.std.proofs.lemmas.List.Elements.{filter-append}
+use Rattle.rv_decode.specs.Decodes.{instruction_of}
+use Rattle.rv_isa.specs.declared.instructions.Instr.{Instr}
+use Rattle.rv_isa.specs.declared.issues.Issue.{Issue}
+use Rattle.rv_isa.specs.declared.broadcast.Message.{Message}
+use Rattle.rv_front.specs.declared.fetched.Fetched.{Fetched}
+use Rattle.rv_rob.specs.declared.entry.Entry.{Entry}
+use Rattle.rv_rob.specs.declared.entry.Stage.{Stage}
+use Rattle.rv_rob.specs.declared.entry.Stage.TheVariants.{Waiting, Running, Finished}
+use Rattle.rv_hardware.specs.Hardware.{Hardware}
+use Rattle.rv_hardware.specs.Stamps.{rows_of}
+use Rattle.rv_hardware.specs.declared.step.Execution.{Execution}
+use Rattle.rv_hardware.specs.declared.step.Row.{Row}
+use Rattle.rv_hardware.specs.declared.step.Step.{Step}
+use Rattle.rv_hardware.specs.declared.step.Step.TheVariants.{Retired, Trap, Interrupt}
+use Rattle.rv_hardware.proofs.LawsLists.{Every, Every-weaker, Beginning, Beginning-self, Beginning-trans}
+
+-- the start of an execution, and whether what it gives is a fault
+pub record Start : Type 0 where
+  pub cycle : ℕ
+  pub cost : ℕ
+  pub faults : Bool
+
+pub record Mark : Type 0 where
+  pub instruction : Option Instr
+  pub fetched : ℕ
+  pub dispatched : Option ℕ
+  pub start : Option Start
+  pub broadcast : Option ℕ
+  pub retired : Option ℕ
+
+abbrev pub start_of_execution : Option Execution → Option Start
+start_of_execution None = None
+start_of_execution (Some x) = Some (record { cycle = x.issued; cost = x.cost; faults = false })
+
+abbrev pub broadcast_of_execution : Option Execution → Option ℕ
+broadcast_of_execution None = None
+broadcast_of_execution (Some x) = Some x.broadcast
+
+abbrev pub mark_of_row : Row → Mark
+mark_of_row row = record {
+  instruction = instruction_of row.word;
+  fetched = row.fetched;
+  dispatched = Some row.dispatched;
+  start = start_of_execution row.execution;
+  broadcast = broadcast_of_execution row.execution;
+  retired = Some row.retired;
+}
+
+abbrev pub start_of_issue : Issue → Message → Start
+start_of_issue issue message = record { cycle = issue.cycle; cost = issue.cost; faults = is_some message.fault }
+
+abbrev pub start_of_stage : Stage → Option Start
+start_of_stage Waiting = None
+start_of_stage (Running issue message) = Some (start_of_issue issue message)
+start_of_stage (Finished None cycle message) = None
+start_of_stage (Finished (Some issue) cycle message) = Some (start_of_issue issue message)
+
+abbrev pub broadcast_of_stage : Stage → Option ℕ
+broadcast_of_stage Waiting = None
+broadcast_of_stage (Running issue message) = None
+broadcast_of_stage (Finished None cycle message) = None
+broadcast_of_stage (Finished (Some issue) cycle message) = Some cycle
+
+abbrev pub mark_of_entry : Entry → Mark
+mark_of_entry e = record {
+  instruction = e.instruction;
+  fetched = e.fetched;
+  dispatched = Some e.dispatched;
+  start = start_of_stage e.stage;
+  broadcast = broadcast_of_stage e.stage;
+  retired = None;
+}
+
+abbrev pub mark_of_fetched : Fetched → Mark
+mark_of_fetched f = record {
+  instruction = f.instruction;
+  fetched = f.cycle;
+  dispatched = None;
+  start = None;
+  broadcast = None;
+  retired = None;
+}
+
+-- those of the rows, those in flight, those that were fetched
+abbrev pub marks : List Step → List Entry → List Fetched → List Mark
+marks steps es fs = map mark_of_row (rows_of steps) ++ (map mark_of_entry es ++ map mark_of_fetched fs)
+
+abbrev pub marks_in : List Step → Hardware → List Mark
+marks_in steps h = marks steps h.rob.entries h.front.entries
+
+-- what was so by the end of a cycle
+abbrev pub until : ℕ → Option ℕ → Option ℕ
+until c None = None
+until c (Some d) = if nat_le d c then Some d else None
+
+abbrev pub start_until : ℕ → Option Start → Option Start
+start_until c None = None
+start_until c (Some s) = if nat_le s.cycle c then Some s else None
+
+abbrev pub at_end : ℕ → Mark → Mark
+at_end c m = record {
+  instruction = m.instruction;
+  fetched = m.fetched;
+  dispatched = until c m.dispatched;
+  start = start_until c m.start;
+  broadcast = until c m.broadcast;
+  retired = until c m.retired;
+}
+
+abbrev pub was_fetched : ℕ → Mark → Bool
+was_fetched c m = nat_le m.fetched c
+
+abbrev pub as_of : ℕ → List Mark → List Mark
+as_of c ms = map (at_end c) (filter (was_fetched c) ms)
+
+-- a later list begins as the earlier one did, as of each cycle before the present one
+abbrev pub Extends : ℕ → List Mark → List Mark → Type 0
+Extends now old new = (c : ℕ) → c < now → Beginning (as_of c new) (as_of c old)
+
+pub Extends-self : (now : ℕ) (ms : List Mark) → Extends now ms ms
+Extends-self now ms c lt = Beginning-self (as_of c ms)
+
+pub Extends-trans : (now : ℕ) (xs ys zs : List Mark) → Extends now xs ys → Extends now ys zs → Extends now xs zs
+Extends-trans now xs ys zs f g c lt = Beginning-trans (as_of c zs) (as_of c ys) (as_of c xs) (g c lt) (f c lt)
+
+map-append : {X Y : Type 0} (f : X → Y) (xs ys : List X) → map f (xs ++ ys) ≡ map f xs ++ map f ys
+map-append f [] ys = refl
+map-append f (x ∷ xs) ys = ap (λ l. f x ∷ l) (map-append f xs ys)
+
+pub marks_append : (xs ys : List Entry) → map mark_of_entry (xs ++ ys) ≡ map mark_of_entry xs ++ map mark_of_entry ys
+marks_append xs ys = map-append mark_of_entry xs ys
+
+pub fetched_append : (xs ys : List Fetched) → map mark_of_fetched (xs ++ ys) ≡ map mark_of_fetched xs ++ map mark_of_fetched ys
+fetched_append xs ys = map-append mark_of_fetched xs ys
+
+pub rows_append : (xs ys : List Step) → rows_of (xs ++ ys) ≡ rows_of xs ++ rows_of ys
+rows_append [] ys = refl
+rows_append (Retired row ∷ xs) ys = ap (λ l. row ∷ l) (rows_append xs ys)
+rows_append (Trap pc cause value cycle ∷ xs) ys = rows_append xs ys
+rows_append (Interrupt pc cause cycle ∷ xs) ys = rows_append xs ys
+
+pub row_marks_append : (xs ys : List Step) → map mark_of_row (rows_of (xs ++ ys)) ≡ map mark_of_row (rows_of xs) ++ map mark_of_row (rows_of ys)
+row_marks_append xs ys = ap (map mark_of_row) (rows_append xs ys) ∙ map-append mark_of_row (rows_of xs) (rows_of ys)
+
+pub as_of-append : (c : ℕ) (xs ys : List Mark) → as_of c (xs ++ ys) ≡ as_of c xs ++ as_of c ys
+as_of-append c xs ys = ap (map (at_end c)) (filter-append (was_fetched c) xs ys) ∙ map-append (at_end c) (filter (was_fetched c) xs) (filter (was_fetched c) ys)
+
+-- a mark that was not fetched by then
+pub as_of-later : (c : ℕ) (ms : List Mark) → Every (λ m. c < m.fetched) ms → as_of c ms ≡ []
+as_of-later c [] later = refl
+as_of-later c (m ∷ ms) later = rw (lt-leb m.fetched c later.0) (as_of-later c ms later.1)
+
+-- two marks that were the same at the end of every earlier cycle
+abbrev pub Agree : ℕ → Mark → Mark → Type 0
+Agree now m n = (m.fetched ≡ n.fetched) × ((c : ℕ) → c < now → at_end c m ≡ at_end c n)
+
+picked : (b : Bool) (c : ℕ) (m : Mark) (ms : List Mark) → map (at_end c) (cond b (m ∷ ms) ms) ≡ cond b (at_end c m ∷ map (at_end c) ms) (map (at_end c) ms)
+picked true c m ms = refl
+picked false c m ms = refl
+
+pub as_of-cons : (c : ℕ) (m : Mark) (ms : List Mark) → as_of c (m ∷ ms) ≡ cond (nat_le m.fetched c) (at_end c m ∷ as_of c ms) (as_of c ms)
+as_of-cons c m ms = picked (nat_le m.fetched c) c m (filter (was_fetched c) ms)
+
+as_of-agree : (now c : ℕ) (m n : Mark) (ms : List Mark) → c < now → Agree now m n → as_of c (m ∷ ms) ≡ as_of c (n ∷ ms)
+as_of-agree now c m n ms lt agree =
+    as_of-cons c m ms ∙ (λ i. cond (nat_le (agree.0 i) c) (agree.1 c lt i ∷ as_of c ms) (as_of c ms)) ∙ sym (as_of-cons c n ms)
+
+-- the ways in which marks go on
+
+pub Extends-cut : (now : ℕ) (new rest : List Mark) → Extends now (new ++ rest) new
+Extends-cut now new rest c lt = (as_of c rest, as_of-append c new rest)
+
+pub Extends-change : (now : ℕ) (before after : List Mark) (m n : Mark) → Agree now m n → Extends now (before ++ m ∷ after) (before ++ n ∷ after)
+Extends-change now before after m n agree c lt =
+    ([], as_of-append c before (m ∷ after) ∙ ap (λ l. as_of c before ++ l) (as_of-agree now c m n after lt agree) ∙ sym (as_of-append c before (n ∷ after)) ∙ sym (append-nil (as_of c (before ++ n ∷ after))))
+
+pub Extends-more : (now : ℕ) (ms more : List Mark) → Every (λ m. now ≤ m.fetched) more → Extends now ms (ms ++ more)
+Extends-more now ms more later c lt =
+    let none = as_of-later c more (Every-weaker (λ m. now ≤ m.fetched) (λ m. c < m.fetched) (λ m le. omega arith) more later) in
+    ([], sym (as_of-append c ms more ∙ ap (λ l. as_of c ms ++ l) none ∙ append-nil (as_of c ms)) ∙ sym (append-nil (as_of c (ms ++ more))))
+
+pub Extends-equal : (now : ℕ) (xs ys : List Mark) → xs ≡ ys → Extends now xs ys
+Extends-equal now xs ys same = rw same (Extends-self now ys)
+
+-- a stamp of the present cycle was not there before
+pub until_now : (now c : ℕ) → c < now → until c (Some now) ≡ None
+until_now now c lt = rw (lt-leb now c lt) refl
+
+pub start_until_now : (c : ℕ) (s : Start) → c < s.cycle → start_until c (Some s) ≡ None
+start_until_now c s lt = rw (lt-leb s.cycle c lt) refl
+
+-- where the marks of the instructions stand
+
+pub marks_at_entry : (steps : List Step) (older younger : List Entry) (e : Entry) (fs : List Fetched) →
+    marks steps (older ++ e ∷ younger) fs ≡ (map mark_of_row (rows_of steps) ++ map mark_of_entry older) ++ mark_of_entry e ∷ (map mark_of_entry younger ++ map mark_of_fetched fs)
+marks_at_entry steps older younger e fs =
+    ap (λ l. map mark_of_row (rows_of steps) ++ (l ++ map mark_of_fetched fs)) (marks_append older (e ∷ younger)) ∙
+    ap (λ l. map mark_of_row (rows_of steps) ++ l) (append_assoc (map mark_of_entry older) (map mark_of_entry (e ∷ younger)) (map mark_of_fetched fs)) ∙
+    sym (append_assoc (map mark_of_row (rows_of steps)) (map mark_of_entry older) (mark_of_entry e ∷ (map mark_of_entry younger ++ map mark_of_fetched fs)))
+
+pub marks_retired : (steps : List Step) (row : Row) (es : List Entry) (fs : List Fetched) →
+    marks (steps ++ Retired row ∷ []) es fs ≡ map mark_of_row (rows_of steps) ++ mark_of_row row ∷ (map mark_of_entry es ++ map mark_of_fetched fs)
+marks_retired steps row es fs =
+    ap (λ l. l ++ (map mark_of_entry es ++ map mark_of_fetched fs)) (row_marks_append steps (Retired row ∷ [])) ∙
+    append_assoc (map mark_of_row (rows_of steps)) (mark_of_row row ∷ []) (map mark_of_entry es ++ map mark_of_fetched fs)
+
+pub marks_dispatched : (steps : List Step) (es : List Entry) (f : Fetched) (fs : List Fetched) →
+    marks steps es (f ∷ fs) ≡ (map mark_of_row (rows_of steps) ++ map mark_of_entry es) ++ mark_of_fetched f ∷ map mark_of_fetched fs
+marks_dispatched steps es f fs = sym (append_assoc (map mark_of_row (rows_of steps)) (map mark_of_entry es) (map mark_of_fetched (f ∷ fs)))
+
+pub marks_fetched : (steps : List Step) (es : List Entry) (fs more : List Fetched) →
+    marks steps es (fs ++ more) ≡ marks steps es fs ++ map mark_of_fetched more
+marks_fetched steps es fs more =
+    ap (λ l. map mark_of_row (rows_of steps) ++ (map mark_of_entry es ++ l)) (fetched_append fs more) ∙
+    ap (λ l. map mark_of_row (rows_of steps) ++ l) (sym (append_assoc (map mark_of_entry es) (map mark_of_fetched fs) (map mark_of_fetched more))) ∙
+    sym (append_assoc (map mark_of_row (rows_of steps)) (map mark_of_entry es ++ map mark_of_fetched fs) (map mark_of_fetched more))
+
+-- what is left where everything younger is squashed
+pub marks_squashed : (steps : List Step) (older younger : List Entry) (fs : List Fetched) →
+    Beginning (marks steps older []) (marks steps (older ++ younger) fs)
+marks_squashed steps older younger fs = (
+  map mark_of_entry younger ++ map mark_of_fetched fs,
+  ap (λ l. map mark_of_row (rows_of steps) ++ (l ++ map mark_of_fetched fs)) (marks_append older younger) ∙
+      ap (λ l. map mark_of_row (rows_of steps) ++ l) (append_assoc (map mark_of_entry older) (map mark_of_entry younger) (map mark_of_fetched fs)) ∙
+      sym (append_assoc (map mark_of_row (rows_of steps)) (map mark_of_entry older) (map mark_of_entry younger ++ map mark_of_fetched fs)) ∙
+      ap (λ l. l ++ (map mark_of_entry younger ++ map mark_of_fetched fs)) (ap (λ l. map mark_of_row (rows_of steps) ++ l) (sym (append-nil (map mark_of_entry older)))),
+)
+
+pub Extends-squash : (now : ℕ) (steps : List Step) (older younger : List Entry) (fs : List Fetched) →
+    Extends now (marks steps (older ++ younger) fs) (marks steps older [])
+Extends-squash now steps older younger fs =
+    let left = marks_squashed steps older younger fs in
+    rw left.1 (Extends-cut now (marks steps older []) left.0)
+
+-- rows that are the same
+pub Extends-flush : (now : ℕ) (steps further : List Step) (es : List Entry) (fs : List Fetched) → rows_of further ≡ rows_of steps →
+    Extends now (marks steps es fs) (marks further [] [])
+Extends-flush now steps further es fs same =
+    rw same (Extends-squash now steps [] es fs)

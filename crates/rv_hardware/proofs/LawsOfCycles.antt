@@ -1,0 +1,68 @@
+-- What a single cycle reports: an interrupt that is due is its one step; it dispatches something or stalls for one reason.
+use Rattle.std.proofs.Common.{◌≡◌, ℕ, ◌+◌, ◌==◌, List, [], ◌∷◌, ◌++◌, length, All, Option, Some, None, sym, subst, ap, ◌∙◌, arith}
+use Rattle.std.specs.FinSet as set
+use Rattle.rv_isa.specs.declared.lines.Arrival.{Arrival}
+use Rattle.rv_isa.specs.declared.lines.Lines.{Lines}
+use Rattle.rv_isa.specs.declared.values.Values.{Values}
+use Rattle.rv_arch.specs.Due.{due}
+use Rattle.rv_arch.specs.Trap.{interrupt_cause}
+use Rattle.rv_hardware.specs.Commit.{Committing, commit_unless}
+use Rattle.rv_hardware.specs.Cycle.{IsCycle, any_prediction, with_lines}
+use Rattle.rv_hardware.specs.Dispatch.{stall_of}
+use Rattle.rv_hardware.specs.Hardware.{Hardware}
+use Rattle.rv_hardware.specs.Laws.{stall_cycles}
+use Rattle.rv_hardware.specs.Report.{Report}
+use Rattle.rv_hardware.specs.Run.{Reachable, Cycles, ended, cycled, busy_of, stalls_of}
+use Rattle.rv_hardware.specs.Step.{stamp_of}
+use Rattle.rv_hardware.specs.declared.step.Step.{Step}
+use Rattle.rv_hardware.specs.declared.step.Step.TheVariants.{Interrupt}
+use Rattle.rv_hardware.proofs.LawsCounts.{IsCounted, AllTell, dispatch_tells, busy_and_stalls}
+use Rattle.rv_hardware.proofs.LawsCycle.{Anything, anything_is_kept, History, went_on, Passed, cycle_passes, history_is_legal, history_is_sound, reachable_has_history, sent_all, dispatching}
+use Rattle.rv_hardware.proofs.LawsLists.{All-Every}
+use Rattle.rv_hardware.proofs.LawsSteps.{history_has_steps, steps_of_cycle}
+
+interrupted_by : (o : Option ℕ) (h : Hardware) (code : ℕ) → o ≡ Some code → (commit_unless set.contains o h).steps ≡ Interrupt h.pc (interrupt_cause code) h.cycle ∷ []
+interrupted_by None h code is = absurd (cc)
+interrupted_by (Some found) h code is = let same : found ≡ code = cc in ap (λ n. Interrupt h.pc (interrupt_cause n) h.cycle ∷ []) same
+
+-- an interrupt that is due is the one step of the cycle
+pub due_interrupt_is_taken : (lines : Lines) (old new : Hardware) (report : Report) (code : ℕ) → IsCycle any_prediction lines old report new → due old.csrs lines ≡ Some code →
+    report.steps ≡ Interrupt old.pc (interrupt_cause code) old.cycle ∷ []
+due_interrupt_is_taken lines old new report code is at =
+    ap (λ r. r.steps) is.reports ∙ ap (λ (c : Committing). c.steps) is.commits ∙ interrupted_by (due old.csrs lines) (with_lines lines old) code at
+
+module _ (v : Values) {steps : List Step} {old new : Hardware} {lines : Lines} {report : Report} (history : History v steps old) (is : IsCycle any_prediction lines old report new) where
+  pub passes_here : Passed v Anything steps lines old report new
+  passes_here = cycle_passes v (history_is_legal v history) Anything steps lines old new report (anything_is_kept v old.cycle) (history_is_sound v history) tt is
+
+  -- each step has the cycle's number
+  pub stamps_of_cycle : All (λ step. stamp_of step ≡ old.cycle) report.steps
+  stamps_of_cycle =
+      All-Every (λ step. stamp_of step ≡ old.cycle) report.steps
+      (steps_of_cycle v (history_is_legal v history) steps old new lines report (history_is_sound v history) (history_has_steps v history) is)
+
+  -- it dispatches something, or else stalls for one reason
+  pub cycle_tells : IsCounted (report.dispatched == 0) report.stall
+  cycle_tells =
+      let legal = history_is_legal v history in
+      let width = ap (λ (w : Values). w.dispatch_width) passes_here.sends.basics.shape.values in
+      let tells = dispatch_tells (sent_all lines old) (omega (arith, width, legal.pipeline.dispatch_width)) in
+      subst (λ o. IsCounted (report.dispatched == 0) o) (sym passes_here.report_is.1) (subst (λ n. IsCounted (n == 0) (stall_of (dispatching lines old))) (sym passes_here.report_is.0) tells)
+
+-- over a run
+
+pub run_tells : (v : Values) {arrivals : List Arrival} (steps : List Step) {old new : Hardware} {reports : List Report} → Cycles arrivals old reports new → History v steps old → AllTell reports × (new.cycle ≡ old.cycle + length reports)
+run_tells v steps ended history = (tt, omega arith)
+run_tells v steps (cycled {old = old} {middle = middle} {report = report} {reports = reports} is rest) history =
+    let passed = passes_here v history is in
+    let next : middle.cycle ≡ old.cycle + 1 = ap (λ (h : Hardware). h.cycle) passed.others_stay in
+    let further = run_tells v (steps ++ report.steps) rest (went_on history is) in
+    ((cycle_tells v history is, further.0), omega (arith, further.1, next))
+
+-- busy cycles and stalls make the cycles of a run
+pub counts_of_runs : {arrivals : List Arrival} {old new : Hardware} {reports : List Report} → Reachable old → Cycles arrivals old reports new →
+    (busy_of reports + stall_cycles (stalls_of reports) ≡ length reports) × (new.cycle ≡ old.cycle + length reports)
+counts_of_runs {reports = reports} reached cycles =
+    let before = reachable_has_history reached in
+    let tells = run_tells before.0 before.1 cycles before.2 in
+    (busy_and_stalls reports tells.0, tells.1)

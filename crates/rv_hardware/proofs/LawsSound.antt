@@ -1,0 +1,171 @@
+-- Each instruction in flight has stamps in order, and executes for its cost.
+use Rattle.std.proofs.Common.{◌≡◌, ℕ, ◌+◌, ◌≤◌, ◌<◌, ◌⊎◌, Bool, true, false, cond, is_some, ℤ, List, take, Option, Some, None, option_and_then, IfSome, inl, inr, refl, sym, subst, ap, arith}
+use Rattle.std.specs.List.{list_all}
+use Rattle.std.specs.Option.{unwrap_or}
+use Rattle.rv_decode.specs.Decodes.{instruction_of}
+use Rattle.rv_isa.specs.Description.{IsLegal, kind_values}
+use Rattle.rv_isa.specs.Operation.{bytes_of, width_of}
+use Rattle.rv_isa.specs.Word.{sum, modulo_word}
+use Rattle.rv_isa.specs.declared.instructions.Instr.{Instr}
+use Rattle.rv_isa.specs.declared.instructions.Instr.TheVariants.{Load, FenceI, Csr, Mret}
+use Rattle.rv_isa.specs.declared.operations.Kind.{Kind}
+use Rattle.rv_isa.specs.declared.operations.Kind.TheVariants as kind
+use Rattle.rv_isa.specs.declared.operations.LoadForm.{LoadForm}
+use Rattle.rv_isa.specs.declared.values.CacheValues.{CacheValues}
+use Rattle.rv_isa.specs.declared.values.Values.{Values}
+use Rattle.rv_arch.specs.State.{State, register_of}
+use Rattle.rv_cache.specs.Cache.{cost_of_access, eviction_cost}
+use Rattle.rv_cache.specs.declared.line.CacheLine.{CacheLine}
+use Rattle.rv_memory.specs.Memory.{is_aligned, is_in_ram}
+use Rattle.rv_front.specs.declared.fetched.Fetched.{Fetched}
+use Rattle.rv_rob.specs.declared.entry.Entry.{Entry}
+use Rattle.rv_rob.specs.declared.entry.Stage.{Stage}
+use Rattle.rv_rob.specs.declared.entry.Stage.TheVariants.{Waiting, Running, Finished}
+use Rattle.rv_stores.specs.Queue.{forwarded}
+use Rattle.rv_hardware.specs.Hardware.{Hardware}
+use Rattle.rv_hardware.specs.InFlight.{is_serialising}
+use Rattle.rv_hardware.specs.Issue.{Path, Without, FromStores, FromCache, path, path_of, cost_of, is_load, is_of_kind, kind_of_word}
+use Rattle.rv_hardware.specs.Laws.{IsCost, IsLoadCost}
+use Rattle.rv_hardware.specs.Result.{result_of_word}
+use Rattle.rv_hardware.specs.Seen.{layout_of, seen_behind, stores_behind}
+use Rattle.rv_hardware.proofs.LawsIssue.{message_at}
+use Rattle.rv_hardware.proofs.LawsMarks.{Start, start_of_issue}
+use Rattle.rv_hardware.proofs.LawsShape.{HasShape}
+
+-- an execution costs what its kind costs, unless it gives a fault
+abbrev pub SoundCost : Values → Option Instr → Start → Type 0
+SoundCost v i s = (s.faults ≡ true) ⊎ IfSome (kind_of_word i) (λ k. IsCost v (is_load i) k s.cost)
+
+-- by the stage: D is the cycle of dispatch, and the other stamps are below bounds
+abbrev pub SoundStage : Values → Option Instr → ℕ → ℕ → ℕ → Stage → Type 0
+SoundStage v i D issue_bound bound Waiting = (is_some (kind_of_word i) ≡ true) ⊎ (is_serialising i ≡ true)
+SoundStage v i D issue_bound bound (Running issue message) =
+    (is_some (kind_of_word i) ≡ true) × (D < issue.cycle) × (issue.cycle < issue_bound) × SoundCost v i (start_of_issue issue message)
+SoundStage v i D issue_bound bound (Finished (Some issue) cycle message) =
+    (is_some (kind_of_word i) ≡ true) × (D < issue.cycle) × (issue.cycle + issue.cost ≤ cycle) × (cycle < bound) × SoundCost v i (start_of_issue issue message)
+SoundStage v i D issue_bound bound (Finished None cycle message) =
+    (kind_of_word i ≡ None) × (is_serialising i ≡ false) × (cycle ≡ D) × (i ≡ None → is_some message.fault ≡ true)
+
+pub record SoundEntry (v : Values) (dispatched_below issue_bound bound : ℕ) (e : Entry) : Type 0 where
+  pub decoded : e.instruction ≡ option_and_then instruction_of e.word
+  pub after_fetch : e.fetched < e.dispatched
+  pub by_now : e.dispatched < dispatched_below
+  pub stage : SoundStage v e.instruction e.dispatched issue_bound bound e.stage
+
+abbrev pub SoundFetched : ℕ → Fetched → Type 0
+SoundFetched bound f = (f.cycle < bound) × (f.instruction ≡ option_and_then instruction_of f.word)
+
+stage_later : (v : Values) (i : Option Instr) (D a b a' b' : ℕ) (st : Stage) → a ≤ a' → b ≤ b' → SoundStage v i D a b st → SoundStage v i D a' b' st
+stage_later v i D a b a' b' Waiting le le' h = h
+stage_later v i D a b a' b' (Running issue message) le le' h = (h.0, h.1, omega (arith, h.2), h.3)
+stage_later v i D a b a' b' (Finished (Some issue) cycle message) le le' h = (h.0, h.1, h.2, omega (arith, h.3), h.4)
+stage_later v i D a b a' b' (Finished None cycle message) le le' h = h
+
+pub sound_later : (v : Values) (d a b d' a' b' : ℕ) → d ≤ d' → a ≤ a' → b ≤ b' → (e : Entry) → SoundEntry v d a b e → SoundEntry v d' a' b' e
+sound_later v d a b d' a' b' le le' le'' e h = record {
+  decoded = h.decoded;
+  after_fetch = h.after_fetch;
+  by_now = omega (arith, h.by_now);
+  stage = stage_later v e.instruction e.dispatched a b a' b' e.stage le' le'' h.stage;
+}
+
+-- an instruction with a unit does not serialise
+pub kind_is_plain : (i : Option Instr) → is_some (kind_of_word i) ≡ true → is_serialising i ≡ false
+kind_is_plain None h = refl
+kind_is_plain (Some FenceI) h = absurd (cc)
+kind_is_plain (Some (Csr op rd csr source)) h = absurd (cc)
+kind_is_plain (Some Mret) h = absurd (cc)
+kind_is_plain i h = refl
+
+pub serial_has_no_kind : (i : Option Instr) → is_serialising i ≡ true → kind_of_word i ≡ None
+serial_has_no_kind None h = refl
+serial_has_no_kind (Some FenceI) h = refl
+serial_has_no_kind (Some (Csr op rd csr source)) h = refl
+serial_has_no_kind (Some Mret) h = refl
+serial_has_no_kind i h = absurd (cc)
+
+-- the kind that is asked for is the instruction's
+pub is_of_kind_is : (k : Kind) (o : Option Kind) → is_of_kind k o ≡ true → o ≡ Some k
+is_of_kind_is kind.Alu (Some kind.Alu) h = refl
+is_of_kind_is kind.Mul (Some kind.Mul) h = refl
+is_of_kind_is kind.Div (Some kind.Div) h = refl
+is_of_kind_is kind.Mem (Some kind.Mem) h = refl
+is_of_kind_is k o h = absurd (cc)
+
+pub kind_is_asked : (k : Kind) → is_of_kind k (Some k) ≡ true
+kind_is_asked kind.Alu = refl
+kind_is_asked kind.Mul = refl
+kind_is_asked kind.Div = refl
+kind_is_asked kind.Mem = refl
+
+-- the word of an instruction decodes to it
+decodes_by : (i : Option Instr) (word : Option ℕ) → i ≡ option_and_then instruction_of word → (i ≡ None → ⊥) → instruction_of (unwrap_or word 0) ≡ i
+decodes_by i None is some = absurd (some is)
+decodes_by i (Some word) is some = sym is
+
+pub row_decodes : (e : Entry) → e.instruction ≡ option_and_then instruction_of e.word → (e.instruction ≡ None → ⊥) → instruction_of (unwrap_or e.word 0) ≡ e.instruction
+row_decodes e is some = decodes_by e.instruction e.word is some
+
+-- what an access costs is one of the costs of a load
+
+evicts : (c : CacheValues) (forward : ℕ) (dropped : Option CacheLine) → IsLoadCost forward c (c.hit + c.miss + eviction_cost c dropped)
+evicts c forward None = inr (inr (inl (omega arith)))
+evicts c forward (Some line) = by_dirty line.dirty
+  where
+    by_dirty : (b : Bool) → IsLoadCost forward c (c.hit + c.miss + cond b c.write_back 0)
+    by_dirty true = inr (inr (inr refl))
+    by_dirty false = inr (inr (inl (omega arith)))
+
+access_costs : (c : CacheValues) (forward : ℕ) (hit : Bool) (dropped : Option CacheLine) → IsLoadCost forward c (cost_of_access c hit dropped)
+access_costs c forward true dropped = inr (inl refl)
+access_costs c forward false dropped = evicts c forward dropped
+
+-- what an instruction costs that starts; a load that takes no bytes faults
+module _ (v : Values) (h : Hardware) (shape : HasShape v h) (older : List Entry) (s : State) (word : Option ℕ) where
+  abbrev Costs : Kind → Option Instr → Type 0
+  Costs k i = (is_some (result_of_word (layout_of h.values) s h.lines word i).fault ≡ true) ⊎ IfSome (kind_of_word i) (λ j. IsCost v (is_load i) j (cost_of h k (path_of h older s i)))
+
+  latency_of_kind : (k : Kind) (o : Option Kind) → is_of_kind k o ≡ true → IfSome o (λ j. (kind_values h.values k).latency ≡ (kind_values v j).latency)
+  latency_of_kind k o is = rw (is_of_kind_is k o is) (ap (λ w. (kind_values w k).latency) shape.values)
+
+  module _ (k : Kind) (address count : ℕ) where
+    from_stores_or_cache : (b : Bool) → IsLoadCost v.forward v.cache (cost_of h k (cond b FromStores (FromCache address)))
+    from_stores_or_cache true = inl (ap (λ (w : Values). w.forward) shape.values)
+    from_stores_or_cache false = subst (λ c. IsLoadCost v.forward c (cost_of h k (FromCache address))) shape.cache (access_costs h.cache.values v.forward _ _)
+
+  load_faults : (form : LoadForm) (rd rs1 : ℕ) (offset : ℤ) (a b : Bool) (k : Kind) → is_aligned (sum (register_of s rs1) (modulo_word offset)) (bytes_of (width_of form)) ≡ a →
+      is_in_ram (layout_of h.values) (sum (register_of s rs1) (modulo_word offset)) (bytes_of (width_of form)) ≡ b → (w : Option ℕ) →
+      (is_some (result_of_word (layout_of h.values) s h.lines w (Some (Load form rd rs1 offset))).fault ≡ true) ⊎ IsLoadCost v.forward v.cache (cost_of h k (path_of h older s (Some (Load form rd rs1 offset))))
+  load_faults form rd rs1 offset a b k aligned inside None = inl refl
+  load_faults form rd rs1 offset false b k aligned inside (Some w) = inl (rw aligned refl)
+  load_faults form rd rs1 offset true false k aligned inside (Some w) = inl (rw (aligned, inside) refl)
+  load_faults form rd rs1 offset true true k aligned inside (Some w) =
+      inr (rw (aligned, inside) (from_stores_or_cache k (sum (register_of s rs1) (modulo_word offset)) (bytes_of (width_of form)) (list_all is_some (take (bytes_of (width_of form)) (forwarded (stores_behind h older) (sum (register_of s rs1) (modulo_word offset)) (bytes_of (width_of form)))))))
+
+  pub costs_of : (k : Kind) (i : Option Instr) → is_of_kind k (kind_of_word i) ≡ true → Costs k i
+  costs_of k None is = absurd (let none = is_of_kind_is k None is in cc)
+  costs_of k (Some (Load form rd rs1 offset)) is = load_faults form rd rs1 offset _ _ k refl refl word
+  costs_of k i is = inr (latency_of_kind k (kind_of_word i) is)
+
+pub issued_cost : (v : Values) (h : Hardware) → HasShape v h → (older : List Entry) (e : Entry) (k : Kind) → is_of_kind k (kind_of_word e.instruction) ≡ true →
+    SoundCost v e.instruction (start_of_issue (record { cycle = h.cycle; cost = cost_of h k (path h older e) }) (message_at h older e))
+issued_cost v h shape older e k is = costs_of v h shape older (seen_behind h older e.pc) e.word k e.instruction is
+
+-- every cost is at least one cycle
+
+positive_latency : (v : Values) → IsLegal v → (k : Kind) → 0 < (kind_values v k).latency
+positive_latency v legal kind.Alu = omega (arith, legal.kinds.alu.latency)
+positive_latency v legal kind.Mul = omega (arith, legal.kinds.mul.latency)
+positive_latency v legal kind.Div = omega (arith, legal.kinds.div.latency)
+positive_latency v legal kind.Mem = omega (arith, legal.kinds.mem.latency)
+
+positive_access : (c : CacheValues) (forward : ℕ) (hit : Bool) (dropped : Option CacheLine) → 1 ≤ c.hit → 0 < cost_of_access c hit dropped
+positive_access c forward true dropped le = le
+positive_access c forward false dropped le = omega (arith, le)
+
+pub positive_cost : (v : Values) → IsLegal v → (h : Hardware) → HasShape v h → (k : Kind) (p : Path) → 0 < cost_of h k p
+positive_cost v legal h shape k Without = let latency = positive_latency v legal k in let same = ap (λ (w : Values). (kind_values w k).latency) shape.values in omega (arith, latency, same)
+positive_cost v legal h shape k FromStores = let same = ap (λ (w : Values). w.forward) shape.values in omega (arith, same, legal.pipeline.forward)
+positive_cost v legal h shape k (FromCache address) =
+    let same = ap (λ (c : CacheValues). c.hit) shape.cache in
+    positive_access h.cache.values 0 _ _ (omega (arith, same, legal.cache.1.hit))

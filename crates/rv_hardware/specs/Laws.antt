@@ -1,0 +1,94 @@
+-- The laws that the reported steps of a run obey, by pairs and counts alone.
+use Rattle.std.specs.Prelude.{◌≡◌, ℕ, ◌+◌, ◌<◌, ◌≤◌, ◌==◌, ◌⊎◌, Bool, true, false, List, is_some, IfSome, MatchOption, All, AllPairs, count_by}
+use Rattle.rv_isa.specs.Description.{kind_values}
+use Rattle.rv_isa.specs.declared.operations.Kind.{Kind}
+use Rattle.rv_isa.specs.declared.values.CacheValues.{CacheValues}
+use Rattle.rv_isa.specs.declared.values.Values.{Values}
+use Rattle.rv_hardware.specs.Issue.{kind_of_word}
+use Rattle.rv_hardware.specs.Stamps.{rows_of, EachBehind, instruction_of_row, is_store_row, is_load_row, is_row_of_kind, sources_of_row, producer_among, flushes, is_interrupt, is_fetched_in, is_dispatched_in, is_issued_in, is_broadcast_in, is_buffered_in, is_in_flight_in, is_stationed_in, is_executing_in, uses_port}
+use Rattle.rv_hardware.specs.Step.{stamp_of}
+use Rattle.rv_hardware.specs.declared.report.StallCounts.{StallCounts}
+use Rattle.rv_hardware.specs.declared.step.Execution.{Execution}
+use Rattle.rv_hardware.specs.declared.step.Row.{Row}
+use Rattle.rv_hardware.specs.declared.step.Step.{Step}
+use Rattle.rv_hardware.specs.declared.step.Step.TheVariants.{Retired, Trap, Interrupt}
+
+-- fetched, dispatched, issued, broadcast and retired in this order; what uses no unit is neither issued nor broadcast
+pub record HasOrderedStamps (row : Row) : Type 0 where
+  pub dispatched_after_fetch : row.fetched < row.dispatched
+  pub retired_after_dispatch : row.dispatched < row.retired
+  pub executed_by_a_unit : is_some row.execution ≡ is_some (kind_of_word (instruction_of_row row))
+  pub executed_between : IfSome row.execution (λ x. (row.dispatched < x.issued) × (x.issued + x.cost ≤ x.broadcast) × (x.broadcast < row.retired))
+
+-- what a load costs: its bytes come from older stores, or from the cache by a hit, a miss, or a miss that writes a line back
+abbrev pub IsLoadCost : ℕ → CacheValues → ℕ → Type 0
+IsLoadCost forward cache cost =
+    (cost ≡ forward) ⊎ (cost ≡ cache.hit) ⊎ (cost ≡ cache.hit + cache.miss) ⊎ (cost ≡ cache.hit + cache.miss + cache.write_back)
+
+-- the latency of its kind, but for a load
+abbrev pub IsCost : Values → Bool → Kind → ℕ → Type 0
+IsCost values true kind cost = IsLoadCost values.forward values.cache cost
+IsCost values false kind cost = cost ≡ (kind_values values kind).latency
+
+abbrev pub HasCost : Values → Row → Type 0
+HasCost values row =
+    IfSome row.execution (λ x. IfSome (kind_of_word (instruction_of_row row)) (λ kind. IsCost values (is_load_row row) kind x.cost))
+
+-- a producer was broadcast before an instruction issued; where it uses no unit, it retired before the instruction was dispatched
+abbrev pub IsKnownBefore : Row → Execution → Row → Type 0
+IsKnownBefore row x producer = MatchOption producer.execution (producer.retired < row.dispatched) (λ y. y.broadcast < x.issued)
+
+-- the producers of a row's operands that use a unit were broadcast before a cycle
+abbrev pub HasOperandsIn : ℕ → List Row → Row → Type 0
+HasOperandsIn cycle before row =
+    All (λ source. IfSome (producer_among before source) (λ producer. IfSome producer.execution (λ y. y.broadcast < cycle))) (sources_of_row row)
+
+-- how many cycles stalled, for all reasons
+abbrev pub stall_cycles : StallCounts → ℕ
+stall_cycles stalls = stalls.fetch + stalls.serial + stalls.rob + stalls.station + stalls.store
+
+-- b is fetched when a retires or later
+abbrev pub IsFetchedSince : Step → Step → Type 0
+IsFetchedSince a (Retired b) = stamp_of a ≤ b.fetched
+IsFetchedSince a (Trap pc cause value cycle) = Unit {0}
+IsFetchedSince a (Interrupt pc cause cycle) = Unit {0}
+
+-- The laws, of the steps of the cycles from `from` on and below `to`. A stamp is the number of a cycle.
+pub record Laws (values : Values) (from to : ℕ) (steps : List Step) : Type 0 where
+  -- each step is of a cycle of the run
+  pub within : All (λ step. (from ≤ stamp_of step) × (stamp_of step < to)) steps
+  -- each instruction passes through the stages in order, and executes for its cost
+  pub stamps_in_order : All HasOrderedStamps (rows_of steps)
+  pub costs : All (HasCost values) (rows_of steps)
+  -- steps come in program order, at most `commit_width` in a cycle; an interrupt is the one step of its cycle, and a trap or a
+  -- serialising instruction the last
+  pub steps_in_order : AllPairs (λ a b. stamp_of a ≤ stamp_of b) steps
+  pub commit_width : (c : ℕ) → count_by (λ step. stamp_of step == c) steps ≤ values.commit_width
+  pub interrupts_alone : AllPairs (λ a b. is_interrupt b ≡ true → stamp_of a < stamp_of b) steps
+  pub flushes_end_the_cycle : AllPairs (λ a b. flushes a ≡ true → stamp_of a < stamp_of b) steps
+  -- instructions are fetched and dispatched in order, at most a width in a cycle
+  pub fetched_in_order : AllPairs (λ a b. a.fetched ≤ b.fetched) (rows_of steps)
+  pub dispatched_in_order : AllPairs (λ a b. a.dispatched ≤ b.dispatched) (rows_of steps)
+  pub fetch_width : (c : ℕ) → count_by (is_fetched_in c) (rows_of steps) ≤ values.fetch_width
+  pub dispatch_width : (c : ℕ) → count_by (is_dispatched_in c) (rows_of steps) ≤ values.dispatch_width
+  -- an instruction issues behind the broadcasts of its operands, and a load behind those of all older stores
+  pub operands : EachBehind (λ before row. IfSome row.execution (λ x. All (λ source. IfSome (producer_among before source) (IsKnownBefore row x)) (sources_of_row row))) (rows_of steps)
+  pub loads_after_stores : AllPairs (λ a b. is_store_row a ≡ true → is_load_row b ≡ true → IfSome a.execution (λ x. IfSome b.execution (λ y. x.broadcast < y.issued))) (rows_of steps)
+  -- at most `bus_width` results are broadcast in a cycle, of those that are ready the oldest; the bus is not idle while one waits
+  pub bus_width : (c : ℕ) → count_by (is_broadcast_in c) (rows_of steps) ≤ values.bus_width
+  pub oldest_result_first : AllPairs (λ a b. IfSome a.execution (λ x. IfSome b.execution (λ y. x.issued + x.cost ≤ y.broadcast → x.broadcast ≤ y.broadcast))) (rows_of steps)
+  pub no_idle_bus : EachBehind (λ before row. IfSome row.execution (λ x. (c : ℕ) → from ≤ c → x.issued + x.cost ≤ c → c < x.broadcast → values.bus_width ≤ count_by (is_broadcast_in c) before)) (rows_of steps)
+  -- the reorder buffer, the fetch buffer and the stations hold no more than they have room for
+  pub reorder_buffer : (c : ℕ) → count_by (is_in_flight_in c) (rows_of steps) ≤ values.rob
+  pub fetch_buffer : (c : ℕ) → count_by (is_buffered_in c) (rows_of steps) ≤ values.fetch_buffer
+  pub stations : (kind : Kind) (c : ℕ) → count_by (is_stationed_in kind c) (rows_of steps) ≤ (kind_values values kind).stations
+  -- a unit executes one instruction at a time, or begins one a cycle where it is pipelined, and the port serves one load
+  pub pipelined_units : (kind : Kind) → (kind_values values kind).pipelined ≡ true → (c : ℕ) → count_by (is_issued_in kind c) (rows_of steps) ≤ (kind_values values kind).units
+  pub other_units : (kind : Kind) → (kind_values values kind).pipelined ≡ false → (c : ℕ) → count_by (is_executing_in kind c) (rows_of steps) ≤ (kind_values values kind).units
+  pub port : AllPairs (λ a b. uses_port values.forward a ≡ true → uses_port values.forward b ≡ true → IfSome a.execution (λ x. IfSome b.execution (λ y. (x.issued + x.cost ≤ y.issued) ⊎ (y.issued + y.cost ≤ x.issued)))) (rows_of steps)
+  -- no pipelined unit is idle while an instruction that is no load has its operands
+  pub no_idle_unit : (kind : Kind) → (kind_values values kind).pipelined ≡ true → EachBehind (λ before row. is_row_of_kind kind row ≡ true → is_load_row row ≡ false → IfSome row.execution (λ x. (c : ℕ) → from ≤ c → row.dispatched < c → c < x.issued → HasOperandsIn c before row → (kind_values values kind).units ≤ count_by (is_issued_in kind c) before)) (rows_of steps)
+  -- behind a trap, an interrupt or a serialising instruction everything is fetched anew
+  pub fetched_anew : AllPairs (λ a b. flushes a ≡ true → IsFetchedSince a b) steps
+  -- dispatch waits for nothing but room
+  pub no_idle_dispatch : EachBehind (λ before row. is_store_row row ≡ false → (c : ℕ) → from ≤ c → row.fetched < c → c < row.dispatched → All (λ earlier. earlier.dispatched ≤ c) before → (values.dispatch_width ≤ count_by (is_dispatched_in c) before) ⊎ (values.rob ≤ count_by (is_in_flight_in c) before) ⊎ ((kind : Kind) × (is_row_of_kind kind row ≡ true) × ((kind_values values kind).stations ≤ count_by (is_stationed_in kind c) before))) (rows_of steps)

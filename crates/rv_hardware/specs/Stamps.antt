@@ -1,0 +1,112 @@
+-- What the laws say of reported steps, by their stamps alone.
+use Rattle.std.specs.Prelude.{◌≡◌, ℕ, ◌+◌, ◌==◌, ◌&&◌, not, nat_le, nat_lt, Bool, true, false, if◌then◌else◌, List, [], ◌∷◌, ◌++◌, Option, Some, None}
+use Rattle.rv_decode.specs.Decodes.{instruction_of}
+use Rattle.rv_isa.specs.declared.instructions.Instr.{Instr}
+use Rattle.rv_isa.specs.declared.operations.Kind.{Kind}
+use Rattle.rv_hardware.specs.InFlight.{is_serialising, is_store, is_target, target_of_word}
+use Rattle.rv_hardware.specs.Issue.{is_load, is_of_kind, kind_of_word, sources_of_word}
+use Rattle.rv_hardware.specs.declared.step.Execution.{Execution}
+use Rattle.rv_hardware.specs.declared.step.Row.{Row}
+use Rattle.rv_hardware.specs.declared.step.Step.{Step}
+use Rattle.rv_hardware.specs.declared.step.Step.TheVariants.{Retired, Trap, Interrupt}
+
+-- the retirements among some steps
+abbrev pub rows_of : List Step → List Row
+rows_of [] = []
+rows_of (Retired row ∷ steps) = row ∷ rows_of steps
+rows_of (Trap pc cause value cycle ∷ steps) = rows_of steps
+rows_of (Interrupt pc cause cycle ∷ steps) = rows_of steps
+
+-- P of each element and of those before it, in order
+abbrev pub EachBehind : {X : Type 0} → (List X → X → Type 0) → List X → Type 0
+EachBehind {X} P xs = (before after : List X) (x : X) → xs ≡ before ++ x ∷ after → P before x
+
+-- R of each element and the one that comes next
+abbrev pub EachNext : {X : Type 0} → (X → X → Type 0) → List X → Type 0
+EachNext {X} R xs = (before after : List X) (x y : X) → xs ≡ before ++ x ∷ y ∷ after → R x y
+
+-- the last element that passes a test
+abbrev pub last_from : {X : Type 0} → Option X → (X → Bool) → List X → Option X
+last_from found test [] = found
+last_from found test (x ∷ xs) = last_from (if test x then Some x else found) test xs
+
+abbrev pub last_that : {X : Type 0} → (X → Bool) → List X → Option X
+last_that test xs = last_from None test xs
+
+abbrev pub instruction_of_row : Row → Option Instr
+instruction_of_row row = instruction_of row.word
+
+abbrev pub is_store_row : Row → Bool
+is_store_row row = is_store (instruction_of_row row)
+
+abbrev pub is_load_row : Row → Bool
+is_load_row row = is_load (instruction_of_row row)
+
+abbrev pub is_row_of_kind : Kind → Row → Bool
+is_row_of_kind kind row = is_of_kind kind (kind_of_word (instruction_of_row row))
+
+abbrev pub sources_of_row : Row → List (Option ℕ)
+sources_of_row row = sources_of_word (instruction_of_row row)
+
+abbrev pub writes_register : ℕ → Row → Bool
+writes_register register row = is_target register (target_of_word (instruction_of_row row))
+
+-- the last of some rows that writes a register
+abbrev pub producer_among : List Row → Option ℕ → Option Row
+producer_among rows None = None
+producer_among rows (Some register) = last_that (writes_register register) rows
+
+-- a step behind which everything is fetched anew: a trap, an interrupt, a serialising instruction
+abbrev pub flushes : Step → Bool
+flushes (Retired row) = is_serialising (instruction_of_row row)
+flushes (Trap pc cause value cycle) = true
+flushes (Interrupt pc cause cycle) = true
+
+abbrev pub is_interrupt : Step → Bool
+is_interrupt (Retired row) = false
+is_interrupt (Trap pc cause value cycle) = false
+is_interrupt (Interrupt pc cause cycle) = true
+
+-- the execution of a row passes a test, where it has one
+abbrev pub passes : (Execution → Bool) → Option Execution → Bool
+passes test None = false
+passes test (Some execution) = test execution
+
+abbrev pub is_fetched_in : ℕ → Row → Bool
+is_fetched_in cycle row = row.fetched == cycle
+
+abbrev pub is_dispatched_in : ℕ → Row → Bool
+is_dispatched_in cycle row = row.dispatched == cycle
+
+abbrev pub is_issued_in : Kind → ℕ → Row → Bool
+is_issued_in kind cycle row = is_row_of_kind kind row && passes (λ execution. execution.issued == cycle) row.execution
+
+abbrev pub is_broadcast_in : ℕ → Row → Bool
+is_broadcast_in cycle row = passes (λ execution. execution.broadcast == cycle) row.execution
+
+-- at the end of a cycle the word is in the fetch buffer
+abbrev pub is_buffered_in : ℕ → Row → Bool
+is_buffered_in cycle row = nat_le row.fetched cycle && nat_lt cycle row.dispatched
+
+-- at the end of a cycle the instruction is in the reorder buffer
+abbrev pub is_in_flight_in : ℕ → Row → Bool
+is_in_flight_in cycle row = nat_le row.dispatched cycle && nat_lt cycle row.retired
+
+-- at the end of a cycle it waits in a station of a kind
+abbrev pub is_stationed_in : Kind → ℕ → Row → Bool
+is_stationed_in kind cycle row =
+    is_row_of_kind kind row && nat_le row.dispatched cycle && passes (λ execution. nat_lt cycle execution.issued) row.execution
+
+-- in a cycle it executes on a unit of a kind
+abbrev pub is_executing_in : Kind → ℕ → Row → Bool
+is_executing_in kind cycle row =
+    is_row_of_kind kind row &&
+    passes (λ execution. nat_le execution.issued cycle && nat_lt cycle (execution.issued + execution.cost)) row.execution
+
+-- at the end of a cycle the store is in the store queue, where its access takes at least so many cycles
+abbrev pub is_queued_in : ℕ → ℕ → Row → Bool
+is_queued_in hit cycle row = is_store_row row && nat_le row.dispatched cycle && nat_lt cycle (row.retired + hit)
+
+-- it is a load that takes its bytes from the cache, as its cost tells
+abbrev pub uses_port : ℕ → Row → Bool
+uses_port forward row = is_load_row row && passes (λ execution. not (execution.cost == forward)) row.execution

@@ -1,0 +1,4 @@
+mod Counts
+mod Ends
+mod Shown
+pub mod Writing

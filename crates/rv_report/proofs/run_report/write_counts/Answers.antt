@@ -1,0 +1,31 @@
+use Rattle.std.proofs.Common.{List, ℕ, ◌++◌, ap, append-nil, codes}
+use Rattle.rv_report.specs.Line.{count_line, line_of, ratio_text}
+use Rattle.rv_report.specs.Totals.{total_lines, stall_lines}
+use Rattle.rv_report.specs.declared.totals.Totals.{Totals}
+use Rattle.rv_report.proofs.Writing.{Appends-same, beginning-same, on_ok_by, on_err_by}
+use Rattle.rv_report.proofs.run_report.write_counts.Goals as goal
+
+-- the lines of the counts, with what comes behind them
+abbrev lines_before : Totals → List ℕ → List ℕ
+lines_before t rest =
+    count_line (codes "cycles") t.cycles ++
+    (count_line (codes "retired") t.steps.retired ++
+    (count_line (codes "traps") t.steps.traps ++
+    (count_line (codes "interrupts") t.steps.interrupts ++
+    (line_of (codes "cpi") (ratio_text t.cycles t.steps.retired) ++
+    (count_line (codes "longest_gap") t.longest_gap ++
+    (count_line (codes "busy") t.busy ++
+    (count_line (codes "stall fetch") t.stalls.fetch ++
+    (count_line (codes "stall serial") t.stalls.serial ++
+    (count_line (codes "stall rob") t.stalls.rob ++
+    (count_line (codes "stall station") t.stalls.station ++ rest))))))))))
+
+pub returns-clause-whole : goal.returns-clause-whole
+unfolding total_lines stall_lines count_line
+returns-clause-whole g c =
+    on_ok_by _ (Appends-same _ _ _ _ (ap (lines_before c.args.totals.now) (append-nil _))) c.write_fields.ensures.whole
+
+pub returns-clause-beginning : goal.returns-clause-beginning
+unfolding total_lines stall_lines count_line
+returns-clause-beginning g c =
+    on_err_by _ (beginning-same _ _ _ _ (ap (lines_before c.args.totals.now) (append-nil _))) c.write_fields.ensures.beginning

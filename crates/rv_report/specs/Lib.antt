@@ -1,0 +1,9 @@
+pub mod Line
+pub mod Written
+pub mod ReadField
+pub mod State
+pub mod Memory
+pub mod ReferenceReport
+pub mod Rows
+pub mod Totals
+pub mod RunReport

@@ -1,0 +1,50 @@
+-- The lines of a trace, one a step.
+use Rattle.std.specs.Prelude.{ℕ, List, ◌++◌, codes, decimal, Option, Some, None}
+use Rattle.std.specs.List.{flat_map}
+use Rattle.rv_isa.specs.Cause.{code_of}
+use Rattle.rv_hardware.specs.declared.step.Execution.{Execution}
+use Rattle.rv_hardware.specs.declared.step.Row.{Row}
+use Rattle.rv_hardware.specs.declared.step.Step.{Step}
+use Rattle.rv_hardware.specs.declared.step.Step.TheVariants.{Retired, Trap, Interrupt}
+use Rattle.rv_report.specs.Line.{word_text}
+
+-- a cycle, or a hyphen where there is none
+unfoldable pub stamp_text : Option ℕ → List ℕ
+stamp_text None = codes "-"
+stamp_text (Some cycle) = decimal cycle
+
+abbrev pub issued_in : Option Execution → Option ℕ
+issued_in None = None
+issued_in (Some execution) = Some execution.issued
+
+abbrev pub broadcast_in : Option Execution → Option ℕ
+broadcast_in None = None
+broadcast_in (Some execution) = Some execution.broadcast
+
+-- pc, word, and the cycles of fetch, dispatch, issue, broadcast and retirement
+unfoldable pub passage_text : Row → List ℕ
+passage_text row =
+    codes "R " ++ (word_text row.pc ++ (codes " " ++ (word_text row.word ++
+    (codes " F" ++ (decimal row.fetched ++ (codes " D" ++ (decimal row.dispatched ++
+    (codes " I" ++ (stamp_text (issued_in row.execution) ++ (codes " B" ++ (stamp_text (broadcast_in row.execution) ++
+    (codes " C" ++ decimal row.retired))))))))))))
+
+-- the register that was written, with its value, or a hyphen
+unfoldable pub written_text : Option (ℕ × ℕ) → List ℕ
+written_text None = codes " -\n"
+written_text (Some written) = codes " x" ++ (decimal written.0 ++ (codes "=" ++ (word_text written.1 ++ codes "\n")))
+
+-- a retired instruction
+unfoldable pub row_line : Row → List ℕ
+row_line row = passage_text row ++ written_text row.written
+
+-- the line of a step: a trap shows pc, cause, value and cycle, an interrupt pc, cause and cycle
+unfoldable pub step_line : Step → List ℕ
+step_line (Retired row) = row_line row
+step_line (Trap pc cause value cycle) = codes "T " ++ (word_text pc ++ (codes " " ++ (word_text (code_of cause) ++ (codes " " ++ (word_text value ++ (codes " C" ++ (decimal cycle ++ codes "\n")))))))
+step_line (Interrupt pc cause cycle) =
+    codes "N " ++ (word_text pc ++ (codes " " ++ (word_text cause ++ (codes " C" ++ (decimal cycle ++ codes "\n")))))
+
+-- the lines of some steps in order
+unfoldable pub trace_lines : List Step → List ℕ
+trace_lines steps = flat_map step_line steps

@@ -1,0 +1,61 @@
+-- What a run came to.
+use Rattle.std.specs.Prelude.{Bool, true, false, List, ◌++◌, codes, count_by, ℕ}
+use Rattle.rv_core.specs.declared.outcome.Outcome.{Outcome}
+use Rattle.rv_hardware.specs.declared.report.StallCounts.{StallCounts}
+use Rattle.rv_hardware.specs.declared.step.Step.{Step}
+use Rattle.rv_hardware.specs.declared.step.Step.TheVariants.{Retired, Trap, Interrupt}
+use Rattle.rv_report.specs.Line.{line_of, count_line, ratio_text}
+use Rattle.rv_report.specs.declared.totals.StepCounts.{StepCounts}
+use Rattle.rv_report.specs.declared.totals.Totals.{Totals}
+
+abbrev pub is_retired : Step → Bool
+is_retired (Retired row) = true
+is_retired _ = false
+
+abbrev pub is_trap : Step → Bool
+is_trap (Trap pc cause value cycle) = true
+is_trap _ = false
+
+abbrev pub is_interrupt : Step → Bool
+is_interrupt (Interrupt pc cause cycle) = true
+is_interrupt _ = false
+
+-- how many steps there are of each sort
+abbrev pub counts_of : List Step → StepCounts
+counts_of steps = record {
+  retired = count_by is_retired steps;
+  traps = count_by is_trap steps;
+  interrupts = count_by is_interrupt steps;
+}
+
+-- what an outcome of the core comes to
+abbrev pub totals_of : Outcome → Totals
+totals_of outcome = record {
+  stop = outcome.stop;
+  cycles = outcome.cycles;
+  steps = counts_of outcome.steps.items;
+  longest_gap = outcome.longest_gap;
+  busy = outcome.busy;
+  stalls = outcome.stalls;
+}
+
+-- the cycles that dispatched nothing, by the reason
+unfoldable pub stall_lines : StallCounts → List ℕ
+stall_lines stalls =
+    count_line (codes "stall fetch") stalls.fetch ++
+    (count_line (codes "stall serial") stalls.serial ++
+    (count_line (codes "stall rob") stalls.rob ++
+    (count_line (codes "stall station") stalls.station ++
+    count_line (codes "stall store") stalls.store)))
+
+-- the counts of a run
+unfoldable pub total_lines : Totals → List ℕ
+total_lines totals =
+    count_line (codes "cycles") totals.cycles ++
+    (count_line (codes "retired") totals.steps.retired ++
+    (count_line (codes "traps") totals.steps.traps ++
+    (count_line (codes "interrupts") totals.steps.interrupts ++
+    (line_of (codes "cpi") (ratio_text totals.cycles totals.steps.retired) ++
+    (count_line (codes "longest_gap") totals.longest_gap ++
+    (count_line (codes "busy") totals.busy ++
+    stall_lines totals.stalls))))))

@@ -1,0 +1,24 @@
+//! The reports of a run, as text: what a run of the core or of the one-at-a-time machine did, and the state that it left.
+//! A report is a function of both; where a write fails, what was written is a beginning of it.
+#![tactic(auto)]
+
+mod digits;
+mod fields;
+mod memory;
+mod options;
+mod output;
+mod reference_report;
+mod rows;
+mod run_report;
+mod state;
+#[cfg(test)]
+mod tests;
+mod totals;
+
+pub use digits::hexadecimal;
+pub use options::Options;
+pub use output::{ReportError, put, put_all};
+pub use reference_report::write_reference;
+pub use rows::write_steps;
+pub use run_report::{write_report, write_totals};
+pub use totals::{StepCounts, Totals, count_steps};

@@ -1,0 +1,62 @@
+ghost use Rattle.std.specs.Prelude.{◌≡◌, ℕ, List, length, Option, OnOk, OnErr};
+ghost use Rattle.std.specs.Io.KnownBytes.{Appends};
+ghost use Rattle.rv_report.specs.Memory.{memory_line, memory_lines};
+ghost use Rattle.rv_report.specs.Written.{AppendsBeginning};
+
+use crate::digits::hexadecimal;
+use crate::output::{ReportError, put_all};
+use rv_core::Core;
+use std::io::Write;
+
+/// Writes the line of a word of memory, or of `None` outside RAM.
+#[tactic(auto, unfolding(crate::specs::Memory::memory_line, crate::specs::Memory::memory_text, crate::specs::Line::line_of))]
+pub(crate) fn write_word<W: Write>(
+    writer: &mut W,
+    address: u32,
+    word: Option<u32>,
+) -> Result<(), ReportError>
+    ensures whole { OnOk result (Appends (W.contents writer.old) (W.contents writer.new) (memory_line address word)) }
+    ensures beginning { OnErr result (AppendsBeginning (W.contents writer.old) (W.contents writer.new) (memory_line address word)) }
+{
+    let place = hexadecimal(address);
+    match word {
+        Some(word) => {
+            let text = hexadecimal(word);
+            put_all(
+                writer,
+                &[b"m ", place.as_slice(), b" ", text.as_slice(), b"\n"],
+            )
+        }
+        None => put_all(writer, &[b"m ", place.as_slice(), b" ", b"--------", b"\n"]),
+    }
+}
+
+// The word of memory that programs see at an address, or `None` outside RAM.
+fn word_at(core: &Core, address: u32) -> Option<u32> {
+    let bytes = [
+        core.byte(address)?,
+        core.byte(address.wrapping_add(1))?,
+        core.byte(address.wrapping_add(2))?,
+        core.byte(address.wrapping_add(3))?,
+    ];
+    Some(u32::from_le_bytes(bytes))
+}
+
+/// Writes so many words of the core's memory from an address on.
+pub(crate) fn write_memory<W: Write>(
+    writer: &mut W,
+    core: &Core,
+    address: u32,
+    words: u32,
+) -> Result<(), ReportError>
+    ensures whole { OnOk result ((shown : List (Option ℕ)) × (length shown ≡ words)
+        × Appends (W.contents writer.old) (W.contents writer.new) (memory_lines address shown)) }
+    ensures beginning { OnErr result ((shown : List (Option ℕ)) × (length shown ≡ words)
+        × AppendsBeginning (W.contents writer.old) (W.contents writer.new) (memory_lines address shown)) }
+{
+    for number in 0..words {
+        let place = address.wrapping_add(number.wrapping_mul(4));
+        write_word(writer, place, word_at(core, place))?;
+    }
+    Ok(())
+}

@@ -1,0 +1,138 @@
+ghost use Rattle.std.specs.Prelude.{◌≡◌, List, ℕ, OnOk, OnErr};
+ghost use Rattle.std.specs.Io.KnownBytes.{Appends};
+ghost use Rattle.rv_report.specs.Totals.{total_lines};
+ghost use Rattle.rv_report.specs.RunReport.{end_lines, trace_of, IsEnd, IsReport};
+ghost use Rattle.rv_report.specs.Written.{AppendsBeginning};
+
+use crate::fields::{Field, Value, write_fields};
+use crate::memory::write_memory;
+use crate::options::Options;
+use crate::output::ReportError;
+use crate::rows::write_steps;
+use crate::state::{write_state, write_stop};
+use crate::totals::Totals;
+use rv_core::{Core, Outcome};
+use rv_hardware::Step;
+use std::io::Write;
+
+// The counts of a run.
+#[tactic(auto, unfolding(crate::specs::Totals::total_lines, crate::specs::Totals::stall_lines, crate::specs::Line::count_line))]
+fn write_counts<W: Write>(writer: &mut W, totals: &Totals) -> Result<(), ReportError>
+    ensures whole { OnOk result (Appends (W.contents writer.old) (W.contents writer.new) (total_lines totals.now)) }
+    ensures beginning { OnErr result (AppendsBeginning (W.contents writer.old) (W.contents writer.new) (total_lines totals.now)) }
+{
+    write_fields(
+        writer,
+        &[
+            Field {
+                name: "cycles",
+                value: Value::Count(totals.cycles),
+            },
+            Field {
+                name: "retired",
+                value: Value::Count(totals.steps.retired),
+            },
+            Field {
+                name: "traps",
+                value: Value::Count(totals.steps.traps),
+            },
+            Field {
+                name: "interrupts",
+                value: Value::Count(totals.steps.interrupts),
+            },
+            Field {
+                name: "cpi",
+                value: Value::Ratio {
+                    count: totals.cycles,
+                    each: totals.steps.retired,
+                },
+            },
+            Field {
+                name: "longest_gap",
+                value: Value::Count(totals.longest_gap),
+            },
+            Field {
+                name: "busy",
+                value: Value::Count(totals.busy),
+            },
+            Field {
+                name: "stall fetch",
+                value: Value::Count(totals.stalls.fetch),
+            },
+            Field {
+                name: "stall serial",
+                value: Value::Count(totals.stalls.serial),
+            },
+            Field {
+                name: "stall rob",
+                value: Value::Count(totals.stalls.rob),
+            },
+            Field {
+                name: "stall station",
+                value: Value::Count(totals.stalls.station),
+            },
+            Field {
+                name: "stall store",
+                value: Value::Count(totals.stalls.store),
+            },
+        ],
+    )
+}
+
+// Why a run ended, its counts, and the state that it left, but for memory.
+fn write_end<W: Write>(writer: &mut W, totals: &Totals, core: &Core) -> Result<(), ReportError>
+    ensures whole { OnOk result (Appends (W.contents writer.old) (W.contents writer.new) (end_lines totals.now core.now)) }
+    ensures beginning { OnErr result (AppendsBeginning (W.contents writer.old) (W.contents writer.new) (end_lines totals.now core.now)) }
+{
+    write_stop(writer, totals.stop)?;
+    write_counts(writer, totals)?;
+    write_state(writer, &core.observe())
+}
+
+/// Writes what the report of a run shows behind the trace: why it ended, its counts, the pc, the registers and the control
+/// and status registers, and the words of memory that the options ask for. Asks for no memory. Fails by `WriteFailed`
+/// alone, and what was written is then a beginning of that text.
+pub fn write_totals<W: Write>(
+    totals: &Totals,
+    core: &Core,
+    options: &Options,
+    writer: &mut W,
+) -> Result<(), ReportError>
+    ensures whole { OnOk result ((text : List ℕ) × IsEnd totals.now core.now options.now text
+        × Appends (W.contents writer.old) (W.contents writer.new) text) }
+    ensures beginning { OnErr result ((text : List ℕ) × IsEnd totals.now core.now options.now text
+        × AppendsBeginning (W.contents writer.old) (W.contents writer.new) text) }
+{
+    write_end(writer, totals, core)?;
+    write_memory(writer, core, options.dump_address, options.dump_words)
+}
+
+// The trace of some steps, where it is asked for.
+fn write_trace<W: Write>(writer: &mut W, trace: bool, steps: &[Step]) -> Result<(), ReportError>
+    ensures whole { OnOk result (Appends (W.contents writer.old) (W.contents writer.new) (trace_of trace steps.now)) }
+    ensures beginning { OnErr result (AppendsBeginning (W.contents writer.old) (W.contents writer.new) (trace_of trace steps.now)) }
+{
+    if trace {
+        write_steps(writer, steps)
+    } else {
+        Ok(())
+    }
+}
+
+/// Writes the report of a run of the core: a line for each step where the options ask for a trace, then why the run ended,
+/// its counts, the pc, the registers and the control and status registers, and the words of memory that the options ask
+/// for. Asks for no memory. Fails by `WriteFailed` alone, and what was written is then a beginning of the report.
+pub fn write_report<W: Write>(
+    outcome: &Outcome,
+    core: &Core,
+    options: &Options,
+    writer: &mut W,
+) -> Result<(), ReportError>
+    ensures whole { OnOk result ((text : List ℕ) × IsReport outcome.now core.now options.now text
+        × Appends (W.contents writer.old) (W.contents writer.new) text) }
+    ensures beginning { OnErr result ((text : List ℕ) × IsReport outcome.now core.now options.now text
+        × AppendsBeginning (W.contents writer.old) (W.contents writer.new) text) }
+{
+    write_trace(writer, options.trace, outcome.steps.as_slice())?;
+    write_totals(&Totals::of(outcome), core, options, writer)
+}

@@ -1,0 +1,77 @@
+ghost use Rattle.std.specs.Prelude.{◌≡◌, ℕ, ◌+◌, ◌<◌, ◌^◌, if◌then◌else◌};
+ghost use Rattle.rv_report.specs.Totals.{is_retired, is_trap, is_interrupt, counts_of, totals_of};
+
+use rv_arch::Stop;
+use rv_core::Outcome;
+use rv_hardware::{StallCounts, Step};
+
+/// How many steps there were of each sort.
+#[derive(Clone, Copy, Debug, Default, PartialEq, Eq)]
+pub struct StepCounts {
+    pub retired: u64,
+    /// Breakpoints included.
+    pub traps: u64,
+    pub interrupts: u64,
+}
+
+impl StepCounts {
+    /// Counts one more step.
+    pub fn count(&mut self, step: &Step)
+        requires retired { self.old.retired + 1 < 2 ^ 64 }
+        requires traps { self.old.traps + 1 < 2 ^ 64 }
+        requires interrupts { self.old.interrupts + 1 < 2 ^ 64 }
+        ensures retired { self.new.retired ≡ self.old.retired + (if is_retired step.now then 1 else 0) }
+        ensures traps { self.new.traps ≡ self.old.traps + (if is_trap step.now then 1 else 0) }
+        ensures interrupts { self.new.interrupts ≡ self.old.interrupts + (if is_interrupt step.now then 1 else 0) }
+    {
+        match step {
+            Step::Retired(_) => self.retired += 1,
+            Step::Trap { .. } => self.traps += 1,
+            Step::Interrupt { .. } => self.interrupts += 1,
+        }
+    }
+}
+
+/// Counts steps by their sort.
+pub fn count_steps(steps: &[Step]) -> StepCounts
+    ensures { result ≡ counts_of steps.now }
+{
+    let mut counts = StepCounts::default();
+    for step in steps {
+        counts.count(step);
+    }
+    counts
+}
+
+/// What a run of the core came to.
+#[derive(Clone, Copy, Debug, PartialEq, Eq)]
+pub struct Totals {
+    /// Why the run ended.
+    pub stop: Stop,
+    /// The cycles done.
+    pub cycles: u64,
+    /// The steps, by their sort.
+    pub steps: StepCounts,
+    /// The greatest number of consecutive cycles without a step.
+    pub longest_gap: u64,
+    /// The cycles that dispatched something.
+    pub busy: u64,
+    /// The cycles that dispatched nothing, by the reason.
+    pub stalls: StallCounts,
+}
+
+impl Totals {
+    /// What an outcome comes to.
+    pub fn of(outcome: &Outcome) -> Totals
+        ensures { result ≡ totals_of outcome.now }
+    {
+        Totals {
+            stop: outcome.stop,
+            cycles: outcome.cycles,
+            steps: count_steps(outcome.steps.as_slice()),
+            longest_gap: outcome.longest_gap,
+            busy: outcome.busy,
+            stalls: outcome.stalls,
+        }
+    }
+}

@@ -1,0 +1,59 @@
+-- The parts of a job: description, arrivals and assembly, with a separator between two.
+use Rattle.std.specs.Prelude.{ℕ, List, [], ◌∷◌, ◌++◌, Bool, ◌==◌, ◌||◌, if◌then◌else◌, Option, Some, None, codes}
+use Rattle.std.specs.List.{before_first, after_first}
+use Rattle.std.specs.Option.{option_map, option_map_or, option_or}
+use Rattle.std.specs.Str.{bytes_eq}
+
+abbrev pub is_line_feed : ℕ → Bool
+is_line_feed byte = byte == 10
+
+-- a line is `%%`, behind which a carriage return may stand
+abbrev pub is_separator : List ℕ → Bool
+is_separator line = bytes_eq line (codes "%%") || bytes_eq line (codes "%%\r")
+
+-- what stands behind the first line of a text, where that line is a separator
+unfoldable pub behind_separator : List ℕ → Option (List ℕ)
+behind_separator text =
+    if is_separator (before_first is_line_feed text) then Some (after_first is_line_feed text) else None
+
+-- what stands before a separator, and behind it
+pub record Halves : Type 0 where
+  pub before : List ℕ
+  pub behind : List ℕ
+
+-- the halves, with more bytes at the front
+abbrev pub preceded : List ℕ → Halves → Halves
+preceded bytes halves = record { before = bytes ++ halves.before; behind = halves.behind }
+
+-- the halves of a text whose first line is a separator
+abbrev pub halves_at_front : List ℕ → Option Halves
+halves_at_front text = option_map (λ behind. record { before = []; behind = behind }) (behind_separator text)
+
+-- the halves of a text at the first separator behind one of its line feeds
+unfoldable pub later_halves : List ℕ → Option Halves
+later_halves [] = None
+later_halves (byte ∷ later) =
+    option_map (preceded (byte ∷ [])) (option_or (if is_line_feed byte then halves_at_front later else None) (later_halves later))
+
+-- the halves of a text at its first separator
+unfoldable pub halves_of : List ℕ → Option Halves
+halves_of text = option_or (halves_at_front text) (later_halves text)
+
+pub record Parts : Type 0 where
+  pub description : List ℕ
+  pub arrivals : List ℕ
+  pub assembly : List ℕ
+
+-- a text without separator is assembly
+abbrev pub assembly_alone : List ℕ → Parts
+assembly_alone text = record { description = []; arrivals = []; assembly = text }
+
+-- what stands behind the first separator: arrivals and assembly, or assembly where there is no other separator
+abbrev pub parts_behind : List ℕ → List ℕ → Parts
+parts_behind description behind =
+    option_map_or (λ halves. record { description = description; arrivals = halves.before; assembly = halves.behind })
+    (halves_of behind) (record { description = description; arrivals = []; assembly = behind })
+
+-- the parts of a text; a part that is missing is empty
+unfoldable pub parts_of : List ℕ → Parts
+parts_of text = option_map_or (λ halves. parts_behind halves.before halves.behind) (halves_of text) (assembly_alone text)
