@@ -38,7 +38,7 @@ history_runs v steps ended h = rw (append-nil steps) h
 history_runs v steps (cycled {report = report} {reports = reports} is rest) h = rw (← append_assoc steps report.steps (steps_of reports)) (history_runs v (steps ++ report.steps) rest (went_on h is))
 
 -- the steps of a run are of its cycles
-since_by : (v : Values) {arrivals : List Arrival} (b : ℕ) (steps : List Step) {old new : Hardware} {reports : List Report} → Cycles arrivals old reports new → History v steps old → b ≤ old.cycle → Every (λ s. b ≤ stamp_of s) (steps_of reports)
+pub since_by : (v : Values) {arrivals : List Arrival} (b : ℕ) (steps : List Step) {old new : Hardware} {reports : List Report} → Cycles arrivals old reports new → History v steps old → b ≤ old.cycle → Every (λ s. b ≤ stamp_of s) (steps_of reports)
 since_by v b steps ended h le = tt
 since_by v b steps (cycled {old = old} {middle = middle} {report = report} {reports = reports} is rest) h le =
     let passed = passes_here v h is in

@@ -108,3 +108,5 @@ pub mod LawsFaults
 pub mod LawsFollow
 pub mod LawsAhead
 pub mod LawsOfRuns
+pub mod LawsDue
+pub mod LawsBusy

@@ -1,11 +1,20 @@
 -- The laws that the reported steps of a run obey, by pairs and counts alone.
-use Rattle.std.specs.Prelude.{◌≡◌, ℕ, ◌+◌, ◌<◌, ◌≤◌, ◌==◌, ◌⊎◌, max, Bool, true, false, List, is_some, IfSome, MatchOption, All, AllPairs, count_by}
+use Rattle.std.specs.Prelude.{◌≡◌, ℕ, ◌+◌, ◌-◌, ◌<◌, ◌≤◌, ◌==◌, ◌⊎◌, max, Bool, true, false, List, [], ◌∷◌, map, Some, is_some, IfSome, MatchOption, All, AllPairs, count_by}
+use Rattle.std.specs.List.{list_any, range_with_len}
+use Rattle.rv_isa.specs.Arrivals.{lines_at}
 use Rattle.rv_isa.specs.Description.{kind_values}
+use Rattle.rv_isa.specs.declared.lines.Arrival.{Arrival}
 use Rattle.rv_isa.specs.declared.operations.Kind.{Kind}
 use Rattle.rv_isa.specs.declared.values.CacheValues.{CacheValues}
 use Rattle.rv_isa.specs.declared.values.Values.{Values}
+use Rattle.rv_arch.specs.Due.{due}
+use Rattle.rv_arch.specs.Run.{Run}
+use Rattle.rv_arch.specs.State.{State}
+use Rattle.rv_arch.specs.Trap.{interrupt_cause}
+use Rattle.rv_memory.specs.Memory.{Layout}
+use Rattle.rv_hardware.specs.Headline.{told}
 use Rattle.rv_hardware.specs.Issue.{kind_of_word}
-use Rattle.rv_hardware.specs.Stamps.{rows_of, EachBehind, EachNext, instruction_of_row, is_store_row, is_load_row, is_fence_i_row, known_in, needs_no_unit, is_row_of_kind, sources_of_row, producer_among, flushes, is_interrupt, is_fetched_in, is_dispatched_in, is_issued_in, is_broadcast_in, is_buffered_in, is_in_flight_in, is_stationed_in, is_executing_in, uses_port}
+use Rattle.rv_hardware.specs.Stamps.{rows_of, steps_below, steps_in, EachBehind, EachNext, instruction_of_row, is_store_row, is_load_row, is_fence_i_row, known_in, needs_no_unit, is_row_of_kind, sources_of_row, producer_among, flushes, is_interrupt, is_fetched_in, is_dispatched_in, is_issued_in, is_broadcast_in, is_buffered_in, is_in_flight_in, is_stationed_in, is_executing_in, uses_port}
 use Rattle.rv_hardware.specs.Step.{stamp_of}
 use Rattle.rv_hardware.specs.declared.report.StallCounts.{StallCounts}
 use Rattle.rv_hardware.specs.declared.step.Execution.{Execution}
@@ -72,6 +81,17 @@ abbrev pub IsTrappedSoon : ℕ → Step → Type 0
 IsTrappedSoon c (Retired row) = Unit {0}
 IsTrappedSoon c (Trap pc cause value cycle) = needs_no_unit cause ≡ true → cycle ≤ c + 2
 IsTrappedSoon c (Interrupt pc cause cycle) = Unit {0}
+
+-- in how many cycles from `from` on and below `to` an instruction was dispatched that is a row
+abbrev pub dispatch_cycles : ℕ → ℕ → List Row → ℕ
+dispatch_cycles from to rows = count_by (λ c. list_any (is_dispatched_in c) rows) (range_with_len from (to - from))
+
+-- For each cycle from `from` on and below `to`, in the state that the machine reaches from `before` by the steps of earlier cycles:
+-- an interrupt that is due there, with the lines of the cycle, is the one step of the cycle.
+abbrev pub TakesDueInterrupts : Layout → List Arrival → ℕ → ℕ → State → List Step → Type 0
+TakesDueInterrupts layout arrivals from to before steps =
+    (c : ℕ) → from ≤ c → c < to → (s : State) × Run layout arrivals before (map stamp_of (steps_below c steps)) (map told (steps_below c steps)) s ×
+    ((code : ℕ) → due s.csrs (lines_at arrivals c) ≡ Some code → steps_in c steps ≡ Interrupt s.pc (interrupt_cause code) c ∷ [])
 
 -- The laws, of the steps of the cycles from `from` on and below `to`. A stamp is the number of a cycle.
 pub record Laws (values : Values) (from to : ℕ) (steps : List Step) : Type 0 where

@@ -1,5 +1,5 @@
 -- What the laws say of reported steps, by their stamps alone.
-use Rattle.std.specs.Prelude.{◌≡◌, ℕ, ◌+◌, ◌==◌, ◌&&◌, not, nat_le, nat_lt, Bool, true, false, if◌then◌else◌, List, [], ◌∷◌, ◌++◌, Option, Some, None}
+use Rattle.std.specs.Prelude.{◌≡◌, ℕ, ◌+◌, ◌==◌, ◌&&◌, not, nat_le, nat_lt, Bool, true, false, if◌then◌else◌, List, [], ◌∷◌, ◌++◌, filter, Option, Some, None}
 use Rattle.std.specs.Option.{option_map, unwrap_or}
 use Rattle.rv_decode.specs.Decodes.{instruction_of}
 use Rattle.rv_isa.specs.declared.causes.Cause.{Cause}
@@ -9,6 +9,7 @@ use Rattle.rv_isa.specs.declared.instructions.Instr.TheVariants.{FenceI}
 use Rattle.rv_isa.specs.declared.operations.Kind.{Kind}
 use Rattle.rv_hardware.specs.InFlight.{is_serialising, is_store, is_target, target_of_word}
 use Rattle.rv_hardware.specs.Issue.{is_load, is_of_kind, kind_of_word, sources_of_word}
+use Rattle.rv_hardware.specs.Step.{stamp_of}
 use Rattle.rv_hardware.specs.declared.step.Execution.{Execution}
 use Rattle.rv_hardware.specs.declared.step.Row.{Row}
 use Rattle.rv_hardware.specs.declared.step.Step.{Step}
@@ -20,6 +21,13 @@ rows_of [] = []
 rows_of (Retired row ∷ steps) = row ∷ rows_of steps
 rows_of (Trap pc cause value cycle ∷ steps) = rows_of steps
 rows_of (Interrupt pc cause cycle ∷ steps) = rows_of steps
+
+-- the steps of the cycles below c, and those of cycle c
+abbrev pub steps_below : ℕ → List Step → List Step
+steps_below c steps = filter (λ step. nat_lt (stamp_of step) c) steps
+
+abbrev pub steps_in : ℕ → List Step → List Step
+steps_in c steps = filter (λ step. stamp_of step == c) steps
 
 -- P of each element and of those before it, in order
 abbrev pub EachBehind : {X : Type 0} → (List X → X → Type 0) → List X → Type 0
