@@ -6,14 +6,15 @@ use Rattle.rv_isa.specs.declared.lines.Arrival.{Arrival}
 use Rattle.rv_isa.specs.declared.operations.Kind.{Kind}
 use Rattle.rv_isa.specs.declared.values.Values.{Values}
 use Rattle.rv_hardware.specs.Hardware.{Hardware}
-use Rattle.rv_hardware.specs.Laws.{Laws, HasOperandsIn, HasOrderedStamps, HasCost, IsKnownBefore, IsFetchedSince}
+use Rattle.rv_hardware.specs.Laws.{Laws, DoesNotWait, IsFetchedAhead, IsTrappedSoon, HasOperandsIn, HasOrderedStamps, HasCost, IsKnownBefore, IsFetchedSince}
 use Rattle.rv_hardware.specs.Report.{Report}
 use Rattle.rv_hardware.specs.Run.{Reachable, Cycles, ended, cycled, steps_of}
-use Rattle.rv_hardware.specs.Stamps.{rows_of, EachBehind, last_from, sources_of_row, writes_register, producer_among, flushes, is_interrupt, is_store_row, is_load_row, is_row_of_kind, is_fetched_in, is_dispatched_in, is_issued_in, is_broadcast_in, is_buffered_in, is_in_flight_in, is_stationed_in, is_executing_in, uses_port}
+use Rattle.rv_hardware.specs.Stamps.{rows_of, EachBehind, EachNext, last_from, sources_of_row, writes_register, producer_among, flushes, is_interrupt, is_store_row, is_load_row, is_row_of_kind, is_fetched_in, is_dispatched_in, is_issued_in, is_broadcast_in, is_buffered_in, is_in_flight_in, is_stationed_in, is_executing_in, uses_port}
 use Rattle.rv_hardware.specs.Step.{stamp_of}
 use Rattle.rv_hardware.specs.declared.step.Execution.{Execution}
 use Rattle.rv_hardware.specs.declared.step.Row.{Row}
 use Rattle.rv_hardware.specs.declared.step.Step.{Step}
+use Rattle.rv_hardware.proofs.LawsAhead.{law_of_heads, law_of_the_front, law_of_prompt_traps}
 use Rattle.rv_hardware.proofs.LawsCounted.{Shows, fails_later}
 use Rattle.rv_hardware.proofs.LawsCycle.{History, went_on, reachable_has_history, history_is_sound, history_is_legal}
 use Rattle.rv_hardware.proofs.LawsOfCycles.{passes_here}
@@ -37,7 +38,7 @@ history_runs v steps ended h = rw (append-nil steps) h
 history_runs v steps (cycled {report = report} {reports = reports} is rest) h = rw (← append_assoc steps report.steps (steps_of reports)) (history_runs v (steps ++ report.steps) rest (went_on h is))
 
 -- the steps of a run are of its cycles
-since_by : (v : Values) {arrivals : List Arrival} (b : ℕ) (steps : List Step) {old new : Hardware} {reports : List Report} → Cycles arrivals old reports new → History v steps old → b ≤ old.cycle → Every (λ s. b ≤ stamp_of s) (steps_of reports)
+pub since_by : (v : Values) {arrivals : List Arrival} (b : ℕ) (steps : List Step) {old new : Hardware} {reports : List Report} → Cycles arrivals old reports new → History v steps old → b ≤ old.cycle → Every (λ s. b ≤ stamp_of s) (steps_of reports)
 since_by v b steps ended h le = tt
 since_by v b steps (cycled {old = old} {middle = middle} {report = report} {reports = reports} is rest) h le =
     let passed = passes_here v h is in
@@ -55,6 +56,9 @@ All-last P (x ∷ xs) ys h = All-last P xs ys (All-tail P x (xs ++ ys) h)
 AllPairs-last : {X : Type 0} (R : X → X → Type 0) (xs ys : List X) → AllPairs R (xs ++ ys) → AllPairs R ys
 AllPairs-last R [] ys h = h
 AllPairs-last R (x ∷ xs) ys h = AllPairs-last R xs ys (λ i j d lt within. h (suc i) (suc j) d (omega arith) (omega arith))
+
+EachNext-last : {X : Type 0} (R : X → X → Type 0) (xs ys : List X) → EachNext R (xs ++ ys) → EachNext R ys
+EachNext-last R xs ys h before after x y at = h (xs ++ before) after x y (ap (λ l. xs ++ l) at ∙ sym (append_assoc xs before (x ∷ y ∷ after)))
 
 count_by-last : {X : Type 0} (p : X → Bool) (xs ys : List X) (n : ℕ) → count_by p (xs ++ ys) ≤ n → count_by p ys ≤ n
 count_by-last p xs ys n le =
@@ -177,6 +181,9 @@ module _ (v : Values) (earlier steps : List Step) (old new : Hardware) (before_r
     commit_width = λ c. count_by-last (λ step. stamp_of step == c) earlier steps v.commit_width (law_of_commit_width v history c);
     interrupts_alone = AllPairs-last (λ a b. is_interrupt b ≡ true → stamp_of a < stamp_of b) earlier steps (law_of_interrupts v history);
     flushes_end_the_cycle = AllPairs-last (λ a b. flushes a ≡ true → stamp_of a < stamp_of b) earlier steps (law_of_flushes v history);
+    heads_do_not_wait = EachNext-last (λ a b. DoesNotWait (stamp_of a) b) earlier steps (law_of_heads v history);
+    traps_soon = EachNext-last (λ a b. IsTrappedSoon (stamp_of a) b) earlier steps (law_of_prompt_traps v history);
+    fetched_ahead = EachNext-last (λ a b. IsFetchedAhead (stamp_of a) b) earlier steps (law_of_the_front v history);
     fetched_in_order = rows_pairs (λ a b. a.fetched ≤ b.fetched) (law_of_fetch_order v history);
     dispatched_in_order = rows_pairs (λ a b. a.dispatched ≤ b.dispatched) (law_of_dispatch_order v history);
     fetch_width = λ c. rows_count (is_fetched_in c) v.fetch_width (law_of_fetch_width v history c);

@@ -103,4 +103,10 @@ pub mod LawsIdleUnitRows
 pub mod LawsBroadcast
 pub mod LawsDispatch
 pub mod LawsCommit
+pub mod LawsNext
+pub mod LawsFaults
+pub mod LawsFollow
+pub mod LawsAhead
 pub mod LawsOfRuns
+pub mod LawsDue
+pub mod LawsBusy

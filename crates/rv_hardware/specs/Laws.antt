@@ -1,11 +1,20 @@
 -- The laws that the reported steps of a run obey, by pairs and counts alone.
-use Rattle.std.specs.Prelude.{◌≡◌, ℕ, ◌+◌, ◌<◌, ◌≤◌, ◌==◌, ◌⊎◌, Bool, true, false, List, is_some, IfSome, MatchOption, All, AllPairs, count_by}
+use Rattle.std.specs.Prelude.{◌≡◌, ℕ, ◌+◌, ◌-◌, ◌<◌, ◌≤◌, ◌==◌, ◌⊎◌, max, Bool, true, false, List, [], ◌∷◌, map, Some, is_some, IfSome, MatchOption, All, AllPairs, count_by}
+use Rattle.std.specs.List.{list_any, range_with_len}
+use Rattle.rv_isa.specs.Arrivals.{lines_at}
 use Rattle.rv_isa.specs.Description.{kind_values}
+use Rattle.rv_isa.specs.declared.lines.Arrival.{Arrival}
 use Rattle.rv_isa.specs.declared.operations.Kind.{Kind}
 use Rattle.rv_isa.specs.declared.values.CacheValues.{CacheValues}
 use Rattle.rv_isa.specs.declared.values.Values.{Values}
+use Rattle.rv_arch.specs.Due.{due}
+use Rattle.rv_arch.specs.Run.{Run}
+use Rattle.rv_arch.specs.State.{State}
+use Rattle.rv_arch.specs.Trap.{interrupt_cause}
+use Rattle.rv_memory.specs.Memory.{Layout}
+use Rattle.rv_hardware.specs.Headline.{told}
 use Rattle.rv_hardware.specs.Issue.{kind_of_word}
-use Rattle.rv_hardware.specs.Stamps.{rows_of, EachBehind, instruction_of_row, is_store_row, is_load_row, is_row_of_kind, sources_of_row, producer_among, flushes, is_interrupt, is_fetched_in, is_dispatched_in, is_issued_in, is_broadcast_in, is_buffered_in, is_in_flight_in, is_stationed_in, is_executing_in, uses_port}
+use Rattle.rv_hardware.specs.Stamps.{rows_of, steps_below, steps_in, EachBehind, EachNext, instruction_of_row, is_store_row, is_load_row, is_fence_i_row, known_in, needs_no_unit, is_row_of_kind, sources_of_row, producer_among, flushes, is_interrupt, is_fetched_in, is_dispatched_in, is_issued_in, is_broadcast_in, is_buffered_in, is_in_flight_in, is_stationed_in, is_executing_in, uses_port}
 use Rattle.rv_hardware.specs.Step.{stamp_of}
 use Rattle.rv_hardware.specs.declared.report.StallCounts.{StallCounts}
 use Rattle.rv_hardware.specs.declared.step.Execution.{Execution}
@@ -53,6 +62,37 @@ IsFetchedSince a (Retired b) = stamp_of a ≤ b.fetched
 IsFetchedSince a (Trap pc cause value cycle) = Unit {0}
 IsFetchedSince a (Interrupt pc cause cycle) = Unit {0}
 
+-- Where the step before it is of cycle c, an instruction retires in the cycle after that or after its own result at the latest,
+-- unless it is FENCE.I.
+abbrev pub DoesNotWait : ℕ → Step → Type 0
+DoesNotWait c (Retired row) = is_fence_i_row row ≡ false → row.retired ≤ max c (known_in row) + 1
+DoesNotWait c (Trap pc cause value cycle) = Unit {0}
+DoesNotWait c (Interrupt pc cause cycle) = Unit {0}
+
+-- Where the step before it is of cycle c, it was fetched by then, and dispatched in the cycle after that at the latest, unless it
+-- is a store.
+abbrev pub IsFetchedAhead : ℕ → Step → Type 0
+IsFetchedAhead c (Retired row) = (row.fetched ≤ c) × (is_store_row row ≡ false → row.dispatched ≤ c + 1)
+IsFetchedAhead c (Trap pc cause value cycle) = Unit {0}
+IsFetchedAhead c (Interrupt pc cause cycle) = Unit {0}
+
+-- where the step before it is of cycle c, a fault that needs no unit is taken two cycles after that at the latest
+abbrev pub IsTrappedSoon : ℕ → Step → Type 0
+IsTrappedSoon c (Retired row) = Unit {0}
+IsTrappedSoon c (Trap pc cause value cycle) = needs_no_unit cause ≡ true → cycle ≤ c + 2
+IsTrappedSoon c (Interrupt pc cause cycle) = Unit {0}
+
+-- in how many cycles from `from` on and below `to` an instruction was dispatched that is a row
+abbrev pub dispatch_cycles : ℕ → ℕ → List Row → ℕ
+dispatch_cycles from to rows = count_by (λ c. list_any (is_dispatched_in c) rows) (range_with_len from (to - from))
+
+-- For each cycle from `from` on and below `to`, in the state that the machine reaches from `before` by the steps of earlier cycles:
+-- an interrupt that is due there, with the lines of the cycle, is the one step of the cycle.
+abbrev pub TakesDueInterrupts : Layout → List Arrival → ℕ → ℕ → State → List Step → Type 0
+TakesDueInterrupts layout arrivals from to before steps =
+    (c : ℕ) → from ≤ c → c < to → (s : State) × Run layout arrivals before (map stamp_of (steps_below c steps)) (map told (steps_below c steps)) s ×
+    ((code : ℕ) → due s.csrs (lines_at arrivals c) ≡ Some code → steps_in c steps ≡ Interrupt s.pc (interrupt_cause code) c ∷ [])
+
 -- The laws, of the steps of the cycles from `from` on and below `to`. A stamp is the number of a cycle.
 pub record Laws (values : Values) (from to : ℕ) (steps : List Step) : Type 0 where
   -- each step is of a cycle of the run
@@ -66,6 +106,10 @@ pub record Laws (values : Values) (from to : ℕ) (steps : List Step) : Type 0 w
   pub commit_width : (c : ℕ) → count_by (λ step. stamp_of step == c) steps ≤ values.commit_width
   pub interrupts_alone : AllPairs (λ a b. is_interrupt b ≡ true → stamp_of a < stamp_of b) steps
   pub flushes_end_the_cycle : AllPairs (λ a b. flushes a ≡ true → stamp_of a < stamp_of b) steps
+  -- a finished head does not wait, nor does a fault that needs no unit, and the front keeps ahead of both
+  pub heads_do_not_wait : EachNext (λ a b. DoesNotWait (stamp_of a) b) steps
+  pub traps_soon : EachNext (λ a b. IsTrappedSoon (stamp_of a) b) steps
+  pub fetched_ahead : EachNext (λ a b. IsFetchedAhead (stamp_of a) b) steps
   -- instructions are fetched and dispatched in order, at most a width in a cycle
   pub fetched_in_order : AllPairs (λ a b. a.fetched ≤ b.fetched) (rows_of steps)
   pub dispatched_in_order : AllPairs (λ a b. a.dispatched ≤ b.dispatched) (rows_of steps)

@@ -1,10 +1,15 @@
 -- What the laws say of reported steps, by their stamps alone.
-use Rattle.std.specs.Prelude.{◌≡◌, ℕ, ◌+◌, ◌==◌, ◌&&◌, not, nat_le, nat_lt, Bool, true, false, if◌then◌else◌, List, [], ◌∷◌, ◌++◌, Option, Some, None}
+use Rattle.std.specs.Prelude.{◌≡◌, ℕ, ◌+◌, ◌==◌, ◌&&◌, not, nat_le, nat_lt, Bool, true, false, if◌then◌else◌, List, [], ◌∷◌, ◌++◌, filter, Option, Some, None}
+use Rattle.std.specs.Option.{option_map, unwrap_or}
 use Rattle.rv_decode.specs.Decodes.{instruction_of}
+use Rattle.rv_isa.specs.declared.causes.Cause.{Cause}
+use Rattle.rv_isa.specs.declared.causes.Cause.TheVariants.{InstructionAccessFault, IllegalInstruction, Breakpoint, EnvironmentCall}
 use Rattle.rv_isa.specs.declared.instructions.Instr.{Instr}
+use Rattle.rv_isa.specs.declared.instructions.Instr.TheVariants.{FenceI}
 use Rattle.rv_isa.specs.declared.operations.Kind.{Kind}
 use Rattle.rv_hardware.specs.InFlight.{is_serialising, is_store, is_target, target_of_word}
 use Rattle.rv_hardware.specs.Issue.{is_load, is_of_kind, kind_of_word, sources_of_word}
+use Rattle.rv_hardware.specs.Step.{stamp_of}
 use Rattle.rv_hardware.specs.declared.step.Execution.{Execution}
 use Rattle.rv_hardware.specs.declared.step.Row.{Row}
 use Rattle.rv_hardware.specs.declared.step.Step.{Step}
@@ -16,6 +21,13 @@ rows_of [] = []
 rows_of (Retired row ∷ steps) = row ∷ rows_of steps
 rows_of (Trap pc cause value cycle ∷ steps) = rows_of steps
 rows_of (Interrupt pc cause cycle ∷ steps) = rows_of steps
+
+-- the steps of the cycles below c, and those of cycle c
+abbrev pub steps_below : ℕ → List Step → List Step
+steps_below c steps = filter (λ step. nat_lt (stamp_of step) c) steps
+
+abbrev pub steps_in : ℕ → List Step → List Step
+steps_in c steps = filter (λ step. stamp_of step == c) steps
 
 -- P of each element and of those before it, in order
 abbrev pub EachBehind : {X : Type 0} → (List X → X → Type 0) → List X → Type 0
@@ -41,6 +53,25 @@ is_store_row row = is_store (instruction_of_row row)
 
 abbrev pub is_load_row : Row → Bool
 is_load_row row = is_load (instruction_of_row row)
+
+abbrev pub is_fence_i : Option Instr → Bool
+is_fence_i (Some FenceI) = true
+is_fence_i _ = false
+
+abbrev pub is_fence_i_row : Row → Bool
+is_fence_i_row row = is_fence_i (instruction_of_row row)
+
+-- the cycle in which its result is known: that of its broadcast, or of its dispatch where it uses no unit
+abbrev pub known_in : Row → ℕ
+known_in row = unwrap_or (option_map (λ (execution : Execution). execution.broadcast) row.execution) row.dispatched
+
+-- a fault that no unit finds: of the fetch, of an illegal instruction, of EBREAK and ECALL
+abbrev pub needs_no_unit : Cause → Bool
+needs_no_unit InstructionAccessFault = true
+needs_no_unit IllegalInstruction = true
+needs_no_unit Breakpoint = true
+needs_no_unit EnvironmentCall = true
+needs_no_unit _ = false
 
 abbrev pub is_row_of_kind : Kind → Row → Bool
 is_row_of_kind kind row = is_of_kind kind (kind_of_word (instruction_of_row row))

@@ -1,0 +1,181 @@
+-- In every run a finished head does not wait, and the front keeps ahead.
+use Rattle.std.proofs.Common.{◌≡◌, ℕ, ◌+◌, ◌-◌, ◌≤◌, ◌<◌, ◌⊎◌, ◌==◌, Bool, true, false, List, [], ◌∷◌, ◌++◌, length, filter, Option, Some, None, inl, inr, refl, sym, subst, ap, ◌∙◌, arith, append_assoc, append-nil, true≢false}
+use Rattle.std.proofs.lemmas.Bool.{leb-true}
+use Rattle.std.specs.List.{list_any}
+use Rattle.std.specs.Ordering.{nat_cmp}
+use Rattle.std.specs.FinSet as set
+use Rattle.rv_isa.specs.Description.{IsLegal, kind_values}
+use Rattle.rv_isa.specs.declared.lines.Lines.{Lines}
+use Rattle.rv_isa.specs.declared.operations.Kind.{Kind}
+use Rattle.rv_isa.specs.declared.operations.Kind.TheVariants as kind
+use Rattle.rv_isa.specs.declared.values.Values.{Values}
+use Rattle.rv_arch.specs.Due.{due}
+use Rattle.rv_front.specs.FetchBuffer.{FetchBuffer}
+use Rattle.rv_front.specs.declared.fetched.Fetched.{Fetched}
+use Rattle.rv_rob.specs.declared.entry.Entry.{Entry}
+use Rattle.rv_hardware.specs.Commit.{Committing}
+use Rattle.rv_hardware.specs.Cycle.{IsCycle, any_prediction, execute, with_lines}
+use Rattle.rv_hardware.specs.Dispatch.{Dispatching, dispatch, has_full_stations, is_stationed}
+use Rattle.rv_hardware.specs.Hardware.{Hardware}
+use Rattle.rv_hardware.specs.InFlight.{is_serialising, is_store}
+use Rattle.rv_hardware.specs.Issue.{kind_of_word}
+use Rattle.rv_hardware.specs.Laws.{DoesNotWait, IsFetchedAhead, IsTrappedSoon}
+use Rattle.rv_hardware.specs.Report.{Report}
+use Rattle.rv_hardware.specs.Stamps.{EachNext}
+use Rattle.rv_hardware.specs.Step.{stamp_of}
+use Rattle.rv_hardware.specs.declared.step.Step.{Step}
+use Rattle.rv_hardware.proofs.GapCycle.{cycle-keeps, phases-keep}
+use Rattle.rv_hardware.proofs.GapHalted.{HaltsBehind, IsHalted, words_of, halted-kept, halted-at_reset}
+use Rattle.rv_hardware.proofs.LawsBasics.{and_first}
+use Rattle.rv_hardware.proofs.LawsCycle.{Anything, anything_is_kept, Passed, History, began, went_on, begin, committing, dispatching, sent_all, cycle_passes, history_is_legal, history_is_sound}
+use Rattle.rv_hardware.proofs.LawsDispatch.{WaitsFor, for_serial, for_buffer, for_station, for_queue}
+use Rattle.rv_hardware.proofs.LawsFaults.{HasFaults, faults-kept, faults-at_reset}
+use Rattle.rv_hardware.proofs.LawsFetch.{IsNew}
+use Rattle.rv_hardware.proofs.LawsFollow.{last_stamp, last_stamp-push, Follows, AllFollow, Committed, commit_leads_by}
+use Rattle.rv_hardware.proofs.LawsIdleDispatch.{dispatch_leaves}
+use Rattle.rv_hardware.proofs.LawsLists.{Every, EveryBehind-at, count}
+use Rattle.rv_hardware.proofs.LawsNext.{Next, HasNext, next_executed}
+use Rattle.rv_hardware.proofs.LawsShape.{HasShape}
+
+-- ---- the end of a cycle
+
+some_station : (v : Values) → IsLegal v → (k : Kind) → 0 < (kind_values v k).stations
+some_station v legal kind.Alu = omega (arith, legal.kinds.alu.stations)
+some_station v legal kind.Mul = omega (arith, legal.kinds.mul.stations)
+some_station v legal kind.Div = omega (arith, legal.kinds.div.stations)
+some_station v legal kind.Mem = omega (arith, legal.kinds.mem.stations)
+
+module _ (v : Values) (legal : IsLegal v) where
+  -- with nothing in flight only a store waits
+  station_free : (h : Hardware) → HasShape v h → h.rob.entries ≡ [] → (o : Option Kind) → has_full_stations h o ≡ true → ⊥
+  station_free h shape none None full = absurd (cc)
+  station_free h shape none (Some k) full =
+      let held = leb-true (kind_values h.values k).stations (length (filter (is_stationed k) h.rob.entries)) full in
+      let empty = ap (λ es. length (filter (is_stationed k) es)) none in
+      let some = some_station v legal k in
+      let same = ap (λ (w : Values). (kind_values w k).stations) shape.values in
+      omega (arith, held, empty, some, same)
+
+  waits_as_store : (h : Hardware) (f : Fetched) → HasShape v h → h.rob.entries ≡ [] → WaitsFor h f → is_store f.instruction ≡ true
+  waits_as_store h f shape none (for_serial is) = absurd (true≢false (sym is ∙ ap (λ es. list_any (λ (e : Entry). is_serialising e.instruction) es) none))
+  waits_as_store h f shape none (for_buffer is) =
+      let full = leb-true h.rob.capacity (length h.rob.entries) is in
+      let empty = ap (λ (es : List Entry). length es) none in
+      absurd (omega (arith, full, empty, shape.buffer, legal.pipeline.rob))
+  waits_as_store h f shape none (for_station is) = absurd (station_free h shape none (kind_of_word f.instruction) is)
+  waits_as_store h f shape none (for_queue is) = and_first (is_store f.instruction) _ is
+
+  -- what dispatch leaves in the fetch buffer where nothing is in flight
+  only_store_left : (h g : Hardware) (now : ℕ) (d : Dispatching) → d ≡ dispatch g → g.values ≡ v → g.cycle ≡ now → HasShape v d.hardware → (f : Fetched) (fs : List Fetched) → d.hardware.rob.entries ≡ [] → d.hardware.front.entries ≡ f ∷ fs → is_store f.instruction ≡ true
+  only_store_left h g now d is values cycle shape f fs none first =
+      by_left (subst (λ (x : Dispatching). (f : Fetched) (fs : List Fetched) → x.hardware.front.entries ≡ f ∷ fs → (v.dispatch_width ≤ count (λ (e : Entry). e.dispatched == now) x.hardware.rob.entries) ⊎ WaitsFor x.hardware f) (sym is)
+      (dispatch_leaves v now g (ap (λ (w : Values). w.dispatch_width) values) cycle) f fs first)
+    where
+      by_left : (v.dispatch_width ≤ count (λ (e : Entry). e.dispatched == now) d.hardware.rob.entries) ⊎ WaitsFor d.hardware f → is_store f.instruction ≡ true
+      by_left (inl wide) = let empty = ap (λ es. count (λ (e : Entry). e.dispatched == now) es) none in absurd (omega (arith, wide, empty, legal.pipeline.dispatch_width))
+      by_left (inr why) = waits_as_store d.hardware f shape none why
+
+  -- a front with nothing in flight and nothing fetched fetches
+  module _ (now s : ℕ) (stale : set.FinSet nat_cmp) (front : FetchBuffer) (added : List Fetched) (new : Every (IsNew now) added) (width : front.width ≡ v.fetch_width) (room : front.capacity ≡ v.fetch_buffer)
+      (goes_on : added ≡ [] → (front.halted ≡ true) ⊎ ((front.width ≡ 0) ⊎ (front.capacity - length front.entries ≡ 0))) where
+    fetches_one : (b : Bool) → front.halted ≡ b → HaltsBehind b [] → length front.entries ≡ 0 → added ≡ [] → ⊥
+    fetches_one true is behind empty none = absurd (cc)
+    fetches_one false is behind empty none = by_cause (goes_on none)
+      where
+        by_cause : (front.halted ≡ true) ⊎ ((front.width ≡ 0) ⊎ (front.capacity - length front.entries ≡ 0)) → ⊥
+        by_cause (inl halted) = true≢false (sym halted ∙ is)
+        by_cause (inr (inl narrow)) = omega (arith, narrow, width, legal.pipeline.fetch_width)
+        by_cause (inr (inr full)) = omega (arith, full, room, empty, legal.pipeline.fetch_buffer)
+
+    next_added : (more : List Fetched) → Every (IsNew now) more → (more ≡ [] → ⊥) → now ≤ s → Next (now + 1) (now + 1) s stale [] more
+    next_added [] are none_of le = absurd (none_of refl)
+    next_added (f ∷ fs) are none_of le = (omega (arith, are.0.0, le), λ plain. omega (arith, le))
+
+    next_fetched : (es : List Entry) (fs : List Fetched) → front.entries ≡ fs → HaltsBehind front.halted (words_of es fs) → ((f : Fetched) (gs : List Fetched) → es ≡ [] → fs ≡ f ∷ gs → is_store f.instruction ≡ true) →
+        Next (now + 1) now s stale es fs → Next (now + 1) (now + 1) s stale es (fs ++ added)
+    next_fetched (e ∷ es) fs at behind stores next = next
+    next_fetched [] (f ∷ fs) at behind stores next = (next.0, λ plain. absurd (true≢false (sym (stores f fs refl refl) ∙ plain)))
+    next_fetched [] [] at behind stores next = next_added added new (λ none. fetches_one front.halted refl behind (ap (λ (l : List Fetched). length l) at) none) next
+
+-- ---- over all cycles
+
+pub history_has_faults : (v : Values) {steps : List Step} {h : Hardware} → History v steps h → HasFaults h
+history_has_faults v (began image start legal) = faults-at_reset v image start
+history_has_faults v (went_on before is) = cycle-keeps faults-kept is (history_has_faults v before)
+
+history_is_halted : (v : Values) {steps : List Step} {h : Hardware} → History v steps h → IsHalted h
+history_is_halted v (began image start legal) = halted-at_reset v image start
+history_is_halted v (went_on before is) = cycle-keeps halted-kept is (history_is_halted v before)
+
+record NextPast (steps : List Step) (h : Hardware) : Type 0 where
+  follow : AllFollow steps
+  next : Next h.cycle h.cycle (last_stamp steps) h.stale h.rob.entries h.front.entries
+
+module _ (v : Values) {earlier : List Step} {old new : Hardware} {lines : Lines} {report : Report} (before : History v earlier old) (past : NextPast earlier old) (is : IsCycle any_prediction lines old report new) where
+  legal_here : IsLegal v
+  legal_here = history_is_legal v before
+
+  passed : Passed v Anything earlier lines old report new
+  passed = cycle_passes v (history_is_legal v before) Anything earlier lines old new report (anything_is_kept v old.cycle) (history_is_sound v before) tt is
+
+  committed : Committed v old.cycle earlier (committing lines old)
+  committed =
+      let g : Hardware = with_lines lines old in
+      let begins = history_is_sound v before in
+      let first = begin v (history_is_legal v before) Anything earlier lines old new report (anything_is_kept v old.cycle) begins tt in
+      let legal = history_is_legal v before in
+      commit_leads_by v old.cycle earlier v.commit_width (omega (arith, legal.pipeline.commit_width)) (due g.csrs g.lines) g (ap (λ (w : Values). w.commit_width) begins.shape.values) first
+      (rw (append-nil earlier) (past.follow)) (rw (append-nil earlier) (past.next)) (history_has_faults v before).1
+
+  here : earlier ++ report.steps ≡ earlier ++ (committing lines old).steps
+  here = ap (λ l. earlier ++ l) passed.steps
+
+  d : Hardware
+  d = (dispatching lines old).hardware
+
+  d_is : is.dispatching ≡ dispatching lines old
+  d_is = is.executes ∙ ap (λ (c : Committing). execute c.hardware) is.commits
+
+  dispatched : HasNext old.cycle (last_stamp (earlier ++ report.steps)) (dispatching lines old).hardware
+  dispatched = next_executed old.cycle (last_stamp (earlier ++ report.steps)) (committing lines old).hardware (passed.committed.basics.cycle, subst (λ l. Next (old.cycle + 1) old.cycle (last_stamp l) (committing lines old).hardware.stale (committing lines old).hardware.rob.entries (committing lines old).hardware.front.entries) (sym here) committed.next)
+
+  d_halted : IsHalted (dispatching lines old).hardware
+  d_halted = subst (λ (x : Dispatching). IsHalted x.hardware) d_is (phases-keep halted-kept.phases is (history_is_halted v before))
+
+  fetched : Next (old.cycle + 1) (old.cycle + 1) (last_stamp (earlier ++ report.steps)) (dispatching lines old).hardware.stale (dispatching lines old).hardware.rob.entries ((dispatching lines old).hardware.front.entries ++ passed.fetches.added)
+  fetched =
+      let h : Hardware = (dispatching lines old).hardware in
+      let b = passed.dispatches.basics in
+      next_fetched v (history_is_legal v before) old.cycle (last_stamp (earlier ++ report.steps)) h.stale h.front passed.fetches.added passed.fetches.are_new b.shape.width b.shape.room passed.fetches.goes_on
+      h.rob.entries h.front.entries refl d_halted.1
+      (λ f gs none first. only_store_left v (history_is_legal v before) old (sent_all lines old) old.cycle (dispatching lines old) refl passed.sends.basics.shape.values passed.sends.basics.cycle b.shape f gs none first)
+      dispatched.1
+
+  next_goes_on : NextPast (earlier ++ report.steps) new
+  next_goes_on =
+      let h : Hardware = (dispatching lines old).hardware in
+      record {
+        follow = subst AllFollow (sym here) committed.follow;
+        next = rw (ap (λ (g : Hardware). g.cycle) passed.others_stay, ap (λ (g : Hardware). g.stale) passed.others_stay, ap (λ (g : Hardware). g.rob.entries) passed.others_stay, passed.fetches.entries) fetched;
+      }
+
+history_has_next : (v : Values) {steps : List Step} {h : Hardware} → History v steps h → NextPast steps h
+history_has_next v (began image start legal) = record { follow = tt; next = omega arith }
+history_has_next v (went_on before is) = next_goes_on v before (history_has_next v before) is
+
+-- ---- so of any two steps that follow one another
+
+module _ (v : Values) {steps : List Step} {h : Hardware} (history : History v steps h) where
+  follows : (first rest : List Step) (a b : Step) → steps ≡ first ++ a ∷ b ∷ rest → Follows (stamp_of a) b
+  follows first rest a b at =
+      let all : AllFollow ((first ++ a ∷ []) ++ b ∷ rest) = subst AllFollow (at ∙ sym (append_assoc first (a ∷ []) (b ∷ rest))) (history_has_next v history).follow in
+      subst (λ n. Follows n b) (last_stamp-push first a) (EveryBehind-at (λ before x. Follows (last_stamp before) x) (first ++ a ∷ []) rest b all)
+
+  pub law_of_heads : EachNext (λ a b. DoesNotWait (stamp_of a) b) steps
+  law_of_heads first rest a b at = (follows first rest a b at).waits
+
+  pub law_of_the_front : EachNext (λ a b. IsFetchedAhead (stamp_of a) b) steps
+  law_of_the_front first rest a b at = (follows first rest a b at).ahead
+
+  pub law_of_prompt_traps : EachNext (λ a b. IsTrappedSoon (stamp_of a) b) steps
+  law_of_prompt_traps first rest a b at = (follows first rest a b at).soon

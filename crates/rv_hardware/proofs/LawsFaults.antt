@@ -1,0 +1,189 @@
+-- A fault that a unit finds is of a branch, a jump, a load or a store.
+use Rattle.std.proofs.Common.{◌≡◌, ℕ, ◌+◌, Bool, true, false, cond, not, is_some, nat_le, List, [], ◌∷◌, ◌++◌, Option, Some, None, refl, sym, ap, subst}
+use Rattle.rv_cache.specs.WriteBack.{Each}
+use Rattle.rv_isa.specs.Comparison.{holds}
+use Rattle.rv_isa.specs.Operation.{bytes_of, width_of}
+use Rattle.rv_isa.specs.Word.{pc_plus}
+use Rattle.rv_isa.specs.declared.broadcast.Message.{Message}
+use Rattle.rv_isa.specs.declared.broadcast.StoreAccess.{StoreAccess}
+use Rattle.rv_isa.specs.declared.causes.Cause.TheVariants.{InstructionAddressMisaligned, LoadAddressMisaligned, LoadAccessFault, StoreAddressMisaligned, StoreAccessFault}
+use Rattle.rv_isa.specs.declared.causes.Fault.{Fault}
+use Rattle.rv_isa.specs.declared.instructions.Instr.{Instr}
+use Rattle.rv_isa.specs.declared.instructions.Instr.TheVariants.{Lui, Auipc, Jal, Jalr, Branch, Load, Store, OpImmediate, Shift, Op, Fence, FenceI, Csr, Ecall, Ebreak, Mret, Wfi}
+use Rattle.rv_isa.specs.declared.lines.Lines.{Lines}
+use Rattle.rv_isa.specs.declared.operations.Kind.{Kind}
+use Rattle.rv_isa.specs.declared.operations.LoadForm.{LoadForm}
+use Rattle.rv_isa.specs.declared.operations.Width.{Width}
+use Rattle.rv_isa.specs.declared.values.Values.{Values}
+use Rattle.rv_arch.specs.Effect.{Effect, Retires, Faults, effect, goes_to, jumps, branches, loads, stores}
+use Rattle.rv_arch.specs.State.{State, register_of}
+use Rattle.rv_memory.specs.Memory.{Layout, is_aligned, is_in_ram, is_writable}
+use Rattle.rv_rob.specs.Entry.{issue_of, started, finished, predicting}
+use Rattle.rv_rob.specs.declared.entry.Entry.{Entry}
+use Rattle.rv_rob.specs.declared.entry.Stage.{Stage}
+use Rattle.rv_rob.specs.declared.entry.Stage.TheVariants.{Waiting, Running, Finished}
+use Rattle.rv_hardware.specs.Broadcast.{result_at}
+use Rattle.rv_hardware.specs.Dispatch.{entry_of_fetched, stage_by}
+use Rattle.rv_hardware.specs.Hardware.{Hardware}
+use Rattle.rv_hardware.specs.InFlight.{is_serialising, is_waiting}
+use Rattle.rv_hardware.specs.Issue.{is_of_kind, kind_of_word}
+use Rattle.rv_hardware.specs.Reset.{reset_hardware}
+use Rattle.rv_hardware.specs.Result.{access_of, effect_message, result_of_word}
+use Rattle.rv_hardware.specs.Seen.{layout_of, seen_behind}
+use Rattle.rv_hardware.specs.Stamps.{needs_no_unit}
+use Rattle.rv_hardware.proofs.GapCycle.{IsKept, IsKeptByPhases}
+use Rattle.rv_hardware.proofs.GapEach.{Each-change, Each-push}
+use Rattle.rv_hardware.proofs.GapEntries.{HasShape, HasWordOr, IsShaped, Shaped, shape-kept, shape-at_reset}
+use Rattle.rv_hardware.proofs.GapForms.{IsResult}
+use Rattle.rv_hardware.proofs.GapLists.{by_test}
+use Rattle.rv_hardware.proofs.LawsSound.{is_of_kind_is}
+
+-- what a unit finds
+abbrev FindsFault : Effect → Type 0
+FindsFault (Retires written next) = Unit {0}
+FindsFault (Faults cause value) = needs_no_unit cause ≡ false
+
+abbrev pub IsFound : Option Fault → Type 0
+IsFound None = Unit {0}
+IsFound (Some fault) = needs_no_unit fault.cause ≡ false
+
+by_jump : (s : State) (rd target : ℕ) → FindsFault (jumps s rd target)
+by_jump s rd target = by_test FindsFault (is_aligned target 4) _ (Faults InstructionAddressMisaligned target) (λ is. tt) (λ is. refl)
+
+by_branch : (s : State) (taken : Bool) (target : ℕ) → FindsFault (branches s taken target)
+by_branch s true target = by_test FindsFault (is_aligned target 4) (goes_to s target) (Faults InstructionAddressMisaligned target) (λ is. tt) (λ is. refl)
+by_branch s false target = tt
+
+by_load : (layout : Layout) (s : State) (form : LoadForm) (rd address : ℕ) → FindsFault (loads layout s form rd address)
+by_load layout s form rd address =
+    by_test FindsFault (not (is_aligned address (bytes_of (width_of form)))) (Faults LoadAddressMisaligned address) _ (λ is. refl)
+    (λ is. by_test FindsFault (not (is_in_ram layout address (bytes_of (width_of form)))) (Faults LoadAccessFault address) _ (λ outside. refl) (λ inside. tt))
+
+by_store : (layout : Layout) (s : State) (width : Width) (address word : ℕ) → FindsFault (stores layout s width address word)
+by_store layout s width address word =
+    by_test FindsFault (not (is_aligned address (bytes_of width))) (Faults StoreAddressMisaligned address) _ (λ is. refl)
+    (λ is. by_test FindsFault (not (is_writable layout address (bytes_of width))) (Faults StoreAccessFault address) _ (λ outside. refl) (λ inside. tt))
+
+by_unit : (layout : Layout) (s : State) (lines : Lines) (word : ℕ) (instruction : Instr) → is_some (kind_of_word (Some instruction)) ≡ true → FindsFault (effect layout s lines word instruction)
+by_unit layout s lines word (Lui rd immediate) unit = tt
+by_unit layout s lines word (Auipc rd immediate) unit = tt
+by_unit layout s lines word (Jal rd offset) unit = by_jump s rd _
+by_unit layout s lines word (Jalr rd rs1 offset) unit = by_jump s rd _
+by_unit layout s lines word (Branch condition rs1 rs2 offset) unit = by_branch s (holds condition (register_of s rs1) (register_of s rs2)) (pc_plus s.pc offset)
+by_unit layout s lines word (Load form rd rs1 offset) unit = by_load layout s form rd _
+by_unit layout s lines word (Store width rs1 rs2 offset) unit = by_store layout s width _ _
+by_unit layout s lines word (OpImmediate op rd rs1 immediate) unit = tt
+by_unit layout s lines word (Shift op rd rs1 amount) unit = tt
+by_unit layout s lines word (Op op rd rs1 rs2) unit = tt
+by_unit layout s lines word Fence unit = absurd (cc)
+by_unit layout s lines word FenceI unit = absurd (cc)
+by_unit layout s lines word (Csr op rd csr source) unit = absurd (cc)
+by_unit layout s lines word Ecall unit = absurd (cc)
+by_unit layout s lines word Ebreak unit = absurd (cc)
+by_unit layout s lines word Mret unit = absurd (cc)
+by_unit layout s lines word Wfi unit = absurd (cc)
+
+in_message : (access : Option StoreAccess) (e : Effect) → FindsFault e → IsFound (effect_message access e).fault
+in_message access (Retires written next) finds = tt
+in_message access (Faults cause value) finds = finds
+
+by_word : (layout : Layout) (s : State) (lines : Lines) (word : Option ℕ) (instruction : Option Instr) → HasWordOr None word → is_some (kind_of_word instruction) ≡ true → IsFound (result_of_word layout s lines word instruction).fault
+by_word layout s lines None instruction has unit = absurd has
+by_word layout s lines (Some word) None has unit = absurd (cc)
+by_word layout s lines (Some word) (Some instruction) has unit = in_message (access_of s instruction) (effect layout s lines word instruction) (by_unit layout s lines word instruction unit)
+
+by_result : (word : Option ℕ) (instruction : Option Instr) (message : Message) → IsResult word instruction message → HasWordOr None word → is_some (kind_of_word instruction) ≡ true → IsFound message.fault
+by_result word instruction message result has unit =
+    subst (λ (m : Message). IsFound m.fault) (sym result.is) (by_word result.layout result.state result.lines word instruction has unit)
+
+-- ---- the instructions in flight
+abbrev pub FoundIn : Stage → Type 0
+FoundIn Waiting = Unit {0}
+FoundIn (Running issue message) = IsFound message.fault
+FoundIn (Finished None cycle message) = Unit {0}
+FoundIn (Finished (Some issue) cycle message) = IsFound message.fault
+
+abbrev pub Found : Entry → Type 0
+Found e = FoundIn e.stage
+
+abbrev pub HasFaults : Hardware → Type 0
+HasFaults h = HasShape h × Each Found h.rob.entries
+
+some_kind : (k : Kind) (o : Option Kind) → is_of_kind k o ≡ true → is_some o ≡ true
+some_kind k o is = ap is_some (is_of_kind_is k o is)
+
+waits_for_word : (word : Option ℕ) (instruction : Option Instr) (stage : Stage) → is_waiting stage ≡ true → IsShaped word instruction stage → HasWordOr None word
+waits_for_word word instruction Waiting waits shaped = shaped.0
+waits_for_word word instruction (Running issue message) waits shaped = absurd (cc)
+waits_for_word word instruction (Finished issue cycle message) waits shaped = absurd (cc)
+
+by_time : (b : Bool) (given message : Message) → cond b (Some given) None ≡ Some message → IsFound given.fault → IsFound message.fault
+by_time true given message is found = let same : given ≡ message = cc in subst (λ (m : Message). IsFound m.fault) same found
+by_time false given message is found = absurd (cc)
+
+broadcasted : (cycle : ℕ) (stage : Stage) (message : Message) → result_at cycle stage ≡ Some message → FoundIn stage → FoundIn (Finished (issue_of stage) cycle message)
+broadcasted cycle Waiting message gives found = absurd (cc)
+broadcasted cycle (Running issue given) message gives found = by_time (nat_le (issue.cycle + issue.cost) cycle) given message gives found
+broadcasted cycle (Finished issue c given) message gives found = absurd (cc)
+
+at_dispatch : (cycle : ℕ) (message : Message) (kind : Option Kind) (serial : Bool) → FoundIn (stage_by kind serial (Finished None cycle message))
+at_dispatch cycle message (Some kind) serial = tt
+at_dispatch cycle message None true = tt
+at_dispatch cycle message None false = tt
+
+shaped_at : (older younger : List Entry) (e : Entry) → Each Shaped (older ++ e ∷ younger) → Shaped e
+shaped_at [] younger e each = each.0
+shaped_at (o ∷ older) younger e each = shaped_at older younger e each.1
+
+pub faults-kept : IsKept HasFaults
+faults-kept =
+    let shape : IsKeptByPhases HasShape = shape-kept.phases in
+    record {
+      phases = record {
+        lines = λ h levels has. has;
+        commit = record {
+          empties = λ h s retired has. (shape.commit.empties h s retired has.0, tt);
+          retires = λ h e es s message has split known faultless. (
+            shape.commit.retires h e es s message has.0 split known faultless,
+            let all : Each Found (e ∷ es) = subst (Each Found) split has.1 in all.1,
+          );
+          writes_back = λ h has drained. has;
+        };
+        drain = record { leaves = λ h has idle. has; drains = λ h access has idle is. has };
+        issue = λ k. record {
+          accesses = λ h older younger e address has split ready by. has;
+          starts = λ h older younger e cost message has split waits of_kind result costs. (
+            (shape.issue k).starts h older younger e cost message has.0 split waits of_kind result costs,
+            Each-change Found older younger e (started (record { cycle = h.cycle; cost = cost }) message e)
+                (λ was. by_result e.word e.instruction message result (waits_for_word e.word e.instruction e.stage waits (shaped_at older younger e (subst (Each Shaped) split has.0.0))) (some_kind k (kind_of_word e.instruction) of_kind))
+                (subst (Each Found) split has.1),
+          );
+        };
+        broadcast = record {
+          broadcasts = λ h older younger e message has split gives. (
+            shape.broadcast.broadcasts h older younger e message has.0 split gives,
+            Each-change Found older younger e (finished message h.cycle e) (λ was. broadcasted h.cycle e.stage message gives was) (subst (Each Found) split has.1),
+          );
+          mends = λ h older younger e next has split.
+              let all : Each Found (older ++ e ∷ younger) = subst (Each Found) split has.1 in (
+                shape.broadcast.mends h older younger e next has.0 split,
+                Each-change Found older [] e (predicting next e) (λ was. was) (cut older younger e all),
+              );
+        };
+        dispatch = record {
+          dispatches = λ h fetched rest has first none. (
+            shape.dispatch.dispatches h fetched rest has.0 first none,
+            Each-push Found h.rob.entries (entry_of_fetched h fetched)
+                (at_dispatch h.cycle (result_of_word (layout_of h.values) (seen_behind h h.rob.entries fetched.pc) h.lines fetched.word fetched.instruction) (kind_of_word fetched.instruction) (is_serialising fetched.instruction)) has.1,
+          );
+        };
+      };
+      fetch = record { fetches = λ ram cycle h front stop has fetches. (shape-kept.fetch.fetches ram cycle h front stop has.0 fetches, has.1) };
+    }
+  where
+    cut : (older younger : List Entry) (e : Entry) → Each Found (older ++ e ∷ younger) → Each Found (older ++ e ∷ [])
+    cut [] younger e each = (each.0, tt)
+    cut (o ∷ older) younger e each = (each.0, cut older younger e each.1)
+
+pub faults-at_reset : (values : Values) (image : List ℕ) (start : ℕ) → HasFaults (reset_hardware values image start)
+faults-at_reset values image start = (shape-at_reset values image start, tt)
