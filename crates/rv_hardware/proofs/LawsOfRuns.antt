@@ -9,7 +9,7 @@ use Rattle.rv_hardware.specs.Hardware.{Hardware}
 use Rattle.rv_hardware.specs.Laws.{Laws, DoesNotWait, IsFetchedAhead, IsTrappedSoon, HasOperandsIn, HasOrderedStamps, HasCost, IsKnownBefore, IsFetchedSince}
 use Rattle.rv_hardware.specs.Report.{Report}
 use Rattle.rv_hardware.specs.Run.{Reachable, Cycles, ended, cycled, steps_of}
-use Rattle.rv_hardware.specs.Stamps.{rows_of, EachBehind, EachNext, last_from, sources_of_row, writes_register, producer_among, flushes, is_interrupt, is_store_row, is_load_row, is_row_of_kind, is_fetched_in, is_dispatched_in, is_issued_in, is_broadcast_in, is_buffered_in, is_in_flight_in, is_stationed_in, is_executing_in, uses_port}
+use Rattle.rv_hardware.specs.Stamps.{rows_of, EachBehind, EachNext, last_from, sources_of_row, writes_register, producer_among, flushes, is_interrupt, is_store_row, is_load_row, is_row_of_kind, is_fetched_in, is_dispatched_in, is_issued_in, is_broadcast_in, is_buffered_in, is_in_flight_in, is_stationed_in, is_executing_in, is_queued_in, uses_port}
 use Rattle.rv_hardware.specs.Step.{stamp_of}
 use Rattle.rv_hardware.specs.declared.step.Execution.{Execution}
 use Rattle.rv_hardware.specs.declared.step.Row.{Row}
@@ -29,6 +29,7 @@ use Rattle.rv_hardware.proofs.LawsPortRows.{law_of_the_port}
 use Rattle.rv_hardware.proofs.LawsRooms.{law_of_stamps, law_of_costs, law_of_fetch_order, law_of_dispatch_order, law_of_the_reorder_buffer, law_of_stations, in_flight_shows, stationed_shows}
 use Rattle.rv_hardware.proofs.LawsRow.{SoundRow}
 use Rattle.rv_hardware.proofs.LawsSteps.{law_of_steps_in_order, law_of_commit_width, law_of_interrupts, law_of_flushes, law_of_fetching_anew, history_has_steps, steps_of_cycle}
+use Rattle.rv_hardware.proofs.LawsStoreQueue.{law_of_the_store_queue}
 use Rattle.rv_hardware.proofs.LawsUnitRows.{begun_shows, law_of_pipelined_units, law_of_other_units}
 use Rattle.rv_hardware.proofs.LawsWidths.{law_of_fetch_width, law_of_the_fetch_buffer, law_of_dispatch_width, law_of_bus_width, dispatched_shows, sent_shows}
 
@@ -196,6 +197,7 @@ module _ (v : Values) (earlier steps : List Step) (old new : Hardware) (before_r
     reorder_buffer = λ c. rows_count (is_in_flight_in c) v.rob (law_of_the_reorder_buffer v history c);
     fetch_buffer = λ c. rows_count (is_buffered_in c) v.fetch_buffer (law_of_the_fetch_buffer v history c);
     stations = λ kind c. rows_count (is_stationed_in kind c) (kind_values v kind).stations (law_of_stations v history kind c);
+    store_queue = λ c. rows_count (is_queued_in v.cache.hit c) v.store_queue (law_of_the_store_queue v history c);
     pipelined_units = λ kind is c. rows_count (is_issued_in kind c) (kind_values v kind).units (law_of_pipelined_units v history kind is c);
     other_units = λ kind is c. rows_count (is_executing_in kind c) (kind_values v kind).units (law_of_other_units v history kind is c);
     no_idle_unit = units_of_run;

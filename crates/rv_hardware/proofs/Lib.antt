@@ -97,6 +97,9 @@ pub mod LawsOfCycles
 pub mod LawsPort
 pub mod LawsPortPhases
 pub mod LawsPortRows
+pub mod LawsTold
+pub mod LawsQueue
+pub mod LawsStoreQueue
 pub mod LawsIdleUnit
 pub mod LawsIdleUnitPhases
 pub mod LawsIdleUnitRows

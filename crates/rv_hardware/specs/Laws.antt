@@ -14,7 +14,7 @@ use Rattle.rv_arch.specs.Trap.{interrupt_cause}
 use Rattle.rv_memory.specs.Memory.{Layout}
 use Rattle.rv_hardware.specs.Headline.{told}
 use Rattle.rv_hardware.specs.Issue.{kind_of_word}
-use Rattle.rv_hardware.specs.Stamps.{rows_of, steps_below, steps_in, EachBehind, EachNext, instruction_of_row, is_store_row, is_load_row, is_fence_i_row, known_in, needs_no_unit, is_row_of_kind, sources_of_row, producer_among, flushes, is_interrupt, is_fetched_in, is_dispatched_in, is_issued_in, is_broadcast_in, is_buffered_in, is_in_flight_in, is_stationed_in, is_executing_in, uses_port}
+use Rattle.rv_hardware.specs.Stamps.{rows_of, steps_below, steps_in, EachBehind, EachNext, instruction_of_row, is_store_row, is_load_row, is_fence_i_row, known_in, needs_no_unit, is_row_of_kind, sources_of_row, producer_among, flushes, is_interrupt, is_fetched_in, is_dispatched_in, is_issued_in, is_broadcast_in, is_buffered_in, is_in_flight_in, is_stationed_in, is_executing_in, is_queued_in, uses_port}
 use Rattle.rv_hardware.specs.Step.{stamp_of}
 use Rattle.rv_hardware.specs.declared.report.StallCounts.{StallCounts}
 use Rattle.rv_hardware.specs.declared.step.Execution.{Execution}
@@ -126,6 +126,8 @@ pub record Laws (values : Values) (from to : ℕ) (steps : List Step) : Type 0 w
   pub reorder_buffer : (c : ℕ) → count_by (is_in_flight_in c) (rows_of steps) ≤ values.rob
   pub fetch_buffer : (c : ℕ) → count_by (is_buffered_in c) (rows_of steps) ≤ values.fetch_buffer
   pub stations : (kind : Kind) (c : ℕ) → count_by (is_stationed_in kind c) (rows_of steps) ≤ (kind_values values kind).stations
+  -- nor does the store queue, which a store leaves at the earliest `hit` cycles behind its retirement
+  pub store_queue : (c : ℕ) → count_by (is_queued_in values.cache.hit c) (rows_of steps) ≤ values.store_queue
   -- a unit executes one instruction at a time, or begins one a cycle where it is pipelined, and the port serves one load
   pub pipelined_units : (kind : Kind) → (kind_values values kind).pipelined ≡ true → (c : ℕ) → count_by (is_issued_in kind c) (rows_of steps) ≤ (kind_values values kind).units
   pub other_units : (kind : Kind) → (kind_values values kind).pipelined ≡ false → (c : ℕ) → count_by (is_executing_in kind c) (rows_of steps) ≤ (kind_values values kind).units

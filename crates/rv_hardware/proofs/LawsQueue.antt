@@ -1,0 +1,122 @@
+-- The retired stores of the queue are the last store rows; the access of each earlier one is over, `hit` cycles behind its retirement or later.
+use Rattle.std.proofs.Common.{◌≡◌, ℕ, ◌+◌, ◌≤◌, Bool, true, false, cond, is_some, List, [], ◌∷◌, ◌++◌, filter, length, Option, Some, None, refl, sym, ap, ◌∙◌, arith, append_assoc, append-nil}
+use Rattle.std.proofs.lemmas.List.Elements.{filter-append}
+use Rattle.rv_isa.specs.declared.broadcast.StoreAccess.{StoreAccess}
+use Rattle.rv_stores.specs.Queue.{with_oldest_draining, without_drained}
+use Rattle.rv_stores.specs.Store.{is_draining}
+use Rattle.rv_stores.specs.declared.store.Store.{Store}
+use Rattle.rv_hardware.specs.Retirement.{committed_store}
+use Rattle.rv_hardware.specs.Stamps.{is_store_row}
+use Rattle.rv_hardware.specs.declared.step.Row.{Row}
+use Rattle.rv_hardware.proofs.LawsLists.{Every, Every-append, Every-weaker}
+
+-- row by row, the queue's retired stores; the port is busy until the access is over that one has begun
+abbrev pub AreQueued : ℕ → ℕ → List Row → List Store → Type 0
+AreQueued hit port [] [] = Unit {0}
+AreQueued hit port [] (s ∷ ss) = ⊥
+AreQueued hit port (row ∷ rows) [] = ⊥
+AreQueued hit port (row ∷ rows) (s ∷ ss) = (is_draining s ≡ true → row.retired + hit ≤ port) × AreQueued hit port rows ss
+
+pub record QueueOk (hit now : ℕ) (rows : List Row) (port : ℕ) (committed : List Store) : Type 0 where
+  pub gone : List Row
+  pub kept : List Row
+  pub split : filter is_store_row rows ≡ gone ++ kept
+  pub over : Every (λ row. row.retired + hit ≤ now) gone
+  pub by_now : Every (λ row. row.retired ≤ now) kept
+  pub queued : AreQueued hit port kept committed
+
+queued_later : (hit p q : ℕ) (rows : List Row) (ss : List Store) → p ≤ q → AreQueued hit p rows ss → AreQueued hit q rows ss
+queued_later hit p q [] [] le h = tt
+queued_later hit p q [] (s ∷ ss) le h = absurd h
+queued_later hit p q (row ∷ rows) [] le h = absurd h
+queued_later hit p q (row ∷ rows) (s ∷ ss) le h = (λ begun. let by = h.0 begun in omega (arith, by, le), queued_later hit p q rows ss le h.1)
+
+queued_push : (hit p : ℕ) (rows : List Row) (ss : List Store) (row : Row) (s : Store) → is_draining s ≡ false → AreQueued hit p rows ss → AreQueued hit p (rows ++ row ∷ []) (ss ++ s ∷ [])
+queued_push hit p [] [] row s waits h = (λ begun. absurd (cc), tt)
+queued_push hit p [] (t ∷ ss) row s waits h = absurd h
+queued_push hit p (r ∷ rows) [] row s waits h = absurd h
+queued_push hit p (r ∷ rows) (t ∷ ss) row s waits h = (h.0, queued_push hit p rows ss row s waits h.1)
+
+pub queued_length : (hit p : ℕ) (rows : List Row) (ss : List Store) → AreQueued hit p rows ss → length rows ≡ length ss
+queued_length hit p [] [] h = refl
+queued_length hit p [] (s ∷ ss) h = absurd h
+queued_length hit p (row ∷ rows) [] h = absurd h
+queued_length hit p (row ∷ rows) (s ∷ ss) h = let rest = queued_length hit p rows ss h.1 in omega (arith, rest)
+
+module _ (hit now : ℕ) (rows : List Row) (port : ℕ) (committed : List Store) (ok : QueueOk hit now rows port committed) where
+  -- the port is busy for longer
+  pub queue_later : (later : ℕ) → port ≤ later → QueueOk hit now rows later committed
+  queue_later later le = record { gone = ok.gone; kept = ok.kept; split = ok.split; over = ok.over; by_now = ok.by_now; queued = queued_later hit port later ok.kept committed le ok.queued }
+
+  -- the next cycle
+  pub queue_next : (next : ℕ) → now ≤ next → QueueOk hit next rows port committed
+  queue_next next le = record {
+    gone = ok.gone;
+    kept = ok.kept;
+    split = ok.split;
+    over = Every-weaker (λ row. row.retired + hit ≤ now) (λ row. row.retired + hit ≤ next) (λ row by. omega (arith, by, le)) ok.gone ok.over;
+    by_now = Every-weaker (λ row. row.retired ≤ now) (λ row. row.retired ≤ next) (λ row by. omega (arith, by, le)) ok.kept ok.by_now;
+    queued = ok.queued;
+  }
+
+  -- a retirement
+  pub plain_retires : (row : Row) → is_store_row row ≡ false → QueueOk hit now (rows ++ row ∷ []) port committed
+  plain_retires row plain = record {
+    gone = ok.gone;
+    kept = ok.kept;
+    split = filter-append is_store_row rows (row ∷ []) ∙ ap (λ b. filter is_store_row rows ++ cond b (row ∷ []) []) plain ∙ append-nil (filter is_store_row rows) ∙ ok.split;
+    over = ok.over;
+    by_now = ok.by_now;
+    queued = ok.queued;
+  }
+
+  store_retires : (row : Row) (s : Store) → is_store_row row ≡ true → is_draining s ≡ false → row.retired ≤ now → QueueOk hit now (rows ++ row ∷ []) port (committed ++ s ∷ [])
+  store_retires row s store waits le = record {
+    gone = ok.gone;
+    kept = ok.kept ++ row ∷ [];
+    split = filter-append is_store_row rows (row ∷ []) ∙ ap (λ b. filter is_store_row rows ++ cond b (row ∷ []) []) store ∙ ap (λ l. l ++ row ∷ []) ok.split ∙ append_assoc ok.gone ok.kept (row ∷ []);
+    over = ok.over;
+    by_now = Every-append (λ r. r.retired ≤ now) ok.kept (row ∷ []) ok.by_now (le, tt);
+    queued = queued_push hit port ok.kept committed row s waits ok.queued;
+  }
+
+  pub queue_retires : (row : Row) (seq : ℕ) (access : Option StoreAccess) → is_some access ≡ is_store_row row → row.retired ≤ now → QueueOk hit now (rows ++ row ∷ []) port (committed ++ committed_store seq access)
+  queue_retires row seq None tells le = rw (append-nil committed) (plain_retires row (sym tells))
+  queue_retires row seq (Some access) tells le = store_retires row _ (sym tells) refl le
+
+-- a drain
+
+module _ (hit now : ℕ) (rows : List Row) (port : ℕ) (idle : port ≤ now) where
+  leaves_by : (b : Bool) (s : Store) (ss : List Store) (gone kept : List Row) (row : Row) → is_draining s ≡ b → filter is_store_row rows ≡ gone ++ row ∷ kept → Every (λ r. r.retired + hit ≤ now) gone →
+      Every (λ r. r.retired ≤ now) (row ∷ kept) → AreQueued hit port (row ∷ kept) (s ∷ ss) → QueueOk hit now rows port (cond b ss (s ∷ ss))
+  leaves_by true s ss gone kept row begun split over by_now queued = record {
+    gone = gone ++ row ∷ [];
+    kept = kept;
+    split = split ∙ sym (append_assoc gone (row ∷ []) kept);
+    over = Every-append (λ r. r.retired + hit ≤ now) gone (row ∷ []) over (let by = queued.0 begun in omega (arith, by, idle), tt);
+    by_now = by_now.1;
+    queued = queued.1;
+  }
+  leaves_by false s ss gone kept row begun split over by_now queued = record { gone = gone; kept = row ∷ kept; split = split; over = over; by_now = by_now; queued = queued }
+
+  leaves_from : (gone kept : List Row) (committed : List Store) → filter is_store_row rows ≡ gone ++ kept → Every (λ r. r.retired + hit ≤ now) gone → Every (λ r. r.retired ≤ now) kept → AreQueued hit port kept committed →
+      QueueOk hit now rows port (without_drained committed)
+  leaves_from gone [] [] split over by_now queued = record { gone = gone; kept = []; split = split; over = over; by_now = tt; queued = tt }
+  leaves_from gone [] (s ∷ ss) split over by_now queued = absurd queued
+  leaves_from gone (row ∷ kept) [] split over by_now queued = absurd queued
+  leaves_from gone (row ∷ kept) (s ∷ ss) split over by_now queued = leaves_by (is_draining s) s ss gone kept row refl split over by_now queued
+
+  -- a store whose access is over leaves
+  pub queue_leaves : (committed : List Store) → QueueOk hit now rows port committed → QueueOk hit now rows port (without_drained committed)
+  queue_leaves committed ok = leaves_from ok.gone ok.kept committed ok.split ok.over ok.by_now ok.queued
+
+  begins_from : (later : ℕ) → now + hit ≤ later → (kept : List Row) (committed : List Store) → Every (λ r. r.retired ≤ now) kept → AreQueued hit port kept committed → AreQueued hit later kept (with_oldest_draining committed)
+  begins_from later le [] [] by_now queued = tt
+  begins_from later le [] (s ∷ ss) by_now queued = absurd queued
+  begins_from later le (row ∷ kept) [] by_now queued = absurd queued
+  begins_from later le (row ∷ kept) (s ∷ ss) by_now queued = (λ begun. omega (arith, by_now.0, le), queued_later hit port later kept ss (omega (arith, idle, le)) queued.1)
+
+  -- the oldest begins its access
+  pub queue_begins : (later : ℕ) → now + hit ≤ later → (committed : List Store) → QueueOk hit now rows port committed → QueueOk hit now rows later (with_oldest_draining committed)
+  queue_begins later le committed ok =
+      record { gone = ok.gone; kept = ok.kept; split = ok.split; over = ok.over; by_now = ok.by_now; queued = begins_from later le ok.kept committed ok.by_now ok.queued }

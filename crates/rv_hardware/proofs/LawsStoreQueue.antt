@@ -1,0 +1,316 @@
+-- Every cycle keeps the store queue's tie to the rows, and so it holds no more stores than it has room for.
+use Rattle.std.proofs.Common.{◌≡◌, ℕ, zero, suc, ◌+◌, ◌≤◌, ◌<◌, ◌&&◌, Bool, true, false, cond, is_some, nat_le, nat_lt, List, [], ◌∷◌, ◌++◌, map, filter, length, count_by, Option, Some, None, inl, inr, refl, sym, subst, ap, ◌∙◌, arith, append_assoc, append-nil, le-leb, lt-ltb}
+use Rattle.std.proofs.lemmas.Bool.{leb-true, ltb-true, cases_lt, le-ltb}
+use Rattle.std.specs.Ordering.{nat_cmp}
+use Rattle.std.specs.FinSet as set
+use Rattle.rv_isa.specs.declared.broadcast.Message.{Message}
+use Rattle.rv_isa.specs.declared.instructions.Instr.{Instr}
+use Rattle.rv_isa.specs.declared.instructions.Instr.TheVariants.{FenceI, Csr, Mret}
+use Rattle.rv_isa.specs.declared.issues.Issue.{Issue}
+use Rattle.rv_isa.specs.declared.lines.Lines.{Lines}
+use Rattle.rv_isa.specs.declared.operations.Kind.{Kind}
+use Rattle.rv_isa.specs.declared.values.CacheValues.{CacheValues}
+use Rattle.rv_isa.specs.declared.values.Values.{Values}
+use Rattle.rv_arch.specs.Due.{due}
+use Rattle.rv_arch.specs.Trap.{interrupt_cause}
+use Rattle.rv_cache.specs.WriteBack.{Each}
+use Rattle.rv_rob.specs.declared.entry.Entry.{Entry}
+use Rattle.rv_rob.specs.declared.entry.Stage.{Stage}
+use Rattle.rv_rob.specs.declared.entry.Stage.TheVariants.{Finished}
+use Rattle.rv_stores.specs.declared.store.Store.{Store}
+use Rattle.rv_hardware.specs.Broadcast.{broadcast}
+use Rattle.rv_hardware.specs.Commit.{Committing, commit_unless, commit_turn, with_fault}
+use Rattle.rv_hardware.specs.Cycle.{with_lines}
+use Rattle.rv_hardware.specs.Dispatch.{dispatch}
+use Rattle.rv_hardware.specs.Drain.{drain}
+use Rattle.rv_hardware.specs.Hardware.{Hardware}
+use Rattle.rv_hardware.specs.InFlight.{is_serialising, is_store}
+use Rattle.rv_hardware.specs.Issue.{issue, FromCache, has_port}
+use Rattle.rv_hardware.specs.Report.{Report}
+use Rattle.rv_hardware.specs.Repeated.{Turn, GoesOn, Ends}
+use Rattle.rv_hardware.specs.Reset.{reset_hardware}
+use Rattle.rv_hardware.specs.Retirement.{written_of}
+use Rattle.rv_hardware.specs.Stamps.{rows_of, is_store_row, is_queued_in}
+use Rattle.rv_hardware.specs.declared.step.Row.{Row}
+use Rattle.rv_hardware.specs.declared.step.Step.{Step}
+use Rattle.rv_hardware.specs.declared.step.Step.TheVariants.{Retired, Trap, Interrupt}
+use Rattle.rv_hardware.proofs.GapBroadcast.{IsKeptByBroadcast, broadcast-keeps}
+use Rattle.rv_hardware.proofs.GapCosts.{access_cost-least}
+use Rattle.rv_hardware.proofs.GapCycle.{IsKept, cycle-keeps}
+use Rattle.rv_hardware.proofs.GapDispatch.{IsKeptByDispatch, dispatch-keeps}
+use Rattle.rv_hardware.proofs.GapDrain.{IsKeptByDrain, drain-keeps}
+use Rattle.rv_hardware.proofs.GapIssue.{IsKeptByIssue, issue-keeps, ready-parts}
+use Rattle.rv_hardware.proofs.GapStores.{HasStores, store_count, instructions_of, stores-kept, stores-at_reset}
+use Rattle.rv_hardware.proofs.LawsBasics.{and_first, and_second, and_both}
+use Rattle.rv_hardware.proofs.LawsCommit.{CommitTurn, no_head, stale_head, unfinished, fence_waits, fence_writes, fence_retires, executes, serial_faults, traps, retires, retires_last, written_back, retired_with, commit_turn_is}
+use Rattle.rv_hardware.proofs.LawsCounted.{count-as_of, until_by}
+use Rattle.rv_hardware.proofs.LawsCycle.{Anything, anything_is_kept, Passed, History, began, went_on, begin, committing, drained, cycle_passes, history_is_legal, history_is_sound}
+use Rattle.rv_hardware.proofs.LawsLists.{Every, Every-weaker, Every-all, count, count-append, count-none, count-length, count-le, count-map, count-count_by, Beginning-count}
+use Rattle.rv_hardware.proofs.LawsMarks.{Mark, mark_of_row, mark_of_entry, mark_of_fetched, marks_in, at_end, as_of, was_fetched, until, Extends, rows_append}
+use Rattle.rv_hardware.proofs.LawsPast.{rows_obey}
+use Rattle.rv_hardware.proofs.LawsPhases.{Commits, commit_turn_keeps}
+use Rattle.rv_hardware.proofs.LawsPort.{has_its_port, port_grows}
+use Rattle.rv_hardware.proofs.LawsQueue.{QueueOk, queued_length, queue_later, queue_next, plain_retires, queue_retires, queue_leaves, queue_begins}
+use Rattle.rv_hardware.proofs.LawsRow.{SoundRow, row_at, retiring_is_one, may_retire_serial, may_retire_finished, MayRetire}
+use Rattle.rv_hardware.proofs.LawsShape.{head_retired_entries}
+use Rattle.rv_hardware.proofs.LawsSound.{SoundEntry, row_decodes}
+use Rattle.rv_hardware.proofs.LawsTold.{Telling, AreTelling, TellsIn, telling-kept}
+use Rattle.rv_hardware.proofs.LawsTurns.{Leads, turns_keep}
+use Rattle.rv_hardware.proofs.LawsWidths.{count_marks}
+
+abbrev pub Queue : Values → ℕ → List Step → Hardware → Type 0
+Queue v now steps h = QueueOk v.cache.hit now (rows_of steps) h.port_free h.committed
+
+-- what every cycle keeps holds in every history
+pub history_keeps : (v : Values) (P : Hardware → Type 0) → IsKept P → ((image : List ℕ) (start : ℕ) → P (reset_hardware v image start)) → {steps : List Step} {h : Hardware} → History v steps h → P h
+history_keeps v P kept first (began image start legal) = first image start
+history_keeps v P kept first (went_on before is) = cycle-keeps kept is (history_keeps v P kept first before)
+
+-- commit
+
+serial_is_no_store : (i : Option Instr) → is_serialising i ≡ true → is_store i ≡ false
+serial_is_no_store None is = absurd (cc)
+serial_is_no_store (Some FenceI) is = refl
+serial_is_no_store (Some (Csr op rd csr source)) is = refl
+serial_is_no_store (Some Mret) is = refl
+serial_is_no_store i is = absurd (cc)
+
+drained_idle : (a : Bool) (h : Hardware) → (a && nat_le h.port_free h.cycle) ≡ true → h.port_free ≤ h.cycle
+drained_idle a h is = leb-true h.port_free h.cycle (and_second a (nat_le h.port_free h.cycle) is)
+
+module _ (v : Values) (now : ℕ) (earlier : List Step) (is_stale : set.FinSet nat_cmp → ℕ → Bool) where
+  abbrev Committed : Committing → Type 0
+  Committed c = Commits v now Anything (anything_is_kept v now) earlier is_stale c
+
+  abbrev Queues : Committing → Type 0
+  Queues c = AreTelling c.hardware × Queue v now (earlier ++ c.steps) c.hardware
+
+  pushed : (c : Committing) (s : Step) → rows_of (earlier ++ (c.steps ++ s ∷ [])) ≡ rows_of (earlier ++ c.steps) ++ rows_of (s ∷ [])
+  pushed c s = ap rows_of (sym (append_assoc earlier c.steps (s ∷ []))) ∙ rows_append (earlier ++ c.steps) (s ∷ [])
+
+  -- a step without a row
+  no_row : (c : Committing) (s : Step) (h : Hardware) → rows_of (s ∷ []) ≡ [] → h.port_free ≡ c.hardware.port_free → h.committed ≡ c.hardware.committed → Queue v now (earlier ++ c.steps) c.hardware → Queue v now (earlier ++ (c.steps ++ s ∷ [])) h
+  no_row c s h none port committed ok =
+      rw (pushed c s ∙ ap (λ l. rows_of (earlier ++ c.steps) ++ l) none ∙ append-nil (rows_of (earlier ++ c.steps)), port, committed) ok
+
+  module _ (c : Committing) (e : Entry) (es : List Entry) (written : Option (ℕ × ℕ)) (place : c.hardware.rob.entries ≡ e ∷ es) (may : MayRetire e.instruction e.stage) (p : Committed c) where
+    row_is_store : is_store_row (row_at e written c.hardware.cycle) ≡ is_store e.instruction
+    row_is_store =
+        let sound : SoundEntry v now now now e = (subst (Every (SoundEntry v now now now)) place p.basics.entries).0 in
+        ap is_store (row_decodes e sound.decoded (retiring_is_one v now e sound may))
+
+  -- a serialising instruction
+  serial_row : (c : Committing) (e : Entry) (es : List Entry) (written : Option (ℕ × ℕ)) (port : ℕ) → c.hardware.rob.entries ≡ e ∷ es → is_serialising e.instruction ≡ true → c.hardware.port_free ≤ port → Committed c →
+      Queue v now (earlier ++ c.steps) c.hardware → QueueOk v.cache.hit now (rows_of (earlier ++ (c.steps ++ Retired (row_at e written c.hardware.cycle) ∷ []))) port c.hardware.committed
+  serial_row c e es written port place serial le p ok =
+      let row : Row = row_at e written c.hardware.cycle in
+      let plain = row_is_store c e es written place (may_retire_serial e.instruction e.stage serial) p ∙ serial_is_no_store e.instruction serial in
+      let more = plain_retires v.cache.hit now (rows_of (earlier ++ c.steps)) c.hardware.port_free c.hardware.committed ok row plain in
+      rw (pushed c (Retired row)) (queue_later v.cache.hit now (rows_of (earlier ++ c.steps) ++ row ∷ []) c.hardware.port_free c.hardware.committed more port le)
+
+  -- a result
+  finished_tells : (i : Option Instr) (st : Stage) (issue : Option Issue) (cycle : ℕ) (message : Message) → st ≡ Finished issue cycle message → message.fault ≡ None → TellsIn i st → is_some message.store ≡ is_store i
+  finished_tells i st issue cycle message at none tells = (subst (TellsIn i) at tells) none
+
+  result_row : (c : Committing) (e : Entry) (es : List Entry) (issue : Option Issue) (cycle : ℕ) (message : Message) → c.hardware.rob.entries ≡ e ∷ es → e.stage ≡ Finished issue cycle message → message.fault ≡ None → Committed c → Queues c →
+      Queue v now (earlier ++ (c.steps ++ Retired (row_at e (written_of e message) c.hardware.cycle) ∷ [])) (retired_with e message c).hardware
+  result_row c e es issue cycle message place at none p ok =
+      let row : Row = row_at e (written_of e message) c.hardware.cycle in
+      let same = row_is_store c e es (written_of e message) place (may_retire_finished e.instruction e.stage issue cycle message at none) p in
+      let telling : Each Telling (e ∷ es) = subst (Each Telling) place ok.0 in
+      let tells = finished_tells e.instruction e.stage issue cycle message at none telling.0 in
+      rw (pushed c (Retired row))
+      (queue_retires v.cache.hit now (rows_of (earlier ++ c.steps)) c.hardware.port_free c.hardware.committed ok.1 row c.hardware.rob.retired message.store (tells ∙ sym same) (omega (arith, p.basics.cycle)))
+
+  commit_queue : (c : Committing) (t : Turn Committing) → CommitTurn is_stale c t → Committed c → Queues c → Leads Queues Queues t
+  commit_queue c _ (no_head none) p ok = ok
+  commit_queue c _ (stale_head e es at is) p ok = ok
+  commit_queue c _ (unfinished e es head plain none) p ok = ok
+  commit_queue c _ (fence_waits e es head is) p ok = ok
+  commit_queue c _ (fence_writes e es head is drained) p ok =
+      let le = drained_idle _ c.hardware drained in
+      (ok.0, queue_later v.cache.hit now (rows_of (earlier ++ c.steps)) c.hardware.port_free c.hardware.committed ok.1 (written_back c).hardware.port_free (omega (arith, le)))
+  commit_queue c _ (fence_retires e es written next head is drained) p ok =
+      let le = drained_idle _ c.hardware drained in
+      (tt, serial_row c e es written (written_back c).hardware.port_free head.place (ap is_serialising is) (omega (arith, le)) p ok.1)
+  commit_queue c _ (executes e es written next head serial) p ok = (tt, serial_row c e es written c.hardware.port_free head.place serial (omega arith) p ok.1)
+  commit_queue c _ (serial_faults e es cause value head serial) p ok = (tt, no_row c (Trap e.pc cause value c.hardware.cycle) (with_fault e cause value c).hardware refl refl refl ok.1)
+  commit_queue c _ (traps e es issue cycle message fault head plain at is) p ok = (tt, no_row c (Trap e.pc fault.cause fault.value c.hardware.cycle) (with_fault e fault.cause fault.value c).hardware refl refl refl ok.1)
+  commit_queue c _ (retires e es issue cycle message head plain at none) p ok =
+      let telling : Each Telling (e ∷ es) = subst (Each Telling) head.place ok.0 in
+      (subst (Each Telling) (sym (head_retired_entries c.hardware.rob e es head.place)) telling.1, result_row c e es issue cycle message head.place at none p ok)
+  commit_queue c _ (retires_last e es issue cycle message head plain at none) p ok = (tt, result_row c e es issue cycle message head.place at none p ok)
+
+  joined : (P Q : Committing → Type 0) (t : Turn Committing) → Leads P P t → Leads Q Q t → Leads (λ c. P c × Q c) (λ c. P c × Q c) t
+  joined P Q (GoesOn c) h g = (h, g)
+  joined P Q (Ends c) h g = (h, g)
+
+  commit_queue_by : (o : Option ℕ) (h : Hardware) → Committed (record { hardware = h; steps = []; stop = None }) → AreTelling h → Queue v now (earlier ++ []) h → Queue v now (earlier ++ (commit_unless is_stale o h).steps) (commit_unless is_stale o h).hardware
+  commit_queue_by (Some code) h p telling ok =
+      no_row (record { hardware = h; steps = []; stop = None }) (Interrupt h.pc (interrupt_cause code) h.cycle) (commit_unless is_stale (Some code) h).hardware refl refl refl ok
+  commit_queue_by None h p telling ok =
+      (turns_keep (λ c. Committed c × Queues c) (commit_turn is_stale)
+      (λ c q. joined Committed Queues (commit_turn is_stale c) (commit_turn_keeps v now Anything (anything_is_kept v now) earlier is_stale c (commit_turn is_stale c) (commit_turn_is is_stale c) q.0) (commit_queue c (commit_turn is_stale c) (commit_turn_is is_stale c) q.0 q.1))
+      h.values.commit_width (record { hardware = h; steps = []; stop = None }) (p, (telling, ok))).1.1
+
+-- drain, and the phases behind it
+
+module _ (v : Values) (now : ℕ) (steps : List Step) where
+  abbrev Drained : Hardware → Type 0
+  Drained h = (h.cycle ≡ now) × (h.cache.values ≡ v.cache) × Queue v now steps h
+
+  drain_queue : IsKeptByDrain Drained
+  drain_queue = record {
+    leaves = λ h p idle. let le = leb-true h.port_free h.cycle idle in (p.0, p.1, queue_leaves v.cache.hit now (rows_of steps) h.port_free (omega (arith, le, p.0)) h.committed p.2);
+    drains = λ h access p idle is.
+        let le = leb-true h.port_free h.cycle idle in
+        let least = access_cost-least h.cache access.address in
+        let hit = ap (λ (c : CacheValues). c.hit) p.1 in
+        (p.0, p.1, queue_begins v.cache.hit now (rows_of steps) h.port_free (omega (arith, le, p.0)) _ (omega (arith, p.0, least, hit)) h.committed p.2);
+  }
+
+  issue_queue : (k : Kind) → IsKeptByIssue (Queue v now steps) k
+  issue_queue k = record {
+    accesses = λ h older younger e address ok split ready by.
+        let idle : has_port h (FromCache address) ≡ true = subst (λ q. has_port h q ≡ true) by (has_its_port h older e (ready-parts h k older e ready).loads) in
+        queue_later v.cache.hit now (rows_of steps) h.port_free h.committed ok _ (port_grows h (FromCache address) idle);
+    starts = λ h older younger e cost message ok split waits of_kind result costs. ok;
+  }
+
+  broadcast_queue : IsKeptByBroadcast (Queue v now steps)
+  broadcast_queue = record { broadcasts = λ h older younger e message ok split gives. ok; mends = λ h older younger e next ok split. ok }
+
+  dispatch_queue : IsKeptByDispatch (Queue v now steps)
+  dispatch_queue = record { dispatches = λ h fetched rest ok first none. ok }
+
+  executed_queue : (h : Hardware) → Drained h → Queue v now steps (dispatch (broadcast (issue (drain h)))).hardware
+  executed_queue h p =
+      dispatch-keeps dispatch_queue (broadcast (issue (drain h))) (broadcast-keeps broadcast_queue (issue (drain h)) (issue-keeps (Queue v now steps) issue_queue (drain h) (drain-keeps drain_queue h p).2))
+
+-- a cycle
+
+queue_in_cycle : (v : Values) (R : List Mark → Type 0) {earlier : List Step} {old new : Hardware} {lines : Lines} {report : Report} → History v earlier old → Passed v R earlier lines old report new → Queue v old.cycle earlier old → Queue v old.cycle (earlier ++ report.steps) new
+queue_in_cycle v R {earlier} {old} {new} {lines} {report} before passed ok =
+    let first = begin v (history_is_legal v before) Anything earlier lines old new report (anything_is_kept v old.cycle) passed.begins tt in
+    let g : Hardware = with_lines lines old in
+    let committed = commit_queue_by v old.cycle earlier set.contains (due g.csrs g.lines) g first (history_keeps v AreTelling telling-kept (λ image start. tt) before) (rw (append-nil earlier) ok) in
+    let at_commit : Queue v old.cycle (earlier ++ report.steps) (committing lines old).hardware = rw (passed.steps) committed in
+    let done = executed_queue v old.cycle (earlier ++ report.steps) (committing lines old).hardware (passed.committed.basics.cycle, passed.committed.basics.shape.cache, at_commit) in
+    subst (λ (h : Hardware). Queue v old.cycle (earlier ++ report.steps) h) (sym passed.others_stay) done
+
+pub queue_of_history : (v : Values) {steps : List Step} {h : Hardware} → History v steps h → Queue v h.cycle steps h
+queue_of_history v (began image start legal) = record { gone = []; kept = []; split = refl; over = tt; by_now = tt; queued = tt }
+queue_of_history v (went_on {earlier} {old} {new} {lines} {report} before is) =
+    let passed = cycle_passes v (history_is_legal v before) Anything earlier lines old new report (anything_is_kept v old.cycle) (history_is_sound v before) tt is in
+    let next : new.cycle ≡ old.cycle + 1 = ap (λ (h : Hardware). h.cycle) passed.others_stay in
+    queue_next v.cache.hit old.cycle (rows_of (earlier ++ report.steps)) new.port_free new.committed (queue_in_cycle v Anything before passed (queue_of_history v before)) new.cycle (omega (arith, next))
+
+-- counts
+
+-- a store that did not retire by the cycle, or no longer ago than its access takes
+abbrev stays : ℕ → ℕ → Option ℕ → Bool
+stays hit c None = true
+stays hit c (Some retired) = nat_lt c (retired + hit)
+
+abbrev is_queued_mark : ℕ → ℕ → Mark → Bool
+is_queued_mark hit c m = is_store m.instruction && (is_some m.dispatched && stays hit c m.retired)
+
+module _ (hit now : ℕ) where
+  abbrev is_late : Row → Bool
+  is_late row = nat_lt now (row.retired + hit)
+
+  late_by : (b : Bool) (row : Row) (m : ℕ) (rows : List Row) → m ≡ count is_late rows → cond (b && is_late row) (suc m) m ≡ count is_late (cond b (row ∷ rows) rows)
+  late_by true row m rows same = ap (λ n. cond (is_late row) (suc n) n) same
+  late_by false row m rows same = same
+
+  late_rows : (rows : List Row) → count (λ row. is_queued_mark hit now (mark_of_row row)) rows ≡ count is_late (filter is_store_row rows)
+  late_rows [] = refl
+  late_rows (row ∷ rows) = late_by (is_store_row row) row (count (λ r. is_queued_mark hit now (mark_of_row r)) rows) (filter is_store_row rows) (late_rows rows)
+
+  queued_rows : (rows : List Row) (port : ℕ) (committed : List Store) → QueueOk hit now rows port committed → count (λ row. is_queued_mark hit now (mark_of_row row)) rows ≤ length committed
+  queued_rows rows port committed ok =
+      let all = late_rows rows ∙ ap (count is_late) ok.split ∙ count-append is_late ok.gone ok.kept in
+      let none = count-none is_late ok.gone (Every-weaker (λ row. row.retired + hit ≤ now) (λ row. is_late row ≡ false) (λ row by. le-ltb now (row.retired + hit) by) ok.gone ok.over) in
+      let some = count-length is_late ok.kept in
+      let same = queued_length hit port ok.kept committed ok.queued in
+      omega (arith, all, none, some, same)
+
+  queued_entries : (es : List Entry) → count (λ e. is_queued_mark hit now (mark_of_entry e)) es ≡ store_count (instructions_of es)
+  queued_entries [] = refl
+  queued_entries (e ∷ es) = by_store (is_store e.instruction) (queued_entries es)
+    where
+      by_store : (b : Bool) {m n : ℕ} → m ≡ n → cond (b && true) (suc m) m ≡ cond b 1 0 + n
+      by_store true same = omega (arith, same)
+      by_store false same = omega (arith, same)
+
+law_by_cycle : (v : Values) {steps : List Step} {h : Hardware} → History v steps h → (c : ℕ) → c < h.cycle → count (is_queued_mark v.cache.hit c) (as_of c (map mark_of_row (rows_of steps))) ≤ v.store_queue
+law_by_cycle v history =
+    rows_obey v (λ c ms. count (is_queued_mark v.cache.hit c) ms ≤ v.store_queue) (λ c xs ys b le. let less = Beginning-count (is_queued_mark v.cache.hit c) xs ys b in omega (arith, less, le))
+    (λ earlier old new lines report before after passed.
+    let p : Mark → Bool = is_queued_mark v.cache.hit old.cycle in
+    let ok = queue_in_cycle v (Extends old.cycle (marks_in earlier old)) before passed (queue_of_history v before) in
+    let parts = count_marks p (earlier ++ report.steps) new.rob.entries new.front.entries in
+    let rows = queued_rows v.cache.hit old.cycle (rows_of (earlier ++ report.steps)) new.port_free new.committed ok in
+    let entries = queued_entries v.cache.hit old.cycle new.rob.entries in
+    let words = count-none (λ f. p (mark_of_fetched f)) new.front.entries (Every-all (λ f. p (mark_of_fetched f) ≡ false) (λ f. not_dispatched (is_store f.instruction)) new.front.entries) in
+    let room = (history_keeps v HasStores stores-kept (λ image start. stores-at_reset v image start) after).1 in
+    let values = ap (λ (w : Values). w.store_queue) (history_is_sound v after).shape.values in
+    omega (arith, parts, rows, entries, words, room, values)) history
+  where
+    not_dispatched : (b : Bool) → (b && false) ≡ false
+    not_dispatched true = refl
+    not_dispatched false = refl
+
+-- so of rows
+
+row_is_queued : (v : Values) (c bound : ℕ) (row : Row) → SoundRow v bound row → is_queued_in v.cache.hit c row ≡ true → (was_fetched c (mark_of_row row) && is_queued_mark v.cache.hit c (at_end c (mark_of_row row))) ≡ true
+row_is_queued v c bound row sound h =
+    let two = and_first (is_store_row row && nat_le row.dispatched c) (nat_lt c (row.retired + v.cache.hit)) h in
+    let store = and_first (is_store_row row) (nat_le row.dispatched c) two in
+    let le = leb-true row.dispatched c (and_second (is_store_row row) (nat_le row.dispatched c) two) in
+    let late = and_second (is_store_row row && nat_le row.dispatched c) (nat_lt c (row.retired + v.cache.hit)) h in
+    and_both (nat_le row.fetched c) (is_queued_mark v.cache.hit c (at_end c (mark_of_row row))) (le-leb row.fetched c (omega (arith, le, sound.stamps.dispatched_after_fetch)))
+    (and_both (is_store_row row) (is_some (until c (Some row.dispatched)) && stays v.cache.hit c (until c (Some row.retired))) store
+    (rw (until_by c row.dispatched le) (by_retirement (nat_le row.retired c) late)))
+  where
+    by_retirement : (b : Bool) → nat_lt c (row.retired + v.cache.hit) ≡ true → stays v.cache.hit c (cond b (Some row.retired) None) ≡ true
+    by_retirement true late = late
+    by_retirement false late = refl
+
+-- behind the last cycle no more rows are counted than in it
+still_queued : (v : Values) (c now : ℕ) (row : Row) → now ≤ c → SoundRow v (now + 1) row → is_queued_in v.cache.hit c row ≡ true → is_queued_in v.cache.hit now row ≡ true
+still_queued v c now row le sound h =
+    let two = and_first (is_store_row row && nat_le row.dispatched c) (nat_lt c (row.retired + v.cache.hit)) h in
+    let late = ltb-true c (row.retired + v.cache.hit) (and_second (is_store_row row && nat_le row.dispatched c) (nat_lt c (row.retired + v.cache.hit)) h) in
+    and_both (is_store_row row && nat_le row.dispatched now) (nat_lt now (row.retired + v.cache.hit))
+    (and_both (is_store_row row) (nat_le row.dispatched now) (and_first (is_store_row row) (nat_le row.dispatched c) two) (le-leb row.dispatched now (omega (arith, sound.stamps.retired_after_dispatch, sound.below))))
+    (lt-ltb now (row.retired + v.cache.hit) (omega (arith, le, late)))
+
+module _ (v : Values) {steps : List Step} {h : Hardware} (history : History v steps h) where
+  queued_before : (c : ℕ) → c < h.cycle → count (is_queued_in v.cache.hit c) (rows_of steps) ≤ v.store_queue
+  queued_before c lt =
+      let p : Mark → Bool = is_queued_mark v.cache.hit c in
+      let law = law_by_cycle v history c lt in
+      let counts = count-as_of p c (map mark_of_row (rows_of steps)) ∙ count-map (λ m. was_fetched c m && p (at_end c m)) mark_of_row (rows_of steps) in
+      let fewer = count-le (is_queued_in v.cache.hit c) (λ row. was_fetched c (mark_of_row row) && p (at_end c (mark_of_row row))) (rows_of steps)
+      (Every-weaker (SoundRow v h.cycle) (λ row. is_queued_in v.cache.hit c row ≡ true → (was_fetched c (mark_of_row row) && p (at_end c (mark_of_row row))) ≡ true) (λ row sound. row_is_queued v c h.cycle row sound) (rows_of steps) (history_is_sound v history).rows) in
+      omega (arith, law, counts, fewer)
+
+  queued_by : (n c : ℕ) → h.cycle ≡ n → n ≤ c → count (is_queued_in v.cache.hit c) (rows_of steps) ≤ v.store_queue
+  queued_by zero c at le =
+      let none = count-none (is_queued_in v.cache.hit c) (rows_of steps) (Every-weaker (SoundRow v h.cycle) (λ row. is_queued_in v.cache.hit c row ≡ false) (λ row sound. absurd (omega (arith, sound.below, at))) (rows_of steps) (history_is_sound v history).rows) in
+      omega (arith, none)
+  queued_by (suc now) c at le =
+      let fewer = count-le (is_queued_in v.cache.hit c) (is_queued_in v.cache.hit now) (rows_of steps)
+      (Every-weaker (SoundRow v h.cycle) (λ row. is_queued_in v.cache.hit c row ≡ true → is_queued_in v.cache.hit now row ≡ true)
+      (λ row sound. still_queued v c now row (omega (arith, le)) (subst (λ n. SoundRow v n row) (omega (arith, at)) sound)) (rows_of steps) (history_is_sound v history).rows) in
+      let law = queued_before now (omega (arith, at)) in
+      omega (arith, fewer, law)
+
+  pub law_of_the_store_queue : (c : ℕ) → count_by (is_queued_in v.cache.hit c) (rows_of steps) ≤ v.store_queue
+  law_of_the_store_queue c =
+      let same = count-count_by (is_queued_in v.cache.hit c) (rows_of steps) in
+      elim (cases_lt c h.cycle) [
+        | inl before ↦ let le = queued_before c before in omega (arith, same, le)
+        | inr after ↦ let le = queued_by h.cycle c refl after in omega (arith, same, le)
+      ]

@@ -1,0 +1,108 @@
+-- A result that is no fault tells what is written where it is a store's, and nowhere else.
+use Rattle.std.proofs.Common.{◌≡◌, ℕ, Bool, true, false, cond, nat_le, ◌+◌, ◌∷◌, ◌++◌, Option, Some, None, is_some, refl, sym, subst}
+use Rattle.rv_isa.specs.declared.broadcast.Message.{Message}
+use Rattle.rv_isa.specs.declared.instructions.Instr.{Instr}
+use Rattle.rv_isa.specs.declared.instructions.Instr.TheVariants.{Store}
+use Rattle.rv_isa.specs.declared.lines.Lines.{Lines}
+use Rattle.rv_isa.specs.declared.operations.Kind.{Kind}
+use Rattle.rv_arch.specs.Effect.{Effect, Retires, Faults, effect}
+use Rattle.rv_arch.specs.State.{State}
+use Rattle.rv_cache.specs.WriteBack.{Each}
+use Rattle.rv_memory.specs.Memory.{Layout}
+use Rattle.rv_front.specs.declared.fetched.Fetched.{Fetched}
+use Rattle.rv_rob.specs.Entry.{finished, predicting, started}
+use Rattle.rv_rob.specs.declared.entry.Entry.{Entry}
+use Rattle.rv_rob.specs.declared.entry.Stage.{Stage}
+use Rattle.rv_rob.specs.declared.entry.Stage.TheVariants.{Waiting, Running, Finished}
+use Rattle.rv_hardware.specs.Broadcast.{result_at}
+use Rattle.rv_hardware.specs.Dispatch.{entry_of_fetched, stage_by}
+use Rattle.rv_hardware.specs.Hardware.{Hardware}
+use Rattle.rv_hardware.specs.InFlight.{is_serialising, is_store}
+use Rattle.rv_hardware.specs.Issue.{kind_of_word}
+use Rattle.rv_hardware.specs.Result.{access_of, effect_message, result_of_word}
+use Rattle.rv_hardware.specs.Seen.{layout_of, seen_behind}
+use Rattle.rv_hardware.proofs.GapCycle.{IsKept}
+use Rattle.rv_hardware.proofs.GapEach.{Each-back, Each-change, Each-front, Each-push}
+use Rattle.rv_hardware.proofs.GapForms.{IsResult}
+
+abbrev pub Tells : Option Instr → Message → Type 0
+Tells i message = message.fault ≡ None → is_some message.store ≡ is_store i
+
+abbrev pub TellsIn : Option Instr → Stage → Type 0
+TellsIn i Waiting = Unit {0}
+TellsIn i (Running issue message) = Tells i message
+TellsIn i (Finished issue cycle message) = Tells i message
+
+abbrev pub Telling : Entry → Type 0
+Telling e = TellsIn e.instruction e.stage
+
+abbrev pub AreTelling : Hardware → Type 0
+AreTelling h = Each Telling h.rob.entries
+
+-- what an instruction gives
+
+access_tells : (s : State) (i : Instr) → is_some (access_of s i) ≡ is_store (Some i)
+access_tells s (Store width rs1 rs2 offset) = refl
+access_tells s _ = refl
+
+effect_tells : (s : State) (i : Instr) (given : Effect) → Tells (Some i) (effect_message (access_of s i) given)
+effect_tells s i (Retires written next) = λ none. access_tells s i
+effect_tells s i (Faults cause value) = λ none. absurd (cc)
+
+word_tells : (layout : Layout) (s : State) (lines : Lines) (word : Option ℕ) (i : Option Instr) → Tells i (result_of_word layout s lines word i)
+word_tells layout s lines None i = λ none. absurd (cc)
+word_tells layout s lines (Some word) None = λ none. absurd (cc)
+word_tells layout s lines (Some word) (Some i) = effect_tells s i (effect layout s lines word i)
+
+result_tells : (word : Option ℕ) (i : Option Instr) (message : Message) → IsResult word i message → Tells i message
+result_tells word i message result = subst (Tells i) (sym result.is) (word_tells result.layout result.state result.lines word i)
+
+-- a broadcast
+
+sent_tells : (b : Bool) (i : Option Instr) (given message : Message) → cond b (Some given) None ≡ Some message → Tells i given → Tells i message
+sent_tells true i given message is tells = let same : given ≡ message = cc in subst (Tells i) same tells
+sent_tells false i given message is tells = absurd (cc)
+
+result_at_tells : (cycle : ℕ) (i : Option Instr) (stage : Stage) (message : Message) → result_at cycle stage ≡ Some message → TellsIn i stage → Tells i message
+result_at_tells cycle i Waiting message is tells = absurd (cc)
+result_at_tells cycle i (Running issue given) message is tells = sent_tells (nat_le (issue.cycle + issue.cost) cycle) i given message is tells
+result_at_tells cycle i (Finished issue sent given) message is tells = absurd (cc)
+
+-- a dispatch
+
+stage_tells : (i : Option Instr) (kind : Option Kind) (serialising : Bool) (cycle : ℕ) (message : Message) → Tells i message → TellsIn i (stage_by kind serialising (Finished None cycle message))
+stage_tells i (Some kind) serialising cycle message tells = tt
+stage_tells i None true cycle message tells = tt
+stage_tells i None false cycle message tells = tells
+
+entry_tells : (h : Hardware) (f : Fetched) → Telling (entry_of_fetched h f)
+entry_tells h f =
+    stage_tells f.instruction (kind_of_word f.instruction) (is_serialising f.instruction) h.cycle _
+    (word_tells (layout_of h.values) (seen_behind h h.rob.entries f.pc) h.lines f.word f.instruction)
+
+pub telling-kept : IsKept AreTelling
+telling-kept = record {
+  phases = record {
+    lines = λ h levels all. all;
+    commit = record {
+      empties = λ h s retired all. tt;
+      retires = λ h e es s message all split known faultless. let these : Each Telling (e ∷ es) = subst (Each Telling) split all in these.1;
+      writes_back = λ h all drained. all;
+    };
+    drain = record { leaves = λ h all idle. all; drains = λ h access all idle is. all };
+    issue = λ k. record {
+      accesses = λ h older younger e address all split ready by. all;
+      starts = λ h older younger e cost message all split waits of_kind result costs.
+          Each-change Telling older younger e (started (record { cycle = h.cycle; cost = cost }) message e) (λ tells. result_tells e.word e.instruction message result) (subst (Each Telling) split all);
+    };
+    broadcast = record {
+      broadcasts = λ h older younger e message all split gives.
+          Each-change Telling older younger e (finished message h.cycle e) (result_at_tells h.cycle e.instruction e.stage message gives) (subst (Each Telling) split all);
+      mends = λ h older younger e next all split.
+          let these : Each Telling (older ++ e ∷ younger) = subst (Each Telling) split all in
+          Each-push Telling older (predicting next e) (Each-back Telling older (e ∷ younger) these).0 (Each-front Telling older (e ∷ younger) these);
+    };
+    dispatch = record { dispatches = λ h fetched rest all first none. Each-push Telling h.rob.entries (entry_of_fetched h fetched) (entry_tells h fetched) all };
+  };
+  fetch = record { fetches = λ ram cycle h front stop all fetches. all };
+}
