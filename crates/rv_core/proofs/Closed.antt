@@ -1,32 +1,19 @@
 -- Parts that are tied to a hardware stand for it.
 use Rattle.std.proofs.Common.{◌≡◌, filter, subst, sym, ap, ◌∙◌}
-use Rattle.rv_rename.specs.Renaming.{Renaming}
-use Rattle.rv_stations.specs.Stations.{Pools}
 use Rattle.rv_stores.specs.Queue.{Queue}
 use Rattle.rv_stores.specs.Store.{is_committed}
-use Rattle.rv_units.specs.Bus.{Pending}
 use Rattle.rv_hardware.specs.Hardware.{Hardware}
 use Rattle.rv_core.specs.Parts.{IsSound, hardware_of}
 use Rattle.rv_core.specs.Soundness.{IsSoundHardware}
 use Rattle.rv_core.specs.Ties.{AreTied}
 use Rattle.rv_core.specs.declared.parts.Parts.TheInside.{Inside}
-use Rattle.rv_core.proofs.TiedQueue.{committed-stores}
-
--- equal parts are tied alike
-pub retied : (h : Hardware) (rename rename' : Renaming) (stations stations' : Pools) (bus bus' : Pending) (queue queue' : Queue) → AreTied h rename stations bus queue
-    → rename' ≡ rename → stations' ≡ stations → bus' ≡ bus → queue' ≡ queue → AreTied h rename' stations' bus' queue'
-retied h rename rename' stations stations' bus bus' queue queue' tied r s b q = record {
-  renamed = r ∙ tied.renamed;
-  stationed = s ∙ tied.stationed;
-  pending = b ∙ tied.pending;
-  queued = q ∙ tied.queued;
-}
+use Rattle.rv_core.proofs.TiedQueue.{retired_of_queue}
 
 module _ (p : Inside) (h : Hardware) (same : record (hardware_of p) { committed = h.committed } ≡ h) (tied : AreTied h p.rename p.stations p.bus p.stores) (sound : IsSoundHardware h) where
   -- the retired stores are told by the queue, all else is there
   pub closed-is : hardware_of p ≡ h
   closed-is =
-      ap (λ committed. record (hardware_of p) { committed = committed }) (ap (λ (q : Queue). filter is_committed q.stores) tied.queued ∙ committed-stores h.values h.committed h.rob.retired h.rob.entries sound.stores.each) ∙ same
+      ap (λ committed. record (hardware_of p) { committed = committed }) (ap (λ (q : Queue). filter is_committed q.stores) tied.queued ∙ retired_of_queue h sound.stores.each) ∙ same
 
   pub closed-sound : p.stale.base ≡ p.values.ram_base → p.stale.size ≡ p.values.ram_size → IsSound p
   closed-sound base size = record {

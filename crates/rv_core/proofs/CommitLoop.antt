@@ -9,8 +9,8 @@ use Rattle.rv_hardware.specs.Repeated.{Ends, repeated}
 use Rattle.rv_hardware.specs.declared.step.Step.{Step}
 use Rattle.rv_core.proofs.Turned.{turned-ends, turned-goes}
 use Rattle.rv_core.specs.HeadTurn.{committing, turn_left, IsKept}
-use Rattle.rv_core.specs.declared.commit.HeadTurn.{HeadTurn}
-use Rattle.rv_core.specs.declared.commit.HeadTurn.TheVariants.{GoesOn}
+use Rattle.rv_core.specs.declared.head.HeadTurn.{HeadTurn}
+use Rattle.rv_core.specs.declared.head.HeadTurn.TheVariants.{GoesOn}
 
 -- after some turns, with others left to come: these lead to what all of them lead to
 pub record AreCommitted (start h : Hardware) (old new : List Step) (done left : ℕ) : Type 0 where

@@ -1,9 +1,8 @@
 -- The parts once an instruction was dispatched into them.
 use Rattle.std.proofs.Common.{◌≡◌, ◌&&◌, ◌<◌, List, [], ◌∷◌, drop, All, Some, None, refl}
 use Rattle.std.specs.List.{slice_get}
-use Rattle.std.specs.Option.{IfSome, option_and_then}
+use Rattle.std.specs.Option.{IfSome}
 use Rattle.std.proofs.lemmas.List.Elements.{All-drop, All-head}
-use Rattle.rv_decode.specs.Decodes.{instruction_of}
 use Rattle.rv_front.specs.FetchBuffer.{FetchBuffer}
 use Rattle.rv_front.specs.declared.fetched.Fetched.{Fetched}
 use Rattle.rv_rob.specs.ReorderBuffer.{next_number, pushed}
@@ -13,23 +12,24 @@ use Rattle.rv_hardware.specs.Hardware.{Hardware}
 use Rattle.rv_hardware.specs.InFlight.{is_branch_or_jump, is_store, target_of_word}
 use Rattle.rv_core.specs.Entering.{with_instruction, with_jump, with_store, with_target}
 use Rattle.rv_core.specs.Parts.{IsSound, hardware_of}
+use Rattle.rv_core.specs.Soundness.{IsDecoded}
 use Rattle.rv_core.specs.Ties.{status_behind, values_in}
 use Rattle.rv_core.specs.declared.parts.Parts.TheInside.{Inside}
 use Rattle.rv_core.proofs.Closed.{closed-is, closed-sound}
-use Rattle.rv_core.proofs.Fetched.{IsDecoded, sound_with_front}
+use Rattle.rv_core.proofs.Fetched.{sound_with_front}
 use Rattle.rv_core.proofs.TiedDispatch.{sound-dispatched, tied-dispatched}
 
 -- the fetched words without the oldest
-pub decoded-first : (fs : List Fetched) (f : Fetched) → slice_get fs 0 ≡ Some f → All (λ (f : Fetched). f.instruction ≡ option_and_then instruction_of f.word) fs → f.instruction ≡ option_and_then instruction_of f.word
+pub decoded-first : (fs : List Fetched) (f : Fetched) → slice_get fs 0 ≡ Some f → All IsDecoded fs → IsDecoded f
 decoded-first [] f first each = absurd (cc)
 decoded-first (g ∷ fs) f first each =
-    let same : g ≡ f = cc in rw (← same) (All-head (λ (f : Fetched). f.instruction ≡ option_and_then instruction_of f.word) g fs each)
+    let same : g ≡ f = cc in rw (← same) (All-head IsDecoded g fs each)
 
 pub sound-taken : (p : Inside) (front : FetchBuffer) → IsSound p → front ≡ record p.front { entries = drop 1 p.front.entries } → IsSound (record p { front = front })
 sound-taken p front is rest =
     sound_with_front p front is (rw rest (All-drop IsDecoded 1 p.front.entries is.sound.fetched))
 
-module _ (p : Inside) (f : Fetched) (is : IsSound p) (waits_not : reason_of (hardware_of p) f ≡ None) (decoded : f.instruction ≡ option_and_then instruction_of f.word) (target : IfSome (target_of_word f.instruction) (λ register. register < 32)) where
+module _ (p : Inside) (f : Fetched) (is : IsSound p) (waits_not : reason_of (hardware_of p) f ≡ None) (decoded : IsDecoded f) (target : IfSome (target_of_word f.instruction) (λ register. register < 32)) where
   abbrev pub entered_parts : Inside
   entered_parts = record p {
     stores = with_store (is_store f.instruction) (next_number p.rob) p.stores;

@@ -1,19 +1,16 @@
 -- The fetch phase keeps what holds of the hardware.
-use Rattle.std.proofs.Common.{◌≡◌, ℕ, zero, suc, Bool, true, false, List, [], ◌∷◌, ◌++◌, length, ◌-◌, Option, None, Some, option_and_then, MatchBool, MatchOption, sym, subst}
+use Rattle.std.proofs.Common.{◌≡◌, ℕ, zero, suc, Bool, true, false, List, [], ◌∷◌, ◌++◌, length, ◌-◌, Option, None, Some, MatchBool, MatchOption, sym, subst}
 use Rattle.std.specs.List.{All}
 use Rattle.std.proofs.lemmas.List.Elements.{All-append, All-cons, All-nil}
-use Rattle.rv_decode.specs.Decodes.{instruction_of}
 use Rattle.rv_memory.specs.Memory.{Memory}
 use Rattle.rv_front.specs.FetchBuffer.{Answers, FetchBuffer, Fetches, FetchesInto, is_halted, stop_behind}
 use Rattle.rv_front.specs.declared.fetched.FetchStop.{FetchStop}
 use Rattle.rv_front.specs.declared.fetched.FetchStop.TheVariants.{Halted}
 use Rattle.rv_front.specs.declared.fetched.Fetched.{Fetched}
-use Rattle.rv_core.specs.Parts.{IsSound}
+use Rattle.rv_core.specs.Parts.{IsSound, hardware_of}
+use Rattle.rv_core.specs.Soundness.{IsDecoded}
 use Rattle.rv_core.specs.declared.parts.Parts.TheInside.{Inside}
-
--- the instruction is the word's
-abbrev pub IsDecoded : Fetched → Type 0
-IsDecoded f = f.instruction ≡ option_and_then instruction_of f.word
+use Rattle.rv_core.proofs.SoundInFlight.{sound_in_flight}
 
 -- no more words, or as many as follow
 rest_decoded : (rest : Type 0) (es : List Fetched) (next predicted : ℕ) (stop : FetchStop) (behind : Option FetchStop) → (rest → All IsDecoded es) →
@@ -49,28 +46,10 @@ fetched_decoded answers ram cycle old new stop all fetches = buffer_decoded answ
 -- the front alone changes
 pub sound_with_front : (parts : Inside) (front : FetchBuffer) → IsSound parts → All IsDecoded front.entries → IsSound (record parts { front = front })
 sound_with_front parts front before decoded = record {
-  sound = record {
-    legal = before.sound.legal;
-    cycles = before.sound.cycles;
-    port = before.sound.port;
-    registers = before.sound.registers;
-    cache = record { base = before.sound.cache.base; values = before.sound.cache.values; bytes = before.sound.cache.bytes; layout = before.sound.cache.layout };
-    entries = record {
-      capacity = before.sound.entries.capacity;
-      within = before.sound.entries.within;
-      numbers = before.sound.entries.numbers;
-      each = before.sound.entries.each;
-      serial = before.sound.entries.serial;
-    };
-    stores = record { each = before.sound.stores.each; older = before.sound.stores.older };
-    fetched = decoded;
-  };
-  tied = record {
-    renamed = before.tied.renamed;
-    stationed = before.tied.stationed;
-    pending = before.tied.pending;
-    queued = before.tied.queued;
-  };
+  sound =
+      let h = hardware_of parts in
+      sound_in_flight h h.rob.entries front before.sound before.sound.entries.within before.sound.entries.each before.sound.entries.serial decoded;
+  tied = record { renamed = before.tied.renamed; stationed = before.tied.stationed; pending = before.tied.pending; queued = before.tied.queued };
   stale_base = before.stale_base;
   stale_size = before.stale_size;
 }

@@ -12,8 +12,8 @@ use Rattle.rv_hardware.specs.InFlight.{broadcast_of}
 use Rattle.rv_hardware.specs.Repeated.{Ends}
 use Rattle.rv_hardware.specs.declared.step.Step.{Step}
 use Rattle.rv_core.specs.HeadTurn.{committing, instruction_of_access, IsHead, role_of}
-use Rattle.rv_core.specs.declared.commit.CsrAccess.{CsrAccess as Access}
-use Rattle.rv_core.specs.declared.commit.Role.TheVariants.{CsrAccess, WaitsForResult}
+use Rattle.rv_core.specs.declared.head.CsrAccess.{CsrAccess as Access}
+use Rattle.rv_core.specs.declared.head.Role.TheVariants.{CsrAccess, WaitsForResult}
 
 first_of : (entries : List Entry) (e : Entry) → slice_get entries 0 ≡ Some e → (younger : List Entry) × (entries ≡ e ∷ younger)
 first_of [] e is = absurd (cc)

@@ -175,7 +175,7 @@ module _ (h : Hardware) (sound : IsSoundHardware h) where
             })
             ∙ ap (with_start kind place (cost_of h kind p) (result_of_word (layout_of h.values) s h.lines entry.word entry.instruction)) (access_is_defined h p)
 
-        described : IsDescribedCache started_hardware
+        described : IsDescribedCache h.values cache
         described =
             let kept : Keeps cache = subst Keeps (sym caches) (keeps code_path) in
             record {

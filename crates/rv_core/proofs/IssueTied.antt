@@ -122,7 +122,7 @@ module _ (h : Hardware) (kind : Kind) (before : List Entry) (e : Entry) (rest : 
         queued = tied.queued ∙ (λ j. record { stores = h.committed ++ stores_same j; capacity = h.values.store_queue });
       }
 
-      entries_sound : AreSoundEntries h → IsLegalWrite h.values (is_store e.instruction) message.fault message.store → AreSoundEntries hardware_started
+      entries_sound : AreSoundEntries h.values h.cycle h.rob → IsLegalWrite h.values (is_store e.instruction) message.fault message.store → AreSoundEntries h.values h.cycle rob_started
       entries_sound sound legal =
           let each : All (IsSoundEntry h.values) (before ++ e ∷ rest) = rw (← split) sound.each in
           let own : IsSoundEntry h.values e = All-at (IsSoundEntry h.values) before e rest each in
@@ -134,7 +134,7 @@ module _ (h : Hardware) (kind : Kind) (before : List Entry) (e : Entry) (rest : 
             serial = pairs-with_entry (λ a b. is_serialising a.instruction ≡ false) (started issue message) (λ a b r. r) (λ a b r. r) n h.rob.retired h.rob.entries sound.serial;
           }
 
-      pub sound_started : IsSoundHardware h → IsDescribedCache hardware_started → port_free ≤ 2 ^ 43 → IsLegalWrite h.values (is_store e.instruction) message.fault message.store → IsSoundHardware hardware_started
+      pub sound_started : IsSoundHardware h → IsDescribedCache h.values cache → port_free ≤ 2 ^ 43 → IsLegalWrite h.values (is_store e.instruction) message.fault message.store → IsSoundHardware hardware_started
       sound_started sound described port legal = record {
         legal = sound.legal;
         cycles = sound.cycles;
@@ -142,6 +142,6 @@ module _ (h : Hardware) (kind : Kind) (before : List Entry) (e : Entry) (rest : 
         registers = sound.registers;
         cache = described;
         entries = entries_sound sound.entries legal;
-        stores = record { each = sound.stores.each; older = sound.stores.older };
+        stores = sound.stores;
         fetched = sound.fetched;
       }

@@ -26,7 +26,6 @@ pub mod LoadEffect
 pub mod LoadMessage
 pub mod LoadPath
 pub mod Numbered
-pub mod Retied
 pub mod RetiredHead
 pub mod RetiredSound
 pub mod RetiredStores
@@ -35,6 +34,8 @@ pub mod RunReports
 pub mod RunStops
 pub mod SeenByte
 pub mod Serialised
+pub mod SoundInFlight
+pub mod Squashed
 pub mod Stored
 pub mod TiedBroadcast
 pub mod TiedBus

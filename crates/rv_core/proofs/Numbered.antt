@@ -4,55 +4,27 @@ use Rattle.rv_isa.specs.declared.lines.Lines.{Lines}
 use Rattle.rv_core.specs.Parts.{IsSound}
 use Rattle.rv_core.specs.declared.parts.Parts.TheInside.{Inside}
 
-module _ (p : Inside) (is : IsSound p) where
-  pub sound-lined : (lines : Lines) → IsSound (record p { lines = lines })
-  sound-lined lines =
-      let sound = is.sound in
-      let tied = is.tied in
-      record {
-        sound = record {
-          legal = sound.legal;
-          cycles = sound.cycles;
-          port = sound.port;
-          registers = sound.registers;
-          cache = record { base = sound.cache.base; values = sound.cache.values; bytes = sound.cache.bytes; layout = sound.cache.layout };
-          entries = record {
-            capacity = sound.entries.capacity;
-            within = sound.entries.within;
-            numbers = sound.entries.numbers;
-            each = sound.entries.each;
-            serial = sound.entries.serial;
-          };
-          stores = record { each = sound.stores.each; older = sound.stores.older };
-          fetched = sound.fetched;
+pub sound-numbered : (p : Inside) → IsSound p → (lines : Lines) (next : ℕ) → p.cycle ≤ next → next ≤ 2 ^ 40 → IsSound (record p { lines = lines; cycle = next })
+sound-numbered p is lines next later counted =
+    let sound = is.sound in
+    record {
+      sound = record {
+        legal = sound.legal;
+        cycles = counted;
+        port = sound.port;
+        registers = sound.registers;
+        cache = sound.cache;
+        entries = record {
+          capacity = sound.entries.capacity;
+          within = sound.entries.within;
+          numbers = omega (arith, sound.entries.numbers, later);
+          each = sound.entries.each;
+          serial = sound.entries.serial;
         };
-        tied = record { renamed = tied.renamed; stationed = tied.stationed; pending = tied.pending; queued = tied.queued };
-        stale_base = is.stale_base;
-        stale_size = is.stale_size;
-      }
-
-  pub sound-numbered : (next : ℕ) → p.cycle ≤ next → next ≤ 2 ^ 40 → IsSound (record p { cycle = next })
-  sound-numbered next later counted =
-      let sound = is.sound in
-      let tied = is.tied in
-      record {
-        sound = record {
-          legal = sound.legal;
-          cycles = counted;
-          port = sound.port;
-          registers = sound.registers;
-          cache = record { base = sound.cache.base; values = sound.cache.values; bytes = sound.cache.bytes; layout = sound.cache.layout };
-          entries = record {
-            capacity = sound.entries.capacity;
-            within = sound.entries.within;
-            numbers = omega (arith, sound.entries.numbers, later);
-            each = sound.entries.each;
-            serial = sound.entries.serial;
-          };
-          stores = record { each = sound.stores.each; older = sound.stores.older };
-          fetched = sound.fetched;
-        };
-        tied = record { renamed = tied.renamed; stationed = tied.stationed; pending = tied.pending; queued = tied.queued };
-        stale_base = is.stale_base;
-        stale_size = is.stale_size;
-      }
+        stores = sound.stores;
+        fetched = sound.fetched;
+      };
+      tied = record { renamed = is.tied.renamed; stationed = is.tied.stationed; pending = is.tied.pending; queued = is.tied.queued };
+      stale_base = is.stale_base;
+      stale_size = is.stale_size;
+    }

@@ -7,6 +7,7 @@ use Rattle.rv_isa.specs.declared.broadcast.Message.{Message}
 use Rattle.rv_isa.specs.declared.broadcast.StoreAccess.{StoreAccess}
 use Rattle.rv_isa.specs.declared.values.Values.{Values}
 use Rattle.rv_arch.specs.State.{with_register}
+use Rattle.rv_rob.specs.ReorderBuffer.{ReorderBuffer, head_retired}
 use Rattle.rv_rob.specs.declared.entry.Entry.{Entry}
 use Rattle.rv_stores.specs.declared.store.Store.{Store as QueuedStore}
 use Rattle.rv_stores.specs.declared.store.StorePhase.TheVariants.{Committed}
@@ -43,30 +44,34 @@ older_with ss seq (Some access) are =
     AreBelow-push (λ (s : QueuedStore). s.seq) (seq + 1) ss (record { seq = seq; state = Filled access Committed })
     (AreBelow-weaken (λ (s : QueuedStore). s.seq) seq (seq + 1) ss (omega arith) are) (omega arith)
 
+-- the instructions behind the head
+pub entries_behind_head : (values : Values) (cycle : ℕ) (rob : ReorderBuffer) (e : Entry) (es : List Entry) → AreSoundEntries values cycle rob → rob.entries ≡ e ∷ es →
+    rob.retired < 8 * cycle + 8 → AreSoundEntries values cycle (head_retired rob)
+entries_behind_head values cycle rob e es sound entries room = subst (AreSoundEntries values cycle) (sym (buffer_behind rob e es entries)) (record {
+  capacity = sound.capacity;
+  within = omega (arith, ap length entries, sound.within);
+  numbers = omega (arith, room);
+  each = All-tail (IsSoundEntry values) e es (subst (All (IsSoundEntry values)) entries sound.each);
+  serial =
+      let all : AllPairs (λ (older younger : Entry). is_serialising older.instruction ≡ false) (e ∷ es) =
+      subst (λ l. AllPairs (λ (older younger : Entry). is_serialising older.instruction ≡ false) l) entries sound.serial in
+      λ i j d lt within. all (suc i) (suc j) d (omega (arith, lt)) (omega (arith, within));
+})
+
 pub sound_behind_head : (h : Hardware) (e : Entry) (es : List Entry) (m : Message) → IsSoundHardware h → h.rob.entries ≡ e ∷ es →
     h.rob.retired < 8 * h.cycle + 8 → IsLegalWrite h.values (is_store e.instruction) None m.store →
     IsSoundHardware (with_result e m h)
-sound_behind_head h e es m sound entries room legal =
-    let after = buffer_behind h.rob e es entries in
-    record {
-      legal = sound.legal;
-      cycles = sound.cycles;
-      port = sound.port;
-      registers = value_count h.registers (target_of_word e.instruction) m ∙ sound.registers;
-      cache = record { base = sound.cache.base; values = sound.cache.values; bytes = sound.cache.bytes; layout = sound.cache.layout };
-      entries = subst (λ rob. AreSoundEntries (record (with_result e m h) { rob = rob })) (sym after) (record {
-        capacity = sound.entries.capacity;
-        within = omega (arith, ap length entries, sound.entries.within);
-        numbers = omega (arith, room);
-        each = All-tail (IsSoundEntry h.values) e es (subst (All (IsSoundEntry h.values)) entries sound.entries.each);
-        serial =
-            let all : AllPairs (λ (older younger : Entry). is_serialising older.instruction ≡ false) (e ∷ es) =
-            subst (λ l. AllPairs (λ (older younger : Entry). is_serialising older.instruction ≡ false) l) entries sound.entries.serial in
-            λ i j d lt within. all (suc i) (suc j) d (omega (arith, lt)) (omega (arith, within));
-      });
-      stores = subst (λ rob. AreSoundStores (record (with_result e m h) { rob = rob })) (sym after) (record {
+sound_behind_head h e es m sound entries room legal = record {
+  legal = sound.legal;
+  cycles = sound.cycles;
+  port = sound.port;
+  registers = value_count h.registers (target_of_word e.instruction) m ∙ sound.registers;
+  cache = sound.cache;
+  entries = entries_behind_head h.values h.cycle h.rob e es sound.entries entries room;
+  stores =
+      subst (λ (rob : ReorderBuffer). AreSoundStores h.values rob.retired (h.committed ++ committed_store h.rob.retired m.store)) (sym (buffer_behind h.rob e es entries)) (record {
         each = retired_with h.values h.committed h.rob.retired (is_store e.instruction) m.store sound.stores.each legal;
         older = older_with h.committed h.rob.retired m.store sound.stores.older;
       });
-      fetched = sound.fetched;
-    }
+  fetched = sound.fetched;
+}

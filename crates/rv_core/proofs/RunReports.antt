@@ -141,6 +141,18 @@ module _ (arrivals : List Arrival) where
     pub counted : progress ≡ progress_of reports
     pub listed : steps ≡ steps_of reports
 
+  -- what is told of cycles whose counts these are
+  told_of : (old now : Hardware) (reports : List Report) (progress : Progress) (steps : List Step) → Cycles arrivals old reports now → progress ≡ progress_of reports → steps ≡ steps_of reports
+      → IsRun arrivals old now reports steps progress.stalls progress.busy progress.cycles progress.longest_gap
+  told_of old now reports progress steps goes counted listed = record {
+    cycled = goes;
+    steps_are = listed;
+    stalls_are = ap (λ (p : Progress). p.stalls) counted;
+    busy_is = ap (λ (p : Progress). p.busy) counted;
+    cycles_are = ap (λ (p : Progress). p.cycles) counted;
+    longest_gap_is = ap (λ (p : Progress). p.longest_gap) counted;
+  }
+
   pub begins : (h : Hardware) (progress : Progress) (steps : List Step) → progress ≡ progress_of [] → steps ≡ [] → IsUnderWay h h progress steps
   begins h progress steps counts none = record { reports = []; goes = ended; none_stops = tt; counted = counts; listed = none }
 
@@ -176,24 +188,13 @@ module _ (arrivals : List Arrival) where
 
     -- what is told of a run that this cycle ends
     pub told_now : (progress' : Progress) → progress' ≡ progress_after (is_silent done) end progress → IsRun arrivals old new reports_now steps' progress'.stalls progress'.busy progress'.cycles progress'.longest_gap
-    told_now progress' is =
-        let counts : progress' ≡ progress_of reports_now = is ∙ counted_now in
-        record {
-          cycled = goes_now;
-          steps_are = listed_now;
-          stalls_are = ap (λ (p : Progress). p.stalls) counts;
-          busy_is = ap (λ (p : Progress). p.busy) counts;
-          cycles_are = ap (λ (p : Progress). p.cycles) counts;
-          longest_gap_is = ap (λ (p : Progress). p.longest_gap) counts;
-        }
+    told_now progress' is = told_of old new reports_now progress' steps' goes_now (is ∙ counted_now) listed_now
 
-  -- what is told of a run under way
-  pub told : (old now : Hardware) (progress : Progress) (steps : List Step) (way : IsUnderWay old now progress steps) → IsRun arrivals old now way.reports steps progress.stalls progress.busy progress.cycles progress.longest_gap
-  told old now progress steps way = record {
-    cycled = way.goes;
-    steps_are = way.listed;
-    stalls_are = ap (λ (p : Progress). p.stalls) way.counted;
-    busy_is = ap (λ (p : Progress). p.busy) way.counted;
-    cycles_are = ap (λ (p : Progress). p.cycles) way.counted;
-    longest_gap_is = ap (λ (p : Progress). p.longest_gap) way.counted;
-  }
+  module _ (old now : Hardware) (progress : Progress) (steps : List Step) (way : IsUnderWay old now progress steps) where
+    -- what is told of a run under way
+    pub told : IsRun arrivals old now way.reports steps progress.stalls progress.busy progress.cycles progress.longest_gap
+    told = told_of old now way.reports progress steps way.goes way.counted way.listed
+
+    -- its reports are as many as its cycles
+    pub so_many : (n : ℕ) → progress.cycles ≡ n → length way.reports ≡ n
+    so_many n is = sym (ap (λ (p : Progress). p.cycles) way.counted) ∙ is

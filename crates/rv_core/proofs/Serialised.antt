@@ -5,8 +5,8 @@ use Rattle.rv_rob.specs.ReorderBuffer.{ReorderBuffer, head_retired}
 use Rattle.rv_rob.specs.declared.entry.Entry.{Entry}
 use Rattle.rv_stores.specs.declared.store.Store.{Store as QueuedStore}
 use Rattle.rv_hardware.specs.Hardware.{Hardware}
-use Rattle.rv_core.proofs.Flushed.{IsSoundBehind}
 use Rattle.rv_core.proofs.RetiredHead.{buffer_behind}
+use Rattle.rv_core.proofs.RetiredSound.{entries_behind_head}
 use Rattle.rv_core.specs.Retiring.{registers_with}
 use Rattle.rv_core.specs.Soundness.{IsSoundHardware}
 
@@ -16,21 +16,19 @@ written_count (Some written) registers = length-set registers written.0 written.
 
 pub sound_behind_serial : (h : Hardware) (e : Entry) (es : List Entry) (pc : ℕ) (written : Option (ℕ × ℕ)) → IsSoundHardware h →
     h.rob.entries ≡ e ∷ es → h.rob.retired < 8 * h.cycle + 8 →
-    IsSoundBehind (record h { pc = pc; registers = registers_with written h.registers; rob = head_retired h.rob })
-sound_behind_serial h e es pc written sound entries room =
-    let after = buffer_behind h.rob e es entries in
-    record {
-      legal = sound.legal;
-      cycles = sound.cycles;
-      port = sound.port;
-      registers = written_count written h.registers ∙ sound.registers;
-      cache = record { base = sound.cache.base; values = sound.cache.values; bytes = sound.cache.bytes; layout = sound.cache.layout };
-      capacity = ap (λ (r : ReorderBuffer). r.capacity) after ∙ sound.entries.capacity;
-      numbers = omega (arith, ap (λ (r : ReorderBuffer). r.retired) after, room);
-      stores = record {
-        each = sound.stores.each;
-        older =
-            AreBelow-weaken (λ (s : QueuedStore). s.seq) h.rob.retired (head_retired h.rob).retired h.committed
-            (omega (arith, ap (λ (r : ReorderBuffer). r.retired) after)) sound.stores.older;
-      };
-    }
+    IsSoundHardware (record h { pc = pc; registers = registers_with written h.registers; rob = head_retired h.rob })
+sound_behind_serial h e es pc written sound entries room = record {
+  legal = sound.legal;
+  cycles = sound.cycles;
+  port = sound.port;
+  registers = written_count written h.registers ∙ sound.registers;
+  cache = sound.cache;
+  entries = entries_behind_head h.values h.cycle h.rob e es sound.entries entries room;
+  stores = record {
+    each = sound.stores.each;
+    older =
+        AreBelow-weaken (λ (s : QueuedStore). s.seq) h.rob.retired (head_retired h.rob).retired h.committed
+        (omega (arith, ap (λ (r : ReorderBuffer). r.retired) (buffer_behind h.rob e es entries))) sound.stores.older;
+  };
+  fetched = sound.fetched;
+}

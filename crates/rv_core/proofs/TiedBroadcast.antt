@@ -1,5 +1,5 @@
 -- A broadcast and the squash behind a wrong prediction keep the ties of the parts and the soundness of the hardware.
-use Rattle.std.proofs.Common.{◌≡◌, ℕ, ◌+◌, ◌<◌, ◌≤◌, ◌&&◌, true, false, List, [], ◌++◌, get_or, length, find, map, All, Some, None, refl, sym, ap, subst, ◌∙◌, arith}
+use Rattle.std.proofs.Common.{◌≡◌, ℕ, ◌+◌, ◌&&◌, true, false, [], ◌++◌, length, find, map, Some, None, refl, sym, ap, subst, ◌∙◌, arith}
 use Rattle.std.specs.Option.{IfSome}
 use Rattle.rv_rename.specs.Renaming.{restored}
 use Rattle.rv_rob.specs.Entry.{finished, predicting}
@@ -21,32 +21,12 @@ use Rattle.rv_core.specs.Soundness.{IsLegalWrite, IsSoundEntry, IsSoundHardware,
 use Rattle.rv_core.specs.Ties.{AreTied, bus_of}
 use Rattle.rv_core.specs.declared.parts.Parts.TheInside.{Inside}
 use Rattle.rv_core.proofs.Closed.{closed-is, closed-sound}
+use Rattle.rv_core.proofs.SoundInFlight.{sound_in_flight}
 use Rattle.rv_core.proofs.TiedBus.{IsGranted, bus-predicting, bus-squashed, granted, granted-none, without-none}
 use Rattle.rv_core.proofs.TiedEntries.{All-entries_below, All-with_entry, entry_of-changed, entry_of-from, length-entries_below, length-with_entry, pairs-entries_below, pairs-with_entry}
 use Rattle.rv_core.proofs.TiedQueue.{queue-answered, queue-squashed, stores-predicting}
 use Rattle.rv_core.proofs.TiedRenaming.{renaming-restored, renaming-same}
 use Rattle.rv_core.proofs.TiedStations.{stations-predicting, stations-squashed, stations-woken}
-
--- the hardware with other instructions in flight, none of them younger
-sound-entries : (h : Hardware) (es : List Entry) → IsSoundHardware h → length es ≤ length h.rob.entries → All (IsSoundEntry h.values) es
-    → ((i j : ℕ) (d : Entry) → i < j → j < length es → is_serialising (get_or es i d).instruction ≡ false)
-    → IsSoundHardware (record h { rob = record h.rob { entries = es } })
-sound-entries h es sound shorter each serial = record {
-  legal = sound.legal;
-  cycles = sound.cycles;
-  port = sound.port;
-  registers = sound.registers;
-  cache = record { base = sound.cache.base; values = sound.cache.values; bytes = sound.cache.bytes; layout = sound.cache.layout };
-  entries = record {
-    capacity = sound.entries.capacity;
-    within = omega (arith, shorter, sound.entries.within);
-    numbers = sound.entries.numbers;
-    each = each;
-    serial = serial;
-  };
-  stores = record { each = sound.stores.each; older = sound.stores.older };
-  fetched = sound.fetched;
-}
 
 -- ---- nothing to send
 module _ (p : Inside) (is : IsSound p) (none : find (is_ready p.cycle) p.bus.results ≡ None) where
@@ -109,7 +89,11 @@ module _ (p : Inside) (is : IsSound p) (r : PendingResult) (found : find (is_rea
       let s = h.rob.retired in
       let es = h.rob.entries in
       let f = finished r.message p.cycle in
-      sound-entries h (with_entry f r.seq s es) is.sound (omega (arith, length-with_entry f r.seq s es)) (All-with_entry (IsSoundEntry h.values) f r.seq s es sent-entry is.sound.entries.each) (pairs-with_entry (λ older younger. is_serialising older.instruction ≡ false) f (λ d e one. one) (λ d e one. one) r.seq s es is.sound.entries.serial)
+      sound_in_flight h (with_entry f r.seq s es) h.front is.sound
+      (omega (arith, length-with_entry f r.seq s es, is.sound.entries.within))
+      (All-with_entry (IsSoundEntry h.values) f r.seq s es sent-entry is.sound.entries.each)
+      (pairs-with_entry (λ older younger. is_serialising older.instruction ≡ false) f (λ d e one. one) (λ d e one. one) r.seq s es is.sound.entries.serial)
+      is.sound.fetched
 
   sent_tied : AreTied sent_to sent_parts.rename sent_parts.stations sent_parts.bus sent_parts.stores
   sent_tied =
@@ -159,24 +143,14 @@ module _ (p : Inside) (is : IsSound p) (seq next_pc : ℕ) (e : Entry) (early : 
       let s = h.rob.retired in
       let es = h.rob.entries in
       let f = predicting next_pc in
-      let sound =
-      sound-entries h (entries_below (seq + 1) s (with_entry f seq s es)) is.sound (omega (arith, length-entries_below (seq + 1) s (with_entry f seq s es), length-with_entry f seq s es)) (All-entries_below (IsSoundEntry h.values) (seq + 1) s (with_entry f seq s es) (All-with_entry (IsSoundEntry h.values) f seq s es (λ d here one. record { decoded = one.decoded; target = one.target; writes = one.writes }) is.sound.entries.each)) (pairs-entries_below (λ older younger. is_serialising older.instruction ≡ false) (seq + 1) s (with_entry f seq s es) (pairs-with_entry (λ older younger. is_serialising older.instruction ≡ false) f (λ d e one. one) (λ d e one. one) seq s es is.sound.entries.serial)) in
-      record {
-        legal = sound.legal;
-        cycles = sound.cycles;
-        port = sound.port;
-        registers = sound.registers;
-        cache = record { base = sound.cache.base; values = sound.cache.values; bytes = sound.cache.bytes; layout = sound.cache.layout };
-        entries = record {
-          capacity = sound.entries.capacity;
-          within = sound.entries.within;
-          numbers = sound.entries.numbers;
-          each = sound.entries.each;
-          serial = sound.entries.serial;
-        };
-        stores = record { each = sound.stores.each; older = sound.stores.older };
-        fetched = λ k d lt. absurd (omega arith);
-      }
+      let mended_entries = with_entry f seq s es in
+      let P : Entry → Entry → Type 0 = λ older younger. is_serialising older.instruction ≡ false in
+      sound_in_flight h (entries_below (seq + 1) s mended_entries) (redirected next_pc h.front) is.sound
+      (omega (arith, length-entries_below (seq + 1) s mended_entries, length-with_entry f seq s es, is.sound.entries.within))
+      (All-entries_below (IsSoundEntry h.values) (seq + 1) s mended_entries
+      (All-with_entry (IsSoundEntry h.values) f seq s es (λ d here one. record { decoded = one.decoded; target = one.target; writes = one.writes }) is.sound.entries.each))
+      (pairs-entries_below P (seq + 1) s mended_entries (pairs-with_entry P f (λ d e one. one) (λ d e one. one) seq s es is.sound.entries.serial))
+      (λ k d lt. absurd (omega arith))
 
   recovered_tied : AreTied recovered_to recovered_parts.rename recovered_parts.stations recovered_parts.bus recovered_parts.stores
   recovered_tied =

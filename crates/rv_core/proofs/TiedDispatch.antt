@@ -1,7 +1,7 @@
 -- A dispatch keeps the ties of the parts and the soundness of the hardware.
-use Rattle.std.proofs.Common.{◌≡◌, ℕ, zero, suc, ◌+◌, ◌-◌, ◌<◌, ◌&&◌, ◌||◌, Bool, true, false, cond, List, [], ◌∷◌, length, nat_le, All, Option, Some, None, refl, sym, ap, ◌∙◌, length-append, arith}
+use Rattle.std.proofs.Common.{◌≡◌, ℕ, zero, suc, ◌+◌, ◌-◌, ◌<◌, ◌&&◌, ◌||◌, Bool, true, false, cond, List, [], ◌∷◌, ◌++◌, length, nat_le, All, Option, Some, None, refl, sym, ap, ◌∙◌, length-append, arith}
 use Rattle.std.specs.List.{AllPairs, list_any, slice_get}
-use Rattle.std.specs.Option.{IfSome, option_and_then}
+use Rattle.std.specs.Option.{IfSome}
 use Rattle.std.proofs.lemmas.Bool.{leb-false, or_parts}
 use Rattle.std.proofs.lemmas.List.Elements.{All-cons, All-push}
 use Rattle.std.proofs.lemmas.List.Quantifiers.{all_pairs_push}
@@ -14,7 +14,6 @@ use Rattle.rv_isa.specs.declared.operations.Kind.TheVariants as kind
 use Rattle.rv_isa.specs.declared.values.Values.{Values}
 use Rattle.rv_arch.specs.Effect.{Effect, Retires, Faults}
 use Rattle.rv_arch.specs.State.{State}
-use Rattle.rv_decode.specs.Decodes.{instruction_of}
 use Rattle.rv_memory.specs.Memory.{Layout}
 use Rattle.rv_front.specs.declared.fetched.Fetched.{Fetched}
 use Rattle.rv_rename.specs.Renaming.{Renaming}
@@ -34,8 +33,9 @@ use Rattle.rv_hardware.specs.Seen.{layout_of, seen_behind, stores_behind}
 use Rattle.rv_hardware.specs.declared.report.Stall.{Stall}
 use Rattle.rv_hardware.specs.declared.report.Stall.TheVariants as stall
 use Rattle.rv_core.specs.Entering.{are_full_for, with_instruction, with_jump, with_store, with_target}
-use Rattle.rv_core.specs.Soundness.{IsLegalWrite, IsSoundEntry, IsSoundHardware, message_of}
+use Rattle.rv_core.specs.Soundness.{IsDecoded, IsLegalWrite, IsSoundEntry, IsSoundHardware, message_of}
 use Rattle.rv_core.specs.Ties.{AreTied, stations_of, status_behind, values_in}
+use Rattle.rv_core.proofs.SoundInFlight.{sound_in_flight}
 use Rattle.rv_core.proofs.TiedBus.{bus-push}
 use Rattle.rv_core.proofs.TiedQueue.{stores-push}
 use Rattle.rv_core.proofs.TiedRenaming.{renaming-push}
@@ -136,7 +136,7 @@ module _ (h : Hardware) (fetched : Fetched) where
   abbrev entered_hardware : Hardware
   entered_hardware = record h { rob = pushed new_entry h.rob }
 
-  sound-entry : fetched.instruction ≡ option_and_then instruction_of fetched.word → IfSome (target_of_word fetched.instruction) (λ register. register < 32) → IsSoundEntry h.values new_entry
+  sound-entry : IsDecoded fetched → IfSome (target_of_word fetched.instruction) (λ register. register < 32) → IsSoundEntry h.values new_entry
   sound-entry decoded target = record {
     decoded = decoded;
     target = target;
@@ -150,27 +150,16 @@ module _ (h : Hardware) (fetched : Fetched) where
       All-cons (λ (e : Entry). is_serialising e.instruction ≡ false) e es parts.0 (all_fail es parts.1)
 
   -- the hardware is as sound with the instruction as without it
-  pub sound-dispatched : IsSoundHardware h → reason_of h fetched ≡ None → fetched.instruction ≡ option_and_then instruction_of fetched.word → IfSome (target_of_word fetched.instruction) (λ register. register < 32)
+  pub sound-dispatched : IsSoundHardware h → reason_of h fetched ≡ None → IsDecoded fetched → IfSome (target_of_word fetched.instruction) (λ register. register < 32)
       → IsSoundHardware entered_hardware
   sound-dispatched sound none decoded target =
       let fails = goes h fetched none in
       let room = leb-false h.rob.capacity (length h.rob.entries) fails.room in
-      record {
-        legal = sound.legal;
-        cycles = sound.cycles;
-        port = sound.port;
-        registers = sound.registers;
-        cache = record { base = sound.cache.base; values = sound.cache.values; bytes = sound.cache.bytes; layout = sound.cache.layout };
-        entries = record {
-          capacity = sound.entries.capacity;
-          within = omega (arith, room, sound.entries.capacity, length-append h.rob.entries (new_entry ∷ []));
-          numbers = sound.entries.numbers;
-          each = All-push (IsSoundEntry h.values) h.rob.entries new_entry sound.entries.each (sound-entry decoded target);
-          serial = all_pairs_push (λ (older younger : Entry). is_serialising older.instruction ≡ false) h.rob.entries new_entry sound.entries.serial (all_fail h.rob.entries fails.serial);
-        };
-        stores = record { each = sound.stores.each; older = sound.stores.older };
-        fetched = sound.fetched;
-      }
+      sound_in_flight h (h.rob.entries ++ new_entry ∷ []) h.front sound
+      (omega (arith, room, sound.entries.capacity, length-append h.rob.entries (new_entry ∷ [])))
+      (All-push (IsSoundEntry h.values) h.rob.entries new_entry sound.entries.each (sound-entry decoded target))
+      (all_pairs_push (λ (older younger : Entry). is_serialising older.instruction ≡ false) h.rob.entries new_entry sound.entries.serial (all_fail h.rob.entries fails.serial))
+      sound.fetched
 
   -- the parts are tied to the hardware with the instruction
   pub tied-dispatched : (rename : Renaming) (stations : Pools) (bus : Pending) (queue : Queue) → AreTied h rename stations bus queue

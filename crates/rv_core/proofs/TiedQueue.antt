@@ -18,14 +18,16 @@ use Rattle.rv_rob.specs.declared.entry.Stage.TheVariants.{Finished}
 use Rattle.rv_stores.specs.Queue.{Queue, CanEnter, older_than}
 use Rattle.rv_stores.specs.Store.{answered, is_committed, is_committed_state}
 use Rattle.rv_stores.specs.declared.store.Store.{Store}
-use Rattle.rv_stores.specs.declared.store.StorePhase.TheVariants.{Speculative, Committed, Draining}
 use Rattle.rv_stores.specs.declared.store.StoreState.{StoreState}
 use Rattle.rv_stores.specs.declared.store.StoreState.TheVariants as store
 use Rattle.rv_hardware.specs.Dispatch.{stage_by}
+use Rattle.rv_hardware.specs.Hardware.{Hardware}
 use Rattle.rv_hardware.specs.InFlight.{broadcast_of, is_store, store_of_broadcast, store_of_message, stores_of}
 use Rattle.rv_hardware.specs.Issue.{kind_of_word}
 use Rattle.rv_core.specs.Entering.{with_store}
 use Rattle.rv_core.specs.Soundness.{IsRetiredStore}
+use Rattle.rv_core.specs.Ties.{queue_of}
+use Rattle.rv_core.proofs.RetiredStores.{AreRetired, retired_is_committed}
 use Rattle.rv_core.proofs.TiedEntries.{entry_of-from}
 use Rattle.rv_core.proofs.Gathered.{gathered, gathered-below, gathered-cut, gathered-from, gathered-push, gathered-same}
 
@@ -87,26 +89,18 @@ stores-uncommitted s (e ∷ es) =
       | false ↦ stores-uncommitted (s + 1) es
     ]
 
-retired-committed : (values : Values) (state : StoreState) → IsRetiredStore values state → is_committed_state state ≡ true
-retired-committed values store.Waiting is = absurd is
-retired-committed values store.Faulted is = absurd is
-retired-committed values (store.Filled access Speculative) is = absurd is
-retired-committed values (store.Filled access Committed) is = refl
-retired-committed values (store.Filled access Draining) is = refl
+pub all_of_retired : (values : Values) (ss : List Store) → AreRetired values ss → filter is_committed ss ≡ ss
+all_of_retired values [] are = refl
+all_of_retired values (s ∷ ss) are =
+    rw (retired_is_committed values s.seq s.state (All-head (λ (t : Store). IsRetiredStore values t.state) s ss are))
+    (ap (λ l. s ∷ l) (all_of_retired values ss (All-tail (λ (t : Store). IsRetiredStore values t.state) s ss are)))
 
-committed-all : (values : Values) (ss : List Store) → All (λ (x : Store). IsRetiredStore values x.state) ss → filter is_committed ss ≡ ss
-committed-all values [] each = refl
-committed-all values (x ∷ ss) each =
-    rw (retired-committed values x.state (All-head (λ (x : Store). IsRetiredStore values x.state) x ss each))
-    (ap (λ l. x ∷ l) (committed-all values ss (All-tail (λ (x : Store). IsRetiredStore values x.state) x ss each)))
-
--- the retired stores are those of the queue that are committed
-pub committed-stores : (values : Values) (committed : List Store) (s : ℕ) (es : List Entry) → All (λ (x : Store). IsRetiredStore values x.state) committed
-    → filter is_committed (committed ++ stores_of s es) ≡ committed
-committed-stores values committed s es each =
-    filter-append is_committed committed (stores_of s es) ∙
-    (λ i. committed-all values committed each i ++ stores-uncommitted s es i) ∙
-    append-nil committed
+-- the retired stores of the queue are those of the hardware
+pub retired_of_queue : (h : Hardware) → AreRetired h.values h.committed → filter is_committed (queue_of h).stores ≡ h.committed
+retired_of_queue h are =
+    filter-append is_committed h.committed (stores_of h.rob.retired h.rob.entries)
+    ∙ (λ i. all_of_retired h.values h.committed are i ++ stores-uncommitted h.rob.retired h.rob.entries i)
+    ∙ append-nil h.committed
 
 -- ---- dispatch
 store-first : (o : Option Instr) (serialising : Bool) (finished : Stage) → is_store o ≡ true → broadcast_of (stage_by (kind_of_word o) serialising finished) ≡ None

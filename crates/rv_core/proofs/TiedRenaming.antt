@@ -149,6 +149,11 @@ renaming-push values rob e =
     sym (with_jump-is early (is_branch_or_jump e.instruction) n values.rob (producers_with (producers_of rob.retired rob.entries) n e) (checkpoints_of [] rob.retired rob.entries)) ∙
     sym (ap (with_jump (early && is_branch_or_jump e.instruction) n) (with_target-is n (target_of_word e.instruction) (renaming_of values rob)))
 
+-- none of none
+pub no_checkpoints : (early : Bool) → (let none : List Checkpoint = [] in cond early none none) ≡ []
+no_checkpoints true = refl
+no_checkpoints false = refl
+
 checkpoints_below-early : (early : Bool) (n : ℕ) (cs : List Checkpoint) → AreBelow (λ (c : Checkpoint). c.seq) n cs → AreBelow (λ (c : Checkpoint). c.seq) n (cond early cs [])
 checkpoints_below-early true n cs are = are
 checkpoints_below-early false n cs are = λ k d lt. absurd (omega arith)

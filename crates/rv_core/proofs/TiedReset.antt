@@ -1,19 +1,16 @@
 -- The parts at reset: nothing is in flight.
-use Rattle.std.proofs.Common.{◌≡◌, ℕ, ◌+◌, ◌-◌, ◌≤◌, Bool, true, false, cond, List, [], ◌++◌, length, drop, replicate, refl, ap, length-append, arith}
+use Rattle.std.proofs.Common.{◌≡◌, ℕ, ◌+◌, ◌-◌, ◌≤◌, List, [], ◌++◌, length, drop, replicate, refl, sym, ap, length-append, arith}
 use Rattle.std.proofs.lemmas.List.{drop-replicate, length-replicate}
 use Rattle.rv_isa.specs.Description.{IsLegal}
 use Rattle.rv_isa.specs.declared.values.Values.{Values}
-use Rattle.rv_rename.specs.Renaming.{Checkpoint, empty as no_producers}
+use Rattle.rv_rename.specs.Renaming.{empty as no_producers}
 use Rattle.rv_stations.specs.Stations.{empty_pools}
 use Rattle.rv_units.specs.Bus.{empty_bus}
 use Rattle.rv_hardware.specs.Broadcast.{mends_early}
 use Rattle.rv_hardware.specs.Reset.{reset_hardware}
 use Rattle.rv_core.specs.Soundness.{IsSoundHardware}
 use Rattle.rv_core.specs.Ties.{AreTied}
-
-no_checkpoints : (early : Bool) → (let none : List Checkpoint = [] in none) ≡ cond early [] []
-no_checkpoints true = refl
-no_checkpoints false = refl
+use Rattle.rv_core.proofs.TiedRenaming.{no_checkpoints}
 
 -- an image that is written over zeros has zeros behind it
 pub image_over_zeros : (size : ℕ) (image : List ℕ) → image ++ drop (0 + length image) (replicate size 0) ≡ image ++ replicate (size - length image) 0
@@ -24,7 +21,7 @@ image_over_zeros size image =
 module _ (values : Values) (image : List ℕ) (start : ℕ) where
   pub reset-tied : AreTied (reset_hardware values image start) (no_producers values.rob) (empty_pools values) (empty_bus values) (record { stores = []; capacity = values.store_queue })
   reset-tied = record {
-    renamed = ap (λ checkpoints. record { capacity = values.rob; producers = []; checkpoints = checkpoints }) (no_checkpoints (mends_early values.recovery));
+    renamed = ap (λ checkpoints. record { capacity = values.rob; producers = []; checkpoints = checkpoints }) (sym (no_checkpoints (mends_early values.recovery)));
     stationed = refl;
     pending = refl;
     queued = refl;

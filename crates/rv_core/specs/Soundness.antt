@@ -1,5 +1,5 @@
 -- What holds of the hardware between two phases of a cycle.
-use Rattle.std.specs.Prelude.{◌≡◌, ◌+◌, ◌*◌, ◌^◌, ◌<◌, ◌≤◌, Bool, true, false, length, Option, Some, None, option_and_then, IfSome}
+use Rattle.std.specs.Prelude.{◌≡◌, ℕ, ◌+◌, ◌*◌, ◌^◌, ◌<◌, ◌≤◌, Bool, true, false, List, length, Option, Some, None, option_and_then, IfSome}
 use Rattle.std.specs.List.{All, AllPairs}
 use Rattle.rv_isa.specs.Description.{IsLegal}
 use Rattle.rv_isa.specs.Numbered.{AreBelow}
@@ -8,8 +8,10 @@ use Rattle.rv_isa.specs.declared.broadcast.StoreAccess.{StoreAccess}
 use Rattle.rv_isa.specs.declared.causes.Fault.{Fault}
 use Rattle.rv_isa.specs.declared.values.Values.{Values}
 use Rattle.rv_decode.specs.Decodes.{instruction_of}
-use Rattle.rv_cache.specs.Cache.{IsAligned}
+use Rattle.rv_memory.specs.Memory.{Memory}
+use Rattle.rv_cache.specs.Cache.{Contents, IsAligned}
 use Rattle.rv_front.specs.declared.fetched.Fetched.{Fetched}
+use Rattle.rv_rob.specs.ReorderBuffer.{ReorderBuffer}
 use Rattle.rv_rob.specs.declared.entry.Entry.{Entry}
 use Rattle.rv_rob.specs.declared.entry.Stage.{Stage}
 use Rattle.rv_rob.specs.declared.entry.Stage.TheVariants.{Waiting, Running, Finished}
@@ -57,31 +59,35 @@ IsRetiredStore values (store.Filled access Committed) = IsLegalAccess values acc
 IsRetiredStore values (store.Filled access Draining) = IsLegalAccess values access
 
 -- the cache is the described one, over the described RAM
-pub record IsDescribedCache (h : Hardware) : Type 0 where
-  pub base : h.cache.base ≡ h.values.ram_base
-  pub values : h.cache.values ≡ h.values.cache
-  pub bytes : length h.cache.bytes ≡ h.values.ram_size
-  pub layout : h.cache.backing.layout ≡ layout_of h.values
+pub record IsDescribedCache (described : Values) (cache : Contents Memory) : Type 0 where
+  pub base : cache.base ≡ described.ram_base
+  pub values : cache.values ≡ described.cache
+  pub bytes : length cache.bytes ≡ described.ram_size
+  pub layout : cache.backing.layout ≡ layout_of described
 
 -- what holds of the instructions in flight: none stands behind a serialising one
-pub record AreSoundEntries (h : Hardware) : Type 0 where
-  pub capacity : h.rob.capacity ≡ h.values.rob
-  pub within : length h.rob.entries ≤ h.values.rob
-  pub numbers : h.rob.retired ≤ 8 * h.cycle + 8
-  pub each : All (IsSoundEntry h.values) h.rob.entries
-  pub serial : AllPairs (λ older younger. is_serialising older.instruction ≡ false) h.rob.entries
+pub record AreSoundEntries (values : Values) (cycle : ℕ) (rob : ReorderBuffer) : Type 0 where
+  pub capacity : rob.capacity ≡ values.rob
+  pub within : length rob.entries ≤ values.rob
+  pub numbers : rob.retired ≤ 8 * cycle + 8
+  pub each : All (IsSoundEntry values) rob.entries
+  pub serial : AllPairs (λ older younger. is_serialising older.instruction ≡ false) rob.entries
 
--- what holds of the retired stores that wait for the cache
-pub record AreSoundStores (h : Hardware) : Type 0 where
-  pub each : All (λ (s : QueuedStore). IsRetiredStore h.values s.state) h.committed
-  pub older : AreBelow (λ (s : QueuedStore). s.seq) h.rob.retired h.committed
+-- what holds of the retired stores that wait for the cache: they are older than all in flight
+pub record AreSoundStores (values : Values) (retired : ℕ) (committed : List QueuedStore) : Type 0 where
+  pub each : All (λ (s : QueuedStore). IsRetiredStore values s.state) committed
+  pub older : AreBelow (λ (s : QueuedStore). s.seq) retired committed
+
+-- the instruction of a fetched word is the word's
+abbrev pub IsDecoded : Fetched → Type 0
+IsDecoded f = f.instruction ≡ option_and_then instruction_of f.word
 
 pub record IsSoundHardware (h : Hardware) : Type 0 where
   pub legal : IsLegal h.values
   pub cycles : h.cycle ≤ 2 ^ 40
   pub port : h.port_free ≤ 2 ^ 43
   pub registers : length h.registers ≡ 32
-  pub cache : IsDescribedCache h
-  pub entries : AreSoundEntries h
-  pub stores : AreSoundStores h
-  pub fetched : All (λ (f : Fetched). f.instruction ≡ option_and_then instruction_of f.word) h.front.entries
+  pub cache : IsDescribedCache h.values h.cache
+  pub entries : AreSoundEntries h.values h.cycle h.rob
+  pub stores : AreSoundStores h.values h.rob.retired h.committed
+  pub fetched : All IsDecoded h.front.entries

@@ -1,5 +1,9 @@
--- What a turn of a phase leaves, as its answer tells.
-use Rattle.std.specs.Prelude.{ℕ, ◌+◌, List, [], Option, Some, None}
+-- What a cycle tells, and what a turn of a phase leaves, as its answer tells.
+use Rattle.std.specs.Prelude.{◌≡◌, ℕ, ◌+◌, List, [], ◌∷◌, Option, Some, None, IfSome}
+use Rattle.rv_isa.specs.declared.lines.Lines.{Lines}
+use Rattle.rv_arch.specs.Due.{due}
+use Rattle.rv_arch.specs.State.{State}
+use Rattle.rv_arch.specs.Trap.{interrupt_cause}
 use Rattle.rv_arch.specs.declared.outcome.Stop.{Stop}
 use Rattle.rv_arch.specs.declared.outcome.Stop.TheVariants.{Breakpoint, Stale, Limit, Exhausted}
 use Rattle.rv_hardware.specs.Dispatch.{Dispatching}
@@ -8,6 +12,7 @@ use Rattle.rv_hardware.specs.Repeated.{Turn, GoesOn, Ends}
 use Rattle.rv_hardware.specs.Report.{Report}
 use Rattle.rv_hardware.specs.declared.report.Stall.{Stall}
 use Rattle.rv_hardware.specs.declared.step.Step.{Step}
+use Rattle.rv_hardware.specs.declared.step.Step.TheVariants.{Interrupt}
 use Rattle.rv_core.specs.declared.outcome.CycleEnd.{CycleEnd}
 use Rattle.rv_core.specs.declared.outcome.CycleReport.{CycleReport}
 
@@ -33,6 +38,10 @@ report_of_cycle report =
 -- the report of a core that has done all the cycles that it counts
 abbrev pub exhausted_report : Report
 exhausted_report = record { steps = []; dispatched = 0; stall = None; stop = Some Exhausted }
+
+-- an interrupt that is due in the state before a cycle, with the lines of the cycle, is the cycle's one step
+abbrev pub TakesDue : Lines → ℕ → State → List Step → Type 0
+TakesDue lines cycle before steps = IfSome (due before.csrs lines) (λ code. steps ≡ Interrupt before.pc (interrupt_cause code) cycle ∷ [])
 
 -- why a commit stops a run, if it does: a breakpoint, or a stale word
 abbrev pub IsCommitStop : Option Stop → Type 0

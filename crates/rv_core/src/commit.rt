@@ -1,143 +1,33 @@
-ghost use Rattle.std.specs.Prelude.{◌≡◌, ◌≢◌, ◌+◌, ◌*◌, ◌<◌, ◌≤◌, ◌++◌, ◌∷◌, ℕ, [], List, None, Some, IfSome, IsTrue, vec_len, vec_capacity};
-ghost use Rattle.std.specs.Option.{option_map, unwrap_or};
+ghost use Rattle.std.specs.Prelude.{◌≡◌, ◌+◌, ◌*◌, ◌<◌, ◌≤◌, ◌++◌, ◌∷◌, ℕ, [], List, None, Some, IfSome, IsTrue, vec_len, vec_capacity};
+ghost use Rattle.std.specs.Option.{option_map};
 ghost use Rattle.std.specs.FinSet as set;
 ghost use Rattle.rv_isa.specs.Cause.{code_of};
-ghost use Rattle.rv_arch.specs.State.{write_of, with_register};
+ghost use Rattle.rv_isa.specs.declared.instructions.Instr.TheVariants as instr;
+ghost use Rattle.rv_arch.specs.State.{write_of};
 ghost use Rattle.rv_memory.specs.Stale.{is_covered};
 ghost use Rattle.rv_rename.specs.Renaming.{without_checkpoint};
 ghost use Rattle.rv_rob.specs.ReorderBuffer.{head_retired};
-ghost use Rattle.rv_hardware.specs.Commit.{commit, commit_turn, execute_head, fence_instructions, finish_broadcast};
-ghost use Rattle.rv_hardware.specs.InFlight.{broadcast_of, target_of_word};
-ghost use Rattle.rv_hardware.specs.Retirement.{execution_of, row_of, stale_after, with_result, written_of};
+ghost use Rattle.rv_hardware.specs.Commit.{commit, commit_turn, execute_head, fence_instructions, finish_broadcast, with_write_back, write_back_time};
+ghost use Rattle.rv_hardware.specs.InFlight.{broadcast_of};
+ghost use Rattle.rv_hardware.specs.Retirement.{row_of, stale_after, with_result};
 ghost use Rattle.rv_hardware.specs.Squash.{flushed, with_trap};
-ghost use Rattle.rv_hardware.specs.Commit.{with_write_back, write_back_time};
 ghost use Rattle.rv_hardware.specs.Repeated.{Ends as PhaseEnds};
-ghost use Rattle.rv_core.specs.HeadTurn.{committing, instruction_of_access, IsHead, IsKept, role_of, stop_with, turn_left};
+ghost use Rattle.rv_core.specs.HeadTurn.{committing, instruction_of_access, IsHead, IsKept, stop_with, turn_left};
 ghost use Rattle.rv_core.specs.Retiring.{registers_with, with_commit, without_target};
 
+use crate::dispatch::target_of;
+use crate::head::{CsrAccess, HeadTurn, Role, illegal, message_of, role_of, row_of};
 use crate::parts::{Parts, squash_all};
 use rv_arch::{CsrOperand, Stop};
 use rv_front::Predictor;
-use rv_hardware::{Execution, Row, Step};
-use rv_isa::{
-    Cause, CsrAddress, CsrOp, CsrSource, Fault, Instr, Message, Reg, StoreAccess, target,
-};
+use rv_hardware::Step;
+use rv_isa::{Fault, Message, Reg, StoreAccess};
 use rv_memory::StaleMap;
 use rv_rename::RenameMap;
-use rv_rob::{Entry, Rob, Stage};
+use rv_rob::{Entry, Rob};
 use rv_stores::StoreQueue;
 
-/// What a turn of the commit phase did.
-pub(crate) enum HeadTurn {
-    /// No step: the phase ends.
-    Waits,
-    /// A step, after which the phase goes on.
-    GoesOn(Step),
-    /// A step that ends the phase.
-    Ends(Step),
-    /// The head is stale, which stops the run.
-    Stale(u32),
-}
-
 const INTERRUPT: u32 = 0x8000_0000;
-
-fn execution_of(stage: &Stage) -> Option<Execution>
-    ensures { result ≡ execution_of stage.now }
-{
-    match *stage {
-        Stage::Finished {
-            issue: Some(issue),
-            cycle,
-            ..
-        } => Some(Execution {
-            issued: issue.cycle,
-            cost: issue.cost,
-            broadcast: cycle,
-        }),
-        _ => None,
-    }
-}
-
-fn row_of(entry: &Entry, written: Option<(Reg, u32)>, cycle: u64) -> Step
-    ensures { result ≡ row_of entry.now written cycle }
-{
-    Step::Retired(Row {
-        pc: entry.pc,
-        word: entry.word.unwrap_or(0),
-        written,
-        fetched: entry.fetched,
-        dispatched: entry.dispatched,
-        execution: execution_of(&entry.stage),
-        retired: cycle,
-    })
-}
-
-fn target_of(entry: &Entry) -> Option<Reg>
-    ensures target { result ≡ target_of_word entry.now.instruction }
-    ensures in_range { IfSome result (λ register. (register ≢ 0) × (register < 32)) }
-{
-    target(entry.instruction.as_ref()?)
-}
-
-/// What a head does when its turn comes.
-#[derive(Clone, Copy, Debug, PartialEq, Eq)]
-enum Role {
-    FenceInstructions,
-    CsrAccess(CsrAccess),
-    TrapReturn,
-    WaitsForResult,
-}
-
-/// A CSR instruction.
-#[derive(Clone, Copy, Debug, PartialEq, Eq)]
-struct CsrAccess {
-    op: CsrOp,
-    rd: Reg,
-    csr: CsrAddress,
-    source: CsrSource,
-}
-
-fn role_of(instruction: &Option<Instr>) -> Role
-    ensures { result ≡ role_of instruction.now }
-{
-    match instruction {
-        Some(Instr::FenceI) => Role::FenceInstructions,
-        Some(
-            Instr::Csr {
-                op,
-                rd,
-                csr,
-                source,
-            },
-        ) => Role::CsrAccess(CsrAccess {
-            op: *op,
-            rd: *rd,
-            csr: *csr,
-            source: *source,
-        }),
-        Some(Instr::Mret) => Role::TrapReturn,
-        _ => Role::WaitsForResult,
-    }
-}
-
-fn message_of(stage: &Stage) -> Option<Message>
-    ensures { result ≡ broadcast_of stage.now }
-{
-    match stage {
-        Stage::Finished { message, .. } => Some(*message),
-        _ => None,
-    }
-}
-
-fn illegal(entry: &Entry) -> Fault
-    ensures cause { result.cause ≡ Cause.IllegalInstruction }
-    ensures value { result.value ≡ unwrap_or entry.now.word 0 }
-{
-    Fault {
-        cause: Cause::IllegalInstruction,
-        value: entry.word.unwrap_or(0),
-    }
-}
 
 // Writes a register, where there is one to write.
 fn write(registers: &mut [u32; 32], written: &Option<(Reg, u32)>)
@@ -311,7 +201,7 @@ impl Parts {
     fn return_from_trap(&mut self, entry: &Entry) -> HeadTurn
         requires head { IsHead self.old entry.now }
         requires room { self.old.rob.retired < 8 * self.old.cycle + 8 }
-        ensures turn { (steps : List Step) → PhaseEnds (execute_head entry.now Instr.Mret (committing self.old steps)) ≡ turn_left self.new steps result }
+        ensures turn { (steps : List Step) → PhaseEnds (execute_head entry.now instr.Mret (committing self.old steps)) ≡ turn_left self.new steps result }
         ensures kept { IsKept self.old self.new }
     {
         let next = self.csrs.mret();
@@ -343,7 +233,7 @@ impl Parts {
     // FENCE.I waits for the retired stores and the port, and retires in the cycle in which nothing is left to write back.
     fn fence_instructions(&mut self, entry: &Entry) -> HeadTurn
         requires head { IsHead self.old entry.now }
-        requires fence { entry.now.instruction ≡ Some Instr.FenceI }
+        requires fence { entry.now.instruction ≡ Some instr.FenceI }
         requires room { self.old.rob.retired < 8 * self.old.cycle + 8 }
         ensures turn { (steps : List Step) → PhaseEnds (fence_instructions entry.now (committing self.old steps)) ≡ turn_left self.new steps result }
         ensures kept { IsKept self.old self.new }
@@ -384,7 +274,7 @@ impl Parts {
             return self.trap(entry.pc, fault);
         }
         self.retire(entry, &message);
-        let written = written_by(target_of(entry), message.value);
+        let written = written_by(target_of(&entry.instruction), message.value);
         let step = row_of(entry, written, self.cycle);
         if message.next_pc == entry.predicted_next {
             return HeadTurn::GoesOn(step);
@@ -401,7 +291,7 @@ impl Parts {
         requires room { self.old.rob.retired < 8 * self.old.cycle + 8 }
         ensures { self.new ≡ with_result entry.now message.now self.old }
     {
-        let target = target_of(entry);
+        let target = target_of(&entry.instruction);
         write_target(&mut self.registers, &target, message.value);
         commit_store(&mut self.stores, &mut self.stale, &message.store);
         retire_oldest(&mut self.rob, &mut self.rename, &target);

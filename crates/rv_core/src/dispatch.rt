@@ -1,4 +1,4 @@
-ghost use Rattle.std.specs.Prelude.{◌≡◌, ℕ, ◌<◌, ◌≤◌, ◌^◌, ◌&&◌, nat_le, length, true, false, None, Some, IfSome, option_and_then};
+ghost use Rattle.std.specs.Prelude.{◌≡◌, ◌≢◌, ℕ, ◌<◌, ◌≤◌, ◌^◌, ◌&&◌, nat_le, length, true, false, None, Some, IfSome, option_and_then};
 ghost use Rattle.std.specs.List.{AllPairs, list_any};
 ghost use Rattle.rv_isa.specs.Numbered.{AreBelow};
 ghost use Rattle.rv_isa.specs.declared.operations.Kind.{Kind as KindOf};
@@ -50,9 +50,10 @@ fn kind_of(instruction: &Option<Instr>) -> Option<Kind>
     kind(instruction.as_ref()?)
 }
 
-fn target_of(instruction: &Option<Instr>) -> Option<Reg>
+/// The register that an instruction writes, which is never x0.
+pub(crate) fn target_of(instruction: &Option<Instr>) -> Option<Reg>
     ensures target { result ≡ target_of_word instruction.now }
-    ensures in_range { IfSome result (λ register. register < 32) }
+    ensures in_range { IfSome result (λ register. (register ≢ 0) × (register < 32)) }
 {
     target(instruction.as_ref()?)
 }

@@ -10,6 +10,7 @@ mod dispatch;
 mod drain;
 mod errors;
 mod execute;
+mod head;
 mod issue;
 mod load;
 mod machine;

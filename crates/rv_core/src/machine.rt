@@ -1,4 +1,4 @@
-ghost use Rattle.std.specs.Prelude.{◌≡◌, ◌+◌, ◌^◌, ◌<◌, ◌≤◌, ◌↔◌, List, ◌++◌, length, nat_le, vec_len, vec_capacity, IsTrue, IfOk, IfErr};
+ghost use Rattle.std.specs.Prelude.{◌≡◌, ◌+◌, ◌^◌, ◌<◌, ◌≤◌, ◌↔◌, ◌==◌, List, ◌++◌, is_some, length, nat_le, vec_len, vec_capacity, IsTrue, IfOk, IfErr};
 ghost use Rattle.std.specs.FinSet as set;
 ghost use Rattle.rv_memory.specs.Memory.{byte_seen, word_of};
 ghost use Rattle.rv_hardware.specs.Cycle.{IsCycle, any_prediction};
@@ -7,7 +7,7 @@ ghost use Rattle.rv_hardware.specs.Run.{Reachable};
 ghost use Rattle.rv_hardware.specs.Reset.{IsLoadable, reset_hardware};
 ghost use Rattle.rv_hardware.specs.Seen.{layout_of, seen};
 ghost use Rattle.rv_hardware.specs.declared.step.Step.{Step as StepOf};
-ghost use Rattle.rv_core.specs.Told.{IsCommitStop, exhausted_report, report_of_cycle, report_with};
+ghost use Rattle.rv_core.specs.Told.{IsCommitStop, TakesDue, exhausted_report, report_of_cycle, report_with};
 ghost use Rattle.rv_core.specs.declared.errors.NewError.TheVariants as refusal;
 
 use crate::errors::NewError;
@@ -86,8 +86,10 @@ impl Core {
         ensures cycled { self.old.cycle < 2 ^ 40 → IsCycle any_prediction lines self.old (report_of_cycle result) self.new }
         ensures exhausted { self.old.cycle ≡ 2 ^ 40 → (self.new ≡ self.old) × (report_of_cycle result ≡ exhausted_report) }
         ensures true_cycle { self.old.cycle < 2 ^ 40 → IsTrueCycle (layout_of self.old.values) lines self.old.cycle (seen self.old) result.steps.items result.stop (seen self.new) }
+        ensures due_interrupt { self.old.cycle < 2 ^ 40 → TakesDue lines self.old.cycle (seen self.old) result.steps.items }
+        ensures stall { self.old.cycle < 2 ^ 40 → is_some result.stall ≡ (result.dispatched == 0) }
     {
-        // Of hardware that a reset and cycles lead to, the headline holds.
+        // Of hardware that a reset and cycles lead to, the headline and the laws hold.
         let _ = self.cycles_done();
         self.next_cycle(lines)
     }

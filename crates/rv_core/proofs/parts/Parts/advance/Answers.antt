@@ -7,11 +7,11 @@ use Rattle.rv_hardware.specs.Hardware.{Hardware}
 use Rattle.rv_core.specs.Told.{IsCommitStop, report_with}
 use Rattle.rv_core.proofs.AnyPrediction.{any-into}
 use Rattle.rv_core.proofs.CycleDone.{committing-now, cycle-done, dispatched-now}
-use Rattle.rv_core.proofs.Numbered.{sound-lined, sound-numbered}
+use Rattle.rv_core.proofs.Numbered.{sound-numbered}
 use Rattle.rv_core.proofs.parts.Parts.advance.Goals as goal
 
 pub invariant_of-self : goal.invariant_of-self
-invariant_of-self g c = sound-lined c.self.inside c.self.invariant c.args.lines
+invariant_of-self g c = sound-numbered c.self.inside c.self.invariant c.args.lines c.self.inside.cycle (omega arith) c.self.invariant.sound.cycles
 
 pub overflow_add-self : goal.overflow_add-self
 overflow_add-self g c = omega (arith, c.self.invariant.sound.cycles)
@@ -25,7 +25,7 @@ invariant_of-self-2 g c =
     let here : c.self-2.inside.cycle ≡ c.self.inside.cycle =
     ap (λ (h : Hardware). h.cycle) c.self-2.view_is ∙ ap (λ (h : Hardware). h.cycle) c.fetch.ensures.others ∙ now ∙ sym (ap (λ (h : Hardware). h.cycle) c.self.view_is) in
     let before = rw (← c.self.view_is) at c.requires.cycles in
-    sound-numbered c.self-2.inside c.self-2.invariant (c.self.inside.cycle + 1) (omega (arith, here)) (omega (arith, before))
+    sound-numbered c.self-2.inside c.self-2.invariant c.self-2.inside.lines (c.self.inside.cycle + 1) (omega (arith, here)) (omega (arith, before))
 
 pub returns-clause-cycle : goal.returns-clause-cycle
 returns-clause-cycle g c =

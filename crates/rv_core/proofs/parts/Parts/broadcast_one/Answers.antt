@@ -1,4 +1,4 @@
-use Rattle.std.proofs.Common.{◌≡◌, ◌&&◌, true, false, find, [], Some, None, sym, ap, subst, ◌∙◌}
+use Rattle.std.proofs.Common.{◌≡◌, ◌&&◌, find, [], Some, None, sym, ap, subst, ◌∙◌}
 use Rattle.std.proofs.lemmas.Bool.{and_parts}
 use Rattle.rv_rob.specs.Entry.{finished}
 use Rattle.rv_units.specs.Bus.{is_ready}
@@ -6,89 +6,79 @@ use Rattle.rv_hardware.specs.Broadcast.{is_mispredicted, mends_early, with_recov
 use Rattle.rv_hardware.specs.Hardware.{Hardware}
 use Rattle.rv_hardware.specs.Repeated.{Ends, GoesOn}
 use Rattle.rv_core.specs.Parts.{IsSound, hardware_of}
-use Rattle.rv_core.proofs.TiedBroadcast.{grant, sent_parts, sent-goes_on, sent-is, sent-recovers, sent-sound, unsent, unsent_bus}
+use Rattle.rv_core.specs.declared.parts.Parts.TheInside.{Inside}
+use Rattle.rv_core.proofs.TiedBroadcast.{grant, sent_parts, sent-goes_on, sent-is, sent-recovers, sent-sound, sent_to, unsent, unsent_bus}
 use Rattle.rv_core.proofs.TiedBus.{IsGranted}
 use Rattle.rv_core.proofs.TiedEntries.{entry_of-changed}
 use Rattle.rv_core.proofs.parts.Parts.broadcast_one.Goals as goal
+use Rattle.rv_core.proofs.parts.Parts.broadcast_one.Goals.{After-fill_store, In_default}
+
+-- nothing is ready
+none : (c : In_default) → find (is_ready c.self.inside.cycle) c.self.inside.bus.results ≡ None
+none c = sym c.grant_one.ensures.lowest_ready ∙ c.in_default.is
 
 pub invariant_of-self : goal.invariant_of-self
 invariant_of-self c =
     let p = c.self.inside in
-    let none : find (is_ready p.cycle) p.bus.results ≡ None = sym c.grant_one.ensures.lowest_ready ∙ c.in_default.is in
-    let same = c.grant_one.ensures.others_stay ∙ unsent_bus p c.self.invariant none in
+    let same = c.grant_one.ensures.others_stay ∙ unsent_bus p c.self.invariant (none (goal.at.invariant_of-self c).In_default) in
     subst IsSound (λ i. record p { bus = sym same i }) c.self.invariant
 
 pub returns-in_default : goal.returns-in_default
-returns-in_default c =
-    let p = c.self.inside in
-    let none : find (is_ready p.cycle) p.bus.results ≡ None = sym c.grant_one.ensures.lowest_ready ∙ c.in_default.is in
-    rw (← c.self.view_is) (unsent p c.self.invariant none)
+returns-in_default c = rw (← c.self.view_is) (unsent c.self.inside c.self.invariant (none (goal.at.returns-in_default c).In_default))
+
+-- the parts once the oldest result was sent
+abbrev left : After-fill_store → Inside
+left c = record c.self.inside { bus = c.grant_one.new.self; rob = c.finish.new.self; stations = c.wake.new.self; stores = c.fill_store.new.stores }
+
+found : (c : After-fill_store) → find (is_ready c.self.inside.cycle) c.self.inside.bus.results ≡ Some c.in-Some.pending
+found c = sym c.grant_one.ensures.lowest_ready ∙ c.in-Some.is
+
+left-is : (c : After-fill_store) → left c ≡ sent_parts c.self.inside c.self.invariant c.in-Some.pending (found c)
+left-is c = λ i. record c.self.inside { bus = c.grant_one.ensures.others_stay i; rob = c.finish.ensures i; stations = c.wake.ensures i; stores = c.fill_store.ensures i }
+
+left-sound : (c : After-fill_store) → IsSound (left c)
+left-sound c = subst IsSound (sym (left-is c)) (sent-sound c.self.inside c.self.invariant c.in-Some.pending (found c))
+
+left-view : (c : After-fill_store) → hardware_of (left c) ≡ sent_to c.self.inside c.self.invariant c.in-Some.pending (found c)
+left-view c = ap hardware_of (left-is c) ∙ sent-is c.self.inside c.self.invariant c.in-Some.pending (found c)
+
+abbrev sent : (c : After-fill_store) → IsGranted c.self.inside.cycle c.self.inside.rob.retired [] c.self.inside.rob.entries c.in-Some.pending
+sent c = grant c.self.inside c.self.invariant c.in-Some.pending (found c)
+
+recovers : (c : After-fill_store) → (mends_early c.self.inside.values.recovery && is_mispredicted (sent c).entry c.in-Some.pending.message) ≡ c.recovers_from-recovers.result
+recovers c = sym (c.recovers_from-recovers.ensures (sent c).entry (sent c).held)
 
 pub invariant_of-self-then-recovers : goal.invariant_of-self-then-recovers
-invariant_of-self-then-recovers c =
-    let p = c.self.inside in
-    let r = c.in-Some.pending in
-    let found : find (is_ready p.cycle) p.bus.results ≡ Some r = sym c.grant_one.ensures.lowest_ready ∙ c.in-Some.is in
-    let new : record p { bus = c.grant_one.new.self; rob = c.finish.new.self; stations = c.wake.new.self; stores = c.fill_store.new.stores } ≡ sent_parts p c.self.invariant r found =
-    λ i. record p { bus = c.grant_one.ensures.others_stay i; rob = c.finish.ensures i; stations = c.wake.ensures i; stores = c.fill_store.ensures i } in
-    subst IsSound (sym new) (sent-sound p c.self.invariant r found)
+invariant_of-self-then-recovers c = left-sound (goal.at.invariant_of-self-then-recovers c).After-fill_store
+
+pub invariant_of-self-else-recovers : goal.invariant_of-self-else-recovers
+invariant_of-self-else-recovers c = left-sound (goal.at.invariant_of-self-else-recovers c).After-fill_store
 
 pub recover-requires-clause-early : goal.recover-requires-clause-early
 recover-requires-clause-early c =
-    let p = c.self.inside in
-    let r = c.in-Some.pending in
-    let found : find (is_ready p.cycle) p.bus.results ≡ Some r = sym c.grant_one.ensures.lowest_ready ∙ c.in-Some.is in
-    let sent : IsGranted p.cycle p.rob.retired [] p.rob.entries r = grant p c.self.invariant r found in
-    let test : (mends_early p.values.recovery && is_mispredicted sent.entry r.message) ≡ true =
-    sym (c.recovers_from-recovers.ensures sent.entry sent.held) ∙ c.if-recovers.true in
-    (and_parts _ _ test).0
+    (and_parts _ _ (recovers (goal.at.recover-requires-clause-early c).After-fill_store ∙ c.if-recovers.true)).0
 
 pub recover-requires-clause-jump : goal.recover-requires-clause-jump
 recover-requires-clause-jump c =
     let p = c.self.inside in
     let r = c.in-Some.pending in
-    let found : find (is_ready p.cycle) p.bus.results ≡ Some r = sym c.grant_one.ensures.lowest_ready ∙ c.in-Some.is in
-    let sent : IsGranted p.cycle p.rob.retired [] p.rob.entries r = grant p c.self.invariant r found in
-    let test : (mends_early p.values.recovery && is_mispredicted sent.entry r.message) ≡ true =
-    sym (c.recovers_from-recovers.ensures sent.entry sent.held) ∙ c.if-recovers.true in
-    let astray = (and_parts _ _ test).1 in
+    let at = (goal.at.recover-requires-clause-jump c).After-fill_store in
+    let astray = (and_parts _ _ (recovers at ∙ c.if-recovers.true)).1 in
     let jump = (and_parts _ _ (and_parts _ _ astray).0).0 in
     rw c.finish.ensures (
-      finished r.message p.cycle sent.entry,
-      entry_of-changed (finished r.message p.cycle) r.seq p.rob.retired p.rob.entries sent.entry sent.held,
+      finished r.message p.cycle (sent at).entry,
+      entry_of-changed (finished r.message p.cycle) r.seq p.rob.retired p.rob.entries (sent at).entry (sent at).held,
       jump,
     )
 
 pub returns-then-recovers : goal.returns-then-recovers
 returns-then-recovers c =
-    let p = c.self.inside in
     let r = c.in-Some.pending in
-    let found : find (is_ready p.cycle) p.bus.results ≡ Some r = sym c.grant_one.ensures.lowest_ready ∙ c.in-Some.is in
-    let new : record p { bus = c.grant_one.new.self; rob = c.finish.new.self; stations = c.wake.new.self; stores = c.fill_store.new.stores } ≡ sent_parts p c.self.invariant r found =
-    λ i. record p { bus = c.grant_one.ensures.others_stay i; rob = c.finish.ensures i; stations = c.wake.ensures i; stores = c.fill_store.ensures i } in
-    let sent : IsGranted p.cycle p.rob.retired [] p.rob.entries r = grant p c.self.invariant r found in
-    let test : (mends_early p.values.recovery && is_mispredicted sent.entry r.message) ≡ true =
-    sym (c.recovers_from-recovers.ensures sent.entry sent.held) ∙ c.if-recovers.true in
-    let to = c.recover.ensures ∙ ap {A = Hardware} (with_recovery r.seq r.message) (ap hardware_of new ∙ sent-is p c.self.invariant r found) in
-    rw (← c.self.view_is) (sent-recovers p c.self.invariant r found test ∙ ap Ends (sym to))
-
-pub invariant_of-self-else-recovers : goal.invariant_of-self-else-recovers
-invariant_of-self-else-recovers c =
-    let p = c.self.inside in
-    let r = c.in-Some.pending in
-    let found : find (is_ready p.cycle) p.bus.results ≡ Some r = sym c.grant_one.ensures.lowest_ready ∙ c.in-Some.is in
-    let new : record p { bus = c.grant_one.new.self; rob = c.finish.new.self; stations = c.wake.new.self; stores = c.fill_store.new.stores } ≡ sent_parts p c.self.invariant r found =
-    λ i. record p { bus = c.grant_one.ensures.others_stay i; rob = c.finish.ensures i; stations = c.wake.ensures i; stores = c.fill_store.ensures i } in
-    subst IsSound (sym new) (sent-sound p c.self.invariant r found)
+    let at = (goal.at.returns-then-recovers c).After-fill_store in
+    let to = c.recover.ensures ∙ ap {A = Hardware} (with_recovery r.seq r.message) (left-view at) in
+    rw (← c.self.view_is) (sent-recovers c.self.inside c.self.invariant r (found at) (recovers at ∙ c.if-recovers.true) ∙ ap Ends (sym to))
 
 pub returns : goal.returns
 returns c =
-    let p = c.self.inside in
-    let r = c.in-Some.pending in
-    let found : find (is_ready p.cycle) p.bus.results ≡ Some r = sym c.grant_one.ensures.lowest_ready ∙ c.in-Some.is in
-    let new : record p { bus = c.grant_one.new.self; rob = c.finish.new.self; stations = c.wake.new.self; stores = c.fill_store.new.stores } ≡ sent_parts p c.self.invariant r found =
-    λ i. record p { bus = c.grant_one.ensures.others_stay i; rob = c.finish.ensures i; stations = c.wake.ensures i; stores = c.fill_store.ensures i } in
-    let sent : IsGranted p.cycle p.rob.retired [] p.rob.entries r = grant p c.self.invariant r found in
-    let test : (mends_early p.values.recovery && is_mispredicted sent.entry r.message) ≡ false =
-    sym (c.recovers_from-recovers.ensures sent.entry sent.held) ∙ c.if-recovers.false in
-    rw (← c.self.view_is) (sent-goes_on p c.self.invariant r found test ∙ ap GoesOn (sym (ap hardware_of new ∙ sent-is p c.self.invariant r found)))
+    let at = (goal.at.returns c).After-fill_store in
+    rw (← c.self.view_is) (sent-goes_on c.self.inside c.self.invariant c.in-Some.pending (found at) (recovers at ∙ c.if-recovers.false) ∙ ap GoesOn (sym (left-view at)))

@@ -1,10 +1,14 @@
-use Rattle.std.proofs.Common.{◌+◌, ◌-◌, ◌++◌, refl, ap, sym, ◌∙◌, arith}
+use Rattle.std.proofs.Common.{◌≡◌, ◌+◌, ◌-◌, [], ◌∷◌, Some, ◌++◌, refl, ap, sym, ◌∙◌, arith}
+use Rattle.std.specs.FinSet as set
 use Rattle.rv_arch.specs.Due.{due}
+use Rattle.rv_arch.specs.declared.outcome.Stop.TheVariants.{Stale}
 use Rattle.rv_hardware.specs.Hardware.{Hardware}
-use Rattle.rv_hardware.specs.Commit.{Committing}
+use Rattle.rv_hardware.specs.Commit.{Committing, commit}
 use Rattle.rv_core.proofs.CommitLoop.{none_committed, committed_whole, committed_more, steps_with}
-use Rattle.rv_core.specs.HeadTurn.{committing, turn_left}
+use Rattle.rv_core.specs.HeadTurn.{committing, stop_with, turn_left}
 use Rattle.rv_core.proofs.parts.Parts.commit.Goals as goal
+use Rattle.rv_core.proofs.parts.Parts.commit.Goals.{In-Waits, In-Stale, In-Ends}
+use Rattle.rv_core.proofs.parts.Parts.commit.Given.{Over}
 
 pub loop-init : goal.loop-init
 loop-init g c = (
@@ -14,73 +18,54 @@ loop-init g c = (
   refl,
 )
 
+-- a turn that ends the phase leaves what the definition leaves
+waits : (g : Over) (c : In-Waits g) → committing c.commit_head.new.self c.loop.invariant.0.steps ≡ commit set.contains c.args.self.now
+waits g c =
+    committed_whole c.args.self.now c.loop.self c.args.steps.now.items c.loop.steps.items c.loop.counter (c.self.inside.values.commit_width - c.loop.counter) c.loop.invariant.0
+    c.commit_head.result c.commit_head.new.self _ (omega (arith, c.loop-test.true)) c.commit_head.ensures.turn (ap (turn_left c.commit_head.new.self c.loop.invariant.0.steps) c.in-Waits.is)
+
+stale : (g : Over) (c : In-Stale g) → record { hardware = c.commit_head.new.self; steps = c.loop.invariant.0.steps; stop = Some (Stale c.in-Stale.pc) } ≡ commit set.contains c.args.self.now
+stale g c =
+    committed_whole c.args.self.now c.loop.self c.args.steps.now.items c.loop.steps.items c.loop.counter (c.self.inside.values.commit_width - c.loop.counter) c.loop.invariant.0
+    c.commit_head.result c.commit_head.new.self _ (omega (arith, c.loop-test.true)) c.commit_head.ensures.turn (ap (turn_left c.commit_head.new.self c.loop.invariant.0.steps) c.in-Stale.is)
+
+ends : (g : Over) (c : In-Ends g) → record { hardware = c.commit_head.new.self; steps = c.loop.invariant.0.steps ++ c.in-Ends.step ∷ []; stop = stop_with c.in-Ends.step } ≡ commit set.contains c.args.self.now
+ends g c =
+    committed_whole c.args.self.now c.loop.self c.args.steps.now.items c.loop.steps.items c.loop.counter (c.self.inside.values.commit_width - c.loop.counter) c.loop.invariant.0
+    c.commit_head.result c.commit_head.new.self _ (omega (arith, c.loop-test.true)) c.commit_head.ensures.turn (ap (turn_left c.commit_head.new.self c.loop.invariant.0.steps) c.in-Ends.is)
+
 pub returns-in-Waits-clause-hardware : goal.returns-in-Waits-clause-hardware
-returns-in-Waits-clause-hardware g c =
-    ap (λ (x : Committing). x.hardware) (committed_whole c.args.self.now c.loop.self c.args.steps.now.items c.loop.steps.items c.loop.counter
-    (c.self.inside.values.commit_width - c.loop.counter) c.loop.invariant.0 c.commit_head.result c.commit_head.new.self
-    (committing c.commit_head.new.self c.loop.invariant.0.steps) (omega (arith, c.loop-test.true)) c.commit_head.ensures.turn
-    (ap (turn_left c.commit_head.new.self c.loop.invariant.0.steps) c.in-Waits.is))
+returns-in-Waits-clause-hardware g c = ap (λ (x : Committing). x.hardware) (waits g (goal.at.returns-in-Waits-clause-hardware g c).In-Waits)
 
 pub returns-in-Waits-clause-steps : goal.returns-in-Waits-clause-steps
 returns-in-Waits-clause-steps g c =
     c.loop.invariant.0.appended
-    ∙ ap (λ (x : Committing). c.args.steps.now.items ++ x.steps) (committed_whole c.args.self.now c.loop.self c.args.steps.now.items c.loop.steps.items c.loop.counter
-    (c.self.inside.values.commit_width - c.loop.counter) c.loop.invariant.0 c.commit_head.result c.commit_head.new.self
-    (committing c.commit_head.new.self c.loop.invariant.0.steps) (omega (arith, c.loop-test.true)) c.commit_head.ensures.turn
-    (ap (turn_left c.commit_head.new.self c.loop.invariant.0.steps) c.in-Waits.is))
+    ∙ ap (λ (x : Committing). c.args.steps.now.items ++ x.steps) (waits g (goal.at.returns-in-Waits-clause-steps g c).In-Waits)
 
 pub returns-in-Waits-clause-stop : goal.returns-in-Waits-clause-stop
-returns-in-Waits-clause-stop g c =
-    ap (λ (x : Committing). x.stop) (committed_whole c.args.self.now c.loop.self c.args.steps.now.items c.loop.steps.items c.loop.counter
-    (c.self.inside.values.commit_width - c.loop.counter) c.loop.invariant.0 c.commit_head.result c.commit_head.new.self
-    (committing c.commit_head.new.self c.loop.invariant.0.steps) (omega (arith, c.loop-test.true)) c.commit_head.ensures.turn
-    (ap (turn_left c.commit_head.new.self c.loop.invariant.0.steps) c.in-Waits.is))
+returns-in-Waits-clause-stop g c = ap (λ (x : Committing). x.stop) (waits g (goal.at.returns-in-Waits-clause-stop g c).In-Waits)
 
 pub returns-in-Stale-clause-hardware : goal.returns-in-Stale-clause-hardware
-returns-in-Stale-clause-hardware g c =
-    ap (λ (x : Committing). x.hardware) (committed_whole c.args.self.now c.loop.self c.args.steps.now.items c.loop.steps.items c.loop.counter
-    (c.self.inside.values.commit_width - c.loop.counter) c.loop.invariant.0 c.commit_head.result c.commit_head.new.self
-    _ (omega (arith, c.loop-test.true)) c.commit_head.ensures.turn
-    (ap (turn_left c.commit_head.new.self c.loop.invariant.0.steps) c.in-Stale.is))
+returns-in-Stale-clause-hardware g c = ap (λ (x : Committing). x.hardware) (stale g (goal.at.returns-in-Stale-clause-hardware g c).In-Stale)
 
 pub returns-in-Stale-clause-steps : goal.returns-in-Stale-clause-steps
 returns-in-Stale-clause-steps g c =
     c.loop.invariant.0.appended
-    ∙ ap (λ (x : Committing). c.args.steps.now.items ++ x.steps) (committed_whole c.args.self.now c.loop.self c.args.steps.now.items c.loop.steps.items c.loop.counter
-    (c.self.inside.values.commit_width - c.loop.counter) c.loop.invariant.0 c.commit_head.result c.commit_head.new.self
-    _ (omega (arith, c.loop-test.true)) c.commit_head.ensures.turn
-    (ap (turn_left c.commit_head.new.self c.loop.invariant.0.steps) c.in-Stale.is))
+    ∙ ap (λ (x : Committing). c.args.steps.now.items ++ x.steps) (stale g (goal.at.returns-in-Stale-clause-steps g c).In-Stale)
 
 pub returns-in-Stale-clause-stop : goal.returns-in-Stale-clause-stop
-returns-in-Stale-clause-stop g c =
-    ap (λ (x : Committing). x.stop) (committed_whole c.args.self.now c.loop.self c.args.steps.now.items c.loop.steps.items c.loop.counter
-    (c.self.inside.values.commit_width - c.loop.counter) c.loop.invariant.0 c.commit_head.result c.commit_head.new.self
-    _ (omega (arith, c.loop-test.true)) c.commit_head.ensures.turn
-    (ap (turn_left c.commit_head.new.self c.loop.invariant.0.steps) c.in-Stale.is))
+returns-in-Stale-clause-stop g c = ap (λ (x : Committing). x.stop) (stale g (goal.at.returns-in-Stale-clause-stop g c).In-Stale)
 
 pub returns-in-Ends-clause-hardware : goal.returns-in-Ends-clause-hardware
-returns-in-Ends-clause-hardware g c =
-    ap (λ (x : Committing). x.hardware) (committed_whole c.args.self.now c.loop.self c.args.steps.now.items c.loop.steps.items c.loop.counter
-    (c.self.inside.values.commit_width - c.loop.counter) c.loop.invariant.0 c.commit_head.result c.commit_head.new.self
-    _ (omega (arith, c.loop-test.true)) c.commit_head.ensures.turn
-    (ap (turn_left c.commit_head.new.self c.loop.invariant.0.steps) c.in-Ends.is))
+returns-in-Ends-clause-hardware g c = ap (λ (x : Committing). x.hardware) (ends g (goal.at.returns-in-Ends-clause-hardware g c).In-Ends)
 
 pub returns-in-Ends-clause-steps : goal.returns-in-Ends-clause-steps
 returns-in-Ends-clause-steps g c =
-    steps_with c.args.steps.now.items c.loop.steps.items c.append-in-Ends.new.items.items c.loop.invariant.0.steps c.in-Ends.step
-    c.loop.invariant.0.appended c.append-in-Ends.ensures.items
-    ∙ ap (λ (x : Committing). c.args.steps.now.items ++ x.steps) (committed_whole c.args.self.now c.loop.self c.args.steps.now.items c.loop.steps.items c.loop.counter
-    (c.self.inside.values.commit_width - c.loop.counter) c.loop.invariant.0 c.commit_head.result c.commit_head.new.self
-    _ (omega (arith, c.loop-test.true)) c.commit_head.ensures.turn
-    (ap (turn_left c.commit_head.new.self c.loop.invariant.0.steps) c.in-Ends.is))
+    steps_with c.args.steps.now.items c.loop.steps.items c.append-in-Ends.new.items.items c.loop.invariant.0.steps c.in-Ends.step c.loop.invariant.0.appended c.append-in-Ends.ensures.items
+    ∙ ap (λ (x : Committing). c.args.steps.now.items ++ x.steps) (ends g (goal.at.returns-in-Ends-clause-steps g c).In-Ends)
 
 pub returns-in-Ends-clause-stop : goal.returns-in-Ends-clause-stop
-returns-in-Ends-clause-stop g c =
-    c.stop_with.ensures
-    ∙ ap (λ (x : Committing). x.stop) (committed_whole c.args.self.now c.loop.self c.args.steps.now.items c.loop.steps.items c.loop.counter
-    (c.self.inside.values.commit_width - c.loop.counter) c.loop.invariant.0 c.commit_head.result c.commit_head.new.self
-    _ (omega (arith, c.loop-test.true)) c.commit_head.ensures.turn
-    (ap (turn_left c.commit_head.new.self c.loop.invariant.0.steps) c.in-Ends.is))
+returns-in-Ends-clause-stop g c = c.stop_with.ensures ∙ ap (λ (x : Committing). x.stop) (ends g (goal.at.returns-in-Ends-clause-stop g c).In-Ends)
 
 pub loop-preserved : goal.loop-preserved
 loop-preserved g c = (

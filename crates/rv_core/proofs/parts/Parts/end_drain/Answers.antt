@@ -19,7 +19,7 @@ sound : (p : Inside) → IsSound p → IsSoundHardware (next p)
 sound p before =
     let h = hardware_of p in
     sound_with_cache h h.cache (without_drained h.committed) h.port_free before.sound
-    (record { base = before.sound.cache.base; values = before.sound.cache.values; bytes = before.sound.cache.bytes; layout = before.sound.cache.layout })
+    before.sound.cache
     (kept_when_drained (λ (s : QueuedStore). IsRetiredStore h.values s.state) h.committed before.sound.stores.each)
     (kept_when_drained (λ (s : QueuedStore). s.seq < h.rob.retired) h.committed before.sound.stores.older) before.sound.port
 
@@ -40,6 +40,6 @@ invariant_of-self c =
 pub returns : goal.returns
 returns c =
     let p = c.self.inside in
-    view_with_cache p p.cache (next p).committed c.end_drain.new.self p.port_free (sound p c.self.invariant)
+    view_with_cache p p.cache (next p).committed c.end_drain.new.self p.port_free c.self.invariant (sound p c.self.invariant)
     (queued p c.end_drain.new.self c.self.invariant c.end_drain.ensures)
     ∙ ap end_drain c.self.view_is

@@ -1,7 +1,7 @@
-use Rattle.std.proofs.Common.{◌≡◌, refl, ap, ◌∙◌}
+use Rattle.std.proofs.Common.{◌≡◌, ap, ◌∙◌}
 use Rattle.rv_hardware.specs.Squash.{flushed}
-use Rattle.rv_core.proofs.Flushed.{emptied, retired_of_rest, sound_behind}
-use Rattle.rv_core.proofs.Retied.{sound_squashed}
+use Rattle.rv_core.proofs.Flushed.{emptied}
+use Rattle.rv_core.proofs.Squashed.{AreSquashed, squashed-is, squashed-sound}
 use Rattle.rv_core.specs.Parts.{hardware_of}
 use Rattle.rv_core.specs.declared.parts.Parts.TheInside.{Inside}
 use Rattle.rv_core.proofs.parts.Parts.flush.Goals as goal
@@ -16,24 +16,25 @@ left c = record c.self.inside {
   front = c.redirect.new.self;
 }
 
-view : (c : goal.After-redirect) → hardware_of (left c) ≡ flushed (hardware_of c.self.inside)
-view c =
-    let h = hardware_of c.self.inside in
-    let stores = retired_of_rest h.values c.self.inside.stores c.squash_all.new.stores c.self.invariant.sound.stores.each c.squash_all.ensures.stores in
+squashed : (c : goal.After-redirect) → AreSquashed c.self.inside (left c)
+squashed c = record {
+  rename = c.squash_all.ensures.rename;
+  stations = c.squash_all.ensures.stations;
+  bus = c.squash_all.ensures.bus;
+  stores = c.squash_all.ensures.stores;
+}
+
+same : (c : goal.After-redirect) → record (hardware_of (left c)) { committed = (hardware_of c.self.inside).committed } ≡ flushed (hardware_of c.self.inside)
+same c =
     let rob = c.squash_all.ensures.rob ∙ emptied c.self.inside.rob in
-    λ i. record h { committed = stores i; rob = rob i; front = c.redirect.ensures i }
+    λ i. record (hardware_of c.self.inside) { rob = rob i; front = c.redirect.ensures i }
 
 pub invariant_of-self : goal.invariant_of-self
 invariant_of-self c =
-    let h = hardware_of c.self.inside in
-    sound_squashed c.self.inside (left c) h c.self.invariant (sound_behind h c.self.invariant.sound) refl refl (view c) (record {
-      rename = c.squash_all.ensures.rename;
-      stations = c.squash_all.ensures.stations;
-      bus = c.squash_all.ensures.bus;
-      stores = c.squash_all.ensures.stores;
-      stale_base = refl;
-      stale_size = refl;
-    })
+    let p = c.self.inside in
+    squashed-sound p (left c) c.self.invariant p.pc p.registers p.rob (squashed c) c.self.invariant.sound (same c) c.self.invariant.stale_base c.self.invariant.stale_size
 
 pub returns : goal.returns
-returns c = view c ∙ ap flushed c.self.view_is
+returns c =
+    let p = c.self.inside in
+    squashed-is p (left c) c.self.invariant p.pc p.registers p.rob (squashed c) c.self.invariant.sound (same c) ∙ ap flushed c.self.view_is

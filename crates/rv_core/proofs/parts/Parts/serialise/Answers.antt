@@ -1,13 +1,14 @@
-use Rattle.std.proofs.Common.{◌≡◌, ◌+◌, ◌*◌, ◌<◌, [], refl, ap, sym, ◌∙◌, subst}
+use Rattle.std.proofs.Common.{◌≡◌, ◌+◌, ◌*◌, ◌<◌, [], ap, sym, ◌∙◌, subst}
 use Rattle.rv_rob.specs.ReorderBuffer.{ReorderBuffer, head_retired}
 use Rattle.rv_hardware.specs.Hardware.{Hardware}
 use Rattle.rv_hardware.specs.Squash.{flushed}
-use Rattle.rv_core.proofs.Flushed.{emptied, retired_of_rest}
-use Rattle.rv_core.proofs.Retied.{sound_squashed}
+use Rattle.rv_core.proofs.Flushed.{emptied}
 use Rattle.rv_core.proofs.Serialised.{sound_behind_serial}
+use Rattle.rv_core.proofs.Squashed.{AreSquashed, squashed-is, squashed-sound}
 use Rattle.rv_core.specs.HeadTurn.{IsHead}
 use Rattle.rv_core.specs.Parts.{hardware_of}
 use Rattle.rv_core.specs.Retiring.{registers_with}
+use Rattle.rv_core.specs.Soundness.{IsSoundHardware}
 use Rattle.rv_core.specs.declared.parts.Parts.TheInside.{Inside}
 use Rattle.rv_core.proofs.parts.Parts.serialise.Goals as goal
 
@@ -27,27 +28,32 @@ left c = record c.self.inside {
 abbrev next : goal.After-redirect → Hardware → Hardware
 next c h = record h { pc = c.args.next; registers = registers_with c.args.written h.registers; rob = head_retired h.rob }
 
-view : (c : goal.After-redirect) → hardware_of (left c) ≡ flushed (next c (hardware_of c.self.inside))
-view c =
-    let h = next c (hardware_of c.self.inside) in
-    let stores = retired_of_rest h.values c.self.inside.stores c.squash_all.new.stores c.self.invariant.sound.stores.each c.squash_all.ensures.stores in
+squashed : (c : goal.After-redirect) → AreSquashed c.self.inside (left c)
+squashed c = record {
+  rename = c.squash_all.ensures.rename;
+  stations = c.squash_all.ensures.stations;
+  bus = c.squash_all.ensures.bus;
+  stores = c.squash_all.ensures.stores;
+}
+
+sound : (c : goal.After-redirect) → IsSoundHardware (next c (hardware_of c.self.inside))
+sound c =
+    let head = subst (λ (x : Hardware). IsHead x c.args.entry.now) (sym c.self.view_is) c.requires.head in
+    let room = subst (λ (x : Hardware). x.rob.retired < 8 * x.cycle + 8) (sym c.self.view_is) c.requires.room in
+    sound_behind_serial (hardware_of c.self.inside) c.args.entry.now head.0 c.args.next c.args.written c.self.invariant.sound head.1 room
+
+same : (c : goal.After-redirect) → record (hardware_of (left c)) { committed = (hardware_of c.self.inside).committed } ≡ flushed (next c (hardware_of c.self.inside))
+same c =
     let rob = c.squash_all.ensures.rob ∙ emptied c.pop_head.new.self ∙ ap (λ (r : ReorderBuffer). record r { entries = [] }) c.pop_head.ensures in
-    λ i. record (flushed h) { registers = c.write.ensures i; committed = stores i; rob = rob i; front = c.redirect.ensures i }
+    λ i. record (flushed (next c (hardware_of c.self.inside))) { registers = c.write.ensures i; rob = rob i; front = c.redirect.ensures i }
 
 pub invariant_of-self : goal.invariant_of-self
 invariant_of-self c =
-    let h = hardware_of c.self.inside in
-    let head = subst (λ (x : Hardware). IsHead x c.args.entry.now) (sym c.self.view_is) c.requires.head in
-    let room = subst (λ (x : Hardware). x.rob.retired < 8 * x.cycle + 8) (sym c.self.view_is) c.requires.room in
-    sound_squashed c.self.inside (left c) (next c h) c.self.invariant
-    (sound_behind_serial h c.args.entry.now head.0 c.args.next c.args.written c.self.invariant.sound head.1 room) refl refl (view c) (record {
-      rename = c.squash_all.ensures.rename;
-      stations = c.squash_all.ensures.stations;
-      bus = c.squash_all.ensures.bus;
-      stores = c.squash_all.ensures.stores;
-      stale_base = refl;
-      stale_size = refl;
-    })
+    let p = c.self.inside in
+    squashed-sound p (left c) c.self.invariant c.args.next (registers_with c.args.written p.registers) (head_retired p.rob) (squashed c) (sound c) (same c) c.self.invariant.stale_base
+    c.self.invariant.stale_size
 
 pub returns-clause-hardware : goal.returns-clause-hardware
-returns-clause-hardware c = view c ∙ ap (λ h. flushed (next c h)) c.self.view_is
+returns-clause-hardware c =
+    let p = c.self.inside in
+    squashed-is p (left c) c.self.invariant c.args.next (registers_with c.args.written p.registers) (head_retired p.rob) (squashed c) (sound c) (same c) ∙ ap (λ h. flushed (next c h)) c.self.view_is

@@ -63,7 +63,7 @@ queued p stores access before is left =
     ∙ ap (λ l. record { stores = l; capacity = h.values.store_queue })
     (draining_behind h.committed (stores_of h.rob.retired h.rob.entries) access (is_oldest p access before is))
 
-described : (c : goal.After-self-1) → IsDescribedCache (with_cache c.write-cost.new.self (draining c.self.inside) (c.self.inside.cycle + c.from.result) (hardware_of c.self.inside))
+described : (c : goal.After-self-1) → IsDescribedCache c.self.inside.values c.write-cost.new.self
 described c = record {
   base = ap (λ (x : Contents Memory). x.base) c.write-cost.ensures.accessed ∙ c.self.invariant.sound.cache.base;
   values = ap (λ (x : Contents Memory). x.values) c.write-cost.ensures.accessed ∙ c.self.invariant.sound.cache.values;
@@ -107,7 +107,7 @@ accessed c =
 pub returns : goal.returns
 returns c =
     let p = c.self.inside in
-    view_with_cache p c.write-cost.new.self (draining p) c.start_drain-access.new.self (p.cycle + c.from.result) (sound c) (stores c)
+    view_with_cache p c.write-cost.new.self (draining p) c.start_drain-access.new.self (p.cycle + c.from.result) c.self.invariant (sound c) (stores c)
     ∙ accessed c
     ∙ ap (λ o. start_drain o (hardware_of p)) (sym (is_oldest p c.start_drain-access.result c.self.invariant c.start_drain-access.ensures.access))
     ∙ ap (λ (h : Hardware). start_drain (oldest_to_drain h.committed) h) c.self.view_is
