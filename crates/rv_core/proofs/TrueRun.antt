@@ -9,8 +9,11 @@ use Rattle.rv_hardware.proofs.HeadlineStops.{headline_of_stop}
 use Rattle.rv_hardware.specs.Gap.{OnlyLastStops}
 use Rattle.rv_hardware.specs.Hardware.{Hardware}
 use Rattle.rv_hardware.specs.Headline.{IsTrueRun, IsTrueStop}
+use Rattle.rv_hardware.proofs.LawsBusy.{busy_of_runs}
+use Rattle.rv_hardware.proofs.LawsDue.{due_interrupts_of_runs}
+use Rattle.rv_hardware.proofs.LawsOfCycles.{counts_of_runs}
 use Rattle.rv_hardware.proofs.LawsOfRuns.{laws_of_runs}
-use Rattle.rv_hardware.specs.Laws.{Laws}
+use Rattle.rv_hardware.specs.Laws.{AreCounted, Laws, TakesDueInterrupts}
 use Rattle.rv_hardware.specs.Report.{Report}
 use Rattle.rv_hardware.specs.Run.{IsStop, Reachable}
 use Rattle.rv_hardware.specs.Seen.{layout_of, seen}
@@ -44,6 +47,17 @@ module _ (arrivals : List Arrival) (limit : ℕ) (old new : Hardware) (reached :
     laws : Laws old.values old.cycle new.cycle steps
     laws = subst (λ (done : List Step). Laws old.values old.cycle new.cycle done) (sym run.steps_are) (laws_of_runs reached run.cycled)
 
+    takes_due : TakesDueInterrupts (layout_of old.values) arrivals old.cycle new.cycle (seen old) steps
+    takes_due =
+        subst (λ (done : List Step). TakesDueInterrupts (layout_of old.values) arrivals old.cycle new.cycle (seen old) done) (sym run.steps_are)
+        (due_interrupts_of_runs reached run.cycled)
+
+    counted : AreCounted old.cycle new.cycle steps busy stalls cycles
+    counted =
+        rw (run.steps_are, run.stalls_are, run.busy_is, run.cycles_are)
+        (let counts = counts_of_runs reached run.cycled in
+        record { all_cycles = sym counts.1; busy_or_stalled = counts.0; dispatched_is_busy = busy_of_runs reached run.cycled })
+
     gap_bounded : OnlyLastStops reports → gap < gap_bound_of old.values
     gap_bounded only = rw run.longest_gap_is (no_silence arrivals old new reports reached run.cycled only).longest
 
@@ -62,6 +76,18 @@ module _ (arrivals : List Arrival) (limit : ℕ) (old new : Hardware) (reached :
 
     pub laws_hold_so_far : IfErr ended (λ rest. Laws old.values old.cycle new.cycle rest.steps.items)
     laws_hold_so_far = if_err _ ended (λ rest done. laws done.1) is
+
+    pub due_is_taken : IfOk ended (λ outcome. TakesDueInterrupts (layout_of old.values) arrivals old.cycle new.cycle (seen old) outcome.steps.items)
+    due_is_taken = if_ok _ ended (λ outcome done. takes_due done.1) is
+
+    pub due_is_taken_so_far : IfErr ended (λ rest. TakesDueInterrupts (layout_of old.values) arrivals old.cycle new.cycle (seen old) rest.steps.items)
+    due_is_taken_so_far = if_err _ ended (λ rest done. takes_due done.1) is
+
+    pub cycles_are_counted : IfOk ended (λ outcome. AreCounted old.cycle new.cycle outcome.steps.items outcome.busy outcome.stalls outcome.cycles)
+    cycles_are_counted = if_ok _ ended (λ outcome done. counted done.1) is
+
+    pub cycles_are_counted_so_far : IfErr ended (λ rest. AreCounted old.cycle new.cycle rest.steps.items rest.busy rest.stalls rest.cycles)
+    cycles_are_counted_so_far = if_err _ ended (λ rest done. counted done.1) is
 
     pub gap_is_bounded : IfOk ended (λ outcome. outcome.longest_gap < gap_bound_of old.values)
     gap_is_bounded = if_ok _ ended (λ outcome done. gap_bounded done.1 (is_stop-only_last limit done.0 new outcome.stop done.2)) is

@@ -1,7 +1,7 @@
 ghost use Rattle.std.specs.Prelude.{◌≡◌, ◌<◌, IfErr, IfOk, MatchResult};
 ghost use Rattle.rv_isa.specs.Description.{gap_bound_of};
 ghost use Rattle.rv_hardware.specs.Headline.{IsTrueRun, IsTrueStop};
-ghost use Rattle.rv_hardware.specs.Laws.{Laws};
+ghost use Rattle.rv_hardware.specs.Laws.{AreCounted, Laws, TakesDueInterrupts};
 ghost use Rattle.rv_hardware.specs.Seen.{layout_of, seen};
 ghost use Rattle.rv_core.specs.Progress.{IsBounded, progress_after};
 ghost use Rattle.rv_core.specs.RunDone.{IsCutShort, IsOutcome};
@@ -34,6 +34,10 @@ pub fn run(
     ensures true_so_far { IfErr result (λ done. IsTrueRun (layout_of core.old.values) arrivals.now core.old.cycle core.new.cycle (seen core.old) done.steps.items (seen core.new)) }
     ensures laws { IfOk result (λ outcome. Laws core.old.values core.old.cycle core.new.cycle outcome.steps.items) }
     ensures laws_so_far { IfErr result (λ done. Laws core.old.values core.old.cycle core.new.cycle done.steps.items) }
+    ensures due { IfOk result (λ outcome. TakesDueInterrupts (layout_of core.old.values) arrivals.now core.old.cycle core.new.cycle (seen core.old) outcome.steps.items) }
+    ensures due_so_far { IfErr result (λ done. TakesDueInterrupts (layout_of core.old.values) arrivals.now core.old.cycle core.new.cycle (seen core.old) done.steps.items) }
+    ensures counts { IfOk result (λ outcome. AreCounted core.old.cycle core.new.cycle outcome.steps.items outcome.busy outcome.stalls outcome.cycles) }
+    ensures counts_so_far { IfErr result (λ done. AreCounted core.old.cycle core.new.cycle done.steps.items done.busy done.stalls done.cycles) }
     ensures gap { IfOk result (λ outcome. outcome.longest_gap < gap_bound_of core.old.values) }
     ensures gap_so_far { IfErr result (λ done. done.longest_gap < gap_bound_of core.old.values) }
 {

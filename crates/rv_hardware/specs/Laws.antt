@@ -86,6 +86,14 @@ IsTrappedSoon c (Interrupt pc cause cycle) = Unit {0}
 abbrev pub dispatch_cycles : ℕ → ℕ → List Row → ℕ
 dispatch_cycles from to rows = count_by (λ c. list_any (is_dispatched_in c) rows) (range_with_len from (to - from))
 
+-- the counts of the cycles from `from` on and below `to`
+pub record AreCounted (from to : ℕ) (steps : List Step) (busy : ℕ) (stalls : StallCounts) (cycles : ℕ) : Type 0 where
+  pub all_cycles : from + cycles ≡ to
+  -- each is busy or stalls for one reason
+  pub busy_or_stalled : busy + stall_cycles stalls ≡ cycles
+  -- and busy where a row was dispatched
+  pub dispatched_is_busy : dispatch_cycles from to (rows_of steps) ≤ busy
+
 -- For each cycle from `from` on and below `to`, in the state that the machine reaches from `before` by the steps of earlier cycles:
 -- an interrupt that is due there, with the lines of the cycle, is the one step of the cycle.
 abbrev pub TakesDueInterrupts : Layout → List Arrival → ℕ → ℕ → State → List Step → Type 0

@@ -1,4 +1,4 @@
-use Rattle.rv_core.proofs.TrueRun.{run_is_true, run_is_true_so_far, stop_is_true, laws_hold, laws_hold_so_far, gap_is_bounded, gap_is_bounded_so_far}
+use Rattle.rv_core.proofs.TrueRun.{run_is_true, run_is_true_so_far, stop_is_true, laws_hold, laws_hold_so_far, due_is_taken, due_is_taken_so_far, cycles_are_counted, cycles_are_counted_so_far, gap_is_bounded, gap_is_bounded_so_far}
 use Rattle.rv_core.proofs.cycles.run.Goals as goal
 
 pub returns-clause-true_run : goal.returns-clause-true_run
@@ -28,3 +28,19 @@ returns-clause-gap g c =
 pub returns-clause-gap_so_far : goal.returns-clause-gap_so_far
 returns-clause-gap_so_far g c =
     gap_is_bounded_so_far c.args.arrivals.now c.args.limit c.args.core.now c.run_cycles.new.core c.cycles_done.ensures.reached c.run_cycles.result c.run_cycles.ensures
+
+pub returns-clause-due : goal.returns-clause-due
+returns-clause-due g c =
+    due_is_taken c.args.arrivals.now c.args.limit c.args.core.now c.run_cycles.new.core c.cycles_done.ensures.reached c.run_cycles.result c.run_cycles.ensures
+
+pub returns-clause-due_so_far : goal.returns-clause-due_so_far
+returns-clause-due_so_far g c =
+    due_is_taken_so_far c.args.arrivals.now c.args.limit c.args.core.now c.run_cycles.new.core c.cycles_done.ensures.reached c.run_cycles.result c.run_cycles.ensures
+
+pub returns-clause-counts : goal.returns-clause-counts
+returns-clause-counts g c =
+    cycles_are_counted c.args.arrivals.now c.args.limit c.args.core.now c.run_cycles.new.core c.cycles_done.ensures.reached c.run_cycles.result c.run_cycles.ensures
+
+pub returns-clause-counts_so_far : goal.returns-clause-counts_so_far
+returns-clause-counts_so_far g c =
+    cycles_are_counted_so_far c.args.arrivals.now c.args.limit c.args.core.now c.run_cycles.new.core c.cycles_done.ensures.reached c.run_cycles.result c.run_cycles.ensures
