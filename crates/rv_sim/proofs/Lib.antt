@@ -1,7 +1,10 @@
 mod Ending
 mod JobParts
 mod Limits
+mod LinesAfter
+mod LongestGap
 mod Parses
 mod Places
 mod Reading
 mod Running
+mod Simulated
