@@ -100,6 +100,11 @@ pub mod LawsPortRows
 pub mod LawsTold
 pub mod LawsQueue
 pub mod LawsStoreQueue
+pub mod LawsLinked
+pub mod LawsLinkedPhases
+pub mod LawsLinkedRows
+pub mod LawsNextFetch
+pub mod LawsIdleFetch
 pub mod LawsIdleUnit
 pub mod LawsIdleUnitPhases
 pub mod LawsIdleUnitRows
