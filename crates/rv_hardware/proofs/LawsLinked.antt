@@ -107,7 +107,7 @@ module _ (v : Values) (now : ℕ) (halted : Bool) where
   linked_more held more (m ∷ ms) le h = (joint_more held more m ms le h.0, linked_more (with_word held m) (with_word more m) ms (with_more held more m le) h.1)
 
   -- what a mark that goes on keeps
-  record Goes (m n : Mark) : Type 0 where
+  record WentOn (m n : Mark) : Type 0 where
     fetched : m.fetched ≡ n.fetched
     before : (c : ℕ) → c < now → at_end c m ≡ at_end c n
     not_retired : m.retired ≡ None
@@ -116,13 +116,13 @@ module _ (v : Values) (now : ℕ) (halted : Bool) where
   not_sent_yet : {P : Type 0} (m : Mark) (t : ℕ) → m.broadcast ≡ None → m.broadcast ≡ Some t → P
   not_sent_yet m t none some = absurd (let same = sym none ∙ some in cc)
 
-  goes_on : (xs : List Mark) (m n : Mark) → Advances v now xs m n → Goes m n
+  goes_on : (xs : List Mark) (m n : Mark) → Advances v now xs m n → WentOn m n
   goes_on xs m n (retires a) = let agree = advances_agree v now xs m n (retires a) in record { fetched = agree.0; before = agree.1; not_retired = a.not_yet; sent = λ t is. ap (λ x. x.broadcast) a.becomes ∙ is }
   goes_on xs m n (starts a) = let agree = advances_agree v now xs m n (starts a) in record { fetched = agree.0; before = agree.1; not_retired = a.not_retired; sent = λ t is. not_sent_yet m t a.not_sent is }
   goes_on xs m n (is_sent a) = let agree = advances_agree v now xs m n (is_sent a) in record { fetched = agree.0; before = agree.1; not_retired = a.not_retired; sent = λ t is. not_sent_yet m t a.not_yet is }
   goes_on xs m n (enters a) = let agree = advances_agree v now xs m n (enters a) in record { fetched = agree.0; before = agree.1; not_retired = a.not_retired; sent = λ t is. not_sent_yet m t a.not_sent is }
 
-  module _ (m n : Mark) (g : Goes m n) where
+  module _ (m n : Mark) (g : WentOn m n) where
     same_word : (c : ℕ) → c < now → is_word c m ≡ is_word c n
     same_word c lt = λ i. was_fetched c (record m { fetched = g.fetched i }) && is_buffered_mark (g.before c lt i)
 

@@ -73,12 +73,13 @@ not_empty_at [] younger x is = absurd (cc)
 not_empty_at (y ∷ ys) younger x is = absurd (cc)
 
 module _ (n : ℕ) (halted : Bool) where
-  abbrev pub Goes : List Step → Hardware → Type 0
-  Goes steps h = Uncut n halted steps h ⊎ Emptied h
+  -- all went on, or nothing is in flight
+  abbrev pub WholeOrNone : List Step → Hardware → Type 0
+  WholeOrNone steps h = Uncut n halted steps h ⊎ Emptied h
 
   module _ (earlier : List Step) (is_stale : set.FinSet nat_cmp → ℕ → Bool) where
     abbrev Committed : Committing → Type 0
-    Committed c = Goes (earlier ++ c.steps) c.hardware
+    Committed c = WholeOrNone (earlier ++ c.steps) c.hardware
 
     one_row : (c : Committing) (e : Entry) (written : Option (ℕ × ℕ)) → length (rows_of (earlier ++ (c.steps ++ Retired (row_at e written c.hardware.cycle) ∷ []))) ≡ length (rows_of (earlier ++ c.steps)) + 1
     one_row c e written =
@@ -103,21 +104,21 @@ module _ (n : ℕ) (halted : Bool) where
     commit_goes c _ (retires e es issue cycle message head plain at none) (inr p) = not_empty e es (sym head.place ∙ p.0)
     commit_goes c _ (retires_last e es issue cycle message head plain at none) p = inr (refl, refl, refl)
 
-    pub commit_goes_by : (o : Option ℕ) (h : Hardware) → Goes (earlier ++ []) h → Committed (commit_unless is_stale o h)
+    pub commit_goes_by : (o : Option ℕ) (h : Hardware) → WholeOrNone (earlier ++ []) h → Committed (commit_unless is_stale o h)
     commit_goes_by (Some code) h p = inr (refl, refl, refl)
     commit_goes_by None h p =
         turns_keep Committed (commit_turn is_stale) (λ c q. commit_goes c (commit_turn is_stale c) (commit_turn_is is_stale c) q) h.values.commit_width (record { hardware = h; steps = []; stop = None }) p
 
   module _ (v : Values) (now : ℕ) (steps : List Step) where
-    drain_goes : IsKeptByDrain (Goes steps)
+    drain_goes : IsKeptByDrain (WholeOrNone steps)
     drain_goes = record { leaves = λ h p idle. p; drains = λ h access p idle is. p }
 
-    starts_goes : (h : Hardware) (older younger : List Entry) (e x : Entry) → h.rob.entries ≡ older ++ e ∷ younger → Goes steps h →
+    starts_goes : (h : Hardware) (older younger : List Entry) (e x : Entry) → h.rob.entries ≡ older ++ e ∷ younger → WholeOrNone steps h →
         (length (rows_of steps) + (length (older ++ x ∷ younger) + length h.front.entries) ≡ n) × (h.front.halted ≡ halted)
     starts_goes h older younger e x split (inl p) = (omega (arith, p.0, ap length split, length-append older (e ∷ younger), length-append older (x ∷ younger)), p.1)
     starts_goes h older younger e x split (inr p) = not_empty_at older younger e (sym split ∙ p.0)
 
-    issue_goes : (k : Kind) → IsKeptByIssue (Goes steps) k
+    issue_goes : (k : Kind) → IsKeptByIssue (WholeOrNone steps) k
     issue_goes k = record {
       accesses = λ h older younger e address p split ready by. p;
       starts = λ h older younger e cost message p split waits of_kind result costs. inl (starts_goes h older younger e (started (record { cycle = h.cycle; cost = cost }) message e) split p);
@@ -125,10 +126,10 @@ module _ (n : ℕ) (halted : Bool) where
 
     -- early recovery may squash
     abbrev pub Left : Hardware → Type 0
-    Left h = Goes steps h ⊎ Mended v now h
+    Left h = WholeOrNone steps h ⊎ Mended v now h
 
     abbrev Sending : Hardware → Type 0
-    Sending h = (h.cycle ≡ now) × (h.values ≡ v) × Goes steps h
+    Sending h = (h.cycle ≡ now) × (h.values ≡ v) × WholeOrNone steps h
 
     is_early : (r : Recovery) → mends_early r ≡ true → r ≡ Early
     is_early Commit is = absurd (cc)
@@ -165,8 +166,8 @@ module _ (n : ℕ) (halted : Bool) where
     dispatch_goes : IsKeptByDispatch Left
     dispatch_goes = record { dispatches = λ h f fs p first none. inl (inl (dispatch_left h f fs first p)) }
 
-    pub drain_and_issue : (h : Hardware) → Goes steps h → Goes steps (issue (drain h))
-    drain_and_issue h p = issue-keeps (Goes steps) issue_goes (drain h) (drain-keeps drain_goes h p)
+    pub drain_and_issue : (h : Hardware) → WholeOrNone steps h → WholeOrNone steps (issue (drain h))
+    drain_and_issue h p = issue-keeps (WholeOrNone steps) issue_goes (drain h) (drain-keeps drain_goes h p)
 
-    pub broadcast_and_dispatch : (h : Hardware) → h.cycle ≡ now → h.values ≡ v → Goes steps h → Left (dispatch (broadcast h)).hardware
+    pub broadcast_and_dispatch : (h : Hardware) → h.cycle ≡ now → h.values ≡ v → WholeOrNone steps h → Left (dispatch (broadcast h)).hardware
     broadcast_and_dispatch h cycle values p = dispatch-keeps dispatch_goes (broadcast h) (broadcast_goes h (cycle, values, p))

@@ -12,14 +12,14 @@ use Rattle.rv_front.specs.declared.fetched.Fetched.{Fetched}
 use Rattle.rv_rob.specs.Entry.{started, finished, predicting}
 use Rattle.rv_rob.specs.declared.entry.Entry.{Entry}
 use Rattle.rv_hardware.specs.Broadcast.{broadcast}
-use Rattle.rv_hardware.specs.Commit.{Committing, commit_unless, commit_turn, with_fault}
+use Rattle.rv_hardware.specs.Commit.{Committing, commit_unless, with_fault}
 use Rattle.rv_hardware.specs.Cycle.{IsCycle, any_prediction, with_lines}
 use Rattle.rv_hardware.specs.Dispatch.{dispatch, entry_of_fetched}
 use Rattle.rv_hardware.specs.Drain.{drain}
 use Rattle.rv_hardware.specs.Hardware.{Hardware}
 use Rattle.rv_hardware.specs.Issue.{issue}
 use Rattle.rv_hardware.specs.Report.{Report}
-use Rattle.rv_hardware.specs.Repeated.{Turn, GoesOn, Ends}
+use Rattle.rv_hardware.specs.Repeated.{Turn}
 use Rattle.rv_hardware.specs.Retirement.{written_of}
 use Rattle.rv_hardware.specs.Stamps.{EachNext}
 use Rattle.rv_hardware.specs.Step.{stamp_of}
@@ -30,18 +30,17 @@ use Rattle.rv_hardware.proofs.GapDispatch.{IsKeptByDispatch, dispatch-keeps}
 use Rattle.rv_hardware.proofs.GapDrain.{IsKeptByDrain, drain-keeps}
 use Rattle.rv_hardware.proofs.GapIssue.{IsKeptByIssue, issue-keeps}
 use Rattle.rv_hardware.proofs.GapHalted.{IsHalted, HaltsBehind, words_of, halted-kept, halted-at_reset}
-use Rattle.rv_hardware.proofs.LawsCommit.{CommitTurn, no_head, stale_head, unfinished, fence_waits, fence_writes, fence_retires, executes, serial_faults, traps, retires, retires_last, executed, written_back, retired_with, retired_and_flushed, commit_turn_is}
+use Rattle.rv_hardware.proofs.LawsCommit.{CommitTurn, no_head, stale_head, unfinished, fence_waits, fence_writes, fence_retires, executes, serial_faults, traps, retires, retires_last, executed, written_back, retired_with, retired_and_flushed}
 use Rattle.rv_hardware.proofs.LawsCycle.{Anything, anything_is_kept, Passed, History, began, went_on, begin, committing, dispatching, cycle_passes, history_is_legal, history_is_sound}
+use Rattle.rv_hardware.proofs.LawsKeeps.{history_keeps, Committed, commit_turns_keep}
 use Rattle.rv_hardware.proofs.LawsLinked.{LastIs, last_at, last_of}
 use Rattle.rv_hardware.proofs.LawsLinkedRows.{stays_halted}
 use Rattle.rv_hardware.proofs.LawsFetch.{IsNew}
 use Rattle.rv_hardware.proofs.LawsLists.{Every, Every-weaker}
-use Rattle.rv_hardware.proofs.LawsPhases.{Commits, commit_turn_keeps}
 use Rattle.rv_hardware.proofs.LawsRow.{row_at}
 use Rattle.rv_hardware.proofs.LawsShape.{head_retired_entries}
 use Rattle.rv_hardware.proofs.LawsSound.{SoundEntry, SoundFetched}
-use Rattle.rv_hardware.proofs.LawsStoreQueue.{history_keeps}
-use Rattle.rv_hardware.proofs.LawsTurns.{Leads, turns_keep}
+use Rattle.rv_hardware.proofs.LawsTurns.{Leads}
 
 -- a row was fetched by a cycle
 abbrev pub IsFetchedBy : ℕ → Step → Type 0
@@ -105,9 +104,6 @@ Follows now steps h = EveryNext Next steps × LastIs (λ s. coming now h.rob.ent
 -- commit
 
 module _ (v : Values) (now : ℕ) (earlier : List Step) (is_stale : set.FinSet nat_cmp → ℕ → Bool) where
-  abbrev Committed : Committing → Type 0
-  Committed c = Commits v now Anything (anything_is_kept v now) earlier is_stale c
-
   abbrev Following : Committing → Type 0
   Following c = Follows now (earlier ++ c.steps) c.hardware
 
@@ -124,7 +120,7 @@ module _ (v : Values) (now : ℕ) (earlier : List Step) (is_stale : set.FinSet n
   no_row_next : (c : Committing) (s : Step) → ((a : Step) → Next a s) → Following c → LastIs (λ a. Next a s) (earlier ++ c.steps)
   no_row_next c s f p = last_weaker (λ a. coming now c.hardware.rob.entries c.hardware.front.entries ≤ stamp_of a) (λ a. Next a s) (λ a h. f a) (earlier ++ c.steps) p.1
 
-  commit_follows : (c : Committing) (t : Turn Committing) → CommitTurn is_stale c t → Committed c → Following c → Leads Following Following t
+  commit_follows : (c : Committing) (t : Turn Committing) → CommitTurn is_stale c t → Committed v now earlier is_stale c → Following c → Leads Following Following t
   commit_follows c _ (no_head none) q p = p
   commit_follows c _ (stale_head e es at is) q p = p
   commit_follows c _ (unfinished e es head plain none) q p = p
@@ -140,19 +136,12 @@ module _ (v : Values) (now : ℕ) (earlier : List Step) (is_stale : set.FinSet n
       one_more c (Retired (row_at e (written_of e message) c.hardware.cycle)) (retired_with e message c).hardware q.basics.cycle (subst (λ l. coming now l c.hardware.front.entries ≤ now) (sym (head_retired_entries c.hardware.rob e es head.place)) by) (head_next c e es (written_of e message) head.place p) p
   commit_follows c _ (retires_last e es begun cycle message head plain at none) q p = one_more c (Retired (row_at e (written_of e message) c.hardware.cycle)) (retired_and_flushed e message c).hardware q.basics.cycle (omega arith) (head_next c e es (written_of e message) head.place p) p
 
-  both : (P Q : Committing → Type 0) (t : Turn Committing) → Leads P P t → Leads Q Q t → Leads (λ c. P c × Q c) (λ c. P c × Q c) t
-  both P Q (GoesOn c) h g = (h, g)
-  both P Q (Ends c) h g = (h, g)
-
-  commit_follows_by : (o : Option ℕ) (h : Hardware) → Committed (record { hardware = h; steps = []; stop = None }) → Follows now (earlier ++ []) h → Following (commit_unless is_stale o h)
+  commit_follows_by : (o : Option ℕ) (h : Hardware) → Committed v now earlier is_stale (record { hardware = h; steps = []; stop = None }) → Follows now (earlier ++ []) h → Following (commit_unless is_stale o h)
   commit_follows_by (Some code) h q p =
       let c : Committing = record { hardware = h; steps = []; stop = None } in
       let s : Step = Interrupt h.pc (interrupt_cause code) h.cycle in
       one_more c s (commit_unless is_stale (Some code) h).hardware q.basics.cycle (omega arith) (no_row_next c s (λ a. tt) p) p
-  commit_follows_by None h q p =
-      (turns_keep (λ c. Committed c × Following c) (commit_turn is_stale)
-      (λ c r. both Committed Following (commit_turn is_stale c) (commit_turn_keeps v now Anything (anything_is_kept v now) earlier is_stale c (commit_turn is_stale c) (commit_turn_is is_stale c) r.0) (commit_follows c (commit_turn is_stale c) (commit_turn_is is_stale c) r.0 r.1))
-      h.values.commit_width (record { hardware = h; steps = []; stop = None }) (q, p)).1
+  commit_follows_by None h q p = commit_turns_keep v now earlier is_stale Following commit_follows h.values.commit_width (record { hardware = h; steps = []; stop = None }) q p
 
 -- the other phases leave the oldest
 

@@ -97,6 +97,7 @@ pub mod LawsOfCycles
 pub mod LawsPort
 pub mod LawsPortPhases
 pub mod LawsPortRows
+pub mod LawsKeeps
 pub mod LawsTold
 pub mod LawsQueue
 pub mod LawsStoreQueue
