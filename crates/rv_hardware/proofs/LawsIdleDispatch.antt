@@ -208,7 +208,7 @@ some_until : (c d : ℕ) (b : Bool) → nat_le d c ≡ b → is_some (cond b (So
 some_until c d true is h = is
 some_until c d false is h = absurd (cc)
 
-none_until : (c d : ℕ) (b : Bool) → nat_le d c ≡ b → is_none (cond b (Some d) None) ≡ true → nat_lt c d ≡ true
+pub none_until : (c d : ℕ) (b : Bool) → nat_le d c ≡ b → is_none (cond b (Some d) None) ≡ true → nat_lt c d ≡ true
 none_until c d true is h = absurd (cc)
 none_until c d false is h = lt-ltb c d (leb-false d c is)
 

@@ -6,7 +6,7 @@ use Rattle.rv_isa.specs.declared.lines.Arrival.{Arrival}
 use Rattle.rv_isa.specs.declared.operations.Kind.{Kind}
 use Rattle.rv_isa.specs.declared.values.Values.{Values}
 use Rattle.rv_hardware.specs.Hardware.{Hardware}
-use Rattle.rv_hardware.specs.Laws.{Laws, DoesNotWait, IsFetchedAhead, IsTrappedSoon, HasOperandsIn, HasOrderedStamps, HasCost, IsKnownBefore, IsFetchedSince}
+use Rattle.rv_hardware.specs.Laws.{Laws, DoesNotWait, IsFetchedAhead, IsTrappedSoon, HasOperandsIn, HasOrderedStamps, HasCost, IsKnownBefore, IsFetchedBehind, IsFetchedSince}
 use Rattle.rv_hardware.specs.Report.{Report}
 use Rattle.rv_hardware.specs.Run.{Reachable, Cycles, ended, cycled, steps_of}
 use Rattle.rv_hardware.specs.Stamps.{rows_of, EachBehind, EachNext, last_from, sources_of_row, writes_register, producer_among, flushes, is_interrupt, is_store_row, is_load_row, is_row_of_kind, is_fetched_in, is_dispatched_in, is_issued_in, is_broadcast_in, is_buffered_in, is_in_flight_in, is_stationed_in, is_executing_in, is_queued_in, uses_port}
@@ -15,12 +15,14 @@ use Rattle.rv_hardware.specs.declared.step.Execution.{Execution}
 use Rattle.rv_hardware.specs.declared.step.Row.{Row}
 use Rattle.rv_hardware.specs.declared.step.Step.{Step}
 use Rattle.rv_hardware.proofs.LawsAhead.{law_of_heads, law_of_the_front, law_of_prompt_traps}
+use Rattle.rv_hardware.specs.declared.step.Step.TheVariants.{Retired, Trap, Interrupt}
 use Rattle.rv_hardware.proofs.LawsCounted.{Shows, fails_later}
 use Rattle.rv_hardware.proofs.LawsCycle.{History, went_on, reachable_has_history, history_is_sound, history_is_legal}
 use Rattle.rv_hardware.proofs.LawsOfCycles.{passes_here}
 use Rattle.rv_hardware.proofs.LawsEvidence.{last_from-append, last_from-Every}
 use Rattle.rv_hardware.proofs.LawsIdleBus.{law_of_no_idle_bus}
 use Rattle.rv_hardware.proofs.LawsIdleDispatch.{law_of_no_idle_dispatch}
+use Rattle.rv_hardware.proofs.LawsIdleFetch.{law_of_no_idle_fetch}
 use Rattle.rv_hardware.proofs.LawsIdleUnitRows.{law_of_no_idle_unit}
 use Rattle.rv_hardware.proofs.LawsLists.{Every, Every-weaker, All-Every, count-append, count-none, count-count_by, Every-append, Every-both, Every-right}
 use Rattle.rv_hardware.proofs.LawsMarks.{Mark, rows_append}
@@ -31,7 +33,7 @@ use Rattle.rv_hardware.proofs.LawsRow.{SoundRow}
 use Rattle.rv_hardware.proofs.LawsSteps.{law_of_steps_in_order, law_of_commit_width, law_of_interrupts, law_of_flushes, law_of_fetching_anew, history_has_steps, steps_of_cycle}
 use Rattle.rv_hardware.proofs.LawsStoreQueue.{law_of_the_store_queue}
 use Rattle.rv_hardware.proofs.LawsUnitRows.{begun_shows, law_of_pipelined_units, law_of_other_units}
-use Rattle.rv_hardware.proofs.LawsWidths.{law_of_fetch_width, law_of_the_fetch_buffer, law_of_dispatch_width, law_of_bus_width, dispatched_shows, sent_shows}
+use Rattle.rv_hardware.proofs.LawsWidths.{law_of_fetch_width, law_of_the_fetch_buffer, law_of_dispatch_width, law_of_bus_width, buffered_shows, dispatched_shows, sent_shows}
 
 -- a history goes on by the cycles of a run
 pub history_runs : (v : Values) {arrivals : List Arrival} (steps : List Step) {old new : Hardware} {reports : List Report} → Cycles arrivals old reports new → History v steps old → History v (steps ++ steps_of reports) new
@@ -172,6 +174,26 @@ module _ (v : Values) (earlier steps : List Step) (old new : Hardware) (before_r
       by_cases (inr (inl full)) = let same = none_earlier is_in_flight_in _ (in_flight_shows v) c from before in inr (inl (omega (arith, full, same)))
       by_cases (inr (inr full)) = let same = none_earlier (is_stationed_in full.0) _ (stationed_shows v full.0) c from before in inr (inr (full.0, full.1, omega (arith, full.2, same)))
 
+  fetch_of_run : EachNext (IsFetchedBehind v old.cycle (rows_of steps)) steps
+  fetch_of_run before after s t at =
+      by_steps s t (law_of_no_idle_fetch v history (earlier ++ before) after s t (ap (λ l. earlier ++ l) at ∙ sym (append_assoc earlier before (s ∷ t ∷ after))))
+    where
+      by_cases : (a b : Row) → IsFetchedBehind v 0 (rows_of (earlier ++ steps)) (Retired a) (Retired b) → IsFetchedBehind v old.cycle (rows_of steps) (Retired a) (Retired b)
+      by_cases a b (inl over) = inl over
+      by_cases a b (inr (inl early)) = inr (inl early)
+      by_cases a b (inr (inr full)) = inr (inr (λ c from later sooner.
+          let held = full c (omega arith) later sooner in
+          let all = ap (count_by (is_buffered_in c)) rows_of_all in
+          let same = none_earlier is_buffered_in _ (buffered_shows v) c from (rows_of steps) in
+          omega (arith, held, all, same)))
+
+      by_steps : (x y : Step) → IsFetchedBehind v 0 (rows_of (earlier ++ steps)) x y → IsFetchedBehind v old.cycle (rows_of steps) x y
+      by_steps (Retired a) (Retired b) h = by_cases a b h
+      by_steps (Retired a) (Trap pc cause value cycle) h = tt
+      by_steps (Retired a) (Interrupt pc cause cycle) h = tt
+      by_steps (Trap pc cause value cycle) y h = tt
+      by_steps (Interrupt pc cause cycle) y h = tt
+
   pub laws_of_steps : Laws v old.cycle new.cycle steps
   laws_of_steps = record {
     within = All-Every (λ step. (old.cycle ≤ stamp_of step) × (stamp_of step < new.cycle)) steps
@@ -203,6 +225,7 @@ module _ (v : Values) (earlier steps : List Step) (old new : Hardware) (before_r
     no_idle_unit = units_of_run;
     port = rows_pairs (λ a b. uses_port v.forward a ≡ true → uses_port v.forward b ≡ true → IfSome a.execution (λ x. IfSome b.execution (λ y. (x.issued + x.cost ≤ y.issued) ⊎ (y.issued + y.cost ≤ x.issued)))) (law_of_the_port v history);
     fetched_anew = AllPairs-last (λ a b. flushes a ≡ true → IsFetchedSince a b) earlier steps (law_of_fetching_anew v history);
+    no_idle_fetch = fetch_of_run;
     no_idle_dispatch = dispatch_of_run;
   }
 

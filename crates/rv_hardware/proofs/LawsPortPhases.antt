@@ -75,7 +75,7 @@ port_tail v now g h e es at at' port ok = record {
   pairs = rw at' (subst (EveryPair (λ a b. OneAtATime v now (mark_of_entry a) (mark_of_entry b))) at ok.pairs).1;
 }
 
-drained_idle : (a : Bool) (h : Hardware) → (a && nat_le h.port_free h.cycle) ≡ true → h.port_free ≤ h.cycle
+pub drained_idle : (a : Bool) (h : Hardware) → (a && nat_le h.port_free h.cycle) ≡ true → h.port_free ≤ h.cycle
 drained_idle a h is = leb-true h.port_free h.cycle (and_second a (nat_le h.port_free h.cycle) is)
 
 commit_port : (is_stale : set.FinSet nat_cmp → ℕ → Bool) (v : Values) (now : ℕ) (c : Committing) (t : Turn Committing) → CommitTurn is_stale c t → PortOk v now c.hardware → Leads (λ d. PortOk v now d.hardware) (λ d. PortOk v now d.hardware) t

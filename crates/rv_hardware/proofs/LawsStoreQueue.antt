@@ -5,7 +5,6 @@ use Rattle.std.specs.Ordering.{nat_cmp}
 use Rattle.std.specs.FinSet as set
 use Rattle.rv_isa.specs.declared.broadcast.Message.{Message}
 use Rattle.rv_isa.specs.declared.instructions.Instr.{Instr}
-use Rattle.rv_isa.specs.declared.instructions.Instr.TheVariants.{FenceI, Csr, Mret}
 use Rattle.rv_isa.specs.declared.issues.Issue.{Issue}
 use Rattle.rv_isa.specs.declared.lines.Lines.{Lines}
 use Rattle.rv_isa.specs.declared.operations.Kind.{Kind}
@@ -19,7 +18,7 @@ use Rattle.rv_rob.specs.declared.entry.Stage.{Stage}
 use Rattle.rv_rob.specs.declared.entry.Stage.TheVariants.{Finished}
 use Rattle.rv_stores.specs.declared.store.Store.{Store}
 use Rattle.rv_hardware.specs.Broadcast.{broadcast}
-use Rattle.rv_hardware.specs.Commit.{Committing, commit_unless, commit_turn, with_fault}
+use Rattle.rv_hardware.specs.Commit.{Committing, commit_unless, with_fault}
 use Rattle.rv_hardware.specs.Cycle.{with_lines}
 use Rattle.rv_hardware.specs.Dispatch.{dispatch}
 use Rattle.rv_hardware.specs.Drain.{drain}
@@ -27,8 +26,7 @@ use Rattle.rv_hardware.specs.Hardware.{Hardware}
 use Rattle.rv_hardware.specs.InFlight.{is_serialising, is_store}
 use Rattle.rv_hardware.specs.Issue.{issue, FromCache, has_port}
 use Rattle.rv_hardware.specs.Report.{Report}
-use Rattle.rv_hardware.specs.Repeated.{Turn, GoesOn, Ends}
-use Rattle.rv_hardware.specs.Reset.{reset_hardware}
+use Rattle.rv_hardware.specs.Repeated.{Turn}
 use Rattle.rv_hardware.specs.Retirement.{written_of}
 use Rattle.rv_hardware.specs.Stamps.{rows_of, is_store_row, is_queued_in}
 use Rattle.rv_hardware.specs.declared.step.Row.{Row}
@@ -36,52 +34,35 @@ use Rattle.rv_hardware.specs.declared.step.Step.{Step}
 use Rattle.rv_hardware.specs.declared.step.Step.TheVariants.{Retired, Trap, Interrupt}
 use Rattle.rv_hardware.proofs.GapBroadcast.{IsKeptByBroadcast, broadcast-keeps}
 use Rattle.rv_hardware.proofs.GapCosts.{access_cost-least}
-use Rattle.rv_hardware.proofs.GapCycle.{IsKept, cycle-keeps}
 use Rattle.rv_hardware.proofs.GapDispatch.{IsKeptByDispatch, dispatch-keeps}
 use Rattle.rv_hardware.proofs.GapDrain.{IsKeptByDrain, drain-keeps}
 use Rattle.rv_hardware.proofs.GapIssue.{IsKeptByIssue, issue-keeps, ready-parts}
 use Rattle.rv_hardware.proofs.GapStores.{HasStores, store_count, instructions_of, stores-kept, stores-at_reset}
+use Rattle.rv_hardware.proofs.HeadlineStores.{serialising_is_no_store}
 use Rattle.rv_hardware.proofs.LawsBasics.{and_first, and_second, and_both}
-use Rattle.rv_hardware.proofs.LawsCommit.{CommitTurn, no_head, stale_head, unfinished, fence_waits, fence_writes, fence_retires, executes, serial_faults, traps, retires, retires_last, written_back, retired_with, commit_turn_is}
+use Rattle.rv_hardware.proofs.LawsCommit.{CommitTurn, no_head, stale_head, unfinished, fence_waits, fence_writes, fence_retires, executes, serial_faults, traps, retires, retires_last, written_back, retired_with}
 use Rattle.rv_hardware.proofs.LawsCounted.{count-as_of, until_by}
 use Rattle.rv_hardware.proofs.LawsCycle.{Anything, anything_is_kept, Passed, History, began, went_on, begin, committing, drained, cycle_passes, history_is_legal, history_is_sound}
+use Rattle.rv_hardware.proofs.LawsKeeps.{history_keeps, Committed, commit_turns_keep}
 use Rattle.rv_hardware.proofs.LawsLists.{Every, Every-weaker, Every-all, count, count-append, count-none, count-length, count-le, count-map, count-count_by, Beginning-count}
 use Rattle.rv_hardware.proofs.LawsMarks.{Mark, mark_of_row, mark_of_entry, mark_of_fetched, marks_in, at_end, as_of, was_fetched, until, Extends, rows_append}
 use Rattle.rv_hardware.proofs.LawsPast.{rows_obey}
-use Rattle.rv_hardware.proofs.LawsPhases.{Commits, commit_turn_keeps}
 use Rattle.rv_hardware.proofs.LawsPort.{has_its_port, port_grows}
+use Rattle.rv_hardware.proofs.LawsPortPhases.{drained_idle}
 use Rattle.rv_hardware.proofs.LawsQueue.{QueueOk, queued_length, queue_later, queue_next, plain_retires, queue_retires, queue_leaves, queue_begins}
 use Rattle.rv_hardware.proofs.LawsRow.{SoundRow, row_at, retiring_is_one, may_retire_serial, may_retire_finished, MayRetire}
 use Rattle.rv_hardware.proofs.LawsShape.{head_retired_entries}
 use Rattle.rv_hardware.proofs.LawsSound.{SoundEntry, row_decodes}
 use Rattle.rv_hardware.proofs.LawsTold.{Telling, AreTelling, TellsIn, telling-kept}
-use Rattle.rv_hardware.proofs.LawsTurns.{Leads, turns_keep}
+use Rattle.rv_hardware.proofs.LawsTurns.{Leads}
 use Rattle.rv_hardware.proofs.LawsWidths.{count_marks}
 
 abbrev pub Queue : Values → ℕ → List Step → Hardware → Type 0
 Queue v now steps h = QueueOk v.cache.hit now (rows_of steps) h.port_free h.committed
 
--- what every cycle keeps holds in every history
-pub history_keeps : (v : Values) (P : Hardware → Type 0) → IsKept P → ((image : List ℕ) (start : ℕ) → P (reset_hardware v image start)) → {steps : List Step} {h : Hardware} → History v steps h → P h
-history_keeps v P kept first (began image start legal) = first image start
-history_keeps v P kept first (went_on before is) = cycle-keeps kept is (history_keeps v P kept first before)
-
 -- commit
 
-serial_is_no_store : (i : Option Instr) → is_serialising i ≡ true → is_store i ≡ false
-serial_is_no_store None is = absurd (cc)
-serial_is_no_store (Some FenceI) is = refl
-serial_is_no_store (Some (Csr op rd csr source)) is = refl
-serial_is_no_store (Some Mret) is = refl
-serial_is_no_store i is = absurd (cc)
-
-drained_idle : (a : Bool) (h : Hardware) → (a && nat_le h.port_free h.cycle) ≡ true → h.port_free ≤ h.cycle
-drained_idle a h is = leb-true h.port_free h.cycle (and_second a (nat_le h.port_free h.cycle) is)
-
 module _ (v : Values) (now : ℕ) (earlier : List Step) (is_stale : set.FinSet nat_cmp → ℕ → Bool) where
-  abbrev Committed : Committing → Type 0
-  Committed c = Commits v now Anything (anything_is_kept v now) earlier is_stale c
-
   abbrev Queues : Committing → Type 0
   Queues c = AreTelling c.hardware × Queue v now (earlier ++ c.steps) c.hardware
 
@@ -93,18 +74,18 @@ module _ (v : Values) (now : ℕ) (earlier : List Step) (is_stale : set.FinSet n
   no_row c s h none port committed ok =
       rw (pushed c s ∙ ap (λ l. rows_of (earlier ++ c.steps) ++ l) none ∙ append-nil (rows_of (earlier ++ c.steps)), port, committed) ok
 
-  module _ (c : Committing) (e : Entry) (es : List Entry) (written : Option (ℕ × ℕ)) (place : c.hardware.rob.entries ≡ e ∷ es) (may : MayRetire e.instruction e.stage) (p : Committed c) where
+  module _ (c : Committing) (e : Entry) (es : List Entry) (written : Option (ℕ × ℕ)) (place : c.hardware.rob.entries ≡ e ∷ es) (may : MayRetire e.instruction e.stage) (p : Committed v now earlier is_stale c) where
     row_is_store : is_store_row (row_at e written c.hardware.cycle) ≡ is_store e.instruction
     row_is_store =
         let sound : SoundEntry v now now now e = (subst (Every (SoundEntry v now now now)) place p.basics.entries).0 in
         ap is_store (row_decodes e sound.decoded (retiring_is_one v now e sound may))
 
   -- a serialising instruction
-  serial_row : (c : Committing) (e : Entry) (es : List Entry) (written : Option (ℕ × ℕ)) (port : ℕ) → c.hardware.rob.entries ≡ e ∷ es → is_serialising e.instruction ≡ true → c.hardware.port_free ≤ port → Committed c →
+  serial_row : (c : Committing) (e : Entry) (es : List Entry) (written : Option (ℕ × ℕ)) (port : ℕ) → c.hardware.rob.entries ≡ e ∷ es → is_serialising e.instruction ≡ true → c.hardware.port_free ≤ port → Committed v now earlier is_stale c →
       Queue v now (earlier ++ c.steps) c.hardware → QueueOk v.cache.hit now (rows_of (earlier ++ (c.steps ++ Retired (row_at e written c.hardware.cycle) ∷ []))) port c.hardware.committed
   serial_row c e es written port place serial le p ok =
       let row : Row = row_at e written c.hardware.cycle in
-      let plain = row_is_store c e es written place (may_retire_serial e.instruction e.stage serial) p ∙ serial_is_no_store e.instruction serial in
+      let plain = row_is_store c e es written place (may_retire_serial e.instruction e.stage serial) p ∙ serialising_is_no_store e.instruction serial in
       let more = plain_retires v.cache.hit now (rows_of (earlier ++ c.steps)) c.hardware.port_free c.hardware.committed ok row plain in
       rw (pushed c (Retired row)) (queue_later v.cache.hit now (rows_of (earlier ++ c.steps) ++ row ∷ []) c.hardware.port_free c.hardware.committed more port le)
 
@@ -112,7 +93,7 @@ module _ (v : Values) (now : ℕ) (earlier : List Step) (is_stale : set.FinSet n
   finished_tells : (i : Option Instr) (st : Stage) (issue : Option Issue) (cycle : ℕ) (message : Message) → st ≡ Finished issue cycle message → message.fault ≡ None → TellsIn i st → is_some message.store ≡ is_store i
   finished_tells i st issue cycle message at none tells = (subst (TellsIn i) at tells) none
 
-  result_row : (c : Committing) (e : Entry) (es : List Entry) (issue : Option Issue) (cycle : ℕ) (message : Message) → c.hardware.rob.entries ≡ e ∷ es → e.stage ≡ Finished issue cycle message → message.fault ≡ None → Committed c → Queues c →
+  result_row : (c : Committing) (e : Entry) (es : List Entry) (issue : Option Issue) (cycle : ℕ) (message : Message) → c.hardware.rob.entries ≡ e ∷ es → e.stage ≡ Finished issue cycle message → message.fault ≡ None → Committed v now earlier is_stale c → Queues c →
       Queue v now (earlier ++ (c.steps ++ Retired (row_at e (written_of e message) c.hardware.cycle) ∷ [])) (retired_with e message c).hardware
   result_row c e es issue cycle message place at none p ok =
       let row : Row = row_at e (written_of e message) c.hardware.cycle in
@@ -122,7 +103,7 @@ module _ (v : Values) (now : ℕ) (earlier : List Step) (is_stale : set.FinSet n
       rw (pushed c (Retired row))
       (queue_retires v.cache.hit now (rows_of (earlier ++ c.steps)) c.hardware.port_free c.hardware.committed ok.1 row c.hardware.rob.retired message.store (tells ∙ sym same) (omega (arith, p.basics.cycle)))
 
-  commit_queue : (c : Committing) (t : Turn Committing) → CommitTurn is_stale c t → Committed c → Queues c → Leads Queues Queues t
+  commit_queue : (c : Committing) (t : Turn Committing) → CommitTurn is_stale c t → Committed v now earlier is_stale c → Queues c → Leads Queues Queues t
   commit_queue c _ (no_head none) p ok = ok
   commit_queue c _ (stale_head e es at is) p ok = ok
   commit_queue c _ (unfinished e es head plain none) p ok = ok
@@ -141,17 +122,11 @@ module _ (v : Values) (now : ℕ) (earlier : List Step) (is_stale : set.FinSet n
       (subst (Each Telling) (sym (head_retired_entries c.hardware.rob e es head.place)) telling.1, result_row c e es issue cycle message head.place at none p ok)
   commit_queue c _ (retires_last e es issue cycle message head plain at none) p ok = (tt, result_row c e es issue cycle message head.place at none p ok)
 
-  joined : (P Q : Committing → Type 0) (t : Turn Committing) → Leads P P t → Leads Q Q t → Leads (λ c. P c × Q c) (λ c. P c × Q c) t
-  joined P Q (GoesOn c) h g = (h, g)
-  joined P Q (Ends c) h g = (h, g)
-
-  commit_queue_by : (o : Option ℕ) (h : Hardware) → Committed (record { hardware = h; steps = []; stop = None }) → AreTelling h → Queue v now (earlier ++ []) h → Queue v now (earlier ++ (commit_unless is_stale o h).steps) (commit_unless is_stale o h).hardware
+  commit_queue_by : (o : Option ℕ) (h : Hardware) → Committed v now earlier is_stale (record { hardware = h; steps = []; stop = None }) → AreTelling h → Queue v now (earlier ++ []) h → Queue v now (earlier ++ (commit_unless is_stale o h).steps) (commit_unless is_stale o h).hardware
   commit_queue_by (Some code) h p telling ok =
       no_row (record { hardware = h; steps = []; stop = None }) (Interrupt h.pc (interrupt_cause code) h.cycle) (commit_unless is_stale (Some code) h).hardware refl refl refl ok
   commit_queue_by None h p telling ok =
-      (turns_keep (λ c. Committed c × Queues c) (commit_turn is_stale)
-      (λ c q. joined Committed Queues (commit_turn is_stale c) (commit_turn_keeps v now Anything (anything_is_kept v now) earlier is_stale c (commit_turn is_stale c) (commit_turn_is is_stale c) q.0) (commit_queue c (commit_turn is_stale c) (commit_turn_is is_stale c) q.0 q.1))
-      h.values.commit_width (record { hardware = h; steps = []; stop = None }) (p, (telling, ok))).1.1
+      (commit_turns_keep v now earlier is_stale Queues commit_queue h.values.commit_width (record { hardware = h; steps = []; stop = None }) p (telling, ok)).1
 
 -- drain, and the phases behind it
 

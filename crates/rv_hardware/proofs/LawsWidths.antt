@@ -64,7 +64,7 @@ law_of_fetch_width v history =
     let most = count-length (λ f. p (mark_of_fetched f)) passed.fetches.added in
     omega (arith, all, none, some, most, words.within_width)) history
 
-buffered_shows : (v : Values) → Shows v is_buffered_in (λ c. is_buffered_mark)
+pub buffered_shows : (v : Values) → Shows v is_buffered_in (λ c. is_buffered_mark)
 buffered_shows v = record {
   mark = λ c bound row sound h.
       let lt = ltb-true c row.dispatched (and_second (nat_le row.fetched c) (nat_lt c row.dispatched) h) in

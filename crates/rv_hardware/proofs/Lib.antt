@@ -97,9 +97,15 @@ pub mod LawsOfCycles
 pub mod LawsPort
 pub mod LawsPortPhases
 pub mod LawsPortRows
+pub mod LawsKeeps
 pub mod LawsTold
 pub mod LawsQueue
 pub mod LawsStoreQueue
+pub mod LawsLinked
+pub mod LawsLinkedPhases
+pub mod LawsLinkedRows
+pub mod LawsNextFetch
+pub mod LawsIdleFetch
 pub mod LawsIdleUnit
 pub mod LawsIdleUnitPhases
 pub mod LawsIdleUnitRows

@@ -6,6 +6,7 @@ use Rattle.rv_isa.specs.Description.{kind_values}
 use Rattle.rv_isa.specs.declared.lines.Arrival.{Arrival}
 use Rattle.rv_isa.specs.declared.operations.Kind.{Kind}
 use Rattle.rv_isa.specs.declared.values.CacheValues.{CacheValues}
+use Rattle.rv_isa.specs.declared.values.Recovery.TheVariants.{Early}
 use Rattle.rv_isa.specs.declared.values.Values.{Values}
 use Rattle.rv_arch.specs.Due.{due}
 use Rattle.rv_arch.specs.Run.{Run}
@@ -100,6 +101,14 @@ abbrev pub TakesDueInterrupts : Layout → List Arrival → ℕ → ℕ → Stat
 TakesDueInterrupts layout arrivals from to before steps =
     (c : ℕ) → from ≤ c → c < to → (s : State) × Run layout arrivals before (map stamp_of (steps_below c steps)) (map told (steps_below c steps)) s ×
     ((code : ℕ) → due s.csrs (lines_at arrivals c) ≡ Some code → steps_in c steps ≡ Interrupt s.pc (interrupt_cause code) c ∷ [])
+-- where row b comes next after row a, b is fetched when a retires, with early recovery when a's result is broadcast, or as soon as
+-- the fetch buffer has room
+abbrev pub IsFetchedBehind : Values → ℕ → List Row → Step → Step → Type 0
+IsFetchedBehind values from rows (Retired a) (Retired b) =
+    (b.fetched ≡ a.retired) ⊎
+    ((values.recovery ≡ Early) × MatchOption a.execution ⊥ (λ x. b.fetched ≡ x.broadcast)) ⊎
+    ((c : ℕ) → from ≤ c → a.fetched < c → c < b.fetched → values.fetch_buffer ≤ count_by (is_buffered_in c) rows)
+IsFetchedBehind values from rows _ _ = Unit {0}
 
 -- The laws, of the steps of the cycles from `from` on and below `to`. A stamp is the number of a cycle.
 pub record Laws (values : Values) (from to : ℕ) (steps : List Step) : Type 0 where
@@ -144,5 +153,7 @@ pub record Laws (values : Values) (from to : ℕ) (steps : List Step) : Type 0 w
   pub no_idle_unit : (kind : Kind) → (kind_values values kind).pipelined ≡ true → EachBehind (λ before row. is_row_of_kind kind row ≡ true → is_load_row row ≡ false → IfSome row.execution (λ x. (c : ℕ) → from ≤ c → row.dispatched < c → c < x.issued → HasOperandsIn c before row → (kind_values values kind).units ≤ count_by (is_issued_in kind c) before)) (rows_of steps)
   -- behind a trap, an interrupt or a serialising instruction everything is fetched anew
   pub fetched_anew : AllPairs (λ a b. flushes a ≡ true → IsFetchedSince a b) steps
+  -- fetch waits for nothing but room
+  pub no_idle_fetch : EachNext (IsFetchedBehind values from (rows_of steps)) steps
   -- dispatch waits for nothing but room
   pub no_idle_dispatch : EachBehind (λ before row. is_store_row row ≡ false → (c : ℕ) → from ≤ c → row.fetched < c → c < row.dispatched → All (λ earlier. earlier.dispatched ≤ c) before → (values.dispatch_width ≤ count_by (is_dispatched_in c) before) ⊎ (values.rob ≤ count_by (is_in_flight_in c) before) ⊎ ((kind : Kind) × (is_row_of_kind kind row ≡ true) × ((kind_values values kind).stations ≤ count_by (is_stationed_in kind c) before))) (rows_of steps)

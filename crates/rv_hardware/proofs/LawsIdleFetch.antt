@@ -1,0 +1,86 @@
+-- Fetch waits for nothing but room: of rows.
+use Rattle.std.proofs.Common.{◌≡◌, ℕ, ◌≤◌, true, is_none, nat_le, nat_lt, List, [], ◌∷◌, ◌++◌, map, count_by, Option, Some, None, MatchOption, inl, inr, refl, sym, subst, ap, ◌∙◌, arith, append_assoc}
+use Rattle.std.proofs.lemmas.List.{map-append}
+use Rattle.rv_isa.specs.declared.values.Values.{Values}
+use Rattle.rv_hardware.specs.Hardware.{Hardware}
+use Rattle.rv_hardware.specs.Laws.{IsFetchedBehind}
+use Rattle.rv_hardware.specs.Stamps.{rows_of, EachNext, is_buffered_in}
+use Rattle.rv_hardware.specs.declared.step.Execution.{Execution}
+use Rattle.rv_hardware.specs.declared.step.Row.{Row}
+use Rattle.rv_hardware.specs.declared.step.Step.{Step}
+use Rattle.rv_hardware.specs.declared.step.Step.TheVariants.{Retired, Trap, Interrupt}
+use Rattle.rv_hardware.proofs.LawsBasics.{and_first, and_second, and_both}
+use Rattle.rv_hardware.proofs.LawsCycle.{History}
+use Rattle.rv_hardware.proofs.LawsIdleDispatch.{none_until}
+use Rattle.rv_hardware.proofs.LawsLinked.{is_word, with_word, Followed, IsOpen, Linked, held_behind, held_count}
+use Rattle.rv_hardware.proofs.LawsLinkedRows.{marks_are_linked}
+use Rattle.rv_hardware.proofs.LawsLists.{Every-all, count-append, count-count_by, count-le, count-map}
+use Rattle.rv_hardware.proofs.LawsMarks.{Mark, mark_of_row, mark_of_entry, mark_of_fetched, until, broadcast_of_execution, rows_append}
+use Rattle.rv_hardware.proofs.LawsNextFetch.{next_was_fetched}
+
+linked_at : (v : Values) (now : ℕ) (last : (ℕ → ℕ) → Mark → Type 0) (held : ℕ → ℕ) (xs ys : List Mark) (m n : Mark) → Linked v now last held (xs ++ m ∷ n ∷ ys) → Followed v now (held_behind held xs) m n
+linked_at v now last held [] ys m n h = h.0
+linked_at v now last held (x ∷ xs) ys m n h = linked_at v now last (with_word held x) xs ys m n h.1
+
+-- a word in the buffer is one of the rows that were
+word_is_buffered : (c : ℕ) (row : Row) → is_word c (mark_of_row row) ≡ true → is_buffered_in c row ≡ true
+word_is_buffered c row is =
+    and_both (nat_le row.fetched c) (nat_lt c row.dispatched) (and_first (nat_le row.fetched c) (is_none (until c (Some row.dispatched))) is)
+    (none_until c row.dispatched (nat_le row.dispatched c) refl (and_second (nat_le row.fetched c) (is_none (until c (Some row.dispatched))) is))
+
+-- they are no more than all
+held_rows : (c : ℕ) (before after : List Row) → held_behind (λ n. 0) (map mark_of_row before) c ≤ count_by (is_buffered_in c) (before ++ after)
+held_rows c before after =
+    let held = held_count (λ n. 0) (map mark_of_row before) c in
+    let marks = count-map (is_word c) mark_of_row before in
+    let fewer = count-le (λ row. is_word c (mark_of_row row)) (is_buffered_in c) before (Every-all (λ row. is_word c (mark_of_row row) ≡ true → is_buffered_in c row ≡ true) (word_is_buffered c) before) in
+    let both = count-append (is_buffered_in c) before after in
+    let all = count-count_by (is_buffered_in c) (before ++ after) in
+    omega (arith, held, marks, fewer, both, all)
+
+behind_one : (held : ℕ → ℕ) (xs : List Mark) (m : Mark) (c : ℕ) → held_behind held (xs ++ m ∷ []) c ≡ with_word (held_behind held xs) m c
+behind_one held [] m c = refl
+behind_one held (x ∷ xs) m c = behind_one (with_word held x) xs m c
+
+sent_at : (o : Option Execution) (t : ℕ) → broadcast_of_execution o ≡ Some t → MatchOption o ⊥ (λ x. t ≡ x.broadcast)
+sent_at None t is = absurd (cc)
+sent_at (Some x) t is = let same : x.broadcast ≡ t = cc in sym same
+
+module _ (v : Values) {steps : List Step} {h : Hardware} (history : History v steps h) where
+  rows_at : (before after : List Step) (a b : Row) → steps ≡ before ++ Retired a ∷ Retired b ∷ after → rows_of steps ≡ rows_of before ++ a ∷ b ∷ rows_of after
+  rows_at before after a b at = ap rows_of at ∙ rows_append before (Retired a ∷ Retired b ∷ after)
+
+  followed_rows : (before after : List Row) (a b : Row) → rows_of steps ≡ before ++ a ∷ b ∷ after → Followed v h.cycle (held_behind (λ c. 0) (map mark_of_row before)) (mark_of_row a) (mark_of_row b)
+  followed_rows before after a b at =
+      linked_at v h.cycle (IsOpen v h.front.halted h.cycle) (λ c. 0) (map mark_of_row before) (map mark_of_row after ++ (map mark_of_entry h.rob.entries ++ map mark_of_fetched h.front.entries)) (mark_of_row a) (mark_of_row b)
+      (subst (Linked v h.cycle (IsOpen v h.front.halted h.cycle) (λ c. 0))
+      (ap (λ l. map mark_of_row l ++ (map mark_of_entry h.rob.entries ++ map mark_of_fetched h.front.entries)) at ∙
+      ap (λ l. l ++ (map mark_of_entry h.rob.entries ++ map mark_of_fetched h.front.entries)) (map-append mark_of_row before (a ∷ b ∷ after)) ∙
+      append_assoc (map mark_of_row before) (map mark_of_row (a ∷ b ∷ after)) (map mark_of_entry h.rob.entries ++ map mark_of_fetched h.front.entries))
+      (marks_are_linked v history))
+
+  module _ (before after : List Row) (a b : Row) (at : rows_of steps ≡ before ++ a ∷ b ∷ after) (by : b.fetched ≤ a.retired) where
+    filled_rows : (c : ℕ) → v.fetch_buffer ≤ with_word (held_behind (λ n. 0) (map mark_of_row before)) (mark_of_row a) c → v.fetch_buffer ≤ count_by (is_buffered_in c) (rows_of steps)
+    filled_rows c full =
+        let one = behind_one (λ n. 0) (map mark_of_row before) (mark_of_row a) c in
+        let same = ap (λ l. held_behind (λ n. 0) l c) (map-append mark_of_row before (a ∷ [])) in
+        let fewer = held_rows c (before ++ a ∷ []) (b ∷ after) in
+        let whole = ap (count_by (is_buffered_in c)) (at ∙ sym (append_assoc before (a ∷ []) (b ∷ after))) in
+        omega (arith, full, one, same, fewer, whole)
+
+    by_cases : Followed v h.cycle (held_behind (λ c. 0) (map mark_of_row before)) (mark_of_row a) (mark_of_row b) → IsFetchedBehind v 0 (rows_of steps) (Retired a) (Retired b)
+    by_cases (now, inl over) = inl (omega (arith, over, by))
+    by_cases (now, inr (inl early)) = inr (inl (early.0, sent_at a.execution b.fetched early.1))
+    by_cases (now, inr (inr full)) = inr (inr (λ c from later earlier. filled_rows c (full c later earlier)))
+
+  next_rows : (before after : List Step) (s t : Step) → steps ≡ before ++ s ∷ t ∷ after → IsFetchedBehind v 0 (rows_of steps) s t
+  next_rows before after (Retired a) (Retired b) at =
+      by_cases (rows_of before) (rows_of after) a b (rows_at before after a b at) (next_was_fetched v history before after (Retired a) (Retired b) at)
+      (followed_rows (rows_of before) (rows_of after) a b (rows_at before after a b at))
+  next_rows before after (Retired a) (Trap pc cause value cycle) at = tt
+  next_rows before after (Retired a) (Interrupt pc cause cycle) at = tt
+  next_rows before after (Trap pc cause value cycle) t at = tt
+  next_rows before after (Interrupt pc cause cycle) t at = tt
+
+  pub law_of_no_idle_fetch : EachNext (IsFetchedBehind v 0 (rows_of steps)) steps
+  law_of_no_idle_fetch before after s t at = next_rows before after s t at
