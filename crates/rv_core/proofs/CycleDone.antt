@@ -8,7 +8,7 @@ use Rattle.rv_front.specs.declared.fetched.FetchStop.{FetchStop}
 use Rattle.rv_hardware.specs.Broadcast.{broadcast}
 use Rattle.rv_hardware.specs.Commit.{Committing}
 use Rattle.rv_hardware.specs.Cycle.{IsCycle, any_prediction, commit_with, execute, with_lines}
-use Rattle.rv_hardware.specs.Dispatch.{Dispatching, dispatch, stall_of}
+use Rattle.rv_hardware.specs.Dispatch.{Dispatching, stall_of}
 use Rattle.rv_hardware.specs.Drain.{drain}
 use Rattle.rv_hardware.specs.Hardware.{Hardware}
 use Rattle.rv_hardware.specs.Issue.{issue}
@@ -16,54 +16,49 @@ use Rattle.rv_hardware.specs.declared.report.Stall.{Stall}
 use Rattle.rv_core.specs.Told.{report_with}
 use Rattle.rv_core.proofs.CyclesKept.{Commits, broadcast-now, commit-now, dispatch-now, drain-now, issue-now}
 
-module _ (lines : Lines) (old committed drained issued sent : Hardware) (width : 1 ≤ old.values.commit_width)
-    (commits : committed ≡ (commit_with set.contains lines old).hardware) (drains : drained ≡ drain committed) (issues : issued ≡ issue drained) (sends : sent ≡ broadcast issued)
-  where
-    -- the commit phase, and those from drain to dispatch
-    abbrev pub committing : Committing
-    committing = commit_with set.contains lines old
+module _ (lines : Lines) (old committed : Hardware) (width : 1 ≤ old.values.commit_width) (commits : committed ≡ (commit_with set.contains lines old).hardware) where
+  -- the commit phase, and those from drain to dispatch
+  abbrev pub committing : Committing
+  committing = commit_with set.contains lines old
 
-    abbrev pub executing : Dispatching
-    executing = execute (commit_with set.contains lines old).hardware
+  abbrev pub executing : Dispatching
+  executing = execute committing.hardware
 
-    pub committing-now : Commits old.cycle old.values.commit_width committing
-    committing-now = commit-now old.cycle set.contains (with_lines lines old) refl width
+  pub committing-now : Commits old.cycle old.values.commit_width committing
+  committing-now = commit-now old.cycle set.contains (with_lines lines old) refl width
 
-    sent-is : sent ≡ broadcast (issue (drain committing.hardware))
-    sent-is = sends ∙ ap broadcast (issues ∙ ap issue (drains ∙ ap drain commits))
+  executing-now : executing.hardware.cycle ≡ old.cycle
+  executing-now =
+      let first = committing.hardware in
+      let second = drain first in
+      let third = issue second in
+      dispatch-now old.cycle (broadcast third) (broadcast-now old.cycle third (issue-now old.cycle second (drain-now old.cycle first committing-now.cycle)))
 
-    executing-now : executing.hardware.cycle ≡ old.cycle
-    executing-now =
-        let first = committing.hardware in
-        let second = drain first in
-        let third = issue second in
-        dispatch-now old.cycle (broadcast third) (broadcast-now old.cycle third (issue-now old.cycle second (drain-now old.cycle first committing-now.cycle)))
+  module _ (dispatched : Hardware) (dispatches : dispatched ≡ (execute committed).hardware) where
+    dispatched-is : dispatched ≡ executing.hardware
+    dispatched-is = dispatches ∙ ap (λ h. (execute h).hardware) commits
 
-    module _ (dispatched : Hardware) (dispatches : dispatched ≡ (dispatch sent).hardware) where
-      dispatched-is : dispatched ≡ executing.hardware
-      dispatched-is = dispatches ∙ ap (λ h. (dispatch h).hardware) sent-is
+    pub dispatched-now : dispatched.cycle ≡ old.cycle
+    dispatched-now = ap (λ (h : Hardware). h.cycle) dispatched-is ∙ executing-now
 
-      pub dispatched-now : dispatched.cycle ≡ old.cycle
-      dispatched-now = ap (λ (h : Hardware). h.cycle) dispatched-is ∙ executing-now
-
-      -- with what the dispatch told, the stop and the fetch
-      pub cycle-done : (new : Hardware) (why : FetchStop) (count : ℕ) (stall : Option Stall) (stop : Option Stop) → count ≡ (dispatch sent).dispatched → stall ≡ stall_of (dispatch sent) → stop ≡ committing.stop
-          → FetchesInto any_prediction dispatched.cache.backing dispatched.cycle dispatched.front new.front why → new ≡ record dispatched { front = new.front }
-          → IsCycle any_prediction lines old (report_with committing.steps (record { dispatched = count; stall = stall; stop = stop })) (record new { cycle = old.cycle + 1 })
-      cycle-done new why count stall stop counts stalls stops fetches others = record {
-        committing = committing;
-        commits = refl;
-        dispatching = executing;
-        executes = refl;
-        fetch_stop = why;
-        fetches =
-            subst (λ (n : ℕ). FetchesInto any_prediction executing.hardware.cache.backing n executing.hardware.front new.front why) dispatched-now
-            (subst (λ (h : Hardware). FetchesInto any_prediction h.cache.backing dispatched.cycle h.front new.front why) dispatched-is fetches);
-        others_stay = ap {A = Hardware} (λ h. record h { cycle = old.cycle + 1 }) (others ∙ ap {A = Hardware} (λ h. record h { front = new.front }) dispatched-is);
-        reports = λ i. record {
-          steps = committing.steps;
-          dispatched = (counts ∙ ap (λ h. (dispatch h).dispatched) sent-is) i;
-          stall = (stalls ∙ ap (λ h. stall_of (dispatch h)) sent-is) i;
-          stop = stops i;
-        };
-      }
+    -- with what the dispatch told, the stop and the fetch
+    pub cycle-done : (new : Hardware) (why : FetchStop) (count : ℕ) (stall : Option Stall) (stop : Option Stop) → count ≡ (execute committed).dispatched → stall ≡ stall_of (execute committed) → stop ≡ committing.stop
+        → FetchesInto any_prediction dispatched.cache.backing dispatched.cycle dispatched.front new.front why → new ≡ record dispatched { front = new.front }
+        → IsCycle any_prediction lines old (report_with committing.steps (record { dispatched = count; stall = stall; stop = stop })) (record new { cycle = old.cycle + 1 })
+    cycle-done new why count stall stop counts stalls stops fetches others = record {
+      committing = committing;
+      commits = refl;
+      dispatching = executing;
+      executes = refl;
+      fetch_stop = why;
+      fetches =
+          subst (λ (n : ℕ). FetchesInto any_prediction executing.hardware.cache.backing n executing.hardware.front new.front why) dispatched-now
+          (subst (λ (h : Hardware). FetchesInto any_prediction h.cache.backing dispatched.cycle h.front new.front why) dispatched-is fetches);
+      others_stay = ap {A = Hardware} (λ h. record h { cycle = old.cycle + 1 }) (others ∙ ap {A = Hardware} (λ h. record h { front = new.front }) dispatched-is);
+      reports = λ i. record {
+        steps = committing.steps;
+        dispatched = (counts ∙ ap (λ h. (execute h).dispatched) commits) i;
+        stall = (stalls ∙ ap (λ h. stall_of (execute h)) commits) i;
+        stop = stops i;
+      };
+    }

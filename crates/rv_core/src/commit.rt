@@ -3,6 +3,7 @@ ghost use Rattle.std.specs.Option.{option_map};
 ghost use Rattle.std.specs.FinSet as set;
 ghost use Rattle.rv_isa.specs.Cause.{code_of};
 ghost use Rattle.rv_isa.specs.declared.instructions.Instr.TheVariants as instr;
+ghost use Rattle.rv_arch.specs.Due.{due};
 ghost use Rattle.rv_arch.specs.State.{write_of};
 ghost use Rattle.rv_memory.specs.Stale.{is_covered};
 ghost use Rattle.rv_rename.specs.Renaming.{without_checkpoint};
@@ -98,7 +99,7 @@ impl Parts {
         ensures stop { result ≡ (commit set.contains self.old).stop }
         ensures capacity { vec_capacity steps.new ≡ vec_capacity steps.old }
     {
-        if let Some(code) = self.csrs.due_interrupt(self.lines) {
+        if let Some(code) = self.due_interrupt() {
             let step = self.interrupt(INTERRUPT + code);
             append(steps, step);
             return None;
@@ -119,6 +120,14 @@ impl Parts {
             }
         }
         None
+    }
+
+    // The code of the interrupt that is due, if one is.
+    fn due_interrupt(&self) -> Option<u32>
+        ensures due { result ≡ due self.now.csrs self.now.lines }
+        ensures code { IfSome result (λ code. code ≤ 11) }
+    {
+        self.csrs.due_interrupt(self.lines)
     }
 
     fn interrupt(&mut self, cause: u32) -> Step

@@ -8,7 +8,8 @@ ghost use Rattle.rv_stations.specs.Stations.{each_pool, empty_pools};
 ghost use Rattle.rv_stores.specs.Store.{is_committed};
 ghost use Rattle.rv_units.specs.Bus.{empty_bus, squashed as squashed_bus};
 ghost use Rattle.rv_units.specs.Units.{free_pools};
-ghost use Rattle.rv_hardware.specs.Cycle.{IsCycle, any_prediction};
+ghost use Rattle.rv_hardware.specs.Cycle.{IsCycle, any_prediction, execute};
+ghost use Rattle.rv_hardware.specs.Dispatch.{stall_of};
 ghost use Rattle.rv_hardware.specs.Reset.{reset_hardware};
 ghost use Rattle.rv_hardware.specs.Squash.{flushed};
 ghost use Rattle.rv_hardware.specs.declared.step.Step.{Step as StepOf};
@@ -18,7 +19,7 @@ use crate::outcome::CycleEnd;
 use rv_arch::Csrs;
 use rv_cache::Cache;
 use rv_front::{FetchStop, Front, Predictor};
-use rv_hardware::Step;
+use rv_hardware::{Stall, Step};
 use rv_isa::{Description, Image, Lines, Reg, Values};
 use rv_memory::{Ram, StaleMap};
 use rv_rename::RenameMap;
@@ -118,10 +119,7 @@ impl Parts {
         let cycle = self.cycle;
         self.lines = lines;
         let stop = self.commit(predictor, steps);
-        self.drain();
-        self.issue();
-        self.broadcast();
-        let (dispatched, stall) = self.dispatch();
+        let (dispatched, stall) = self.execute();
         self.fetch(predictor);
         self.cycle = cycle + 1;
         CycleEnd {
@@ -129,6 +127,18 @@ impl Parts {
             stall,
             stop,
         }
+    }
+
+    // The phases from drain to dispatch: a result is broadcast after the instructions of its cycle were issued.
+    fn execute(&mut self) -> (u32, Option<Stall>)
+        ensures hardware { self.new ≡ (execute self.old).hardware }
+        ensures dispatched { result.0 ≡ (execute self.old).dispatched }
+        ensures stall { result.1 ≡ stall_of (execute self.old) }
+    {
+        self.drain();
+        self.issue();
+        self.broadcast();
+        self.dispatch()
     }
 
     /// Fetch: words are read along the predicted pcs, from RAM past the cache. Tells why it stopped.

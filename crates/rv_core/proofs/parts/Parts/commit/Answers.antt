@@ -1,6 +1,5 @@
 use Rattle.std.proofs.Common.{◌≡◌, ◌+◌, ◌-◌, [], ◌∷◌, Some, ◌++◌, refl, ap, sym, ◌∙◌, arith}
 use Rattle.std.specs.FinSet as set
-use Rattle.rv_arch.specs.Due.{due}
 use Rattle.rv_arch.specs.declared.outcome.Stop.TheVariants.{Stale}
 use Rattle.rv_hardware.specs.Hardware.{Hardware}
 use Rattle.rv_hardware.specs.Commit.{Committing, commit}
@@ -14,7 +13,7 @@ pub loop-init : goal.loop-init
 loop-init g c = (
   none_committed c.args.self.now c.args.steps.now.items (c.self.inside.values.commit_width - 0)
       (omega (arith, ap (λ (h : Hardware). h.values.commit_width) c.self.view_is))
-      (ap (λ (h : Hardware). due h.csrs h.lines) (sym c.self.view_is) ∙ sym c.due_interrupt.ensures.due ∙ c.in_default.is),
+      (sym c.due_interrupt.ensures.due ∙ c.in_default.is),
   refl,
 )
 
