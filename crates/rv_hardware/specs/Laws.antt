@@ -101,6 +101,7 @@ abbrev pub TakesDueInterrupts : Layout → List Arrival → ℕ → ℕ → Stat
 TakesDueInterrupts layout arrivals from to before steps =
     (c : ℕ) → from ≤ c → c < to → (s : State) × Run layout arrivals before (map stamp_of (steps_below c steps)) (map told (steps_below c steps)) s ×
     ((code : ℕ) → due s.csrs (lines_at arrivals c) ≡ Some code → steps_in c steps ≡ Interrupt s.pc (interrupt_cause code) c ∷ [])
+
 -- where row b comes next after row a, b is fetched when a retires, with early recovery when a's result is broadcast, or as soon as
 -- the fetch buffer has room
 abbrev pub IsFetchedBehind : Values → ℕ → List Row → Step → Step → Type 0
