@@ -82,7 +82,7 @@ IsTrappedSoon c (Retired row) = Unit {0}
 IsTrappedSoon c (Trap pc cause value cycle) = needs_no_unit cause ≡ true → cycle ≤ c + 2
 IsTrappedSoon c (Interrupt pc cause cycle) = Unit {0}
 
--- in how many cycles from `from` on and below `to` an instruction was dispatched that is a row
+-- in how many cycles from `from` on and below `to` some of the rows were dispatched
 abbrev pub dispatch_cycles : ℕ → ℕ → List Row → ℕ
 dispatch_cycles from to rows = count_by (λ c. list_any (is_dispatched_in c) rows) (range_with_len from (to - from))
 
@@ -138,3 +138,11 @@ pub record Laws (values : Values) (from to : ℕ) (steps : List Step) : Type 0 w
   pub fetched_anew : AllPairs (λ a b. flushes a ≡ true → IsFetchedSince a b) steps
   -- dispatch waits for nothing but room
   pub no_idle_dispatch : EachBehind (λ before row. is_store_row row ≡ false → (c : ℕ) → from ≤ c → row.fetched < c → c < row.dispatched → All (λ earlier. earlier.dispatched ≤ c) before → (values.dispatch_width ≤ count_by (is_dispatched_in c) before) ⊎ (values.rob ≤ count_by (is_in_flight_in c) before) ⊎ ((kind : Kind) × (is_row_of_kind kind row ≡ true) × ((kind_values values kind).stations ≤ count_by (is_stationed_in kind c) before))) (rows_of steps)
+
+-- The counts of the cycles from `from` on and below `to`.
+pub record HasCounts (from to : ℕ) (steps : List Step) (cycles busy : ℕ) (stalls : StallCounts) : Type 0 where
+  pub numbered : to ≡ from + cycles
+  -- a cycle is busy, or stalls for one reason
+  pub all : busy + stall_cycles stalls ≡ cycles
+  -- the cycles are busy in which the instructions that retired were dispatched
+  pub enough_busy : dispatch_cycles from to (rows_of steps) ≤ busy
