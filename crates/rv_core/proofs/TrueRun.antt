@@ -9,9 +9,8 @@ use Rattle.rv_hardware.proofs.HeadlineStops.{headline_of_stop}
 use Rattle.rv_hardware.specs.Gap.{OnlyLastStops}
 use Rattle.rv_hardware.specs.Hardware.{Hardware}
 use Rattle.rv_hardware.specs.Headline.{IsTrueRun, IsTrueStop}
-use Rattle.rv_hardware.proofs.LawsBusy.{busy_of_runs}
+use Rattle.rv_hardware.proofs.LawsBusy.{counts_hold}
 use Rattle.rv_hardware.proofs.LawsDue.{due_interrupts_of_runs}
-use Rattle.rv_hardware.proofs.LawsOfCycles.{counts_of_runs}
 use Rattle.rv_hardware.proofs.LawsOfRuns.{laws_of_runs}
 use Rattle.rv_hardware.specs.Laws.{AreCounted, Laws, TakesDueInterrupts}
 use Rattle.rv_hardware.specs.Report.{Report}
@@ -55,8 +54,7 @@ module _ (arrivals : List Arrival) (limit : ℕ) (old new : Hardware) (reached :
     counted : AreCounted old.cycle new.cycle steps busy stalls cycles
     counted =
         rw (run.steps_are, run.stalls_are, run.busy_is, run.cycles_are)
-        (let counts = counts_of_runs reached run.cycled in
-        record { all_cycles = sym counts.1; busy_or_stalled = counts.0; dispatched_is_busy = busy_of_runs reached run.cycled })
+        (counts_hold reached run.cycled)
 
     gap_bounded : OnlyLastStops reports → gap < gap_bound_of old.values
     gap_bounded only = rw run.longest_gap_is (no_silence arrivals old new reports reached run.cycled only).longest

@@ -1,5 +1,5 @@
 -- In every run a finished head does not wait, and the front keeps ahead.
-use Rattle.std.proofs.Common.{◌≡◌, ℕ, ◌+◌, ◌-◌, ◌≤◌, ◌<◌, ◌⊎◌, ◌==◌, Bool, true, false, List, [], ◌∷◌, ◌++◌, length, filter, Option, Some, None, inl, inr, refl, sym, subst, ap, ◌∙◌, arith, append_assoc, append-nil, true≢false}
+use Rattle.std.proofs.Common.{◌≡◌, ℕ, ◌+◌, ◌-◌, ◌≤◌, ◌<◌, ◌⊎◌, ◌&&◌, ◌==◌, Bool, true, false, is_some, List, [], ◌∷◌, ◌++◌, length, length-append, filter, Option, Some, None, inl, inr, refl, sym, subst, ap, ◌∙◌, arith, append_assoc, append-nil, true≢false}
 use Rattle.std.proofs.lemmas.Bool.{leb-true}
 use Rattle.std.specs.List.{list_any}
 use Rattle.std.specs.Ordering.{nat_cmp}
@@ -13,29 +13,44 @@ use Rattle.rv_arch.specs.Due.{due}
 use Rattle.rv_front.specs.FetchBuffer.{FetchBuffer}
 use Rattle.rv_front.specs.declared.fetched.Fetched.{Fetched}
 use Rattle.rv_rob.specs.declared.entry.Entry.{Entry}
-use Rattle.rv_hardware.specs.Commit.{Committing}
+use Rattle.rv_stores.specs.Queue.{with_oldest_draining, without_drained}
+use Rattle.rv_stores.specs.declared.store.Store.{Store as QueuedStore}
+use Rattle.rv_hardware.specs.Broadcast.{broadcast}
+use Rattle.rv_hardware.specs.Commit.{Committing, commit_turn, commit_unless}
 use Rattle.rv_hardware.specs.Cycle.{IsCycle, any_prediction, execute, with_lines}
 use Rattle.rv_hardware.specs.Dispatch.{Dispatching, dispatch, has_full_stations, is_stationed}
+use Rattle.rv_hardware.specs.Drain.{drain}
 use Rattle.rv_hardware.specs.Hardware.{Hardware}
 use Rattle.rv_hardware.specs.InFlight.{is_serialising, is_store}
-use Rattle.rv_hardware.specs.Issue.{kind_of_word}
+use Rattle.rv_hardware.specs.Issue.{issue, kind_of_word}
 use Rattle.rv_hardware.specs.Laws.{DoesNotWait, IsFetchedAhead, IsTrappedSoon}
 use Rattle.rv_hardware.specs.Report.{Report}
-use Rattle.rv_hardware.specs.Stamps.{EachNext}
+use Rattle.rv_hardware.specs.Repeated.{Turn}
+use Rattle.rv_hardware.specs.Seen.{stores_behind}
+use Rattle.rv_hardware.specs.Stamps.{EachNext, last_from, rows_of}
 use Rattle.rv_hardware.specs.Step.{stamp_of}
+use Rattle.rv_hardware.specs.declared.step.Row.{Row}
 use Rattle.rv_hardware.specs.declared.step.Step.{Step}
+use Rattle.rv_hardware.specs.declared.step.Step.TheVariants.{Retired, Trap, Interrupt}
+use Rattle.rv_hardware.proofs.GapBroadcast.{IsKeptByBroadcast, broadcast-keeps}
 use Rattle.rv_hardware.proofs.GapCycle.{cycle-keeps, phases-keep}
+use Rattle.rv_hardware.proofs.GapDispatch.{IsKeptByDispatch, dispatch-keeps}
+use Rattle.rv_hardware.proofs.GapDrain.{IsKeptByDrain, drain-keeps}
 use Rattle.rv_hardware.proofs.GapHalted.{HaltsBehind, IsHalted, words_of, halted-kept, halted-at_reset}
-use Rattle.rv_hardware.proofs.LawsBasics.{and_first}
+use Rattle.rv_hardware.proofs.GapIssue.{IsKeptByIssue, issue-keeps}
+use Rattle.rv_hardware.proofs.LawsBasics.{and_first, and_second}
+use Rattle.rv_hardware.proofs.LawsCommit.{CommitTurn, no_head, stale_head, unfinished, fence_waits, fence_writes, fence_retires, executes, serial_faults, traps, retires, retires_last, commit_turn_is}
 use Rattle.rv_hardware.proofs.LawsCycle.{Anything, anything_is_kept, Passed, History, began, went_on, begin, committing, dispatching, sent_all, cycle_passes, history_is_legal, history_is_sound}
-use Rattle.rv_hardware.proofs.LawsDispatch.{WaitsFor, for_serial, for_buffer, for_station, for_queue}
+use Rattle.rv_hardware.proofs.LawsDispatch.{has_full_queue, WaitsFor, for_serial, for_buffer, for_station, for_queue}
 use Rattle.rv_hardware.proofs.LawsFaults.{HasFaults, faults-kept, faults-at_reset}
 use Rattle.rv_hardware.proofs.LawsFetch.{IsNew}
-use Rattle.rv_hardware.proofs.LawsFollow.{last_stamp, last_stamp-push, Follows, AllFollow, Committed, commit_leads_by}
+use Rattle.rv_hardware.proofs.LawsFollow.{last_stamp, last_stamp-push, has_step, has_step-push, IsAhead, Follows, AllFollow, Committed, commit_leads_by}
 use Rattle.rv_hardware.proofs.LawsIdleDispatch.{dispatch_leaves}
 use Rattle.rv_hardware.proofs.LawsLists.{Every, EveryBehind-at, count}
 use Rattle.rv_hardware.proofs.LawsNext.{Next, HasNext, next_executed}
+use Rattle.rv_hardware.proofs.LawsRow.{SoundRow}
 use Rattle.rv_hardware.proofs.LawsShape.{HasShape}
+use Rattle.rv_hardware.proofs.LawsTurns.{Leads, turns_keep}
 
 -- ---- the end of a cycle
 
@@ -56,27 +71,37 @@ module _ (v : Values) (legal : IsLegal v) where
       let same = ap (λ (w : Values). (kind_values w k).stations) shape.values in
       omega (arith, held, empty, some, same)
 
-  waits_as_store : (h : Hardware) (f : Fetched) → HasShape v h → h.rob.entries ≡ [] → WaitsFor h f → is_store f.instruction ≡ true
-  waits_as_store h f shape none (for_serial is) = absurd (true≢false (sym is ∙ ap (λ es. list_any (λ (e : Entry). is_serialising e.instruction) es) none))
-  waits_as_store h f shape none (for_buffer is) =
+  -- with no store that has retired, it does not either
+  queue_free : (store_waits : Bool) (h : Hardware) (f : Fetched) → HasShape v h → h.rob.entries ≡ [] → (store_waits ≡ false → h.committed ≡ []) → has_full_queue h f ≡ true → (store_waits && is_store f.instruction) ≡ true
+  queue_free true h f shape none unused is = and_first (is_store f.instruction) _ is
+  queue_free false h f shape none unused is =
+      let full = leb-true h.values.store_queue (length (stores_behind h h.rob.entries)) (and_second (is_store f.instruction) _ is) in
+      let empty = ap (λ es. length (stores_behind h es)) none ∙ ap (λ (ss : List QueuedStore). length (ss ++ [])) (unused refl) in
+      let same = ap (λ (w : Values). w.store_queue) shape.values in
+      absurd (omega (arith, full, empty, same, legal.pipeline.store_queue))
+
+  waits_as_store : (store_waits : Bool) (h : Hardware) (f : Fetched) → HasShape v h → h.rob.entries ≡ [] → (store_waits ≡ false → h.committed ≡ []) → WaitsFor h f → (store_waits && is_store f.instruction) ≡ true
+  waits_as_store store_waits h f shape none unused (for_serial is) = absurd (true≢false (sym is ∙ ap (λ es. list_any (λ (e : Entry). is_serialising e.instruction) es) none))
+  waits_as_store store_waits h f shape none unused (for_buffer is) =
       let full = leb-true h.rob.capacity (length h.rob.entries) is in
       let empty = ap (λ (es : List Entry). length es) none in
       absurd (omega (arith, full, empty, shape.buffer, legal.pipeline.rob))
-  waits_as_store h f shape none (for_station is) = absurd (station_free h shape none (kind_of_word f.instruction) is)
-  waits_as_store h f shape none (for_queue is) = and_first (is_store f.instruction) _ is
+  waits_as_store store_waits h f shape none unused (for_station is) = absurd (station_free h shape none (kind_of_word f.instruction) is)
+  waits_as_store store_waits h f shape none unused (for_queue is) = queue_free store_waits h f shape none unused is
 
   -- what dispatch leaves in the fetch buffer where nothing is in flight
-  only_store_left : (h g : Hardware) (now : ℕ) (d : Dispatching) → d ≡ dispatch g → g.values ≡ v → g.cycle ≡ now → HasShape v d.hardware → (f : Fetched) (fs : List Fetched) → d.hardware.rob.entries ≡ [] → d.hardware.front.entries ≡ f ∷ fs → is_store f.instruction ≡ true
-  only_store_left h g now d is values cycle shape f fs none first =
+  only_store_left : (store_waits : Bool) (g : Hardware) (now : ℕ) (d : Dispatching) → d ≡ dispatch g → g.values ≡ v → g.cycle ≡ now → HasShape v d.hardware → (store_waits ≡ false → d.hardware.committed ≡ []) → (f : Fetched) (fs : List Fetched) → d.hardware.rob.entries ≡ [] → d.hardware.front.entries ≡ f ∷ fs →
+      (store_waits && is_store f.instruction) ≡ true
+  only_store_left store_waits g now d is values cycle shape unused f fs none first =
       by_left (subst (λ (x : Dispatching). (f : Fetched) (fs : List Fetched) → x.hardware.front.entries ≡ f ∷ fs → (v.dispatch_width ≤ count (λ (e : Entry). e.dispatched == now) x.hardware.rob.entries) ⊎ WaitsFor x.hardware f) (sym is)
       (dispatch_leaves v now g (ap (λ (w : Values). w.dispatch_width) values) cycle) f fs first)
     where
-      by_left : (v.dispatch_width ≤ count (λ (e : Entry). e.dispatched == now) d.hardware.rob.entries) ⊎ WaitsFor d.hardware f → is_store f.instruction ≡ true
+      by_left : (v.dispatch_width ≤ count (λ (e : Entry). e.dispatched == now) d.hardware.rob.entries) ⊎ WaitsFor d.hardware f → (store_waits && is_store f.instruction) ≡ true
       by_left (inl wide) = let empty = ap (λ es. count (λ (e : Entry). e.dispatched == now) es) none in absurd (omega (arith, wide, empty, legal.pipeline.dispatch_width))
-      by_left (inr why) = waits_as_store d.hardware f shape none why
+      by_left (inr why) = waits_as_store store_waits d.hardware f shape none unused why
 
   -- a front with nothing in flight and nothing fetched fetches
-  module _ (now s : ℕ) (stale : set.FinSet nat_cmp) (front : FetchBuffer) (added : List Fetched) (new : Every (IsNew now) added) (width : front.width ≡ v.fetch_width) (room : front.capacity ≡ v.fetch_buffer)
+  module _ (now s : ℕ) (store_waits : Bool) (stale : set.FinSet nat_cmp) (front : FetchBuffer) (added : List Fetched) (new : Every (IsNew now) added) (width : front.width ≡ v.fetch_width) (room : front.capacity ≡ v.fetch_buffer)
       (goes_on : added ≡ [] → (front.halted ≡ true) ⊎ ((front.width ≡ 0) ⊎ (front.capacity - length front.entries ≡ 0))) where
     fetches_one : (b : Bool) → front.halted ≡ b → HaltsBehind b [] → length front.entries ≡ 0 → added ≡ [] → ⊥
     fetches_one true is behind empty none = absurd (cc)
@@ -87,12 +112,12 @@ module _ (v : Values) (legal : IsLegal v) where
         by_cause (inr (inl narrow)) = omega (arith, narrow, width, legal.pipeline.fetch_width)
         by_cause (inr (inr full)) = omega (arith, full, room, empty, legal.pipeline.fetch_buffer)
 
-    next_added : (more : List Fetched) → Every (IsNew now) more → (more ≡ [] → ⊥) → now ≤ s → Next (now + 1) (now + 1) s stale [] more
+    next_added : (more : List Fetched) → Every (IsNew now) more → (more ≡ [] → ⊥) → now ≤ s → Next (now + 1) (now + 1) s store_waits stale [] more
     next_added [] are none_of le = absurd (none_of refl)
     next_added (f ∷ fs) are none_of le = (omega (arith, are.0.0, le), λ plain. omega (arith, le))
 
-    next_fetched : (es : List Entry) (fs : List Fetched) → front.entries ≡ fs → HaltsBehind front.halted (words_of es fs) → ((f : Fetched) (gs : List Fetched) → es ≡ [] → fs ≡ f ∷ gs → is_store f.instruction ≡ true) →
-        Next (now + 1) now s stale es fs → Next (now + 1) (now + 1) s stale es (fs ++ added)
+    next_fetched : (es : List Entry) (fs : List Fetched) → front.entries ≡ fs → HaltsBehind front.halted (words_of es fs) → ((f : Fetched) (gs : List Fetched) → es ≡ [] → fs ≡ f ∷ gs → (store_waits && is_store f.instruction) ≡ true) →
+        Next (now + 1) now s store_waits stale es fs → Next (now + 1) (now + 1) s store_waits stale es (fs ++ added)
     next_fetched (e ∷ es) fs at behind stores next = next
     next_fetched [] (f ∷ fs) at behind stores next = (next.0, λ plain. absurd (true≢false (sym (stores f fs refl refl) ∙ plain)))
     next_fetched [] [] at behind stores next = next_added added new (λ none. fetches_one front.halted refl behind (ap (λ (l : List Fetched). length l) at) none) next
@@ -107,9 +132,66 @@ history_is_halted : (v : Values) {steps : List Step} {h : Hardware} → History 
 history_is_halted v (began image start legal) = halted-at_reset v image start
 history_is_halted v (went_on before is) = cycle-keeps halted-kept is (history_is_halted v before)
 
+-- ---- until a step, no store has retired
+
+both_empty : (xs ys : List Step) → xs ++ ys ≡ [] → (xs ≡ []) × (ys ≡ [])
+both_empty [] ys none = (refl, none)
+both_empty (x ∷ xs) ys none = absurd (cc)
+
+some_step : (x : Step) (steps : List Step) → is_some (last_from (Some x) (λ s. true) steps) ≡ true
+some_step x [] = refl
+some_step x (y ∷ steps) = some_step y steps
+
+no_step : (steps : List Step) → has_step steps ≡ false → steps ≡ []
+no_step [] none = refl
+no_step (x ∷ steps) none = absurd (true≢false (sym (some_step x steps) ∙ none))
+
+not_empty : {P : Type 0} (steps : List Step) (x : Step) → steps ++ x ∷ [] ≡ [] → P
+not_empty steps x none = absurd (let all = length-append steps (x ∷ []) in omega (arith, all, ap (λ (l : List Step). length l) none))
+
+abbrev IsUnused : Committing → Type 0
+IsUnused c = c.steps ≡ [] → c.hardware.committed ≡ []
+
+turn_unused : (c : Committing) (t : Turn Committing) → CommitTurn set.contains c t → IsUnused c → Leads IsUnused IsUnused t
+turn_unused c _ (no_head none) p = p
+turn_unused c _ (stale_head e es at is) p = p
+turn_unused c _ (unfinished e es head plain none) p = p
+turn_unused c _ (fence_waits e es head is) p = p
+turn_unused c _ (fence_writes e es head is drained) p = p
+turn_unused c _ (fence_retires e es written next head is drained) p = λ none. not_empty c.steps _ none
+turn_unused c _ (executes e es written next head serial) p = λ none. not_empty c.steps _ none
+turn_unused c _ (serial_faults e es cause value head serial) p = λ none. not_empty c.steps _ none
+turn_unused c _ (traps e es issue cycle message fault head plain at is) p = λ none. not_empty c.steps _ none
+turn_unused c _ (retires e es issue cycle message head plain at none) p = λ empty. not_empty c.steps _ empty
+turn_unused c _ (retires_last e es issue cycle message head plain at none) p = λ empty. not_empty c.steps _ empty
+
+commit_unused : (o : Option ℕ) (h : Hardware) → h.committed ≡ [] → IsUnused (commit_unless set.contains o h)
+commit_unused (Some code) h none = λ empty. absurd (cc)
+commit_unused None h none = turns_keep IsUnused (commit_turn set.contains) (λ c p. turn_unused c (commit_turn set.contains c) (commit_turn_is set.contains c) p) h.values.commit_width (record { hardware = h; steps = []; stop = None }) (λ empty. none)
+
+execute_unused : (h : Hardware) → h.committed ≡ [] → (execute h).hardware.committed ≡ []
+execute_unused h none =
+    dispatch-keeps kept_by_dispatch (broadcast (issue (drain h))) (broadcast-keeps kept_by_broadcast (issue (drain h)) (issue-keeps HasNoStore kept_by_issue (drain h) (drain-keeps kept_by_drain h none)))
+  where
+    HasNoStore : Hardware → Type 0
+    HasNoStore g = g.committed ≡ []
+
+    kept_by_drain : IsKeptByDrain HasNoStore
+    kept_by_drain = record { leaves = λ g is idle. ap without_drained is; drains = λ g access is idle at. ap with_oldest_draining is }
+
+    kept_by_issue : (k : Kind) → IsKeptByIssue HasNoStore k
+    kept_by_issue k = record { accesses = λ g older younger e address is split ready by. is; starts = λ g older younger e cost message is split waits of_kind result costs. is }
+
+    kept_by_broadcast : IsKeptByBroadcast HasNoStore
+    kept_by_broadcast = record { broadcasts = λ g older younger e message is split gives. is; mends = λ g older younger e next is split. is }
+
+    kept_by_dispatch : IsKeptByDispatch HasNoStore
+    kept_by_dispatch = record { dispatches = λ g f rest is first none. is }
+
 record NextPast (steps : List Step) (h : Hardware) : Type 0 where
   follow : AllFollow steps
-  next : Next h.cycle h.cycle (last_stamp steps) h.stale h.rob.entries h.front.entries
+  next : Next h.cycle h.cycle (last_stamp steps) (has_step steps) h.stale h.rob.entries h.front.entries
+  unused : steps ≡ [] → h.committed ≡ []
 
 module _ (v : Values) {earlier : List Step} {old new : Hardware} {lines : Lines} {report : Report} (before : History v earlier old) (past : NextPast earlier old) (is : IsCycle any_prediction lines old report new) where
   legal_here : IsLegal v
@@ -136,19 +218,28 @@ module _ (v : Values) {earlier : List Step} {old new : Hardware} {lines : Lines}
   d_is : is.dispatching ≡ dispatching lines old
   d_is = is.executes ∙ ap (λ (c : Committing). execute c.hardware) is.commits
 
-  dispatched : HasNext old.cycle (last_stamp (earlier ++ report.steps)) (dispatching lines old).hardware
-  dispatched = next_executed old.cycle (last_stamp (earlier ++ report.steps)) (committing lines old).hardware (passed.committed.basics.cycle, subst (λ l. Next (old.cycle + 1) old.cycle (last_stamp l) (committing lines old).hardware.stale (committing lines old).hardware.rob.entries (committing lines old).hardware.front.entries) (sym here) committed.next)
+  dispatched : HasNext old.cycle (last_stamp (earlier ++ report.steps)) (has_step (earlier ++ report.steps)) (dispatching lines old).hardware
+  dispatched = next_executed old.cycle (last_stamp (earlier ++ report.steps)) (has_step (earlier ++ report.steps)) (committing lines old).hardware (passed.committed.basics.cycle, subst (λ l. Next (old.cycle + 1) old.cycle (last_stamp l) (has_step l) (committing lines old).hardware.stale (committing lines old).hardware.rob.entries (committing lines old).hardware.front.entries) (sym here) committed.next)
 
   d_halted : IsHalted (dispatching lines old).hardware
   d_halted = subst (λ (x : Dispatching). IsHalted x.hardware) d_is (phases-keep halted-kept.phases is (history_is_halted v before))
 
-  fetched : Next (old.cycle + 1) (old.cycle + 1) (last_stamp (earlier ++ report.steps)) (dispatching lines old).hardware.stale (dispatching lines old).hardware.rob.entries ((dispatching lines old).hardware.front.entries ++ passed.fetches.added)
+  -- no store has retired where there is no step
+  c_unused : earlier ++ report.steps ≡ [] → (committing lines old).hardware.committed ≡ []
+  c_unused none =
+      let parts = both_empty earlier report.steps none in
+      commit_unused (due (with_lines lines old).csrs (with_lines lines old).lines) (with_lines lines old) (past.unused parts.0) (sym passed.steps ∙ parts.1)
+
+  d_unused : earlier ++ report.steps ≡ [] → (dispatching lines old).hardware.committed ≡ []
+  d_unused none = execute_unused (committing lines old).hardware (c_unused none)
+
+  fetched : Next (old.cycle + 1) (old.cycle + 1) (last_stamp (earlier ++ report.steps)) (has_step (earlier ++ report.steps)) (dispatching lines old).hardware.stale (dispatching lines old).hardware.rob.entries ((dispatching lines old).hardware.front.entries ++ passed.fetches.added)
   fetched =
       let h : Hardware = (dispatching lines old).hardware in
       let b = passed.dispatches.basics in
-      next_fetched v (history_is_legal v before) old.cycle (last_stamp (earlier ++ report.steps)) h.stale h.front passed.fetches.added passed.fetches.are_new b.shape.width b.shape.room passed.fetches.goes_on
+      next_fetched v (history_is_legal v before) old.cycle (last_stamp (earlier ++ report.steps)) (has_step (earlier ++ report.steps)) h.stale h.front passed.fetches.added passed.fetches.are_new b.shape.width b.shape.room passed.fetches.goes_on
       h.rob.entries h.front.entries refl d_halted.1
-      (λ f gs none first. only_store_left v (history_is_legal v before) old (sent_all lines old) old.cycle (dispatching lines old) refl passed.sends.basics.shape.values passed.sends.basics.cycle b.shape f gs none first)
+      (λ f gs none first. only_store_left v (history_is_legal v before) (has_step (earlier ++ report.steps)) (sent_all lines old) old.cycle (dispatching lines old) refl passed.sends.basics.shape.values passed.sends.basics.cycle b.shape (λ none_yet. d_unused (no_step (earlier ++ report.steps) none_yet)) f gs none first)
       dispatched.1
 
   next_goes_on : NextPast (earlier ++ report.steps) new
@@ -157,25 +248,39 @@ module _ (v : Values) {earlier : List Step} {old new : Hardware} {lines : Lines}
       record {
         follow = subst AllFollow (sym here) committed.follow;
         next = rw (ap (λ (g : Hardware). g.cycle) passed.others_stay, ap (λ (g : Hardware). g.stale) passed.others_stay, ap (λ (g : Hardware). g.rob.entries) passed.others_stay, passed.fetches.entries) fetched;
+        unused = λ none. ap (λ (g : Hardware). g.committed) passed.others_stay ∙ d_unused none;
       }
 
 history_has_next : (v : Values) {steps : List Step} {h : Hardware} → History v steps h → NextPast steps h
-history_has_next v (began image start legal) = record { follow = tt; next = omega arith }
+history_has_next v (began image start legal) = record { follow = tt; next = omega arith; unused = λ none. refl }
 history_has_next v (went_on before is) = next_goes_on v before (history_has_next v before) is
 
 -- ---- so of any two steps that follow one another
 
 module _ (v : Values) {steps : List Step} {h : Hardware} (history : History v steps h) where
-  follows : (first rest : List Step) (a b : Step) → steps ≡ first ++ a ∷ b ∷ rest → Follows (stamp_of a) b
+  follows : (first rest : List Step) (a b : Step) → steps ≡ first ++ a ∷ b ∷ rest → Follows (stamp_of a) true b
   follows first rest a b at =
       let all : AllFollow ((first ++ a ∷ []) ++ b ∷ rest) = subst AllFollow (at ∙ sym (append_assoc first (a ∷ []) (b ∷ rest))) (history_has_next v history).follow in
-      subst (λ n. Follows n b) (last_stamp-push first a) (EveryBehind-at (λ before x. Follows (last_stamp before) x) (first ++ a ∷ []) rest b all)
+      subst (λ w. Follows (stamp_of a) w b) (has_step-push first a)
+      (subst (λ n. Follows n (has_step (first ++ a ∷ [])) b) (last_stamp-push first a) (EveryBehind-at (λ before x. Follows (last_stamp before) (has_step before) x) (first ++ a ∷ []) rest b all))
 
   pub law_of_heads : EachNext (λ a b. DoesNotWait (stamp_of a) b) steps
   law_of_heads first rest a b at = (follows first rest a b at).waits
 
   pub law_of_the_front : EachNext (λ a b. IsFetchedAhead (stamp_of a) b) steps
-  law_of_the_front first rest a b at = (follows first rest a b at).ahead
+  law_of_the_front first rest a b at = by_step b (follows first rest a b at).ahead
+    where
+      by_step : (x : Step) → IsAhead (stamp_of a) true x → IsFetchedAhead (stamp_of a) x
+      by_step (Retired row) h = h
+      by_step (Trap pc cause value cycle) h = tt
+      by_step (Interrupt pc cause cycle) h = tt
+
+  -- the first instruction
+  pub law_of_the_first : (row : Row) (rest : List Step) → steps ≡ Retired row ∷ rest → (row.fetched ≡ 0) × (row.dispatched ≡ 1)
+  law_of_the_first row rest at =
+      let first = EveryBehind-at (λ before x. Follows (last_stamp before) (has_step before) x) [] rest (Retired row) (subst AllFollow at (history_has_next v history).follow) in
+      let sound : SoundRow v h.cycle row = (subst (λ l. Every (SoundRow v h.cycle) (rows_of l)) at (history_is_sound v history).rows).0 in
+      (omega (arith, first.ahead.0), omega (arith, first.ahead.1 refl, sound.stamps.dispatched_after_fetch))
 
   pub law_of_prompt_traps : EachNext (λ a b. IsTrappedSoon (stamp_of a) b) steps
   law_of_prompt_traps first rest a b at = (follows first rest a b at).soon

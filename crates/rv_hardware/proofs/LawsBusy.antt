@@ -9,10 +9,10 @@ use Rattle.rv_rob.specs.declared.entry.Entry.{Entry}
 use Rattle.rv_hardware.specs.Cycle.{IsCycle, any_prediction}
 use Rattle.rv_hardware.specs.Dispatch.{Dispatching, dispatch, dispatch_turn}
 use Rattle.rv_hardware.specs.Hardware.{Hardware}
-use Rattle.rv_hardware.specs.Laws.{dispatch_cycles}
+use Rattle.rv_hardware.specs.Laws.{AreCounted, dispatch_cycles}
 use Rattle.rv_hardware.specs.Repeated.{Turn}
 use Rattle.rv_hardware.specs.Report.{Report}
-use Rattle.rv_hardware.specs.Run.{Reachable, Cycles, ended, cycled, busy_of, steps_of}
+use Rattle.rv_hardware.specs.Run.{Reachable, Cycles, ended, cycled, busy_of, stalls_of, steps_of}
 use Rattle.rv_hardware.specs.Stamps.{rows_of, is_dispatched_in}
 use Rattle.rv_hardware.specs.declared.step.Row.{Row}
 use Rattle.rv_hardware.specs.declared.step.Step.{Step}
@@ -22,6 +22,7 @@ use Rattle.rv_hardware.proofs.LawsCycle.{Anything, anything_is_kept, History, we
 use Rattle.rv_hardware.proofs.LawsDispatch.{DispatchTurn, buffer_empty, waits, dispatches, dispatch_turn_is}
 use Rattle.rv_hardware.proofs.LawsLists.{Every, Every-append, Every-all, Every-left, Every-map, Every-unmap, Every-place, Every-set, Every-weaker, count, count-count_by, count-le}
 use Rattle.rv_hardware.proofs.LawsMarks.{Mark, mark_of_row, mark_of_entry, mark_of_fetched, marks_in, rows_append}
+use Rattle.rv_hardware.proofs.LawsOfCycles.{counts_of_runs}
 use Rattle.rv_hardware.proofs.LawsRow.{SoundRow}
 use Rattle.rv_hardware.proofs.LawsSound.{SoundEntry}
 use Rattle.rv_hardware.proofs.LawsTurns.{Leads, turns_keep}
@@ -147,7 +148,7 @@ some_of_all [] ys c h = h
 some_of_all (x ∷ xs) ys c h = used_first (x.dispatched == c) (is_used (xs ++ ys) c) (some_of_all xs ys c h)
 
 -- the cycles of a run in which its rows were dispatched are busy
-pub busy_of_runs : {arrivals : List Arrival} {old new : Hardware} {reports : List Report} → Reachable old → Cycles arrivals old reports new → dispatch_cycles old.cycle new.cycle (rows_of (steps_of reports)) ≤ busy_of reports
+busy_of_runs : {arrivals : List Arrival} {old new : Hardware} {reports : List Report} → Reachable old → Cycles arrivals old reports new → dispatch_cycles old.cycle new.cycle (rows_of (steps_of reports)) ≤ busy_of reports
 busy_of_runs {arrivals} {old} {new} {reports} reached cycles =
     let before = reachable_has_history reached in
     let length_is : new.cycle - old.cycle ≡ length reports = omega (arith, cycles_counted cycles) in
@@ -160,3 +161,9 @@ busy_of_runs {arrivals} {old} {new} {reports} reached cycles =
     (used_cycles before.0 before.1 cycles before.2) in
     let busy = count-count_by (λ (report : Report). not (report.dispatched == 0)) reports in
     omega (arith, here, among, used, busy)
+
+-- the counts of a run
+pub counts_hold : {arrivals : List Arrival} {old new : Hardware} {reports : List Report} → Reachable old → Cycles arrivals old reports new → AreCounted old.cycle new.cycle (steps_of reports) (busy_of reports) (stalls_of reports) (length reports)
+counts_hold reached cycles =
+    let counts = counts_of_runs reached cycles in
+    record { all_cycles = sym counts.1; busy_or_stalled = counts.0; dispatched_is_busy = busy_of_runs reached cycles }

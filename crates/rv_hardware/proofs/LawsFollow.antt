@@ -1,5 +1,5 @@
 -- Behind a step the next instruction neither waits without need nor was it fetched late.
-use Rattle.std.proofs.Common.{◌≡◌, ℕ, suc, ◌+◌, ◌≤◌, ◌<◌, ◌⊎◌, ◌==◌, max, Bool, true, false, cond, List, [], ◌∷◌, ◌++◌, length, length-append, unwrap_or, Option, Some, None, inl, inr, refl, sym, subst, ap, ◌∙◌, arith, append_assoc, true≢false}
+use Rattle.std.proofs.Common.{◌≡◌, ℕ, suc, ◌+◌, ◌≤◌, ◌<◌, ◌⊎◌, ◌==◌, ◌&&◌, max, Bool, true, false, cond, is_some, List, [], ◌∷◌, ◌++◌, length, length-append, unwrap_or, Option, Some, None, inl, inr, refl, sym, subst, ap, ◌∙◌, arith, append_assoc, true≢false}
 use Rattle.std.specs.Option.{option_map}
 use Rattle.std.specs.Ordering.{nat_cmp}
 use Rattle.std.specs.FinSet as set
@@ -23,10 +23,10 @@ use Rattle.rv_hardware.specs.Commit.{Committing, commit_unless, commit_turn, com
 use Rattle.rv_hardware.specs.Hardware.{Hardware}
 use Rattle.rv_hardware.specs.InFlight.{broadcast_of, is_serialising, is_store}
 use Rattle.rv_hardware.specs.Issue.{kind_of_word}
-use Rattle.rv_hardware.specs.Laws.{DoesNotWait, IsFetchedAhead, IsTrappedSoon}
+use Rattle.rv_hardware.specs.Laws.{DoesNotWait, IsTrappedSoon}
 use Rattle.rv_hardware.specs.Repeated.{Turn, GoesOn, Ends}
 use Rattle.rv_hardware.specs.Retirement.{execution_of, written_of}
-use Rattle.rv_hardware.specs.Stamps.{last_that, is_fence_i, needs_no_unit}
+use Rattle.rv_hardware.specs.Stamps.{last_that, is_fence_i, needs_no_unit, is_store_row}
 use Rattle.rv_hardware.specs.Step.{stamp_of}
 use Rattle.rv_hardware.specs.declared.step.Execution.{Execution}
 use Rattle.rv_hardware.specs.declared.step.Row.{Row}
@@ -53,20 +53,33 @@ stamp_or_zero (Some s) = stamp_of s
 abbrev pub last_stamp : List Step → ℕ
 last_stamp steps = stamp_or_zero (last_that (λ s. true) steps)
 
+-- there is a step
+abbrev pub has_step : List Step → Bool
+has_step steps = is_some (last_that (λ s. true) steps)
+
 pub last_stamp-push : (steps : List Step) (s : Step) → last_stamp (steps ++ s ∷ []) ≡ stamp_of s
 last_stamp-push steps s = ap stamp_or_zero (last_from-append None (λ s. true) steps (s ∷ []))
 
--- a step behind one of cycle c
-pub record Follows (c : ℕ) (b : Step) : Type 0 where
+pub has_step-push : (steps : List Step) (s : Step) → has_step (steps ++ s ∷ []) ≡ true
+has_step-push steps s = ap is_some (last_from-append None (λ s. true) steps (s ∷ []))
+
+-- it was fetched by cycle c and dispatched in the cycle after it, but for a store that may wait for the queue
+abbrev pub IsAhead : ℕ → Bool → Step → Type 0
+IsAhead c store_waits (Retired row) = (row.fetched ≤ c) × ((store_waits && is_store_row row) ≡ false → row.dispatched ≤ c + 1)
+IsAhead c store_waits (Trap pc cause value cycle) = Unit {0}
+IsAhead c store_waits (Interrupt pc cause cycle) = Unit {0}
+
+-- a step behind one of cycle c, or the first
+pub record Follows (c : ℕ) (store_waits : Bool) (b : Step) : Type 0 where
   pub waits : DoesNotWait c b
-  pub ahead : IsFetchedAhead c b
+  pub ahead : IsAhead c store_waits b
   pub soon : IsTrappedSoon c b
 
 abbrev pub AllFollow : List Step → Type 0
-AllFollow steps = EveryBehind (λ before b. Follows (last_stamp before) b) [] steps
+AllFollow steps = EveryBehind (λ before b. Follows (last_stamp before) (has_step before) b) [] steps
 
-follow-push : (steps : List Step) (b : Step) → AllFollow steps → Follows (last_stamp steps) b → AllFollow (steps ++ b ∷ [])
-follow-push steps b all one = EveryBehind-append (λ before s. Follows (last_stamp before) s) [] steps (b ∷ []) all (one, tt)
+follow-push : (steps : List Step) (b : Step) → AllFollow steps → Follows (last_stamp steps) (has_step steps) b → AllFollow (steps ++ b ∷ [])
+follow-push steps b all one = EveryBehind-append (λ before s. Follows (last_stamp before) (has_step before) s) [] steps (b ∷ []) all (one, tt)
 
 -- ---- what the oldest leaves
 
@@ -85,6 +98,10 @@ no_kind_no_store None h = refl
 no_kind_no_store (Some (Store width rs1 rs2 offset)) h = absurd (cc)
 no_kind_no_store i h = refl
 
+no_store : (store_waits : Bool) (i : Option Instr) → kind_of_word i ≡ None → (store_waits && is_store i) ≡ false
+no_store true i h = no_kind_no_store i h
+no_store false i h = refl
+
 not_both : {b : Bool} {P : Type 0} → b ≡ true → b ≡ false → P
 not_both is isnt = absurd (cc)
 
@@ -97,7 +114,7 @@ known_is : (D : ℕ) (x : Option Execution) → unwrap_or (option_map (λ (y : E
 known_is D None = refl
 known_is D (Some x) = refl
 
-module _ (v : Values) (now s : ℕ) (stale : set.FinSet nat_cmp) (e : Entry) (sound : SoundEntry v now now now e) (next : NextEntry now s stale e) (fresh : set.contains stale (word_of e.pc) ≡ false) where
+module _ (v : Values) (now s : ℕ) (store_waits : Bool) (stale : set.FinSet nat_cmp) (e : Entry) (sound : SoundEntry v now now now e) (next : NextEntry now s store_waits stale e) (fresh : set.contains stale (word_of e.pc) ≡ false) where
   known_by_stage : (i : Option Instr) (D : ℕ) (st : Stage) → SoundStage v i D now now st → MayRetire i st → IsKnownSince now i D st → now ≤ known_from D (execution_of st) + 1
   known_by_stage i D Waiting held may since = since may
   known_by_stage i D (Running issue message) held may since = not_both may (kind_is_plain i held.0)
@@ -110,23 +127,23 @@ module _ (v : Values) (now s : ℕ) (stale : set.FinSet nat_cmp) (e : Entry) (so
   retires_soon may plain (inr (inr (inl is))) = not_both is plain
   retires_soon may plain (inr (inr (inr since))) = let le = known_by_stage e.instruction e.dispatched e.stage sound.stage may since in omega (arith, le)
 
-  row_follows : (written : Option (ℕ × ℕ)) → MayRetire e.instruction e.stage → Follows s (Retired (row_at e written now))
+  row_follows : (written : Option (ℕ × ℕ)) → MayRetire e.instruction e.stage → Follows s store_waits (Retired (row_at e written now))
   row_follows written may =
       let decoded = row_decodes e sound.decoded (retiring_is_one v now e sound may) in
       record {
         waits = λ plain. let le = retires_soon may (sym (ap is_fence_i decoded) ∙ plain) next.reason in omega (arith, le, known_is e.dispatched (execution_of e.stage));
-        ahead = (next.fetched, λ plain. next.dispatched (sym (ap is_store decoded) ∙ plain));
+        ahead = (next.fetched, λ plain. next.dispatched (sym (ap (λ i. store_waits && is_store i) decoded) ∙ plain));
         soon = tt;
       }
 
   -- a fault that needs no unit
   trapped_by_stage : (i : Option Instr) (D : ℕ) (issue : Option Issue) (cycle : ℕ) (message : Message) (fault : Fault) → SoundStage v i D now now (Finished issue cycle message) → FoundIn (Finished issue cycle message) →
-      message.fault ≡ Some fault → needs_no_unit fault.cause ≡ true → (is_store i ≡ false → D ≤ s + 1) → IsKnownSince now i D (Finished issue cycle message) → now ≤ s + 2
-  trapped_by_stage i D None cycle message fault held found is needs soon since = let le = soon (no_kind_no_store i held.0) in omega (arith, le, since)
+      message.fault ≡ Some fault → needs_no_unit fault.cause ≡ true → ((store_waits && is_store i) ≡ false → D ≤ s + 1) → IsKnownSince now i D (Finished issue cycle message) → now ≤ s + 2
+  trapped_by_stage i D None cycle message fault held found is needs soon since = let le = soon (no_store store_waits i held.0) in omega (arith, le, since)
   trapped_by_stage i D (Some issue) cycle message fault held found is needs soon since = not_both needs (subst IsFound is found)
 
   trap_follows : (issue : Option Issue) (cycle : ℕ) (message : Message) (fault : Fault) → is_serialising e.instruction ≡ false → e.stage ≡ Finished issue cycle message → message.fault ≡ Some fault → Found e →
-      Follows s (Trap e.pc fault.cause fault.value now)
+      Follows s store_waits (Trap e.pc fault.cause fault.value now)
   trap_follows issue cycle message fault plain at is found = record { waits = tt; ahead = tt; soon = λ needs. by_reason needs next.reason }
     where
       by_reason : needs_no_unit fault.cause ≡ true → HasReason now s stale e → now ≤ s + 2
@@ -143,7 +160,7 @@ module _ (v : Values) (now s : ℕ) (stale : set.FinSet nat_cmp) (e : Entry) (so
   serial_by_stage i D (Finished None cycle message) serial held since = since
   serial_by_stage i D (Finished (Some issue) cycle message) serial held since = not_both serial (kind_is_plain i held.0)
 
-  serial_follows : (cause : Cause) (value : ℕ) → is_serialising e.instruction ≡ true → (is_fence_i e.instruction ≡ true → ⊥) → Follows s (Trap e.pc cause value now)
+  serial_follows : (cause : Cause) (value : ℕ) → is_serialising e.instruction ≡ true → (is_fence_i e.instruction ≡ true → ⊥) → Follows s store_waits (Trap e.pc cause value now)
   serial_follows cause value serial other = record { waits = tt; ahead = tt; soon = λ needs. by_reason next.reason }
     where
       by_reason : HasReason now s stale e → now ≤ s + 2
@@ -152,7 +169,7 @@ module _ (v : Values) (now s : ℕ) (stale : set.FinSet nat_cmp) (e : Entry) (so
       by_reason (inr (inr (inl fence))) = absurd (other fence)
       by_reason (inr (inr (inr since))) =
           let le = serial_by_stage e.instruction e.dispatched e.stage serial sound.stage since in
-          let soon = next.dispatched (no_kind_no_store e.instruction (serial_has_no_kind e.instruction serial)) in
+          let soon = next.dispatched (no_store store_waits e.instruction (serial_has_no_kind e.instruction serial)) in
           omega (arith, le, soon)
 
 -- ---- a FENCE.I that executes does not trap
@@ -196,17 +213,17 @@ fence_does_not_trap c e es cause value head fence is =
 
 -- ---- the commit phase of cycle `now`, behind the steps of earlier cycles
 
-next-raise : (n n' m s : ℕ) (stale : set.FinSet nat_cmp) (es : List Entry) (fs : List Fetched) → ((e : Entry) (rest : List Entry) → es ≡ e ∷ rest → NextEntry n s stale e → NextEntry n' s stale e) →
-    Next n m s stale es fs → Next n' m s stale es fs
-next-raise n n' m s stale [] [] goes next = next
-next-raise n n' m s stale [] (f ∷ fs) goes next = next
-next-raise n n' m s stale (e ∷ es) fs goes next = goes e es refl next
+next-raise : (n n' m s : ℕ) (store_waits : Bool) (stale : set.FinSet nat_cmp) (es : List Entry) (fs : List Fetched) → ((e : Entry) (rest : List Entry) → es ≡ e ∷ rest → NextEntry n s store_waits stale e → NextEntry n' s store_waits stale e) →
+    Next n m s store_waits stale es fs → Next n' m s store_waits stale es fs
+next-raise n n' m s store_waits stale [] [] goes next = next
+next-raise n n' m s store_waits stale [] (f ∷ fs) goes next = next
+next-raise n n' m s store_waits stale (e ∷ es) fs goes next = goes e es refl next
 
 -- behind a step of the present cycle
-next-now : (v : Values) (n now : ℕ) (stale : set.FinSet nat_cmp) (es : List Entry) (fs : List Fetched) → n ≤ now + 1 → Every (SoundEntry v now now now) es → Every (SoundFetched now) fs → Next n now now stale es fs
-next-now v n now stale [] [] le sound words = omega arith
-next-now v n now stale [] (f ∷ fs) le sound words = (omega (arith, words.0.0), λ plain. omega arith)
-next-now v n now stale (e ∷ es) fs le sound words =
+next-now : (v : Values) (n now : ℕ) (store_waits : Bool) (stale : set.FinSet nat_cmp) (es : List Entry) (fs : List Fetched) → n ≤ now + 1 → Every (SoundEntry v now now now) es → Every (SoundFetched now) fs → Next n now now store_waits stale es fs
+next-now v n now store_waits stale [] [] le sound words = omega arith
+next-now v n now store_waits stale [] (f ∷ fs) le sound words = (omega (arith, words.0.0), λ plain. omega arith)
+next-now v n now store_waits stale (e ∷ es) fs le sound words =
     record { fetched = omega (arith, sound.0.after_fetch, sound.0.by_now); dispatched = λ plain. omega (arith, sound.0.by_now); reason = inl le }
 
 same_head : (e x : Entry) (es rest all : List Entry) → all ≡ e ∷ es → all ≡ x ∷ rest → e ≡ x
@@ -217,7 +234,7 @@ module _ (v : Values) (now : ℕ) (earlier : List Step) where
   InCommit c = Commits v now Anything (anything_is_kept v now) earlier set.contains c
 
   abbrev NextIn : ℕ → Committing → Type 0
-  NextIn n c = Next n now (last_stamp (earlier ++ c.steps)) c.hardware.stale c.hardware.rob.entries c.hardware.front.entries
+  NextIn n c = Next n now (last_stamp (earlier ++ c.steps)) (has_step (earlier ++ c.steps)) c.hardware.stale c.hardware.rob.entries c.hardware.front.entries
 
   pub record Committed (c : Committing) : Type 0 where
     pub follow : AllFollow (earlier ++ c.steps)
@@ -235,11 +252,11 @@ module _ (v : Values) (now : ℕ) (earlier : List Step) where
   last_is : (c : Committing) (x : Step) → stamp_of x ≡ now → last_stamp (earlier ++ (c.steps ++ x ∷ [])) ≡ now
   last_is c x at = ap last_stamp (regroup c x) ∙ last_stamp-push (earlier ++ c.steps) x ∙ at
 
-  more_follow : (c : Committing) (x : Step) → AllFollow (earlier ++ c.steps) → Follows (last_stamp (earlier ++ c.steps)) x → AllFollow (earlier ++ (c.steps ++ x ∷ []))
+  more_follow : (c : Committing) (x : Step) → AllFollow (earlier ++ c.steps) → Follows (last_stamp (earlier ++ c.steps)) (has_step (earlier ++ c.steps)) x → AllFollow (earlier ++ (c.steps ++ x ∷ []))
   more_follow c x all one = subst AllFollow (sym (regroup c x)) (follow-push (earlier ++ c.steps) x all one)
 
   -- a step behind which nothing is left
-  flushing : (c : Committing) (x : Step) (g : Hardware) (stop : Option Stop) → stamp_of x ≡ now → AllFollow (earlier ++ c.steps) → Follows (last_stamp (earlier ++ c.steps)) x → g.rob.entries ≡ [] → g.front.entries ≡ [] →
+  flushing : (c : Committing) (x : Step) (g : Hardware) (stop : Option Stop) → stamp_of x ≡ now → AllFollow (earlier ++ c.steps) → Follows (last_stamp (earlier ++ c.steps)) (has_step (earlier ++ c.steps)) x → g.rob.entries ≡ [] → g.front.entries ≡ [] →
       Committed (record { hardware = g; steps = c.steps ++ x ∷ []; stop = stop })
   flushing c x g stop at all one none none' =
       let last = last_is c x at in
@@ -249,7 +266,7 @@ module _ (v : Values) (now : ℕ) (earlier : List Step) where
   standing : (k : ℕ) (c : Committing) (stop : Option Stop) → Going k c → ((e : Entry) (rest : List Entry) → c.hardware.rob.entries ≡ e ∷ rest → HasReason (now + 1) (last_stamp (earlier ++ c.steps)) c.hardware.stale e) → Committed c
   standing k c stop p why = record {
     follow = p.follow;
-    next = next-raise now (now + 1) now (last_stamp (earlier ++ c.steps)) c.hardware.stale c.hardware.rob.entries c.hardware.front.entries
+    next = next-raise now (now + 1) now (last_stamp (earlier ++ c.steps)) (has_step (earlier ++ c.steps)) c.hardware.stale c.hardware.rob.entries c.hardware.front.entries
         (λ e rest at is. record { fetched = is.fetched; dispatched = is.dispatched; reason = why e rest at }) p.next;
   }
 
@@ -265,16 +282,16 @@ module _ (v : Values) (now : ℕ) (earlier : List Step) where
     head_sound : SoundEntry v now now now e
     head_sound = (subst (Every (SoundEntry v now now now)) head.place q.basics.entries).0
 
-    head_next : NextEntry now (last_stamp (earlier ++ c.steps)) c.hardware.stale e
-    head_next = subst (λ l. Next now now (last_stamp (earlier ++ c.steps)) c.hardware.stale l c.hardware.front.entries) head.place p.next
+    head_next : NextEntry now (last_stamp (earlier ++ c.steps)) (has_step (earlier ++ c.steps)) c.hardware.stale e
+    head_next = subst (λ l. Next now now (last_stamp (earlier ++ c.steps)) (has_step (earlier ++ c.steps)) c.hardware.stale l c.hardware.front.entries) head.place p.next
 
     head_found : Found e
     head_found = (subst (Each Found) head.place p.found).0
 
-    retired_follows : (written : Option (ℕ × ℕ)) → MayRetire e.instruction e.stage → Follows (last_stamp (earlier ++ c.steps)) (Retired (row_at e written c.hardware.cycle))
+    retired_follows : (written : Option (ℕ × ℕ)) → MayRetire e.instruction e.stage → Follows (last_stamp (earlier ++ c.steps)) (has_step (earlier ++ c.steps)) (Retired (row_at e written c.hardware.cycle))
     retired_follows written may =
-        subst (λ n. Follows (last_stamp (earlier ++ c.steps)) (Retired (row_at e written n))) (sym q.basics.cycle)
-        (row_follows v now (last_stamp (earlier ++ c.steps)) c.hardware.stale e head_sound head_next head.fresh written may)
+        subst (λ n. Follows (last_stamp (earlier ++ c.steps)) (has_step (earlier ++ c.steps)) (Retired (row_at e written n))) (sym q.basics.cycle)
+        (row_follows v now (last_stamp (earlier ++ c.steps)) (has_step (earlier ++ c.steps)) c.hardware.stale e head_sound head_next head.fresh written may)
 
     fence_stands : is_fence_i e.instruction ≡ true → (x : Entry) (rest : List Entry) → c.hardware.rob.entries ≡ x ∷ rest → HasReason (now + 1) (last_stamp (earlier ++ c.steps)) c.hardware.stale x
     fence_stands fence x rest at = inr (inr (inl (subst (λ (y : Entry). is_fence_i y.instruction ≡ true) (same_head e x es rest c.hardware.rob.entries head.place at) fence)))
@@ -297,20 +314,20 @@ module _ (v : Values) (now : ℕ) (earlier : List Step) where
       flushing c (Retired (row_at e written c.hardware.cycle)) (executed e written next c).hardware c.stop q.basics.cycle p.follow
       (retired_follows k c e es head q p written (may_retire_serial e.instruction e.stage serial)) refl refl
   turn_leads total k c _ turn (serial_faults e es cause value head serial) q p goes =
-      let follows = serial_follows v now (last_stamp (earlier ++ c.steps)) c.hardware.stale e (head_sound k c e es head q p) (head_next k c e es head q p) head.fresh cause value serial
+      let follows = serial_follows v now (last_stamp (earlier ++ c.steps)) (has_step (earlier ++ c.steps)) c.hardware.stale e (head_sound k c e es head q p) (head_next k c e es head q p) head.fresh cause value serial
       (λ fence. fence_does_not_trap c e es cause value head fence turn) in
       flushing c (Trap e.pc cause value c.hardware.cycle) (with_fault e cause value c).hardware (with_fault e cause value c).stop q.basics.cycle p.follow
-      (subst (λ n. Follows (last_stamp (earlier ++ c.steps)) (Trap e.pc cause value n)) (sym q.basics.cycle) follows) refl refl
+      (subst (λ n. Follows (last_stamp (earlier ++ c.steps)) (has_step (earlier ++ c.steps)) (Trap e.pc cause value n)) (sym q.basics.cycle) follows) refl refl
   turn_leads total k c _ turn (traps e es issue cycle message fault head plain at is) q p goes =
-      let follows = trap_follows v now (last_stamp (earlier ++ c.steps)) c.hardware.stale e (head_sound k c e es head q p) (head_next k c e es head q p) head.fresh issue cycle message fault plain at is (head_found k c e es head q p) in
+      let follows = trap_follows v now (last_stamp (earlier ++ c.steps)) (has_step (earlier ++ c.steps)) c.hardware.stale e (head_sound k c e es head q p) (head_next k c e es head q p) head.fresh issue cycle message fault plain at is (head_found k c e es head q p) in
       flushing c (Trap e.pc fault.cause fault.value c.hardware.cycle) (with_fault e fault.cause fault.value c).hardware (with_fault e fault.cause fault.value c).stop q.basics.cycle p.follow
-      (subst (λ n. Follows (last_stamp (earlier ++ c.steps)) (Trap e.pc fault.cause fault.value n)) (sym q.basics.cycle) follows) refl refl
+      (subst (λ n. Follows (last_stamp (earlier ++ c.steps)) (has_step (earlier ++ c.steps)) (Trap e.pc fault.cause fault.value n)) (sym q.basics.cycle) follows) refl refl
   turn_leads total k c _ turn (retires e es issue cycle message head plain at none) q p goes =
       let x : Step = Retired (row_at e (written_of e message) c.hardware.cycle) in
       let d : Committing = retired_with e message c in
       let last = last_is c x q.basics.cycle in
-      let here = λ (n : ℕ) (le : n ≤ now + 1). subst (λ l. Next n now l d.hardware.stale d.hardware.rob.entries d.hardware.front.entries) (sym last)
-      (next-now v n now d.hardware.stale d.hardware.rob.entries d.hardware.front.entries le goes.basics.entries goes.basics.fetched) in
+      let here = λ (n : ℕ) (le : n ≤ now + 1). subst (λ l. Next n now l (has_step (earlier ++ d.steps)) d.hardware.stale d.hardware.rob.entries d.hardware.front.entries) (sym last)
+      (next-now v n now (has_step (earlier ++ d.steps)) d.hardware.stale d.hardware.rob.entries d.hardware.front.entries le goes.basics.entries goes.basics.fetched) in
       record {
         follow = more_follow c x p.follow (retired_follows k c e es head q p (written_of e message) (may_retire_finished e.instruction e.stage issue cycle message at none));
         next = here now (omega arith);
@@ -326,7 +343,7 @@ module _ (v : Values) (now : ℕ) (earlier : List Step) where
   joined P Q R (Ends c) h g = g
 
   pub commit_leads_by : (total : ℕ) → 1 ≤ total → (o : Option ℕ) (h : Hardware) → h.values.commit_width ≡ total → Goes v now now now now now (now + 1) Anything (earlier ++ []) h → AllFollow (earlier ++ []) →
-      Next now now (last_stamp (earlier ++ [])) h.stale h.rob.entries h.front.entries → Each Found h.rob.entries → Committed (commit_unless set.contains o h)
+      Next now now (last_stamp (earlier ++ [])) (has_step (earlier ++ [])) h.stale h.rob.entries h.front.entries → Each Found h.rob.entries → Committed (commit_unless set.contains o h)
   commit_leads_by total le (Some code) h width goes follow next found =
       let c : Committing = record { hardware = h; steps = []; stop = None } in
       flushing c (Interrupt h.pc (interrupt_cause code) h.cycle) (commit_unless set.contains (Some code) h).hardware None goes.basics.cycle follow (record { waits = tt; ahead = tt; soon = tt }) refl refl

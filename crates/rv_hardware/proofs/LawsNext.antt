@@ -1,5 +1,5 @@
 -- The next instruction of the program, the oldest in flight or else the oldest fetched word, and what becomes of it behind commit.
-use Rattle.std.proofs.Common.{◌≡◌, ℕ, ◌+◌, ◌≤◌, ◌⊎◌, Bool, true, false, List, [], ◌∷◌, ◌++◌, Option, Some, None, inr, subst, arith}
+use Rattle.std.proofs.Common.{◌≡◌, ℕ, ◌+◌, ◌≤◌, ◌⊎◌, ◌&&◌, Bool, true, false, List, [], ◌∷◌, ◌++◌, Option, Some, None, inr, subst, arith}
 use Rattle.std.specs.Ordering.{nat_cmp}
 use Rattle.std.specs.FinSet as set
 use Rattle.rv_isa.specs.declared.broadcast.Message.{Message}
@@ -38,32 +38,33 @@ abbrev pub HasReason : ℕ → ℕ → set.FinSet nat_cmp → Entry → Type 0
 HasReason n s stale e =
     (n ≤ s + 1) ⊎ (set.contains stale (word_of e.pc) ≡ true) ⊎ (is_fence_i e.instruction ≡ true) ⊎ IsKnownSince n e.instruction e.dispatched e.stage
 
-pub record NextEntry (n s : ℕ) (stale : set.FinSet nat_cmp) (e : Entry) : Type 0 where
+pub record NextEntry (n s : ℕ) (store_waits : Bool) (stale : set.FinSet nat_cmp) (e : Entry) : Type 0 where
   pub fetched : e.fetched ≤ s
-  pub dispatched : is_store e.instruction ≡ false → e.dispatched ≤ s + 1
+  pub dispatched : (store_waits && is_store e.instruction) ≡ false → e.dispatched ≤ s + 1
   pub reason : HasReason n s stale e
 
--- the next instruction, where it has not retired before cycle n, nor been dispatched before cycle m
-abbrev pub Next : ℕ → ℕ → ℕ → set.FinSet nat_cmp → List Entry → List Fetched → Type 0
-Next n m s stale (e ∷ es) fs = NextEntry n s stale e
-Next n m s stale [] (f ∷ fs) = (f.cycle ≤ s) × (is_store f.instruction ≡ false → m ≤ s + 1)
-Next n m s stale [] [] = m ≤ s
+-- the next instruction, where it has not retired before cycle n, nor been dispatched before cycle m; a store may wait for the queue,
+-- where one may have retired
+abbrev pub Next : ℕ → ℕ → ℕ → Bool → set.FinSet nat_cmp → List Entry → List Fetched → Type 0
+Next n m s store_waits stale (e ∷ es) fs = NextEntry n s store_waits stale e
+Next n m s store_waits stale [] (f ∷ fs) = (f.cycle ≤ s) × ((store_waits && is_store f.instruction) ≡ false → m ≤ s + 1)
+Next n m s store_waits stale [] [] = m ≤ s
 
-module _ (n m s : ℕ) (stale : set.FinSet nat_cmp) where
-  next-change : (older younger others : List Entry) (old new : Entry) (fs gs : List Fetched) → (NextEntry n s stale old → NextEntry n s stale new) →
-      Next n m s stale (older ++ old ∷ younger) fs → Next n m s stale (older ++ new ∷ others) gs
+module _ (n m s : ℕ) (store_waits : Bool) (stale : set.FinSet nat_cmp) where
+  next-change : (older younger others : List Entry) (old new : Entry) (fs gs : List Fetched) → (NextEntry n s store_waits stale old → NextEntry n s store_waits stale new) →
+      Next n m s store_waits stale (older ++ old ∷ younger) fs → Next n m s store_waits stale (older ++ new ∷ others) gs
   next-change [] younger others old new fs gs goes next = goes next
   next-change (o ∷ older) younger others old new fs gs goes next = next
 
   next-push : (es : List Entry) (e : Entry) (f : Fetched) (rest : List Fetched) →
-      ((f.cycle ≤ s) × (is_store f.instruction ≡ false → m ≤ s + 1) → NextEntry n s stale e) → Next n m s stale es (f ∷ rest) → Next n m s stale (es ++ e ∷ []) rest
+      ((f.cycle ≤ s) × ((store_waits && is_store f.instruction) ≡ false → m ≤ s + 1) → NextEntry n s store_waits stale e) → Next n m s store_waits stale es (f ∷ rest) → Next n m s store_waits stale (es ++ e ∷ []) rest
   next-push [] e f rest goes next = goes next
   next-push (x ∷ es) e f rest goes next = next
 
 -- ---- the phases of cycle `now`
-module _ (now s : ℕ) where
+module _ (now s : ℕ) (store_waits : Bool) where
   abbrev pub HasNext : Hardware → Type 0
-  HasNext h = (h.cycle ≡ now) × Next (now + 1) now s h.stale h.rob.entries h.front.entries
+  HasNext h = (h.cycle ≡ now) × Next (now + 1) now s store_waits h.stale h.rob.entries h.front.entries
 
   known_now : (cycle D : ℕ) (i : Option Instr) (message : Message) (st : Stage) → cycle ≡ now → result_at cycle st ≡ Some message → IsKnownSince (now + 1) i D (Finished (issue_of st) cycle message)
   known_now cycle D i message Waiting at gives = absurd (cc)
@@ -83,9 +84,9 @@ module _ (now s : ℕ) where
     accesses = λ h older younger e address has split ready by. has;
     starts = λ h older younger e cost message has split waits of_kind result costs. (
       has.0,
-      next-change (now + 1) now s h.stale older younger younger e (started (record { cycle = h.cycle; cost = cost }) message e) h.front.entries h.front.entries
+      next-change (now + 1) now s store_waits h.stale older younger younger e (started (record { cycle = h.cycle; cost = cost }) message e) h.front.entries h.front.entries
           (λ next. record { fetched = next.fetched; dispatched = next.dispatched; reason = inr (inr (inr tt)) })
-          (subst (λ es. Next (now + 1) now s h.stale es h.front.entries) split has.1),
+          (subst (λ es. Next (now + 1) now s store_waits h.stale es h.front.entries) split has.1),
     );
   }
 
@@ -93,15 +94,15 @@ module _ (now s : ℕ) where
   next_broadcast = record {
     broadcasts = λ h older younger e message has split gives. (
       has.0,
-      next-change (now + 1) now s h.stale older younger younger e (finished message h.cycle e) h.front.entries h.front.entries
+      next-change (now + 1) now s store_waits h.stale older younger younger e (finished message h.cycle e) h.front.entries h.front.entries
           (λ next. record { fetched = next.fetched; dispatched = next.dispatched; reason = inr (inr (inr (known_now h.cycle e.dispatched e.instruction message e.stage has.0 gives))) })
-          (subst (λ es. Next (now + 1) now s h.stale es h.front.entries) split has.1),
+          (subst (λ es. Next (now + 1) now s store_waits h.stale es h.front.entries) split has.1),
     );
     mends = λ h older younger e next has split. (
       has.0,
-      next-change (now + 1) now s h.stale older younger [] e (predicting next e) h.front.entries []
+      next-change (now + 1) now s store_waits h.stale older younger [] e (predicting next e) h.front.entries []
           (λ is. record { fetched = is.fetched; dispatched = is.dispatched; reason = is.reason })
-          (subst (λ es. Next (now + 1) now s h.stale es h.front.entries) split has.1),
+          (subst (λ es. Next (now + 1) now s store_waits h.stale es h.front.entries) split has.1),
     );
   }
 
@@ -109,13 +110,13 @@ module _ (now s : ℕ) where
   next_dispatched = record {
     dispatches = λ h f rest has first none. (
       has.0,
-      next-push (now + 1) now s h.stale h.rob.entries (entry_of_fetched h f) f rest
+      next-push (now + 1) now s store_waits h.stale h.rob.entries (entry_of_fetched h f) f rest
           (λ next. record {
             fetched = next.0;
             dispatched = λ plain. omega (arith, has.0, next.1 plain);
             reason = inr (inr (inr (known_at_dispatch h.cycle f.instruction (result_of_word (layout_of h.values) (seen_behind h h.rob.entries f.pc) h.lines f.word f.instruction) (kind_of_word f.instruction) (is_serialising f.instruction) has.0)));
           })
-          (subst (λ fs. Next (now + 1) now s h.stale h.rob.entries fs) first has.1),
+          (subst (λ fs. Next (now + 1) now s store_waits h.stale h.rob.entries fs) first has.1),
     );
   }
 

@@ -14,7 +14,7 @@ use Rattle.rv_hardware.specs.Step.{stamp_of}
 use Rattle.rv_hardware.specs.declared.step.Execution.{Execution}
 use Rattle.rv_hardware.specs.declared.step.Row.{Row}
 use Rattle.rv_hardware.specs.declared.step.Step.{Step}
-use Rattle.rv_hardware.proofs.LawsAhead.{law_of_heads, law_of_the_front, law_of_prompt_traps}
+use Rattle.rv_hardware.proofs.LawsAhead.{law_of_heads, law_of_the_front, law_of_prompt_traps, law_of_the_first}
 use Rattle.rv_hardware.specs.declared.step.Step.TheVariants.{Retired, Trap, Interrupt}
 use Rattle.rv_hardware.proofs.LawsCounted.{Shows, fails_later}
 use Rattle.rv_hardware.proofs.LawsCycle.{History, went_on, reachable_has_history, history_is_sound, history_is_legal}
@@ -62,6 +62,11 @@ AllPairs-last R (x ∷ xs) ys h = AllPairs-last R xs ys (λ i j d lt within. h (
 
 EachNext-last : {X : Type 0} (R : X → X → Type 0) (xs ys : List X) → EachNext R (xs ++ ys) → EachNext R ys
 EachNext-last R xs ys h before after x y at = h (xs ++ before) after x y (ap (λ l. xs ++ l) at ∙ sym (append_assoc xs before (x ∷ y ∷ after)))
+
+-- no step is of a cycle below 0
+none_below_zero : (steps : List Step) (n : ℕ) → n ≡ 0 → Every (λ s. stamp_of s < n) steps → steps ≡ []
+none_below_zero [] n none below = refl
+none_below_zero (s ∷ steps) n none below = absurd (omega (arith, none, below.0))
 
 count_by-last : {X : Type 0} (p : X → Bool) (xs ys : List X) (n : ℕ) → count_by p (xs ++ ys) ≤ n → count_by p ys ≤ n
 count_by-last p xs ys n le =
@@ -207,6 +212,7 @@ module _ (v : Values) (earlier steps : List Step) (old new : Hardware) (before_r
     heads_do_not_wait = EachNext-last (λ a b. DoesNotWait (stamp_of a) b) earlier steps (law_of_heads v history);
     traps_soon = EachNext-last (λ a b. IsTrappedSoon (stamp_of a) b) earlier steps (law_of_prompt_traps v history);
     fetched_ahead = EachNext-last (λ a b. IsFetchedAhead (stamp_of a) b) earlier steps (law_of_the_front v history);
+    first_row = λ new_core row rest at. law_of_the_first v history row rest (ap (λ l. l ++ steps) (none_below_zero earlier old.cycle new_core (history_has_steps v before_run).before) ∙ at);
     fetched_in_order = rows_pairs (λ a b. a.fetched ≤ b.fetched) (law_of_fetch_order v history);
     dispatched_in_order = rows_pairs (λ a b. a.dispatched ≤ b.dispatched) (law_of_dispatch_order v history);
     fetch_width = λ c. rows_count (is_fetched_in c) v.fetch_width (law_of_fetch_width v history c);

@@ -83,7 +83,7 @@ IsTrappedSoon c (Retired row) = Unit {0}
 IsTrappedSoon c (Trap pc cause value cycle) = needs_no_unit cause ≡ true → cycle ≤ c + 2
 IsTrappedSoon c (Interrupt pc cause cycle) = Unit {0}
 
--- in how many cycles from `from` on and below `to` an instruction was dispatched that is a row
+-- in how many cycles from `from` on and below `to` some of the rows were dispatched
 abbrev pub dispatch_cycles : ℕ → ℕ → List Row → ℕ
 dispatch_cycles from to rows = count_by (λ c. list_any (is_dispatched_in c) rows) (range_with_len from (to - from))
 
@@ -128,6 +128,8 @@ pub record Laws (values : Values) (from to : ℕ) (steps : List Step) : Type 0 w
   pub heads_do_not_wait : EachNext (λ a b. DoesNotWait (stamp_of a) b) steps
   pub traps_soon : EachNext (λ a b. IsTrappedSoon (stamp_of a) b) steps
   pub fetched_ahead : EachNext (λ a b. IsFetchedAhead (stamp_of a) b) steps
+  -- where nothing ran before, an instruction that comes first is fetched in cycle 0 and dispatched in cycle 1
+  pub first_row : from ≡ 0 → (row : Row) (rest : List Step) → steps ≡ Retired row ∷ rest → (row.fetched ≡ 0) × (row.dispatched ≡ 1)
   -- instructions are fetched and dispatched in order, at most a width in a cycle
   pub fetched_in_order : AllPairs (λ a b. a.fetched ≤ b.fetched) (rows_of steps)
   pub dispatched_in_order : AllPairs (λ a b. a.dispatched ≤ b.dispatched) (rows_of steps)
