@@ -2,7 +2,7 @@ ghost use Rattle.std.specs.Prelude.{◌≡◌, ◌≢◌, ◌<◌, ◌∷◌, �
 ghost use Rattle.std.specs.Prelude.{replicate, option_to_list, IfOk, IfErr, OnOk, is_some, true, false};
 ghost use Rattle.std.specs.List.{list_all};
 ghost use Rattle.std.specs.Int.{to_le_bytes, w32};
-ghost use Rattle.rv_asm.specs.Emitted.{Appends, EmitsOrRefuses};
+ghost use Rattle.rv_asm.specs.Emitted.{Appends, AppendsIfRoom, EmitsOrRefuses};
 ghost use Rattle.rv_asm.specs.Layout.{padding};
 ghost use Rattle.rv_asm.specs.Meaning.{Byte', Word', bytes_at, data_of, data_value, evaluate};
 ghost use Rattle.rv_asm.specs.Meaning.{fits_width, instructions};
@@ -27,8 +27,7 @@ use rv_isa::{Instr, Width};
 
 /// Appends the word of an instruction, its lowest byte first.
 fn push_word(out: &mut Vec<u8>, instruction: &Instr) -> Result<(), AsmFault>
-    ensures pushed { OnOk result (Appends (Word' instruction.now ∷ []) out.old.items out.new.items) }
-    ensures refused { IfErr result (λ fault. fault ≡ AsmFault.Memory) }
+    ensures { AppendsIfRoom (Word' instruction.now ∷ []) out.old.items out.new.items result }
 {
     let word = encode(instruction);
     let bytes = word.to_le_bytes();
@@ -38,8 +37,7 @@ fn push_word(out: &mut Vec<u8>, instruction: &Instr) -> Result<(), AsmFault>
 
 /// Appends the words of one instruction, or of two.
 fn push_words(out: &mut Vec<u8>, first: &Instr, second: Option<Instr>) -> Result<(), AsmFault>
-    ensures pushed { OnOk result (Appends (map Word' (first.now ∷ option_to_list second)) out.old.items out.new.items) }
-    ensures refused { IfErr result (λ fault. fault ≡ AsmFault.Memory) }
+    ensures { AppendsIfRoom (map Word' (first.now ∷ option_to_list second)) out.old.items out.new.items result }
 {
     push_word(out, first)?;
     match second {
@@ -80,8 +78,7 @@ fn emit_instruction<'a>(
 
 /// Appends zero bytes.
 pub fn push_zeros(out: &mut Vec<u8>, count: usize) -> Result<(), AsmFault>
-    ensures pushed { OnOk result (Appends (replicate count (Byte' 0)) out.old.items out.new.items) }
-    ensures refused { IfErr result (λ fault. fault ≡ AsmFault.Memory) }
+    ensures { AppendsIfRoom (replicate count (Byte' 0)) out.old.items out.new.items result }
 {
     let Some(size) = out.len().checked_add(count) else {
         return Err(AsmFault::Memory);
@@ -92,9 +89,8 @@ pub fn push_zeros(out: &mut Vec<u8>, count: usize) -> Result<(), AsmFault>
 
 /// Appends the bytes of a string, and a zero where it is terminated.
 fn push_characters(out: &mut Vec<u8>, raw: &[u8], terminated: bool) -> Result<(), AsmFault>
-    ensures pushed { OnOk result (Appends (map Byte' (unescaped raw.now)
-        ++ (if terminated then Byte' 0 ∷ [] else [])) out.old.items out.new.items) }
-    ensures refused { IfErr result (λ fault. fault ≡ AsmFault.Memory) }
+    ensures { AppendsIfRoom (map Byte' (unescaped raw.now)
+        ++ (if terminated then Byte' 0 ∷ [] else [])) out.old.items out.new.items result }
 {
     push_string(out, raw)?;
     if terminated {
@@ -106,8 +102,7 @@ fn push_characters(out: &mut Vec<u8>, raw: &[u8], terminated: bool) -> Result<()
 
 /// Appends the bytes of a string.
 fn push_string(out: &mut Vec<u8>, raw: &[u8]) -> Result<(), AsmFault>
-    ensures pushed { OnOk result (Appends (map Byte' (unescaped raw.now)) out.old.items out.new.items) }
-    ensures refused { IfErr result (λ fault. fault ≡ AsmFault.Memory) }
+    ensures { AppendsIfRoom (map Byte' (unescaped raw.now)) out.old.items out.new.items result }
 {
     push_text(out, raw)?;
     Ok(())
@@ -126,8 +121,7 @@ fn fits_width(width: Width, number: i128) -> bool
 
 /// Appends the bytes of a number modulo 2^32, the lowest first.
 fn push_number(out: &mut Vec<u8>, width: Width, number: i128) -> Result<(), AsmFault>
-    ensures pushed { OnOk result (Appends (bytes_at width number) out.old.items out.new.items) }
-    ensures refused { IfErr result (λ fault. fault ≡ AsmFault.Memory) }
+    ensures { AppendsIfRoom (bytes_at width number) out.old.items out.new.items result }
 {
     let word = modulo_word(number);
     push_low(out, width, word)?;
@@ -136,9 +130,7 @@ fn push_number(out: &mut Vec<u8>, width: Width, number: i128) -> Result<(), AsmF
 
 /// Appends the low bytes of a word, the lowest first.
 fn push_low(out: &mut Vec<u8>, width: Width, word: u32) -> Result<(), AsmFault>
-    ensures pushed { OnOk result
-        (Appends (map Byte' (take (bytes_of width) (to_le_bytes w32 word))) out.old.items out.new.items) }
-    ensures refused { IfErr result (λ fault. fault ≡ AsmFault.Memory) }
+    ensures { AppendsIfRoom (map Byte' (take (bytes_of width) (to_le_bytes w32 word))) out.old.items out.new.items result }
 {
     let bytes = word.to_le_bytes();
     let (low, _) = bytes.as_slice().split_at(width.bytes() as usize);
