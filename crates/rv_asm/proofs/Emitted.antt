@@ -1,5 +1,5 @@
 -- What is appended, one part after another.
-use Rattle.std.proofs.Common.{◌≡◌, ◌∙◌, ◌+◌, ◌-◌, ℕ, suc, zero, List, [], ◌∷◌, ◌++◌, map, take, length, Bool, true, false, cond, Option, Result, Ok, Err, sym, refl, ap, arith, append_assoc, drop, if◌then◌else◌, ◌==◌}
+use Rattle.std.proofs.Common.{◌≡◌, ◌∙◌, ◌+◌, ◌-◌, ℕ, suc, zero, List, [], ◌∷◌, ◌++◌, map, take, length, Bool, true, false, cond, Option, Result, Ok, Err, sym, refl, ap, arith, append_assoc, drop, if◌then◌else◌}
 use Rattle.std.specs.Prelude.{replicate, ℤ}
 use Rattle.std.proofs.lemmas.List.{append-nil, take_all, drop-drop}
 use Rattle.rv_asm.specs.ReadOperand.{operand_of}

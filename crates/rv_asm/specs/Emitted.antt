@@ -10,6 +10,10 @@ pub record Appends (parts : List Cell) (old new : List ℕ) : Type 0 where
   pub spells : Spells parts bytes
   pub appended : new ≡ old ++ bytes
 
+-- the bytes of these parts were appended, or memory was refused
+abbrev pub AppendsIfRoom : {T : Type 0} → List Cell → List ℕ → List ℕ → Result T AsmFault → Type 0
+AppendsIfRoom parts old new result = MatchResult result (λ _. Appends parts old new) (λ fault. fault ≡ Memory)
+
 -- the bytes of what this means were appended
 pub record Emits (meaning : Result (List Cell) AsmFault) (old new : List ℕ) : Type 0 where
   pub parts : List Cell

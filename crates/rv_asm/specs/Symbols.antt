@@ -1,22 +1,30 @@
 -- The symbols of the program, and its layout.
-use Rattle.std.specs.Prelude.{ℕ, ℤ, List, Option}
-use Rattle.std.specs.HashMap.{get_by}
-use Rattle.std.specs.Str.{bytes_eq}
+use Rattle.std.specs.Prelude.{ℕ, ℤ, List, Option, Result}
+use Rattle.std.specs.BTreeMap.{get_by}
+use Rattle.std.specs.Cmp.Lexicographic.{slice_cmp}
+use Rattle.std.specs.Ordering.{nat_cmp}
 use Rattle.rv_asm.specs.Layout.{Layout}
-use Rattle.rv_asm.specs.Meaning.{value_of}
+use Rattle.rv_asm.specs.Meaning.{Cell, cells_in, value_of}
+use Rattle.rv_asm.specs.Statement.{Statement}
+use Rattle.rv_asm.specs.declared.fault.AsmFault.{AsmFault}
 use Rattle.rv_asm.specs.declared.layout.Layout as read
+use Rattle.rv_asm.specs.declared.program.Program.{Program}
+use Rattle.rv_asm.specs.declared.reach.Reach.{Reach}
 use Rattle.rv_asm.specs.declared.symbols.Definition.{Definition}
 use Rattle.rv_asm.specs.declared.symbols.Symbols.{Symbols}
-use Rattle.rv_asm.specs.declared.values.SymbolValues.{SymbolValues}
 
 -- what the program holds of a name
 abbrev pub found : Symbols → List ℕ → Option Definition
-found symbols name = get_by (λ key. bytes_eq name key.now) symbols.defined
+found symbols name = get_by (λ key. slice_cmp nat_cmp name key.now) symbols.defined
 
 -- the value of a name
-abbrev pub value_in : SymbolValues → List ℕ → Option ℤ
-value_in values = value_of values.base values.text_size (found values.symbols.now)
+abbrev pub value_in : Program → List ℕ → Option ℤ
+value_in program = value_of program.base program.layout.now.reach.text_size (found program.layout.now.symbols)
 
 -- what the layout of the program stands for
 abbrev pub layout_of : read.Layout → Layout
 layout_of program = record { reach = program.reach; meanings = found program.symbols }
+
+-- what a statement means in the program, behind the lines that lead so far
+abbrev pub means : Program → Reach → Result Statement AsmFault → Result (List Cell) AsmFault
+means program reach read = cells_in program.base (layout_of program.layout.now) reach read

@@ -7,6 +7,7 @@ ghost use Rattle.rv_asm.specs.Meaning.{Cell, Spells, image_parts, round_up, star
 use crate::emit::push_zeros;
 use crate::fault::{AsmError, AsmFault};
 use crate::layout::Layout;
+use crate::program::Program;
 use crate::sections::{Sections, start_address};
 use rv_isa::{Bytes, Image};
 use std::alloc::Global;
@@ -52,10 +53,14 @@ pub fn assemble(alloc: Global, text: &[u8], base: u32) -> Result<Image, AsmError
     ensures refused { RefusedAt (fault_of base (lines_of text.now)) result }
     ensures memory { IfErr result (λ error. error.fault ≡ AsmFault.Memory → error.line ≡ 0) }
 {
-    let program = Layout::of_text(alloc, text)?;
-    let sections = Sections::of_text(alloc, &program, base, text)?;
-    let start = start_address(&program, base);
-    match joined(program.reach.text_size, program.reach.data_size, sections) {
+    let layout = Layout::of_text(alloc, text)?;
+    let program = Program {
+        layout: &layout,
+        base,
+    };
+    let sections = Sections::of_text(alloc, &program, text)?;
+    let start = start_address(&program);
+    match joined(layout.reach.text_size, layout.reach.data_size, sections) {
         Ok(bytes) => Ok(Image {
             base,
             bytes: Bytes::from_vec(bytes),

@@ -1,15 +1,15 @@
-ghost use Rattle.std.specs.Prelude.{◌≡◌, ◌≢◌, ◌<◌, ◌∷◌, ◌++◌, ◌^◌, [], Err, if◌then◌else◌, map, take};
+ghost use Rattle.std.specs.Prelude.{◌≡◌, ◌≢◌, ◌<◌, ◌∷◌, ◌++◌, ◌^◌, [], Ok, Err, if◌then◌else◌, map, take};
 ghost use Rattle.std.specs.Prelude.{replicate, option_to_list, IfOk, IfErr, OnOk, is_some, true, false};
 ghost use Rattle.std.specs.List.{list_all};
 ghost use Rattle.std.specs.Int.{to_le_bytes, w32};
-ghost use Rattle.rv_asm.specs.Emitted.{Appends, EmitsOrRefuses};
+ghost use Rattle.rv_asm.specs.Emitted.{Appends, AppendsIfRoom, EmitsOrRefuses};
 ghost use Rattle.rv_asm.specs.Layout.{padding};
-ghost use Rattle.rv_asm.specs.Meaning.{Byte', Word', bytes_at, cells, data_of, data_value, evaluate};
+ghost use Rattle.rv_asm.specs.Meaning.{Byte', Word', bytes_at, data_of, data_value, evaluate};
 ghost use Rattle.rv_asm.specs.Meaning.{fits_width, instructions};
 ghost use Rattle.rv_asm.specs.ReadOperand.{expression_of, operand_of, operands_in};
 ghost use Rattle.rv_asm.specs.ReadStatement.{statement_of};
 ghost use Rattle.rv_asm.specs.Statement.{Instruction, expression_in};
-ghost use Rattle.rv_asm.specs.Symbols.{value_in};
+ghost use Rattle.rv_asm.specs.Symbols.{means, value_in};
 ghost use Rattle.rv_asm.specs.Token.{unescaped};
 ghost use Rattle.rv_isa.specs.Operation.{bytes_of};
 
@@ -18,17 +18,16 @@ use crate::filling::expression_in;
 use crate::instructions::instructions;
 use crate::operand::{Expression, Operand};
 use crate::operation::{Fields, Operation};
-use crate::reach::{modulo_word, padding};
+use crate::program::Program;
+use crate::reach::{Reach, modulo_word, padding};
 use crate::statement::Statement;
 use crate::token::push_text;
-use crate::values::SymbolValues;
 use rv_decode::encode;
 use rv_isa::{Instr, Width};
 
 /// Appends the word of an instruction, its lowest byte first.
 fn push_word(out: &mut Vec<u8>, instruction: &Instr) -> Result<(), AsmFault>
-    ensures pushed { OnOk result (Appends (Word' instruction.now ∷ []) out.old.items out.new.items) }
-    ensures refused { IfErr result (λ fault. fault ≡ AsmFault.Memory) }
+    ensures { AppendsIfRoom (Word' instruction.now ∷ []) out.old.items out.new.items result }
 {
     let word = encode(instruction);
     let bytes = word.to_le_bytes();
@@ -38,8 +37,7 @@ fn push_word(out: &mut Vec<u8>, instruction: &Instr) -> Result<(), AsmFault>
 
 /// Appends the words of one instruction, or of two.
 fn push_words(out: &mut Vec<u8>, first: &Instr, second: Option<Instr>) -> Result<(), AsmFault>
-    ensures pushed { OnOk result (Appends (map Word' (first.now ∷ option_to_list second)) out.old.items out.new.items) }
-    ensures refused { IfErr result (λ fault. fault ≡ AsmFault.Memory) }
+    ensures { AppendsIfRoom (map Word' (first.now ∷ option_to_list second)) out.old.items out.new.items result }
 {
     push_word(out, first)?;
     match second {
@@ -53,20 +51,18 @@ fn push_words(out: &mut Vec<u8>, first: &Instr, second: Option<Instr>) -> Result
 
 /// Appends an instruction with its expression's value in it.
 fn emit_instruction<'a>(
-    values: &SymbolValues<'_, 'a>,
-    start: u128,
-    offset: usize,
+    program: &Program<'_, 'a>,
+    reach: Reach,
     operation: Operation,
     fields: Fields,
     value: &Expression<'a>,
     out: &mut Vec<u8>,
 ) -> Result<(), AsmFault>
-    requires { start < 2 ^ 66 }
-    ensures { EmitsOrRefuses (cells (value_in values.now) start offset
-        (Instruction operation fields (expression_of value.now))) out.old.items out.new.items result }
+    ensures { EmitsOrRefuses (means program.now reach
+        (Ok (Instruction operation fields (expression_of value.now)))) out.old.items out.new.items result }
 {
-    let address = start + offset as u128;
-    let Some(number) = values.evaluate(value) else {
+    let address = program.start_of(reach.section) + reach.offset() as u128;
+    let Some(number) = program.evaluate(value) else {
         return Err(AsmFault::UnknownSymbol);
     };
     match instructions(operation, fields, address, number) {
@@ -82,8 +78,7 @@ fn emit_instruction<'a>(
 
 /// Appends zero bytes.
 pub fn push_zeros(out: &mut Vec<u8>, count: usize) -> Result<(), AsmFault>
-    ensures pushed { OnOk result (Appends (replicate count (Byte' 0)) out.old.items out.new.items) }
-    ensures refused { IfErr result (λ fault. fault ≡ AsmFault.Memory) }
+    ensures { AppendsIfRoom (replicate count (Byte' 0)) out.old.items out.new.items result }
 {
     let Some(size) = out.len().checked_add(count) else {
         return Err(AsmFault::Memory);
@@ -94,9 +89,8 @@ pub fn push_zeros(out: &mut Vec<u8>, count: usize) -> Result<(), AsmFault>
 
 /// Appends the bytes of a string, and a zero where it is terminated.
 fn push_characters(out: &mut Vec<u8>, raw: &[u8], terminated: bool) -> Result<(), AsmFault>
-    ensures pushed { OnOk result (Appends (map Byte' (unescaped raw.now)
-        ++ (if terminated then Byte' 0 ∷ [] else [])) out.old.items out.new.items) }
-    ensures refused { IfErr result (λ fault. fault ≡ AsmFault.Memory) }
+    ensures { AppendsIfRoom (map Byte' (unescaped raw.now)
+        ++ (if terminated then Byte' 0 ∷ [] else [])) out.old.items out.new.items result }
 {
     push_string(out, raw)?;
     if terminated {
@@ -108,8 +102,7 @@ fn push_characters(out: &mut Vec<u8>, raw: &[u8], terminated: bool) -> Result<()
 
 /// Appends the bytes of a string.
 fn push_string(out: &mut Vec<u8>, raw: &[u8]) -> Result<(), AsmFault>
-    ensures pushed { OnOk result (Appends (map Byte' (unescaped raw.now)) out.old.items out.new.items) }
-    ensures refused { IfErr result (λ fault. fault ≡ AsmFault.Memory) }
+    ensures { AppendsIfRoom (map Byte' (unescaped raw.now)) out.old.items out.new.items result }
 {
     push_text(out, raw)?;
     Ok(())
@@ -128,8 +121,7 @@ fn fits_width(width: Width, number: i128) -> bool
 
 /// Appends the bytes of a number modulo 2^32, the lowest first.
 fn push_number(out: &mut Vec<u8>, width: Width, number: i128) -> Result<(), AsmFault>
-    ensures pushed { OnOk result (Appends (bytes_at width number) out.old.items out.new.items) }
-    ensures refused { IfErr result (λ fault. fault ≡ AsmFault.Memory) }
+    ensures { AppendsIfRoom (bytes_at width number) out.old.items out.new.items result }
 {
     let word = modulo_word(number);
     push_low(out, width, word)?;
@@ -138,9 +130,7 @@ fn push_number(out: &mut Vec<u8>, width: Width, number: i128) -> Result<(), AsmF
 
 /// Appends the low bytes of a word, the lowest first.
 fn push_low(out: &mut Vec<u8>, width: Width, word: u32) -> Result<(), AsmFault>
-    ensures pushed { OnOk result
-        (Appends (map Byte' (take (bytes_of width) (to_le_bytes w32 word))) out.old.items out.new.items) }
-    ensures refused { IfErr result (λ fault. fault ≡ AsmFault.Memory) }
+    ensures { AppendsIfRoom (map Byte' (take (bytes_of width) (to_le_bytes w32 word))) out.old.items out.new.items result }
 {
     let bytes = word.to_le_bytes();
     let (low, _) = bytes.as_slice().split_at(width.bytes() as usize);
@@ -149,14 +139,14 @@ fn push_low(out: &mut Vec<u8>, width: Width, word: u32) -> Result<(), AsmFault>
 }
 
 /// Whether each operand has a value.
-fn are_known<'a>(values: &SymbolValues<'_, 'a>, operands: &[Operand<'a>]) -> bool
+fn are_known<'a>(program: &Program<'_, 'a>, operands: &[Operand<'a>]) -> bool
     ensures { result ≡ list_all (λ operand.
-        is_some (evaluate (value_in values.now) (expression_in operand)))
+        is_some (evaluate (value_in program.now) (expression_in operand)))
         (operands_in operands.now) }
 {
     for operand in operands {
         let expression = expression_in(*operand);
-        if values.evaluate(&expression).is_none() {
+        if program.evaluate(&expression).is_none() {
             return false;
         }
     }
@@ -165,22 +155,22 @@ fn are_known<'a>(values: &SymbolValues<'_, 'a>, operands: &[Operand<'a>]) -> boo
 
 /// Appends the value of an operand.
 fn emit_value<'a>(
-    values: &SymbolValues<'_, 'a>,
+    program: &Program<'_, 'a>,
     width: Width,
     operand: &Operand<'a>,
     out: &mut Vec<u8>,
 ) -> Result<(), AsmFault>
     ensures fits { IfOk result (λ _.
-        fits_width width (data_value (value_in values.now) (operand_of operand.now)) ≡ true) }
+        fits_width width (data_value (value_in program.now) (operand_of operand.now)) ≡ true) }
     ensures pushed { OnOk result (Appends
-        (bytes_at width (data_value (value_in values.now) (operand_of operand.now)))
+        (bytes_at width (data_value (value_in program.now) (operand_of operand.now)))
         out.old.items out.new.items) }
     ensures misfits { IfErr result (λ fault. fault ≢ AsmFault.Memory →
-        fits_width width (data_value (value_in values.now) (operand_of operand.now)) ≡ false) }
+        fits_width width (data_value (value_in program.now) (operand_of operand.now)) ≡ false) }
     ensures refused { IfErr result (λ fault. fault ≢ AsmFault.Memory → fault ≡ AsmFault.OutOfRange) }
 {
     let expression = expression_in(*operand);
-    let number = match values.evaluate(&expression) {
+    let number = match program.evaluate(&expression) {
         Some(number) => number,
         None => 0,
     };
@@ -193,12 +183,12 @@ fn emit_value<'a>(
 
 /// Appends the values of operands.
 fn emit_values<'a>(
-    values: &SymbolValues<'_, 'a>,
+    program: &Program<'_, 'a>,
     width: Width,
     operands: &[Operand<'a>],
     out: &mut Vec<u8>,
 ) -> Result<(), AsmFault>
-    ensures { EmitsOrRefuses (data_of (value_in values.now) width
+    ensures { EmitsOrRefuses (data_of (value_in program.now) width
         (operands_in operands.now)) out.old.items out.new.items result }
 {
     let mut count = 0;
@@ -207,7 +197,7 @@ fn emit_values<'a>(
         let Some((operand, _others)) = rest.split_first() else {
             return Ok(());
         };
-        if let Err(fault) = emit_value(values, width, operand, out) {
+        if let Err(fault) = emit_value(program, width, operand, out) {
             return Err(fault);
         }
         count += 1;
@@ -227,30 +217,28 @@ fn alignment(multiple: usize, offset: usize) -> usize
 
 /// Appends what a statement means.
 pub fn emit<'a>(
-    values: &SymbolValues<'_, 'a>,
-    start: u128,
-    offset: usize,
+    program: &Program<'_, 'a>,
+    reach: Reach,
     statement: &Statement<'a>,
     operands: &[Operand<'a>],
     out: &mut Vec<u8>,
 ) -> Result<(), AsmFault>
-    requires { start < 2 ^ 66 }
-    ensures { EmitsOrRefuses (cells (value_in values.now) start offset
-        (statement_of (operands_in operands.now) statement.now)) out.old.items out.new.items result }
+    ensures { EmitsOrRefuses (means program.now reach
+        (Ok (statement_of (operands_in operands.now) statement.now))) out.old.items out.new.items result }
 {
     match statement {
         Statement::Instruction(operation, fields, value) => emit_instruction(
-            values, start, offset, *operation, *fields, value, out,
+            program, reach, *operation, *fields, value, out,
         ),
         Statement::Values(width) => {
-            if are_known(values, operands) {
-                emit_values(values, *width, operands, out)
+            if are_known(program, operands) {
+                emit_values(program, *width, operands, out)
             } else {
                 Err(AsmFault::UnknownSymbol)
             }
         }
         Statement::Zeros(count) => push_zeros(out, *count),
-        Statement::Align(multiple) => push_zeros(out, alignment(*multiple, offset)),
+        Statement::Align(multiple) => push_zeros(out, alignment(*multiple, reach.offset())),
         Statement::Characters(raw, terminated) => push_characters(out, raw, *terminated),
         Statement::Nothing => Ok(()),
         Statement::Choice(_) => Ok(()),

@@ -1,6 +1,6 @@
 ghost use Rattle.std.specs.Prelude.{◌≡◌, ◌≢◌};
 
-use std::alloc::AllocError;
+use std::alloc::{AllocError, AllocFailed};
 use thiserror::Error;
 
 /// What is wrong with a text, in the order of the two passes.
@@ -44,6 +44,16 @@ impl From<AllocError> for AsmFault {
     ghost from_gives = { λ _ fault. fault ≡ AsmFault.Memory };
 
     fn from(_: AllocError) -> Self {
+        AsmFault::Memory
+    }
+}
+
+impl<T: Drop> From<AllocFailed<T>> for AsmFault {
+    ghost use Rattle.rv_asm.specs.declared.fault.AsmFault.{AsmFault};
+
+    ghost from_gives = { λ _ fault. fault ≡ AsmFault.Memory };
+
+    fn from(_: AllocFailed<T>) -> Self {
         AsmFault::Memory
     }
 }

@@ -1,7 +1,7 @@
 ghost use Rattle.std.specs.Prelude.{◌≡◌, ◌≤◌, ◌<◌, ◌∷◌, ◌==◌, [], None, Some, IfOk, IfSome, MatchOption};
-ghost use Rattle.std.specs.Prelude.{drop, length, ok_or, IfErr};
+ghost use Rattle.std.specs.Prelude.{drop, length, IfErr};
 ghost use Rattle.std.specs.List.{position_or_len};
-ghost use Rattle.rv_asm.specs.Answer.{RefusedBy, RefusedAt, Follows};
+ghost use Rattle.rv_asm.specs.Answer.{RefusedBy, RefusedAt};
 ghost use Rattle.rv_asm.specs.Faults.{first_fault_of};
 ghost use Rattle.rv_asm.specs.FirstPass.{body_fault, first_fault, operand_fault};
 ghost use Rattle.rv_asm.specs.Layout.{behind, extended, layout, lines_of, statement_in, line_in, line_bytes};
@@ -9,7 +9,6 @@ ghost use Rattle.rv_asm.specs.ReadOperand.{operands_in};
 ghost use Rattle.rv_asm.specs.ReadToken.{tokens_in};
 ghost use Rattle.rv_asm.specs.Statement.{statement};
 ghost use Rattle.rv_asm.specs.Symbols.{found};
-ghost use Rattle.rv_asm.specs.Token.{tokens_of};
 
 use crate::fault::{AsmError, AsmFault};
 use crate::operand::Operand;
@@ -17,7 +16,7 @@ use crate::operation::Form;
 use crate::reach::{Reach, advance};
 use crate::statement::{Statement, make_statement, needed, read};
 use crate::symbols::{Definition, Symbols};
-use crate::token::{Token, TokenError, tokenize};
+use crate::token::{Token, tokenize};
 use std::alloc::Global;
 
 /// What the first pass learns of a text.
@@ -25,17 +24,6 @@ use std::alloc::Global;
 pub struct Layout<'a> {
     pub symbols: Symbols<'a>,
     pub reach: Reach,
-}
-
-/// The tokens of a line.
-pub fn read_tokens<'a>(alloc: Global, line: &'a [u8]) -> Result<Vec<Token<'a>>, AsmFault>
-    ensures { Follows (λ v. tokens_in v.items) result (ok_or (tokens_of line.entry.now) AsmFault.BadToken) }
-{
-    match tokenize(alloc, line) {
-        Ok(tokens) => Ok(tokens),
-        Err(TokenError::BadToken) => Err(AsmFault::BadToken),
-        Err(TokenError::Memory) => Err(AsmFault::Memory),
-    }
 }
 
 /// How many bytes stand before the first line feed.
@@ -144,7 +132,7 @@ impl<'a> Layout<'a> {
             found self.new.symbols ≡ (extended (layout_of self.old) (line_in line.entry.now)).meanings) }
         ensures refused { RefusedBy (first_fault (layout_of self.old) (line_in line.entry.now)) result }
     {
-        let tokens = read_tokens(alloc, line)?;
+        let tokens = tokenize(alloc, line)?;
         let here = Definition::Label(self.reach.section, self.reach.offset());
         let count = self.symbols.define_labels(tokens.as_slice(), here)?;
         let (_, body) = tokens.as_slice().split_at(count);

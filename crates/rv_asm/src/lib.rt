@@ -11,13 +11,13 @@ mod mnemonic;
 mod names;
 mod operand;
 mod operation;
+mod program;
 mod reach;
 mod sections;
 mod shapes;
 mod statement;
 mod symbols;
 mod token;
-mod values;
 
 pub use assembler::assemble;
 pub use fault::{AsmError, AsmFault};

@@ -147,17 +147,6 @@ impl Token<'_> {
     }
 }
 
-/// One more operand.
-fn push_operand<'a>(operands: &mut Vec<Operand<'a>>, operand: Operand<'a>) -> Result<(), AsmFault>
-    ensures pushed { OnOk result (operands.new.items ≡ operands.old.items ++ operand.entry ∷ []) }
-    ensures refused { IfErr result (λ fault. fault ≡ AsmFault.Memory) }
-{
-    match operands.push(operand) {
-        Ok(()) => Ok(()),
-        Err(_) => Err(AsmFault::Memory),
-    }
-}
-
 /// The operands of a statement, separated by commas.
 pub fn read_operands<'a>(alloc: Global, tokens: &[Token<'a>]) -> Result<Vec<Operand<'a>>, AsmFault>
     ensures { Follows (λ v. operands_in v.items) result
@@ -175,7 +164,7 @@ pub fn read_operands<'a>(alloc: Global, tokens: &[Token<'a>]) -> Result<Vec<Oper
         let Some(operand) = read_operand(piece) else {
             return Err(AsmFault::BadOperands);
         };
-        push_operand(&mut operands, operand)?;
+        operands.push(operand)?;
         if count == rest.len() {
             return Ok(operands);
         }

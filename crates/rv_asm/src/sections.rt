@@ -7,24 +7,23 @@ ghost use Rattle.rv_asm.specs.Faults.{constant_starts, is_start, second_fault, f
 ghost use Rattle.rv_asm.specs.Faults.{second_fault_of, start_misalignment};
 ghost use Rattle.rv_asm.specs.Layout.{behind, body_of, is_too_large, labels_of, layout, lines_of};
 ghost use Rattle.rv_asm.specs.Layout.{statement_in, line_in};
-ghost use Rattle.rv_asm.specs.Meaning.{Cell, Spells, cells_in, contents_in, line_cells, start_address, section_parts};
-ghost use Rattle.rv_asm.specs.Symbols.{layout_of};
+ghost use Rattle.rv_asm.specs.Meaning.{Cell, Spells, contents_in, line_cells, start_address, section_parts};
 ghost use Rattle.rv_asm.specs.ReadOperand.{operands_in};
 ghost use Rattle.rv_asm.specs.ReadToken.{tokens_in};
 ghost use Rattle.rv_asm.specs.Layout.{reach_behind};
 ghost use Rattle.rv_asm.specs.Statement.{statement};
-ghost use Rattle.rv_asm.specs.Symbols.{found};
+ghost use Rattle.rv_asm.specs.Symbols.{found, layout_of, means};
 
 use crate::emit::emit;
 use crate::fault::{AsmError, AsmFault};
-use crate::layout::{Layout, line_at, read_tokens};
+use crate::layout::line_at;
 use crate::operand::Operand;
 use crate::operation::{Form, Section};
+use crate::program::Program;
 use crate::reach::{Reach, advance, modulo_word};
 use crate::statement::{Statement, make_statement, read};
 use crate::symbols::next_label;
-use crate::token::Token;
-use crate::values::SymbolValues;
+use crate::token::{Token, tokenize};
 use std::alloc::Global;
 
 /// The name of the symbol where execution starts.
@@ -56,17 +55,12 @@ fn front_labels(tokens: &[Token<'_>]) -> (usize, bool)
 }
 
 /// Where execution starts.
-pub fn start_address(layout: &Layout<'_>, base: u32) -> u32
-    ensures { result ≡ start_address base (layout_of layout.now) }
+pub fn start_address(program: &Program<'_, '_>) -> u32
+    ensures { result ≡ start_address program.now.base (layout_of program.now.layout.now) }
 {
-    let values = SymbolValues {
-        symbols: &layout.symbols,
-        base,
-        text_size: layout.reach.text_size,
-    };
-    match values.value_of(START) {
+    match program.value_of(START) {
         Some(value) => modulo_word(value),
-        None => base,
+        None => program.base,
     }
 }
 
@@ -81,33 +75,26 @@ struct Left {
 
 /// Appends what a form with its operands means.
 fn emit_form<'a>(
-    layout: &Layout<'a>,
-    base: u32,
+    program: &Program<'_, 'a>,
     reach: Reach,
     form: Form,
     operands: &[Operand<'a>],
     out: &mut Vec<u8>,
 ) -> Result<Left, AsmFault>
-    requires { is_too_large (behind (found layout.now.symbols) reach
+    requires { is_too_large (behind (found program.now.layout.now.symbols) reach
         (statement form (operands_in operands.now))).reach ≡ false }
-    ensures emitted { EmitsOrRefuses (cells_in base (layout_of layout.now) reach
+    ensures emitted { EmitsOrRefuses (means program.now reach
         (statement form (operands_in operands.now))) out.old.items out.new.items result }
     ensures reach { IfOk result (λ left.
-        left.reach ≡ (behind (found layout.now.symbols) reach (statement form (operands_in operands.now))).reach) }
+        left.reach ≡ (behind (found program.now.layout.now.symbols) reach (statement form (operands_in operands.now))).reach) }
     ensures starts { IfOk result (λ left. left.starts ≡ constant_starts (statement form (operands_in operands.now))) }
 {
     let statement = match make_statement(form, operands) {
         Ok(statement) => statement,
         Err(fault) => return Err(fault),
     };
-    let values = SymbolValues {
-        symbols: &layout.symbols,
-        base,
-        text_size: layout.reach.text_size,
-    };
-    let start = values.start_of(reach.section);
-    let next = advance(&layout.symbols, &statement, operands, reach)?;
-    emit(&values, start, reach.offset(), &statement, operands, out)?;
+    let next = advance(&program.layout.symbols, &statement, operands, reach)?;
+    emit(program, reach, &statement, operands, out)?;
     let starts = match statement {
         Statement::Constant(name, _) => is_start(name),
         _ => false,
@@ -121,24 +108,22 @@ fn emit_form<'a>(
 /// Appends what stands behind the labels of a line.
 fn emit_body<'a>(
     alloc: Global,
-    layout: &Layout<'a>,
-    base: u32,
+    program: &Program<'_, 'a>,
     reach: Reach,
     body: &[Token<'a>],
     out: &mut Vec<u8>,
 ) -> Result<Left, AsmFault>
-    requires { is_too_large (behind (found layout.now.symbols) reach
+    requires { is_too_large (behind (found program.now.layout.now.symbols) reach
         (statement_in (tokens_in body.now))).reach ≡ false }
-    ensures emitted { EmitsOrRefuses (cells_in base (layout_of layout.now) reach
+    ensures emitted { EmitsOrRefuses (means program.now reach
         (statement_in (tokens_in body.now))) out.old.items out.new.items result }
     ensures reach { IfOk result (λ left.
-        left.reach ≡ (behind (found layout.now.symbols) reach (statement_in (tokens_in body.now))).reach) }
+        left.reach ≡ (behind (found program.now.layout.now.symbols) reach (statement_in (tokens_in body.now))).reach) }
     ensures starts { IfOk result (λ left. left.starts ≡ constant_starts (statement_in (tokens_in body.now))) }
 {
     let reading = read(alloc, body)?;
     emit_form(
-        layout,
-        base,
+        program,
         reach,
         reading.form,
         reading.operands.as_slice(),
@@ -148,15 +133,14 @@ fn emit_body<'a>(
 
 /// What is wrong with the start, where a line's labels or its `.equ` define it.
 fn start_fault(
-    layout: &Layout<'_>,
-    base: u32,
+    program: &Program<'_, '_>,
     label_starts: bool,
     constant_starts: bool,
 ) -> Option<AsmFault>
     ensures { result ≡ (if label_starts || constant_starts
-        then start_misalignment base (layout_of layout.now) else None) }
+        then start_misalignment program.now.base (layout_of program.now.layout.now) else None) }
 {
-    if (label_starts || constant_starts) && start_address(layout, base) % 4 != 0 {
+    if (label_starts || constant_starts) && start_address(program) % 4 != 0 {
         Some(AsmFault::Misaligned)
     } else {
         None
@@ -166,26 +150,25 @@ fn start_fault(
 /// Appends what a line means. The answer is how far the text has come behind it.
 fn emit_line<'a>(
     alloc: Global,
-    layout: &Layout<'a>,
-    base: u32,
+    program: &Program<'_, 'a>,
     reach: Reach,
     line: &'a [u8],
     out: &mut Vec<u8>,
 ) -> Result<Reach, AsmFault>
-    requires { is_too_large (reach_behind (found layout.now.symbols) reach (line_in line.now)) ≡ false }
-    ensures emitted { IfOk result (λ _. Emits (line_cells base (layout_of layout.now) reach
+    requires { is_too_large (reach_behind (found program.now.layout.now.symbols) reach (line_in line.now)) ≡ false }
+    ensures emitted { IfOk result (λ _. Emits (line_cells program.now.base (layout_of program.now.layout.now) reach
         (line_in line.entry.now)) out.old.items out.new.items) }
     ensures reach { IfOk result (λ next.
-        next ≡ reach_behind (found layout.now.symbols) reach (line_in line.entry.now)) }
-    ensures clean { IfOk result (λ _. second_fault base (layout_of layout.now) reach (line_in line.entry.now) ≡ None) }
-    ensures refused { RefusedBy (second_fault base (layout_of layout.now) reach (line_in line.entry.now)) result }
+        next ≡ reach_behind (found program.now.layout.now.symbols) reach (line_in line.entry.now)) }
+    ensures clean { IfOk result (λ _. second_fault program.now.base (layout_of program.now.layout.now) reach (line_in line.entry.now) ≡ None) }
+    ensures refused { RefusedBy (second_fault program.now.base (layout_of program.now.layout.now) reach (line_in line.entry.now)) result }
 {
-    let tokens = read_tokens(alloc, line)?;
+    let tokens = tokenize(alloc, line)?;
     let slice = tokens.as_slice();
     let (count, label_starts) = front_labels(slice);
     let (_, body) = slice.split_at(count);
-    let left = emit_body(alloc, layout, base, reach, body, out)?;
-    match start_fault(layout, base, label_starts, left.starts) {
+    let left = emit_body(alloc, program, reach, body, out)?;
+    match start_fault(program, label_starts, left.starts) {
         None => Ok(left.reach),
         Some(fault) => Err(fault),
     }
@@ -215,47 +198,45 @@ impl Sections {
     fn add<'a>(
         &mut self,
         alloc: Global,
-        program: &Layout<'a>,
-        base: u32,
+        program: &Program<'_, 'a>,
         reach: Reach,
         line: &'a [u8],
     ) -> Result<Reach, AsmFault>
-        requires { is_too_large (reach_behind (found program.now.symbols) reach (line_in line.now)) ≡ false }
+        requires { is_too_large (reach_behind (found program.now.layout.now.symbols) reach (line_in line.now)) ≡ false }
         ensures text { (parts : List Cell) → Spells parts self.old.text.items
             → IfOk result (λ _. Spells (contents_in Section.Text reach.section parts
-            (line_cells base (layout_of program.now) reach (line_in line.entry.now)))
+            (line_cells program.now.base (layout_of program.now.layout.now) reach (line_in line.entry.now)))
             self.new.text.items) }
         ensures data_bytes { (parts : List Cell) → Spells parts self.old.data_bytes.items
             → IfOk result (λ _. Spells (contents_in Section.Data reach.section parts
-            (line_cells base (layout_of program.now) reach (line_in line.entry.now)))
+            (line_cells program.now.base (layout_of program.now.layout.now) reach (line_in line.entry.now)))
             self.new.data_bytes.items) }
         ensures reach { IfOk result (λ next.
-            next ≡ reach_behind (found program.now.symbols) reach (line_in line.entry.now)) }
+            next ≡ reach_behind (found program.now.layout.now.symbols) reach (line_in line.entry.now)) }
         ensures clean { IfOk result (λ _.
-            second_fault base (layout_of program.now) reach (line_in line.entry.now) ≡ None) }
-        ensures refused { RefusedBy (second_fault base (layout_of program.now) reach (line_in line.entry.now)) result }
+            second_fault program.now.base (layout_of program.now.layout.now) reach (line_in line.entry.now) ≡ None) }
+        ensures refused { RefusedBy (second_fault program.now.base (layout_of program.now.layout.now) reach (line_in line.entry.now)) result }
     {
         match reach.section {
-            Section::Text => emit_line(alloc, program, base, reach, line, &mut self.text),
-            Section::Data => emit_line(alloc, program, base, reach, line, &mut self.data_bytes),
+            Section::Text => emit_line(alloc, program, reach, line, &mut self.text),
+            Section::Data => emit_line(alloc, program, reach, line, &mut self.data_bytes),
         }
     }
 
     /// The sections of a text whose layout is known, or its first fault in the second pass.
     pub fn of_text<'a>(
         alloc: Global,
-        program: &Layout<'a>,
-        base: u32,
+        program: &Program<'_, 'a>,
         text: &'a [u8],
     ) -> Result<Sections, AsmError>
         requires clean { first_fault_of (lines_of text.now) ≡ None }
-        requires whole { layout_of program.now ≡ layout (lines_of text.now) }
-        ensures clean { IfOk result (λ _. second_fault_of base (lines_of text.entry.now) ≡ None) }
+        requires whole { layout_of program.now.layout.now ≡ layout (lines_of text.now) }
+        ensures clean { IfOk result (λ _. second_fault_of program.now.base (lines_of text.entry.now) ≡ None) }
         ensures text { IfOk result (λ sections.
-            Spells (section_parts base Section.Text (lines_of text.entry.now)) sections.text.items) }
+            Spells (section_parts program.now.base Section.Text (lines_of text.entry.now)) sections.text.items) }
         ensures data_bytes { IfOk result (λ sections.
-            Spells (section_parts base Section.Data (lines_of text.entry.now)) sections.data_bytes.items) }
-        ensures refused { RefusedAt (second_fault_of base (lines_of text.entry.now)) result }
+            Spells (section_parts program.now.base Section.Data (lines_of text.entry.now)) sections.data_bytes.items) }
+        ensures refused { RefusedAt (second_fault_of program.now.base (lines_of text.entry.now)) result }
         ensures memory { IfErr result (λ error. error.fault ≡ AsmFault.Memory → error.line ≡ 0) }
     {
         let mut sections = Sections::new(alloc);
@@ -265,7 +246,7 @@ impl Sections {
         'lines: loop {
             let (line, next) = line_at(text, start);
             number += 1;
-            let behind = match sections.add(alloc, program, base, reach, line) {
+            let behind = match sections.add(alloc, program, reach, line) {
                 Ok(behind) => behind,
                 Err(fault) => return Err(AsmError::at(fault, number)),
             };

@@ -9,7 +9,7 @@ use crate::fault::AsmFault;
 use crate::operation::Section;
 use crate::token::Token;
 use std::alloc::{AllocError, Global};
-use std::collections::HashMap;
+use std::collections::BTreeMap;
 
 /// What a symbol stands for.
 #[derive(Clone, Copy)]
@@ -23,7 +23,7 @@ pub enum Definition {
 /// The symbols of a text.
 #[derive(Drop)]
 pub struct Symbols<'a> {
-    defined: HashMap<&'a [u8], Definition>,
+    defined: BTreeMap<&'a [u8], Definition>,
 }
 
 impl<'a> Symbols<'a> {
@@ -32,7 +32,7 @@ impl<'a> Symbols<'a> {
         ensures { found result ≡ (λ _. None) }
     {
         Symbols {
-            defined: HashMap::new(alloc),
+            defined: BTreeMap::new(alloc),
         }
     }
 

@@ -1,11 +1,13 @@
-ghost use Rattle.std.specs.Prelude.{◌≡◌, ◌<◌, ◌≤◌, ◌∷◌, ◌++◌, length, drop, OnOk, IfOk, IfSome};
+ghost use Rattle.std.specs.Prelude.{◌≡◌, ◌<◌, ◌≤◌, ◌∷◌, ◌++◌, length, drop, ok_or, OnOk, IfSome};
 ghost use Rattle.std.specs.List.{prefix_len};
 ghost use Rattle.std.specs.Option.{option_map};
+ghost use Rattle.rv_asm.specs.Answer.{Follows};
 ghost use Rattle.rv_asm.specs.ReadToken.{token_of, lexeme_of, tokens_in};
 ghost use Rattle.rv_asm.specs.Token.{escape_of, quoted_length, unescaped, first_lexeme, tokens_of};
 ghost use Rattle.rv_asm.specs.Token.{is_separator, begins_name, is_name_byte, mark_of, number_in, number_of};
 
-use std::alloc::{AllocError, AllocFailed, Global};
+use crate::fault::AsmFault;
+use std::alloc::{AllocError, Global};
 
 /// A token of a line, borrowed from the text.
 #[derive(Clone, Copy)]
@@ -22,25 +24,6 @@ pub enum Token<'a> {
     Minus,
     /// The bytes between the quotes of a string as they stand in the text, escapes and all.
     Text(&'a [u8]),
-}
-
-/// Why a line has no tokens.
-#[derive(Clone, Copy, Debug)]
-pub enum TokenError {
-    /// Something on the line is no token.
-    BadToken,
-    /// Memory was refused.
-    Memory,
-}
-
-impl<T: Drop> From<AllocFailed<T>> for TokenError {
-    ghost use Rattle.rv_asm.specs.declared.token.TokenError.TheVariants.{Memory};
-
-    ghost from_gives = { λ _ e. e ≡ Memory };
-
-    fn from(_error: AllocFailed<T>) -> TokenError {
-        TokenError::Memory
-    }
 }
 
 /// What a line begins with: a token, or a separator or a comment, which give none.
@@ -205,15 +188,14 @@ fn first_lexeme(line: &[u8]) -> Option<Lexeme<'_>>
 /// Fails by `BadToken` where something on the line is no token: a byte that begins none, a number
 /// past 4294967295 or with a letter, digit, `_`, `.` or `$` right behind it, a string that is not
 /// closed on the line, or an escape that is not known; and by `Memory` where memory was refused.
-pub fn tokenize<'a>(alloc: Global, line: &'a [u8]) -> Result<Vec<Token<'a>>, TokenError>
-    ensures read { IfOk result (λ tokens. tokens_of line.now ≡ Some (tokens_in tokens.items)) }
-    ensures refused { result ≡ Err TokenError.BadToken → tokens_of line.now ≡ None }
+pub fn tokenize<'a>(alloc: Global, line: &'a [u8]) -> Result<Vec<Token<'a>>, AsmFault>
+    ensures { Follows (λ v. tokens_in v.items) result (ok_or (tokens_of line.now) AsmFault.BadToken) }
 {
     let mut tokens = Vec::new(alloc);
     let mut rest = line;
     while !rest.is_empty() {
         let Some(found) = first_lexeme(rest) else {
-            return Err(TokenError::BadToken);
+            return Err(AsmFault::BadToken);
         };
         if let Some(token) = found.token {
             tokens.push(token)?;
@@ -281,7 +263,7 @@ pub fn push_text(out: &mut Vec<u8>, raw: &[u8]) -> Result<(), AllocError>
 
 #[cfg(test)]
 mod tests {
-    use super::{Token, TokenError, push_text, text_len, tokenize};
+    use super::{AsmFault, Token, push_text, text_len, tokenize};
     use std::alloc::{AllocError, Global};
     use std::test::Fail;
 
@@ -361,7 +343,7 @@ mod tests {
             b"\x07",
         ];
         for line in lines.iter() {
-            assert!(rt; matches!(tokenize(rt.alloc(), line), Err(TokenError::BadToken)));
+            assert!(rt; matches!(tokenize(rt.alloc(), line), Err(AsmFault::BadToken)));
         }
     }
 

@@ -8,4 +8,4 @@ use Rattle.rv_asm.proofs.emit.are_known.Given as goal
 
 -- each operand so far has a value
 abbrev pub invariant-loop-operand : goal.invariant-loop-operand
-invariant-loop-operand l = list_all (λ operand. is_some (evaluate (value_in l.values) (expression_in operand))) (map operand_of l.operands) ≡ list_all (λ operand. is_some (evaluate (value_in l.values) (expression_in operand))) (map operand_of (drop l.operand-index l.operands))
+invariant-loop-operand l = list_all (λ operand. is_some (evaluate (value_in l.program) (expression_in operand))) (map operand_of l.operands) ≡ list_all (λ operand. is_some (evaluate (value_in l.program) (expression_in operand))) (map operand_of (drop l.operand-index l.operands))

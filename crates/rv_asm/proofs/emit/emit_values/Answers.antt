@@ -12,5 +12,5 @@ loop-operand-preserved c =
     let front = sym c.split_at.ensures.back ∙ c.in-Some.ensures.cases.0 in
     record {
       in_range = omega (arith, ap length (c.in-Some.ensures.cases.0), c.split_at.ensures.back_len, c.in-Some.ensures.cases.1);
-      some = emitted_more (value_in c.args.values.now) c.args.width (map operand_of c.args.operands.now) (map operand_of (drop c.loop-operand.count c.args.operands.now)) (map operand_of (drop (c.loop-operand.count + 1) c.args.operands.now)) (operand_of c.in-Some.operand.now) _ _ _ c.loop-operand.invariant.some (rest_at c.args.operands.now c.loop-operand.count _ _ front) refl _ c.in_default-emit_value.ensures.fits c.in_default-emit_value.ensures.pushed;
+      some = emitted_more (value_in c.args.program.now) c.args.width (map operand_of c.args.operands.now) (map operand_of (drop c.loop-operand.count c.args.operands.now)) (map operand_of (drop (c.loop-operand.count + 1) c.args.operands.now)) (operand_of c.in-Some.operand.now) _ _ _ c.loop-operand.invariant.some (rest_at c.args.operands.now c.loop-operand.count _ _ front) refl _ c.in_default-emit_value.ensures.fits c.in_default-emit_value.ensures.pushed;
     }

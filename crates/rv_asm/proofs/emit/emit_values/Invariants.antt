@@ -8,7 +8,7 @@ use Rattle.rv_asm.proofs.emit.emit_values.Given as goal
 abbrev pub invariant-loop-operand : goal.invariant-loop-operand
 invariant-loop-operand l = record {
   in_range : l.count ≤ length l.operands;
-  some : EmittedSome (value_in l.values) l.width (map operand_of l.operands) (map operand_of (drop l.count l.operands)) l.initial.out.items l.out.items;
+  some : EmittedSome (value_in l.program) l.width (map operand_of l.operands) (map operand_of (drop l.count l.operands)) l.initial.out.items l.out.items;
 }
 
 abbrev pub decreases-loop-operand : goal.decreases-loop-operand

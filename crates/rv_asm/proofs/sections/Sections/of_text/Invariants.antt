@@ -10,7 +10,7 @@ abbrev pub invariant-lines : goal.invariant-lines
 invariant-lines l = record {
   in_range : l.start ≤ length l.text;
   counted : l.number ≤ l.start;
-  lines : AfterLines (λ earlier line. second_fault l.base (layout (lines_of l.text)) (layout earlier).reach line) (SoFar l.base (layout (lines_of l.text)) l.reach l.sections.text.items l.sections.data_bytes.items) l.text l.start l.number;
+  lines : AfterLines (λ earlier line. second_fault l.program.base (layout (lines_of l.text)) (layout earlier).reach line) (SoFar l.program.base (layout (lines_of l.text)) l.reach l.sections.text.items l.sections.data_bytes.items) l.text l.start l.number;
 }
 
 abbrev pub decreases-lines : goal.decreases-lines

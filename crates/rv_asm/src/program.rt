@@ -3,29 +3,29 @@ ghost use Rattle.rv_asm.specs.Meaning.{evaluate, start_of};
 ghost use Rattle.rv_asm.specs.ReadOperand.{expression_of};
 ghost use Rattle.rv_asm.specs.Symbols.{value_in};
 
+use crate::layout::Layout;
 use crate::operand::Expression;
 use crate::operation::Section;
-use crate::symbols::{Definition, Symbols};
+use crate::symbols::Definition;
 
-/// The symbols of a text whose place in memory is known, and so their values.
+/// A text whose layout and place in memory are known, and so the values of its symbols.
 #[derive(Clone, Copy)]
-pub struct SymbolValues<'s, 'a> {
-    pub symbols: &'s Symbols<'a>,
+pub struct Program<'l, 'a> {
+    pub layout: &'l Layout<'a>,
     /// Where the text section starts.
     pub base: u32,
-    /// How many bytes the text section has.
-    pub text_size: usize,
 }
 
-impl<'s, 'a> SymbolValues<'s, 'a> {
+impl<'l, 'a> Program<'l, 'a> {
     /// Where a section starts.
     pub fn start_of(&self, section: Section) -> u128
-        ensures start { result ≡ start_of self.now.base self.now.text_size section }
+        ensures start { result ≡ start_of self.now.base self.now.layout.now.reach.text_size section }
         ensures small { result < 2 ^ 66 }
     {
         match section {
             Section::Text => u128::from(self.base),
-            Section::Data => u128::from(self.base) + (self.text_size as u128 + 15) / 16 * 16,
+            Section::Data => u128::from(self.base)
+                + (self.layout.reach.text_size as u128 + 15) / 16 * 16,
         }
     }
 
@@ -35,7 +35,7 @@ impl<'s, 'a> SymbolValues<'s, 'a> {
         ensures least { IfSome result (λ v. negsuc (2 ^ 70) ≤ℤ v) }
         ensures greatest { IfSome result (λ v. v ≤ℤ pos (2 ^ 70)) }
     {
-        match self.symbols.get(name) {
+        match self.layout.symbols.get(name) {
             Some(Definition::Label(section, offset)) => {
                 Some((self.start_of(section) + offset as u128) as i128)
             }
