@@ -1,7 +1,9 @@
 mod Ending
+mod Flags
 mod JobParts
 mod Limits
 mod Parses
 mod Places
 mod Reading
 mod Running
+mod Subcommands

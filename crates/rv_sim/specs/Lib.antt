@@ -8,6 +8,7 @@ pub mod Parts
 pub mod Program
 pub mod ReadParts
 pub mod ReferenceReport
+pub mod SimulationReport
 pub mod Task
 pub mod TextImage
 pub mod Usage

@@ -2,6 +2,7 @@
 //! words and the streams on; what they come to stands in the other files.
 #![tactic(auto)]
 
+mod boxed_predictor;
 mod command;
 mod errors;
 mod fault_lines;
@@ -12,6 +13,7 @@ mod job_text;
 mod parts;
 mod program;
 mod reference;
+mod simulate;
 mod task;
 #[cfg(test)]
 mod tests;
