@@ -1,4 +1,3 @@
 mod Counts
-mod Ends
-mod Shown
+mod MemoryLines
 pub mod Writing

@@ -1,5 +1,8 @@
 -- The lines of a report that show words of memory.
-use Rattle.std.specs.Prelude.{ℕ, ◌+◌, ◌*◌, ◌%◌, ◌^◌, List, [], ◌∷◌, ◌++◌, codes, Option, Some, None}
+use Rattle.std.specs.Prelude.{ℕ, ◌+◌, ◌*◌, ◌%◌, ◌^◌, List, ◌++◌, codes, Option, Some, None, option_and_then}
+use Rattle.std.specs.List.{flat_map, range_with_len}
+use Rattle.std.specs.Option.{option_map}
+use Rattle.rv_memory.specs.Memory.{Layout, byte_seen}
 use Rattle.rv_report.specs.Line.{word_text, line_of}
 
 -- a word of memory, or hyphens outside RAM
@@ -15,12 +18,16 @@ memory_line address word = codes "m " ++ line_of (word_text address) (memory_tex
 abbrev pub place_of : ℕ → ℕ → ℕ
 place_of address number = (address + 4 * number) % 2 ^ 32
 
--- words of memory from an address on, the first of which has a number
-abbrev pub memory_lines_from : ℕ → ℕ → List (Option ℕ) → List ℕ
-memory_lines_from address number [] = []
-memory_lines_from address number (word ∷ words) =
-    memory_line (place_of address number) word ++ memory_lines_from address (number + 1) words
+-- the word of four bytes from an address on, the lowest first; none outside RAM
+unfoldable pub word_seen : Layout → List ℕ → ℕ → Option ℕ
+word_seen layout ram address =
+    option_and_then (λ a. option_and_then (λ b. option_and_then (λ c. option_map (λ d. a + 256 * b + 65536 * c + 16777216 * d)
+    (byte_seen layout ram ((address + 3) % 2 ^ 32)))
+    (byte_seen layout ram ((address + 2) % 2 ^ 32)))
+    (byte_seen layout ram ((address + 1) % 2 ^ 32)))
+    (byte_seen layout ram address)
 
--- words of memory from an address on
-unfoldable pub memory_lines : ℕ → List (Option ℕ) → List ℕ
-memory_lines address words = memory_lines_from address 0 words
+-- so many words of memory from an address on
+unfoldable pub seen_memory_lines : Layout → List ℕ → ℕ → ℕ → List ℕ
+seen_memory_lines layout ram address words =
+    flat_map (λ number. memory_line (place_of address number) (word_seen layout ram (place_of address number))) (range_with_len 0 words)

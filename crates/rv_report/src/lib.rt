@@ -20,5 +20,5 @@ pub use options::Options;
 pub use output::{ReportError, put, put_all};
 pub use reference_report::write_reference;
 pub use rows::write_steps;
-pub use run_report::{write_report, write_totals};
+pub use run_report::{write_report, write_totals, write_trace};
 pub use totals::{StepCounts, Totals, count_steps};

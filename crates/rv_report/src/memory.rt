@@ -1,6 +1,7 @@
-ghost use Rattle.std.specs.Prelude.{◌≡◌, ℕ, List, length, Option, OnOk, OnErr};
+ghost use Rattle.std.specs.Prelude.{◌≡◌, OnOk, OnErr};
 ghost use Rattle.std.specs.Io.KnownBytes.{Appends};
-ghost use Rattle.rv_report.specs.Memory.{memory_line, memory_lines};
+ghost use Rattle.rv_hardware.specs.Seen.{layout_of, seen};
+ghost use Rattle.rv_report.specs.Memory.{memory_line, word_seen, seen_memory_lines};
 ghost use Rattle.rv_report.specs.Written.{AppendsBeginning};
 
 use crate::digits::hexadecimal;
@@ -32,7 +33,10 @@ pub(crate) fn write_word<W: Write>(
 }
 
 // The word of memory that programs see at an address, or `None` outside RAM.
-fn word_at(core: &Core, address: u32) -> Option<u32> {
+#[tactic(auto, unfolding(crate::specs::Memory::word_seen))]
+fn word_at(core: &Core, address: u32) -> Option<u32>
+    ensures { result ≡ word_seen (layout_of core.now.values) (seen core.now).ram address }
+{
     let bytes = [
         core.byte(address)?,
         core.byte(address.wrapping_add(1))?,
@@ -49,10 +53,8 @@ pub(crate) fn write_memory<W: Write>(
     address: u32,
     words: u32,
 ) -> Result<(), ReportError>
-    ensures whole { OnOk result ((shown : List (Option ℕ)) × (length shown ≡ words)
-        × Appends (W.contents writer.old) (W.contents writer.new) (memory_lines address shown)) }
-    ensures beginning { OnErr result ((shown : List (Option ℕ)) × (length shown ≡ words)
-        × AppendsBeginning (W.contents writer.old) (W.contents writer.new) (memory_lines address shown)) }
+    ensures whole { OnOk result (Appends (W.contents writer.old) (W.contents writer.new) (seen_memory_lines (layout_of core.now.values) (seen core.now).ram address words)) }
+    ensures beginning { OnErr result (AppendsBeginning (W.contents writer.old) (W.contents writer.new) (seen_memory_lines (layout_of core.now.values) (seen core.now).ram address words)) }
 {
     for number in 0..words {
         let place = address.wrapping_add(number.wrapping_mul(4));

@@ -1,6 +1,7 @@
 ghost use Rattle.std.specs.Prelude.{◌≡◌, OnOk, OnErr};
 ghost use Rattle.std.specs.Io.KnownBytes.{Appends};
-ghost use Rattle.rv_report.specs.ReferenceReport.{count_lines, word_seen, seen_memory_lines, reference_report};
+ghost use Rattle.rv_report.specs.Memory.{word_seen, seen_memory_lines};
+ghost use Rattle.rv_report.specs.ReferenceReport.{count_lines, reference_report};
 ghost use Rattle.rv_report.specs.Written.{AppendsBeginning};
 
 use crate::fields::{Field, Value, write_fields};
@@ -41,7 +42,7 @@ fn write_counts<W: Write>(writer: &mut W, outcome: &RefOutcome) -> Result<(), Re
 }
 
 // The word of memory at an address, or `None` outside RAM.
-#[tactic(auto, unfolding(crate::specs::ReferenceReport::word_seen))]
+#[tactic(auto, unfolding(crate::specs::Memory::word_seen))]
 fn word_at(reference: &Reference, address: u32) -> Option<u32>
     ensures { result ≡ word_seen reference.now.layout reference.now.state.ram address }
 {

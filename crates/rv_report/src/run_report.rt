@@ -1,7 +1,8 @@
-ghost use Rattle.std.specs.Prelude.{◌≡◌, List, ℕ, OnOk, OnErr};
+ghost use Rattle.std.specs.Prelude.{◌≡◌, OnOk, OnErr};
 ghost use Rattle.std.specs.Io.KnownBytes.{Appends};
+ghost use Rattle.rv_hardware.specs.Seen.{seen};
 ghost use Rattle.rv_report.specs.Totals.{total_lines};
-ghost use Rattle.rv_report.specs.RunReport.{end_lines, trace_of, IsEnd, IsReport};
+ghost use Rattle.rv_report.specs.RunReport.{end_lines, end_of, trace_of, report_of};
 ghost use Rattle.rv_report.specs.Written.{AppendsBeginning};
 
 use crate::fields::{Field, Value, write_fields};
@@ -81,8 +82,8 @@ fn write_counts<W: Write>(writer: &mut W, totals: &Totals) -> Result<(), ReportE
 
 // Why a run ended, its counts, and the state that it left, but for memory.
 fn write_end<W: Write>(writer: &mut W, totals: &Totals, core: &Core) -> Result<(), ReportError>
-    ensures whole { OnOk result (Appends (W.contents writer.old) (W.contents writer.new) (end_lines totals.now core.now)) }
-    ensures beginning { OnErr result (AppendsBeginning (W.contents writer.old) (W.contents writer.new) (end_lines totals.now core.now)) }
+    ensures whole { OnOk result (Appends (W.contents writer.old) (W.contents writer.new) (end_lines totals.now (seen core.now) core.now.lines)) }
+    ensures beginning { OnErr result (AppendsBeginning (W.contents writer.old) (W.contents writer.new) (end_lines totals.now (seen core.now) core.now.lines)) }
 {
     write_stop(writer, totals.stop)?;
     write_counts(writer, totals)?;
@@ -98,17 +99,16 @@ pub fn write_totals<W: Write>(
     options: &Options,
     writer: &mut W,
 ) -> Result<(), ReportError>
-    ensures whole { OnOk result ((text : List ℕ) × IsEnd totals.now core.now options.now text
-        × Appends (W.contents writer.old) (W.contents writer.new) text) }
-    ensures beginning { OnErr result ((text : List ℕ) × IsEnd totals.now core.now options.now text
-        × AppendsBeginning (W.contents writer.old) (W.contents writer.new) text) }
+    ensures whole { OnOk result (Appends (W.contents writer.old) (W.contents writer.new) (end_of totals.now core.now options.now)) }
+    ensures beginning { OnErr result (AppendsBeginning (W.contents writer.old) (W.contents writer.new) (end_of totals.now core.now options.now)) }
 {
     write_end(writer, totals, core)?;
     write_memory(writer, core, options.dump_address, options.dump_words)
 }
 
-// The trace of some steps, where it is asked for.
-fn write_trace<W: Write>(writer: &mut W, trace: bool, steps: &[Step]) -> Result<(), ReportError>
+/// Writes the lines of some steps, where a trace is asked for. Asks for no memory. Fails by `WriteFailed` alone, and what
+/// was written is then a beginning of the lines.
+pub fn write_trace<W: Write>(writer: &mut W, trace: bool, steps: &[Step]) -> Result<(), ReportError>
     ensures whole { OnOk result (Appends (W.contents writer.old) (W.contents writer.new) (trace_of trace steps.now)) }
     ensures beginning { OnErr result (AppendsBeginning (W.contents writer.old) (W.contents writer.new) (trace_of trace steps.now)) }
 {
@@ -128,10 +128,8 @@ pub fn write_report<W: Write>(
     options: &Options,
     writer: &mut W,
 ) -> Result<(), ReportError>
-    ensures whole { OnOk result ((text : List ℕ) × IsReport outcome.now core.now options.now text
-        × Appends (W.contents writer.old) (W.contents writer.new) text) }
-    ensures beginning { OnErr result ((text : List ℕ) × IsReport outcome.now core.now options.now text
-        × AppendsBeginning (W.contents writer.old) (W.contents writer.new) text) }
+    ensures whole { OnOk result (Appends (W.contents writer.old) (W.contents writer.new) (report_of outcome.now core.now options.now)) }
+    ensures beginning { OnErr result (AppendsBeginning (W.contents writer.old) (W.contents writer.new) (report_of outcome.now core.now options.now)) }
 {
     write_trace(writer, options.trace, outcome.steps.as_slice())?;
     write_totals(&Totals::of(outcome), core, options, writer)

@@ -12,7 +12,7 @@ use std::alloc::Global;
 use std::io::Write;
 
 // The options, with what a description asks to dump.
-fn with_dump(report: &ReportValues, options: &Options) -> Options
+pub(crate) fn with_dump(report: &ReportValues, options: &Options) -> Options
     ensures { result ≡ shown report.now options.now }
 {
     Options {

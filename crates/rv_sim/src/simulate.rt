@@ -1,21 +1,28 @@
 ghost use Rattle.std.specs.Prelude.{◌≡◌, ◌⊎◌, ℕ, List, IfOk, IfErr};
 ghost use Rattle.std.specs.Io.KnownBytes.{Appends, Keeps};
-ghost use Rattle.rv_report.specs.Written.{AppendsBeginning};
 ghost use Rattle.rv_sim.specs.SimulationReport.{IsSimulationReport};
+ghost use Rattle.rv_report.specs.Written.{AppendsBeginning};
 
 use crate::boxed_predictor::BoxedPredictor;
 use crate::errors::SimError;
 use crate::job::Job;
+use crate::reference::with_dump;
 use rv_arch::Stop;
-use rv_report::Options;
+use rv_core::{Core, run};
+use rv_report::{Options, write_report};
 use std::alloc::Global;
 use std::io::Write;
 
-/// A stub.
+/// Simulates a job on the core that it describes, with the job's arrivals at the numbers of the
+/// cycles, up to a breakpoint, a stale word or the options' limit of cycles, and writes the report of
+/// the run, with the dump that the job's description asks for. Answers why the run ended.
+///
+/// Fails by `Memory`, and has written nothing then, or by `WriteFailed`, and has written a beginning
+/// of the report.
 pub fn simulate<W: Write>(
-    _alloc: Global,
+    alloc: Global,
     job: Job,
-    _predictor: BoxedPredictor,
+    predictor: BoxedPredictor,
     options: &Options,
     writer: &mut W,
 ) -> Result<Stop, SimError>
@@ -28,5 +35,14 @@ pub fn simulate<W: Write>(
     ensures nothing { result ≡ Err SimError.Memory → Keeps (W.contents writer.old) (W.contents writer.new) }
     ensures errors { IfErr result (λ e. (e ≡ SimError.Memory) ⊎ (e ≡ SimError.WriteFailed)) }
 {
-    Err(SimError::Memory)
+    let options = with_dump(&job.description.values().report, options);
+    // The image of a job fits, so that memory alone can be wanting.
+    let Ok(mut core) = Core::new(alloc, &job.description, &job.image, predictor.predictor) else {
+        return Err(SimError::Memory);
+    };
+    let Ok(outcome) = run(alloc, &mut core, &job.arrivals, options.limit) else {
+        return Err(SimError::Memory);
+    };
+    write_report(&outcome, &core, &options, writer)?;
+    Ok(outcome.stop)
 }

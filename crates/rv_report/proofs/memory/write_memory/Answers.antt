@@ -1,32 +1,31 @@
-use Rattle.std.proofs.Common.{◌≡◌, ◌∙◌, [], ◌∷◌, ◌++◌, ap, arith, refl, sym, length-append}
-use Rattle.rv_report.specs.Memory.{memory_line, memory_lines, place_of}
-use Rattle.rv_report.proofs.Shown.{memory_lines-more, dump_begun}
-use Rattle.rv_report.proofs.Writing.{on_err, Appends-nothing, Appends-both, Appends-same, beginning-same, place_of_word}
+use Rattle.std.proofs.Common.{◌≡◌, ap, arith}
+use Rattle.rv_hardware.specs.Seen.{layout_of, seen}
+use Rattle.rv_report.specs.Memory.{seen_memory_lines}
+use Rattle.rv_report.proofs.MemoryLines.{line_in, line_is}
+use Rattle.rv_report.proofs.Writing.{on_err, texts_below, beginning-below, Appends-below, Appends-nothing, Appends-same, beginning-same}
 use Rattle.rv_report.proofs.memory.write_memory.Goals as goal
 
 pub loop-number-init : goal.loop-number-init
-unfolding memory_lines
-loop-number-init g c = ([], refl, Appends-nothing _)
+unfolding texts_below
+loop-number-init g c = Appends-nothing _
 
 pub returns-in_err-write_word-clause-beginning : goal.returns-in_err-write_word-clause-beginning
+unfolding texts_below seen_memory_lines
 returns-in_err-write_word-clause-beginning g c =
-    let (shown, many, written) = c.loop-number.invariant in
-    let word = c.word_at.result in
-    let place_is = ap (λ place. memory_line place word) (place_of_word c.args.address c.loop-number.number ∙ ap (place_of c.args.address) (sym many)) in
-    on_err _ (dump_begun c.args.address c.args.words shown word _ _ _ (omega (arith, many)) written (beginning-same _ _ _ _ place_is c.in_err-write_word.ensures.beginning))
+    let layout = layout_of c.args.core.now.values in
+    let ram = (seen c.args.core.now).ram in
+    let is = line_is layout ram c.args.address c.loop-number.number c.word_at.result c.word_at.ensures in
+    on_err _ (beginning-below (line_in layout ram c.args.address) c.loop-number.number c.args.words (omega arith) _ _ _ c.loop-number.invariant (beginning-same _ _ _ _ is c.in_err-write_word.ensures.beginning))
 
 pub loop-number-preserved : goal.loop-number-preserved
 loop-number-preserved g c =
-    let (shown, many, written) = c.loop-number.invariant in
-    let word = c.word_at.result in
-    let place_is = ap (λ place. memory_line place word) (place_of_word c.args.address c.loop-number.number ∙ ap (place_of c.args.address) (sym many)) in (
-      shown ++ word ∷ [],
-      omega (arith, many, length-append shown (word ∷ [])),
-      Appends-same _ _ _ _ (sym (memory_lines-more c.args.address shown word)) (Appends-both _ _ _ _ _ written (Appends-same _ _ _ _ place_is c.in_ok-write_word.ensures.whole)),
-    )
+    let layout = layout_of c.args.core.now.values in
+    let ram = (seen c.args.core.now).ram in
+    let is = line_is layout ram c.args.address c.loop-number.number c.word_at.result c.word_at.ensures in
+    Appends-below (line_in layout ram c.args.address) c.loop-number.number _ _ _ c.loop-number.invariant (Appends-same _ _ _ _ is c.in_ok-write_word.ensures.whole)
 
 pub returns-clause-whole : goal.returns-clause-whole
+unfolding texts_below seen_memory_lines
 returns-clause-whole g c =
-    let (shown, many, written) = c.loop-number.invariant in
     let all : c.loop-number.number ≡ c.args.words = omega arith in
-    (shown, many ∙ all, written)
+    Appends-same _ _ _ _ (ap (texts_below (line_in (layout_of c.args.core.now.values) (seen c.args.core.now).ram c.args.address)) all) c.loop-number.invariant

@@ -1,8 +1,9 @@
-use Rattle.std.proofs.Common.{◌≡◌, ℕ, List, length, Option}
 use Rattle.std.specs.Io.KnownBytes.{Appends}
-use Rattle.rv_report.specs.Memory.{memory_lines}
+use Rattle.rv_hardware.specs.Seen.{layout_of, seen}
+use Rattle.rv_report.proofs.MemoryLines.{line_in}
+use Rattle.rv_report.proofs.Writing.{texts_below}
 use Rattle.rv_report.proofs.memory.write_memory.Given as goal
 
 -- the words so far are written
 abbrev pub invariant-loop-number : goal.invariant-loop-number
-invariant-loop-number g l = (shown : List (Option ℕ)) × (length shown ≡ l.number) × Appends (g.W.Write.contents l.initial.writer) (g.W.Write.contents l.writer) (memory_lines l.address shown)
+invariant-loop-number g l = Appends (g.W.Write.contents l.initial.writer) (g.W.Write.contents l.writer) (texts_below (line_in (layout_of l.core.values) (seen l.core).ram l.address) l.number)

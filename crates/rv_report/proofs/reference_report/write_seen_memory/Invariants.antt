@@ -1,9 +1,8 @@
 use Rattle.std.specs.Io.KnownBytes.{Appends}
-use Rattle.rv_report.specs.Memory.{memory_line, place_of}
-use Rattle.rv_report.specs.ReferenceReport.{word_seen}
+use Rattle.rv_report.proofs.MemoryLines.{line_in}
 use Rattle.rv_report.proofs.Writing.{texts_below}
 use Rattle.rv_report.proofs.reference_report.write_seen_memory.Given as goal
 
 -- the words so far are written
 abbrev pub invariant-loop-number : goal.invariant-loop-number
-invariant-loop-number g l = Appends (g.W.Write.contents l.initial.writer) (g.W.Write.contents l.writer) (texts_below (λ number. memory_line (place_of l.address number) (word_seen l.reference.layout l.reference.state.ram (place_of l.address number))) l.number)
+invariant-loop-number g l = Appends (g.W.Write.contents l.initial.writer) (g.W.Write.contents l.writer) (texts_below (line_in l.reference.layout l.reference.state.ram l.address) l.number)

@@ -1,15 +1,18 @@
-use Rattle.rv_report.proofs.Ends.{end_begun, end_written, end_begun_at_dump}
-use Rattle.rv_report.proofs.Writing.{on_err, on_ok_by, on_err_by}
+use Rattle.rv_report.specs.RunReport.{end_text}
+use Rattle.rv_report.proofs.Writing.{on_err, beginning-longer, whole_behind, beginning_behind}
 use Rattle.rv_report.proofs.run_report.write_totals.Goals as goal
 
 pub returns-in_err-write_end-clause-beginning : goal.returns-in_err-write_end-clause-beginning
+unfolding end_text
 returns-in_err-write_end-clause-beginning g c =
-    on_err _ (end_begun c.args.totals.now c.args.core.now c.args.options.now _ _ c.in_err-write_end.ensures.beginning)
+    on_err _ (beginning-longer _ _ _ _ c.in_err-write_end.ensures.beginning)
 
 pub returns-clause-whole : goal.returns-clause-whole
+unfolding end_text
 returns-clause-whole g c =
-    on_ok_by _ (end_written c.args.totals.now c.args.core.now c.args.options.now _ _ _ c.in_ok-write_end.ensures.whole) c.write_memory.ensures.whole
+    whole_behind _ _ _ _ _ _ c.in_ok-write_end.ensures.whole c.write_memory.ensures.whole
 
 pub returns-clause-beginning : goal.returns-clause-beginning
+unfolding end_text
 returns-clause-beginning g c =
-    on_err_by _ (end_begun_at_dump c.args.totals.now c.args.core.now c.args.options.now _ _ _ c.in_ok-write_end.ensures.whole) c.write_memory.ensures.beginning
+    beginning_behind _ _ _ _ _ _ c.in_ok-write_end.ensures.whole c.write_memory.ensures.beginning

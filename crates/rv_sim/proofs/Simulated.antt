@@ -1,0 +1,109 @@
+-- What cycles from reset came to is what the report of a simulation says.
+use Rattle.std.proofs.Common.{◌≡◌, ℕ, List, length, refl, sym, subst, ap, ◌∙◌, arith}
+use Rattle.rv_isa.specs.Arrivals.{lines_at}
+use Rattle.rv_isa.specs.Description.{IsLegal}
+use Rattle.rv_isa.specs.declared.lines.Arrival.{Arrival}
+use Rattle.rv_isa.specs.declared.lines.Lines.{Lines}
+use Rattle.rv_arch.specs.Reset.{reset}
+use Rattle.rv_arch.specs.declared.outcome.Stop.{Stop}
+use Rattle.rv_core.specs.RunDone.{IsOutcome}
+use Rattle.rv_core.specs.declared.outcome.Outcome.{Outcome}
+use Rattle.rv_hardware.specs.Hardware.{Hardware}
+use Rattle.rv_hardware.specs.Headline.{IsTrueRun, IsTrueStop}
+use Rattle.rv_hardware.specs.Laws.{Laws}
+use Rattle.rv_hardware.specs.Report.{Report}
+use Rattle.rv_hardware.specs.Reset.{IsLoadable, reset_hardware}
+use Rattle.rv_hardware.specs.Run.{Cycles, ended, cycled, IsStop, Reachable, at_reset, busy_of, longest_gap_of, stalls_of, steps_of}
+use Rattle.rv_hardware.specs.Seen.{seen}
+use Rattle.rv_hardware.proofs.GapRun.{no_silence, is_stop-only_last}
+use Rattle.rv_hardware.proofs.HeadlineCycle.{always_sound, cycle_true}
+use Rattle.rv_hardware.proofs.HeadlineInvariant.{IsSound}
+use Rattle.rv_hardware.proofs.HeadlineReached.{cycles_counted}
+use Rattle.rv_hardware.proofs.HeadlineRun.{cycles_true, headline_from_reset}
+use Rattle.rv_hardware.proofs.HeadlineStops.{headline_of_stop}
+use Rattle.rv_hardware.proofs.LawsOfCycles.{counts_of_runs}
+use Rattle.rv_hardware.proofs.LawsOfRuns.{laws_of_runs}
+use Rattle.rv_report.specs.RunReport.{run_report, report_of}
+use Rattle.rv_report.specs.Totals.{counts_of}
+use Rattle.rv_report.specs.declared.options.Options.{Options}
+use Rattle.rv_report.specs.declared.totals.Totals.{Totals}
+use Rattle.rv_sim.specs.ReferenceReport.{layout_of, shown}
+use Rattle.rv_sim.specs.SimulationReport.{IsLongestGap, IsSimulationReport, lines_after}
+use Rattle.rv_sim.specs.declared.job.Job.{Job}
+use Rattle.rv_sim.proofs.LinesAfter.{lines_are}
+use Rattle.rv_sim.proofs.LongestGap.{longest_gap_is}
+
+-- what some cycles came to
+abbrev pub totals_at : List Report → Stop → Totals
+totals_at reports stop = record {
+  stop = stop;
+  cycles = length reports;
+  steps = counts_of (steps_of reports);
+  longest_gap = longest_gap_of reports;
+  busy = busy_of reports;
+  stalls = stalls_of reports;
+}
+
+-- the hardware at reset with the image of a job
+abbrev pub hardware_of : Job → Hardware
+hardware_of job = reset_hardware job.description job.image.bytes job.image.start
+
+-- the report of some cycles of a job, that left the hardware so
+abbrev pub text_of : Job → Options → Stop → List Report → Hardware → List ℕ
+text_of job options stop reports new =
+    run_report (steps_of reports) (totals_at reports stop) (layout_of job.description) (seen new) new.lines (shown job.description.report options)
+
+module _ (job : Job) (options : Options) (stop : Stop) (reports : List Report) (new : Hardware)
+    (legal : IsLegal job.description) (loadable : IsLoadable job.description job.image.base job.image.bytes job.image.start)
+    (cycles : Cycles job.arrivals (hardware_of job) reports new) (stopped : IsStop options.limit reports new stop) where
+  pub simulated : IsSimulationReport job options stop (text_of job options stop reports new)
+  simulated =
+      let reached : Reachable (hardware_of job) = at_reset legal loadable in
+      let number : new.cycle ≡ length reports = omega (arith, cycles_counted cycles) in
+      let layout = layout_of job.description in
+      let start = reset layout job.image.bytes job.image.start in
+      let totals = totals_at reports stop in
+      let steps = steps_of reports in
+      let lines : new.lines ≡ lines_after job.arrivals (length reports) = lines_are cycles refl refl ∙ ap (lines_after job.arrivals) number in
+      record {
+        steps = steps;
+        totals = totals;
+        end = seen new;
+        runs = subst (λ n. IsTrueRun layout job.arrivals 0 n start steps (seen new)) number (headline_from_reset job.arrivals job.description job.image.base job.image.bytes job.image.start new reports legal loadable cycles);
+        stopped = refl;
+        ends = subst (λ n. IsTrueStop layout job.arrivals options.limit 0 n steps (seen new) stop) number (headline_of_stop job.arrivals options.limit (hardware_of job) new reports stop reached cycles stopped);
+        laws = subst (λ n. Laws job.description 0 n steps) number (laws_of_runs reached cycles);
+        longest_gap = subst (λ n. IsLongestGap n steps (longest_gap_of reports)) number (longest_gap_is layout job.arrivals (cycles_true (always_sound reached) cycles));
+        gap_bounded = (no_silence job.arrivals (hardware_of job) new reports reached cycles (is_stop-only_last options.limit reports new stop stopped)).longest;
+        counts = refl;
+        cycles = (counts_of_runs reached cycles).0;
+        text_is = ap (λ (levels : Lines). run_report steps totals layout (seen new) levels (shown job.description.report options)) lines;
+      }
+
+-- a run does not change what was described
+values_kept : {arrivals : List Arrival} {old new : Hardware} {reports : List Report} → IsSound old → Cycles arrivals old reports new → new.values ≡ old.values
+values_kept sound ended = refl
+values_kept {arrivals} sound (cycled {old = old} {middle = middle} {report = report} cycle rest) =
+    let goes = cycle_true (lines_at arrivals old.cycle) old report middle sound cycle in
+    values_kept goes.sound rest ∙ goes.values_are
+
+-- the report of a run of the core
+pub run_simulated : (job : Job) (options asked : Options) (old new : Hardware) (outcome : Outcome)
+    → IsLegal job.description → IsLoadable job.description job.image.base job.image.bytes job.image.start → old ≡ hardware_of job
+    → asked ≡ shown job.description.report options → IsOutcome job.arrivals asked.limit old new outcome → IsSimulationReport job options outcome.stop (report_of outcome new asked)
+run_simulated job options asked old new outcome legal loadable old_is asked_is ended_so =
+    let (reports, run, stopped) = ended_so in
+    let cycles = subst (λ (h : Hardware). Cycles job.arrivals h reports new) old_is run.cycled in
+    let stops = subst (λ (o : Options). IsStop o.limit reports new outcome.stop) asked_is stopped in
+    let values = values_kept (always_sound (at_reset legal loadable)) cycles in
+    let text_is : text_of job options outcome.stop reports new ≡ report_of outcome new asked =
+    λ i. run_report (sym run.steps_are i) (record {
+      stop = outcome.stop;
+      cycles = sym run.cycles_are i;
+      steps = counts_of (sym run.steps_are i);
+      longest_gap = sym run.longest_gap_is i;
+      busy = sym run.busy_is i;
+      stalls = sym run.stalls_are i;
+    }) (layout_of (sym values i)) (seen new) new.lines (sym asked_is i)
+    in
+    subst (IsSimulationReport job options outcome.stop) text_is (simulated job options outcome.stop reports new legal loadable cycles stops)
