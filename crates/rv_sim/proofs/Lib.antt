@@ -1,4 +1,5 @@
 mod Ending
+mod Flags
 mod JobParts
 mod Limits
 mod LinesAfter
@@ -8,3 +9,4 @@ mod Places
 mod Reading
 mod Running
 mod Simulated
+mod Subcommands

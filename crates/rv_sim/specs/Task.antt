@@ -1,5 +1,5 @@
 -- What a command asks of an input, and how that ends.
-use Rattle.std.specs.Prelude.{◌≡◌, ℕ, List, ◌++◌, length, codes, decimal, false, ⊤, Option, Result, Ok, Err}
+use Rattle.std.specs.Prelude.{◌≡◌, ℕ, Bool, List, ◌++◌, length, codes, decimal, false, ⊤, Option, Result, Ok, Err}
 use Rattle.std.specs.Io.KnownBytes.{Appends, Keeps}
 use Rattle.rv_arch.specs.declared.outcome.Stop.{Stop}
 use Rattle.rv_isa.specs.declared.values.PredictorValues.{PredictorValues}
@@ -9,30 +9,37 @@ use Rattle.rv_sim.specs.JobRefusal.{RefusesJob}
 use Rattle.rv_sim.specs.JobText.{Assembles, Describes, HasLegalLength, IsJobOf}
 use Rattle.rv_report.specs.Line.{word_text}
 use Rattle.rv_sim.specs.ReferenceReport.{IsReferenceReport}
+use Rattle.rv_sim.specs.SimulationReport.{IsSimulationReport}
 use Rattle.rv_report.specs.Written.{AppendsBeginning}
+use Rattle.rv_report.specs.declared.options.Options.{Options}
 use Rattle.rv_sim.specs.declared.command.Command.{Command}
 use Rattle.rv_sim.specs.declared.command.Command.TheVariants as command
 use Rattle.rv_sim.specs.declared.errors.SimError.{SimError}
 use Rattle.rv_sim.specs.declared.errors.SimError.TheVariants.{TooLong, Description, Arrivals, Assembly, ImageDoesNotFit, Memory, WriteFailed}
 use Rattle.rv_sim.specs.declared.task.Task.{Task}
-use Rattle.rv_sim.specs.declared.task.Task.TheVariants.{Reference, Check}
+use Rattle.rv_sim.specs.declared.task.Task.TheVariants.{Run, Reference, Check}
+
+-- the options of a command; which words of memory a report shows is the job's to say
+abbrev pub asked : Bool → ℕ → Options
+asked trace limit = record { trace = trace; limit = limit; dump_address = 0; dump_words = 0 }
 
 -- a task is what a command asks of an input
 abbrev pub Asks : Command → List ℕ → Task → Type 0
-Asks (command.Reference limit) input (Reference job options) =
-    IsJobOf input job × (options ≡ record { trace = false; limit = limit; dump_address = 0; dump_words = 0 })
+Asks (command.Run trace limit) input (Run job options) = IsJobOf input job × (options ≡ asked trace limit)
+Asks (command.Reference limit) input (Reference job options) = IsJobOf input job × (options ≡ asked false limit)
 Asks command.Check input (Check description image) =
     HasLegalLength input × Describes input description × Assembles input description image
-Asks (command.Reference limit) input (Check description image) = ⊥
-Asks command.Check input (Reference job options) = ⊥
+Asks _ input _ = ⊥
 
 -- an input has an error for which a command refuses it
 abbrev pub Refuses : Command → List ℕ → SimError → Type 0
+Refuses (command.Run trace limit) input error = RefusesJob input error
 Refuses (command.Reference limit) input error = RefusesJob input error
 Refuses command.Check input error = RefusesImage input error
 
 -- the predictor that a task's machine has
 abbrev pub predictor_of : Task → PredictorValues
+predictor_of (Run job options) = job.description.predictor
 predictor_of (Reference job options) = job.description.predictor
 predictor_of (Check description image) = description.predictor
 
@@ -42,12 +49,15 @@ check_line bytes start = codes "ok " ++ (decimal bytes ++ (codes " bytes start "
 
 -- the text of a task that was done, and the exit status
 abbrev pub Shows : Task → List ℕ → ℕ → Type 0
+Shows (Run job options) text status =
+    (stop : Stop) × IsSimulationReport job options stop text × (status ≡ stop_status stop)
 Shows (Reference job options) text status =
     (stop : Stop) × IsReferenceReport job options stop text × (status ≡ stop_status stop)
 Shows (Check description image) text status = (text ≡ check_line (length image.bytes) image.start) × (status ≡ 0)
 
 -- only a run asks for memory
 abbrev pub AsksForMemory : Task → Type 0
+AsksForMemory (Run job options) = ⊤
 AsksForMemory (Reference job options) = ⊤
 AsksForMemory (Check description image) = ⊥
 

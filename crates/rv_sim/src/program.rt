@@ -4,6 +4,7 @@ ghost use Rattle.rv_sim.specs.FaultStream.{Tells};
 ghost use Rattle.rv_sim.specs.Program.{EndsWithin, IsInputOf, Runs};
 ghost use Rattle.rv_sim.specs.declared.input.InputError.{InputError as OneError};
 
+use crate::boxed_predictor::BoxedPredictor;
 use crate::command::Command;
 use crate::errors::SimError;
 use crate::fault_lines::FaultLines;
@@ -40,22 +41,22 @@ fn finish_task<W: Write, E: Write>(
 ) -> u8
     ensures { EndsWithin task (W.contents output.old) (W.contents output.new) errors.old errors.new result }
 {
-    let predictor = task.predictor();
-    match predictor.kind {
+    let described = task.predictor();
+    match described.kind {
         PredictorKind::NotTaken => match Box::new(alloc, NotTaken) {
-            Ok(boxed) => finish(alloc, task, boxed, output, errors),
+            Ok(predictor) => finish(alloc, task, BoxedPredictor { predictor }, output, errors),
             Err(_) => errors.tell(SimError::Memory),
         },
         PredictorKind::BackwardTaken => match Box::new(alloc, BackwardTaken) {
-            Ok(boxed) => finish(alloc, task, boxed, output, errors),
+            Ok(predictor) => finish(alloc, task, BoxedPredictor { predictor }, output, errors),
             Err(_) => errors.tell(SimError::Memory),
         },
         PredictorKind::Bimodal => {
-            let Ok(bimodal) = Bimodal::new(alloc, predictor.entries) else {
+            let Ok(bimodal) = Bimodal::new(alloc, described.entries) else {
                 return errors.tell(SimError::Memory);
             };
             match Box::new(alloc, bimodal) {
-                Ok(boxed) => finish(alloc, task, boxed, output, errors),
+                Ok(predictor) => finish(alloc, task, BoxedPredictor { predictor }, output, errors),
                 Err(_) => errors.tell(SimError::Memory),
             }
         }

@@ -4,10 +4,11 @@ ghost use Rattle.rv_isa.specs.Description.{IsLegalPredictor};
 ghost use Rattle.rv_sim.specs.Fault.{fault_line, fault_status, exit_status};
 ghost use Rattle.rv_sim.specs.FaultStream.{Tells, TellsOf};
 ghost use Rattle.rv_sim.specs.ImageRefusal.{RefusesImage};
-ghost use Rattle.rv_sim.specs.Task.{Asks, Refuses, Ends, check_line, predictor_of};
+ghost use Rattle.rv_sim.specs.Task.{Asks, Refuses, Ends, asked, check_line, predictor_of};
 ghost use Rattle.rv_report.specs.Written.{AppendsBeginning};
 ghost use Rattle.rv_sim.specs.declared.errors.SimError.{SimError as OneError};
 
+use crate::boxed_predictor::BoxedPredictor;
 use crate::command::Command;
 use crate::errors::SimError;
 use crate::fault_lines::FaultLines;
@@ -15,8 +16,8 @@ use crate::faults::stop_status;
 use crate::job::Job;
 use crate::job_text::{read_image, read_job, read_machine, read_parts};
 use crate::reference::reference;
+use crate::simulate::simulate;
 use itoa::Buffer;
-use rv_front::Predictor;
 use rv_isa::{Description, Image, PredictorValues};
 use rv_report::{Options, ReportError, hexadecimal, put_all};
 use std::alloc::Global;
@@ -25,6 +26,11 @@ use std::io::Write;
 /// What was read, and what is to be done with it.
 #[derive(Drop)]
 pub enum Task {
+    /// Run a job on the core.
+    Run {
+        job: Job,
+        options: Options,
+    },
     /// Run a job on the machine that takes one step at a time.
     Reference {
         job: Job,
@@ -44,7 +50,10 @@ impl Task {
         ensures legal { IsLegalPredictor result }
     {
         match self {
-            Task::Reference { job, .. } => job.description.values().predictor,
+            Task::Run { job, .. } | Task::Reference { job, .. } => job
+                .description
+                .values()
+                .predictor,
             Task::Check { description, .. } => description.values().predictor,
         }
     }
@@ -61,19 +70,31 @@ fn read_check(alloc: Global, input: &[u8]) -> Result<Task, SimError>
     Ok(Task::Check { description, image })
 }
 
+// The words of memory that a report shows are the job's to say.
+const fn options(trace: bool, limit: u64) -> Options
+    ensures { result ≡ asked trace limit }
+{
+    Options {
+        trace,
+        limit,
+        dump_address: 0,
+        dump_words: 0,
+    }
+}
+
 fn read_task(alloc: Global, command: &Command, input: &[u8]) -> Result<Task, SimError>
     ensures task { IfOk result (Asks command.now input.now) }
     ensures refused { IfErr result (Refuses command.now input.now) }
 {
     match command {
+        Command::Run { trace, limit } => {
+            let job = read_job(alloc, input)?;
+            let options = options(*trace, *limit);
+            Ok(Task::Run { job, options })
+        }
         Command::Reference { limit } => {
             let job = read_job(alloc, input)?;
-            let options = Options {
-                trace: false,
-                limit: *limit,
-                dump_address: 0,
-                dump_words: 0,
-            };
+            let options = options(false, *limit);
             Ok(Task::Reference { job, options })
         }
         Command::Check => read_check(alloc, input),
@@ -116,10 +137,19 @@ fn write_check<W: Write>(writer: &mut W, image: &Image) -> Result<(), ReportErro
     )
 }
 
-fn perform<W: Write>(alloc: Global, task: Task, output: &mut W) -> Result<u8, SimError>
+fn perform<W: Write>(
+    alloc: Global,
+    task: Task,
+    predictor: BoxedPredictor,
+    output: &mut W,
+) -> Result<u8, SimError>
     ensures { Ends task (W.contents output.old) (W.contents output.new) result }
 {
     match task {
+        Task::Run { job, options } => {
+            let stop = simulate(alloc, job, predictor, &options, output)?;
+            Ok(stop_status(stop))
+        }
         Task::Reference { job, options } => {
             let stop = reference(alloc, job, &options, output)?;
             Ok(stop_status(stop))
@@ -132,11 +162,12 @@ fn perform<W: Write>(alloc: Global, task: Task, output: &mut W) -> Result<u8, Si
 }
 
 /// Does the task: writes the report, or the line that says which image the job makes, to `output`,
-/// and answers the exit status. A fault is told on `errors`. No task asks the predictor yet.
+/// and answers the exit status. A fault is told on `errors`. Only a run of the core asks the
+/// predictor.
 pub fn finish<W: Write, E: Write>(
     alloc: Global,
     task: Task,
-    _predictor: Box<dyn Predictor>,
+    predictor: BoxedPredictor,
     output: &mut W,
     errors: &mut FaultLines<E>,
 ) -> u8
@@ -145,7 +176,7 @@ pub fn finish<W: Write, E: Write>(
         × TellsOf errors.old errors.new outcome
         × (result ≡ exit_status outcome) }
 {
-    match perform(alloc, task, output) {
+    match perform(alloc, task, predictor, output) {
         Ok(status) => status,
         Err(error) => errors.tell(error),
     }

@@ -8,5 +8,6 @@ mod reading;
 mod refusals;
 mod reports;
 mod runs;
+mod simulations;
 mod statuses;
 mod usage;

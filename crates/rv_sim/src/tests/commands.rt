@@ -36,6 +36,36 @@ fn a_limit_is_one_to_a_million_and_else_a_usage_fault(rt: HostRuntime) -> Result
 }
 
 #[test]
+fn a_run_has_a_trace_where_the_flag_is_given_once(rt: HostRuntime) -> Result<(), Fail> {
+    let alloc = rt.alloc();
+    let cases: [(&[&str], bool, u64); 4] = [
+        (&["rv_sim", "run"], false, 100_000),
+        (&["rv_sim", "run", "--trace"], true, 100_000),
+        (&["rv_sim", "run", "--limit", "7"], false, 7),
+        (&["rv_sim", "run", "--limit=8", "--trace"], true, 8),
+    ];
+    for (texts, trace, limit) in cases {
+        let given = words(alloc, texts)?;
+        let command = parse_words(alloc, given.as_slice()).ok();
+        assert_eq!(rt; command, Some(Command::Run { trace, limit }));
+    }
+    let refused: [&[&str]; 4] = [
+        &["rv_sim", "run", "--trace", "--trace"],
+        &["rv_sim", "run", "--trace=true"],
+        &["rv_sim", "run", "--limit", "1000001"],
+        &["rv_sim", "reference", "--trace"],
+    ];
+    for texts in refused {
+        let given = words(alloc, texts)?;
+        let Err(error) = parse_words(alloc, given.as_slice()) else {
+            return Err(Fail::from("words were taken"));
+        };
+        assert_eq!(rt; error.exit_code(), 2);
+    }
+    Ok(())
+}
+
+#[test]
 fn check_and_help_are_known_and_other_words_are_not(rt: HostRuntime) -> Result<(), Fail> {
     let alloc = rt.alloc();
     let check = words(alloc, &["rv_sim", "check"])?;

@@ -1,4 +1,4 @@
-use crate::tests::helpers::{WHOLE, missing, run_text};
+use crate::tests::helpers::{CORE, WHOLE, missing, run_text};
 use std::test::Fail;
 
 // The texts are those of the files in `examples/`, which a test cannot read.
@@ -138,10 +138,12 @@ fn the_examples_end_with_what_their_comments_say(rt: HostRuntime) -> Result<(), 
         (TIMER, "x8 80000007"),
     ];
     for (text, line) in cases {
-        let ended = run_text(rt.alloc(), WHOLE, text.as_bytes());
-        let lines = ["stop breakpoint", line];
-        assert_eq!(rt; ended.status, 0);
-        assert_eq!(rt; missing(ended.output.as_slice(), &lines), None);
+        for command in [WHOLE, CORE] {
+            let ended = run_text(rt.alloc(), command, text.as_bytes());
+            let lines = ["stop breakpoint", line];
+            assert_eq!(rt; ended.status, 0);
+            assert_eq!(rt; missing(ended.output.as_slice(), &lines), None);
+        }
     }
     Ok(())
 }

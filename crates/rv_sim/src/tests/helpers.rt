@@ -5,8 +5,14 @@ use std::alloc::Global;
 use std::io;
 use std::io::Write;
 
-/// A run as long as it is by default.
+/// A run of the reference as long as it is by default.
 pub(crate) const WHOLE: Command = Command::Reference { limit: 100_000 };
+
+/// A run of the core as long as it is by default, without a trace.
+pub(crate) const CORE: Command = Command::Run {
+    trace: false,
+    limit: 100_000,
+};
 
 /// How the program ends: its exit status, and what it has written.
 #[derive(Drop)]

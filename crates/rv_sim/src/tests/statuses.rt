@@ -1,3 +1,4 @@
+use crate::boxed_predictor::BoxedPredictor;
 use crate::command::Command;
 use crate::fault_lines::FaultLines;
 use crate::task::{begin, finish};
@@ -54,7 +55,9 @@ fn an_output_that_is_full_gives_status_4(rt: HostRuntime) -> Result<(), Fail> {
         let Ok(task) = begin(alloc, &command, b"ebreak\n", &mut errors) else {
             return Err(Fail::from("a text was refused"));
         };
-        let predictor = Box::new(alloc, NotTaken)?;
+        let predictor = BoxedPredictor {
+            predictor: Box::new(alloc, NotTaken)?,
+        };
         assert_eq!(rt; finish(alloc, task, predictor, &mut output, &mut errors), 4);
         assert_eq!(rt; output.taken.len(), room);
         assert!(rt; errors.is_whole());
@@ -78,7 +81,9 @@ fn a_fault_that_cannot_be_told_has_its_status_too(rt: HostRuntime) -> Result<(),
         return Err(Fail::from("a text was refused"));
     };
     assert!(rt; errors.is_whole());
-    let predictor = Box::new(alloc, NotTaken)?;
+    let predictor = BoxedPredictor {
+        predictor: Box::new(alloc, NotTaken)?,
+    };
     assert_eq!(rt; finish(alloc, task, predictor, &mut Closed, &mut errors), 4);
     assert!(rt; !errors.is_whole());
     Ok(())

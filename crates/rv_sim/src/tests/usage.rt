@@ -10,12 +10,23 @@ const HELP: &str = "Simulates a RISC-V core
 Usage: rv_sim <COMMAND>
 
 Commands:
+  run        Runs the text on standard input on the core, cycle by cycle
   reference  Runs the text on standard input, one step at a time
   check      Assembles the text on standard input
   help       Print this message or the help of the given subcommand(s)
 
 Options:
   -h, --help  Print help
+";
+
+const HELP_OF_RUN: &str = "Runs the text on standard input on the core, cycle by cycle
+
+Usage: rv_sim run [OPTIONS]
+
+Options:
+      --trace      Begins the report with a line for each step
+      --limit <N>  The most cycles, 1 to 1000000 [default: 100000]
+  -h, --help       Print help
 ";
 
 const HELP_OF_REFERENCE: &str = "Runs the text on standard input, one step at a time
@@ -79,6 +90,7 @@ fn usage_and_help_have_their_texts_and_statuses(rt: HostRuntime) -> Result<(), F
     let alloc = rt.alloc();
     is_shown(&rt, alloc, &["rv_sim", "--help"], HELP, 0)?;
     is_shown(&rt, alloc, &["rv_sim", "help"], HELP, 0)?;
+    is_shown(&rt, alloc, &["rv_sim", "run", "-h"], HELP_OF_RUN, 0)?;
     is_shown(
         &rt,
         alloc,
