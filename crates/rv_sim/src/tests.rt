@@ -1,8 +1,12 @@
 mod commands;
 mod examples;
+mod gaps;
+mod guesses;
 mod helpers;
 mod hostile;
+mod hostile_words;
 mod parts;
+mod predictors;
 mod prefixes;
 mod reading;
 mod refusals;
