@@ -10,7 +10,7 @@ use Rattle.rv_core.specs.RunDone.{IsOutcome}
 use Rattle.rv_core.specs.declared.outcome.Outcome.{Outcome}
 use Rattle.rv_hardware.specs.Hardware.{Hardware}
 use Rattle.rv_hardware.specs.Headline.{IsTrueRun, IsTrueStop}
-use Rattle.rv_hardware.specs.Laws.{Laws}
+use Rattle.rv_hardware.specs.Laws.{AreCounted, Laws, TakesDueInterrupts}
 use Rattle.rv_hardware.specs.Report.{Report}
 use Rattle.rv_hardware.specs.Reset.{IsLoadable, reset_hardware}
 use Rattle.rv_hardware.specs.Run.{Cycles, ended, cycled, IsStop, Reachable, at_reset, busy_of, longest_gap_of, stalls_of, steps_of}
@@ -21,7 +21,8 @@ use Rattle.rv_hardware.proofs.HeadlineInvariant.{IsSound}
 use Rattle.rv_hardware.proofs.HeadlineReached.{cycles_counted}
 use Rattle.rv_hardware.proofs.HeadlineRun.{cycles_true, headline_from_reset}
 use Rattle.rv_hardware.proofs.HeadlineStops.{headline_of_stop}
-use Rattle.rv_hardware.proofs.LawsOfCycles.{counts_of_runs}
+use Rattle.rv_hardware.proofs.LawsBusy.{counts_hold}
+use Rattle.rv_hardware.proofs.LawsDue.{due_interrupts_of_runs}
 use Rattle.rv_hardware.proofs.LawsOfRuns.{laws_of_runs}
 use Rattle.rv_report.specs.RunReport.{run_report, report_of}
 use Rattle.rv_report.specs.Totals.{counts_of}
@@ -73,10 +74,11 @@ module _ (job : Job) (options : Options) (stop : Stop) (reports : List Report) (
         stopped = refl;
         ends = subst (λ n. IsTrueStop layout job.arrivals options.limit 0 n steps (seen new) stop) number (headline_of_stop job.arrivals options.limit (hardware_of job) new reports stop reached cycles stopped);
         laws = subst (λ n. Laws job.description 0 n steps) number (laws_of_runs reached cycles);
+        due = subst (λ n. TakesDueInterrupts layout job.arrivals 0 n start steps) number (due_interrupts_of_runs reached cycles);
         longest_gap = subst (λ n. IsLongestGap n steps (longest_gap_of reports)) number (longest_gap_is layout job.arrivals (cycles_true (always_sound reached) cycles));
         gap_bounded = (no_silence job.arrivals (hardware_of job) new reports reached cycles (is_stop-only_last options.limit reports new stop stopped)).longest;
         counts = refl;
-        cycles = (counts_of_runs reached cycles).0;
+        counted = subst (λ n. AreCounted 0 n steps (busy_of reports) (stalls_of reports) (length reports)) number (counts_hold reached cycles);
         text_is = ap (λ (levels : Lines). run_report steps totals layout (seen new) levels (shown job.description.report options)) lines;
       }
 

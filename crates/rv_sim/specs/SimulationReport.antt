@@ -9,7 +9,7 @@ use Rattle.rv_arch.specs.Reset.{reset, no_lines}
 use Rattle.rv_arch.specs.State.{State}
 use Rattle.rv_arch.specs.declared.outcome.Stop.{Stop}
 use Rattle.rv_hardware.specs.Headline.{IsTrueRun, IsTrueStop}
-use Rattle.rv_hardware.specs.Laws.{Laws, stall_cycles}
+use Rattle.rv_hardware.specs.Laws.{AreCounted, Laws, TakesDueInterrupts}
 use Rattle.rv_hardware.specs.Step.{stamp_of}
 use Rattle.rv_hardware.specs.declared.step.Step.{Step}
 use Rattle.rv_report.specs.RunReport.{run_report}
@@ -47,12 +47,14 @@ pub record IsSimulationReport (job : Job) (options : Options) (stop : Stop) (tex
   pub ends : IsTrueStop (layout_of job.description) job.arrivals options.limit 0 totals.cycles steps end stop
   -- they obey the laws of the described core
   pub laws : Laws job.description 0 totals.cycles steps
+  -- an interrupt that is due in a cycle is its one step
+  pub due : TakesDueInterrupts (layout_of job.description) job.arrivals 0 totals.cycles (reset (layout_of job.description) job.image.bytes job.image.start) steps
   -- no gap of cycles without a step is longer than the reported one, which is below the bound
   pub longest_gap : IsLongestGap totals.cycles steps totals.longest_gap
   pub gap_bounded : totals.longest_gap < gap_bound_of job.description
   -- the steps are counted by their sort, and each cycle is busy or stalled
   pub counts : totals.steps ≡ counts_of steps
-  pub cycles : totals.busy + stall_cycles totals.stalls ≡ totals.cycles
+  pub counted : AreCounted 0 totals.cycles steps totals.busy totals.stalls totals.cycles
   -- the text shows the steps, where a trace is asked for, these totals, the state, and the words of memory that the
   -- description asks for
   pub text_is : text ≡ run_report steps totals (layout_of job.description) end (lines_after job.arrivals totals.cycles) (shown job.description.report options)
