@@ -3,6 +3,21 @@ use std::test::Fail;
 
 // The texts are those of the files in `examples/`, which a test cannot read.
 
+const ADDITION: &str =
+    "# One addition on a machine that does one thing a cycle. `./rv_sim run --trace < examples/addition.job` begins with
+#     R 80000000 00500093 F0 D1 I2 B3 C4 x1=00000005
+# for it: fetched in cycle 0, dispatched in 1, issued in 2, its result broadcast in 3, and committed in 4.
+# A test runs this text too: crates/rv_sim/src/tests/examples.rt.
+fetch_width = 1
+dispatch_width = 1
+commit_width = 1
+bus_width = 1
+alu.units = 1
+%%
+        addi x1, x0, 5
+        ebreak
+";
+
 const DIVISOR: &str =
     "# The greatest common divisor of 252 and 105 by subtraction. At the end a0, which is x10, is 21 (00000015).
 # A test runs this text too: crates/rv_sim/src/tests/examples.rt.
@@ -129,6 +144,7 @@ handler:
 #[test]
 fn the_examples_end_with_what_their_comments_say(rt: HostRuntime) -> Result<(), Fail> {
     let cases = [
+        (ADDITION, "x1 00000005"),
         (DIVISOR, "x10 00000015"),
         (FACTORIAL, "x10 00000078"),
         (FIBONACCI, "x10 00000037"),
