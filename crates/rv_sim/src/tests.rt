@@ -1,8 +1,10 @@
 mod commands;
 mod examples;
+mod guesses;
 mod helpers;
 mod hostile;
 mod parts;
+mod predictors;
 mod prefixes;
 mod reading;
 mod refusals;
