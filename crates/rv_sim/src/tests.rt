@@ -1,10 +1,8 @@
 mod commands;
 mod examples;
-mod gaps;
 mod guesses;
 mod helpers;
 mod hostile;
-mod hostile_words;
 mod parts;
 mod predictors;
 mod prefixes;

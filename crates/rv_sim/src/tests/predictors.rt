@@ -214,13 +214,11 @@ fn no_guess_and_no_recovery_changes_the_state_at_the_end(rt: HostRuntime) -> Res
 // The timer's line in the cycles 0 to 999: high in the even ones and low in the odd ones.
 fn alternating(alloc: Global) -> Result<String, Fail> {
     let mut text = String::new(alloc);
-    for pair in 0..500 {
-        let even = 2 * pair;
-        let odd = even + 1;
-        writeln!(text, "[[arrival]]\ncycle = {even}\nline = \"timer\"")?;
+    for cycle in 0..1000 {
+        let level = if cycle % 2 == 0 { 1 } else { 0 };
         writeln!(
             text,
-            "[[arrival]]\ncycle = {odd}\nline = \"timer\"\nlevel = 0"
+            "[[arrival]]\ncycle = {cycle}\nline = \"timer\"\nlevel = {level}"
         )?;
     }
     Ok(text)
