@@ -28,37 +28,18 @@ use Rattle.rv_report.specs.RunReport.{run_report, report_of}
 use Rattle.rv_report.specs.Totals.{counts_of}
 use Rattle.rv_report.specs.declared.options.Options.{Options}
 use Rattle.rv_report.specs.declared.totals.Totals.{Totals}
+use Rattle.rv_sim.specs.CoreReport.{IsSimulation, hardware_of, text_of, totals_at}
 use Rattle.rv_sim.specs.ReferenceReport.{layout_of, shown}
 use Rattle.rv_sim.specs.SimulationReport.{IsLongestGap, IsSimulationReport, lines_after}
 use Rattle.rv_sim.specs.declared.job.Job.{Job}
 use Rattle.rv_sim.proofs.LinesAfter.{lines_are}
 use Rattle.rv_sim.proofs.LongestGap.{longest_gap_is}
 
--- what some cycles came to
-abbrev pub totals_at : List Report → Stop → Totals
-totals_at reports stop = record {
-  stop = stop;
-  cycles = length reports;
-  steps = counts_of (steps_of reports);
-  longest_gap = longest_gap_of reports;
-  busy = busy_of reports;
-  stalls = stalls_of reports;
-}
-
--- the hardware at reset with the image of a job
-abbrev pub hardware_of : Job → Hardware
-hardware_of job = reset_hardware job.description job.image.bytes job.image.start
-
--- the report of some cycles of a job, that left the hardware so
-abbrev pub text_of : Job → Options → Stop → List Report → Hardware → List ℕ
-text_of job options stop reports new =
-    run_report (steps_of reports) (totals_at reports stop) (layout_of job.description) (seen new) new.lines (shown job.description.report options)
-
 module _ (job : Job) (options : Options) (stop : Stop) (reports : List Report) (new : Hardware)
     (legal : IsLegal job.description) (loadable : IsLoadable job.description job.image.base job.image.bytes job.image.start)
     (cycles : Cycles job.arrivals (hardware_of job) reports new) (stopped : IsStop options.limit reports new stop) where
-  pub simulated : IsSimulationReport job options stop (text_of job options stop reports new)
-  simulated =
+  promised : IsSimulationReport job options stop (text_of job options stop reports new)
+  promised =
       let reached : Reachable (hardware_of job) = at_reset legal loadable in
       let number : new.cycle ≡ length reports = omega (arith, cycles_counted cycles) in
       let layout = layout_of job.description in
@@ -82,6 +63,9 @@ module _ (job : Job) (options : Options) (stop : Stop) (reports : List Report) (
         text_is = ap (λ (levels : Lines). run_report steps totals layout (seen new) levels (shown job.description.report options)) lines;
       }
 
+  pub simulated : IsSimulation job options stop (text_of job options stop reports new)
+  simulated = record { promises = promised; timing = record { reports = reports; end = new; cycles = cycles; stops = stopped; text_is = refl } }
+
 -- a run does not change what was described
 values_kept : {arrivals : List Arrival} {old new : Hardware} {reports : List Report} → IsSound old → Cycles arrivals old reports new → new.values ≡ old.values
 values_kept sound ended = refl
@@ -92,7 +76,7 @@ values_kept {arrivals} sound (cycled {old = old} {middle = middle} {report = rep
 -- the report of a run of the core
 pub run_simulated : (job : Job) (options asked : Options) (old new : Hardware) (outcome : Outcome)
     → IsLegal job.description → IsLoadable job.description job.image.base job.image.bytes job.image.start → old ≡ hardware_of job
-    → asked ≡ shown job.description.report options → IsOutcome job.arrivals asked.limit old new outcome → IsSimulationReport job options outcome.stop (report_of outcome new asked)
+    → asked ≡ shown job.description.report options → IsOutcome job.arrivals asked.limit old new outcome → IsSimulation job options outcome.stop (report_of outcome new asked)
 run_simulated job options asked old new outcome legal loadable old_is asked_is ended_so =
     let (reports, run, stopped) = ended_so in
     let cycles = subst (λ (h : Hardware). Cycles job.arrivals h reports new) old_is run.cycled in
@@ -108,4 +92,4 @@ run_simulated job options asked old new outcome legal loadable old_is asked_is e
       stalls = sym run.stalls_are i;
     }) (layout_of (sym values i)) (seen new) new.lines (sym asked_is i)
     in
-    subst (IsSimulationReport job options outcome.stop) text_is (simulated job options outcome.stop reports new legal loadable cycles stops)
+    subst (IsSimulation job options outcome.stop) text_is (simulated job options outcome.stop reports new legal loadable cycles stops)

@@ -9,6 +9,7 @@ pub mod Program
 pub mod ReadParts
 pub mod ReferenceReport
 pub mod SimulationReport
+pub mod CoreReport
 pub mod Task
 pub mod TextImage
 pub mod Usage

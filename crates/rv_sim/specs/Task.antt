@@ -9,7 +9,7 @@ use Rattle.rv_sim.specs.JobRefusal.{RefusesJob}
 use Rattle.rv_sim.specs.JobText.{Assembles, Describes, HasLegalLength, IsJobOf}
 use Rattle.rv_report.specs.Line.{word_text}
 use Rattle.rv_sim.specs.ReferenceReport.{IsReferenceReport}
-use Rattle.rv_sim.specs.SimulationReport.{IsSimulationReport}
+use Rattle.rv_sim.specs.CoreReport.{IsSimulation}
 use Rattle.rv_report.specs.Written.{AppendsBeginning}
 use Rattle.rv_report.specs.declared.options.Options.{Options}
 use Rattle.rv_sim.specs.declared.command.Command.{Command}
@@ -50,7 +50,7 @@ check_line bytes start = codes "ok " ++ (decimal bytes ++ (codes " bytes start "
 -- the text of a task that was done, and the exit status
 abbrev pub Shows : Task → List ℕ → ℕ → Type 0
 Shows (Run job options) text status =
-    (stop : Stop) × IsSimulationReport job options stop text × (status ≡ stop_status stop)
+    (stop : Stop) × IsSimulation job options stop text × (status ≡ stop_status stop)
 Shows (Reference job options) text status =
     (stop : Stop) × IsReferenceReport job options stop text × (status ≡ stop_status stop)
 Shows (Check description image) text status = (text ≡ check_line (length image.bytes) image.start) × (status ≡ 0)

@@ -1,6 +1,6 @@
 ghost use Rattle.std.specs.Prelude.{◌≡◌, ◌⊎◌, ℕ, List, IfOk, IfErr};
 ghost use Rattle.std.specs.Io.KnownBytes.{Appends, Keeps};
-ghost use Rattle.rv_sim.specs.SimulationReport.{IsSimulationReport};
+ghost use Rattle.rv_sim.specs.CoreReport.{IsSimulation};
 ghost use Rattle.rv_report.specs.Written.{AppendsBeginning};
 
 use crate::boxed_predictor::BoxedPredictor;
@@ -27,10 +27,10 @@ pub fn simulate<W: Write>(
     writer: &mut W,
 ) -> Result<Stop, SimError>
     ensures report { IfOk result (λ stop. (text : List ℕ)
-        × IsSimulationReport job options.now stop text
+        × IsSimulation job options.now stop text
         × Appends (W.contents writer.old) (W.contents writer.new) text) }
     ensures beginning { result ≡ Err SimError.WriteFailed → (stop : Stop) × (text : List ℕ)
-        × IsSimulationReport job options.now stop text
+        × IsSimulation job options.now stop text
         × AppendsBeginning (W.contents writer.old) (W.contents writer.new) text }
     ensures nothing { result ≡ Err SimError.Memory → Keeps (W.contents writer.old) (W.contents writer.new) }
     ensures errors { IfErr result (λ e. (e ≡ SimError.Memory) ⊎ (e ≡ SimError.WriteFailed)) }
