@@ -1,5 +1,5 @@
 -- A property that each turn keeps is kept by all turns, and what holds at reset and is kept by each cycle always holds.
-use Rattle.std.specs.Prelude.{ℕ, zero, suc, ◌≡◌, ◌<◌, ◌^◌, List}
+use Rattle.std.specs.Prelude.{ℕ, zero, suc, ◌<◌, ◌^◌, List}
 use Rattle.rv_isa.specs.Description.{IsLegal}
 use Rattle.rv_isa.specs.declared.lines.Lines.{Lines}
 use Rattle.rv_isa.specs.declared.values.Values.{Values}
