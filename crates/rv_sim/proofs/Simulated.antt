@@ -1,5 +1,5 @@
 -- What cycles from reset came to is what the report of a simulation says.
-use Rattle.std.proofs.Common.{◌≡◌, ℕ, List, length, refl, sym, subst, ap, ◌∙◌, arith}
+use Rattle.std.proofs.Common.{◌≡◌, List, length, refl, sym, subst, ap, ◌∙◌, arith}
 use Rattle.rv_isa.specs.Arrivals.{lines_at}
 use Rattle.rv_isa.specs.Description.{IsLegal}
 use Rattle.rv_isa.specs.declared.lines.Arrival.{Arrival}
@@ -12,7 +12,7 @@ use Rattle.rv_hardware.specs.Hardware.{Hardware}
 use Rattle.rv_hardware.specs.Headline.{IsTrueRun, IsTrueStop}
 use Rattle.rv_hardware.specs.Laws.{AreCounted, Laws, TakesDueInterrupts}
 use Rattle.rv_hardware.specs.Report.{Report}
-use Rattle.rv_hardware.specs.Reset.{IsLoadable, reset_hardware}
+use Rattle.rv_hardware.specs.Reset.{IsLoadable}
 use Rattle.rv_hardware.specs.Run.{Cycles, ended, cycled, IsStop, Reachable, at_reset, busy_of, longest_gap_of, stalls_of, steps_of}
 use Rattle.rv_hardware.specs.Seen.{seen}
 use Rattle.rv_hardware.proofs.GapRun.{no_silence, is_stop-only_last}
@@ -27,7 +27,6 @@ use Rattle.rv_hardware.proofs.LawsOfRuns.{laws_of_runs}
 use Rattle.rv_report.specs.RunReport.{run_report, report_of}
 use Rattle.rv_report.specs.Totals.{counts_of}
 use Rattle.rv_report.specs.declared.options.Options.{Options}
-use Rattle.rv_report.specs.declared.totals.Totals.{Totals}
 use Rattle.rv_sim.specs.CoreReport.{IsSimulation, hardware_of, text_of, totals_at}
 use Rattle.rv_sim.specs.ReferenceReport.{layout_of, shown}
 use Rattle.rv_sim.specs.SimulationReport.{IsLongestGap, IsSimulationReport, lines_after}
