@@ -20,7 +20,7 @@ use rv_arch::Csrs;
 use rv_cache::Cache;
 use rv_front::{FetchStop, Front, Predictor};
 use rv_hardware::{Stall, Step};
-use rv_isa::{Description, Image, Lines, Reg, Values};
+use rv_isa::{Description, Image, Lines, Values};
 use rv_memory::{Ram, StaleMap};
 use rv_rename::RenameMap;
 use rv_rob::Rob;
@@ -155,11 +155,6 @@ impl Parts {
         ensures { result ≡ nat_le self.now.port_free self.now.cycle }
     {
         self.port_free <= self.cycle
-    }
-
-    /// The value that retired instructions left in a register.
-    pub(crate) fn register(&self, register: Reg) -> u32 {
-        self.registers[register.index()]
     }
 
     /// Squashes everything in flight, and begins to fetch anew at the committed pc.
