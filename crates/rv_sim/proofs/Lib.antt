@@ -1,12 +1,5 @@
 mod Ending
-mod Flags
-mod JobParts
-mod Limits
 mod LinesAfter
 mod LongestGap
-mod Parses
-mod Places
-mod Reading
 mod Running
 mod Simulated
-mod Subcommands
