@@ -1,3 +1,2 @@
 mod Counts
 mod MemoryLines
-pub mod Writing

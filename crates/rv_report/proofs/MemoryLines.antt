@@ -3,7 +3,7 @@ use Rattle.std.proofs.Common.{◌≡◌, ◌∙◌, ℕ, ◌+◌, List, Option, 
 use Rattle.std.specs.Prelude.{◌*◌, ◌%◌, ◌^◌}
 use Rattle.rv_memory.specs.Memory.{Layout}
 use Rattle.rv_report.specs.Memory.{memory_line, place_of, word_seen}
-use Rattle.rv_report.proofs.Writing.{place_of_word}
+use Rattle.rv_text.proofs.Writing.{place_of_word}
 
 module _ (layout : Layout) (ram : List ℕ) where
   abbrev pub line_at : ℕ → List ℕ

@@ -1,6 +1,3 @@
-pub mod Line
-pub mod Written
-pub mod ReadField
 pub mod State
 pub mod Memory
 pub mod ReferenceReport

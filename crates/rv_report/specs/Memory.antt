@@ -3,7 +3,7 @@ use Rattle.std.specs.Prelude.{ℕ, ◌+◌, ◌*◌, ◌%◌, ◌^◌, List, ◌
 use Rattle.std.specs.List.{flat_map, range_with_len}
 use Rattle.std.specs.Option.{option_map}
 use Rattle.rv_memory.specs.Memory.{Layout, byte_seen}
-use Rattle.rv_report.specs.Line.{word_text, line_of}
+use Rattle.rv_text.specs.Line.{word_text, line_of}
 
 -- a word of memory, or hyphens outside RAM
 unfoldable pub memory_text : Option ℕ → List ℕ

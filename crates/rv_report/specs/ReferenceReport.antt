@@ -2,7 +2,7 @@
 use Rattle.std.specs.Prelude.{ℕ, List, ◌++◌, codes}
 use Rattle.rv_arch.specs.Machine.{Machine}
 use Rattle.rv_arch.specs.declared.outcome.RefOutcome.{RefOutcome}
-use Rattle.rv_report.specs.Line.{count_line}
+use Rattle.rv_text.specs.Line.{count_line}
 use Rattle.rv_report.specs.Memory.{seen_memory_lines}
 use Rattle.rv_report.specs.State.{stop_line, state_lines}
 use Rattle.rv_report.specs.declared.options.Options.{Options}

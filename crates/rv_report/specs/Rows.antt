@@ -6,7 +6,7 @@ use Rattle.rv_hardware.specs.declared.step.Execution.{Execution}
 use Rattle.rv_hardware.specs.declared.step.Row.{Row}
 use Rattle.rv_hardware.specs.declared.step.Step.{Step}
 use Rattle.rv_hardware.specs.declared.step.Step.TheVariants.{Retired, Trap, Interrupt}
-use Rattle.rv_report.specs.Line.{word_text}
+use Rattle.rv_text.specs.Line.{word_text}
 
 -- a cycle, or a hyphen where there is none
 unfoldable pub stamp_text : Option ℕ → List ℕ

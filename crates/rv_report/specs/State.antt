@@ -6,7 +6,7 @@ use Rattle.rv_arch.specs.Csr.{Kept, value_of}
 use Rattle.rv_arch.specs.declared.csr.Csr.TheVariants.{Mstatus, Mie, Mtvec, Mscratch, Mepc, Mcause, Mtval, Mip}
 use Rattle.rv_arch.specs.declared.outcome.Stop.{Stop}
 use Rattle.rv_arch.specs.declared.outcome.Stop.TheVariants.{Limit, Breakpoint, Stale, Exhausted}
-use Rattle.rv_report.specs.Line.{word_text, line_of, word_line}
+use Rattle.rv_text.specs.Line.{word_text, line_of, word_line}
 
 -- why a run ended
 unfoldable pub stop_text : Stop → List ℕ

@@ -4,7 +4,7 @@ use Rattle.rv_core.specs.declared.outcome.Outcome.{Outcome}
 use Rattle.rv_hardware.specs.declared.report.StallCounts.{StallCounts}
 use Rattle.rv_hardware.specs.declared.step.Step.{Step}
 use Rattle.rv_hardware.specs.declared.step.Step.TheVariants.{Retired, Trap, Interrupt}
-use Rattle.rv_report.specs.Line.{line_of, count_line, ratio_text}
+use Rattle.rv_text.specs.Line.{line_of, count_line, ratio_text}
 use Rattle.rv_report.specs.declared.totals.StepCounts.{StepCounts}
 use Rattle.rv_report.specs.declared.totals.Totals.{Totals}
 

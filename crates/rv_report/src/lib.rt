@@ -2,11 +2,8 @@
 //! A report is a function of both; where a write fails, what was written is a beginning of it.
 #![tactic(auto)]
 
-mod digits;
-mod fields;
 mod memory;
 mod options;
-mod output;
 mod reference_report;
 mod rows;
 mod run_report;
@@ -15,9 +12,7 @@ mod state;
 mod tests;
 mod totals;
 
-pub use digits::hexadecimal;
 pub use options::Options;
-pub use output::{ReportError, put, put_all};
 pub use reference_report::write_reference;
 pub use rows::write_steps;
 pub use run_report::{write_report, write_totals, write_trace};

@@ -2,15 +2,14 @@ ghost use Rattle.std.specs.Prelude.{◌≡◌, OnOk, OnErr};
 ghost use Rattle.std.specs.Io.KnownBytes.{Appends};
 ghost use Rattle.rv_hardware.specs.Seen.{layout_of, seen};
 ghost use Rattle.rv_report.specs.Memory.{memory_line, word_seen, seen_memory_lines};
-ghost use Rattle.rv_report.specs.Written.{AppendsBeginning};
+ghost use Rattle.rv_text.specs.Written.{AppendsBeginning};
 
-use crate::digits::hexadecimal;
-use crate::output::{ReportError, put_all};
 use rv_core::Core;
+use rv_text::{ReportError, hexadecimal, put_all};
 use std::io::Write;
 
 /// Writes the line of a word of memory, or of `None` outside RAM.
-#[tactic(auto, unfolding(crate::specs::Memory::memory_line, crate::specs::Memory::memory_text, crate::specs::Line::line_of))]
+#[tactic(auto, unfolding(crate::specs::Memory::memory_line, crate::specs::Memory::memory_text, rv_text::specs::Line::line_of))]
 pub(crate) fn write_word<W: Write>(
     writer: &mut W,
     address: u32,

@@ -2,18 +2,17 @@ ghost use Rattle.std.specs.Prelude.{◌≡◌, OnOk, OnErr};
 ghost use Rattle.std.specs.Io.KnownBytes.{Appends};
 ghost use Rattle.rv_report.specs.Memory.{word_seen, seen_memory_lines};
 ghost use Rattle.rv_report.specs.ReferenceReport.{count_lines, reference_report};
-ghost use Rattle.rv_report.specs.Written.{AppendsBeginning};
+ghost use Rattle.rv_text.specs.Written.{AppendsBeginning};
 
-use crate::fields::{Field, Value, write_fields};
 use crate::memory::write_word;
 use crate::options::Options;
-use crate::output::ReportError;
 use crate::state::{write_state, write_stop};
 use rv_arch::{RefOutcome, Reference};
+use rv_text::{Field, ReportError, Value, write_fields};
 use std::io::Write;
 
 // The counts of a run.
-#[tactic(auto, unfolding(crate::specs::ReferenceReport::count_lines, crate::specs::Line::count_line))]
+#[tactic(auto, unfolding(crate::specs::ReferenceReport::count_lines, rv_text::specs::Line::count_line))]
 fn write_counts<W: Write>(writer: &mut W, outcome: &RefOutcome) -> Result<(), ReportError>
     ensures whole { OnOk result (Appends (W.contents writer.old) (W.contents writer.new) (count_lines outcome.now)) }
     ensures beginning { OnErr result (AppendsBeginning (W.contents writer.old) (W.contents writer.new) (count_lines outcome.now)) }

@@ -1,13 +1,12 @@
 ghost use Rattle.std.specs.Prelude.{◌≡◌, OnOk, OnErr};
 ghost use Rattle.std.specs.Io.KnownBytes.{Appends};
 ghost use Rattle.rv_report.specs.Rows.{stamp_text, issued_in, broadcast_in, passage_text, written_text, row_line, step_line, trace_lines};
-ghost use Rattle.rv_report.specs.Written.{AppendsBeginning};
+ghost use Rattle.rv_text.specs.Written.{AppendsBeginning};
 
-use crate::digits::hexadecimal;
-use crate::output::{ReportError, put, put_all};
 use itoa::Buffer;
 use rv_hardware::{Row, Step};
 use rv_isa::Reg;
+use rv_text::{ReportError, hexadecimal, put, put_all};
 use std::io::Write;
 
 #[tactic(auto, unfolding(crate::specs::Rows::stamp_text))]

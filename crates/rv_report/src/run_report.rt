@@ -3,21 +3,20 @@ ghost use Rattle.std.specs.Io.KnownBytes.{Appends};
 ghost use Rattle.rv_hardware.specs.Seen.{seen};
 ghost use Rattle.rv_report.specs.Totals.{total_lines};
 ghost use Rattle.rv_report.specs.RunReport.{end_lines, end_of, trace_of, report_of};
-ghost use Rattle.rv_report.specs.Written.{AppendsBeginning};
+ghost use Rattle.rv_text.specs.Written.{AppendsBeginning};
 
-use crate::fields::{Field, Value, write_fields};
 use crate::memory::write_memory;
 use crate::options::Options;
-use crate::output::ReportError;
 use crate::rows::write_steps;
 use crate::state::{write_state, write_stop};
 use crate::totals::Totals;
 use rv_core::{Core, Outcome};
 use rv_hardware::Step;
+use rv_text::{Field, ReportError, Value, write_fields};
 use std::io::Write;
 
 // The counts of a run.
-#[tactic(auto, unfolding(crate::specs::Totals::total_lines, crate::specs::Totals::stall_lines, crate::specs::Line::count_line))]
+#[tactic(auto, unfolding(crate::specs::Totals::total_lines, crate::specs::Totals::stall_lines, rv_text::specs::Line::count_line))]
 fn write_counts<W: Write>(writer: &mut W, totals: &Totals) -> Result<(), ReportError>
     ensures whole { OnOk result (Appends (W.contents writer.old) (W.contents writer.new) (total_lines totals.now)) }
     ensures beginning { OnErr result (AppendsBeginning (W.contents writer.old) (W.contents writer.new) (total_lines totals.now)) }

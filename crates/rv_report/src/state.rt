@@ -2,17 +2,15 @@ ghost use Rattle.std.specs.Prelude.{◌≡◌, true, is_some, OnOk, OnErr, Some}
 ghost use Rattle.std.specs.Io.KnownBytes.{Appends};
 ghost use Rattle.rv_arch.specs.Csr.{csr_at, read_at};
 ghost use Rattle.rv_report.specs.State.{stop_line, register_line, register_lines, csr_lines, state_lines};
-ghost use Rattle.rv_report.specs.Written.{AppendsBeginning};
+ghost use Rattle.rv_text.specs.Written.{AppendsBeginning};
 
-use crate::digits::hexadecimal;
-use crate::fields::{Field, Value, write_fields};
-use crate::output::{ReportError, put, put_all};
 use itoa::Buffer;
 use rv_arch::{Observed, Stop};
+use rv_text::{Field, ReportError, Value, hexadecimal, put, put_all, write_fields};
 use std::io::Write;
 
 /// Writes the line that says why a run ended.
-#[tactic(auto, unfolding(crate::specs::State::stop_line, crate::specs::State::stop_text, crate::specs::Line::line_of))]
+#[tactic(auto, unfolding(crate::specs::State::stop_line, crate::specs::State::stop_text, rv_text::specs::Line::line_of))]
 pub(crate) fn write_stop<W: Write>(writer: &mut W, stop: Stop) -> Result<(), ReportError>
     ensures whole { OnOk result (Appends (W.contents writer.old) (W.contents writer.new) (stop_line stop)) }
     ensures beginning { OnErr result (AppendsBeginning (W.contents writer.old) (W.contents writer.new) (stop_line stop)) }
@@ -25,7 +23,7 @@ pub(crate) fn write_stop<W: Write>(writer: &mut W, stop: Stop) -> Result<(), Rep
     }
 }
 
-#[tactic(auto, unfolding(crate::specs::State::register_line, crate::specs::Line::word_line, crate::specs::Line::line_of))]
+#[tactic(auto, unfolding(crate::specs::State::register_line, rv_text::specs::Line::word_line, rv_text::specs::Line::line_of))]
 fn write_register<W: Write>(writer: &mut W, number: usize, word: u32) -> Result<(), ReportError>
     ensures whole { OnOk result (Appends (W.contents writer.old) (W.contents writer.new) (register_line number word)) }
     ensures beginning { OnErr result (AppendsBeginning (W.contents writer.old) (W.contents writer.new) (register_line number word)) }
@@ -57,7 +55,7 @@ fn csr(seen: &Observed, address: u32) -> u32
     seen.csrs.read(address, seen.lines).unwrap()
 }
 
-#[tactic(auto, unfolding(crate::specs::State::csr_lines, crate::specs::Line::word_line))]
+#[tactic(auto, unfolding(crate::specs::State::csr_lines, rv_text::specs::Line::word_line))]
 fn write_csrs<W: Write>(writer: &mut W, seen: &Observed) -> Result<(), ReportError>
     ensures whole { OnOk result (Appends (W.contents writer.old) (W.contents writer.new) (csr_lines seen.now.csrs seen.now.lines)) }
     ensures beginning { OnErr result (AppendsBeginning (W.contents writer.old) (W.contents writer.new) (csr_lines seen.now.csrs seen.now.lines)) }
@@ -110,7 +108,7 @@ fn write_csrs<W: Write>(writer: &mut W, seen: &Observed) -> Result<(), ReportErr
 }
 
 /// Writes the pc, the registers and the control and status registers.
-#[tactic(auto, unfolding(crate::specs::Line::word_line))]
+#[tactic(auto, unfolding(rv_text::specs::Line::word_line))]
 pub(crate) fn write_state<W: Write>(writer: &mut W, seen: &Observed) -> Result<(), ReportError>
     ensures whole { OnOk result (Appends (W.contents writer.old) (W.contents writer.new) (state_lines seen.now.pc seen.now.regs seen.now.csrs seen.now.lines)) }
     ensures beginning { OnErr result (AppendsBeginning (W.contents writer.old) (W.contents writer.new) (state_lines seen.now.pc seen.now.regs seen.now.csrs seen.now.lines)) }

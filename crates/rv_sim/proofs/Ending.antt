@@ -1,22 +1,12 @@
 -- How a run ends that was not told whole.
-use Rattle.std.proofs.Common.{◌≡◌, ◌⊎◌, ℕ, List, Option, sym, subst, ap, ⊎_elim}
-use Rattle.std.specs.Prelude.{Result, Ok, Err, IfErr, IsErrAnd}
+use Rattle.std.proofs.Common.{◌≡◌, ◌⊎◌, ℕ, List, Option, sym, subst, ⊎_elim}
+use Rattle.std.specs.Prelude.{Err}
 use Rattle.std.specs.Io.KnownBytes.{Keeps}
 use Rattle.rv_sim.specs.Task.{AsksForMemory, Ends, Shows}
-use Rattle.rv_report.specs.Written.{AppendsBeginning}
-use Rattle.rv_sim.specs.declared.errors.SimError.{SimError}
-use Rattle.rv_sim.specs.declared.errors.SimError.TheVariants.{Memory, WriteFailed}
+use Rattle.rv_text.specs.Written.{AppendsBeginning}
+use Rattle.rv_job.specs.declared.errors.SimError.{SimError}
+use Rattle.rv_job.specs.declared.errors.SimError.TheVariants.{Memory, WriteFailed}
 use Rattle.rv_sim.specs.declared.task.Task.{Task}
-
--- an error that `?` hands on
-pub handed_on : {T : Type 0} (result : Result T SimError) (error : SimError) → IsErrAnd result (λ e. e ≡ error) → result ≡ Err error
-handed_on (Ok value) error same = absurd same
-handed_on (Err e) error same = ap Err same
-
--- what holds of an error that `?` hands on
-pub refused_on : {T : Type 0} (P : SimError → Type 0) (result : Result T SimError) (error : SimError) → IsErrAnd result (λ e. e ≡ error) → P error → IfErr result P
-refused_on P (Ok value) error same holds = absurd same
-refused_on P (Err e) error same holds = subst P (sym same) holds
 
 -- for want of memory, or where the output failed
 pub Ends-by_error : (task : Task) (old new : Option (List ℕ)) (error : SimError) → AsksForMemory task

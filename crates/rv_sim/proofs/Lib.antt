@@ -1,11 +1,4 @@
 mod Ending
-mod Flags
-mod JobParts
-mod Limits
 mod LinesAfter
-mod Parses
-mod Places
-mod Reading
 mod Running
 mod Simulated
-mod Subcommands

@@ -32,7 +32,7 @@ use Rattle.rv_report.specs.declared.options.Options.{Options}
 use Rattle.rv_sim.specs.CoreReport.{IsSimulation, hardware_of, text_of, totals_at}
 use Rattle.rv_sim.specs.ReferenceReport.{layout_of, shown}
 use Rattle.rv_sim.specs.SimulationReport.{IsSimulationReport, lines_after}
-use Rattle.rv_sim.specs.declared.job.Job.{Job}
+use Rattle.rv_job.specs.declared.job.Job.{Job}
 use Rattle.rv_sim.proofs.LinesAfter.{lines_are}
 
 module _ (job : Job) (options : Options) (stop : Stop) (reports : List Report) (new : Hardware)

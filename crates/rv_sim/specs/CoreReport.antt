@@ -12,7 +12,7 @@ use Rattle.rv_report.specs.declared.options.Options.{Options}
 use Rattle.rv_report.specs.declared.totals.Totals.{Totals}
 use Rattle.rv_sim.specs.ReferenceReport.{layout_of, shown}
 use Rattle.rv_sim.specs.SimulationReport.{IsSimulationReport}
-use Rattle.rv_sim.specs.declared.job.Job.{Job}
+use Rattle.rv_job.specs.declared.job.Job.{Job}
 
 -- what some cycles came to
 abbrev pub totals_at : List Report → Stop → Totals

@@ -1,15 +1,5 @@
-pub mod Command
-pub mod Fault
-pub mod FaultStream
-pub mod ImageRefusal
-pub mod JobRefusal
-pub mod JobText
-pub mod Parts
 pub mod Program
-pub mod ReadParts
 pub mod ReferenceReport
 pub mod SimulationReport
 pub mod CoreReport
 pub mod Task
-pub mod TextImage
-pub mod Usage

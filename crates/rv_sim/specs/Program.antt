@@ -1,17 +1,13 @@
 -- What the program does with a command, from the bytes of its input to those of its output.
-use Rattle.std.specs.Prelude.{◌≡◌, ◌⊎◌, ℕ, List, Option, Result, IfSome, take}
-use Rattle.rv_sim.specs.Fault.{exit_status, fault_line, fault_status, input_fault_line, input_fault_status}
-use Rattle.rv_sim.specs.FaultStream.{FaultStream, Tells, TellsOf}
+use Rattle.std.specs.Prelude.{◌≡◌, ◌⊎◌, ℕ, List, Option, Result}
+use Rattle.rv_job.specs.Fault.{exit_status, fault_line, fault_status, input_fault_line, input_fault_status}
+use Rattle.rv_job.specs.FaultStream.{FaultStream, Tells, TellsOf, TellsWantOfMemory}
+use Rattle.rv_job.specs.Input.{IsInputOf}
 use Rattle.rv_sim.specs.Task.{Asks, Ends, Refuses}
-use Rattle.rv_sim.specs.Usage.{TellsWantOfMemory}
-use Rattle.rv_sim.specs.declared.command.Command.{Command}
-use Rattle.rv_sim.specs.declared.errors.SimError.{SimError}
-use Rattle.rv_sim.specs.declared.input.InputError.{InputError}
+use Rattle.rv_command.specs.declared.command.Command.{Command}
+use Rattle.rv_job.specs.declared.errors.SimError.{SimError}
+use Rattle.rv_job.specs.declared.input.InputError.{InputError}
 use Rattle.rv_sim.specs.declared.task.Task.{Task}
-
--- the bytes of a reader, where they are known: all of them, or the first 33,554,433, one more than a job may have
-abbrev pub IsInputOf : Option (List ℕ) → List ℕ → Type 0
-IsInputOf remaining input = IfSome remaining (λ bytes. input ≡ take 33554433 bytes)
 
 -- the input could not be read, which is told
 abbrev pub IsUnread : FaultStream → FaultStream → ℕ → Type 0

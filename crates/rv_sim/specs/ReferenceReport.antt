@@ -8,7 +8,7 @@ use Rattle.rv_arch.specs.RunOutcome.{IsRunTo}
 use Rattle.rv_arch.specs.declared.outcome.RefOutcome.{RefOutcome}
 use Rattle.rv_arch.specs.declared.outcome.Stop.{Stop}
 use Rattle.rv_report.specs.ReferenceReport.{reference_report}
-use Rattle.rv_sim.specs.declared.job.Job.{Job}
+use Rattle.rv_job.specs.declared.job.Job.{Job}
 use Rattle.rv_report.specs.declared.options.Options.{Options}
 
 -- where the RAM of a described machine lies

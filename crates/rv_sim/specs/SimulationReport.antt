@@ -16,7 +16,7 @@ use Rattle.rv_report.specs.Totals.{counts_of}
 use Rattle.rv_report.specs.declared.options.Options.{Options}
 use Rattle.rv_report.specs.declared.totals.Totals.{Totals}
 use Rattle.rv_sim.specs.ReferenceReport.{layout_of, shown}
-use Rattle.rv_sim.specs.declared.job.Job.{Job}
+use Rattle.rv_job.specs.declared.job.Job.{Job}
 
 -- the levels of the interrupt lines after so many cycles: those of the last one
 abbrev pub lines_after : List Arrival → ℕ → Lines

@@ -3,30 +3,19 @@
 #![tactic(auto)]
 
 mod boxed_predictor;
-mod command;
-mod errors;
-mod fault_lines;
-mod faults;
-mod input;
-mod job;
-mod job_text;
-mod parts;
 mod program;
 mod reference;
 mod simulate;
 mod task;
 #[cfg(test)]
 mod tests;
-mod usage;
 
-use command::parse_words;
-use errors::SimError;
-use fault_lines::FaultLines;
 use program::run;
+use rv_command::{parse_words, show_usage};
+use rv_job::{FaultLines, SimError};
 use std::io::Eprint;
 use std::process::ExitCode;
 use std::{env, io};
-use usage::show_usage;
 
 fn words(rt: &HostRuntime) -> io::Result<Vec<String>> {
     let mut words = Vec::new(rt.alloc());

@@ -1,17 +1,16 @@
 ghost use Rattle.std.specs.Prelude.{◌≡◌, IfOk, OnOk, IfErr};
-ghost use Rattle.rv_sim.specs.Fault.{input_fault_line, input_fault_status};
-ghost use Rattle.rv_sim.specs.FaultStream.{Tells};
-ghost use Rattle.rv_sim.specs.Program.{EndsWithin, IsInputOf, Runs};
-ghost use Rattle.rv_sim.specs.declared.input.InputError.{InputError as OneError};
+ghost use Rattle.rv_job.specs.Fault.{input_fault_line, input_fault_status};
+ghost use Rattle.rv_job.specs.FaultStream.{Tells};
+ghost use Rattle.rv_job.specs.Input.{IsInputOf};
+ghost use Rattle.rv_sim.specs.Program.{EndsWithin, Runs};
+ghost use Rattle.rv_job.specs.declared.input.InputError.{InputError as OneError};
 
 use crate::boxed_predictor::BoxedPredictor;
-use crate::command::Command;
-use crate::errors::SimError;
-use crate::fault_lines::FaultLines;
-use crate::input::read_input;
 use crate::task::{Task, begin, finish};
+use rv_command::Command;
 use rv_front::{BackwardTaken, Bimodal, NotTaken};
 use rv_isa::PredictorKind;
+use rv_job::{FaultLines, SimError, read_input};
 use std::alloc::Global;
 use std::io::{Read, Write};
 

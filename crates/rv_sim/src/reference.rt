@@ -1,12 +1,11 @@
 ghost use Rattle.std.specs.Prelude.{◌≡◌, ◌⊎◌, ℕ, List, IfOk, IfErr};
 ghost use Rattle.std.specs.Io.KnownBytes.{Appends, Keeps};
 ghost use Rattle.rv_sim.specs.ReferenceReport.{IsReferenceReport, shown};
-ghost use Rattle.rv_report.specs.Written.{AppendsBeginning};
+ghost use Rattle.rv_text.specs.Written.{AppendsBeginning};
 
-use crate::errors::SimError;
-use crate::job::Job;
 use rv_arch::{Reference, Stop, run_reference};
 use rv_isa::ReportValues;
+use rv_job::{Job, SimError};
 use rv_report::{Options, write_reference};
 use std::alloc::Global;
 use std::io::Write;

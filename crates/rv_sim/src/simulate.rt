@@ -1,14 +1,13 @@
 ghost use Rattle.std.specs.Prelude.{◌≡◌, ◌⊎◌, ℕ, List, IfOk, IfErr};
 ghost use Rattle.std.specs.Io.KnownBytes.{Appends, Keeps};
 ghost use Rattle.rv_sim.specs.CoreReport.{IsSimulation};
-ghost use Rattle.rv_report.specs.Written.{AppendsBeginning};
+ghost use Rattle.rv_text.specs.Written.{AppendsBeginning};
 
 use crate::boxed_predictor::BoxedPredictor;
-use crate::errors::SimError;
-use crate::job::Job;
 use crate::reference::with_dump;
 use rv_arch::Stop;
 use rv_core::{Core, run};
+use rv_job::{Job, SimError};
 use rv_report::{Options, write_report};
 use std::alloc::Global;
 use std::io::Write;

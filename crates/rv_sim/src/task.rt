@@ -1,25 +1,20 @@
-ghost use Rattle.std.specs.Prelude.{◌≡◌, ℕ, length, IfOk, IfErr, OnOk, OnErr, Result};
-ghost use Rattle.std.specs.Io.KnownBytes.{Appends};
+ghost use Rattle.std.specs.Prelude.{◌≡◌, ℕ, IfOk, IfErr, OnOk, Result};
 ghost use Rattle.rv_isa.specs.Description.{IsLegalPredictor};
-ghost use Rattle.rv_sim.specs.Fault.{fault_line, fault_status, exit_status};
-ghost use Rattle.rv_sim.specs.FaultStream.{Tells, TellsOf};
-ghost use Rattle.rv_sim.specs.ImageRefusal.{RefusesImage};
-ghost use Rattle.rv_sim.specs.Task.{Asks, Refuses, Ends, asked, check_line, predictor_of};
-ghost use Rattle.rv_report.specs.Written.{AppendsBeginning};
-ghost use Rattle.rv_sim.specs.declared.errors.SimError.{SimError as OneError};
+ghost use Rattle.rv_job.specs.Fault.{fault_line, fault_status, exit_status};
+ghost use Rattle.rv_job.specs.FaultStream.{Tells, TellsOf};
+ghost use Rattle.rv_sim.specs.Task.{Asks, Refuses, Ends, asked, predictor_of, stop_status};
+ghost use Rattle.rv_job.specs.declared.errors.SimError.{SimError as OneError};
 
 use crate::boxed_predictor::BoxedPredictor;
-use crate::command::Command;
-use crate::errors::SimError;
-use crate::fault_lines::FaultLines;
-use crate::faults::stop_status;
-use crate::job::Job;
-use crate::job_text::{read_image, read_job, read_machine, read_parts};
 use crate::reference::reference;
 use crate::simulate::simulate;
-use itoa::Buffer;
-use rv_isa::{Description, Image, PredictorValues};
-use rv_report::{Options, ReportError, hexadecimal, put_all};
+use rv_arch::Stop;
+use rv_command::Command;
+use rv_isa::PredictorValues;
+use rv_job::{
+    DescribedImage, FaultLines, Job, SimError, read_image_text, read_job, write_image_line,
+};
+use rv_report::Options;
 use std::alloc::Global;
 use std::io::Write;
 
@@ -27,20 +22,11 @@ use std::io::Write;
 #[derive(Drop)]
 pub enum Task {
     /// Run a job on the core.
-    Run {
-        job: Job,
-        options: Options,
-    },
+    Run { job: Job, options: Options },
     /// Run a job on the machine that takes one step at a time.
-    Reference {
-        job: Job,
-        options: Options,
-    },
+    Reference { job: Job, options: Options },
     /// Say which image the job makes.
-    Check {
-        description: Description,
-        image: Image,
-    },
+    Check { made: DescribedImage },
 }
 
 impl Task {
@@ -54,20 +40,9 @@ impl Task {
                 .description
                 .values()
                 .predictor,
-            Task::Check { description, .. } => description.values().predictor,
+            Task::Check { made } => made.description.values().predictor,
         }
     }
-}
-
-// The image that a job's text makes on the machine that it describes. The arrivals are not read.
-fn read_check(alloc: Global, input: &[u8]) -> Result<Task, SimError>
-    ensures task { IfOk result (Asks Command.Check input.now) }
-    ensures refused { IfErr result (RefusesImage input.now) }
-{
-    let parts = read_parts(input)?;
-    let description = read_machine(alloc, parts.description)?;
-    let image = read_image(alloc, description.values().ram_base, parts.assembly)?;
-    Ok(Task::Check { description, image })
 }
 
 // The words of memory that a report shows are the job's to say.
@@ -97,7 +72,10 @@ fn read_task(alloc: Global, command: &Command, input: &[u8]) -> Result<Task, Sim
             let options = options(false, *limit);
             Ok(Task::Reference { job, options })
         }
-        Command::Check => read_check(alloc, input),
+        Command::Check => {
+            let made = read_image_text(alloc, input)?;
+            Ok(Task::Check { made })
+        }
     }
 }
 
@@ -122,19 +100,15 @@ pub fn begin<E: Write>(
     }
 }
 
-// The line that says which image a job makes.
-#[tactic(auto, unfolding(crate::specs::Task::check_line))]
-fn write_check<W: Write>(writer: &mut W, image: &Image) -> Result<(), ReportError>
-    ensures whole { OnOk result (Appends (W.contents writer.old) (W.contents writer.new) (check_line (length image.now.bytes) image.now.start)) }
-    ensures beginning { OnErr result (AppendsBeginning (W.contents writer.old) (W.contents writer.new) (check_line (length image.now.bytes) image.now.start)) }
+// The exit status of a run: 3 where it ended at a stale word.
+#[tactic(auto, unfolding(crate::specs::Task::stop_status))]
+fn stop_status(stop: Stop) -> u8
+    ensures { result ≡ stop_status stop }
 {
-    let mut buffer = Buffer::new();
-    let count = buffer.format(image.bytes.len()).as_bytes();
-    let start = hexadecimal(image.start);
-    put_all(
-        writer,
-        &[b"ok ", count, b" bytes start ", start.as_slice(), b"\n"],
-    )
+    match stop {
+        Stop::Stale(_) => 3,
+        Stop::Limit | Stop::Breakpoint | Stop::Exhausted => 0,
+    }
 }
 
 fn perform<W: Write>(
@@ -154,8 +128,8 @@ fn perform<W: Write>(
             let stop = reference(alloc, job, &options, output)?;
             Ok(stop_status(stop))
         }
-        Task::Check { image, .. } => {
-            write_check(output, &image)?;
+        Task::Check { made } => {
+            write_image_line(output, &made.image)?;
             Ok(0)
         }
     }

@@ -1,15 +1,12 @@
-mod commands;
+mod described;
 mod examples;
 mod guesses;
 mod helpers;
 mod hostile;
-mod parts;
 mod predictors;
 mod prefixes;
 mod reading;
-mod refusals;
 mod reports;
 mod runs;
 mod simulations;
 mod statuses;
-mod usage;

@@ -1,6 +1,6 @@
-use crate::command::Command;
-use crate::fault_lines::FaultLines;
 use crate::program::run;
+use rv_command::Command;
+use rv_job::FaultLines;
 use std::alloc::Global;
 use std::io;
 use std::io::Write;

@@ -1,6 +1,6 @@
-use crate::command::Command;
-use crate::input::read_input;
 use crate::tests::helpers::{WHOLE, run_text};
+use rv_command::Command;
+use rv_job::read_input;
 use std::io;
 use std::io::Read;
 use std::test::Fail;

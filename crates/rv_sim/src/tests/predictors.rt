@@ -1,9 +1,9 @@
 use crate::boxed_predictor::BoxedPredictor;
-use crate::job_text::read_job;
 use crate::reference::reference;
 use crate::simulate::simulate;
 use crate::tests::guesses::{GUESSES, Guesses, RECOVERIES};
 use crate::tests::helpers::missing;
+use rv_job::read_job;
 use rv_report::Options;
 use std::alloc::Global;
 use std::test::Fail;

@@ -1,5 +1,5 @@
-use crate::command::Command;
 use crate::tests::helpers::run_text;
+use rv_command::Command;
 use std::test::Fail;
 
 const TEXT: [u8; 20] = *b"addi x1,x0,5\nebreak\n";

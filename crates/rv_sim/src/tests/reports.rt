@@ -1,5 +1,5 @@
-use crate::command::Command;
 use crate::tests::helpers::{WHOLE, missing, run_text};
+use rv_command::Command;
 use std::test::Fail;
 
 const FIVE_REPORT: &str = "stop breakpoint

@@ -1,9 +1,7 @@
-use crate::errors::SimError;
-use crate::job::Job;
-use crate::job_text::read_job;
 use crate::reference::reference;
 use crate::tests::helpers::{Closed, Narrow, has_line};
 use rv_arch::Stop;
+use rv_job::{Job, SimError, read_job};
 use rv_report::Options;
 use std::alloc::Global;
 use std::test::Fail;

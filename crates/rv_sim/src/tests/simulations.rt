@@ -1,5 +1,5 @@
-use crate::command::Command;
 use crate::tests::helpers::{CORE, missing, run_text};
+use rv_command::Command;
 use std::alloc::Global;
 use std::test::Fail;
 

@@ -1,10 +1,10 @@
 use crate::boxed_predictor::BoxedPredictor;
-use crate::command::Command;
-use crate::fault_lines::FaultLines;
 use crate::task::{begin, finish};
 use crate::tests::helpers::{Closed, Narrow, WHOLE, missing, run_text};
+use rv_command::Command;
 use rv_front::NotTaken;
 use rv_isa::{PredictorKind, PredictorValues};
+use rv_job::FaultLines;
 use std::test::Fail;
 
 const STORE_INTO_CODE: &str = "la x5,t\nli x6,0x00100393\nsw x6,0(x5)\nt: addi x7,x0,2\nebreak\n";

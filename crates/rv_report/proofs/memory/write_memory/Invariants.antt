@@ -1,7 +1,7 @@
 use Rattle.std.specs.Io.KnownBytes.{Appends}
 use Rattle.rv_hardware.specs.Seen.{layout_of, seen}
 use Rattle.rv_report.proofs.MemoryLines.{line_in}
-use Rattle.rv_report.proofs.Writing.{texts_below}
+use Rattle.rv_text.proofs.Writing.{texts_below}
 use Rattle.rv_report.proofs.memory.write_memory.Given as goal
 
 -- the words so far are written

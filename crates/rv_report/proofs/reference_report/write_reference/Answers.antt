@@ -1,6 +1,6 @@
 use Rattle.rv_report.specs.ReferenceReport.{reference_report}
 use Rattle.rv_report.specs.State.{state_lines}
-use Rattle.rv_report.proofs.Writing.{on_err, Appends-same, beginning-same, beginning-longer, beginning-both, whole_behind, beginning_behind}
+use Rattle.rv_text.proofs.Writing.{on_err, Appends-same, beginning-same, beginning-longer, beginning-both, whole_behind, beginning_behind}
 use Rattle.rv_report.proofs.reference_report.write_reference.Goals as goal
 
 pub returns-in_err-write_stop-clause-beginning : goal.returns-in_err-write_stop-clause-beginning

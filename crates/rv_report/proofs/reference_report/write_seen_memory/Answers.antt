@@ -1,7 +1,7 @@
 use Rattle.std.proofs.Common.{◌≡◌, ap, arith}
 use Rattle.rv_report.specs.Memory.{seen_memory_lines}
 use Rattle.rv_report.proofs.MemoryLines.{line_in, line_is}
-use Rattle.rv_report.proofs.Writing.{on_err, texts_below, beginning-below, Appends-below, Appends-nothing, Appends-same, beginning-same}
+use Rattle.rv_text.proofs.Writing.{on_err, texts_below, beginning-below, Appends-below, Appends-nothing, Appends-same, beginning-same}
 use Rattle.rv_report.proofs.reference_report.write_seen_memory.Goals as goal
 
 pub loop-number-init : goal.loop-number-init

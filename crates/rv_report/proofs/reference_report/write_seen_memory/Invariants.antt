@@ -1,6 +1,6 @@
 use Rattle.std.specs.Io.KnownBytes.{Appends}
 use Rattle.rv_report.proofs.MemoryLines.{line_in}
-use Rattle.rv_report.proofs.Writing.{texts_below}
+use Rattle.rv_text.proofs.Writing.{texts_below}
 use Rattle.rv_report.proofs.reference_report.write_seen_memory.Given as goal
 
 -- the words so far are written

@@ -1,5 +1,5 @@
 use Rattle.rv_report.specs.Rows.{row_line}
-use Rattle.rv_report.proofs.Writing.{beginning_behind}
+use Rattle.rv_text.proofs.Writing.{beginning_behind}
 use Rattle.rv_report.proofs.rows.write_row.Goals as goal
 
 pub returns-clause-beginning : goal.returns-clause-beginning

@@ -1,6 +1,6 @@
 use Rattle.std.proofs.Common.{ap, arith}
 use Rattle.rv_report.specs.Rows.{step_line, trace_lines}
-use Rattle.rv_report.proofs.Writing.{on_err, beginning-at, beginning-same}
+use Rattle.rv_text.proofs.Writing.{on_err, beginning-at, beginning-same}
 use Rattle.rv_report.proofs.rows.write_steps.Goals as goal
 
 pub returns-in_err-write_step-clause-beginning : goal.returns-in_err-write_step-clause-beginning

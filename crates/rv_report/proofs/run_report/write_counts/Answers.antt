@@ -1,8 +1,8 @@
 use Rattle.std.proofs.Common.{List, ℕ, ◌++◌, ap, append-nil, codes}
-use Rattle.rv_report.specs.Line.{count_line, line_of, ratio_text}
+use Rattle.rv_text.specs.Line.{count_line, line_of, ratio_text}
 use Rattle.rv_report.specs.Totals.{total_lines, stall_lines}
 use Rattle.rv_report.specs.declared.totals.Totals.{Totals}
-use Rattle.rv_report.proofs.Writing.{Appends-same, beginning-same, on_ok_by, on_err_by}
+use Rattle.rv_text.proofs.Writing.{Appends-same, beginning-same, on_ok_by, on_err_by}
 use Rattle.rv_report.proofs.run_report.write_counts.Goals as goal
 
 -- the lines of the counts, with what comes behind them

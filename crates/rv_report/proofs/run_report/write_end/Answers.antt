@@ -1,6 +1,6 @@
 use Rattle.rv_report.specs.RunReport.{end_lines}
 use Rattle.rv_report.specs.State.{state_lines}
-use Rattle.rv_report.proofs.Writing.{on_err, Appends-same, beginning-same, beginning-longer, beginning-both, whole_behind, beginning_behind, on_ok_by, on_err_by}
+use Rattle.rv_text.proofs.Writing.{on_err, Appends-same, beginning-same, beginning-longer, beginning-both, whole_behind, beginning_behind, on_ok_by, on_err_by}
 use Rattle.rv_report.proofs.run_report.write_end.Goals as goal
 
 pub returns-in_err-write_stop-clause-beginning : goal.returns-in_err-write_stop-clause-beginning

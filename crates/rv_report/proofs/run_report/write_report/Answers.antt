@@ -1,7 +1,7 @@
 use Rattle.std.proofs.Common.{ap}
 use Rattle.rv_report.specs.RunReport.{trace_of, end_of, run_report}
 use Rattle.rv_report.specs.declared.totals.Totals.{Totals}
-use Rattle.rv_report.proofs.Writing.{on_err, on_ok_by, on_err_by, Appends-same, beginning-same, beginning-longer, whole_behind, beginning_behind}
+use Rattle.rv_text.proofs.Writing.{on_err, on_ok_by, on_err_by, Appends-same, beginning-same, beginning-longer, whole_behind, beginning_behind}
 use Rattle.rv_report.proofs.run_report.write_report.Goals as goal
 
 pub returns-in_err-write_trace-clause-beginning : goal.returns-in_err-write_trace-clause-beginning

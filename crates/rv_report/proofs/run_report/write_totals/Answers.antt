@@ -1,5 +1,5 @@
 use Rattle.rv_report.specs.RunReport.{end_text}
-use Rattle.rv_report.proofs.Writing.{on_err, beginning-longer, whole_behind, beginning_behind}
+use Rattle.rv_text.proofs.Writing.{on_err, beginning-longer, whole_behind, beginning_behind}
 use Rattle.rv_report.proofs.run_report.write_totals.Goals as goal
 
 pub returns-in_err-write_end-clause-beginning : goal.returns-in_err-write_end-clause-beginning

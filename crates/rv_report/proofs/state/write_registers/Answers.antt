@@ -1,6 +1,6 @@
 use Rattle.std.proofs.Common.{◌≡◌, ℕ, List, slice_index, ap, arith}
 use Rattle.rv_report.specs.State.{register_line, register_lines}
-use Rattle.rv_report.proofs.Writing.{on_err, texts_below, beginning-below, Appends-below, Appends-nothing, Appends-same}
+use Rattle.rv_text.proofs.Writing.{on_err, texts_below, beginning-below, Appends-below, Appends-nothing, Appends-same}
 use Rattle.rv_report.proofs.state.write_registers.Goals as goal
 
 -- the line of a register by its number

@@ -1,7 +1,7 @@
 use Rattle.std.proofs.Common.{slice_index}
 use Rattle.std.specs.Io.KnownBytes.{Appends}
 use Rattle.rv_report.specs.State.{register_line}
-use Rattle.rv_report.proofs.Writing.{texts_below}
+use Rattle.rv_text.proofs.Writing.{texts_below}
 use Rattle.rv_report.proofs.state.write_registers.Given as goal
 
 -- the registers so far are written

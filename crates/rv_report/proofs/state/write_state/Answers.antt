@@ -1,7 +1,7 @@
 use Rattle.std.proofs.Common.{append-nil}
-use Rattle.rv_report.specs.Line.{word_line}
+use Rattle.rv_text.specs.Line.{word_line}
 use Rattle.rv_report.specs.State.{state_lines}
-use Rattle.rv_report.proofs.Writing.{on_err, Appends-same, beginning-same, beginning-longer, beginning-both, whole_behind, beginning_behind}
+use Rattle.rv_text.proofs.Writing.{on_err, Appends-same, beginning-same, beginning-longer, beginning-both, whole_behind, beginning_behind}
 use Rattle.rv_report.proofs.state.write_state.Goals as goal
 
 pub returns-in_err-write_fields-clause-beginning : goal.returns-in_err-write_fields-clause-beginning

@@ -1,5 +1,5 @@
 use Rattle.std.proofs.Common.{◌∙◌}
-use Rattle.rv_report.specs.Line.{line_of}
+use Rattle.rv_text.specs.Line.{line_of}
 use Rattle.rv_report.specs.State.{stop_line, stop_text}
 use Rattle.rv_report.proofs.state.write_stop.Goals as goal
 

@@ -3,8 +3,8 @@ use Rattle.rv_isa.specs.Description.{IsLegal}
 use Rattle.rv_isa.specs.declared.values.Values.{Values}
 use Rattle.rv_report.specs.RunReport.{report_of}
 use Rattle.rv_sim.specs.ReferenceReport.{shown}
-use Rattle.rv_sim.specs.declared.errors.SimError.TheVariants.{Memory, WriteFailed}
-use Rattle.rv_sim.proofs.Ending.{refused_on}
+use Rattle.rv_job.specs.declared.errors.SimError.TheVariants.{Memory, WriteFailed}
+use Rattle.rv_job.proofs.HandedOn.{refused_on}
 use Rattle.rv_sim.proofs.Simulated.{run_simulated}
 use Rattle.rv_sim.proofs.simulate.simulate.Goals as goal
 

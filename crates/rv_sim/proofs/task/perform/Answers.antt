@@ -1,8 +1,9 @@
 use Rattle.std.proofs.Common.{ap, refl}
 use Rattle.std.specs.Prelude.{Err}
-use Rattle.rv_sim.specs.Fault.{stop_status}
+use Rattle.rv_job.proofs.HandedOn.{handed_on}
+use Rattle.rv_sim.specs.Task.{stop_status}
 use Rattle.rv_sim.specs.declared.task.Task.TheVariants.{Run, Reference}
-use Rattle.rv_sim.proofs.Ending.{handed_on, Ends-by_error}
+use Rattle.rv_sim.proofs.Ending.{Ends-by_error}
 use Rattle.rv_sim.proofs.task.perform.Goals as goal
 
 pub returns-in_err-stop-in-Run : goal.returns-in_err-stop-in-Run

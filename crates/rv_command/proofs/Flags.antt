@@ -1,0 +1,41 @@
+-- What `get_one` reads of a flag.
+use Rattle.std.proofs.Common.{◌≡◌, ◌≢◌, ℕ, Bool, true, false, List, Option, Some, None, Result, refl, codes}
+use Rattle.std.proofs.lemmas.Slice.Eq.{bytes_eq-Decides}
+use Rattle.std.specs.declared.str.ParseBoolError.{ParseBoolError}
+use Rattle.std.specs.Prelude.{unwrap_or}
+use Rattle.std.specs.Bool.{MatchBool}
+use Rattle.std.specs.Str.{bytes_eq}
+use Rattle.std.specs.Str.Parse.{ParsesBool, true_text, false_text}
+use Rattle.clap.specs.Words.{ReadsOne, one_text, rows_of}
+use Rattle.clap.specs.declared.parser.matches.Found.{Found}
+use Rattle.clap.proofs.WalkLemmas.{one_text-rows}
+use Rattle.rv_command.specs.Command.{trace_in}
+
+named : (t : List ℕ) (b : Bool) → MatchBool b (t ≡ true_text) (t ≡ false_text) → b ≡ bytes_eq t (codes "true")
+named t true is = rw is refl
+named t false is = rw is refl
+
+other : (t : List ℕ) → t ≢ true_text → false ≡ bytes_eq t (codes "true")
+other t differs = go (bytes_eq t (codes "true")) refl
+  where
+    go : (b : Bool) → bytes_eq t (codes "true") ≡ b → false ≡ b
+    go true same = absurd (differs ((bytes_eq-Decides t (codes "true")).0 same))
+    go false _ = refl
+
+-- what `bool` makes of a text
+abbrev Reads : List ℕ → Result Bool ParseBoolError → Type 0
+Reads t x = ParsesBool t x
+
+text_read : (t : List ℕ) (r : Option Bool) → ReadsOne Reads t r → unwrap_or r false ≡ bytes_eq t (codes "true")
+text_read t (Some b) read = named t b read
+text_read t None read = other t read.1.0
+
+-- the flag that `get_one` reads is the one that the matches hold
+pub trace_read : (f : Found) (r : Option Bool) → (one_text f (codes "trace") ≡ None → r ≡ None)
+    → ((t : List ℕ) → one_text f (codes "trace") ≡ Some t → ReadsOne Reads t r)
+    → unwrap_or r false ≡ trace_in (rows_of f)
+trace_read f r none value = go (one_text f (codes "trace")) refl
+  where
+    go : (o : Option (List ℕ)) → one_text f (codes "trace") ≡ o → unwrap_or r false ≡ trace_in (rows_of f)
+    go None is = rw (← one_text-rows f (codes "trace"), is, none is) refl
+    go (Some t) is = rw (← one_text-rows f (codes "trace"), is) (text_read t r (value t is))

@@ -1,0 +1,4 @@
+mod Flags
+mod Limits
+mod Parses
+mod Subcommands

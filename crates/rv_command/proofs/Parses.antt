@@ -1,0 +1,66 @@
+-- What a parse of the words of a command line comes to.
+use Rattle.std.proofs.Common.{◌≡◌, ◌⊎◌, ◌∙◌, ◌∷◌, [], true, List, None, ap, arith, false, inl, inr, length, refl, subst, sym}
+use Rattle.std.proofs.lemmas.Bool.{ne_eqb}
+use Rattle.std.specs.Prelude.{option_and_then}
+use Rattle.clap.specs.Kinds.{or_else}
+use Rattle.clap.specs.Walk.{is_empty}
+use Rattle.clap.specs.Words.{App, HasKind, HasMatchesOf, IsAmong, Kinds, Text, app_of, fault_of, is_simple, is_simple_and_free, kind_of, subcommand_of, subcommand_rows_of}
+use Rattle.clap.specs.declared.error.Error.{Error}
+use Rattle.clap.specs.declared.error.kind.ErrorKind.TheVariants.{OutOfMemory, ValueValidation}
+use Rattle.clap.specs.declared.builder.command.Command.{Command as Parser}
+use Rattle.clap.specs.declared.parser.matches.ArgMatches.{ArgMatches}
+use Rattle.rv_command.specs.Command.{command_named, command_of, program_arguments, refused_kinds}
+
+arguments_are_simple : is_simple program_arguments ≡ true
+arguments_are_simple = refl
+
+arguments_are_free : is_simple_and_free program_arguments ≡ true
+arguments_are_free = refl
+
+faulty : (kinds : Kinds) (words : List Text) (e : Error) → fault_of program_arguments words ≡ kinds → IsAmong (kind_of e) kinds → command_of words ≡ None
+faulty [] words e is among = absurd among
+faulty (k ∷ ks) words e is among =
+    let some : is_empty (k ∷ ks) ≡ false = ne_eqb (length (k ∷ ks)) 0 (λ none. omega arith) in
+    rw (is, some) refl
+
+-- words that are refused, but for want of memory, ask for no command
+pub refused_words : (parser : Parser) (words : List Text) (e : Error) → app_of parser ≡ program_arguments
+    → (is_simple_and_free (app_of parser) ≡ true → HasKind (fault_of (app_of parser) words) e)
+    → (command_of words ≡ None) ⊎ (kind_of e ≡ OutOfMemory)
+refused_words parser words e is fails = elim (fails (ap is_simple_and_free is ∙ arguments_are_free)) [
+  | inl memory ↦ inr memory
+  | inr among ↦ inl (faulty (fault_of (app_of parser) words) words e (ap (λ (a : App). fault_of a words) (sym is)) among)
+]
+
+kinds_or_other : (kinds next : Kinds) (e : Error) → HasKind kinds e → HasKind (or_else kinds next) e
+kinds_or_other [] next e (inl memory) = inl memory
+kinds_or_other [] next e (inr among) = absurd among
+kinds_or_other (k ∷ ks) next e has = has
+
+-- words that are refused have an error of a kind that they may have
+pub refused_kind : (parser : Parser) (words : List Text) (e : Error) → app_of parser ≡ program_arguments
+    → (is_simple_and_free (app_of parser) ≡ true → HasKind (fault_of (app_of parser) words) e)
+    → HasKind (refused_kinds words) e
+refused_kind parser words e is fails =
+    let has : HasKind (fault_of program_arguments words) e =
+    subst (λ (a : App). HasKind (fault_of a words) e) is (fails (ap is_simple_and_free is ∙ arguments_are_free)) in
+    kinds_or_other (fault_of program_arguments words) (ValueValidation ∷ []) e has
+
+-- words that are taken, and name no command
+pub other_kind : (parser : Parser) (words : List Text) (e : Error) → app_of parser ≡ program_arguments
+    → (is_simple_and_free (app_of parser) ≡ true → fault_of (app_of parser) words ≡ [])
+    → kind_of e ≡ ValueValidation → HasKind (refused_kinds words) e
+other_kind parser words e is fits kind =
+    let none : fault_of program_arguments words ≡ [] = ap (λ (a : App). fault_of a words) (sym is) ∙ fits (ap is_simple_and_free is ∙ arguments_are_free) in
+    subst (λ kinds. HasKind (or_else kinds (ValueValidation ∷ [])) e) (sym none) (inr (inl kind))
+
+-- words that are taken ask for the command that their matches name
+pub taken_words : (parser : Parser) (words : List Text) (m : ArgMatches) → app_of parser ≡ program_arguments
+    → (is_simple_and_free (app_of parser) ≡ true → fault_of (app_of parser) words ≡ [])
+    → HasMatchesOf (app_of parser) words m
+    → command_of words ≡ option_and_then command_named (subcommand_rows_of m)
+taken_words parser words m is fits found =
+    let none : fault_of program_arguments words ≡ [] = ap (λ (a : App). fault_of a words) (sym is) ∙ fits (ap is_simple_and_free is ∙ arguments_are_free) in
+    let rows : subcommand_rows_of m ≡ subcommand_of program_arguments words =
+    (found (ap is_simple is ∙ arguments_are_simple)).1 ∙ ap (λ (a : App). subcommand_of a words) is in
+    rw (none, rows) refl

@@ -1,0 +1,30 @@
+-- What the program says of words that are no command.
+use Rattle.std.specs.Prelude.{◌≡◌, ◌≢◌, ◌⊎◌, ◌<◌, ℕ, List, length, Option}
+use Rattle.std.specs.Io.KnownBytes.{Appends}
+use Rattle.clap.specs.declared.error.kind.ErrorKind.{ErrorKind}
+use Rattle.clap.specs.declared.error.kind.ErrorKind.TheVariants.{DisplayHelp, DisplayVersion, OutOfMemory}
+use Rattle.rv_job.specs.FaultStream.{FaultStream, Tells, TellsError, TellsWantOfMemory}
+use Rattle.rv_job.specs.declared.errors.SimError.TheVariants.{WriteFailed}
+use Rattle.rv_text.specs.Written.{AppendsBeginning}
+
+-- a kind of error that is no request for help
+abbrev pub IsMistake : ErrorKind → Type 0
+IsMistake kind = (kind ≢ DisplayHelp) × (kind ≢ DisplayVersion)
+
+-- a mistake: the text is told, and the status is 2 even where it can't be written
+abbrev pub TellsMistake : List ℕ → Option (List ℕ) → Option (List ℕ) → FaultStream → FaultStream → ℕ → Type 0
+TellsMistake text old-output new-output old new status = (new-output ≡ old-output) × Tells old new text × (status ≡ 2)
+
+-- help: the text is written whole, or a beginning of it, which is told
+abbrev pub ShowsHelp : List ℕ → Option (List ℕ) → Option (List ℕ) → FaultStream → FaultStream → ℕ → Type 0
+ShowsHelp text old-output new-output old new status =
+    (Appends old-output new-output text × (new ≡ old) × (status ≡ 0))
+    ⊎ (AppendsBeginning old-output new-output text × TellsError WriteFailed old new status)
+
+-- what is shown of clap's error of a kind, and the exit status: some text, unless memory is wanting
+abbrev pub ShowsUsage : ErrorKind → Option (List ℕ) → Option (List ℕ) → FaultStream → FaultStream → ℕ → Type 0
+ShowsUsage kind old-output new-output old new status =
+    TellsWantOfMemory old-output new-output old new status
+    ⊎ ((kind ≢ OutOfMemory) × (text : List ℕ) × (0 < length text)
+    × ((IsMistake kind × TellsMistake text old-output new-output old new status)
+    ⊎ ((IsMistake kind → ⊥) × ShowsHelp text old-output new-output old new status)))

@@ -1,0 +1,4 @@
+pub mod HandedOn
+mod JobParts
+mod Places
+mod Reading

@@ -1,0 +1,92 @@
+-- What is told of a fault, and the status that the program ends with.
+use Rattle.std.specs.Prelude.{ℕ, ◌==◌, if◌then◌else◌, List, [], ◌++◌, codes, decimal, Result, Ok, Err}
+use Rattle.rv_asm.specs.declared.fault.AsmFault.{AsmFault}
+use Rattle.rv_asm.specs.declared.fault.AsmFault.TheVariants as asm
+use Rattle.rv_describe.specs.Entries.{entry_of}
+use Rattle.rv_describe.specs.Fault.{place_of}
+use Rattle.rv_describe.specs.Key.{text_at}
+use Rattle.rv_describe.specs.declared.arrivals_error.ArrivalsError.{ArrivalsError}
+use Rattle.rv_describe.specs.declared.arrivals_error.ArrivalsError.TheVariants as listed
+use Rattle.rv_describe.specs.declared.description_error.DescriptionError.{DescriptionError}
+use Rattle.rv_describe.specs.declared.description_error.DescriptionError.TheVariants as described
+use Rattle.rv_job.specs.declared.errors.SimError.{SimError}
+use Rattle.rv_job.specs.declared.errors.SimError.TheVariants.{TooLong, Description, Arrivals, Assembly, ImageDoesNotFit, Memory, WriteFailed}
+use Rattle.rv_job.specs.declared.input.InputError.{InputError}
+use Rattle.rv_job.specs.declared.input.InputError.TheVariants as unread
+
+-- the name of a fault of a text
+unfoldable pub fault_name : AsmFault → List ℕ
+fault_name asm.BadToken = codes "BadToken"
+fault_name asm.UnknownMnemonic = codes "UnknownMnemonic"
+fault_name asm.BadOperands = codes "BadOperands"
+fault_name asm.BadRegister = codes "BadRegister"
+fault_name asm.DuplicateSymbol = codes "DuplicateSymbol"
+fault_name asm.TooLarge = codes "TooLarge"
+fault_name asm.UnknownSymbol = codes "UnknownSymbol"
+fault_name asm.OutOfRange = codes "OutOfRange"
+fault_name asm.Misaligned = codes "Misaligned"
+fault_name asm.Memory = codes "Memory"
+
+-- the name of a description's fault, and a space where a key stands behind it
+unfoldable pub description_kind : DescriptionError → List ℕ
+description_kind described.NotToml = codes "NotToml"
+description_kind described.UnknownKey = codes "UnknownKey"
+description_kind (described.WrongKind place) = codes "WrongKind "
+description_kind (described.OutOfRange place) = codes "OutOfRange "
+description_kind (described.NotPowerOfTwo place) = codes "NotPowerOfTwo "
+description_kind described.Memory = codes "Memory"
+
+-- the line of a description's fault, with the key that it names
+unfoldable pub description_line : DescriptionError → List ℕ
+description_line error = codes "error: description: " ++ (description_kind error ++ (text_at (place_of error) ++ codes "\n"))
+
+-- the name of a fault of arrivals, and a space where a number stands behind it
+unfoldable pub arrivals_kind : ArrivalsError → List ℕ
+arrivals_kind listed.NotToml = codes "NotToml"
+arrivals_kind listed.UnknownKey = codes "UnknownKey"
+arrivals_kind (listed.WrongKind entry) = codes "WrongKind "
+arrivals_kind (listed.OutOfRange entry) = codes "OutOfRange "
+arrivals_kind (listed.Unsorted entry) = codes "Unsorted "
+arrivals_kind listed.Memory = codes "Memory"
+
+-- the number of an entry, from 1; 0 is no entry's
+unfoldable pub entry_text : ℕ → List ℕ
+entry_text entry = if entry == 0 then [] else decimal entry
+
+-- the line of a fault of arrivals, with the entry that it names
+unfoldable pub arrivals_line : ArrivalsError → List ℕ
+arrivals_line error = codes "error: arrivals: " ++ (arrivals_kind error ++ (entry_text (entry_of error) ++ codes "\n"))
+
+-- the line that tells a fault
+unfoldable pub fault_line : SimError → List ℕ
+fault_line TooLong = codes "error: job too long\n"
+fault_line (Description error) = description_line error
+fault_line (Arrivals error) = arrivals_line error
+fault_line (Assembly error) = codes "error: assembly line " ++ (decimal error.line ++ (codes ": " ++ (fault_name error.fault ++ codes "\n")))
+fault_line ImageDoesNotFit = codes "error: image does not fit\n"
+fault_line Memory = codes "error: memory\n"
+fault_line WriteFailed = codes "error: output\n"
+
+-- the exit status of a fault: 1 for a job that is refused, 4 where output failed, 5 for want of memory
+unfoldable pub fault_status : SimError → ℕ
+fault_status TooLong = 1
+fault_status (Description error) = 1
+fault_status (Arrivals error) = 1
+fault_status (Assembly error) = 1
+fault_status ImageDoesNotFit = 1
+fault_status Memory = 5
+fault_status WriteFailed = 4
+
+-- the line that tells why the input could not be read, and the exit status
+unfoldable pub input_fault_line : InputError → List ℕ
+input_fault_line unread.Failed = codes "error: input\n"
+input_fault_line unread.Memory = codes "error: memory\n"
+
+unfoldable pub input_fault_status : InputError → ℕ
+input_fault_status unread.Failed = 4
+input_fault_status unread.Memory = 5
+
+-- the exit status of what has one, or of a fault
+abbrev pub exit_status : Result ℕ SimError → ℕ
+exit_status (Ok status) = status
+exit_status (Err error) = fault_status error

@@ -1,0 +1,10 @@
+pub mod Fault
+pub mod FaultStream
+pub mod ImageRefusal
+pub mod ImageText
+pub mod Input
+pub mod JobRefusal
+pub mod JobText
+pub mod Parts
+pub mod ReadParts
+pub mod TextImage

@@ -1,0 +1,10 @@
+-- What the pieces of a text that the program holds are.
+use Rattle.rv_job.specs.Parts as text
+use Rattle.rv_job.specs.declared.parts.Halves.{Halves}
+use Rattle.rv_job.specs.declared.parts.Parts.{Parts}
+
+abbrev pub halves_in : Halves → text.Halves
+halves_in halves = record { before = halves.before.now; behind = halves.behind.now }
+
+abbrev pub parts_in : Parts → text.Parts
+parts_in parts = record { description = parts.description.now; arrivals = parts.arrivals.now; assembly = parts.assembly.now }

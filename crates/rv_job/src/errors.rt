@@ -1,0 +1,53 @@
+ghost use Rattle.std.specs.Prelude.{◌≡◌};
+
+use rv_asm::AsmError;
+use rv_describe::{ArrivalsError, DescriptionError};
+use rv_text::ReportError;
+use std::alloc::AllocError;
+use thiserror::Error;
+
+/// Why a job was refused, or its report not written.
+#[derive(Clone, Copy, Debug, PartialEq, Eq, Error)]
+pub enum SimError {
+    /// The job has more than 33,554,432 bytes.
+    #[error("job too long")]
+    TooLong,
+    /// The fault of the description.
+    #[error("description")]
+    Description(DescriptionError),
+    /// The fault of the arrivals.
+    #[error("arrivals")]
+    Arrivals(ArrivalsError),
+    /// The first fault of the assembly.
+    #[error("assembly")]
+    Assembly(AsmError),
+    /// The image is longer than the RAM that is described, or its start is no multiple of 4.
+    #[error("image does not fit")]
+    ImageDoesNotFit,
+    /// Memory was refused.
+    #[error("memory")]
+    Memory,
+    /// A write of the report answered an error, or took nothing.
+    #[error("output")]
+    WriteFailed,
+}
+
+impl From<AllocError> for SimError {
+    ghost use Rattle.rv_job.specs.declared.errors.SimError.TheVariants.{Memory};
+
+    ghost from_gives = { λ _ e. e ≡ Memory };
+
+    fn from(_error: AllocError) -> SimError {
+        SimError::Memory
+    }
+}
+
+impl From<ReportError> for SimError {
+    ghost use Rattle.rv_job.specs.declared.errors.SimError.TheVariants.{WriteFailed};
+
+    ghost from_gives = { λ _ e. e ≡ WriteFailed };
+
+    fn from(_error: ReportError) -> SimError {
+        SimError::WriteFailed
+    }
+}

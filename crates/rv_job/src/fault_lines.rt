@@ -1,0 +1,81 @@
+ghost use Rattle.std.specs.Prelude.{◌≡◌, false, not};
+ghost use Rattle.rv_job.specs.Fault.{fault_line, fault_status, input_fault_line, input_fault_status};
+ghost use Rattle.rv_job.specs.FaultStream.{Tells};
+
+use crate::errors::SimError;
+use crate::faults::{fault_status, input_fault_line, input_fault_status, write_fault};
+use crate::input::InputError;
+use rv_text::put;
+use std::io::Write;
+use std::marker::Model;
+
+/// A writer for the lines that tell faults. A write that fails is remembered, and nothing else comes
+/// of it.
+#[derive(Drop)]
+pub struct FaultLines<E: Write> {
+    writer: E,
+    has_failed: bool,
+}
+
+impl<E: Write> Model for FaultLines<E> {
+    ghost use Rattle.rv_job.specs.FaultStream.{FaultStream};
+
+    ghost Value = { FaultStream };
+
+    ghost view = { λ s. record { known = E.contents s.writer; has_failed = s.has_failed } };
+}
+
+impl<E: Write> FaultLines<E> {
+    /// A writer to which nothing was written yet.
+    pub fn new(writer: E) -> FaultLines<E>
+        ensures known { result.known ≡ E.contents writer }
+        ensures whole { result.has_failed ≡ false }
+    {
+        FaultLines {
+            writer,
+            has_failed: false,
+        }
+    }
+
+    /// Whether each line that was told was written whole.
+    pub fn is_whole(&self) -> bool
+        ensures { result ≡ not self.now.has_failed }
+    {
+        !self.has_failed
+    }
+
+    /// What stands behind the lines.
+    pub fn into_writer(self) -> E
+        ensures { E.contents result ≡ self.known }
+    {
+        self.writer
+    }
+
+    /// Writes the line of a fault, and answers its exit status.
+    pub fn tell(&mut self, error: SimError) -> u8
+        ensures line { Tells self.old self.new (fault_line error) }
+        ensures status { result ≡ fault_status error }
+    {
+        if write_fault(&mut self.writer, error).is_err() {
+            self.has_failed = true;
+        }
+        fault_status(error)
+    }
+
+    /// Writes a text that tells a fault.
+    pub fn tell_text(&mut self, text: &[u8])
+        ensures { Tells self.old self.new text.now }
+    {
+        let told = put(&mut self.writer, text);
+        self.has_failed = self.has_failed || told.is_err();
+    }
+
+    /// Writes the line of an input that can't be read, and answers its exit status.
+    pub fn tell_unread(&mut self, error: InputError) -> u8
+        ensures line { Tells self.old self.new (input_fault_line error) }
+        ensures status { result ≡ input_fault_status error }
+    {
+        self.tell_text(input_fault_line(error));
+        input_fault_status(error)
+    }
+}

@@ -1,0 +1,152 @@
+ghost use Rattle.std.specs.Prelude.{◌≡◌, OnOk, OnErr};
+ghost use Rattle.std.specs.Io.KnownBytes.{Appends};
+ghost use Rattle.rv_job.specs.Fault.{arrivals_kind, arrivals_line, description_kind, description_line, fault_line, fault_name, fault_status, input_fault_line, input_fault_status};
+ghost use Rattle.rv_text.specs.Written.{AppendsBeginning};
+
+use crate::errors::SimError;
+use crate::input::InputError;
+use itoa::Buffer;
+use rv_asm::AsmFault;
+use rv_describe::{ArrivalsError, DescriptionError, key_name};
+use rv_text::{ReportError, put, put_all};
+use std::io::Write;
+
+#[tactic(auto, unfolding(crate::specs::Fault::fault_name))]
+fn name(fault: AsmFault) -> &'static str
+    ensures { result.now ≡ fault_name fault }
+{
+    match fault {
+        AsmFault::BadToken => "BadToken",
+        AsmFault::UnknownMnemonic => "UnknownMnemonic",
+        AsmFault::BadOperands => "BadOperands",
+        AsmFault::BadRegister => "BadRegister",
+        AsmFault::DuplicateSymbol => "DuplicateSymbol",
+        AsmFault::TooLarge => "TooLarge",
+        AsmFault::UnknownSymbol => "UnknownSymbol",
+        AsmFault::OutOfRange => "OutOfRange",
+        AsmFault::Misaligned => "Misaligned",
+        AsmFault::Memory => "Memory",
+    }
+}
+
+#[tactic(auto, unfolding(crate::specs::Fault::description_kind))]
+fn description_kind(error: DescriptionError) -> &'static str
+    ensures { result.now ≡ description_kind error }
+{
+    match error {
+        DescriptionError::NotToml => "NotToml",
+        DescriptionError::UnknownKey => "UnknownKey",
+        DescriptionError::WrongKind { .. } => "WrongKind ",
+        DescriptionError::OutOfRange { .. } => "OutOfRange ",
+        DescriptionError::NotPowerOfTwo { .. } => "NotPowerOfTwo ",
+        DescriptionError::Memory => "Memory",
+    }
+}
+
+// The line that tells a description's fault, with the key that it names.
+#[tactic(auto, unfolding(crate::specs::Fault::description_line))]
+fn write_description_fault<W: Write>(
+    writer: &mut W,
+    error: DescriptionError,
+) -> Result<(), ReportError>
+    ensures whole { OnOk result (Appends (W.contents writer.old) (W.contents writer.new) (description_line error)) }
+    ensures beginning { OnErr result (AppendsBeginning (W.contents writer.old) (W.contents writer.new) (description_line error)) }
+{
+    let kind = description_kind(error).as_bytes();
+    let key = key_name(error.place()).as_bytes();
+    put_all(writer, &[b"error: description: ", kind, key, b"\n"])
+}
+
+#[tactic(auto, unfolding(crate::specs::Fault::arrivals_kind))]
+fn arrivals_kind(error: ArrivalsError) -> &'static str
+    ensures { result.now ≡ arrivals_kind error }
+{
+    match error {
+        ArrivalsError::NotToml => "NotToml",
+        ArrivalsError::UnknownKey => "UnknownKey",
+        ArrivalsError::WrongKind { .. } => "WrongKind ",
+        ArrivalsError::OutOfRange { .. } => "OutOfRange ",
+        ArrivalsError::Unsorted { .. } => "Unsorted ",
+        ArrivalsError::Memory => "Memory",
+    }
+}
+
+// The line that tells a fault of arrivals, with the number of the entry that it names.
+#[tactic(auto, unfolding(crate::specs::Fault::arrivals_line, crate::specs::Fault::entry_text))]
+fn write_arrivals_fault<W: Write>(writer: &mut W, error: ArrivalsError) -> Result<(), ReportError>
+    ensures whole { OnOk result (Appends (W.contents writer.old) (W.contents writer.new) (arrivals_line error)) }
+    ensures beginning { OnErr result (AppendsBeginning (W.contents writer.old) (W.contents writer.new) (arrivals_line error)) }
+{
+    let kind = arrivals_kind(error).as_bytes();
+    let entry = error.entry();
+    if entry == 0 {
+        return put_all(writer, &[b"error: arrivals: ", kind, b"\n"]);
+    }
+    let mut buffer = Buffer::new();
+    let number = buffer.format(entry).as_bytes();
+    put_all(writer, &[b"error: arrivals: ", kind, number, b"\n"])
+}
+
+/// Writes the line that tells a fault.
+#[tactic(auto, unfolding(crate::specs::Fault::fault_line))]
+pub(crate) fn write_fault<W: Write>(writer: &mut W, error: SimError) -> Result<(), ReportError>
+    ensures whole { OnOk result (Appends (W.contents writer.old) (W.contents writer.new) (fault_line error)) }
+    ensures beginning { OnErr result (AppendsBeginning (W.contents writer.old) (W.contents writer.new) (fault_line error)) }
+{
+    match error {
+        SimError::TooLong => put(writer, b"error: job too long\n"),
+        SimError::Description(error) => write_description_fault(writer, error),
+        SimError::Arrivals(error) => write_arrivals_fault(writer, error),
+        SimError::Assembly(error) => {
+            let mut buffer = Buffer::new();
+            let line = buffer.format(error.line).as_bytes();
+            let name = name(error.fault).as_bytes();
+            put_all(
+                writer,
+                &[b"error: assembly line ", line, b": ", name, b"\n"],
+            )
+        }
+        SimError::ImageDoesNotFit => put(writer, b"error: image does not fit\n"),
+        SimError::Memory => put(writer, b"error: memory\n"),
+        SimError::WriteFailed => put(writer, b"error: output\n"),
+    }
+}
+
+/// The line that tells why the input could not be read.
+#[tactic(auto, unfolding(crate::specs::Fault::input_fault_line))]
+pub(crate) fn input_fault_line(error: InputError) -> &'static [u8]
+    ensures { result.now ≡ input_fault_line error }
+{
+    match error {
+        InputError::Failed => b"error: input\n",
+        InputError::Memory => b"error: memory\n",
+    }
+}
+
+/// The exit status of an input that could not be read: 4 where a read failed, 5 for want of memory.
+#[tactic(auto, unfolding(crate::specs::Fault::input_fault_status))]
+pub(crate) fn input_fault_status(error: InputError) -> u8
+    ensures { result ≡ input_fault_status error }
+{
+    match error {
+        InputError::Failed => 4,
+        InputError::Memory => 5,
+    }
+}
+
+/// The exit status of a fault: 1 for a job that is refused, 4 where output failed, 5 for want of
+/// memory.
+#[tactic(auto, unfolding(crate::specs::Fault::fault_status))]
+pub(crate) fn fault_status(error: SimError) -> u8
+    ensures { result ≡ fault_status error }
+{
+    match error {
+        SimError::TooLong
+        | SimError::Description(_)
+        | SimError::Arrivals(_)
+        | SimError::Assembly(_)
+        | SimError::ImageDoesNotFit => 1,
+        SimError::WriteFailed => 4,
+        SimError::Memory => 5,
+    }
+}

@@ -1,0 +1,50 @@
+ghost use Rattle.std.specs.Prelude.{◌≡◌, length, IfOk, IfErr, OnOk, OnErr};
+ghost use Rattle.std.specs.Io.KnownBytes.{Appends};
+ghost use Rattle.rv_job.specs.ImageRefusal.{RefusesImage};
+ghost use Rattle.rv_job.specs.ImageText.{IsDescribedImageOf, image_line};
+ghost use Rattle.rv_text.specs.Written.{AppendsBeginning};
+
+use crate::errors::SimError;
+use crate::job_text::{read_image, read_machine, read_parts};
+use itoa::Buffer;
+use rv_isa::{Description, Image};
+use rv_text::{ReportError, hexadecimal, put_all};
+use std::alloc::Global;
+use std::io::Write;
+
+/// The machine that a job's text describes, and the image that it makes there, whether it fits or not.
+#[derive(Drop)]
+pub struct DescribedImage {
+    /// The machine.
+    pub description: Description,
+    /// What RAM would hold at first, and where execution would start.
+    pub image: Image,
+}
+
+/// Reads the image of a job. The arrivals are not read.
+///
+/// Fails by `TooLong`, `Description` and `Assembly` as `read_job`, and by `Memory`.
+pub fn read_image_text(alloc: Global, text: &[u8]) -> Result<DescribedImage, SimError>
+    ensures image { IfOk result (IsDescribedImageOf text.now) }
+    ensures refused { IfErr result (RefusesImage text.now) }
+{
+    let parts = read_parts(text)?;
+    let description = read_machine(alloc, parts.description)?;
+    let image = read_image(alloc, description.values().ram_base, parts.assembly)?;
+    Ok(DescribedImage { description, image })
+}
+
+/// Writes the line that says how many bytes an image has, and where execution starts.
+#[tactic(auto, unfolding(crate::specs::ImageText::image_line))]
+pub fn write_image_line<W: Write>(writer: &mut W, image: &Image) -> Result<(), ReportError>
+    ensures whole { OnOk result (Appends (W.contents writer.old) (W.contents writer.new) (image_line (length image.now.bytes) image.now.start)) }
+    ensures beginning { OnErr result (AppendsBeginning (W.contents writer.old) (W.contents writer.new) (image_line (length image.now.bytes) image.now.start)) }
+{
+    let mut buffer = Buffer::new();
+    let count = buffer.format(image.bytes.len()).as_bytes();
+    let start = hexadecimal(image.start);
+    put_all(
+        writer,
+        &[b"ok ", count, b" bytes start ", start.as_slice(), b"\n"],
+    )
+}

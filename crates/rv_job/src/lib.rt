@@ -1,0 +1,21 @@
+//! Jobs: their texts, read from the bytes of the input, and the lines that tell their faults. Its model of a job is the machine, the
+//! arrivals and the image that the parts of its text mean. The program stands on it.
+#![tactic(auto)]
+
+mod errors;
+mod fault_lines;
+mod faults;
+mod image_text;
+mod input;
+mod job;
+mod job_text;
+mod parts;
+#[cfg(test)]
+mod tests;
+
+pub use errors::SimError;
+pub use fault_lines::FaultLines;
+pub use image_text::{DescribedImage, read_image_text, write_image_line};
+pub use input::{InputError, read_input};
+pub use job::Job;
+pub use job_text::read_job;

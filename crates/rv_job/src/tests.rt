@@ -1,0 +1,4 @@
+mod helpers;
+mod parts;
+mod reading;
+mod refusals;

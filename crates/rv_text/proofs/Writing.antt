@@ -1,0 +1,123 @@
+-- What a writer holds after several writes.
+use Rattle.std.proofs.Common.{◌≡◌, ℕ, zero, suc, ◌+◌, ◌<◌, List, [], ◌∷◌, ◌++◌, length, get_or, take, drop, Option, Some, None, sym, ap, ◌∙◌, append_assoc, append-nil, length-append, add-one, arith, ⊎_elim}
+use Rattle.std.specs.Prelude.{◌*◌, ◌%◌, ◌^◌, OnOk, OnErr, Result, Ok, Err}
+use Rattle.std.specs.List.{flat_map, range_with_len}
+use Rattle.std.proofs.Math.Seq.{take-append-add}
+use Rattle.std.proofs.lemmas.List.{take-append-le, take_more, take-append-drop}
+use Rattle.std.proofs.lemmas.Grind.{flat_map-append}
+use Rattle.std.specs.Io.KnownBytes.{Appends, Keeps}
+use Rattle.std.proofs.str.Laws.{order}
+use Rattle.rv_text.specs.Written.{AppendsBeginning}
+
+pub Appends-nothing : (known : Option (List ℕ)) → Appends known known []
+Appends-nothing None = tt
+Appends-nothing (Some bytes) = sym (append-nil bytes)
+
+pub Appends-both : (a b c : Option (List ℕ)) (xs ys : List ℕ) → Appends a b xs → Appends b c ys → Appends a c (xs ++ ys)
+Appends-both None b c xs ys first second = tt
+Appends-both (Some a) None c xs ys first second = absurd first
+Appends-both (Some a) (Some b) None xs ys first second = absurd second
+Appends-both (Some a) (Some b) (Some c) xs ys first second = second ∙ ap (λ l. l ++ ys) first ∙ append_assoc a xs ys
+
+pub Appends-kept : (a b c : Option (List ℕ)) (xs : List ℕ) → Appends a b xs → Keeps b c → Appends a c xs
+Appends-kept None b c xs first kept = tt
+Appends-kept (Some a) None c xs first kept = absurd first
+Appends-kept (Some a) (Some b) None xs first kept = absurd kept
+Appends-kept (Some a) (Some b) (Some c) xs first kept = kept ∙ first
+
+pub Appends-same : (a b : Option (List ℕ)) (xs ys : List ℕ) → xs ≡ ys → Appends a b xs → Appends a b ys
+Appends-same a b xs ys same appended = rw same at appended
+
+-- a beginning of a text is a beginning of a longer one
+pub beginning-longer : (a b : Option (List ℕ)) (xs ys : List ℕ) → AppendsBeginning a b xs → AppendsBeginning a b (xs ++ ys)
+beginning-longer a b xs ys (n, within, appended) = (
+  n,
+  omega (arith, length-append xs ys),
+  Appends-same a b (take n xs) (take n (xs ++ ys)) (sym (take-append-le n xs ys within)) appended,
+)
+
+-- a text and a beginning of the next are a beginning of both
+pub beginning-both : (a b c : Option (List ℕ)) (xs ys : List ℕ) → Appends a b xs → AppendsBeginning b c ys → AppendsBeginning a c (xs ++ ys)
+beginning-both a b c xs ys first (n, within, appended) = (
+  length xs + n,
+  omega (arith, length-append xs ys),
+  Appends-same a c (xs ++ take n ys) (take (length xs + n) (xs ++ ys)) (sym (take-append-add xs ys n)) (Appends-both a b c xs (take n ys) first appended),
+)
+
+pub beginning-same : (a b : Option (List ℕ)) (xs ys : List ℕ) → xs ≡ ys → AppendsBeginning a b xs → AppendsBeginning a b ys
+beginning-same a b xs ys same beginning = rw same at beginning
+
+pub on_err : {T E P : Type 0} (r : Result T E) → P → OnErr r P
+on_err (Ok value) fact = tt
+on_err (Err error) fact = fact
+
+-- what comes of an Ok, and of an Err
+pub on_ok_by : {T E P Q : Type 0} (r : Result T E) → (P → Q) → OnOk r P → OnOk r Q
+on_ok_by (Ok value) then fact = then fact
+on_ok_by (Err error) then fact = tt
+
+pub on_err_by : {T E P Q : Type 0} (r : Result T E) → (P → Q) → OnErr r P → OnErr r Q
+on_err_by (Ok value) then fact = tt
+on_err_by (Err error) then fact = then fact
+
+-- a text was written, and the next one by a call that answers so
+pub whole_behind : {T E : Type 0} (r : Result T E) (a b c : Option (List ℕ)) (xs ys : List ℕ) → Appends a b xs → OnOk r (Appends b c ys) → OnOk r (Appends a c (xs ++ ys))
+whole_behind r a b c xs ys first second = on_ok_by r (Appends-both a b c xs ys first) second
+
+pub beginning_behind : {T E : Type 0} (r : Result T E) (a b c : Option (List ℕ)) (xs ys : List ℕ) → Appends a b xs → OnErr r (AppendsBeginning b c ys) → OnErr r (AppendsBeginning a c (xs ++ ys))
+beginning_behind r a b c xs ys first second = on_err_by r (beginning-both a b c xs ys first) second
+
+-- texts that are written one behind the other, at the place of one of them
+module _ {X : Type 0} (text : X → List ℕ) (items : List X) (place : ℕ) (other : X) (here : place < length items) where
+  pub flat_map-more : flat_map text (take (place + 1) items) ≡ flat_map text (take place items) ++ text (get_or items place other)
+  flat_map-more =
+      ap (flat_map text) (take_more items place other here) ∙ flat_map-append text (take place items) (get_or items place other ∷ []) ∙ ap (λ last. flat_map text (take place items) ++ last) (append-nil (text (get_or items place other)))
+
+  pub flat_map-split : (flat_map text (take place items) ++ text (get_or items place other)) ++ flat_map text (drop (place + 1) items) ≡ flat_map text items
+  flat_map-split =
+      ap (λ front. front ++ flat_map text (drop (place + 1) items)) (sym flat_map-more) ∙ sym (flat_map-append text (take (place + 1) items) (drop (place + 1) items)) ∙ ap (flat_map text) (take-append-drop (place + 1) items)
+
+  -- where one of them was not written whole
+  pub beginning-at : (a b c : Option (List ℕ)) → Appends a b (flat_map text (take place items)) → AppendsBeginning b c (text (get_or items place other)) → AppendsBeginning a c (flat_map text items)
+  beginning-at a b c front last = beginning-same a c _ _ flat_map-split (beginning-longer a c _ _ (beginning-both a b c _ _ front last))
+
+  pub Appends-at : (a b c : Option (List ℕ)) → Appends a b (flat_map text (take place items)) → Appends b c (text (get_or items place other)) → Appends a c (flat_map text (take (place + 1) items))
+  Appends-at a b c front last = Appends-same a c _ _ (sym flat_map-more) (Appends-both a b c _ _ front last)
+
+range-more : (first count : ℕ) → range_with_len first (suc count) ≡ range_with_len first count ++ (first + count) ∷ []
+range-more first zero = ap (λ n. n ∷ []) (omega arith)
+range-more first (suc count) =
+    let same : first + 1 + count ≡ first + suc count = omega arith in
+    ap (λ l. first ∷ l) (range-more (first + 1) count) ∙ ap (λ n. first ∷ range_with_len (first + 1) count ++ n ∷ []) same
+
+-- the texts of the numbers below a bound
+unfoldable pub texts_below : (ℕ → List ℕ) → ℕ → List ℕ
+texts_below text bound = flat_map text (range_with_len 0 bound)
+
+pub texts_below-more : (text : ℕ → List ℕ) (bound : ℕ) → texts_below text (suc bound) ≡ texts_below text bound ++ text bound
+unfolding texts_below
+texts_below-more text bound =
+    ap (flat_map text) (range-more 0 bound) ∙ flat_map-append text (range_with_len 0 bound) ((0 + bound) ∷ []) ∙ ap (λ last. texts_below text bound ++ last) (append-nil (text (0 + bound)) ∙ ap text (omega arith))
+
+pub texts_below-split : (text : ℕ → List ℕ) (place bound : ℕ) → place < bound → (rest : List ℕ) × ((texts_below text place ++ text place) ++ rest ≡ texts_below text bound)
+texts_below-split text place zero below = absurd (omega arith)
+texts_below-split text place (suc bound) below =
+    ⊎_elim
+    (λ earlier. let split = texts_below-split text place bound earlier in (split.0 ++ text bound, sym (append_assoc _ split.0 (text bound)) ∙ ap (λ l. l ++ text bound) split.1 ∙ sym (texts_below-more text bound)))
+    (λ last. let same : place ≡ bound = omega arith in ([], append-nil _ ∙ ap (λ n. texts_below text n ++ text n) same ∙ sym (texts_below-more text bound)))
+    (order place bound)
+
+-- the texts of numbers that are written one behind the other, at one of them
+module _ (text : ℕ → List ℕ) (place bound : ℕ) (below : place < bound) where
+  pub beginning-below : (a b c : Option (List ℕ)) → Appends a b (texts_below text place) → AppendsBeginning b c (text place) → AppendsBeginning a c (texts_below text bound)
+  beginning-below a b c front last =
+      let split = texts_below-split text place bound below in
+      beginning-same a c _ _ split.1 (beginning-longer a c _ _ (beginning-both a b c _ _ front last))
+
+pub Appends-below : (text : ℕ → List ℕ) (place : ℕ) (a b c : Option (List ℕ)) → Appends a b (texts_below text place) → Appends b c (text place) → Appends a c (texts_below text (place + 1))
+Appends-below text place a b c front last =
+    Appends-same a c _ _ (sym (ap (texts_below text) (add-one place) ∙ texts_below-more text place)) (Appends-both a b c _ _ front last)
+
+-- the address of a word by its number, as it is computed
+pub place_of_word : (address number : ℕ) → (address + number * 4 % 2 ^ 32) % 2 ^ 32 ≡ (address + 4 * number) % 2 ^ 32
+place_of_word address number = omega arith

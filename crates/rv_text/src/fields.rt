@@ -1,0 +1,80 @@
+ghost use Rattle.std.specs.Prelude.{◌≡◌, OnOk, OnErr};
+ghost use Rattle.std.specs.List.{flat_map};
+ghost use Rattle.std.specs.Io.KnownBytes.{Appends};
+ghost use Rattle.rv_text.specs.Line.{line_of, ratio_text};
+ghost use Rattle.rv_text.specs.ReadField.{field_line};
+ghost use Rattle.rv_text.specs.Written.{AppendsBeginning};
+
+use crate::digits::{hexadecimal, thousandths, three_digits};
+use crate::output::{ReportError, put, put_all};
+use itoa::Buffer;
+use std::io::Write;
+
+/// What a line of a report gives behind its name.
+#[derive(Clone, Copy, Debug)]
+pub enum Value {
+    Count(u64),
+    Word(u32),
+    /// How many of one there are to each of another.
+    Ratio { count: u64, each: u64 },
+}
+
+/// A line of a report.
+#[derive(Clone, Copy, Debug)]
+pub struct Field<'a> {
+    pub name: &'a str,
+    pub value: Value,
+}
+
+#[tactic(auto, unfolding(crate::specs::Line::line_of))]
+fn write_line<W: Write>(writer: &mut W, name: &str, text: &[u8]) -> Result<(), ReportError>
+    ensures whole { OnOk result (Appends (W.contents writer.old) (W.contents writer.new) (line_of name.now text.now)) }
+    ensures beginning { OnErr result (AppendsBeginning (W.contents writer.old) (W.contents writer.new) (line_of name.now text.now)) }
+{
+    put_all(writer, &[name.as_bytes(), b" ", text, b"\n"])
+}
+
+#[tactic(auto, unfolding(crate::specs::Line::line_of, crate::specs::Line::ratio_text))]
+fn write_ratio<W: Write>(
+    writer: &mut W,
+    name: &str,
+    count: u64,
+    each: u64,
+) -> Result<(), ReportError>
+    ensures whole { OnOk result (Appends (W.contents writer.old) (W.contents writer.new) (line_of name.now (ratio_text count each))) }
+    ensures beginning { OnErr result (AppendsBeginning (W.contents writer.old) (W.contents writer.new) (line_of name.now (ratio_text count each))) }
+{
+    let name = name.as_bytes();
+    if each == 0 {
+        return put_all(writer, &[name, b" ", b"-", b"\n"]);
+    }
+    let mut buffer = Buffer::new();
+    let whole = buffer.format(count / each).as_bytes();
+    let digits = three_digits(thousandths(count, each));
+    put_all(writer, &[name, b" ", whole, b".", digits.as_slice(), b"\n"])
+}
+
+fn write_field<W: Write>(writer: &mut W, field: Field<'_>) -> Result<(), ReportError>
+    ensures whole { OnOk result (Appends (W.contents writer.old) (W.contents writer.new) (field_line field.entry)) }
+    ensures beginning { OnErr result (AppendsBeginning (W.contents writer.old) (W.contents writer.new) (field_line field.entry)) }
+{
+    match field.value {
+        Value::Count(count) => {
+            let mut buffer = Buffer::new();
+            write_line(writer, field.name, buffer.format(count).as_bytes())
+        }
+        Value::Word(word) => write_line(writer, field.name, hexadecimal(word).as_slice()),
+        Value::Ratio { count, each } => write_ratio(writer, field.name, count, each),
+    }
+}
+
+/// Writes lines one behind the other.
+pub fn write_fields<W: Write>(writer: &mut W, fields: &[Field<'_>]) -> Result<(), ReportError>
+    ensures whole { OnOk result (Appends (W.contents writer.old) (W.contents writer.new) (flat_map field_line fields.now)) }
+    ensures beginning { OnErr result (AppendsBeginning (W.contents writer.old) (W.contents writer.new) (flat_map field_line fields.now)) }
+{
+    for field in fields {
+        write_field(writer, *field)?;
+    }
+    Ok(())
+}

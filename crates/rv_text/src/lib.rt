@@ -1,0 +1,11 @@
+//! Texts that are written whole, or a beginning of them where a write fails: bytes, words in hexadecimal digits, and lines of a
+//! name and a value. Its model is the text. The reports of runs and the lines that tell faults stand on it.
+#![tactic(auto)]
+
+mod digits;
+mod fields;
+mod output;
+
+pub use digits::hexadecimal;
+pub use fields::{Field, Value, write_fields};
+pub use output::{ReportError, put, put_all};

@@ -1,0 +1,42 @@
+ghost use Rattle.std.specs.Prelude.{◌≡◌, OnOk, OnErr};
+ghost use Rattle.std.specs.List.{flat_map};
+ghost use Rattle.std.specs.Io.KnownBytes.{Appends};
+ghost use Rattle.rv_text.specs.Written.{AppendsBeginning};
+
+use std::io::Write;
+use thiserror::Error;
+
+/// Why a report was not written whole.
+#[derive(Clone, Copy, Debug, PartialEq, Eq, Error)]
+pub enum ReportError {
+    /// A write answered an error, or took nothing.
+    #[error("output")]
+    WriteFailed,
+}
+
+/// Writes all the bytes of a text, and asks for no memory.
+pub fn put<W: Write>(writer: &mut W, text: &[u8]) -> Result<(), ReportError>
+    ensures whole { OnOk result (Appends (W.contents writer.old) (W.contents writer.new) text.now) }
+    ensures beginning { OnErr result (AppendsBeginning (W.contents writer.old) (W.contents writer.new) text.now) }
+{
+    let mut written = 0;
+    while written < text.len() {
+        let (_, rest) = text.split_at(written);
+        match writer.write(rest) {
+            Ok(0) | Err(_) => return Err(ReportError::WriteFailed),
+            Ok(count) => written += count,
+        }
+    }
+    Ok(())
+}
+
+/// Writes texts one behind the other, and asks for no memory.
+pub fn put_all<W: Write>(writer: &mut W, texts: &[&[u8]]) -> Result<(), ReportError>
+    ensures whole { OnOk result (Appends (W.contents writer.old) (W.contents writer.new) (flat_map (λ t. t.now) texts.now)) }
+    ensures beginning { OnErr result (AppendsBeginning (W.contents writer.old) (W.contents writer.new) (flat_map (λ t. t.now) texts.now)) }
+{
+    for text in texts {
+        put(writer, text)?;
+    }
+    Ok(())
+}
