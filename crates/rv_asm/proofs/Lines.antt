@@ -1,68 +1,50 @@
 -- The lines of a text, one after another.
-use Rattle.std.proofs.Common.{◌≡◌, ◌+◌, ◌∙◌, ◌==◌, ℕ, List, [], ◌∷◌, length, drop, Option, Some, None, MatchOption, sym, ap, suc, add-one}
+use Rattle.std.proofs.Common.{◌≡◌, ◌∙◌, ◌+◌, ◌++◌, ◌∷◌, [], ℕ, List, map, Some, None, Result, Ok, Err, IfOk, ap, sym, refl, Bor, ◌==◌, append_assoc, append-nil}
+use Rattle.std.proofs.lemmas.Simd.{map-map}
 use Rattle.std.specs.List.{slice_split}
-use Rattle.std.specs.Option.{option_map, option_or}
-use Rattle.rv_asm.specs.Faults.{earliest}
-use Rattle.rv_asm.specs.Layout.{Line, line_of, lines_of, lines_onto}
-use Rattle.rv_asm.specs.Token.{tokens_of}
+use Rattle.std.specs.Global.{Vec}
+use Rattle.rv_asm.specs.Faults.{earliest, first_faults}
+use Rattle.rv_asm.specs.FirstPass.{first_fault}
+use Rattle.rv_asm.specs.Layout.{Line, Layout, extended, laid, layout, unlaid, line_in, lines_of}
+use Rattle.rv_asm.specs.Placed.{Placed, place, placed}
 use Rattle.rv_asm.specs.declared.fault.AsmFault.{AsmFault}
 
--- what tells a line's fault
-abbrev pub Finds : Type 0
-Finds = List Line → Line → Option AsmFault
+-- the lines of the parts of a text
+pub lines_are : {E : Type 0} (r : Result (Vec (Bor (List ℕ))) E) (text : List ℕ) → IfOk r (λ v. map (λ x. x.now) v.items ≡ slice_split (λ byte. byte == 10) text) → IfOk r (λ v. map (λ x. line_in x.now) v.items ≡ lines_of text)
+lines_are (Ok v) text e = sym (map-map line_in (λ x. x.now) v.items) ∙ ap (map line_in) e
+lines_are (Err f) text e = tt
 
--- the lines that begin at a place of the text
-abbrev pub lines_from : List ℕ → ℕ → List (List ℕ)
-lines_from text start = slice_split (λ byte. byte == 10) (drop start text)
+-- the first pass has read some lines: the others have the first fault, if there is one, and lead to the layout
+pub record FirstPass (all rest : List Line) (number : ℕ) (so_far : Layout) (lines : List Placed) : Type 0 where
+  pub fault : earliest 1 (first_faults unlaid all) ≡ earliest number (first_faults so_far rest)
+  pub whole : layout all ≡ laid so_far rest
+  pub places : placed unlaid all ≡ lines ++ placed so_far rest
 
--- some lines were read, none has a fault, and something holds of them
-pub record AfterLines (finds : Finds) (Holds : List Line → Type 0) (text : List ℕ) (start number : ℕ) : Type 0 where
-  pub earlier : List Line
-  pub all : lines_onto earlier (lines_from text start) ≡ lines_of text
-  pub clean : earliest finds earlier ≡ None
-  pub count : length earlier ≡ number
-  pub holds : Holds earlier
+pub first_none : (all : List Line) (so_far : Layout) (lines : List Placed) → so_far ≡ unlaid → lines ≡ [] → FirstPass all all 1 so_far lines
+first_none all so_far lines layout_is lines_are_none = rw (layout_is, lines_are_none) record { fault = refl; whole = refl; places = refl }
 
--- a fault stays the earliest whatever lines follow
-stays : (finds : Finds) (lines : List Line) (found : AsmFault × ℕ) (others : List (List ℕ)) → earliest finds lines ≡ Some found → earliest finds (lines_onto lines others) ≡ Some found
-stays finds lines found [] e = e
-stays finds lines found (bytes ∷ others) e = stays finds (line_of (tokens_of bytes) ∷ lines) found others (ap (λ o. option_or o (option_map (λ f. (f, length lines + 1)) (finds lines (line_of (tokens_of bytes))))) e)
-
-module _ (finds : Finds) (Holds : List Line → Type 0) (text : List ℕ) (start number : ℕ) (r : AfterLines finds Holds text start number) where
-  -- the line of some bytes, which comes next
-  abbrev pub next : List ℕ → List Line
-  next bytes = line_of (tokens_of bytes) ∷ r.earlier
-
-  still_clean : (bytes : List ℕ) → finds r.earlier (line_of (tokens_of bytes)) ≡ None → earliest finds (next bytes) ≡ None
-  still_clean bytes none = ap (λ o. option_or o (option_map (λ f. (f, length r.earlier + 1)) (finds r.earlier (line_of (tokens_of bytes))))) r.clean ∙ ap (option_map (λ f. (f, length r.earlier + 1))) none
-
-  -- a line without a fault, and others behind it
-  pub line_read : (bytes : List ℕ) (behind : ℕ) (Holds' : List Line → Type 0) → lines_from text start ≡ bytes ∷ lines_from text behind → finds r.earlier (line_of (tokens_of bytes)) ≡ None → Holds' (next bytes) → AfterLines finds Holds' text behind (number + 1)
-  line_read bytes behind Holds' parts none holds = record {
-    earlier = next bytes;
-    all = sym (ap (lines_onto r.earlier) parts) ∙ r.all;
-    clean = still_clean bytes none;
-    count = ap (λ n. suc n) r.count ∙ sym (add-one number);
-    holds = holds;
+module _ (all rest others : List Line) (line : Line) (number : ℕ) (so_far : Layout) (lines : List Placed) (r : FirstPass all rest number so_far lines) (rest_is : rest ≡ line ∷ others) where
+  -- a line without a fault
+  pub first_more : (next : Layout) (lines' : List Placed) → first_fault so_far line ≡ None → next ≡ extended so_far line → lines' ≡ lines ++ place so_far.reach line ∷ [] → FirstPass all others (number + 1) next lines'
+  first_more next lines' clean next_is lines_is = record {
+    fault = r.fault ∙ ap (λ l. earliest number (first_faults so_far l)) rest_is ∙ ap (λ f. earliest number (f ∷ first_faults (extended so_far line) others)) clean ∙ ap (λ l. earliest (number + 1) (first_faults l others)) (sym next_is);
+    whole = r.whole ∙ ap (laid so_far) rest_is ∙ ap (λ l. laid l others) (sym next_is);
+    places = r.places ∙ ap (λ l. lines ++ placed so_far l) rest_is ∙ sym (append_assoc lines (place so_far.reach line ∷ []) (placed (extended so_far line) others)) ∙ (λ i. sym lines_is i ++ placed (sym next_is i) others);
   }
 
-  -- the last line
-  pub last_lines : (bytes : List ℕ) → lines_from text start ≡ bytes ∷ [] → next bytes ≡ lines_of text
-  last_lines bytes parts = sym (ap (lines_onto r.earlier) parts) ∙ r.all
-
-  pub last_clean : (bytes : List ℕ) → lines_from text start ≡ bytes ∷ [] → finds r.earlier (line_of (tokens_of bytes)) ≡ None → earliest finds (lines_of text) ≡ None
-  last_clean bytes parts none = ap (earliest finds) (sym (last_lines bytes parts)) ∙ still_clean bytes none
-
   -- a line with a fault
-  pub line_refused : (bytes : List ℕ) (others : List (List ℕ)) (fault : AsmFault) → lines_from text start ≡ bytes ∷ others → finds r.earlier (line_of (tokens_of bytes)) ≡ Some fault → earliest finds (lines_of text) ≡ Some (fault, number + 1)
-  line_refused bytes others fault parts found =
-      let here : earliest finds (next bytes) ≡ Some (fault, number + 1) =
-      ap (λ o. option_or o (option_map (λ f. (f, length r.earlier + 1)) (finds r.earlier (line_of (tokens_of bytes))))) r.clean
-      ∙ ap (option_map (λ f. (f, length r.earlier + 1))) found
-      ∙ ap (λ n. Some (fault, n + 1)) r.count in
-      ap (earliest finds) (sym (sym (ap (lines_onto r.earlier) parts) ∙ r.all)) ∙ stays finds (next bytes) (fault, number + 1) others here
+  pub first_refused : (fault : AsmFault) → first_fault so_far line ≡ Some fault → earliest 1 (first_faults unlaid all) ≡ Some (fault, number)
+  first_refused fault found = r.fault ∙ ap (λ l. earliest number (first_faults so_far l)) rest_is ∙ ap (λ f. earliest number (f ∷ first_faults (extended so_far line) others)) found
 
-  -- the same, whether it is the last line or not
-  pub refused_at : (bytes : List ℕ) (next : Option ℕ) (fault fault' : AsmFault) (line : ℕ) → MatchOption next (lines_from text start ≡ bytes ∷ []) (λ place. lines_from text start ≡ bytes ∷ lines_from text place) → finds r.earlier (line_of (tokens_of bytes)) ≡ Some fault → fault' ≡ fault → line ≡ number + 1 → earliest finds (lines_of text) ≡ Some (fault', line)
-  refused_at bytes None fault fault' line parts found same_fault same_line = line_refused bytes [] fault parts found ∙ (λ i. Some (sym same_fault i, sym same_line i))
-  refused_at bytes (Some place) fault fault' line parts found same_fault same_line = line_refused bytes (lines_from text place) fault parts found ∙ (λ i. Some (sym same_fault i, sym same_line i))
+-- all lines are read, and none has a fault
+pub record AllRead (all : List Line) (so_far : Layout) (lines : List Placed) : Type 0 where
+  pub clean : earliest 1 (first_faults unlaid all) ≡ None
+  pub whole : so_far ≡ layout all
+  pub places : lines ≡ placed unlaid all
+
+pub first_done : (all rest : List Line) (number : ℕ) (so_far : Layout) (lines : List Placed) → FirstPass all rest number so_far lines → rest ≡ [] → AllRead all so_far lines
+first_done all rest number so_far lines r none = record {
+  clean = r.fault ∙ ap (λ l. earliest number (first_faults so_far l)) none;
+  whole = sym (r.whole ∙ ap (laid so_far) none);
+  places = sym (r.places ∙ ap (λ l. lines ++ placed so_far l) none ∙ append-nil lines);
+}

@@ -1,5 +1,5 @@
 -- Where the statements of a text stand, and what its symbols are.
-use Rattle.std.specs.Prelude.{ℕ, ℤ, pos, negsuc, ◌+◌, ◌-◌, ◌*◌, ◌%◌, ◌+ℤ◌, ◌-ℤ◌, List, [], ◌∷◌, length, Bool, if◌then◌else◌, ◌==◌, nat_lt, Option, Some, None, Result, Ok, Err, unwrap_or, unsigned_abs}
+use Rattle.std.specs.Prelude.{ℕ, ℤ, pos, negsuc, ◌+◌, ◌-◌, ◌*◌, ◌%◌, ◌+ℤ◌, ◌-ℤ◌, List, [], ◌∷◌, length, map, Bool, if◌then◌else◌, ◌==◌, nat_lt, Option, Some, None, Result, Ok, Err, unwrap_or, unsigned_abs}
 use Rattle.std.specs.List.{slice_split}
 use Rattle.std.specs.Option.{option_or}
 use Rattle.std.specs.Str.{bytes_eq}
@@ -47,18 +47,9 @@ line_of (Some tokens) = Readable (labels_of tokens) (body_of tokens)
 abbrev pub line_in : List ℕ → Line
 line_in bytes = line_of (tokens_of bytes)
 
--- lines behind those that came earlier, the last line first
-abbrev pub lines_onto : List Line → List (List ℕ) → List Line
-lines_onto earlier [] = earlier
-lines_onto earlier (bytes ∷ others) = lines_onto (line_in bytes ∷ earlier) others
-
--- the bytes of each line, which ends before a line feed or with the text
-abbrev pub line_bytes : List ℕ → List (List ℕ)
-line_bytes text = slice_split (λ byte. byte == 10) text
-
--- the lines of a text, the last line first; a line feed ends a line
+-- the lines of a text; a line feed ends a line
 abbrev pub lines_of : List ℕ → List Line
-lines_of text = lines_onto [] (line_bytes text)
+lines_of text = map line_in (slice_split (λ byte. byte == 10) text)
 
 -- the statement that tokens spell
 abbrev pub statement_in : List Token → Result Statement AsmFault
@@ -182,12 +173,15 @@ abbrev pub extended : Layout → Line → Layout
 extended layout Unreadable = layout
 extended layout (Readable labels body) = behind (labelled layout.meanings (label_at layout.reach) labels) layout.reach (statement_in body)
 
--- the layout of lines, the last one first
-abbrev pub layout : List Line → Layout
-layout [] = record { reach = start; meanings = λ name. None }
-layout (line ∷ earlier) = extended (layout earlier) line
+-- the layout of no lines
+abbrev pub unlaid : Layout
+unlaid = record { reach = start; meanings = λ name. None }
 
--- how far the text has come behind a line, where the symbols have these meanings already
-abbrev pub reach_behind : Meanings → Reach → Line → Reach
-reach_behind meanings reach Unreadable = reach
-reach_behind meanings reach (Readable labels body) = (behind meanings reach (statement_in body)).reach
+-- the layout behind lines
+abbrev pub laid : Layout → List Line → Layout
+laid layout [] = layout
+laid layout (line ∷ others) = laid (extended layout line) others
+
+-- the layout of a text
+abbrev pub layout : List Line → Layout
+layout lines = laid unlaid lines

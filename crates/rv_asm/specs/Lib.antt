@@ -7,6 +7,7 @@ pub mod Meaning
 pub mod Mnemonic
 pub mod Names
 pub mod Operand
+pub mod Placed
 pub mod ReadOperand
 pub mod ReadStatement
 pub mod ReadToken

@@ -11,11 +11,12 @@ use Rattle.rv_isa.specs.declared.instructions.Instr.{Instr}
 use Rattle.rv_isa.specs.declared.instructions.Instr.TheVariants as instr
 use Rattle.rv_isa.specs.declared.operations.Width.{Width}
 use Rattle.rv_isa.specs.declared.operations.Width.TheVariants.{Byte, Half, Word}
-use Rattle.rv_asm.specs.Layout.{Line, Unreadable, Readable, Layout, Meanings, layout, signed_word, load_number, load_address, padding, offset, statement_in}
+use Rattle.rv_asm.specs.Layout.{Line, Layout, Meanings, layout, unlaid, signed_word, load_number, load_address, padding, offset}
 use Rattle.rv_asm.specs.Operand.{Expression, Number, Symbol, Sum, Operand}
+use Rattle.rv_asm.specs.Placed.{Placed, placed}
 use Rattle.rv_asm.specs.Statement.{Statement, Instruction, Values, Zeros, Align, Characters, and_then, is_between, expression_in}
 use Rattle.rv_asm.specs.declared.fault.AsmFault.{AsmFault}
-use Rattle.rv_asm.specs.declared.fault.AsmFault.TheVariants.{BadToken, UnknownSymbol, OutOfRange, Misaligned}
+use Rattle.rv_asm.specs.declared.fault.AsmFault.TheVariants.{UnknownSymbol, OutOfRange, Misaligned}
 use Rattle.rv_asm.specs.declared.reach.Reach.{Reach}
 use Rattle.rv_asm.specs.declared.operation.Fields.{Fields}
 use Rattle.rv_asm.specs.declared.operation.Operation.{Operation}
@@ -135,30 +136,28 @@ cells value start offset (Align multiple) = Ok (replicate (padding multiple offs
 cells value start offset (Characters bytes terminated) = Ok (map Byte' bytes ++ (if terminated then Byte' 0 ∷ [] else []))
 cells value start offset _ = Ok []
 
-abbrev pub cells_in : ℕ → Layout → Reach → Result Statement AsmFault → Result (List Cell) AsmFault
-cells_in base whole reach (Ok statement) = cells (value_of base whole.reach.text_size whole.meanings) (start_of base whole.reach.text_size reach.section) (offset reach) statement
-cells_in base whole reach (Err fault) = Err fault
+-- what a statement means where the text has come so far
+abbrev pub cells_at : ℕ → Layout → Reach → Statement → Result (List Cell) AsmFault
+cells_at base whole reach statement = cells (value_of base whole.reach.text_size whole.meanings) (start_of base whole.reach.text_size reach.section) (offset reach) statement
 
--- what a line means, in view of the whole text and of how far the lines before it have come
-abbrev pub line_cells : ℕ → Layout → Reach → Line → Result (List Cell) AsmFault
-line_cells base whole reach Unreadable = Err BadToken
-line_cells base whole reach (Readable labels body) = cells_in base whole reach (statement_in body)
+-- what a line means, in view of the whole text
+abbrev pub line_cells : ℕ → Layout → Placed → Result (List Cell) AsmFault
+line_cells base whole line = and_then line.statement (cells_at base whole line.reach)
 
--- a part more of a section, where a line stands in it
-abbrev pub contents_in : Section → Section → List Cell → Result (List Cell) AsmFault → List Cell
-contents_in Text Text before (Ok parts) = before ++ parts
-contents_in Data Data before (Ok parts) = before ++ parts
-contents_in _ _ before _ = before
+-- what a line that stands in the second section adds to the first
+abbrev pub parts_in : Section → Section → Result (List Cell) AsmFault → List Cell
+parts_in Text Text (Ok parts) = parts
+parts_in Data Data (Ok parts) = parts
+parts_in _ _ _ = []
 
 -- the parts of a section, from the lines that stand in it
-abbrev pub contents : ℕ → Layout → Section → List Line → List Cell
+abbrev pub contents : ℕ → Layout → Section → List Placed → List Cell
 contents base whole section [] = []
-contents base whole section (line ∷ earlier) =
-    contents_in section (layout earlier).reach.section (contents base whole section earlier) (line_cells base whole (layout earlier).reach line)
+contents base whole section (line ∷ others) = parts_in section line.reach.section (line_cells base whole line) ++ contents base whole section others
 
 -- the parts of a section of a text
 abbrev pub section_parts : ℕ → Section → List Line → List Cell
-section_parts base section lines = contents base (layout lines) section lines
+section_parts base section lines = contents base (layout lines) section (placed unlaid lines)
 
 -- what stands behind the text: the data behind zero bytes, if there are any
 abbrev pub behind_text : ℕ → ℕ → List Cell → List Cell

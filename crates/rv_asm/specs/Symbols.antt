@@ -1,13 +1,16 @@
 -- The symbols of the program, and its layout.
-use Rattle.std.specs.Prelude.{ℕ, ℤ, List, Option, Result}
+use Rattle.std.specs.Prelude.{ℕ, ℤ, List, Option, Result, map}
 use Rattle.std.specs.BTreeMap.{get_by}
 use Rattle.std.specs.Cmp.Lexicographic.{slice_cmp}
 use Rattle.std.specs.Ordering.{nat_cmp}
 use Rattle.rv_asm.specs.Layout.{Layout}
-use Rattle.rv_asm.specs.Meaning.{Cell, cells_in, value_of}
-use Rattle.rv_asm.specs.Statement.{Statement}
+use Rattle.rv_asm.specs.Meaning.{Cell, cells_at, value_of}
+use Rattle.rv_asm.specs.Placed.{Placed, place_body}
+use Rattle.rv_asm.specs.ReadOperand.{operands_in}
+use Rattle.rv_asm.specs.Statement.{Statement, statement}
 use Rattle.rv_asm.specs.declared.fault.AsmFault.{AsmFault}
 use Rattle.rv_asm.specs.declared.layout.Layout as read
+use Rattle.rv_asm.specs.declared.record.Record.{Record}
 use Rattle.rv_asm.specs.declared.program.Program.{Program}
 use Rattle.rv_asm.specs.declared.reach.Reach.{Reach}
 use Rattle.rv_asm.specs.declared.symbols.Definition.{Definition}
@@ -25,6 +28,13 @@ value_in program = value_of program.base program.layout.now.reach.text_size (fou
 abbrev pub layout_of : read.Layout → Layout
 layout_of program = record { reach = program.reach; meanings = found program.symbols }
 
+-- where the lines of the program stand
+abbrev pub placed_of : Record → Placed
+placed_of line = place_body line.reach line.label_starts (statement line.reading.form (operands_in line.reading.operands.items))
+
+abbrev pub lines_in : List Record → List Placed
+lines_in records = map placed_of records
+
 -- what a statement means in the program, behind the lines that lead so far
-abbrev pub means : Program → Reach → Result Statement AsmFault → Result (List Cell) AsmFault
-means program reach read = cells_in program.base (layout_of program.layout.now) reach read
+abbrev pub means : Program → Reach → Statement → Result (List Cell) AsmFault
+means program reach statement = cells_at program.base (layout_of program.layout.now) reach statement

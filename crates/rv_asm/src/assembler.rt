@@ -58,7 +58,7 @@ pub fn assemble(alloc: Global, text: &[u8], base: u32) -> Result<Image, AsmError
         layout: &layout,
         base,
     };
-    let sections = Sections::of_text(alloc, &program, text)?;
+    let sections = Sections::of_program(alloc, &program)?;
     let start = start_address(&program);
     match joined(layout.reach.text_size, layout.reach.data_size, sections) {
         Ok(bytes) => Ok(Image {

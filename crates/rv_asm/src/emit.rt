@@ -1,4 +1,4 @@
-ghost use Rattle.std.specs.Prelude.{◌≡◌, ◌≢◌, ◌<◌, ◌∷◌, ◌++◌, ◌^◌, [], Ok, Err, if◌then◌else◌, map, take};
+ghost use Rattle.std.specs.Prelude.{◌≡◌, ◌≢◌, ◌<◌, ◌∷◌, ◌++◌, ◌^◌, [], Err, if◌then◌else◌, map, take};
 ghost use Rattle.std.specs.Prelude.{replicate, option_to_list, IfOk, IfErr, OnOk, is_some, true, false};
 ghost use Rattle.std.specs.List.{list_all};
 ghost use Rattle.std.specs.Int.{to_le_bytes, w32};
@@ -59,7 +59,7 @@ fn emit_instruction<'a>(
     out: &mut Vec<u8>,
 ) -> Result<(), AsmFault>
     ensures { EmitsOrRefuses (means program.now reach
-        (Ok (Instruction operation fields (expression_of value.now)))) out.old.items out.new.items result }
+        (Instruction operation fields (expression_of value.now))) out.old.items out.new.items result }
 {
     let address = program.start_of(reach.section) + reach.offset() as u128;
     let Some(number) = program.evaluate(value) else {
@@ -224,7 +224,7 @@ pub fn emit<'a>(
     out: &mut Vec<u8>,
 ) -> Result<(), AsmFault>
     ensures { EmitsOrRefuses (means program.now reach
-        (Ok (statement_of (operands_in operands.now) statement.now))) out.old.items out.new.items result }
+        (statement_of (operands_in operands.now) statement.now)) out.old.items out.new.items result }
 {
     match statement {
         Statement::Instruction(operation, fields, value) => emit_instruction(

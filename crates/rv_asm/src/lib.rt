@@ -13,6 +13,7 @@ mod operand;
 mod operation;
 mod program;
 mod reach;
+mod record;
 mod sections;
 mod shapes;
 mod statement;

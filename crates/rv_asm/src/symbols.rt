@@ -1,7 +1,9 @@
 ghost use Rattle.std.specs.Prelude.{◌≡◌, ◌∷◌, ◌≤◌, [], Some, None, OnOk, IfOk, IfErr, OnSome, MatchOption};
 ghost use Rattle.std.specs.Prelude.{drop, length, is_none, true, false, ◌≢◌};
+ghost use Rattle.std.specs.List.{list_any};
 ghost use Rattle.rv_asm.specs.FirstPass.{repeats, redefines};
 ghost use Rattle.rv_asm.specs.Layout.{defined, labelled, labels_of, body_of, number_of};
+ghost use Rattle.rv_asm.specs.Placed.{is_start};
 ghost use Rattle.rv_asm.specs.ReadToken.{tokens_in};
 ghost use Rattle.rv_asm.specs.Symbols.{found};
 
@@ -10,6 +12,16 @@ use crate::operation::Section;
 use crate::token::Token;
 use std::alloc::{AllocError, Global};
 use std::collections::BTreeMap;
+
+/// The name of the symbol where execution starts.
+pub const START: &[u8] = b"_start";
+
+/// Whether a name is `_start`.
+pub fn is_start(name: &[u8]) -> bool
+    ensures { result ≡ is_start name.now }
+{
+    name == START
+}
 
 /// What a symbol stands for.
 #[derive(Clone, Copy)]
@@ -57,32 +69,35 @@ impl<'a> Symbols<'a> {
         }
     }
 
-    /// Defines the labels at the front of a line. The answer is how many tokens they are.
+    /// Defines the labels at the front of a line. The answer is how many tokens they are, and
+    /// whether one of them is `_start`.
     pub fn define_labels(
         &mut self,
         tokens: &[Token<'a>],
         here: Definition,
-    ) -> Result<usize, AsmFault>
+    ) -> Result<(usize, bool), AsmFault>
         ensures labels { IfOk result (λ _.
             found self.new ≡ labelled (found self.old) here (labels_of (tokens_in tokens.now))) }
         ensures fresh { IfOk result (λ _. repeats (found self.old) here (labels_of (tokens_in tokens.now)) ≡ false) }
         ensures repeated { IfErr result (λ fault. fault ≢ AsmFault.Memory →
             repeats (found self.old) here (labels_of (tokens_in tokens.now)) ≡ true) }
         ensures refused { IfErr result (λ fault. fault ≢ AsmFault.Memory → fault ≡ AsmFault.DuplicateSymbol) }
-        ensures body { IfOk result (λ count.
-            (count ≤ length tokens.now)
-            × (body_of (tokens_in tokens.now) ≡ tokens_in (drop count tokens.now))) }
+        ensures in_range { IfOk result (λ labels. labels.0 ≤ length tokens.now) }
+        ensures body { IfOk result (λ labels. body_of (tokens_in tokens.now) ≡ tokens_in (drop labels.0 tokens.now)) }
+        ensures starts { IfOk result (λ labels. labels.1 ≡ list_any is_start (labels_of (tokens_in tokens.now))) }
     {
         let mut count = 0;
+        let mut starts = false;
         loop {
             let (_, rest) = tokens.split_at(count);
             let Some(name) = next_label(rest) else {
-                return Ok(count);
+                return Ok((count, starts));
             };
             let is_first = self.define(name, here)?;
             if !is_first {
                 return Err(AsmFault::DuplicateSymbol);
             }
+            starts |= is_start(name);
             count += 2;
         }
     }
@@ -114,7 +129,7 @@ impl<'a> Symbols<'a> {
 }
 
 /// The name before a colon at the front of a line, if one stands there.
-pub fn next_label<'a>(tokens: &[Token<'a>]) -> Option<&'a [u8]>
+fn next_label<'a>(tokens: &[Token<'a>]) -> Option<&'a [u8]>
     ensures label { MatchOption result (labels_of (tokens_in tokens.now) ≡ []) (λ name.
         labels_of (tokens_in tokens.now) ≡ name.now ∷ labels_of (tokens_in (drop 2 tokens.now))) }
     ensures body { MatchOption result (body_of (tokens_in tokens.now) ≡ tokens_in tokens.now) (λ _.
