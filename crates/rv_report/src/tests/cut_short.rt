@@ -1,0 +1,46 @@
+use rv_core::{Core, run};
+use rv_front::NotTaken;
+use rv_hardware::Step;
+use rv_isa::{Arrivals, Description, Image, Values};
+use std::test::Fail;
+
+const LIMIT: u64 = 100;
+
+// Whether steps come in every second cycle, behind so many.
+fn follow(steps: &[Step], before: usize) -> bool {
+    let mut stamp = (before as u64).wrapping_mul(2);
+    steps.iter().all(|step| {
+        stamp = stamp.wrapping_add(2);
+        step.stamp() == stamp
+    })
+}
+
+// A run without a program traps in every second cycle, and its other cycles dispatch nothing. A second run does what is
+// left: nothing where the first one found its memory.
+#[test]
+fn a_run_that_memory_cut_short_and_a_second_one_are_the_whole(rt: HostRuntime) -> Result<(), Fail> {
+    let alloc = rt.alloc();
+    let description = Description::new(Values::standard()).expect(&rt, "a legal description");
+    let image = Image::from_bytes(alloc, 0x8000_0000, &[], 0x8000_0000)?;
+    let mut core = Core::new(alloc, &description, &image, Box::new(alloc, NotTaken)?)?;
+    let arrivals = Arrivals::new(Vec::new(alloc)).expect(&rt, "no arrivals");
+    let (mut steps, mut cycles, mut busy, mut waits) = (0, 0, 0, 0);
+    for _ in 0..2 {
+        let (part, more, more_busy, stalls) = match run(
+            alloc,
+            &mut core,
+            &arrivals,
+            LIMIT.saturating_sub(cycles),
+        ) {
+            Ok(outcome) => (outcome.steps, outcome.cycles, outcome.busy, outcome.stalls),
+            Err(done) => (done.steps, done.cycles, done.busy, done.stalls),
+        };
+        assert!(&rt; follow(part.as_slice(), steps));
+        steps = part.len().wrapping_add(steps);
+        cycles = more.wrapping_add(cycles);
+        busy = more_busy.wrapping_add(busy);
+        waits = stalls.fetch.wrapping_add(waits);
+    }
+    assert_eq!(&rt; (steps, cycles, busy, waits), (49, LIMIT, 50, 50));
+    Ok(())
+}
