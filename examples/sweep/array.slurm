@@ -1,0 +1,12 @@
+#!/usr/bin/env bash
+#SBATCH --job-name=rv_sim
+#SBATCH --ntasks=1
+#SBATCH --time=00:05:00
+#SBATCH --output=sweep-%a.out
+# The same for a cluster that has Slurm, from the root of the repository, with one task for each description, counted from 0:
+#
+#   sbatch --array=0-3 examples/sweep/array.slurm PROGRAM DESCRIPTION..
+program=$1
+shift
+descriptions=("$@")
+examples/sweep/sweep --one "$program" "${descriptions[$SLURM_ARRAY_TASK_ID]}"
