@@ -9,15 +9,15 @@ use Rattle.rv_describe.specs.declared.description_error.DescriptionError.{Descri
 use Rattle.rv_describe.specs.declared.description_error.DescriptionError.TheVariants as error
 use Rattle.rv_describe.specs.declared.faults.ValueFault.{ValueFault}
 use Rattle.rv_describe.specs.declared.faults.ValueFault.TheVariants.{WrongKind, OutOfRange, NotPowerOfTwo}
-use Rattle.rv_describe.specs.declared.key.Key.{Key}
+use Rattle.rv_isa.specs.declared.keys.Key.{Key}
 use Rattle.rv_describe.specs.Description.{first_error, described, description_of}
 use Rattle.rv_describe.specs.Document.{document}
 use Rattle.rv_describe.specs.Fault.{key_fault, is_fault, first_place}
-use Rattle.rv_describe.specs.Key.{order}
+use Rattle.rv_isa.specs.Key.{order}
 use Rattle.rv_describe.specs.Legal.{IsFaultless, IsLegalText}
 use Rattle.rv_describe.specs.Setting.{values_of}
 use Rattle.rv_describe.specs.Unknown.{has_unknown}
-use Rattle.rv_describe.proofs.InOrder.{in_order}
+use Rattle.rv_isa.proofs.LegalKeys.{in_order}
 
 -- where nothing passes, no element does
 none_at : {X : Type 0} (test : X → Bool) (start : ℕ) (xs : List X) (i : ℕ) (x : X) → position_from test start xs ≡ None → slice_get xs i ≡ Some x → test x ≡ false

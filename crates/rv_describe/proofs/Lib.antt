@@ -1,9 +1,7 @@
 pub mod Blank
-pub mod Bounds
 pub mod EntriesMeaning
 pub mod Falls
 pub mod FirstError
-pub mod InOrder
 pub mod Legal
 pub mod LegalArrivals
 pub mod NamesOf

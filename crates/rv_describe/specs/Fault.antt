@@ -1,21 +1,18 @@
 -- What is wrong with the values of a table of TOML.
-use Rattle.std.specs.Prelude.{ℕ, ℤ, Bool, true, false, ◌&&◌, ◌==◌, ◌%◌, nat_le, is_some, Option, Some, None, if◌then◌else◌}
-use Rattle.std.specs.Int.{is_power_of_two}
+use Rattle.std.specs.Prelude.{ℕ, ℤ, Bool, true, false, is_some, Option, Some, None, if◌then◌else◌}
 use Rattle.std.specs.List.{position_from}
 use Rattle.std.specs.Option.{option_map_or}
 use Rattle.toml.specs.Data.{Data, Members, as_integer, as_bool, as_str}
-use Rattle.rv_isa.specs.Standard.{standard_values}
+use Rattle.rv_isa.specs.declared.bounds.Bounds.{Bounds}
+use Rattle.rv_isa.specs.declared.keys.Key.{Key}
+use Rattle.rv_isa.specs.declared.keys.Key.TheVariants.{Number, Recovery, Pipelined, PredictorKind}
+use Rattle.rv_isa.specs.declared.keys.NumberKey.TheVariants.{RamSize}
+use Rattle.rv_isa.specs.Bounds.{is_in_range, is_power}
+use Rattle.rv_isa.specs.Key.{key_place, row_of, order}
 use Rattle.rv_describe.specs.declared.description_error.DescriptionError.{DescriptionError}
 use Rattle.rv_describe.specs.declared.description_error.DescriptionError.TheVariants as error
 use Rattle.rv_describe.specs.declared.faults.ValueFault.{ValueFault}
 use Rattle.rv_describe.specs.declared.faults.ValueFault.TheVariants.{WrongKind, OutOfRange, NotPowerOfTwo}
-use Rattle.rv_describe.specs.declared.key.Key.{Key}
-use Rattle.rv_describe.specs.declared.key.Key.TheVariants.{RamSize}
-use Rattle.rv_describe.specs.declared.rule.Bounds.{Bounds}
-use Rattle.rv_describe.specs.declared.rule.Bounds.TheVariants.{Whole, Pages, Words, Powers, Front}
-use Rattle.rv_describe.specs.declared.rule.Rule.{Rule}
-use Rattle.rv_describe.specs.declared.rule.Rule.TheVariants.{Number, Switch, RecoveryName, PredictorName}
-use Rattle.rv_describe.specs.Key.{row_of, order}
 use Rattle.rv_describe.specs.Held.{Held, absent, misplaced, present, held}
 use Rattle.rv_describe.specs.Setting.{word_of, recovery_named, predictor_named, number}
 
@@ -24,46 +21,48 @@ abbrev pub unless : Bool → ValueFault → Option ValueFault
 unless true fault = None
 unless false fault = Some fault
 
--- a number lies from low to high
-abbrev pub lies : ℕ → ℕ → ℕ → Bool
-lies low high n = nat_le low n && nat_le n high
-
 -- what is wrong with a number, on a machine with so many bytes of RAM
 abbrev pub bounds_fault : Bounds → ℕ → ℕ → Option ValueFault
-bounds_fault (Whole low high) size n = unless (lies low high n) OutOfRange
-bounds_fault (Pages low high) size n = unless (lies low high n && (n % 4096 == 0)) OutOfRange
-bounds_fault (Words low high) size n = unless (lies low high n && (n % 4 == 0)) OutOfRange
-bounds_fault (Powers low high) size n =
-    if lies low high n then unless (is_power_of_two n) NotPowerOfTwo else Some OutOfRange
-bounds_fault Front size n = unless (nat_le n size && (n % 4096 == 0)) OutOfRange
+bounds_fault bounds size n =
+    if is_in_range bounds size n then unless (is_power bounds n) NotPowerOfTwo else Some OutOfRange
 
 -- no bounds reach past a word
 abbrev pub integer_fault : Bounds → ℕ → ℤ → Option ValueFault
 integer_fault bounds size z = option_map_or (bounds_fault bounds size) (word_of z) (Some OutOfRange)
 
--- what is wrong with a value
-abbrev pub value_fault : Rule → ℕ → Data → Option ValueFault
-value_fault (Number bounds) size value = option_map_or (integer_fault bounds size) (as_integer value) (Some WrongKind)
-value_fault Switch size value = unless (is_some (as_bool value)) WrongKind
-value_fault RecoveryName size value =
+-- what is wrong with the value of a key that holds a number, a way to mend wrong predictions, or a predictor
+abbrev pub number_fault : Bounds → ℕ → Data → Option ValueFault
+number_fault bounds size value = option_map_or (integer_fault bounds size) (as_integer value) (Some WrongKind)
+
+abbrev pub recovery_fault : Data → Option ValueFault
+recovery_fault value =
     option_map_or (λ name. unless (is_some (recovery_named name)) OutOfRange) (as_str value) (Some WrongKind)
-value_fault PredictorName size value =
+
+abbrev pub predictor_fault : Data → Option ValueFault
+predictor_fault value =
     option_map_or (λ name. unless (is_some (predictor_named name)) OutOfRange) (as_str value) (Some WrongKind)
+
+-- what is wrong with a value
+abbrev pub value_fault : Key → ℕ → Data → Option ValueFault
+value_fault (Number key) size value = number_fault (row_of key).bounds size value
+value_fault Recovery size value = recovery_fault value
+value_fault (Pipelined kind) size value = unless (is_some (as_bool value)) WrongKind
+value_fault PredictorKind size value = predictor_fault value
 
 -- A key that is not there has no fault. A name that must hold a table and does not is each of its keys' fault, and so
 -- the first one's.
-abbrev pub held_fault : Rule → ℕ → Held → Option ValueFault
-held_fault rule size absent = None
-held_fault rule size misplaced = Some WrongKind
-held_fault rule size (present value) = value_fault rule size value
+abbrev pub held_fault : Key → ℕ → Held → Option ValueFault
+held_fault key size absent = None
+held_fault key size misplaced = Some WrongKind
+held_fault key size (present value) = value_fault key size value
 
 -- the bytes of RAM
 abbrev pub ram_size_of : Members → ℕ
-ram_size_of members = number members RamSize standard_values.ram_size
+ram_size_of members = number members RamSize
 
 -- what is wrong at a key
 unfoldable pub key_fault : Members → Key → Option ValueFault
-key_fault members key = held_fault (row_of key).rule (ram_size_of members) (held members (row_of key))
+key_fault members key = held_fault key (ram_size_of members) (held members (key_place key))
 
 abbrev pub is_fault : ValueFault → Option ValueFault → Bool
 is_fault fault None = false

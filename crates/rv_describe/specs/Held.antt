@@ -1,7 +1,7 @@
 -- What a table of TOML holds at a key.
 use Rattle.std.specs.Prelude.{List, ℕ, Option, Some, None}
 use Rattle.toml.specs.Data.{Data, table, Members, get_member, string, integer, float, boolean, datetime, array}
-use Rattle.rv_describe.specs.Key.{KeyRow}
+use Rattle.rv_isa.specs.Key.{Place}
 use Rattle.toml.specs.View.{view}
 use Rattle.rv_describe.specs.declared.held.Held.{Held as Look}
 use Rattle.rv_describe.specs.declared.held.Held.TheVariants.{Absent, Misplaced, Present}
@@ -33,8 +33,8 @@ held_under None name members = at_name (get_member name members)
 held_under (Some outer) name members = within_table name (get_member outer members)
 
 -- what the table holds at a key
-unfoldable pub held : Members → KeyRow → Held
-held members row = held_under row.table row.name members
+unfoldable pub held : Members → Place → Held
+held members place = held_under place.table place.name members
 
 -- the value that stands at a key, where one does
 abbrev pub value_in : Held → Option Data

@@ -1,7 +1,7 @@
 -- What a legal description is.
 use Rattle.std.specs.Prelude.{◌≡◌, ℕ, List, Some, None, false}
 use Rattle.toml.specs.Data.{Members}
-use Rattle.rv_describe.specs.declared.key.Key.{Key}
+use Rattle.rv_isa.specs.declared.keys.Key.{Key}
 use Rattle.rv_describe.specs.Document.{document}
 use Rattle.rv_describe.specs.Fault.{key_fault}
 use Rattle.rv_describe.specs.Unknown.{has_unknown}

@@ -5,7 +5,6 @@ pub mod Entries
 pub mod Entry
 pub mod Fault
 pub mod Held
-pub mod Key
 pub mod Legal
 pub mod Names
 pub mod Setting

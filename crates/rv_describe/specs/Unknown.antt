@@ -3,7 +3,7 @@ use Rattle.std.specs.Prelude.{ℕ, Bool, true, false, not, ◌&&◌, ◌||◌, L
 use Rattle.std.specs.List.{list_any}
 use Rattle.std.specs.Str.{bytes_eq}
 use Rattle.toml.specs.Data.{Data, table, Members, no_members, member, string, integer, float, boolean, datetime, array}
-use Rattle.rv_describe.specs.Key.{row_of, order}
+use Rattle.rv_isa.specs.Key.{key_place, order}
 
 -- the same place of keys: the top level, or the table of a name
 abbrev pub same_table : Option (List ℕ) → Option (List ℕ) → Bool
@@ -14,11 +14,11 @@ same_table (Some outer) (Some other) = bytes_eq outer other
 
 -- some key has this name in this table
 unfoldable pub is_key : Option (List ℕ) → List ℕ → Bool
-is_key outer name = list_any (λ key. same_table (row_of key).table outer && bytes_eq (row_of key).name name) order
+is_key outer name = list_any (λ key. same_table (key_place key).table outer && bytes_eq (key_place key).name name) order
 
 -- some key is in this table
 unfoldable pub is_table : List ℕ → Bool
-is_table name = list_any (λ key. same_table (row_of key).table (Some name)) order
+is_table name = list_any (λ key. same_table (key_place key).table (Some name)) order
 
 -- some name of the members is unknown
 abbrev pub any_member : (List ℕ → Data → Bool) → Members → Bool

@@ -1,16 +1,13 @@
 ghost use Rattle.std.specs.Prelude.{◌≡◌, Some};
 ghost use Rattle.std.specs.List.{position_from};
 ghost use Rattle.toml.specs.View.{view, table_view};
-ghost use Rattle.rv_describe.specs.Fault.{unless, lies, bounds_fault, integer_fault, value_fault, key_fault, is_fault, first_place, ram_size_of};
+ghost use Rattle.rv_describe.specs.Fault.{unless, bounds_fault, integer_fault, number_fault, recovery_fault, predictor_fault, value_fault, key_fault, is_fault, first_place, ram_size_of};
 ghost use Rattle.rv_describe.specs.Setting.{recovery_named, predictor_named};
 
 use crate::held::{Held, look_up};
-use crate::key::Key;
-use crate::order::ORDER;
-use crate::rule::{Bounds, Rule};
 use crate::settings::number;
 use crate::words::{predictor_named, recovery_named, word_of};
-use rv_isa::Values;
+use rv_isa::{Bounds, Key, NumberKey, all_keys};
 use toml::{Table, Value};
 
 /// What is wrong with a value.
@@ -27,34 +24,14 @@ fn unless(holds: bool, fault: ValueFault) -> Option<ValueFault>
     if holds { None } else { Some(fault) }
 }
 
-fn lies(low: u32, high: u32, number: u32) -> bool
-    ensures { result ≡ lies low high number }
-{
-    low <= number && number <= high
-}
-
 // What is wrong with a number, on a machine with so many bytes of RAM.
 fn bounds_fault(bounds: Bounds, size: u32, number: u32) -> Option<ValueFault>
     ensures { result ≡ bounds_fault bounds size number }
 {
-    match bounds {
-        Bounds::Whole { low, high } => unless(lies(low, high, number), ValueFault::OutOfRange),
-        Bounds::Pages { low, high } => unless(
-            lies(low, high, number) && number % 4096 == 0,
-            ValueFault::OutOfRange,
-        ),
-        Bounds::Words { low, high } => unless(
-            lies(low, high, number) && number % 4 == 0,
-            ValueFault::OutOfRange,
-        ),
-        Bounds::Powers { low, high } => {
-            if lies(low, high, number) {
-                unless(number.is_power_of_two(), ValueFault::NotPowerOfTwo)
-            } else {
-                Some(ValueFault::OutOfRange)
-            }
-        }
-        Bounds::Front => unless(number <= size && number % 4096 == 0, ValueFault::OutOfRange),
+    if bounds.is_in_range(size, number) {
+        unless(bounds.is_power(number), ValueFault::NotPowerOfTwo)
+    } else {
+        Some(ValueFault::OutOfRange)
     }
 }
 
@@ -68,7 +45,7 @@ fn integer_fault(bounds: Bounds, size: u32, number: i64) -> Option<ValueFault>
 }
 
 fn number_fault(bounds: Bounds, size: u32, value: &Value) -> Option<ValueFault>
-    ensures { result ≡ value_fault (Rule.Number bounds) size (view value.now) }
+    ensures { result ≡ number_fault bounds size (view value.now) }
 {
     match value.as_integer() {
         Some(number) => integer_fault(bounds, size, number),
@@ -77,7 +54,7 @@ fn number_fault(bounds: Bounds, size: u32, value: &Value) -> Option<ValueFault>
 }
 
 fn recovery_fault(value: &Value) -> Option<ValueFault>
-    ensures { result ≡ value_fault Rule.RecoveryName 0 (view value.now) }
+    ensures { result ≡ recovery_fault (view value.now) }
 {
     match value.as_str() {
         Some(name) => unless(recovery_named(name).is_some(), ValueFault::OutOfRange),
@@ -86,7 +63,7 @@ fn recovery_fault(value: &Value) -> Option<ValueFault>
 }
 
 fn predictor_fault(value: &Value) -> Option<ValueFault>
-    ensures { result ≡ value_fault Rule.PredictorName 0 (view value.now) }
+    ensures { result ≡ predictor_fault (view value.now) }
 {
     match value.as_str() {
         Some(name) => unless(predictor_named(name).is_some(), ValueFault::OutOfRange),
@@ -94,22 +71,22 @@ fn predictor_fault(value: &Value) -> Option<ValueFault>
     }
 }
 
-// What is wrong with a value, on a machine with so many bytes of RAM.
-fn value_fault(rule: Rule, size: u32, value: &Value) -> Option<ValueFault>
-    ensures { result ≡ value_fault rule size (view value.now) }
+// What is wrong with a value at a key, on a machine with so many bytes of RAM.
+fn value_fault(key: Key, size: u32, value: &Value) -> Option<ValueFault>
+    ensures { result ≡ value_fault key size (view value.now) }
 {
-    match rule {
-        Rule::Number(bounds) => number_fault(bounds, size, value),
-        Rule::Switch => unless(value.is_bool(), ValueFault::WrongKind),
-        Rule::RecoveryName => recovery_fault(value),
-        Rule::PredictorName => predictor_fault(value),
+    match key {
+        Key::Number(key) => number_fault(key.bounds(), size, value),
+        Key::Recovery => recovery_fault(value),
+        Key::Pipelined(_) => unless(value.is_bool(), ValueFault::WrongKind),
+        Key::PredictorKind => predictor_fault(value),
     }
 }
 
 fn ram_size_of(table: &Table) -> u32
     ensures { result ≡ ram_size_of (table_view table.now) }
 {
-    number(table, Key::RamSize, Values::standard().ram_size)
+    number(table, NumberKey::RamSize)
 }
 
 // What is wrong at a key.
@@ -117,11 +94,10 @@ fn ram_size_of(table: &Table) -> u32
 fn key_fault(table: &Table, key: Key) -> Option<ValueFault>
     ensures { result ≡ key_fault (table_view table.now) key }
 {
-    let row = key.row();
-    match look_up(table, &row) {
+    match look_up(table, &key.place()) {
         Held::Absent => None,
         Held::Misplaced => Some(ValueFault::WrongKind),
-        Held::Present(value) => value_fault(row.rule, ram_size_of(table), value),
+        Held::Present(value) => value_fault(key, ram_size_of(table), value),
     }
 }
 
@@ -154,5 +130,5 @@ fn first_among(keys: &[Key], table: &Table, fault: ValueFault) -> Option<usize>
 pub fn first_place(table: &Table, fault: ValueFault) -> Option<usize>
     ensures { result ≡ first_place fault (table_view table.now) }
 {
-    first_among(&ORDER, table, fault)
+    first_among(all_keys(), table, fault)
 }

@@ -1,13 +1,12 @@
 ghost use Rattle.std.specs.Prelude.{◌≡◌, Some, option_map};
 ghost use Rattle.toml.specs.View.{view, table_view};
 ghost use Rattle.rv_describe.specs.Held.{at_name, held, within_table};
-ghost use Rattle.rv_describe.specs.Key.{shown};
+ghost use Rattle.rv_isa.specs.Key.{shown};
 ghost use Rattle.rv_describe.specs.Held.{seen};
 ghost use Rattle.rv_describe.specs.Setting.{value_at};
 ghost use Rattle.toml.specs.Data.{get_member};
 
-use crate::key::Key;
-use crate::row::Row;
+use rv_isa::{Key, Place};
 use toml::{Table, Value};
 
 /// What a table of TOML holds at a key.
@@ -53,12 +52,12 @@ fn within_value<'a>(value: &'a Value, name: &str) -> Held<'a>
 
 /// What a table holds at a key.
 #[tactic(auto, unfolding(crate::specs::Held::held))]
-pub fn look_up<'a>(table: &'a Table, row: &Row) -> Held<'a>
-    ensures { seen result ≡ held (table_view table.now) (shown row.now) }
+pub fn look_up<'a>(table: &'a Table, place: &Place) -> Held<'a>
+    ensures { seen result ≡ held (table_view table.now) (shown place.now) }
 {
-    match row.table {
-        Some(outer) => within_table(table, outer, row.name),
-        None => at_name(table, row.name),
+    match place.table {
+        Some(outer) => within_table(table, outer, place.name),
+        None => at_name(table, place.name),
     }
 }
 
@@ -66,7 +65,7 @@ pub fn look_up<'a>(table: &'a Table, row: &Row) -> Held<'a>
 pub fn value_at(table: &Table, key: Key) -> Option<&Value>
     ensures { option_map (λ v. view v.now) result ≡ value_at (table_view table.now) key }
 {
-    match look_up(table, &key.row()) {
+    match look_up(table, &key.place()) {
         Held::Present(value) => Some(value),
         _ => None,
     }

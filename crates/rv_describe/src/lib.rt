@@ -11,11 +11,7 @@ mod entries;
 mod entry;
 mod faults;
 mod held;
-mod key;
 mod names;
-mod order;
-mod row;
-mod rule;
 mod settings;
 mod unknown;
 mod words;
@@ -24,7 +20,7 @@ pub use arrival_list::read_arrivals;
 pub use arrivals_error::ArrivalsError;
 pub use description::read_description;
 pub use description_error::DescriptionError;
-pub use order::key_name;
+pub use rv_isa::key_name;
 
 #[cfg(test)]
 mod tests;

@@ -1,21 +1,23 @@
 ghost use Rattle.std.specs.Prelude.{◌≡◌};
 ghost use Rattle.toml.specs.View.{table_view};
-ghost use Rattle.rv_describe.specs.Setting.{number, switch, recovery, predictor, kind_of, cache_of, predictor_of, report_of, values_of};
+ghost use Rattle.rv_isa.specs.Key.{kind_with};
+ghost use Rattle.rv_describe.specs.Setting.{number, is_pipelined, recovery, predictor, values_of};
 
 use crate::held::value_at;
-use crate::key::Key;
 use crate::words::{predictor_named, recovery_named, word_of};
 use rv_isa::{
-    CacheValues, KindValues, PredictorKind, PredictorValues, Recovery, ReportValues, Values,
+    CacheValues, Key, Kind, KindKey, KindValues, NumberKey, PredictorKind, PredictorValues,
+    Recovery, ReportValues, Values,
 };
 use toml::Table;
 
-/// The number at a key, or else the default.
+/// The number at a key, or else the standard machine's.
 #[tactic(auto, unfolding(crate::specs::Setting::number))]
-pub fn number(table: &Table, key: Key, default: u32) -> u32
-    ensures { result ≡ number (table_view table.now) key default }
+pub fn number(table: &Table, key: NumberKey) -> u32
+    ensures { result ≡ number (table_view table.now) key }
 {
-    let Some(value) = value_at(table, key) else {
+    let default = Values::standard().number(key);
+    let Some(value) = value_at(table, Key::Number(key)) else {
         return default;
     };
     let Some(number) = value.as_integer() else {
@@ -24,20 +26,22 @@ pub fn number(table: &Table, key: Key, default: u32) -> u32
     word_of(number).unwrap_or(default)
 }
 
-#[tactic(auto, unfolding(crate::specs::Setting::switch))]
-fn switch(table: &Table, key: Key, default: bool) -> bool
-    ensures { result ≡ switch (table_view table.now) key default }
+#[tactic(auto, unfolding(crate::specs::Setting::is_pipelined))]
+fn is_pipelined(table: &Table, kind: Kind) -> bool
+    ensures { result ≡ is_pipelined (table_view table.now) kind }
 {
-    let Some(value) = value_at(table, key) else {
+    let default = Values::standard().of_kind(kind).pipelined;
+    let Some(value) = value_at(table, Key::Pipelined(kind)) else {
         return default;
     };
     value.as_bool().unwrap_or(default)
 }
 
 #[tactic(auto, unfolding(crate::specs::Setting::recovery))]
-fn recovery(table: &Table, default: Recovery) -> Recovery
-    ensures { result ≡ recovery (table_view table.now) default }
+fn recovery(table: &Table) -> Recovery
+    ensures { result ≡ recovery (table_view table.now) }
 {
+    let default = Values::standard().recovery;
     let Some(value) = value_at(table, Key::Recovery) else {
         return default;
     };
@@ -48,9 +52,10 @@ fn recovery(table: &Table, default: Recovery) -> Recovery
 }
 
 #[tactic(auto, unfolding(crate::specs::Setting::predictor))]
-fn predictor(table: &Table, default: PredictorKind) -> PredictorKind
-    ensures { result ≡ predictor (table_view table.now) default }
+fn predictor(table: &Table) -> PredictorKind
+    ensures { result ≡ predictor (table_view table.now) }
 {
+    let default = Values::standard().predictor.kind;
     let Some(value) = value_at(table, Key::PredictorKind) else {
         return default;
     };
@@ -60,109 +65,61 @@ fn predictor(table: &Table, default: PredictorKind) -> PredictorKind
     predictor_named(name).unwrap_or(default)
 }
 
-// The values of the execution units of a kind, at these keys.
-fn kind(
-    table: &Table,
-    stations: Key,
-    units: Key,
-    latency: Key,
-    pipelined: Key,
-    default: KindValues,
-) -> KindValues
-    ensures { result ≡ kind_of (table_view table.now) stations units latency pipelined default }
+// The values of the execution units of a kind.
+fn kind_values(table: &Table, kind: Kind) -> KindValues
+    ensures { result ≡ kind_with (number (table_view table.now)) (is_pipelined (table_view table.now)) kind }
 {
+    let number_at = |key| number(table, NumberKey::OfKind(kind, key));
     KindValues {
-        stations: number(table, stations, default.stations),
-        units: number(table, units, default.units),
-        latency: number(table, latency, default.latency),
-        pipelined: switch(table, pipelined, default.pipelined),
+        stations: number_at(KindKey::Stations),
+        units: number_at(KindKey::Units),
+        latency: number_at(KindKey::Latency),
+        pipelined: is_pipelined(table, kind),
     }
 }
 
-fn cache(table: &Table, default: CacheValues) -> CacheValues
-    ensures { result ≡ cache_of (table_view table.now) default }
+fn cache(table: &Table) -> CacheValues
+    ensures { result ≡ (values_of (table_view table.now)).cache }
 {
     CacheValues {
-        sets: number(table, Key::CacheSets, default.sets),
-        ways: number(table, Key::CacheWays, default.ways),
-        line: number(table, Key::CacheLine, default.line),
-        hit: number(table, Key::CacheHit, default.hit),
-        miss: number(table, Key::CacheMiss, default.miss),
-        write_back: number(table, Key::CacheWriteBack, default.write_back),
-    }
-}
-
-fn prediction(table: &Table, default: PredictorValues) -> PredictorValues
-    ensures { result ≡ predictor_of (table_view table.now) default }
-{
-    PredictorValues {
-        kind: predictor(table, default.kind),
-        entries: number(table, Key::PredictorEntries, default.entries),
-    }
-}
-
-fn report(table: &Table, default: ReportValues) -> ReportValues
-    ensures { result ≡ report_of (table_view table.now) default }
-{
-    ReportValues {
-        dump_address: number(table, Key::ReportDumpAddress, default.dump_address),
-        dump_words: number(table, Key::ReportDumpWords, default.dump_words),
+        sets: number(table, NumberKey::CacheSets),
+        ways: number(table, NumberKey::CacheWays),
+        line: number(table, NumberKey::CacheLine),
+        hit: number(table, NumberKey::CacheHit),
+        miss: number(table, NumberKey::CacheMiss),
+        write_back: number(table, NumberKey::CacheWriteBack),
     }
 }
 
 /// The values that a table gives, where the standard ones are the defaults.
-#[tactic(auto, unfolding(crate::specs::Setting::values_of))]
 pub fn values(table: &Table) -> Values
     ensures { result ≡ values_of (table_view table.now) }
 {
-    let standard = Values::standard();
     Values {
-        ram_base: number(table, Key::RamBase, standard.ram_base),
-        ram_size: number(table, Key::RamSize, standard.ram_size),
-        rom_bytes: number(table, Key::RomBytes, standard.rom_bytes),
-        fetch_width: number(table, Key::FetchWidth, standard.fetch_width),
-        dispatch_width: number(table, Key::DispatchWidth, standard.dispatch_width),
-        commit_width: number(table, Key::CommitWidth, standard.commit_width),
-        bus_width: number(table, Key::BusWidth, standard.bus_width),
-        fetch_buffer: number(table, Key::FetchBuffer, standard.fetch_buffer),
-        rob: number(table, Key::Rob, standard.rob),
-        store_queue: number(table, Key::StoreQueue, standard.store_queue),
-        forward: number(table, Key::Forward, standard.forward),
-        recovery: recovery(table, standard.recovery),
-        alu: kind(
-            table,
-            Key::AluStations,
-            Key::AluUnits,
-            Key::AluLatency,
-            Key::AluPipelined,
-            standard.alu,
-        ),
-        mul: kind(
-            table,
-            Key::MulStations,
-            Key::MulUnits,
-            Key::MulLatency,
-            Key::MulPipelined,
-            standard.mul,
-        ),
-        div: kind(
-            table,
-            Key::DivStations,
-            Key::DivUnits,
-            Key::DivLatency,
-            Key::DivPipelined,
-            standard.div,
-        ),
-        mem: kind(
-            table,
-            Key::MemStations,
-            Key::MemUnits,
-            Key::MemLatency,
-            Key::MemPipelined,
-            standard.mem,
-        ),
-        cache: cache(table, standard.cache),
-        predictor: prediction(table, standard.predictor),
-        report: report(table, standard.report),
+        ram_base: number(table, NumberKey::RamBase),
+        ram_size: number(table, NumberKey::RamSize),
+        rom_bytes: number(table, NumberKey::RomBytes),
+        fetch_width: number(table, NumberKey::FetchWidth),
+        dispatch_width: number(table, NumberKey::DispatchWidth),
+        commit_width: number(table, NumberKey::CommitWidth),
+        bus_width: number(table, NumberKey::BusWidth),
+        fetch_buffer: number(table, NumberKey::FetchBuffer),
+        rob: number(table, NumberKey::Rob),
+        store_queue: number(table, NumberKey::StoreQueue),
+        forward: number(table, NumberKey::Forward),
+        recovery: recovery(table),
+        alu: kind_values(table, Kind::Alu),
+        mul: kind_values(table, Kind::Mul),
+        div: kind_values(table, Kind::Div),
+        mem: kind_values(table, Kind::Mem),
+        cache: cache(table),
+        predictor: PredictorValues {
+            kind: predictor(table),
+            entries: number(table, NumberKey::PredictorEntries),
+        },
+        report: ReportValues {
+            dump_address: number(table, NumberKey::ReportDumpAddress),
+            dump_words: number(table, NumberKey::ReportDumpWords),
+        },
     }
 }

@@ -2,11 +2,10 @@ ghost use Rattle.std.specs.Prelude.{◌≡◌, ◌&&◌, not, Some, None, option
 ghost use Rattle.std.specs.List.{list_any};
 ghost use Rattle.std.specs.Str.{bytes_eq};
 ghost use Rattle.toml.specs.View.{view, table_view};
-ghost use Rattle.rv_describe.specs.Key.{row_of};
+ghost use Rattle.rv_isa.specs.Key.{key_place};
 ghost use Rattle.rv_describe.specs.Unknown.{same_table, is_key, is_table, any_member, unknown_within, unknown_at_top, has_unknown};
 
-use crate::key::Key;
-use crate::order::ORDER;
+use rv_isa::{Key, all_keys};
 use toml::{Table, Value};
 
 fn same_table(table: Option<&str>, other: Option<&str>) -> bool
@@ -23,12 +22,12 @@ fn same_table(table: Option<&str>, other: Option<&str>) -> bool
 
 fn key_among(keys: &[Key], table: Option<&str>, name: &str) -> bool
     ensures { result
-        ≡ list_any (λ key. same_table (row_of key).table (option_copied table.entry)
-        && bytes_eq (row_of key).name name.now) keys.now }
+        ≡ list_any (λ key. same_table (key_place key).table (option_copied table.entry)
+        && bytes_eq (key_place key).name name.now) keys.now }
 {
     for key in keys {
-        let row = key.row();
-        if same_table(row.table, table) && row.name == name {
+        let place = key.place();
+        if same_table(place.table, table) && place.name == name {
             return true;
         }
     }
@@ -39,15 +38,15 @@ fn key_among(keys: &[Key], table: Option<&str>, name: &str) -> bool
 fn is_key(table: Option<&str>, name: &str) -> bool
     ensures { result ≡ is_key (option_copied table.entry) name.now }
 {
-    key_among(&ORDER, table, name)
+    key_among(all_keys(), table, name)
 }
 
 fn table_among(keys: &[Key], name: &str) -> bool
-    ensures { result ≡ list_any (λ key. same_table (row_of key).table (Some name.now)) keys.now }
+    ensures { result ≡ list_any (λ key. same_table (key_place key).table (Some name.now)) keys.now }
 {
     for key in keys {
-        let row = key.row();
-        if same_table(row.table, Some(name)) {
+        let place = key.place();
+        if same_table(place.table, Some(name)) {
             return true;
         }
     }
@@ -58,7 +57,7 @@ fn table_among(keys: &[Key], name: &str) -> bool
 fn is_table(name: &str) -> bool
     ensures { result ≡ is_table name.now }
 {
-    table_among(&ORDER, name)
+    table_among(all_keys(), name)
 }
 
 // Some name in a table of keys is none of its keys.

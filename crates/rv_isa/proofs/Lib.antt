@@ -1,3 +1,4 @@
+pub mod LegalKeys
 pub mod LastLevels
 pub mod Levels
 pub mod Numbered

@@ -1,10 +1,12 @@
 pub mod Arithmetic
 pub mod Arrivals
+pub mod Bounds
 pub mod Bytes
 pub mod Cause
 pub mod Comparison
 pub mod Description
 pub mod Field
+pub mod Key
 pub mod Levels
 pub mod Numbered
 pub mod Operands

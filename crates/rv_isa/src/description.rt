@@ -1,7 +1,10 @@
 ghost use Rattle.std.specs.Prelude.{◌≡◌, ℕ, ◌≤◌, ◌↔◌, ◌^◌, ◌<◌, IsSome, IsTrue, IfSome};
-ghost use Rattle.rv_isa.specs.Description.{IsLegal, IsLegalMemory, IsLegalPipeline, IsLegalKind, IsLegalKinds, IsLegalCache, IsLegalShape, IsLegalCost, IsLegalPredictor, IsLegalReport, Within, gap_bound_of, greatest_latency};
+ghost use Rattle.std.specs.List.{list_all};
+ghost use Rattle.rv_isa.specs.Description.{IsLegal, gap_bound_of, greatest_latency};
+ghost use Rattle.rv_isa.specs.Key.{ObeysEachKey, obeys};
 
-use crate::values::{CacheValues, KindValues, PredictorValues, ReportValues, Values};
+use crate::keys::{Key, all_keys};
+use crate::values::Values;
 use std::marker::Model;
 
 /// A machine description whose values all are in their ranges.
@@ -27,6 +30,7 @@ impl Description {
     /// The description with these values, or `None` where one is out of its range.
     pub fn new(values: Values) -> Option<Self>
         ensures legal { IsSome result ↔ IsLegal values }
+        ensures keys { IsSome result ↔ ObeysEachKey values }
         ensures description { IfSome result (λ d. d ≡ values) }
     {
         if is_legal(&values) {
@@ -66,100 +70,38 @@ fn longest_latency(values: &Values) -> u32
     values.forward.max(registers.max(others))
 }
 
+// Whether the value at a key is one that the key takes.
+fn obeys(values: &Values, key: Key) -> bool
+    ensures { result ≡ obeys values.now key }
+{
+    match key {
+        Key::Number(key) => key.bounds().takes(values.ram_size, values.number(key)),
+        _ => true,
+    }
+}
+
+fn obeys_each(values: &Values, keys: &[Key]) -> bool
+    ensures { result ≡ list_all (obeys values.now) keys.now }
+{
+    for key in keys {
+        if !obeys(values, *key) {
+            return false;
+        }
+    }
+    true
+}
+
 fn is_legal(values: &Values) -> bool
-    ensures { IsTrue result ↔ IsLegal values.now }
+    ensures legal { IsTrue result ↔ IsLegal values.now }
+    ensures keys { IsTrue result ↔ ObeysEachKey values.now }
 {
-    is_legal_memory(values)
-        && is_legal_pipeline(values)
-        && is_legal_kinds(values)
-        && is_legal_cache(&values.cache)
-        && is_legal_predictor(&values.predictor)
-        && is_legal_report(&values.report)
-}
-
-fn is_within(low: u32, high: u32, number: u32) -> bool
-    ensures { IsTrue result ↔ Within low high number }
-{
-    low <= number && number <= high
-}
-
-fn is_legal_memory(values: &Values) -> bool
-    ensures { IsTrue result ↔ IsLegalMemory values.now }
-{
-    values.ram_base <= 0xff00_0000
-        && values.ram_base % 4096 == 0
-        && is_within(4096, 16_777_216, values.ram_size)
-        && values.ram_size % 4096 == 0
-        && values.rom_bytes <= values.ram_size
-        && values.rom_bytes % 4096 == 0
-}
-
-fn is_legal_pipeline(values: &Values) -> bool
-    ensures { IsTrue result ↔ IsLegalPipeline values.now }
-{
-    is_within(1, 8, values.fetch_width)
-        && is_within(1, 8, values.dispatch_width)
-        && is_within(1, 8, values.commit_width)
-        && is_within(1, 8, values.bus_width)
-        && is_within(1, 32, values.fetch_buffer)
-        && is_within(1, 256, values.rob)
-        && is_within(1, 64, values.store_queue)
-        && is_within(1, 64, values.forward)
-}
-
-fn is_legal_kinds(values: &Values) -> bool
-    ensures { IsTrue result ↔ IsLegalKinds values.now }
-{
-    is_legal_kind(&values.alu)
-        && is_legal_kind(&values.mul)
-        && is_legal_kind(&values.div)
-        && is_legal_kind(&values.mem)
-}
-
-fn is_legal_kind(kind: &KindValues) -> bool
-    ensures { IsTrue result ↔ IsLegalKind kind.now }
-{
-    is_within(1, 64, kind.stations) && is_within(1, 8, kind.units) && is_within(1, 64, kind.latency)
-}
-
-fn is_legal_cache(cache: &CacheValues) -> bool
-    ensures { IsTrue result ↔ IsLegalCache cache.now }
-{
-    is_legal_shape(cache) && is_legal_cost(cache)
-}
-
-fn is_legal_shape(cache: &CacheValues) -> bool
-    ensures { IsTrue result ↔ IsLegalShape cache.now }
-{
-    is_within(1, 256, cache.sets)
-        && cache.sets.is_power_of_two()
-        && is_within(1, 16, cache.ways)
-        && is_within(4, 128, cache.line)
-        && cache.line.is_power_of_two()
-}
-
-fn is_legal_cost(cache: &CacheValues) -> bool
-    ensures { IsTrue result ↔ IsLegalCost cache.now }
-{
-    is_within(1, 16, cache.hit) && cache.miss <= 1000 && cache.write_back <= 1000
-}
-
-fn is_legal_predictor(predictor: &PredictorValues) -> bool
-    ensures { IsTrue result ↔ IsLegalPredictor predictor.now }
-{
-    is_within(1, 4096, predictor.entries)
-}
-
-fn is_legal_report(report: &ReportValues) -> bool
-    ensures { IsTrue result ↔ IsLegalReport report.now }
-{
-    report.dump_address % 4 == 0 && report.dump_words <= 256
+    obeys_each(values, all_keys())
 }
 
 #[cfg(test)]
 mod tests {
     use super::*;
-    use crate::values::Recovery;
+    use crate::values::{CacheValues, KindValues, Recovery};
 
     #[test]
     fn the_gap_bound_of_three_machines(rt: HostRuntime) {

@@ -1,10 +1,11 @@
 //! The instruction set: registers and operand fields that are in range by type, instructions, exact
 //! arithmetic, causes of traps, interrupt lines and their arrivals, memory images, what a broadcast
-//! carries, and the machine description. Every other crate stands on this one.
+//! carries, and the machine description with its keys. Every other crate stands on this one.
 #![tactic(auto)]
 
 mod arithmetic;
 mod arrivals;
+mod bounds;
 mod branch_offsets;
 mod broadcast;
 mod causes;
@@ -17,6 +18,7 @@ mod immediates;
 mod instructions;
 mod issues;
 mod jump_offsets;
+mod keys;
 mod line_levels;
 mod lines;
 mod operands;
@@ -29,6 +31,7 @@ mod values;
 
 pub use arithmetic::alu;
 pub use arrivals::{Arrivals, LAST_CYCLE, MOST_ARRIVALS};
+pub use bounds::Bounds;
 pub use branch_offsets::BranchOffset;
 pub use broadcast::{Message, StoreAccess};
 pub use causes::{Cause, Fault};
@@ -41,6 +44,7 @@ pub use immediates::Immediate;
 pub use instructions::{CsrSource, Instr};
 pub use issues::Issue;
 pub use jump_offsets::JumpOffset;
+pub use keys::{Key, KindKey, NumberKey, NumberRow, Place, all_keys, key_name};
 pub use lines::{Arrival, Line, Lines};
 pub use operands::{kind, sources, target};
 pub use operations::{AluOp, Condition, CsrOp, ImmediateOp, Kind, LoadForm, ShiftOp, Width};

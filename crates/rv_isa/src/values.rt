@@ -1,3 +1,4 @@
+use crate::keys::{KindKey, NumberKey};
 use crate::operations::Kind;
 
 /// When a wrong prediction of a branch or a jump is mended.
@@ -105,10 +106,27 @@ pub struct Values {
     pub report: ReportValues,
 }
 
+impl KindValues {
+    ghost use Rattle.std.specs.Prelude.{◌≡◌};
+    ghost use Rattle.rv_isa.specs.Key.{kind_number};
+
+    /// The number at a key of a kind.
+    pub fn number(&self, key: KindKey) -> u32
+        ensures { result ≡ kind_number self.now key }
+    {
+        match key {
+            KindKey::Stations => self.stations,
+            KindKey::Units => self.units,
+            KindKey::Latency => self.latency,
+        }
+    }
+}
+
 impl Values {
     ghost use Rattle.std.specs.Prelude.{◌≡◌};
     ghost use Rattle.rv_isa.specs.Standard.{standard_values};
     ghost use Rattle.rv_isa.specs.Description.{kind_values};
+    ghost use Rattle.rv_isa.specs.Key.{number_of};
 
     /// The values of a description that names no key.
     pub fn standard() -> Self
@@ -167,6 +185,35 @@ impl Values {
                 dump_address: 0,
                 dump_words: 0,
             },
+        }
+    }
+
+    /// The number at a key.
+    pub fn number(&self, key: NumberKey) -> u32
+        ensures { result ≡ number_of self.now key }
+    {
+        match key {
+            NumberKey::RamBase => self.ram_base,
+            NumberKey::RamSize => self.ram_size,
+            NumberKey::RomBytes => self.rom_bytes,
+            NumberKey::FetchWidth => self.fetch_width,
+            NumberKey::DispatchWidth => self.dispatch_width,
+            NumberKey::CommitWidth => self.commit_width,
+            NumberKey::BusWidth => self.bus_width,
+            NumberKey::FetchBuffer => self.fetch_buffer,
+            NumberKey::Rob => self.rob,
+            NumberKey::StoreQueue => self.store_queue,
+            NumberKey::Forward => self.forward,
+            NumberKey::OfKind(kind, key) => self.of_kind(kind).number(key),
+            NumberKey::CacheSets => self.cache.sets,
+            NumberKey::CacheWays => self.cache.ways,
+            NumberKey::CacheLine => self.cache.line,
+            NumberKey::CacheHit => self.cache.hit,
+            NumberKey::CacheMiss => self.cache.miss,
+            NumberKey::CacheWriteBack => self.cache.write_back,
+            NumberKey::PredictorEntries => self.predictor.entries,
+            NumberKey::ReportDumpAddress => self.report.dump_address,
+            NumberKey::ReportDumpWords => self.report.dump_words,
         }
     }
 

@@ -4,7 +4,7 @@ use Rattle.rv_asm.specs.declared.fault.AsmFault.{AsmFault}
 use Rattle.rv_asm.specs.declared.fault.AsmFault.TheVariants as asm
 use Rattle.rv_describe.specs.Entries.{entry_of}
 use Rattle.rv_describe.specs.Fault.{place_of}
-use Rattle.rv_describe.specs.Key.{text_at}
+use Rattle.rv_isa.specs.Key.{text_at}
 use Rattle.rv_describe.specs.declared.arrivals_error.ArrivalsError.{ArrivalsError}
 use Rattle.rv_describe.specs.declared.arrivals_error.ArrivalsError.TheVariants as listed
 use Rattle.rv_describe.specs.declared.description_error.DescriptionError.{DescriptionError}

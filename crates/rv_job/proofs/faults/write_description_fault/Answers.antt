@@ -1,5 +1,5 @@
 use Rattle.std.proofs.Common.{◌∙◌, ap}
-use Rattle.rv_describe.specs.Key.{text_at}
+use Rattle.rv_isa.specs.Key.{text_at}
 use Rattle.rv_job.specs.Fault.{description_line}
 use Rattle.rv_job.proofs.faults.write_description_fault.Goals as goal
 
