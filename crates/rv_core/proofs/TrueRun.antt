@@ -13,6 +13,8 @@ use Rattle.rv_hardware.proofs.LawsBusy.{counts_hold}
 use Rattle.rv_hardware.proofs.LawsDue.{due_interrupts_of_runs}
 use Rattle.rv_hardware.proofs.LawsOfRuns.{laws_of_runs}
 use Rattle.rv_hardware.specs.Laws.{AreCounted, Laws, TakesDueInterrupts}
+use Rattle.rv_hardware.proofs.LongestGap.{longest_gap_of_run}
+use Rattle.rv_hardware.specs.LongestGap.{IsLongestGap}
 use Rattle.rv_hardware.specs.Report.{Report}
 use Rattle.rv_hardware.specs.Run.{IsStop, Reachable}
 use Rattle.rv_hardware.specs.Seen.{layout_of, seen}
@@ -59,6 +61,9 @@ module _ (arrivals : List Arrival) (limit : ℕ) (old new : Hardware) (reached :
     gap_bounded : OnlyLastStops reports → gap < gap_bound_of old.values
     gap_bounded only = rw run.longest_gap_is (no_silence arrivals old new reports reached run.cycled only).longest
 
+    gap_is_longest : IsLongestGap old.cycle new.cycle steps gap
+    gap_is_longest = rw (run.steps_are, run.longest_gap_is) (longest_gap_of_run reached run.cycled)
+
   module _ (ended : Result Outcome OutOfMemory) (is : MatchResult ended (IsOutcome arrivals limit old new) (IsCutShort arrivals limit old new)) where
     pub run_is_true : IfOk ended (λ outcome. IsTrueRun (layout_of old.values) arrivals old.cycle new.cycle (seen old) outcome.steps.items (seen new))
     run_is_true = if_ok _ ended (λ outcome done. steps_true done.1) is
@@ -92,3 +97,9 @@ module _ (arrivals : List Arrival) (limit : ℕ) (old new : Hardware) (reached :
 
     pub gap_is_bounded_so_far : IfErr ended (λ rest. rest.longest_gap < gap_bound_of old.values)
     gap_is_bounded_so_far = if_err _ ended (λ rest done. gap_bounded done.1 (none_stops-only_last done.0 done.2)) is
+
+    pub longest_gap_is : IfOk ended (λ outcome. IsLongestGap old.cycle new.cycle outcome.steps.items outcome.longest_gap)
+    longest_gap_is = if_ok _ ended (λ outcome done. gap_is_longest done.1) is
+
+    pub longest_gap_is_so_far : IfErr ended (λ rest. IsLongestGap old.cycle new.cycle rest.steps.items rest.longest_gap)
+    longest_gap_is_so_far = if_err _ ended (λ rest done. gap_is_longest done.1) is

@@ -2,6 +2,7 @@ ghost use Rattle.std.specs.Prelude.{◌≡◌, ◌<◌, IfErr, IfOk, MatchResult
 ghost use Rattle.rv_isa.specs.Description.{gap_bound_of};
 ghost use Rattle.rv_hardware.specs.Headline.{IsTrueRun, IsTrueStop};
 ghost use Rattle.rv_hardware.specs.Laws.{AreCounted, Laws, TakesDueInterrupts};
+ghost use Rattle.rv_hardware.specs.LongestGap.{IsLongestGap};
 ghost use Rattle.rv_hardware.specs.Seen.{layout_of, seen};
 ghost use Rattle.rv_core.specs.Progress.{IsBounded, progress_after};
 ghost use Rattle.rv_core.specs.RunDone.{IsCutShort, IsOutcome};
@@ -40,6 +41,8 @@ pub fn run(
     ensures counts_so_far { IfErr result (λ done. AreCounted core.old.cycle core.new.cycle done.steps.items done.busy done.stalls done.cycles) }
     ensures gap { IfOk result (λ outcome. outcome.longest_gap < gap_bound_of core.old.values) }
     ensures gap_so_far { IfErr result (λ done. done.longest_gap < gap_bound_of core.old.values) }
+    ensures longest_gap { IfOk result (λ outcome. IsLongestGap core.old.cycle core.new.cycle outcome.steps.items outcome.longest_gap) }
+    ensures longest_gap_so_far { IfErr result (λ done. IsLongestGap core.old.cycle core.new.cycle done.steps.items done.longest_gap) }
 {
     // Of hardware that a reset and cycles lead to, the headline, the laws and the bound hold.
     let _ = core.cycles_done();

@@ -62,6 +62,7 @@ pub mod HeadlineReset
 pub mod HeadlineCycle
 pub mod HeadlineRun
 pub mod HeadlineStops
+pub mod LongestGap
 pub mod HeadlineReached
 pub mod HeadlineBytes
 pub mod HeadlineStores

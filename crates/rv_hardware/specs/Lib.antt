@@ -17,5 +17,6 @@ pub mod Reset
 pub mod Run
 pub mod Headline
 pub mod Gap
+pub mod LongestGap
 pub mod Stamps
 pub mod Laws

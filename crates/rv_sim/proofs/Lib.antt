@@ -3,7 +3,6 @@ mod Flags
 mod JobParts
 mod Limits
 mod LinesAfter
-mod LongestGap
 mod Parses
 mod Places
 mod Reading

@@ -11,6 +11,7 @@ use Rattle.rv_core.specs.declared.outcome.Outcome.{Outcome}
 use Rattle.rv_hardware.specs.Hardware.{Hardware}
 use Rattle.rv_hardware.specs.Headline.{IsTrueRun, IsTrueStop}
 use Rattle.rv_hardware.specs.Laws.{AreCounted, Laws, TakesDueInterrupts}
+use Rattle.rv_hardware.specs.LongestGap.{IsLongestGap}
 use Rattle.rv_hardware.specs.Report.{Report}
 use Rattle.rv_hardware.specs.Reset.{IsLoadable}
 use Rattle.rv_hardware.specs.Run.{Cycles, ended, cycled, IsStop, Reachable, at_reset, busy_of, longest_gap_of, stalls_of, steps_of}
@@ -19,20 +20,20 @@ use Rattle.rv_hardware.proofs.GapRun.{no_silence, is_stop-only_last}
 use Rattle.rv_hardware.proofs.HeadlineCycle.{always_sound, cycle_true}
 use Rattle.rv_hardware.proofs.HeadlineInvariant.{IsSound}
 use Rattle.rv_hardware.proofs.HeadlineReached.{cycles_counted}
-use Rattle.rv_hardware.proofs.HeadlineRun.{cycles_true, headline_from_reset}
+use Rattle.rv_hardware.proofs.HeadlineRun.{headline_from_reset}
 use Rattle.rv_hardware.proofs.HeadlineStops.{headline_of_stop}
 use Rattle.rv_hardware.proofs.LawsBusy.{counts_hold}
 use Rattle.rv_hardware.proofs.LawsDue.{due_interrupts_of_runs}
 use Rattle.rv_hardware.proofs.LawsOfRuns.{laws_of_runs}
+use Rattle.rv_hardware.proofs.LongestGap.{longest_gap_of_run}
 use Rattle.rv_report.specs.RunReport.{run_report, report_of}
 use Rattle.rv_report.specs.Totals.{counts_of}
 use Rattle.rv_report.specs.declared.options.Options.{Options}
 use Rattle.rv_sim.specs.CoreReport.{IsSimulation, hardware_of, text_of, totals_at}
 use Rattle.rv_sim.specs.ReferenceReport.{layout_of, shown}
-use Rattle.rv_sim.specs.SimulationReport.{IsLongestGap, IsSimulationReport, lines_after}
+use Rattle.rv_sim.specs.SimulationReport.{IsSimulationReport, lines_after}
 use Rattle.rv_sim.specs.declared.job.Job.{Job}
 use Rattle.rv_sim.proofs.LinesAfter.{lines_are}
-use Rattle.rv_sim.proofs.LongestGap.{longest_gap_is}
 
 module _ (job : Job) (options : Options) (stop : Stop) (reports : List Report) (new : Hardware)
     (legal : IsLegal job.description) (loadable : IsLoadable job.description job.image.base job.image.bytes job.image.start)
@@ -55,7 +56,7 @@ module _ (job : Job) (options : Options) (stop : Stop) (reports : List Report) (
         ends = subst (λ n. IsTrueStop layout job.arrivals options.limit 0 n steps (seen new) stop) number (headline_of_stop job.arrivals options.limit (hardware_of job) new reports stop reached cycles stopped);
         laws = subst (λ n. Laws job.description 0 n steps) number (laws_of_runs reached cycles);
         due = subst (λ n. TakesDueInterrupts layout job.arrivals 0 n start steps) number (due_interrupts_of_runs reached cycles);
-        longest_gap = subst (λ n. IsLongestGap n steps (longest_gap_of reports)) number (longest_gap_is layout job.arrivals (cycles_true (always_sound reached) cycles));
+        longest_gap = subst (λ n. IsLongestGap 0 n steps (longest_gap_of reports)) number (longest_gap_of_run reached cycles);
         gap_bounded = (no_silence job.arrivals (hardware_of job) new reports reached cycles (is_stop-only_last options.limit reports new stop stopped)).longest;
         counts = refl;
         counted = subst (λ n. AreCounted 0 n steps (busy_of reports) (stalls_of reports) (length reports)) number (counts_hold reached cycles);

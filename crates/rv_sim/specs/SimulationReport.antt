@@ -1,6 +1,5 @@
 -- What the report of a simulation says: of bytes, the one-at-a-time machine, and the numbers of cycles alone.
-use Rattle.std.specs.Prelude.{◌≡◌, ◌⊎◌, ℕ, ◌+◌, ◌-◌, ◌<◌, ◌≤◌, ◌==◌, if◌then◌else◌, List}
-use Rattle.std.specs.List.{All}
+use Rattle.std.specs.Prelude.{◌≡◌, ℕ, ◌-◌, ◌<◌, ◌==◌, if◌then◌else◌, List}
 use Rattle.rv_isa.specs.Arrivals.{lines_at}
 use Rattle.rv_isa.specs.Description.{gap_bound_of}
 use Rattle.rv_isa.specs.declared.lines.Arrival.{Arrival}
@@ -10,7 +9,7 @@ use Rattle.rv_arch.specs.State.{State}
 use Rattle.rv_arch.specs.declared.outcome.Stop.{Stop}
 use Rattle.rv_hardware.specs.Headline.{IsTrueRun, IsTrueStop}
 use Rattle.rv_hardware.specs.Laws.{AreCounted, Laws, TakesDueInterrupts}
-use Rattle.rv_hardware.specs.Step.{stamp_of}
+use Rattle.rv_hardware.specs.LongestGap.{IsLongestGap}
 use Rattle.rv_hardware.specs.declared.step.Step.{Step}
 use Rattle.rv_report.specs.RunReport.{run_report}
 use Rattle.rv_report.specs.Totals.{counts_of}
@@ -22,17 +21,6 @@ use Rattle.rv_sim.specs.declared.job.Job.{Job}
 -- the levels of the interrupt lines after so many cycles: those of the last one
 abbrev pub lines_after : List Arrival → ℕ → Lines
 lines_after arrivals cycles = if cycles == 0 then no_lines else lines_at arrivals (cycles - 1)
-
--- so many consecutive cycles, from the first on, have no step
-abbrev pub AreSilent : List Step → ℕ → ℕ → Type 0
-AreSilent steps first count = All (λ s. (stamp_of s < first) ⊎ (first + count ≤ stamp_of s)) steps
-
--- of some cycles, so many consecutive ones have no step, and no more have none
-pub record IsLongestGap (cycles : ℕ) (steps : List Step) (gap : ℕ) : Type 0 where
-  pub first : ℕ
-  pub within : first + gap ≤ cycles
-  pub silent : AreSilent steps first gap
-  pub longest : (other count : ℕ) → other + count ≤ cycles → AreSilent steps other count → count ≤ gap
 
 -- A text is the report of a simulation of a job that ended for a reason.
 pub record IsSimulationReport (job : Job) (options : Options) (stop : Stop) (text : List ℕ) : Type 0 where
@@ -50,7 +38,7 @@ pub record IsSimulationReport (job : Job) (options : Options) (stop : Stop) (tex
   -- an interrupt that is due in a cycle is its one step
   pub due : TakesDueInterrupts (layout_of job.description) job.arrivals 0 totals.cycles (reset (layout_of job.description) job.image.bytes job.image.start) steps
   -- no gap of cycles without a step is longer than the reported one, which is below the bound
-  pub longest_gap : IsLongestGap totals.cycles steps totals.longest_gap
+  pub longest_gap : IsLongestGap 0 totals.cycles steps totals.longest_gap
   pub gap_bounded : totals.longest_gap < gap_bound_of job.description
   -- the steps are counted by their sort, and each cycle is busy or stalled
   pub counts : totals.steps ≡ counts_of steps

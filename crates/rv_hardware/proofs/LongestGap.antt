@@ -6,12 +6,15 @@ use Rattle.std.proofs.str.Laws.{order}
 use Rattle.rv_isa.specs.declared.lines.Arrival.{Arrival}
 use Rattle.rv_arch.specs.State.{State}
 use Rattle.rv_memory.specs.Memory.{Layout}
+use Rattle.rv_hardware.specs.Hardware.{Hardware}
+use Rattle.rv_hardware.specs.LongestGap.{IsGap, IsLongestGap}
 use Rattle.rv_hardware.specs.Report.{Report}
-use Rattle.rv_hardware.specs.Run.{is_silent, longest_gap_from, longest_gap_of, steps_of}
+use Rattle.rv_hardware.specs.Run.{Cycles, Reachable, is_silent, longest_gap_from, longest_gap_of, steps_of}
+use Rattle.rv_hardware.specs.Seen.{layout_of}
 use Rattle.rv_hardware.specs.Step.{stamp_of}
 use Rattle.rv_hardware.specs.declared.step.Step.{Step}
-use Rattle.rv_hardware.proofs.HeadlineRun.{TrueCycles, none, one_more, counts_cycles, true_within}
-use Rattle.rv_sim.specs.SimulationReport.{AreSilent, IsLongestGap}
+use Rattle.rv_hardware.proofs.HeadlineCycle.{always_sound}
+use Rattle.rv_hardware.proofs.HeadlineRun.{TrueCycles, none, one_more, counts_cycles, cycles_true, true_within}
 
 All-right : {X : Type 0} (P : X → Type 0) (xs ys : List X) → All P (xs ++ ys) → All P ys
 All-right P [] ys all = all
@@ -26,7 +29,7 @@ record HasGap (from before to : ℕ) (steps : List Step) (gap : ℕ) : Type 0 wh
   first : ℕ
   since : from ≤ first + before
   within : first + gap ≤ to
-  silent : AreSilent steps first gap
+  is_gap : IsGap steps first gap
 
 -- the gap of a cycle and of those behind it, where those before it were silent
 module _ (n before m : ℕ) (reports : List Report) (few : before ≤ n) (passed : n + 1 ≤ m) (later : All (λ y. n + 1 ≤ stamp_of y) (steps_of reports)) where
@@ -42,7 +45,7 @@ module _ (n before m : ℕ) (reports : List Report) (few : before ≤ n) (passed
         first = anew.first;
         since = omega (arith, anew.since);
         within = anew.within;
-        silent = All-append outside (x ∷ xs) (steps_of reports) (All-weaker (λ y. stamp_of y ≡ n) outside (λ y at. inl (omega (arith, at, anew.since))) (x ∷ xs) stamped) anew.silent;
+        is_gap = All-append outside (x ∷ xs) (steps_of reports) (All-weaker (λ y. stamp_of y ≡ n) outside (λ y at. inl (omega (arith, at, anew.since))) (x ∷ xs) stamped) anew.is_gap;
       })
 
   gap_before : (xs : List Step) (x : Step) → All (λ y. stamp_of y ≡ n) (x ∷ xs) → longest_gap_from 0 reports ≤ before → Gap (x ∷ xs) (max before (longest_gap_from 0 reports))
@@ -53,18 +56,18 @@ module _ (n before m : ℕ) (reports : List Report) (few : before ≤ n) (passed
         first = n - before;
         since = omega arith;
         within = omega (arith, few, passed);
-        silent = All-append outside (x ∷ xs) (steps_of reports) (All-weaker (λ y. stamp_of y ≡ n) outside (λ y at. inr (omega (arith, at, few))) (x ∷ xs) stamped) (All-weaker (λ y. n + 1 ≤ stamp_of y) outside (λ y behind. inr (omega (arith, behind, few))) (steps_of reports) later);
+        is_gap = All-append outside (x ∷ xs) (steps_of reports) (All-weaker (λ y. stamp_of y ≡ n) outside (λ y at. inr (omega (arith, at, few))) (x ∷ xs) stamped) (All-weaker (λ y. n + 1 ≤ stamp_of y) outside (λ y behind. inr (omega (arith, behind, few))) (steps_of reports) later);
       })
 
   gap_from : (xs : List Step) → All (λ y. stamp_of y ≡ n) xs → HasGap (n + 1) (before + 1) m (steps_of reports) (longest_gap_from (before + 1) reports) →
       HasGap (n + 1) 0 m (steps_of reports) (longest_gap_from 0 reports) → Gap xs (cond (is_silent xs) (longest_gap_from (before + 1) reports) (max before (longest_gap_from 0 reports)))
-  gap_from [] stamped more anew = record { first = more.first; since = omega (arith, more.since); within = more.within; silent = more.silent }
+  gap_from [] stamped more anew = record { first = more.first; since = omega (arith, more.since); within = more.within; is_gap = more.is_gap }
   gap_from (x ∷ xs) stamped more anew =
       ⊎_elim (gap_behind xs x stamped anew) (gap_before xs x stamped) (order before (longest_gap_from 0 reports))
 
 -- a gap among a cycle and those behind it is no longer
-no_longer_from : (n before m first count : ℕ) (reports : List Report) → n ≤ first + before → (xs : List Step) → All (λ y. stamp_of y ≡ n) xs → AreSilent (xs ++ steps_of reports) first count →
-    (AreSilent (steps_of reports) first count → count ≤ longest_gap_from (before + 1) reports) → (n + 1 ≤ first → AreSilent (steps_of reports) first count → count ≤ longest_gap_from 0 reports) →
+no_longer_from : (n before m first count : ℕ) (reports : List Report) → n ≤ first + before → (xs : List Step) → All (λ y. stamp_of y ≡ n) xs → IsGap (xs ++ steps_of reports) first count →
+    (IsGap (steps_of reports) first count → count ≤ longest_gap_from (before + 1) reports) → (n + 1 ≤ first → IsGap (steps_of reports) first count → count ≤ longest_gap_from 0 reports) →
     count ≤ cond (is_silent xs) (longest_gap_from (before + 1) reports) (max before (longest_gap_from 0 reports))
 no_longer_from n before m first count reports since [] stamped quiet more anew = more quiet
 no_longer_from n before m first count reports since (x ∷ xs) stamped quiet more anew =
@@ -78,20 +81,29 @@ module _ (layout : Layout) (arrivals : List Arrival) where
   -- behind so many silent cycles the longest gap is somewhere
   has_gap : (before : ℕ) {s u : State} {n m : ℕ} {reports : List Report} → TrueCycles layout arrivals s n reports u m → before ≤ n → HasGap n before m (steps_of reports) (longest_gap_from before reports)
   has_gap before {n = n} none few =
-      record { first = n - before; since = omega arith; within = omega (arith, few); silent = All-nil (IsOutside (n - before) before) }
+      record { first = n - before; since = omega arith; within = omega (arith, few); is_gap = All-nil (IsOutside (n - before) before) }
   has_gap before {n = n} {m = m} (one_more {report = report} {reports = reports} cycle rest) few =
       let behind = All-weaker (λ y. (n + 1 ≤ stamp_of y) × (stamp_of y < m)) (λ y. n + 1 ≤ stamp_of y) (λ y within. within.0) (steps_of reports) (true_within layout arrivals rest) in
       gap_from n before m reports few (omega (arith, counts_cycles layout arrivals rest)) behind report.steps cycle.stamped (has_gap (before + 1) rest (omega (arith, few))) (has_gap 0 rest (omega arith))
 
   -- and no gap is longer
   no_longer : (before : ℕ) {s u : State} {n m : ℕ} {reports : List Report} → TrueCycles layout arrivals s n reports u m →
-      (first count : ℕ) → n ≤ first + before → first + count ≤ m → AreSilent (steps_of reports) first count → count ≤ longest_gap_from before reports
+      (first count : ℕ) → n ≤ first + before → first + count ≤ m → IsGap (steps_of reports) first count → count ≤ longest_gap_from before reports
   no_longer before none first count since within silent = omega (arith, since, within)
   no_longer before {n = n} {m = m} (one_more {report = report} {reports = reports} cycle rest) first count since within silent =
       no_longer_from n before m first count reports since report.steps cycle.stamped silent
       (no_longer (before + 1) rest first count (omega (arith, since)) within) (λ passed. no_longer 0 rest first count (omega (arith, passed)) within)
 
-  pub longest_gap_is : {s u : State} {m : ℕ} {reports : List Report} → TrueCycles layout arrivals s 0 reports u m → IsLongestGap m (steps_of reports) (longest_gap_of reports)
-  longest_gap_is cycles =
-      let gap = has_gap 0 cycles (omega arith) in
-      record { first = gap.first; within = gap.within; silent = gap.silent; longest = λ first count within silent. no_longer 0 cycles first count (omega arith) within silent }
+-- the longest gap of a run's cycles is what the stamps of its steps give
+pub longest_gap_of_run : {arrivals : List Arrival} {old new : Hardware} {reports : List Report} → Reachable old → Cycles arrivals old reports new → IsLongestGap old.cycle new.cycle (steps_of reports) (longest_gap_of reports)
+longest_gap_of_run {arrivals = arrivals} {old = old} reached cycles =
+    let layout = layout_of old.values in
+    let true_cycles = cycles_true (always_sound reached) cycles in
+    let gap = has_gap layout arrivals 0 true_cycles (omega arith) in
+    record {
+      first = gap.first;
+      since = omega (arith, gap.since);
+      within = gap.within;
+      is_gap = gap.is_gap;
+      longest = λ first count since within quiet. no_longer layout arrivals 0 true_cycles first count (omega (arith, since)) within quiet;
+    }
