@@ -23,7 +23,7 @@ pub record AreCommitted (start h : Hardware) (old new : List Step) (done left : 
   pub retired : h.rob.retired ≤ start.rob.retired + done
 
 -- before the first turn, where no interrupt is due
-pub none_committed : (h : Hardware) (old : List Step) (width : ℕ) → width ≡ h.values.commit_width → due h.csrs h.lines ≡ None →
+unfoldable pub none_committed : (h : Hardware) (old : List Step) (width : ℕ) → width ≡ h.values.commit_width → due h.csrs h.lines ≡ None →
     AreCommitted h h old old 0 width
 none_committed h old width is undisturbed = record {
   steps = [];
@@ -51,7 +51,7 @@ pub steps_with : (old before new : List Step) (so_far : List Step) (step : Step)
 steps_with old before new so_far step appended more = more ∙ ap (λ l. l ++ step ∷ []) appended ∙ append_assoc old so_far (step ∷ [])
 
 -- a turn after which the phase goes on
-pub committed_more : (start h : Hardware) (old new more : List Step) (done left rest : ℕ) (before : AreCommitted start h old new done left)
+unfoldable pub committed_more : (start h : Hardware) (old new more : List Step) (done left rest : ℕ) (before : AreCommitted start h old new done left)
     (turn : HeadTurn) (next : Hardware) (step : Step) → left ≡ rest + 1 →
     ((steps : List Step) → commit_turn set.contains (committing h steps) ≡ turn_left next steps turn) → turn ≡ GoesOn step →
     IsKept h next → more ≡ new ++ step ∷ [] → AreCommitted start next old more (done + 1) rest
@@ -66,3 +66,8 @@ committed_more start h old new more done left rest before turn next step another
   cycle = kept.cycle ∙ before.cycle;
   retired = omega (arith, kept.retired, before.retired);
 }
+
+-- after all turns
+pub committed_all : (start h : Hardware) (old new : List Step) (done left : ℕ) (before : AreCommitted start h old new done left) → left ≡ 0 → before.steps ≡ (commit set.contains start).steps
+committed_all start h old new done left before none =
+    ap (λ (c : Committing). c.steps) (ap (λ n. repeated (commit_turn set.contains) n (committing h before.steps)) (sym none) ∙ before.to_come)

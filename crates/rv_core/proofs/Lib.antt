@@ -48,3 +48,4 @@ pub mod TiedReset
 pub mod TiedStations
 pub mod Turned
 pub mod TrueRun
+pub mod Taught

@@ -1,5 +1,7 @@
 -- What holds of a core between its calls.
-use Rattle.std.specs.Prelude.{ℕ, ◌*◌, ◌≤◌}
+use Rattle.std.specs.Prelude.{◌≡◌, ℕ, ◌*◌, ◌≤◌}
+use Rattle.rv_isa.specs.declared.lines.Lines.{Lines}
+use Rattle.rv_hardware.specs.Cycle.{with_lines}
 use Rattle.rv_hardware.specs.Hardware.{Hardware}
 use Rattle.rv_hardware.specs.Run.{Reachable}
 
@@ -8,3 +10,10 @@ pub record IsReached (h : Hardware) (room : ℕ) : Type 0 where
   pub reached : Reachable h
   pub numbers : h.rob.retired ≤ 8 * h.cycle
   pub has_room : 8 ≤ room
+
+-- such hardware in a further cycle, in which the lines have their levels
+pub record IsBegun (h : Hardware) : Type 0 where
+  pub before : Hardware
+  pub reached : Reachable before
+  pub lines : Lines
+  pub begun : h ≡ with_lines lines before

@@ -1,6 +1,7 @@
 ghost use Rattle.std.specs.Prelude.{◌≡◌, ◌+◌, ◌*◌, ◌^◌, ◌≤◌, ◌<◌, List, [], ◌++◌, filter, length, vec_len, vec_capacity, nat_le, IfOk};
 ghost use Rattle.std.specs.FinSet as set;
 ghost use Rattle.rv_front.specs.FetchBuffer.{FetchesInto};
+ghost use Rattle.rv_front.specs.Lesson.{AreTaught};
 ghost use Rattle.rv_rob.specs.ReorderBuffer.{cut_from, empty};
 ghost use Rattle.rv_rename.specs.Renaming.{cleared, empty as no_producers};
 ghost use Rattle.rv_stations.specs.Pool.{squashed as squashed_pool};
@@ -10,9 +11,11 @@ ghost use Rattle.rv_units.specs.Bus.{empty_bus, squashed as squashed_bus};
 ghost use Rattle.rv_units.specs.Units.{free_pools};
 ghost use Rattle.rv_hardware.specs.Cycle.{IsCycle, any_prediction, execute};
 ghost use Rattle.rv_hardware.specs.Dispatch.{stall_of};
+ghost use Rattle.rv_hardware.specs.Run.{Reachable};
 ghost use Rattle.rv_hardware.specs.Reset.{reset_hardware};
 ghost use Rattle.rv_hardware.specs.Squash.{flushed};
 ghost use Rattle.rv_hardware.specs.declared.step.Step.{Step as StepOf};
+ghost use Rattle.rv_core.specs.Lessons.{lessons_of};
 ghost use Rattle.rv_core.specs.Told.{IsCommitStop, report_with};
 
 use crate::outcome::CycleEnd;
@@ -111,10 +114,12 @@ impl Parts {
         requires cycles { self.old.cycle < 2 ^ 40 }
         requires numbers { self.old.rob.retired ≤ 8 * self.old.cycle }
         requires room { vec_len steps.old + 8 ≤ vec_capacity steps.old }
+        requires reached { Reachable self.old }
         ensures cycle { (done : List StepOf) × (steps.new.items ≡ steps.old.items ++ done) × (length done ≤ 8) × IsCycle any_prediction lines self.old (report_with done result) self.new }
         ensures stop { IsCommitStop result.stop }
         ensures numbers { self.new.rob.retired ≤ 8 * self.new.cycle }
         ensures capacity { vec_capacity steps.new ≡ vec_capacity steps.old }
+        ensures taught { (done : List StepOf) × (steps.new.items ≡ steps.old.items ++ done) × AreTaught (has_learned predictor.old) (lessons_of done self.new.pc) (has_learned predictor.new) }
     {
         let cycle = self.cycle;
         self.lines = lines;

@@ -1,3 +1,4 @@
+pub mod Lesson
 pub mod FetchBuffer
 pub mod Flow
 pub mod Predictors

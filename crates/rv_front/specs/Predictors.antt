@@ -1,7 +1,9 @@
 -- What the three predictors answer, and what the bimodal one learns.
-use Rattle.std.specs.Prelude.{ℕ, ◌+◌, ◌-◌, ◌/◌, ◌%◌, min, Bool, true, false, not, ◌==◌, nat_le, List, length, slice_index, slice_set, Option, Some, None, unwrap_or, if◌then◌else◌}
-use Rattle.std.specs.List.{slice_index_or}
+use Rattle.std.specs.Prelude.{◌≡◌, ℕ, ◌+◌, ◌-◌, ◌/◌, ◌%◌, min, Bool, true, false, not, ◌==◌, nat_le, List, length, replicate, slice_index, slice_set, Option, Some, None, unwrap_or, if◌then◌else◌}
+use Rattle.std.specs.List.{fold, slice_index_or}
 use Rattle.rv_isa.specs.Word.{pc_plus_4}
+use Rattle.rv_front.specs.Flow.{flow_at}
+use Rattle.rv_front.specs.Lesson.{Lesson}
 use Rattle.rv_front.specs.declared.flow.Flow.{Flow}
 use Rattle.rv_front.specs.declared.flow.Flow.TheVariants.{Sequential, Jump, Branch, Indirect}
 
@@ -53,3 +55,15 @@ learned tables pc next (Jump target) = tables
 learned tables pc next (Branch target backward) =
     record tables { counters = slice_set tables.counters (place_of tables pc) (counted (not (next == pc_plus_4 pc)) (counter_at tables pc)) }
 learned tables pc next Indirect = record tables { targets = slice_set tables.targets (place_of tables pc) (Some next) }
+
+-- new tables, in which each counter is 1 and no target is known
+abbrev pub untaught : ℕ → Tables
+untaught entries = record { counters = replicate entries 1; targets = replicate entries None }
+
+-- the tables after a lesson
+abbrev pub with_lesson : Tables → Lesson → Tables
+with_lesson tables lesson = learned tables lesson.pc lesson.next (flow_at lesson.pc lesson.word)
+
+-- the lessons led to these tables from new ones of some size
+abbrev pub HaveLearned : Tables → List Lesson → Type 0
+HaveLearned tables lessons = (entries : ℕ) × (tables ≡ fold with_lesson (untaught entries) lessons)

@@ -1,4 +1,4 @@
-ghost use Rattle.std.specs.Prelude.{◌≡◌};
+ghost use Rattle.std.specs.Prelude.{◌≡◌, ⊤};
 ghost use Rattle.rv_front.specs.Flow.{flow_at};
 ghost use Rattle.rv_front.specs.Predictors.{backward_taken};
 
@@ -11,6 +11,8 @@ pub struct BackwardTaken;
 
 impl Predictor for BackwardTaken {
     ghost answers = { λ _ pc word next. next ≡ backward_taken pc (flow_at pc word) };
+
+    ghost has_learned = { λ _ _. ⊤ };
 
     fn predict(&self, pc: u32, word: u32) -> u32
         ensures { result ≡ backward_taken pc (flow_at pc word) }

@@ -1,7 +1,7 @@
-ghost use Rattle.std.specs.Prelude.{◌≡◌, ◌<◌, length, replicate, None, IfOk};
+ghost use Rattle.std.specs.Prelude.{◌≡◌, ◌<◌, length, IfOk};
 ghost use Rattle.rv_isa.specs.Description.{Within};
 ghost use Rattle.rv_front.specs.Flow.{flow_at};
-ghost use Rattle.rv_front.specs.Predictors.{bimodal, counted, learned, place_of};
+ghost use Rattle.rv_front.specs.Predictors.{bimodal, counted, HaveLearned, learned, place_of, untaught};
 
 use crate::flow::Flow;
 use crate::predictor::Predictor;
@@ -32,7 +32,7 @@ impl Bimodal {
     /// Tables of so many entries, in which each counter is 1 and no target is known.
     pub fn new(alloc: Global, entries: u32) -> Result<Bimodal, AllocError>
         requires { Within 1 4096 entries }
-        ensures { IfOk result (λ tables. tables ≡ record { counters = replicate entries 1; targets = replicate entries None }) }
+        ensures { IfOk result (λ tables. tables ≡ untaught entries) }
     {
         let mut counters = Vec::with_capacity(alloc, entries as usize)?;
         counters.resize(entries as usize, 1)?;
@@ -53,6 +53,8 @@ impl Bimodal {
 
 impl Predictor for Bimodal {
     ghost answers = { λ tables pc word next. next ≡ bimodal tables pc (flow_at pc word) };
+
+    ghost has_learned = { HaveLearned };
 
     fn predict(&self, pc: u32, word: u32) -> u32
         ensures { result ≡ bimodal self.now pc (flow_at pc word) }

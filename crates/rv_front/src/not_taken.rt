@@ -1,4 +1,4 @@
-ghost use Rattle.std.specs.Prelude.{◌≡◌};
+ghost use Rattle.std.specs.Prelude.{◌≡◌, ⊤};
 ghost use Rattle.rv_front.specs.Flow.{flow_at};
 ghost use Rattle.rv_front.specs.Predictors.{not_taken};
 
@@ -11,6 +11,8 @@ pub struct NotTaken;
 
 impl Predictor for NotTaken {
     ghost answers = { λ _ pc word next. next ≡ not_taken pc (flow_at pc word) };
+
+    ghost has_learned = { λ _ _. ⊤ };
 
     fn predict(&self, pc: u32, word: u32) -> u32
         ensures { result ≡ not_taken pc (flow_at pc word) }

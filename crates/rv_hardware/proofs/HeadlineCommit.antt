@@ -254,13 +254,17 @@ module _ (lines : Lines) (before : State) (old : Hardware) where
               (λ pc is. subst (λ n. MachineStep (layout_of c.hardware.values) (seen c.hardware) c.hardware.lines (machine.Stale n) (seen c.hardware)) (cc) found);
         }
 
-  turn_done : (c : Committing) (entries : List Entry) → c.hardware.rob.entries ≡ entries → IsGoing lines before old c →
+  pub turn_done : (c : Committing) (entries : List Entry) → c.hardware.rob.entries ≡ entries → IsGoing lines before old c →
       LeavesEither (IsGoing lines before old) (IsDone lines before old) (commit_turn_of set.contains entries c)
   turn_done c [] are going = done c going
   turn_done c (e ∷ es) are going = turn_by c going e es are (set.contains c.hardware.stale (word_of e.pc)) refl
 
 -- ---- the whole phase
 module _ (h : Hardware) (is : IsSound h) where
+  pub begins_going : due h.csrs h.lines ≡ None → IsGoing h.lines (seen h) h (record { hardware = h; steps = []; stop = None })
+  begins_going now =
+      record { values_are = refl; cycle_is = refl; lines_are = refl; calm = now; sound = is; leads = nowhere; retirements = tt; no_stop = refl }
+
   commit_by : (o : Option ℕ) → due h.csrs h.lines ≡ o → IsDone h.lines (seen h) h (commit_unless set.contains o h)
   commit_by (Some code) now = record {
     values_are = refl;
@@ -272,8 +276,7 @@ module _ (h : Hardware) (is : IsSound h) where
   }
   commit_by None now =
       left_by_turns (IsGoing h.lines (seen h) h) (IsDone h.lines (seen h) h) (commit_turn set.contains) (λ c going. turn_done h.lines (seen h) h c c.hardware.rob.entries refl going) (done h.lines (seen h) h)
-      h.values.commit_width (record { hardware = h; steps = []; stop = None })
-      (record { values_are = refl; cycle_is = refl; lines_are = refl; calm = now; sound = is; leads = nowhere; retirements = tt; no_stop = refl })
+      h.values.commit_width (record { hardware = h; steps = []; stop = None }) (begins_going now)
 
   pub commit_done : IsDone h.lines (seen h) h (commit set.contains h)
   commit_done = commit_by (due h.csrs h.lines) refl

@@ -31,10 +31,10 @@ pub record GoesOnTrue (lines : Lines) (old : Hardware) (report : Report) (new : 
   pub true_cycle : IsTrueCycle (layout_of old.values) lines old.cycle (seen old) report.steps report.stop (seen new)
 
 -- the lines' levels are no part of it
-lines_sound : (lines : Lines) (h : Hardware) → IsSound h → IsSound (with_lines lines h)
+pub lines_sound : (lines : Lines) (h : Hardware) → IsSound h → IsSound (with_lines lines h)
 lines_sound lines h is = record { pc_aligned = is.pc_aligned; mepc_aligned = is.mepc_aligned; memory = is.memory; program = is.program }
 
-execute_kept : (values : Values) (cycle : ℕ) (s : State) (h : Hardware) → IsSoundAt values cycle s h → IsSoundAt values cycle s (execute h).hardware
+pub execute_kept : (values : Values) (cycle : ℕ) (s : State) (h : Hardware) → IsSoundAt values cycle s h → IsSoundAt values cycle s (execute h).hardware
 execute_kept values cycle s h is =
     dispatch_kept values cycle s (broadcast (issue (drain h)))
     (broadcast_kept values cycle s (issue (drain h)) (issue_kept values cycle s (drain h) (drain_kept values cycle s h is)))

@@ -120,3 +120,4 @@ pub mod LawsAhead
 pub mod LawsOfRuns
 pub mod LawsDue
 pub mod LawsBusy
+pub mod HeadlineTurn

@@ -20,3 +20,9 @@ abbrev pub is_breakpoint : Step → Bool
 is_breakpoint (Retired row) = false
 is_breakpoint (Trap pc cause value cycle) = is_breakpoint_cause cause
 is_breakpoint (Interrupt pc cause cycle) = false
+
+-- the pc of a step: that of the instruction that retired or trapped, or that an interrupt came before
+abbrev pub pc_of : Step → ℕ
+pc_of (Retired row) = row.pc
+pc_of (Trap pc cause value cycle) = pc
+pc_of (Interrupt pc cause cycle) = pc

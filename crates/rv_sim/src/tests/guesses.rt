@@ -32,6 +32,8 @@ impl Predictor for Guesses {
 
     ghost answers = { λ _ _ _ _. ⊤ };
 
+    ghost has_learned = { λ _ _. ⊤ };
+
     fn predict(&self, pc: u32, _word: u32) -> u32 {
         match *self {
             Guesses::Always(next) | Guesses::Word(next) => next,

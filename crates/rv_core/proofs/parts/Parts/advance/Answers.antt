@@ -1,14 +1,17 @@
-use Rattle.std.proofs.Common.{◌≡◌, ◌+◌, ◌++◌, sym, ap, subst, ◌∙◌, arith}
+use Rattle.std.proofs.Common.{◌≡◌, ◌+◌, ◌++◌, refl, sym, ap, subst, ◌∙◌, arith}
 use Rattle.std.specs.FinSet as set
 use Rattle.rv_isa.specs.Description.{IsLegal}
 use Rattle.rv_hardware.specs.Commit.{commit}
 use Rattle.rv_hardware.specs.Cycle.{IsCycle, any_prediction, commit_with, with_lines}
 use Rattle.rv_hardware.specs.Hardware.{Hardware}
+use Rattle.rv_hardware.specs.Run.{Reachable}
+use Rattle.rv_core.specs.Parts.{hardware_of}
 use Rattle.rv_core.specs.Told.{IsCommitStop, report_with}
 use Rattle.rv_core.proofs.AnyPrediction.{any-into}
 use Rattle.rv_core.proofs.CycleDone.{committing-now, cycle-done, dispatched-now}
 use Rattle.rv_core.proofs.CyclesKept.{Commits}
 use Rattle.rv_core.proofs.Numbered.{sound-numbered}
+use Rattle.rv_core.proofs.Taught.{executed_here, taught_as}
 use Rattle.rv_core.proofs.parts.Parts.advance.Goals as goal
 use Rattle.rv_core.proofs.parts.Parts.advance.Goals.{After-self-2}
 use Rattle.rv_core.proofs.parts.Parts.advance.Given.{Over}
@@ -71,3 +74,26 @@ pub returns-clause-stop : goal.returns-clause-stop
 returns-clause-stop g c =
     let at = (goal.at.returns-clause-stop g c).After-self-2 in
     subst IsCommitStop (sym (stops g at)) (counted g at).stop
+
+pub commit-stop-requires-clause-reached : goal.commit-stop-requires-clause-reached
+commit-stop-requires-clause-reached g c = record {
+  before = hardware_of c.self.inside;
+  reached = subst Reachable (sym c.self.view_is) c.requires.reached;
+  lines = c.args.lines;
+  begun = refl;
+}
+
+pub returns-clause-taught : goal.returns-clause-taught
+returns-clause-taught g c =
+    let at = (goal.at.returns-clause-taught g c).After-self-2 in
+    let lines = c.args.lines in
+    let done = (commit_with set.contains lines c.args.self.now).steps in
+    let same = ap (λ h. (commit set.contains (with_lines lines h)).steps) c.self.view_is in
+    let here = ap (λ (h : Hardware). h.pc) (c.self-2.view_is ∙ c.fetch.ensures.others)
+    ∙ ap (λ (h : Hardware). h.pc) c.execute-dispatched.ensures.hardware
+    ∙ executed_here lines c.args.self.now c.commit-stop.new.self c.requires.reached (commits g at) in (
+      done,
+      c.commit-stop.ensures.steps ∙ ap (λ l. c.args.steps.now.items ++ l) same,
+      taught_as ((goal.Predictor-dyn g c.args.predictor.now).has_learned c.args.predictor.now.1) ((goal.Predictor-dyn g (c.args.predictor.now.0, c.commit-stop.new.predictor)).has_learned c.commit-stop.new.predictor)
+          _ done _ _ same (sym here) c.commit-stop.ensures.taught,
+    )

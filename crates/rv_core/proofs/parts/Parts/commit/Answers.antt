@@ -3,18 +3,21 @@ use Rattle.std.specs.FinSet as set
 use Rattle.rv_arch.specs.declared.outcome.Stop.TheVariants.{Stale}
 use Rattle.rv_hardware.specs.Hardware.{Hardware}
 use Rattle.rv_hardware.specs.Commit.{Committing, commit}
-use Rattle.rv_core.proofs.CommitLoop.{none_committed, committed_whole, committed_more, steps_with}
+use Rattle.rv_core.proofs.CommitLoop.{none_committed, committed_all, committed_whole, committed_more, steps_with}
+use Rattle.rv_core.proofs.Taught.{taught_all, taught_at_end, taught_whole, teaching_begins, teaching_goes}
 use Rattle.rv_core.specs.HeadTurn.{committing, stop_with, turn_left}
 use Rattle.rv_core.proofs.parts.Parts.commit.Goals as goal
 use Rattle.rv_core.proofs.parts.Parts.commit.Goals.{In-Waits, In-Stale, In-Ends}
 use Rattle.rv_core.proofs.parts.Parts.commit.Given.{Over}
 
 pub loop-init : goal.loop-init
+unfolding none_committed
 loop-init g c = (
   none_committed c.args.self.now c.args.steps.now.items (c.self.inside.values.commit_width - 0)
       (omega (arith, ap (λ (h : Hardware). h.values.commit_width) c.self.view_is))
       (sym c.due_interrupt.ensures.due ∙ c.in_default.is),
   refl,
+  teaching_begins c.args.self.now _ c.requires.reached (sym c.due_interrupt.ensures.due ∙ c.in_default.is),
 )
 
 -- a turn that ends the phase leaves what the definition leaves
@@ -66,11 +69,37 @@ returns-in-Ends-clause-steps g c =
 pub returns-in-Ends-clause-stop : goal.returns-in-Ends-clause-stop
 returns-in-Ends-clause-stop g c = c.stop_with.ensures ∙ ap (λ (x : Committing). x.stop) (ends g (goal.at.returns-in-Ends-clause-stop g c).In-Ends)
 
+pub returns-in-Waits-clause-taught : goal.returns-in-Waits-clause-taught
+returns-in-Waits-clause-taught g c =
+    taught_whole c.args.self.now c.loop.self c.loop.invariant.0.steps _ _ c.loop.invariant.2 c.commit_head.result c.commit_head.new.self (c.commit_head.ensures.turn c.loop.invariant.0.steps)
+    (committing c.commit_head.new.self c.loop.invariant.0.steps) (ap (turn_left c.commit_head.new.self c.loop.invariant.0.steps) c.in-Waits.is) refl
+    (commit set.contains c.args.self.now).steps (ap (λ (x : Committing). x.steps) (waits g c))
+
+pub returns-in-Stale-clause-taught : goal.returns-in-Stale-clause-taught
+returns-in-Stale-clause-taught g c =
+    taught_whole c.args.self.now c.loop.self c.loop.invariant.0.steps _ _ c.loop.invariant.2 c.commit_head.result c.commit_head.new.self (c.commit_head.ensures.turn c.loop.invariant.0.steps)
+    (record { hardware = c.commit_head.new.self; steps = c.loop.invariant.0.steps; stop = Some (Stale c.in-Stale.pc) }) (ap (turn_left c.commit_head.new.self c.loop.invariant.0.steps) c.in-Stale.is) refl
+    (commit set.contains c.args.self.now).steps (ap (λ (x : Committing). x.steps) (stale g c))
+
+pub returns-in-Ends-clause-taught : goal.returns-in-Ends-clause-taught
+returns-in-Ends-clause-taught g c =
+    taught_at_end c.args.self.now c.loop.self c.loop.invariant.0.steps _ _ c.loop.invariant.2 c.commit_head.result c.commit_head.new.self (c.commit_head.ensures.turn c.loop.invariant.0.steps)
+    c.in-Ends.step ((goal.Predictor-dyn g (c.loop.predictor.now.0, c.teach.new.predictor)).has_learned c.teach.new.predictor) c.in-Ends.is c.self-in-loop.inside.pc (ap (λ (h : Hardware). h.pc) c.self-in-loop.view_is) c.teach.ensures
+    (commit set.contains c.args.self.now).steps (ap (λ (x : Committing). x.steps) (ends g (goal.at.returns-in-Ends-clause-taught g c).In-Ends))
+
+pub returns-clause-taught : goal.returns-clause-taught
+returns-clause-taught g c =
+    taught_all c.args.self.now c.loop.self c.loop.invariant.0.steps _ _ c.loop.invariant.2 (commit set.contains c.args.self.now).steps
+    (committed_all c.args.self.now c.loop.self c.args.steps.now.items c.loop.steps.items c.loop.counter (c.self.inside.values.commit_width - c.loop.counter) c.loop.invariant.0 (omega (arith, c.loop-test.false)))
+
 pub loop-preserved : goal.loop-preserved
+unfolding committed_more
 loop-preserved g c = (
   committed_more c.args.self.now c.loop.self c.args.steps.now.items c.loop.steps.items c.append-in-GoesOn.new.items.items c.loop.counter
       (c.self.inside.values.commit_width - c.loop.counter) (c.self.inside.values.commit_width - (c.loop.counter + 1)) c.loop.invariant.0
       c.commit_head.result c.commit_head.new.self c.in-GoesOn.step (omega (arith, c.loop-test.true)) c.commit_head.ensures.turn c.in-GoesOn.is
       c.commit_head.ensures.kept c.append-in-GoesOn.ensures.items,
   c.append-in-GoesOn.ensures.capacity ∙ c.loop.invariant.1,
+  teaching_goes c.args.self.now c.loop.self c.loop.invariant.0.steps _ _ c.loop.invariant.2 c.commit_head.result c.commit_head.new.self (c.commit_head.ensures.turn c.loop.invariant.0.steps)
+      c.in-GoesOn.step ((goal.Predictor-dyn g (c.loop.predictor.now.0, c.teach-in-GoesOn.new.predictor)).has_learned c.teach-in-GoesOn.new.predictor) c.in-GoesOn.is c.self-in-loop.inside.pc (ap (λ (h : Hardware). h.pc) c.self-in-loop.view_is) c.teach-in-GoesOn.ensures,
 )
