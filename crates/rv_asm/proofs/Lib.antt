@@ -5,7 +5,6 @@ pub mod LineAdded
 pub mod Lines
 pub mod Named
 pub mod Operands
-pub mod Pieces
 pub mod SecondPass
 pub mod TokenFirst
 pub mod TokenLines

@@ -1,19 +1,15 @@
 -- The operands that tokens spell, piece by piece.
-use Rattle.std.proofs.Common.{◌≡◌, ◌<◌, ◌≤◌, ◌+◌, ◌∙◌, ℕ, List, [], ◌∷◌, ◌++◌, map, length, take, drop, Bool, true, false, cond, Some, None, Option, sym, refl, ap, arith, option_and_then, ⊎_elim}
-use Rattle.std.specs.List.{slice_split, onto_first, position_or_len}
+use Rattle.std.proofs.Common.{◌≡◌, ◌∙◌, ◌<◌, List, [], ◌∷◌, ◌++◌, map, length, Bool, true, false, cond, Some, None, Option, Result, Ok, Err, IfOk, Bor, sym, refl, ap, arith, option_and_then, append_assoc, append-nil}
+use Rattle.std.specs.Global.{Vec}
+use Rattle.std.specs.List.{slice_split, onto_first}
 use Rattle.std.specs.Option.{option_map}
-use Rattle.std.proofs.lemmas.Grind.{common_steps}
-use Rattle.std.proofs.lemmas.List.{drop-drop, map-append}
-use Rattle.std.proofs.Math.Seq.{take-length}
-use Rattle.std.proofs.str.Laws.{order}
-use Rattle.std.proofs.lemmas.List.Splits.{slice_split_first}
+use Rattle.std.proofs.lemmas.List.{map-append}
+use Rattle.std.proofs.lemmas.Simd.{map-map}
 use Rattle.rv_asm.specs.Operand.{Operand, operand, operands_in, operands_of, is_comma}
 use Rattle.rv_asm.specs.ReadOperand.{operand_of}
 use Rattle.rv_asm.specs.ReadToken.{token_of}
 use Rattle.rv_asm.specs.Token as spec
-use Rattle.rv_asm.proofs.Pieces.{split_last}
 use Rattle.rv_asm.specs.declared.token.Token.{Token}
-use Rattle.rv_asm.specs.declared.token.Token.TheVariants.{Comma}
 use Rattle.rv_asm.specs.declared.operand.Operand as read
 
 -- a comma of the program
@@ -33,69 +29,37 @@ slice_split-map : (xs : List Token) → slice_split is_comma (map token_of xs) �
 slice_split-map [] = refl
 slice_split-map (x ∷ xs) = cut_at (separates x) x _ _ (slice_split-map xs)
 
--- the operands of a list of tokens that is not empty
-abbrev pub spelled : List Token → Option (List Operand)
-spelled tokens = operands_in (slice_split is_comma (map token_of tokens))
+pub pieces_are : {E : Type 0} (r : Result (Vec (Bor (List Token))) E) (tokens : List Token) → IfOk r (λ v. map (λ x. x.now) v.items ≡ slice_split separates tokens) → IfOk r (λ v. map (λ x. map token_of x.now) v.items ≡ slice_split is_comma (map token_of tokens))
+pieces_are (Ok v) tokens e = sym (map-map (map token_of) (λ x. x.now) v.items) ∙ ap (map (map token_of)) e ∙ sym (slice_split-map tokens)
+pieces_are (Err f) tokens e = tt
 
-pub spelled_none : (tokens : List Token) → 0 < length tokens → operands_of (map token_of tokens) ≡ spelled tokens
-spelled_none [] nonempty = absurd (omega arith)
-spelled_none (x ∷ xs) nonempty = refl
+-- the operands so far, and those of the other pieces, are those of all tokens
+abbrev pub Spelled : List spec.Token → List (List spec.Token) → List read.Operand → Type 0
+Spelled tokens rest done = operands_of tokens ≡ option_map (λ others. map operand_of done ++ others) (operands_in rest)
 
-one_operand : (o : Option Operand) → option_and_then (λ first. option_map (λ others. first ∷ others) (Some [])) o ≡ option_map (λ first. first ∷ []) o
-one_operand None = refl
-one_operand (Some x) = refl
+id_map : (o : Option (List Operand)) → o ≡ option_map (λ others. [] ++ others) o
+id_map None = refl
+id_map (Some x) = refl
 
-pub spelled_last : (tokens : List Token) → position_or_len separates tokens ≡ length tokens → spelled tokens ≡ option_map (λ first. first ∷ []) (operand (map token_of tokens))
-spelled_last tokens e = ap operands_in (slice_split-map tokens ∙ ap (map (map token_of)) (split_last separates tokens e)) ∙ one_operand (operand (map token_of tokens))
+pub spelled_none : (tokens : List Token) (done : List read.Operand) → 0 < length tokens → done ≡ [] → Spelled (map token_of tokens) (slice_split is_comma (map token_of tokens)) done
+spelled_none [] done nonempty none = absurd (omega arith)
+spelled_none (x ∷ xs) done nonempty none = rw none (id_map (operands_in (slice_split is_comma (map token_of (x ∷ xs)))))
 
-pub spelled_more : (tokens : List Token) → position_or_len separates tokens < length tokens → spelled tokens ≡ option_and_then (λ first. option_map (λ others. first ∷ others) (spelled (drop (position_or_len separates tokens + 1) tokens))) (operand (map token_of (take (position_or_len separates tokens) tokens)))
-spelled_more tokens h =
-    ap operands_in (slice_split-map tokens ∙ ap (map (map token_of)) (slice_split_first separates tokens Comma h))
-    ∙ ap (λ parts. option_and_then (λ first. option_map (λ others. first ∷ others) (operands_in parts)) (operand (map token_of (take (position_or_len separates tokens) tokens)))) (sym (slice_split-map (drop (position_or_len separates tokens + 1) tokens)))
+regroup : (rest : Option (List Operand)) (done : List read.Operand) (o : read.Operand) → option_map (λ others. map operand_of done ++ others) (option_map (λ others. operand_of o ∷ others) rest) ≡ option_map (λ others. map operand_of (done ++ o ∷ []) ++ others) rest
+regroup None done o = refl
+regroup (Some others) done o = ap Some (sym (ap (λ l. l ++ others) (map-append operand_of done (o ∷ [])) ∙ append_assoc (map operand_of done) (operand_of o ∷ []) others))
 
--- one more operand read
-pub read_more : (all : Option (List Operand)) (done : List read.Operand) (o : read.Operand) (rest : Option (List Operand)) → all ≡ option_map (λ others. map operand_of done ++ others) (option_map (λ others. operand_of o ∷ others) rest) → all ≡ option_map (λ others. map operand_of (done ++ o ∷ []) ++ others) rest
-read_more all done o None e = e
-read_more all done o (Some others) e = e ∙ ap Some (grind (arith, common_steps))
+module _ (tokens piece : List spec.Token) (rest others : List (List spec.Token)) (done : List read.Operand) (so_far : Spelled tokens rest done) (rest_is : rest ≡ piece ∷ others) where
+  taken : (found : Option Operand) → operand piece ≡ found → operands_of tokens ≡ option_map (λ l. map operand_of done ++ l) (option_and_then (λ first. option_map (λ l. first ∷ l) (operands_in others)) found)
+  taken found is = so_far ∙ ap (λ l. option_map (λ o. map operand_of done ++ o) (operands_in l)) rest_is ∙ ap (λ f. option_map (λ l. map operand_of done ++ l) (option_and_then (λ first. option_map (λ l. first ∷ l) (operands_in others)) f)) is
 
--- the first piece is an operand, and a comma stands behind it
-spelled_piece : (rest piece : List Token) (count : ℕ) (o : read.Operand) → count ≡ position_or_len separates rest → count < length rest → piece ≡ take count rest → Some (operand_of o) ≡ operand (map token_of piece) → spelled rest ≡ option_map (λ others. operand_of o ∷ others) (spelled (drop (count + 1) rest))
-spelled_piece rest piece count o count_is within piece_is read_is =
-    let before : position_or_len separates rest < length rest = rw (← count_is) within in
-    let first : operand (map token_of (take (position_or_len separates rest) rest)) ≡ Some (operand_of o) = ap (λ n. operand (map token_of (take n rest))) (sym count_is) ∙ ap (λ p. operand (map token_of p)) (sym piece_is) ∙ sym read_is in
-    spelled_more rest before
-    ∙ ap (option_and_then (λ first. option_map (λ others. first ∷ others) (spelled (drop (position_or_len separates rest + 1) rest)))) first
-    ∙ ap (λ n. option_map (λ others. operand_of o ∷ others) (spelled (drop (n + 1) rest))) (sym count_is)
+  -- a piece is an operand
+  pub spelled_more : (done' : List read.Operand) (o : read.Operand) → Some (operand_of o) ≡ operand piece → done' ≡ done ++ o ∷ [] → Spelled tokens others done'
+  spelled_more done' o read_is pushed = rw pushed (taken (Some (operand_of o)) (sym read_is) ∙ regroup (operands_in others) done o)
 
--- an operand and a comma are read
-pub step_more : (tokens rest piece : List Token) (start count : ℕ) (done done' : List read.Operand) (o : read.Operand) → spelled tokens ≡ option_map (λ others. map operand_of done ++ others) (spelled (drop start tokens)) → rest ≡ drop start tokens → count ≡ position_or_len separates rest → count < length rest → piece ≡ take count rest → Some (operand_of o) ≡ operand (map token_of piece) → done' ≡ done ++ o ∷ [] → spelled tokens ≡ option_map (λ others. map operand_of done' ++ others) (spelled (drop (start + (count + 1)) tokens))
-step_more tokens rest piece start count done done' o so_far rest_is count_is within piece_is read_is pushed =
-    rw pushed (read_more (spelled tokens) done o (spelled (drop (start + (count + 1)) tokens))
-    (so_far ∙ ap (option_map (λ others. map operand_of done ++ others))
-    (ap spelled (sym rest_is) ∙ spelled_piece rest piece count o count_is within piece_is read_is
-    ∙ ap (λ l. option_map (λ others. operand_of o ∷ others) (spelled l)) (ap (drop (count + 1)) rest_is ∙ drop-drop (count + 1) start tokens))))
+  -- a piece is none
+  pub spelled_bad : None ≡ operand piece → operands_of tokens ≡ None
+  spelled_bad read_is = taken None (sym read_is)
 
--- the last operand is read
-pub step_last : (tokens rest piece : List Token) (start count : ℕ) (done done' : List read.Operand) (o : read.Operand) → spelled tokens ≡ option_map (λ others. map operand_of done ++ others) (spelled (drop start tokens)) → rest ≡ drop start tokens → count ≡ position_or_len separates rest → count ≡ length rest → piece ≡ take count rest → Some (operand_of o) ≡ operand (map token_of piece) → done' ≡ done ++ o ∷ [] → spelled tokens ≡ Some (map operand_of done')
-step_last tokens rest piece start count done done' o so_far rest_is count_is all piece_is read_is pushed =
-    let whole : piece ≡ rest = piece_is ∙ ap (λ n. take n rest) all ∙ take-length rest in
-    let last : spelled rest ≡ Some (operand_of o ∷ []) = spelled_last rest (sym count_is ∙ all) ∙ ap (option_map (λ first. first ∷ [])) (ap (λ p. operand (map token_of p)) (sym whole) ∙ sym read_is) in
-    so_far ∙ ap (option_map (λ others. map operand_of done ++ others)) (ap spelled (sym rest_is) ∙ last)
-    ∙ ap Some (sym (map-append operand_of done (o ∷ [])) ∙ ap (map operand_of) (sym pushed))
-
-piece_bad : (o : Option Operand) (others : Option (List Operand)) → o ≡ None → option_and_then (λ first. option_map (λ more. first ∷ more) others) o ≡ None
-piece_bad o others e = ap (option_and_then (λ first. option_map (λ more. first ∷ more) others)) e
-
--- a piece is no operand
-pub step_bad : (tokens rest piece : List Token) (start count : ℕ) (done : List read.Operand) → spelled tokens ≡ option_map (λ others. map operand_of done ++ others) (spelled (drop start tokens)) → rest ≡ drop start tokens → count ≡ position_or_len separates rest → count ≤ length rest → piece ≡ take count rest → None ≡ operand (map token_of piece) → spelled tokens ≡ None
-step_bad tokens rest piece start count done so_far rest_is count_is within piece_is read_is =
-    so_far ∙ ap (option_map (λ others. map operand_of done ++ others)) (ap spelled (sym rest_is) ∙ bad)
-  where
-    here : operand (map token_of (take (position_or_len separates rest) rest)) ≡ None
-    here = ap (λ n. operand (map token_of (take n rest))) (sym count_is) ∙ ap (λ p. operand (map token_of p)) (sym piece_is) ∙ sym read_is
-
-    last : position_or_len separates rest ≡ length rest → spelled rest ≡ None
-    last all = spelled_last rest all ∙ ap (option_map (λ first. first ∷ [])) (ap (λ l. operand (map token_of l)) (sym (take-length rest) ∙ ap (λ n. take n rest) (sym all)) ∙ here)
-
-    bad : spelled rest ≡ None
-    bad = ⊎_elim (λ inside. spelled_more rest inside ∙ piece_bad _ _ here) (λ outside. last (omega (arith, outside, within, count_is))) (order (position_or_len separates rest) (length rest))
+pub spelled_all : (tokens : List spec.Token) (rest : List (List spec.Token)) (done : List read.Operand) → Spelled tokens rest done → rest ≡ [] → operands_of tokens ≡ Some (map operand_of done)
+spelled_all tokens rest done so_far none = so_far ∙ ap (λ l. option_map (λ o. map operand_of done ++ o) (operands_in l)) none ∙ ap Some (append-nil (map operand_of done))

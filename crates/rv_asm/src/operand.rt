@@ -1,5 +1,5 @@
-ghost use Rattle.std.specs.Prelude.{◌≡◌, ◌<◌, ◌≤◌, ◌∷◌, [], Some, None, map, length, ok_or, ◌++◌, OnOk, IfErr};
-ghost use Rattle.std.specs.List.{position_or_len};
+ghost use Rattle.std.specs.Prelude.{◌≡◌, ◌∷◌, [], map, ok_or, IfOk};
+ghost use Rattle.std.specs.List.{slice_split};
 ghost use Rattle.std.specs.Option.{option_map, option_copied};
 ghost use Rattle.rv_asm.specs.Answer.{Follows};
 ghost use Rattle.rv_asm.specs.Operand.{expression, in_parentheses, based, operand, operands_of, is_comma};
@@ -8,7 +8,7 @@ ghost use Rattle.rv_asm.specs.ReadToken.{token_of, tokens_in};
 
 use crate::fault::AsmFault;
 use crate::token::Token;
-use std::alloc::Global;
+use std::alloc::{AllocError, Global};
 
 /// An exact whole number, as the text writes it.
 #[derive(Clone, Copy)]
@@ -125,19 +125,6 @@ fn read_operand<'a>(tokens: &[Token<'a>]) -> Option<Operand<'a>>
     }
 }
 
-/// How many tokens stand before the first comma.
-fn count_before_comma(tokens: &[Token<'_>]) -> usize
-    ensures count { result ≡ position_or_len (λ token. is_comma (token_of token)) tokens.now }
-    ensures in_range { result ≤ length tokens.now }
-{
-    for (i, token) in tokens.iter().enumerate() {
-        if token.is_comma() {
-            return i;
-        }
-    }
-    tokens.len()
-}
-
 impl Token<'_> {
     /// Whether the token is a comma.
     fn is_comma(&self) -> bool
@@ -145,6 +132,17 @@ impl Token<'_> {
     {
         matches!(*self, Token::Comma)
     }
+}
+
+/// The pieces between the commas.
+fn pieces<'t, 'a>(
+    alloc: Global,
+    tokens: &'t [Token<'a>],
+) -> Result<Vec<&'t [Token<'a>]>, AllocError>
+    ensures { IfOk result (λ pieces. map (λ piece. tokens_in piece.now) pieces.items
+        ≡ slice_split is_comma (tokens_in tokens.now)) }
+{
+    tokens.split(|token| token.is_comma()).collect(alloc)
 }
 
 /// The operands of a statement, separated by commas.
@@ -156,18 +154,12 @@ pub fn read_operands<'a>(alloc: Global, tokens: &[Token<'a>]) -> Result<Vec<Oper
     if tokens.is_empty() {
         return Ok(operands);
     }
-    let mut start = 0;
-    loop {
-        let (_, rest) = tokens.split_at(start);
-        let count = count_before_comma(rest);
-        let (piece, _) = rest.split_at(count);
+    let pieces = pieces(alloc, tokens)?;
+    for piece in &pieces {
         let Some(operand) = read_operand(piece) else {
             return Err(AsmFault::BadOperands);
         };
         operands.push(operand)?;
-        if count == rest.len() {
-            return Ok(operands);
-        }
-        start += count + 1;
     }
+    Ok(operands)
 }
