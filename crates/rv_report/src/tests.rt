@@ -1,2 +1,1 @@
 mod cut_short;
-mod rows;
