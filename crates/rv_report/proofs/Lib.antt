@@ -1,3 +1,4 @@
 mod Counts
+mod LiveReport
 mod MemoryLines
 pub mod Writing

@@ -4,6 +4,7 @@
 
 mod digits;
 mod fields;
+mod live_report;
 mod memory;
 mod options;
 mod output;
@@ -16,6 +17,7 @@ mod tests;
 mod totals;
 
 pub use digits::hexadecimal;
+pub use live_report::write_run;
 pub use options::Options;
 pub use output::{ReportError, put, put_all};
 pub use reference_report::write_reference;
