@@ -1,5 +1,5 @@
 -- A run under way, and one more cycle of it.
-use Rattle.std.proofs.Common.{◌≡◌, ℕ, suc, ◌+◌, ◌≤◌, max, ◌==◌, Bool, true, false, not, cond, List, [], ◌∷◌, ◌++◌, length, Option, Some, None, refl, sym, ap, ◌∙◌, arith, append_assoc, length-append, nat_eq, eq-eqb, ne_eqb}
+use Rattle.std.proofs.Common.{◌≡◌, ℕ, suc, ◌+◌, ◌≤◌, max, ◌==◌, Bool, true, false, not, cond, List, [], ◌∷◌, ◌++◌, length, Option, Some, None, refl, sym, ap, ◌∙◌, arith, append_assoc, length-append}
 use Rattle.std.specs.List.{sum_by}
 use Rattle.std.proofs.lemmas.List.Sums.{count_by-le-length, sum_by-append}
 use Rattle.std.proofs.Math.Nat.{le-max_left, le-max_right, max-eq_right, max-le}
@@ -15,8 +15,6 @@ use Rattle.rv_hardware.specs.declared.report.StallCounts.{StallCounts}
 use Rattle.rv_hardware.specs.declared.step.Step.{Step}
 use Rattle.rv_core.specs.Progress.{IsBounded, progress_after, progress_of, silence_after, silence_from}
 use Rattle.rv_core.specs.RunDone.{IsRun}
-use Rattle.rv_core.specs.Told.{report_with}
-use Rattle.rv_core.specs.declared.outcome.CycleEnd.{CycleEnd}
 use Rattle.rv_core.specs.declared.outcome.Progress.{Progress}
 
 -- ---- each count, with one more report at the end
@@ -69,9 +67,8 @@ busy_of-push rs r =
       last : (x : Report) → sum_by (λ (y : Report). cond (not (y.dispatched == 0)) 1 0) (x ∷ []) ≡ cond (not (x.dispatched == 0)) 1 0 + 0
       last x = omega arith
 
-progress_of-push : (rs : List Report) (done : List Step) (end : CycleEnd) → progress_of (rs ++ report_with done end ∷ []) ≡ progress_after (is_silent done) end (progress_of rs)
-progress_of-push rs done end =
-    let r : Report = report_with done end in
+progress_of-push : (rs : List Report) (r : Report) → progress_of (rs ++ r ∷ []) ≡ progress_after r (progress_of rs)
+progress_of-push rs r =
     let count : length (rs ++ r ∷ []) ≡ length rs + 1 = omega (arith, length-append rs (r ∷ [])) in
     λ j. record {
       stalls = stalls_from-push (stalls_of []) rs r j;
@@ -156,39 +153,33 @@ module _ (arrivals : List Arrival) where
   pub begins : (h : Hardware) (progress : Progress) (steps : List Step) → progress ≡ progress_of [] → steps ≡ [] → IsUnderWay h h progress steps
   begins h progress steps counts none = record { reports = []; goes = ended; none_stops = tt; counted = counts; listed = none }
 
-  module _ (old now new : Hardware) (progress : Progress) (steps steps' done : List Step) (end : CycleEnd) (way : IsUnderWay old now progress steps)
-      (cycle : IsCycle any_prediction (lines_at arrivals now.cycle) now (report_with done end) new) (more : steps' ≡ steps ++ done) where
+  module _ (old now new : Hardware) (progress : Progress) (steps : List Step) (report : Report) (way : IsUnderWay old now progress steps)
+      (cycle : IsCycle any_prediction (lines_at arrivals now.cycle) now report new) where
     abbrev pub reports_now : List Report
-    reports_now = way.reports ++ report_with done end ∷ []
+    reports_now = way.reports ++ report ∷ []
 
     pub goes_now : Cycles arrivals old reports_now new
     goes_now = Cycles-push way.goes cycle
 
-    pub counted_now : progress_after (is_silent done) end progress ≡ progress_of reports_now
-    counted_now = ap (progress_after (is_silent done) end) way.counted ∙ sym (progress_of-push way.reports done end)
+    pub counted_now : progress_after report progress ≡ progress_of reports_now
+    counted_now = ap (progress_after report) way.counted ∙ sym (progress_of-push way.reports report)
 
-    pub listed_now : steps' ≡ steps_of reports_now
-    listed_now = more ∙ ap (λ l. l ++ done) way.listed ∙ sym (steps_of-push way.reports (report_with done end))
+    pub listed_now : steps ++ report.steps ≡ steps_of reports_now
+    listed_now = ap (λ l. l ++ report.steps) way.listed ∙ sym (steps_of-push way.reports report)
 
-    pub goes_on : end.stop ≡ None → IsUnderWay old new (progress_after (is_silent done) end progress) steps'
+    pub goes_on : report.stop ≡ None → IsUnderWay old new (progress_after report progress) (steps ++ report.steps)
     goes_on none = record {
       reports = reports_now;
       goes = goes_now;
-      none_stops = NoneStops-push way.reports (report_with done end) way.none_stops none;
+      none_stops = NoneStops-push way.reports report way.none_stops none;
       counted = counted_now;
       listed = listed_now;
     }
 
-    -- a cycle is silent where the list of steps stays as long
-    pub silent_is : (a b : ℕ) → a ≡ length steps' → b ≡ length steps → nat_eq a b ≡ is_silent done
-    silent_is a b after before = by_done done (after ∙ ap length more ∙ length-append steps done) where
-      by_done : (xs : List Step) → a ≡ length steps + length xs → nat_eq a b ≡ is_silent xs
-      by_done [] is = eq-eqb a b (omega (arith, is, before))
-      by_done (x ∷ xs) is = ne_eqb a b (λ same. omega (arith, is, before, same))
-
     -- what is told of a run that this cycle ends
-    pub told_now : (progress' : Progress) → progress' ≡ progress_after (is_silent done) end progress → IsRun arrivals old new reports_now steps' progress'.stalls progress'.busy progress'.cycles progress'.longest_gap
-    told_now progress' is = told_of old new reports_now progress' steps' goes_now (is ∙ counted_now) listed_now
+    pub told_now : (progress' : Progress) (steps' : List Step) → progress' ≡ progress_after report progress → steps' ≡ steps ++ report.steps
+        → IsRun arrivals old new reports_now steps' progress'.stalls progress'.busy progress'.cycles progress'.longest_gap
+    told_now progress' steps' counted more = told_of old new reports_now progress' steps' goes_now (counted ∙ counted_now) (more ∙ listed_now)
 
   module _ (old now : Hardware) (progress : Progress) (steps : List Step) (way : IsUnderWay old now progress steps) where
     -- what is told of a run under way

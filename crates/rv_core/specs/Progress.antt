@@ -1,8 +1,14 @@
 -- The counts of a run after some cycles.
-use Rattle.std.specs.Prelude.{ℕ, ◌+◌, ◌≤◌, max, ◌==◌, Bool, if◌then◌else◌, List, [], ◌∷◌, length}
+use Rattle.std.specs.Prelude.{◌≡◌, ℕ, ◌+◌, ◌≤◌, max, ◌==◌, Bool, if◌then◌else◌, List, [], ◌∷◌, ◌++◌, length, Option}
+use Rattle.rv_isa.specs.Arrivals.{lines_at}
+use Rattle.rv_isa.specs.declared.lines.Arrival.{Arrival}
+use Rattle.rv_arch.specs.declared.outcome.Stop.{Stop}
+use Rattle.rv_hardware.specs.Cycle.{IsCycle, any_prediction}
+use Rattle.rv_hardware.specs.Hardware.{Hardware}
 use Rattle.rv_hardware.specs.Report.{Report}
 use Rattle.rv_hardware.specs.Run.{busy_of, counted_stall, is_silent, longest_gap_of, stalls_of}
-use Rattle.rv_core.specs.declared.outcome.CycleEnd.{CycleEnd}
+use Rattle.rv_hardware.specs.declared.step.Step.{Step}
+use Rattle.rv_core.specs.Told.{IsCommitStop}
 use Rattle.rv_core.specs.declared.outcome.Progress.{Progress}
 
 -- the cycles since the last step, with one more
@@ -24,15 +30,25 @@ progress_of reports = record {
   longest_gap = longest_gap_of reports;
 }
 
--- the counts with one more cycle, by whether it was silent
-abbrev pub progress_after : Bool → CycleEnd → Progress → Progress
-progress_after silent end progress = record {
-  stalls = counted_stall end.stall progress.stalls;
-  busy = if end.dispatched == 0 then progress.busy else progress.busy + 1;
+-- the counts with one more cycle
+abbrev pub progress_after : Report → Progress → Progress
+progress_after report progress = record {
+  stalls = counted_stall report.stall progress.stalls;
+  busy = if report.dispatched == 0 then progress.busy else progress.busy + 1;
   cycles = progress.cycles + 1;
-  silent = silence_after silent progress.silent;
-  longest_gap = max progress.longest_gap (silence_after silent progress.silent);
+  silent = silence_after (is_silent report.steps) progress.silent;
+  longest_gap = max progress.longest_gap (silence_after (is_silent report.steps) progress.silent);
 }
+
+-- one more cycle of a run, with the lines of its number: its steps stand behind those before, and it is counted
+pub record IsNextCycle (arrivals : List Arrival) (old new : Hardware) (steps steps' : List Step) (progress progress' : Progress) (stop : Option Stop) : Type 0 where
+  pub report : Report
+  pub cycle : IsCycle any_prediction (lines_at arrivals old.cycle) old report new
+  pub few : length report.steps ≤ 8
+  pub steps_are : steps' ≡ steps ++ report.steps
+  pub counted : progress' ≡ progress_after report progress
+  pub stop_is : report.stop ≡ stop
+  pub reason : IsCommitStop stop
 
 -- no count is above that of the cycles
 pub record IsBounded (progress : Progress) : Type 0 where

@@ -1,11 +1,12 @@
-ghost use Rattle.std.specs.Prelude.{◌≡◌, ◌<◌, IfErr, IfOk, MatchResult};
+ghost use Rattle.std.specs.Prelude.{◌≡◌, ◌+◌, ◌^◌, ◌<◌, ◌≤◌, vec_len, vec_capacity, IfErr, IfOk, MatchResult};
 ghost use Rattle.rv_isa.specs.Description.{gap_bound_of};
 ghost use Rattle.rv_hardware.specs.Headline.{IsTrueRun, IsTrueStop};
 ghost use Rattle.rv_hardware.specs.Laws.{AreCounted, Laws, TakesDueInterrupts};
 ghost use Rattle.rv_hardware.specs.LongestGap.{IsLongestGap};
 ghost use Rattle.rv_hardware.specs.Seen.{layout_of, seen};
-ghost use Rattle.rv_core.specs.Progress.{IsBounded, progress_after};
+ghost use Rattle.rv_core.specs.Progress.{IsBounded, IsNextCycle, progress_after};
 ghost use Rattle.rv_core.specs.RunDone.{IsCutShort, IsOutcome};
+ghost use Rattle.rv_core.specs.Told.{report_with};
 ghost use Rattle.rv_hardware.specs.Report.{counted};
 
 use crate::errors::OutOfMemory;
@@ -66,10 +67,7 @@ fn run_cycles(
         if steps.reserve(8).is_err() {
             return Err(progress.out_of_memory(steps));
         }
-        let before = steps.len();
-        let end = core.advance(arrivals.at(core.cycles_done()), &mut steps);
-        progress.count(steps.len() == before, &end);
-        if let Some(stop) = end.stop {
+        if let Some(stop) = progress.run_cycle(core, arrivals, &mut steps) {
             return Ok(progress.outcome(steps, stop));
         }
     }
@@ -95,11 +93,32 @@ fn count_stall(stalls: &mut StallCounts, stall: Stall)
 }
 
 impl Progress {
-    // Counts one more cycle.
-    fn count(&mut self, is_silent: bool, end: &CycleEnd)
+    /// Does one more cycle of a run, with the lines of its number, appends its steps to a list that has room for eight, and
+    /// counts it. Takes no memory. Tells why the run stops with this cycle, if it does.
+    pub fn run_cycle(
+        &mut self,
+        core: &mut Core,
+        arrivals: &Arrivals,
+        steps: &mut Vec<Step>,
+    ) -> Option<Stop>
+        requires exhausted { core.old.cycle < 2 ^ 40 }
+        requires room { vec_len steps.old + 8 ≤ vec_capacity steps.old }
         requires bounded { IsBounded self.old }
-        requires room { self.old.cycles < 18446744073709551615 }
-        ensures { self.new ≡ progress_after is_silent end.now self.old }
+        requires countable { self.old.cycles < 18446744073709551615 }
+        ensures cycle { IsNextCycle arrivals.now core.old core.new steps.old.items steps.new.items self.old self.new result }
+        ensures capacity { vec_capacity steps.new ≡ vec_capacity steps.old }
+    {
+        let before = steps.len();
+        let end = core.advance(arrivals.at(core.cycles_done()), steps);
+        self.count(&steps.as_slice()[before..], &end);
+        end.stop
+    }
+
+    // Counts one more cycle, which had these steps.
+    fn count(&mut self, steps: &[Step], end: &CycleEnd)
+        requires bounded { IsBounded self.old }
+        requires countable { self.old.cycles < 18446744073709551615 }
+        ensures { self.new ≡ progress_after (report_with steps.now end.now) self.old }
     {
         self.cycles += 1;
         if end.dispatched > 0 {
@@ -108,7 +127,7 @@ impl Progress {
         if let Some(stall) = end.stall {
             count_stall(&mut self.stalls, stall);
         }
-        self.silent = if is_silent { self.silent + 1 } else { 0 };
+        self.silent = if steps.is_empty() { self.silent + 1 } else { 0 };
         self.longest_gap = self.longest_gap.max(self.silent);
     }
 

@@ -21,4 +21,4 @@ mod seen;
 pub use cycles::run;
 pub use errors::{NewError, OutOfMemory};
 pub use machine::Core;
-pub use outcome::{CycleReport, Outcome};
+pub use outcome::{CycleReport, Outcome, Progress};

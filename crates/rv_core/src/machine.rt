@@ -123,13 +123,14 @@ impl Core {
         requires cycles { self.old.cycle < 2 ^ 40 }
         requires room { vec_len steps.old + 8 ≤ vec_capacity steps.old }
         ensures stop { IsCommitStop result.stop }
-        ensures cycle { (done : List StepOf) × (steps.new.items ≡ steps.old.items ++ done) × IsCycle any_prediction lines self.old (report_with done result) self.new }
+        ensures cycle { (done : List StepOf) × (steps.new.items ≡ steps.old.items ++ done) × (length done ≤ 8) × IsCycle any_prediction lines self.old (report_with done result) self.new }
+        ensures capacity { vec_capacity steps.new ≡ vec_capacity steps.old }
     {
         self.parts.advance(lines, &mut *self.predictor, steps)
     }
 
     /// Whether the core has done all the cycles that it counts.
-    pub(crate) fn is_exhausted(&self) -> bool
+    pub fn is_exhausted(&self) -> bool
         ensures exhausted { result ≡ nat_le (2 ^ 40) self.now.cycle }
         ensures within { self.now.cycle ≤ 2 ^ 40 }
     {

@@ -42,11 +42,15 @@ pub struct Outcome {
 
 /// The counts of a run so far.
 #[derive(Clone, Copy, Debug, Default, PartialEq, Eq)]
-pub(crate) struct Progress {
-    pub(crate) stalls: StallCounts,
-    pub(crate) busy: u64,
-    pub(crate) cycles: u64,
-    // The cycles since the last step, and the most that there were.
-    pub(crate) silent: u64,
-    pub(crate) longest_gap: u64,
+pub struct Progress {
+    /// The cycles that dispatched nothing, by the reason.
+    pub stalls: StallCounts,
+    /// The cycles that dispatched something.
+    pub busy: u64,
+    /// The cycles done.
+    pub cycles: u64,
+    /// The cycles since the last step.
+    pub silent: u64,
+    /// The greatest number of consecutive cycles without a step.
+    pub longest_gap: u64,
 }

@@ -4,3 +4,4 @@ pub mod ReferenceReport
 pub mod Rows
 pub mod Totals
 pub mod RunReport
+pub mod LiveReport

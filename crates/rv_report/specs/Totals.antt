@@ -1,6 +1,10 @@
 -- What a run came to.
-use Rattle.std.specs.Prelude.{Bool, true, false, List, ◌++◌, codes, count_by, ℕ}
+use Rattle.std.specs.Prelude.{Bool, true, false, List, ◌++◌, codes, count_by, length, ℕ, ◌+◌, ◌^◌, ◌<◌}
+use Rattle.rv_arch.specs.declared.outcome.Stop.{Stop}
 use Rattle.rv_core.specs.declared.outcome.Outcome.{Outcome}
+use Rattle.rv_core.specs.declared.outcome.Progress.{Progress}
+use Rattle.rv_hardware.specs.Report.{Report}
+use Rattle.rv_hardware.specs.Run.{busy_of, longest_gap_of, stalls_of, steps_of}
 use Rattle.rv_hardware.specs.declared.report.StallCounts.{StallCounts}
 use Rattle.rv_hardware.specs.declared.step.Step.{Step}
 use Rattle.rv_hardware.specs.declared.step.Step.TheVariants.{Retired, Trap, Interrupt}
@@ -26,6 +30,42 @@ counts_of steps = record {
   retired = count_by is_retired steps;
   traps = count_by is_trap steps;
   interrupts = count_by is_interrupt steps;
+}
+
+-- the counts of some steps and of others
+abbrev pub both_counts : StepCounts → StepCounts → StepCounts
+both_counts some others = record {
+  retired = some.retired + others.retired;
+  traps = some.traps + others.traps;
+  interrupts = some.interrupts + others.interrupts;
+}
+
+-- no count of so many steps more comes to 2^64
+pub record HasRoom (counts : StepCounts) (more : ℕ) : Type 0 where
+  pub retired : counts.retired + more < 2 ^ 64
+  pub traps : counts.traps + more < 2 ^ 64
+  pub interrupts : counts.interrupts + more < 2 ^ 64
+
+-- what a run comes to, by the counts of its cycles and of its steps
+abbrev pub totals_with : Progress → StepCounts → Stop → Totals
+totals_with progress steps stop = record {
+  stop = stop;
+  cycles = progress.cycles;
+  steps = steps;
+  longest_gap = progress.longest_gap;
+  busy = progress.busy;
+  stalls = progress.stalls;
+}
+
+-- what some cycles come to
+abbrev pub totals_at : List Report → Stop → Totals
+totals_at reports stop = record {
+  stop = stop;
+  cycles = length reports;
+  steps = counts_of (steps_of reports);
+  longest_gap = longest_gap_of reports;
+  busy = busy_of reports;
+  stalls = stalls_of reports;
 }
 
 -- what an outcome of the core comes to

@@ -1,8 +1,8 @@
-ghost use Rattle.std.specs.Prelude.{◌≡◌, ℕ, ◌+◌, ◌<◌, ◌^◌, if◌then◌else◌};
-ghost use Rattle.rv_report.specs.Totals.{is_retired, is_trap, is_interrupt, counts_of, totals_of};
+ghost use Rattle.std.specs.Prelude.{◌≡◌, ℕ, ◌+◌, ◌<◌, ◌^◌, if◌then◌else◌, length};
+ghost use Rattle.rv_report.specs.Totals.{HasRoom, is_retired, is_trap, is_interrupt, both_counts, counts_of, totals_of, totals_with};
 
 use rv_arch::Stop;
-use rv_core::Outcome;
+use rv_core::{Outcome, Progress};
 use rv_hardware::{StallCounts, Step};
 
 /// How many steps there were of each sort.
@@ -29,6 +29,17 @@ impl StepCounts {
             Step::Trap { .. } => self.traps += 1,
             Step::Interrupt { .. } => self.interrupts += 1,
         }
+    }
+
+    /// Counts more steps.
+    pub(crate) fn count_all(&mut self, steps: &[Step])
+        requires room { HasRoom self.old (length steps.now) }
+        ensures { self.new ≡ both_counts self.old (counts_of steps.now) }
+    {
+        let more = count_steps(steps);
+        self.retired += more.retired;
+        self.traps += more.traps;
+        self.interrupts += more.interrupts;
     }
 }
 
@@ -61,6 +72,20 @@ pub struct Totals {
 }
 
 impl Totals {
+    /// What the counts of a run's cycles and steps come to.
+    pub(crate) fn new(progress: &Progress, steps: StepCounts, stop: Stop) -> Totals
+        ensures { result ≡ totals_with progress.now steps stop }
+    {
+        Totals {
+            stop,
+            cycles: progress.cycles,
+            steps,
+            longest_gap: progress.longest_gap,
+            busy: progress.busy,
+            stalls: progress.stalls,
+        }
+    }
+
     /// What an outcome comes to.
     pub fn of(outcome: &Outcome) -> Totals
         ensures { result ≡ totals_of outcome.now }

@@ -1,13 +1,11 @@
 -- What cycles from reset came to is what the report of a simulation says.
-use Rattle.std.proofs.Common.{◌≡◌, List, length, refl, sym, subst, ap, ◌∙◌, arith}
+use Rattle.std.proofs.Common.{◌≡◌, ℕ, List, length, refl, sym, subst, ap, ◌∙◌, arith}
 use Rattle.rv_isa.specs.Arrivals.{lines_at}
 use Rattle.rv_isa.specs.Description.{IsLegal}
 use Rattle.rv_isa.specs.declared.lines.Arrival.{Arrival}
 use Rattle.rv_isa.specs.declared.lines.Lines.{Lines}
 use Rattle.rv_arch.specs.Reset.{reset}
 use Rattle.rv_arch.specs.declared.outcome.Stop.{Stop}
-use Rattle.rv_core.specs.RunDone.{IsOutcome}
-use Rattle.rv_core.specs.declared.outcome.Outcome.{Outcome}
 use Rattle.rv_hardware.specs.Hardware.{Hardware}
 use Rattle.rv_hardware.specs.Headline.{IsTrueRun, IsTrueStop}
 use Rattle.rv_hardware.specs.Laws.{AreCounted, Laws, TakesDueInterrupts}
@@ -26,10 +24,11 @@ use Rattle.rv_hardware.proofs.LawsBusy.{counts_hold}
 use Rattle.rv_hardware.proofs.LawsDue.{due_interrupts_of_runs}
 use Rattle.rv_hardware.proofs.LawsOfRuns.{laws_of_runs}
 use Rattle.rv_hardware.proofs.LongestGap.{longest_gap_of_run}
-use Rattle.rv_report.specs.RunReport.{run_report, report_of}
-use Rattle.rv_report.specs.Totals.{counts_of}
+use Rattle.rv_report.specs.LiveReport.{IsRunReport}
+use Rattle.rv_report.specs.RunReport.{run_report}
+use Rattle.rv_report.specs.Totals.{totals_at}
 use Rattle.rv_report.specs.declared.options.Options.{Options}
-use Rattle.rv_sim.specs.CoreReport.{IsSimulation, hardware_of, text_of, totals_at}
+use Rattle.rv_sim.specs.CoreReport.{IsSimulation, hardware_of, text_of}
 use Rattle.rv_sim.specs.ReferenceReport.{layout_of, shown}
 use Rattle.rv_sim.specs.SimulationReport.{IsSimulationReport, lines_after}
 use Rattle.rv_job.specs.declared.job.Job.{Job}
@@ -74,22 +73,14 @@ values_kept {arrivals} sound (cycled {old = old} {middle = middle} {report = rep
     values_kept goes.sound rest ∙ goes.values_are
 
 -- the report of a run of the core
-pub run_simulated : (job : Job) (options asked : Options) (old new : Hardware) (outcome : Outcome)
+pub run_simulated : (job : Job) (options asked : Options) (old : Hardware) (stop : Stop) (text : List ℕ)
     → IsLegal job.description → IsLoadable job.description job.image.base job.image.bytes job.image.start → old ≡ hardware_of job
-    → asked ≡ shown job.description.report options → IsOutcome job.arrivals asked.limit old new outcome → IsSimulation job options outcome.stop (report_of outcome new asked)
-run_simulated job options asked old new outcome legal loadable old_is asked_is ended_so =
-    let (reports, run, stopped) = ended_so in
-    let cycles = subst (λ (h : Hardware). Cycles job.arrivals h reports new) old_is run.cycled in
-    let stops = subst (λ (o : Options). IsStop o.limit reports new outcome.stop) asked_is stopped in
+    → asked ≡ shown job.description.report options → IsRunReport job.arrivals asked old stop text → IsSimulation job options stop text
+run_simulated job options asked old stop text legal loadable old_is asked_is run =
+    let cycles = subst (λ (h : Hardware). Cycles job.arrivals h run.reports run.new) old_is run.cycles in
+    let stops = subst (λ (o : Options). IsStop o.limit run.reports run.new stop) asked_is run.stops in
     let values = values_kept (always_sound (at_reset legal loadable)) cycles in
-    let text_is : text_of job options outcome.stop reports new ≡ report_of outcome new asked =
-    λ i. run_report (sym run.steps_are i) (record {
-      stop = outcome.stop;
-      cycles = sym run.cycles_are i;
-      steps = counts_of (sym run.steps_are i);
-      longest_gap = sym run.longest_gap_is i;
-      busy = sym run.busy_is i;
-      stalls = sym run.stalls_are i;
-    }) (layout_of (sym values i)) (seen new) new.lines (sym asked_is i)
+    let text_is : text_of job options stop run.reports run.new ≡ text =
+    (λ i. run_report (steps_of run.reports) (totals_at run.reports stop) (layout_of (sym values i)) (seen run.new) run.new.lines (sym asked_is i)) ∙ sym run.text_is
     in
-    subst (IsSimulation job options outcome.stop) text_is (simulated job options outcome.stop reports new legal loadable cycles stops)
+    subst (IsSimulation job options stop) text_is (simulated job options stop run.reports run.new legal loadable cycles stops)

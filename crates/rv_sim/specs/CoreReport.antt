@@ -1,29 +1,17 @@
 -- What the report of a simulation says in the words of the hardware's definition, which has every cycle of it.
-use Rattle.std.specs.Prelude.{◌≡◌, ℕ, List, length}
+use Rattle.std.specs.Prelude.{◌≡◌, ℕ, List}
 use Rattle.rv_arch.specs.declared.outcome.Stop.{Stop}
 use Rattle.rv_hardware.specs.Hardware.{Hardware}
 use Rattle.rv_hardware.specs.Report.{Report}
 use Rattle.rv_hardware.specs.Reset.{reset_hardware}
-use Rattle.rv_hardware.specs.Run.{Cycles, IsStop, busy_of, longest_gap_of, stalls_of, steps_of}
+use Rattle.rv_hardware.specs.Run.{Cycles, IsStop, steps_of}
 use Rattle.rv_hardware.specs.Seen.{seen}
 use Rattle.rv_report.specs.RunReport.{run_report}
-use Rattle.rv_report.specs.Totals.{counts_of}
+use Rattle.rv_report.specs.Totals.{totals_at}
 use Rattle.rv_report.specs.declared.options.Options.{Options}
-use Rattle.rv_report.specs.declared.totals.Totals.{Totals}
 use Rattle.rv_sim.specs.ReferenceReport.{layout_of, shown}
 use Rattle.rv_sim.specs.SimulationReport.{IsSimulationReport}
 use Rattle.rv_job.specs.declared.job.Job.{Job}
-
--- what some cycles came to
-abbrev pub totals_at : List Report → Stop → Totals
-totals_at reports stop = record {
-  stop = stop;
-  cycles = length reports;
-  steps = counts_of (steps_of reports);
-  longest_gap = longest_gap_of reports;
-  busy = busy_of reports;
-  stalls = stalls_of reports;
-}
 
 -- the hardware at reset with the image of a job
 abbrev pub hardware_of : Job → Hardware

@@ -6,15 +6,16 @@ ghost use Rattle.rv_text.specs.Written.{AppendsBeginning};
 use crate::boxed_predictor::BoxedPredictor;
 use crate::reference::with_dump;
 use rv_arch::Stop;
-use rv_core::{Core, run};
+use rv_core::Core;
 use rv_job::{Job, SimError};
-use rv_report::{Options, write_report};
+use rv_report::{Options, write_run};
 use std::alloc::Global;
 use std::io::Write;
 
 /// Simulates a job on the core that it describes, with the job's arrivals at the numbers of the
 /// cycles, up to a breakpoint, a stale word or the options' limit of cycles, and writes the report of
-/// the run, with the dump that the job's description asks for. Answers why the run ended.
+/// the run, with the dump that the job's description asks for: the rows of a trace as the cycles come, and the rest at the
+/// end. Asks for no memory once it has written. Answers why the run ended.
 ///
 /// Fails by `Memory`, and has written nothing then, or by `WriteFailed`, and has written a beginning
 /// of the report.
@@ -36,12 +37,9 @@ pub fn simulate<W: Write>(
 {
     let options = with_dump(&job.description.values().report, options);
     // The image of a job fits, so that memory alone can be wanting.
-    let Ok(mut core) = Core::new(alloc, &job.description, &job.image, predictor.predictor) else {
+    let Ok(core) = Core::new(alloc, &job.description, &job.image, predictor.predictor) else {
         return Err(SimError::Memory);
     };
-    let Ok(outcome) = run(alloc, &mut core, &job.arrivals, options.limit) else {
-        return Err(SimError::Memory);
-    };
-    write_report(&outcome, &core, &options, writer)?;
-    Ok(outcome.stop)
+    let steps = Vec::with_capacity(alloc, 8)?;
+    Ok(write_run(core, &job.arrivals, &options, steps, writer)?)
 }

@@ -1,18 +1,15 @@
-use Rattle.std.proofs.Common.{◌≡◌, ◌+◌, [], ◌++◌, sym, ap, ◌∙◌, subst, length, arith}
+use Rattle.std.proofs.Common.{◌≡◌, ◌+◌, [], ◌++◌, sym, ap, ◌∙◌, subst, arith}
 use Rattle.std.proofs.lemmas.Bool.{leb-true}
-use Rattle.rv_isa.specs.Arrivals.{lines_at}
-use Rattle.rv_hardware.specs.Cycle.{IsCycle, any_prediction}
-use Rattle.rv_hardware.specs.Run.{is_silent}
 use Rattle.rv_core.specs.Progress.{IsBounded, progress_after, progress_of}
 use Rattle.rv_core.specs.RunDone.{IsCutShort, IsOutcome}
-use Rattle.rv_core.specs.Told.{IsCommitStop, report_with}
+use Rattle.rv_core.specs.Told.{IsCommitStop}
 use Rattle.rv_core.specs.declared.errors.OutOfMemory.{OutOfMemory}
 use Rattle.rv_core.specs.declared.outcome.Outcome.{Outcome}
 use Rattle.rv_core.specs.declared.outcome.Progress.{Progress}
-use Rattle.rv_core.proofs.RunReports.{IsUnderWay, begins, goes_on, progress-bounded, reports_now, silent_is, so_many, told, told_now}
+use Rattle.rv_core.proofs.RunReports.{IsUnderWay, begins, goes_on, progress-bounded, reports_now, so_many, told, told_now}
 use Rattle.rv_core.proofs.RunStops.{is_stop}
 use Rattle.rv_core.proofs.cycles.run_cycles.Goals as goal
-use Rattle.rv_core.proofs.cycles.run_cycles.Goals.{After-count}
+use Rattle.rv_core.proofs.cycles.run_cycles.Goals.{After-run_cycle}
 use Rattle.rv_core.proofs.cycles.run_cycles.Given.{Over}
 
 pub loop-init : goal.loop-init
@@ -44,56 +41,40 @@ returns-then-is_err g c =
     subst (λ (o : OutOfMemory). IsCutShort c.args.arrivals.now c.args.limit c.args.core.now c.loop.core o) (sym c.out_of_memory.ensures)
     (way.reports, told c.args.arrivals.now c.args.core.now c.loop.core c.loop.progress c.reserve.new.self.items way, way.none_stops, omega (arith, count, c.loop-test.true))
 
-pub count-requires-clause-bounded : goal.count-requires-clause-bounded
-count-requires-clause-bounded g c =
+pub run_cycle-requires-clause-bounded : goal.run_cycle-requires-clause-bounded
+run_cycle-requires-clause-bounded g c =
     subst IsBounded (sym c.loop.invariant.0.counted) (progress-bounded c.loop.invariant.0.reports)
 
-pub count-requires-clause-room : goal.count-requires-clause-room
-count-requires-clause-room g c = omega (arith, c.loop.invariant.1, c.loop-test.true, c.ranges.limit)
+pub run_cycle-requires-clause-countable : goal.run_cycle-requires-clause-countable
+run_cycle-requires-clause-countable g c = omega (arith, c.loop.invariant.1, c.loop-test.true, c.ranges.limit)
 
--- one more cycle, its steps behind those before, and the counts with it
-cycle : (g : Over) (c : After-count g) → IsCycle any_prediction (lines_at c.args.arrivals.now c.loop.core.cycle) c.loop.core (report_with c.advance-end.ensures.cycle.0 c.advance-end.result) c.advance-end.new.self
-cycle g c =
-    subst (λ l. IsCycle any_prediction l c.loop.core (report_with c.advance-end.ensures.cycle.0 c.advance-end.result) c.advance-end.new.self)
-    (c.at.ensures ∙ ap (lines_at c.args.arrivals.now) c.cycles_done.ensures.number) c.advance-end.ensures.cycle.2
-
-more : (g : Over) (c : After-count g) → c.advance-end.new.steps.items ≡ c.loop.steps.items ++ c.advance-end.ensures.cycle.0
-more g c = c.advance-end.ensures.cycle.1 ∙ ap (λ l. l ++ c.advance-end.ensures.cycle.0) c.reserve.ensures.items
-
-counts : (g : Over) (c : After-count g) → c.count.new.self ≡ progress_after (is_silent c.advance-end.ensures.cycle.0) c.advance-end.result c.loop.progress
-counts g c =
-    c.count.ensures
-    ∙ ap (λ b. progress_after b c.advance-end.result c.loop.progress)
-    (silent_is c.args.arrivals.now c.args.core.now c.loop.core c.advance-end.new.self c.loop.progress c.loop.steps.items c.advance-end.new.steps.items c.advance-end.ensures.cycle.0
-    c.advance-end.result c.loop.invariant.0 (cycle g c) (more g c) c.len.result c.len-before.result
-    (omega (arith, c.len.ensures, c.advance-end.new.steps.ok.0)) (omega (arith, c.len-before.ensures, c.reserve.new.self.ok.0, ap length c.reserve.ensures.items)))
+-- one more cycle, its steps behind those before
+more : (g : Over) (c : After-run_cycle g) → c.run_cycle.new.steps.items ≡ c.loop.steps.items ++ c.run_cycle.ensures.cycle.report.steps
+more g c = c.run_cycle.ensures.cycle.steps_are ∙ ap (λ l. l ++ c.run_cycle.ensures.cycle.report.steps) c.reserve.ensures.items
 
 pub returns-in-Some : goal.returns-in-Some
 returns-in-Some g c =
     let arrivals = c.args.arrivals.now in
-    let steps = c.advance-end.new.steps.items in
-    let done = c.advance-end.ensures.cycle.0 in
-    let end = c.advance-end.result in
-    let new = c.advance-end.new.self in
+    let new = c.run_cycle.new.core in
     let way = c.loop.invariant.0 in
-    let at = (goal.at.returns-in-Some g c).After-count in
+    let next = c.run_cycle.ensures.cycle in
+    let at = (goal.at.returns-in-Some g c).After-run_cycle in
     let count = so_many arrivals c.args.core.now c.loop.core c.loop.progress c.loop.steps.items way c.loop.counter c.loop.invariant.1 in
-    let own = subst IsCommitStop c.in-Some.is c.advance-end.ensures.stop in
     subst (λ (o : Outcome). IsOutcome arrivals c.args.limit c.args.core.now new o) (sym c.outcome-in-Some.ensures) (
-      reports_now arrivals c.args.core.now c.loop.core new c.loop.progress c.loop.steps.items steps done end way (cycle g at) (more g at),
-      told_now arrivals c.args.core.now c.loop.core new c.loop.progress c.loop.steps.items steps done end way (cycle g at) (more g at) c.count.new.self (counts g at),
-      is_stop c.args.limit way.reports (report_with done end) new c.in-Some.stop way.none_stops c.in-Some.is own (omega (arith, count, c.loop-test.true)),
+      reports_now arrivals c.args.core.now c.loop.core new c.loop.progress c.loop.steps.items next.report way next.cycle,
+      told_now arrivals c.args.core.now c.loop.core new c.loop.progress c.loop.steps.items next.report way next.cycle c.run_cycle.new.self c.run_cycle.new.steps.items next.counted (more g at),
+      is_stop c.args.limit way.reports next.report new c.in-Some.stop way.none_stops (next.stop_is ∙ c.in-Some.is) (subst IsCommitStop c.in-Some.is next.reason) (omega (arith, count, c.loop-test.true)),
     )
 
 pub loop-preserved : goal.loop-preserved
 loop-preserved g c =
-    let steps = c.advance-end.new.steps.items in
-    let new = c.advance-end.new.self in
-    let at = (goal.at.loop-preserved g c).After-count in (
-      subst (λ (p : Progress). IsUnderWay c.args.arrivals.now c.args.core.now new p steps) (sym (counts g at))
-          (goes_on c.args.arrivals.now c.args.core.now c.loop.core new c.loop.progress c.loop.steps.items steps c.advance-end.ensures.cycle.0 c.advance-end.result c.loop.invariant.0
-          (cycle g at) (more g at) c.in_default.is),
-      ap (λ (p : Progress). p.cycles) c.count.ensures ∙ ap (λ n. n + 1) c.loop.invariant.1,
+    let new = c.run_cycle.new.core in
+    let next = c.run_cycle.ensures.cycle in
+    let at = (goal.at.loop-preserved g c).After-run_cycle in
+    let on = goes_on c.args.arrivals.now c.args.core.now c.loop.core new c.loop.progress c.loop.steps.items next.report c.loop.invariant.0 next.cycle (next.stop_is ∙ c.in_default.is) in (
+      subst (λ (p : Progress). IsUnderWay c.args.arrivals.now c.args.core.now new p c.run_cycle.new.steps.items) (sym next.counted)
+          (subst (λ l. IsUnderWay c.args.arrivals.now c.args.core.now new (progress_after next.report c.loop.progress) l) (sym (more g at)) on),
+      ap (λ (p : Progress). p.cycles) next.counted ∙ ap (λ n. n + 1) c.loop.invariant.1,
     )
 
 pub returns : goal.returns

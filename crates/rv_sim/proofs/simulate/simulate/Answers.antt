@@ -1,38 +1,32 @@
-use Rattle.std.proofs.Common.{◌≡◌, ◌∙◌, ap, ◌⊎◌, inr, refl, subst}
+use Rattle.std.proofs.Common.{◌≡◌, ◌∙◌, ap, ◌⊎◌, inl, inr, refl, subst}
 use Rattle.rv_isa.specs.Description.{IsLegal}
 use Rattle.rv_isa.specs.declared.values.Values.{Values}
-use Rattle.rv_report.specs.RunReport.{report_of}
 use Rattle.rv_sim.specs.ReferenceReport.{shown}
 use Rattle.rv_job.specs.declared.errors.SimError.TheVariants.{Memory, WriteFailed}
 use Rattle.rv_job.proofs.HandedOn.{refused_on}
 use Rattle.rv_sim.proofs.Simulated.{run_simulated}
 use Rattle.rv_sim.proofs.simulate.simulate.Goals as goal
 
-pub returns-in_err-write_report-clause-beginning : goal.returns-in_err-write_report-clause-beginning
-returns-in_err-write_report-clause-beginning g c failed =
-    let outcome = c.in-Ok-run.outcome in
-    let new = c.run.new.core in
+pub returns-in_err-steps-clause-errors : goal.returns-in_err-steps-clause-errors
+returns-in_err-steps-clause-errors g c =
+    refused_on (λ e. (e ≡ Memory) ⊎ (e ≡ WriteFailed)) _ _ c.from_residual.ensures.1 (inl refl)
+
+pub returns-in_err-write_run-clause-beginning : goal.returns-in_err-write_run-clause-beginning
+returns-in_err-write_run-clause-beginning g c failed =
     let described : c.values.result ≡ c.args.job.description = c.values.ensures.values in
     let asked = c.with_dump-options.ensures ∙ ap (λ (values : Values). shown values.report c.args.options.now) described in
-    let legal = subst IsLegal described c.values.ensures.legal in (
-      outcome.stop,
-      report_of outcome new c.with_dump-options.result,
-      run_simulated c.args.job c.args.options.now c.with_dump-options.result c.in-Ok.core new outcome legal c.in-Ok.ensures.fits c.in-Ok.ensures.made asked c.in-Ok-run.ensures.cycles,
-      c.in_err-write_report.ensures.beginning,
-    )
+    let legal = subst IsLegal described c.values.ensures.legal in
+    let (stop, text, run, written) = c.in_err-write_run.ensures.beginning in
+    (stop, text, run_simulated c.args.job c.args.options.now c.with_dump-options.result c.in-Ok.core stop text legal c.in-Ok.ensures.fits c.in-Ok.ensures.made asked run, written)
 
-pub returns-in_err-write_report-clause-errors : goal.returns-in_err-write_report-clause-errors
-returns-in_err-write_report-clause-errors g c =
-    refused_on (λ e. (e ≡ Memory) ⊎ (e ≡ WriteFailed)) _ _ c.from_residual.ensures.1 (inr refl)
+pub returns-in_err-write_run-clause-errors : goal.returns-in_err-write_run-clause-errors
+returns-in_err-write_run-clause-errors g c =
+    refused_on (λ e. (e ≡ Memory) ⊎ (e ≡ WriteFailed)) _ _ c.from_residual-in_err-write_run.ensures.1 (inr refl)
 
 pub returns-clause-report : goal.returns-clause-report
 returns-clause-report g c =
-    let outcome = c.in-Ok-run.outcome in
-    let new = c.run.new.core in
     let described : c.values.result ≡ c.args.job.description = c.values.ensures.values in
     let asked = c.with_dump-options.ensures ∙ ap (λ (values : Values). shown values.report c.args.options.now) described in
-    let legal = subst IsLegal described c.values.ensures.legal in (
-      report_of outcome new c.with_dump-options.result,
-      run_simulated c.args.job c.args.options.now c.with_dump-options.result c.in-Ok.core new outcome legal c.in-Ok.ensures.fits c.in-Ok.ensures.made asked c.in-Ok-run.ensures.cycles,
-      c.in_ok-write_report.ensures.whole,
-    )
+    let legal = subst IsLegal described c.values.ensures.legal in
+    let (text, run, written) = c.in_ok-write_run.ensures.whole in
+    (text, run_simulated c.args.job c.args.options.now c.with_dump-options.result c.in-Ok.core c.in_ok-write_run.field-0 text legal c.in-Ok.ensures.fits c.in-Ok.ensures.made asked run, written)

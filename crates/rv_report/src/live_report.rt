@@ -1,0 +1,119 @@
+ghost use Rattle.std.specs.Prelude.{◌≡◌, ◌≤◌, ℕ, List, [], ◌++◌, Option, Ok, length, vec_capacity, IfOk, OnErr};
+ghost use Rattle.std.specs.Io.KnownBytes.{Appends};
+ghost use Rattle.rv_report.specs.LiveReport.{IsRunReport, IsTraced, IsWritten};
+ghost use Rattle.rv_report.specs.RunReport.{trace_of};
+ghost use Rattle.rv_report.specs.Totals.{HasRoom, both_counts, counts_of, totals_with};
+ghost use Rattle.rv_text.specs.Written.{AppendsBeginning};
+
+use crate::options::Options;
+use crate::run_report::{write_totals, write_trace};
+use crate::totals::{StepCounts, Totals};
+use rv_arch::Stop;
+use rv_core::{Core, Progress};
+use rv_hardware::Step;
+use rv_isa::Arrivals;
+use rv_text::ReportError;
+use std::io::Write;
+
+// The steps of a run so far: how many there were of each sort, and whether their lines were written.
+#[derive(Clone, Copy, Debug)]
+struct Trace {
+    counts: StepCounts,
+    written: Result<(), ReportError>,
+}
+
+impl Trace {
+    fn new() -> Trace
+        ensures counts { result.counts ≡ counts_of [] }
+        ensures written { result.written ≡ Ok tt }
+    {
+        Trace {
+            counts: StepCounts::default(),
+            written: Ok(()),
+        }
+    }
+
+    // Counts more steps, and writes their lines where they are asked for, unless a write failed before.
+    fn add<W: Write>(&mut self, is_shown: bool, steps: &[Step], writer: &mut W)
+        requires room { HasRoom self.old.counts (length steps.now) }
+        ensures counted { self.new.counts ≡ both_counts self.old.counts (counts_of steps.now) }
+        ensures written { (before : Option (List ℕ)) (text : List ℕ) → IsWritten self.old.written before (W.contents writer.old) text → IsWritten self.new.written before (W.contents writer.new) (text ++ trace_of is_shown steps.now) }
+    {
+        self.counts.count_all(steps);
+        if self.written.is_ok() {
+            self.written = write_trace(writer, is_shown, steps);
+        }
+    }
+}
+
+// A core at the end of a run, what the run came to, and whether its trace was written.
+#[derive(Drop)]
+struct Traced {
+    core: Core,
+    totals: Totals,
+    written: Result<(), ReportError>,
+}
+
+/// Runs a core, each cycle with the lines of its number, up to a breakpoint, a stale word, exhaustion or the options' limit
+/// of cycles, and writes the report of the run: where a trace is asked for, the lines of a cycle's steps behind the cycle.
+/// `steps` is a list with room for the eight steps of a cycle. Asks for no memory. Answers why the run ended.
+///
+/// Fails by `WriteFailed` alone, and what was written is then a beginning of the report: the run is done to its end, but
+/// nothing more is written.
+pub fn write_run<W: Write>(
+    core: Core,
+    arrivals: &Arrivals,
+    options: &Options,
+    steps: Vec<Step>,
+    writer: &mut W,
+) -> Result<Stop, ReportError>
+    requires room { 8 ≤ vec_capacity steps }
+    ensures whole { IfOk result (λ stop. (text : List ℕ) × IsRunReport arrivals.now options.now core stop text × Appends (W.contents writer.old) (W.contents writer.new) text) }
+    ensures beginning { OnErr result ((stop : Stop) × (text : List ℕ) × IsRunReport arrivals.now options.now core stop text × AppendsBeginning (W.contents writer.old) (W.contents writer.new) text) }
+{
+    let run = run_traced(core, arrivals, options, steps, writer);
+    run.written?;
+    write_totals(&run.totals, &run.core, options, writer)?;
+    Ok(run.totals.stop)
+}
+
+// Runs a core to the end, and writes the trace, where it is asked for, as far as no write fails.
+fn run_traced<W: Write>(
+    core: Core,
+    arrivals: &Arrivals,
+    options: &Options,
+    steps: Vec<Step>,
+    writer: &mut W,
+) -> Traced
+    requires room { 8 ≤ vec_capacity steps }
+    ensures { IsTraced arrivals.now options.now core result.core result.totals result.written (W.contents writer.old) (W.contents writer.new) }
+{
+    let mut core = core;
+    let mut steps = steps;
+    let mut progress = Progress::default();
+    let mut trace = Trace::new();
+    for _ in 0..options.limit {
+        if core.is_exhausted() {
+            return finished(core, &progress, &trace, Stop::Exhausted);
+        }
+        steps.clear();
+        let stop = progress.run_cycle(&mut core, arrivals, &mut steps);
+        trace.add(options.trace, steps.as_slice(), writer);
+        if let Some(stop) = stop {
+            return finished(core, &progress, &trace, stop);
+        }
+    }
+    finished(core, &progress, &trace, Stop::Limit)
+}
+
+fn finished(core: Core, progress: &Progress, trace: &Trace, stop: Stop) -> Traced
+    ensures core { result.core ≡ core }
+    ensures totals { result.totals ≡ totals_with progress.now trace.now.counts stop }
+    ensures written { result.written ≡ trace.now.written }
+{
+    Traced {
+        core,
+        totals: Totals::new(progress, trace.counts, stop),
+        written: trace.written,
+    }
+}
