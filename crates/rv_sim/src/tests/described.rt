@@ -1,0 +1,45 @@
+use crate::command::Command;
+use crate::fault_lines::FaultLines;
+use crate::task::begin;
+use crate::tests::helpers::WHOLE;
+use rv_isa::{PredictorKind, PredictorValues};
+use std::alloc::Global;
+
+// The predictor that the task of a command on an input has.
+fn predictor(alloc: Global, command: Command, input: &[u8]) -> Option<PredictorValues> {
+    let mut errors = FaultLines::new(Vec::new(alloc));
+    let task = begin(alloc, &command, input, &mut errors).ok()?;
+    Some(task.predictor())
+}
+
+#[test]
+fn a_task_has_the_predictor_that_is_described(rt: HostRuntime) {
+    let cases = [
+        ("ebreak\n", PredictorKind::Bimodal, 64),
+        (
+            "predictor.entries = 7\n%%\nebreak\n",
+            PredictorKind::Bimodal,
+            7,
+        ),
+        (
+            "predictor.kind = \"not_taken\"\n%%\nebreak\n",
+            PredictorKind::NotTaken,
+            64,
+        ),
+        (
+            "predictor.kind = \"backward_taken\"\n%%\nebreak\n",
+            PredictorKind::BackwardTaken,
+            64,
+        ),
+    ];
+    for (text, kind, entries) in cases {
+        let described = Some(PredictorValues { kind, entries });
+        for command in [WHOLE, Command::Check] {
+            assert_eq!(rt;
+                predictor(rt.alloc(), command, text.as_bytes()),
+                described,
+                "{text}"
+            );
+        }
+    }
+}
