@@ -15,3 +15,4 @@ mod refusals;
 mod reports;
 mod simulations;
 mod usage;
+mod words;
