@@ -1,12 +1,15 @@
+mod checks;
 mod described;
 mod examples;
 mod guesses;
 mod helpers;
 mod hostile;
+mod outputs;
 mod predictors;
 mod prefixes;
+mod programs;
 mod reading;
+mod references;
 mod reports;
-mod runs;
 mod simulations;
-mod statuses;
+mod words;

@@ -1,5 +1,5 @@
-use crate::tests::helpers::{CORE, WHOLE, missing, run_text};
-use std::test::Fail;
+use crate::tests::checks::check_run;
+use crate::tests::helpers::{CORE, WHOLE};
 
 // The texts are those of the files in `examples/`, which a test cannot read.
 
@@ -142,7 +142,7 @@ handler:
 ";
 
 #[test]
-fn the_examples_end_with_what_their_comments_say(rt: HostRuntime) -> Result<(), Fail> {
+fn the_examples_end_with_what_their_comments_say(rt: HostRuntime) {
     let cases = [
         (ADDITION, "x1 00000005"),
         (DIVISOR, "x10 00000015"),
@@ -155,11 +155,14 @@ fn the_examples_end_with_what_their_comments_say(rt: HostRuntime) -> Result<(), 
     ];
     for (text, line) in cases {
         for command in [WHOLE, CORE] {
-            let ended = run_text(rt.alloc(), command, text.as_bytes());
-            let lines = ["stop breakpoint", line];
-            assert_eq!(rt; ended.status, 0);
-            assert_eq!(rt; missing(ended.output.as_slice(), &lines), None);
+            check_run(
+                &rt,
+                rt.alloc(),
+                command,
+                text,
+                0,
+                &["stop breakpoint", line],
+            );
         }
     }
-    Ok(())
 }

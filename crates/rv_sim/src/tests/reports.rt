@@ -1,77 +1,13 @@
-use crate::tests::helpers::{WHOLE, missing, run_text};
+use crate::tests::checks::check_run;
+use crate::tests::helpers::{CORE, WHOLE, run_text};
+use crate::tests::programs::{STORE_AND_FENCE, STORE_INTO_CODE};
 use rv_command::Command;
 use std::test::Fail;
-
-const FIVE_REPORT: &str = "stop breakpoint
-steps 2
-retired 1
-traps 1
-interrupts 0
-pc 00000000
-x0 00000000
-x1 00000005
-x2 00000000
-x3 00000000
-x4 00000000
-x5 00000000
-x6 00000000
-x7 00000000
-x8 00000000
-x9 00000000
-x10 00000000
-x11 00000000
-x12 00000000
-x13 00000000
-x14 00000000
-x15 00000000
-x16 00000000
-x17 00000000
-x18 00000000
-x19 00000000
-x20 00000000
-x21 00000000
-x22 00000000
-x23 00000000
-x24 00000000
-x25 00000000
-x26 00000000
-x27 00000000
-x28 00000000
-x29 00000000
-x30 00000000
-x31 00000000
-mstatus 00001800
-mie 00000000
-mtvec 00000000
-mscratch 00000000
-mepc 80000004
-mcause 00000003
-mtval 00000000
-mip 00000000
-";
-
-#[test]
-fn the_report_of_one_addition_is_this_text(rt: HostRuntime) -> Result<(), Fail> {
-    let ended = run_text(rt.alloc(), WHOLE, b"addi x1,x0,5\nebreak\n");
-    assert_eq!(rt; ended.status, 0);
-    assert_eq!(rt; ended.output.as_slice(), FIVE_REPORT.as_bytes());
-    assert!(rt; ended.errors.is_empty());
-    Ok(())
-}
-
-#[test]
-fn a_last_line_needs_no_line_feed(rt: HostRuntime) -> Result<(), Fail> {
-    let ended = run_text(rt.alloc(), WHOLE, b"addi x1,x0,5\nebreak");
-    assert_eq!(rt; ended.status, 0);
-    assert_eq!(rt; ended.output.as_slice(), FIVE_REPORT.as_bytes());
-    Ok(())
-}
 
 const SUM: &str = "addi x6,x0,10\nl: add x5,x5,x6\naddi x6,x6,-1\nbne x6,x0,l\nebreak\n";
 
 #[test]
-fn the_sum_of_one_to_ten_is_in_x5_after_32_steps(rt: HostRuntime) -> Result<(), Fail> {
-    let ended = run_text(rt.alloc(), WHOLE, SUM.as_bytes());
+fn the_sum_of_one_to_ten_is_in_x5_after_32_steps(rt: HostRuntime) {
     let lines = [
         "stop breakpoint",
         "steps 32",
@@ -81,14 +17,11 @@ fn the_sum_of_one_to_ten_is_in_x5_after_32_steps(rt: HostRuntime) -> Result<(), 
         "x6 00000000",
         "mepc 80000010",
     ];
-    assert_eq!(rt; ended.status, 0);
-    assert_eq!(rt; missing(ended.output.as_slice(), &lines), None);
-    Ok(())
+    check_run(&rt, rt.alloc(), WHOLE, SUM, 0, &lines);
 }
 
 #[test]
-fn a_limit_of_three_steps_ends_the_sum_there(rt: HostRuntime) -> Result<(), Fail> {
-    let ended = run_text(rt.alloc(), Command::Reference { limit: 3 }, SUM.as_bytes());
+fn a_limit_of_three_steps_ends_the_sum_there(rt: HostRuntime) {
     let lines = [
         "stop limit",
         "steps 3",
@@ -98,14 +31,18 @@ fn a_limit_of_three_steps_ends_the_sum_there(rt: HostRuntime) -> Result<(), Fail
         "x5 0000000a",
         "x6 00000009",
     ];
-    assert_eq!(rt; ended.status, 0);
-    assert_eq!(rt; missing(ended.output.as_slice(), &lines), None);
-    Ok(())
+    check_run(
+        &rt,
+        rt.alloc(),
+        Command::Reference { limit: 3 },
+        SUM,
+        0,
+        &lines,
+    );
 }
 
 #[test]
-fn an_empty_text_traps_at_its_start_and_then_at_zero(rt: HostRuntime) -> Result<(), Fail> {
-    let ended = run_text(rt.alloc(), Command::Reference { limit: 10 }, b"");
+fn an_empty_text_traps_at_its_start_and_then_at_zero(rt: HostRuntime) {
     let lines = [
         "stop limit",
         "steps 10",
@@ -115,7 +52,75 @@ fn an_empty_text_traps_at_its_start_and_then_at_zero(rt: HostRuntime) -> Result<
         "mepc 00000000",
         "mcause 00000001",
     ];
-    assert_eq!(rt; ended.status, 0);
-    assert_eq!(rt; missing(ended.output.as_slice(), &lines), None);
+    check_run(
+        &rt,
+        rt.alloc(),
+        Command::Reference { limit: 10 },
+        "",
+        0,
+        &lines,
+    );
+}
+
+#[test]
+fn a_run_ends_at_its_limit_of_cycles(rt: HostRuntime) {
+    let traced = Command::Run {
+        trace: true,
+        limit: 10,
+    };
+    let lines = [
+        "T 80000000 00000002 00000000 C2",
+        "T 00000000 00000001 00000000 C8",
+        "stop limit",
+        "cycles 10",
+        "traps 4",
+    ];
+    check_run(&rt, rt.alloc(), traced, "", 0, &lines);
+}
+
+#[test]
+fn a_report_without_a_trace_begins_with_the_stop(rt: HostRuntime) -> Result<(), Fail> {
+    let ended = run_text(rt.alloc(), CORE, b"addi x1,x0,5\nebreak\n");
+    assert!(rt;
+        ended
+            .output
+            .as_slice()
+            .starts_with(b"stop breakpoint\ncycles 5\nretired 1\n")
+    );
     Ok(())
+}
+
+#[test]
+fn a_stale_word_gives_status_3_and_the_report(rt: HostRuntime) {
+    let stale = ["stop stale 80000014", "pc 80000014", "x7 00000000"];
+    let fenced = ["stop breakpoint", "x7 00000001"];
+    for command in [WHOLE, CORE] {
+        check_run(&rt, rt.alloc(), command, STORE_INTO_CODE, 3, &stale);
+        check_run(&rt, rt.alloc(), command, STORE_AND_FENCE, 0, &fenced);
+    }
+}
+
+#[test]
+fn words_of_memory_follow_and_go_on_past_the_last_address(rt: HostRuntime) {
+    let inside =
+        "report.dump_address = 0x80000004\nreport.dump_words = 2\n%%\naddi x1,x0,5\nebreak\n";
+    let wrapped = "[report]\ndump_address = 0xfffffffc\ndump_words = 2\n%%\naddi x1,x0,5\nebreak\n";
+    for command in [WHOLE, CORE] {
+        let lines = ["m 80000004 00100073", "m 80000008 00000000"];
+        check_run(&rt, rt.alloc(), command, inside, 0, &lines);
+        let lines = ["m fffffffc --------", "m 00000000 --------"];
+        check_run(&rt, rt.alloc(), command, wrapped, 0, &lines);
+    }
+}
+
+#[test]
+fn the_image_of_a_text_is_told_by_its_size_and_start(rt: HostRuntime) {
+    let cases = [
+        ("addi x1,x0,5\nebreak\n", "ok 8 bytes start 80000000"),
+        ("nop\n_start: ebreak\n", "ok 8 bytes start 80000004"),
+        ("ebreak\n.data\n.byte 1\n", "ok 17 bytes start 80000000"),
+    ];
+    for (text, line) in cases {
+        check_run(&rt, rt.alloc(), Command::Check, text, 0, &[line]);
+    }
 }
