@@ -1,4 +1,4 @@
-ghost use Rattle.std.specs.Prelude.{◌≡◌};
+ghost use Rattle.std.specs.Prelude.{◌≡◌, ⊤};
 
 use super::*;
 use rv_decode::decode;
@@ -128,6 +128,8 @@ struct Always(u32);
 
 impl Predictor for Always {
     ghost answers = { λ predictor _ _ next. next ≡ predictor.0 };
+
+    ghost has_learned = { λ _ _. ⊤ };
 
     fn predict(&self, _pc: u32, _word: u32) -> u32 {
         self.0
