@@ -5,6 +5,7 @@ mod guesses;
 mod helpers;
 mod hostile;
 mod outputs;
+mod pieces;
 mod predictors;
 mod prefixes;
 mod programs;

@@ -51,7 +51,7 @@ fn guessing_core(
 }
 
 // The core with an image at the front of its RAM.
-fn loaded_core(
+pub(crate) fn loaded_core(
     alloc: Global,
     bytes: &[u8],
     ram_base: u32,
