@@ -1,4 +1,4 @@
-ghost use Rattle.std.specs.Prelude.{◌≡◌, ◌≢◌, ◌∷◌, ◌++◌, ◌||◌, [], None, IfOk, OnOk, IfErr, Ok, map};
+ghost use Rattle.std.specs.Prelude.{◌≡◌, ◌∷◌, ◌++◌, [], None, IfOk, IfErr, Ok, map};
 ghost use Rattle.rv_asm.specs.Answer.{RefusedBy, RefusedAt};
 ghost use Rattle.rv_asm.specs.Faults.{first_fault_of};
 ghost use Rattle.rv_asm.specs.FirstPass.{body_fault, first_fault, operand_fault};

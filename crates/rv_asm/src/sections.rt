@@ -1,4 +1,4 @@
-ghost use Rattle.std.specs.Prelude.{◌≡◌, ◌%◌, ◌==◌, [], List, Ok, map, None, OnOk, IfOk, IfErr};
+ghost use Rattle.std.specs.Prelude.{◌≡◌, ◌%◌, [], List, Ok, map, None, OnOk, IfOk, IfErr};
 ghost use Rattle.rv_asm.specs.Answer.{RefusedBy, RefusedAt};
 ghost use Rattle.rv_asm.specs.Emitted.{Appends, Emits};
 ghost use Rattle.rv_asm.specs.Faults.{earliest, second_fault};

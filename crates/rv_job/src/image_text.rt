@@ -1,4 +1,4 @@
-ghost use Rattle.std.specs.Prelude.{◌≡◌, length, IfOk, IfErr, OnOk, OnErr};
+ghost use Rattle.std.specs.Prelude.{length, IfOk, IfErr, OnOk, OnErr};
 ghost use Rattle.std.specs.Io.KnownBytes.{Appends};
 ghost use Rattle.rv_job.specs.ImageRefusal.{RefusesImage};
 ghost use Rattle.rv_job.specs.ImageText.{IsDescribedImageOf, image_line};

@@ -1,4 +1,4 @@
-ghost use Rattle.std.specs.Prelude.{◌≡◌, ℕ, ◌+◌, ◌<◌, ◌^◌, if◌then◌else◌, length};
+ghost use Rattle.std.specs.Prelude.{◌≡◌, ◌+◌, ◌<◌, ◌^◌, if◌then◌else◌, length};
 ghost use Rattle.rv_report.specs.Totals.{HasRoom, is_retired, is_trap, is_interrupt, both_counts, counts_of, totals_of, totals_with};
 
 use rv_arch::Stop;

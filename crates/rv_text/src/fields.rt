@@ -1,4 +1,4 @@
-ghost use Rattle.std.specs.Prelude.{◌≡◌, OnOk, OnErr};
+ghost use Rattle.std.specs.Prelude.{OnOk, OnErr};
 ghost use Rattle.std.specs.List.{flat_map};
 ghost use Rattle.std.specs.Io.KnownBytes.{Appends};
 ghost use Rattle.rv_text.specs.Line.{line_of, ratio_text};
@@ -6,7 +6,7 @@ ghost use Rattle.rv_text.specs.ReadField.{field_line};
 ghost use Rattle.rv_text.specs.Written.{AppendsBeginning};
 
 use crate::digits::{hexadecimal, thousandths, three_digits};
-use crate::output::{ReportError, put, put_all};
+use crate::output::{ReportError, put_all};
 use itoa::Buffer;
 use std::io::Write;
 

@@ -1,4 +1,3 @@
-use crate::tests::checks::check_run;
 use crate::tests::helpers::{CORE, missing, run_text};
 use crate::tests::programs::INTERRUPTED_SUM;
 use std::alloc::Global;
