@@ -61,6 +61,7 @@ LiesIn base size Waiting = Unit {0}
 LiesIn base size Faulted = Unit {0}
 LiesIn base size (Filled access phase) = (base ≤ access.address) × (access.address + length access.bytes ≤ base + size)
 
+-- the bytes of all stores lie in RAM
 abbrev pub LieIn : ℕ → ℕ → List Store → Type 0
 LieIn base size stores = All (λ (s : Store). LiesIn base size s.state) stores
 

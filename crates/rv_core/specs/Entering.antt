@@ -26,6 +26,7 @@ abbrev pub with_station : Option Kind → Waiting → Pools → Pools
 with_station None waiting stations = stations
 with_station (Some kind) waiting stations = with_pool kind (with_waiting waiting (pool_of kind stations)) stations
 
+-- the stations once an instruction was dispatched, if the word is one
 abbrev pub with_instruction : RegisterStatus → ℕ → ℕ → Option Instr → Pools → Pools
 with_instruction status seq pc None stations = stations
 with_instruction status seq pc (Some instruction) stations =

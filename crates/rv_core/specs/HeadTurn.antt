@@ -24,6 +24,7 @@ committing h steps = record { hardware = h; steps = steps; stop = None }
 abbrev pub stop_with : Step → Option Stop
 stop_with step = if is_breakpoint step then Some stop.Breakpoint else None
 
+-- a turn of the commit phase, by what became of the head
 abbrev pub turn_left : Hardware → List Step → HeadTurn → turn.Turn Committing
 turn_left h steps Waits = turn.Ends (committing h steps)
 turn_left h steps (GoesOn step) = turn.GoesOn (committing h (steps ++ step ∷ []))
@@ -47,5 +48,6 @@ role_of (Some (instr.Csr op rd csr source)) = role.CsrAccess (record { op = op; 
 role_of (Some instr.Mret) = role.TrapReturn
 role_of _ = role.WaitsForResult
 
+-- the instruction of an access to a CSR
 abbrev pub instruction_of_access : CsrAccess → Instr
 instruction_of_access access = instr.Csr access.op access.rd access.csr access.source

@@ -35,9 +35,11 @@ store_fault layout address count =
 abbrev pub is_forwarded : List (Option ℕ) → ℕ → Bool
 is_forwarded overlay count = list_all is_some (take count overlay)
 
+-- the way of a load over what the older stores give
 abbrev pub path_over : List (Option ℕ) → ℕ → Path
 path_over overlay count = if is_forwarded overlay count then FromStores overlay else FromCache overlay
 
+-- the way of a load, which a cause may stop
 abbrev pub path_unless : Option Cause → List (Option ℕ) → ℕ → Path
 path_unless (Some cause) overlay count = Without cause
 path_unless None overlay count = path_over overlay count
@@ -71,6 +73,7 @@ can_do_without layout stores seq (Value base) (Load form rd rs1 offset) =
     not (needs_port (path_of layout (older_than seq stores) (sum base (modulo_word offset)) (bytes_of (width_of form))))
 can_do_without layout stores seq _ _ = false
 
+-- the instruction loads
 abbrev pub is_load : Instr → Bool
 is_load (Load form rd rs1 offset) = true
 is_load _ = false

@@ -82,6 +82,7 @@ pub record AreSoundStores (values : Values) (retired : ℕ) (committed : List Qu
 abbrev pub IsDecoded : Fetched → Type 0
 IsDecoded f = f.instruction ≡ option_and_then instruction_of f.word
 
+-- what holds of the hardware between two phases
 pub record IsSoundHardware (h : Hardware) : Type 0 where
   pub legal : IsLegal h.values
   pub cycles : h.cycle ≤ 2 ^ 40

@@ -94,6 +94,7 @@ waiting_of status seq pc instruction = record {
   second = operand_of status (slice_index_or (sources_of instruction) 1 None);
 }
 
+-- an instruction in flight that waits in a station of a kind, as the station has it
 abbrev pub waiting_at : Kind → RegisterStatus → ℕ → Entry → Option Instr → List Waiting
 waiting_at kind status seq e None = []
 waiting_at kind status seq e (Some instruction) =
@@ -105,6 +106,7 @@ waiting_from kind status seq [] = []
 waiting_from kind status seq (e ∷ es) =
     waiting_at kind status seq e e.instruction ++ waiting_from kind (status_with status seq e) (seq + 1) es
 
+-- the stations of a kind
 abbrev pub pool_of_kind : Values → List ℕ → ReorderBuffer → Kind → Pool
 pool_of_kind values registers rob kind = record {
   waiting = waiting_from kind (values_in registers) rob.retired rob.entries;

@@ -20,9 +20,11 @@ result_at cycle Waiting = None
 result_at cycle (Running issue message) = if nat_le (issue.cycle + issue.cost) cycle then Some message else None
 result_at cycle (Finished issue broadcast message) = None
 
+-- the result of an entry can be broadcast in a cycle
 abbrev pub has_result : ℕ → List Entry → Entry → Bool
 has_result cycle older e = not (is_none (result_at cycle e.stage))
 
+-- a wrong prediction is mended at its broadcast, not at commit
 abbrev pub mends_early : Recovery → Bool
 mends_early Commit = false
 mends_early Early = true
@@ -43,16 +45,19 @@ with_recovery seq message h = record h {
   front = redirected message.next_pc h.front;
 }
 
+-- the broadcast of an entry: a wrong prediction that is mended early ends the phase
 abbrev pub broadcast_entry : Hardware → ℕ → Entry → Message → Turn Hardware
 broadcast_entry h seq e message =
     if mends_early h.values.recovery && is_mispredicted e message
     then Ends (with_recovery seq message (with_broadcast seq message h))
     else GoesOn (with_broadcast seq message h)
 
+-- the broadcast of an entry whose result is there
 abbrev pub broadcast_result : Hardware → ℕ → Entry → Option Message → Turn Hardware
 broadcast_result h seq e None = Ends h
 broadcast_result h seq e (Some message) = broadcast_entry h seq e message
 
+-- the broadcast of the oldest result, if there is one
 abbrev pub broadcast_oldest : Hardware → Option (List Entry × Entry) → Turn Hardware
 broadcast_oldest h None = Ends h
 broadcast_oldest h (Some found) =
@@ -62,5 +67,6 @@ broadcast_oldest h (Some found) =
 abbrev pub broadcast_turn : Hardware → Turn Hardware
 broadcast_turn h = broadcast_oldest h (oldest (has_result h.cycle) h.rob.entries)
 
+-- the broadcast phase: as many turns as the bus is wide
 abbrev pub broadcast : Hardware → Hardware
 broadcast h = repeated broadcast_turn h.values.bus_width h

@@ -36,6 +36,7 @@ pub record Committing : Type 0 where
   pub steps : List Step
   pub stop : Option Stop
 
+-- why a trap stops the run, if it does
 abbrev pub stop_of : Cause → Option Stop
 stop_of cause = if is_breakpoint_cause cause then Some stop.Breakpoint else None
 
@@ -61,6 +62,7 @@ abbrev pub finish_head : Entry → Message → Option Fault → Committing → T
 finish_head e message None c = retire e message c
 finish_head e message (Some fault) c = Ends (with_fault e fault.cause fault.value c)
 
+-- the commit of a head, once its result was broadcast
 abbrev pub finish_broadcast : Entry → Option Message → Committing → Turn Committing
 finish_broadcast e None c = Ends c
 finish_broadcast e (Some message) c = finish_head e message message.fault c
@@ -73,6 +75,7 @@ take_effect e (Retires written next) c = record c {
 }
 take_effect e (Faults cause value) c = with_fault e cause value c
 
+-- a head that is executed at commit takes its effect on the state that programs see
 abbrev pub execute_head : Entry → Instr → Committing → Committing
 execute_head e instruction c =
     take_effect e (effect (layout_of c.hardware.values) (seen c.hardware) c.hardware.lines (unwrap_or e.word 0) instruction) c
@@ -86,9 +89,11 @@ all_written_back cache =
 abbrev pub write_back_time : Hardware → ℕ
 write_back_time h = dirty_total h.cache.sets * h.values.cache.write_back
 
+-- the cache is written back, which keeps its port busy
 abbrev pub with_write_back : Hardware → Hardware
 with_write_back h = record h { cache = all_written_back h.cache; port_free = h.cycle + write_back_time h }
 
+-- no retired store waits for the cache, and its port is idle
 abbrev pub is_drained : Hardware → Bool
 is_drained h = has_none h.committed && nat_le h.port_free h.cycle where
   has_none : List QueuedStore → Bool

@@ -27,6 +27,7 @@ pub record Dispatching : Type 0 where
 abbrev pub is_stationed : Kind → Entry → Bool
 is_stationed kind e = is_waiting e.stage && is_of_kind kind (kind_of_word e.instruction)
 
+-- the stations of a kind are full
 abbrev pub has_full_stations : Hardware → Option Kind → Bool
 has_full_stations h None = false
 has_full_stations h (Some kind) =
@@ -47,11 +48,13 @@ stage_by (Some kind) serialising finished = Waiting
 stage_by None true finished = Waiting
 stage_by None false finished = finished
 
+-- the stage at dispatch: what uses no unit is finished at once
 abbrev pub first_stage : Hardware → Fetched → Stage
 first_stage h fetched =
     stage_by (kind_of_word fetched.instruction) (is_serialising fetched.instruction)
     (Finished None h.cycle (result_of_word (layout_of h.values) (seen_behind h h.rob.entries fetched.pc) h.lines fetched.word fetched.instruction))
 
+-- the entry of a fetched word
 abbrev pub entry_of_fetched : Hardware → Fetched → Entry
 entry_of_fetched h fetched = record {
   pc = fetched.pc;
@@ -70,11 +73,13 @@ with_dispatched fetched rest h = record h {
   front = record h.front { entries = rest };
 }
 
+-- an instruction is dispatched, unless it waits for something
 abbrev pub dispatch_unless : Option Stall → Fetched → List Fetched → Dispatching → Turn Dispatching
 dispatch_unless (Some reason) fetched rest d = Ends (record d { waits_for = Some reason })
 dispatch_unless None fetched rest d =
     GoesOn (record d { hardware = with_dispatched fetched rest d.hardware; dispatched = d.dispatched + 1 })
 
+-- a turn, by the words in the fetch buffer
 abbrev pub dispatch_turn_of : List Fetched → Dispatching → Turn Dispatching
 dispatch_turn_of [] d = Ends (record d { waits_for = Some stall.Fetch })
 dispatch_turn_of (fetched ∷ rest) d = dispatch_unless (reason_of d.hardware fetched) fetched rest d
@@ -83,6 +88,7 @@ dispatch_turn_of (fetched ∷ rest) d = dispatch_unless (reason_of d.hardware fe
 abbrev pub dispatch_turn : Dispatching → Turn Dispatching
 dispatch_turn d = dispatch_turn_of d.hardware.front.entries d
 
+-- the dispatch phase: as many turns as its width
 abbrev pub dispatch : Hardware → Dispatching
 dispatch h = repeated dispatch_turn h.values.dispatch_width (record { hardware = h; dispatched = 0; waits_for = None })
 

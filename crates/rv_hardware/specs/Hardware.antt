@@ -12,6 +12,7 @@ use Rattle.rv_units.specs.Units.{Pools}
 use Rattle.rv_rob.specs.ReorderBuffer.{ReorderBuffer}
 use Rattle.rv_front.specs.FetchBuffer.{FetchBuffer}
 
+-- all that the hardware remembers
 pub record Hardware : Type 0 where
   -- what the machine description says
   pub values : Values

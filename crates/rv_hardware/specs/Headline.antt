@@ -23,6 +23,7 @@ told (step.Retired row) = machine.Retired row.pc row.word row.written
 told (step.Trap pc cause value cycle) = machine.Trap pc cause value
 told (step.Interrupt pc cause cycle) = machine.Interrupt pc cause
 
+-- the step is a retirement
 abbrev pub is_retirement : Step → Bool
 is_retirement (step.Retired row) = true
 is_retirement (step.Trap pc cause value cycle) = false

@@ -22,6 +22,7 @@ is_serialising (Some (Csr op rd csr source)) = true
 is_serialising (Some Mret) = true
 is_serialising _ = false
 
+-- the instruction is a store
 abbrev pub is_store : Option Instr → Bool
 is_store (Some (Store width rs1 rs2 offset)) = true
 is_store _ = false
@@ -33,6 +34,7 @@ is_branch_or_jump (Some (Jalr rd rs1 offset)) = true
 is_branch_or_jump (Some (Branch condition rs1 rs2 offset)) = true
 is_branch_or_jump _ = false
 
+-- the stage is that of waiting
 abbrev pub is_waiting : Stage → Bool
 is_waiting Waiting = true
 is_waiting (Running issue message) = false
@@ -44,6 +46,7 @@ broadcast_of Waiting = None
 broadcast_of (Running issue message) = None
 broadcast_of (Finished issue cycle message) = Some message
 
+-- the register that an instruction writes, if it is one and writes any
 abbrev pub target_of_word : Option Instr → Option ℕ
 target_of_word None = None
 target_of_word (Some instruction) = target_of instruction
@@ -53,6 +56,7 @@ abbrev pub is_target : ℕ → Option ℕ → Bool
 is_target register None = false
 is_target register (Some target) = target == register
 
+-- an entry writes a register
 abbrev pub writes : Entry → ℕ → Bool
 writes e register = is_target register (target_of_word e.instruction)
 
@@ -62,6 +66,7 @@ is_known_from known [] register = known
 is_known_from known (e ∷ es) register =
     is_known_from (if writes e register then is_some (broadcast_of e.stage) else known) es register
 
+-- the value of a register behind older instructions is known
 abbrev pub is_known : List Entry → ℕ → Bool
 is_known older register = is_known_from true older register
 
@@ -82,6 +87,7 @@ abbrev pub store_of_message : Option StoreAccess → StoreState
 store_of_message None = store.Faulted
 store_of_message (Some access) = store.Filled access Speculative
 
+-- what a store has come to, by its broadcast
 abbrev pub store_of_broadcast : Option Message → StoreState
 store_of_broadcast None = store.Waiting
 store_of_broadcast (Some message) = store_of_message message.store
@@ -94,6 +100,7 @@ stores_of seq (e ∷ es) =
     then record { seq = seq; state = store_of_broadcast (broadcast_of e.stage) } ∷ stores_of (seq + 1) es
     else stores_of (seq + 1) es
 
+-- bytes once a store took effect on them
 abbrev pub with_store : ℕ → StoreState → List ℕ → List ℕ
 with_store base store.Waiting bytes = bytes
 with_store base store.Faulted bytes = bytes

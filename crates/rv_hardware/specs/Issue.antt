@@ -35,6 +35,7 @@ pub data Path : Type 0 where
   -- the cache is accessed at this address
   FromCache : ℕ → Path
 
+-- the way of a load of some bytes at an address
 abbrev pub path_of_load : Hardware → List Entry → ℕ → ℕ → Path
 path_of_load h older address count =
     if not (is_aligned address count && is_in_ram (layout_of h.values) address count) then Without
@@ -101,6 +102,7 @@ abbrev pub oldest_from : (List Entry → Entry → Bool) → List Entry → List
 oldest_from test older [] = None
 oldest_from test older (e ∷ es) = if test older e then Some (older, e) else oldest_from test (older ++ e ∷ []) es
 
+-- the oldest entry that passes a test, with all that are older
 abbrev pub oldest : (List Entry → Entry → Bool) → List Entry → Option (List Entry × Entry)
 oldest test entries = oldest_from test [] entries
 
@@ -142,5 +144,6 @@ issue_turn kind h =
 abbrev pub issue_kind : Kind → Hardware → Hardware
 issue_kind kind h = repeated (issue_turn kind) (kind_values h.values kind).units h
 
+-- the issue phase: kind by kind
 abbrev pub issue : Hardware → Hardware
 issue h = issue_kind kind.Mem (issue_kind kind.Div (issue_kind kind.Mul (issue_kind kind.Alu h)))

@@ -40,6 +40,7 @@ abbrev pub IsCost : Values → Bool → Kind → ℕ → Type 0
 IsCost values true kind cost = IsLoadCost values.forward values.cache cost
 IsCost values false kind cost = cost ≡ (kind_values values kind).latency
 
+-- a row that used a unit took one of the described costs
 abbrev pub HasCost : Values → Row → Type 0
 HasCost values row =
     IfSome row.execution (λ x. IfSome (kind_of_word (instruction_of_row row)) (λ kind. IsCost values (is_load_row row) kind x.cost))

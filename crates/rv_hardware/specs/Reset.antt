@@ -13,6 +13,7 @@ use Rattle.rv_hardware.specs.Seen.{layout_of}
 abbrev pub memory_at_reset : Values → List ℕ → List ℕ
 memory_at_reset values image = image ++ replicate (values.ram_size - length image) 0
 
+-- a front that has fetched nothing yet
 abbrev pub empty_front : Values → ℕ → FetchBuffer
 empty_front values start =
     record { entries = []; capacity = values.fetch_buffer; width = values.fetch_width; next_pc = start; halted = false }

@@ -30,6 +30,7 @@ abbrev pub fault_message : Cause → ℕ → Message
 fault_message cause value =
     record { value = 0; fault = Some (record { cause = cause; value = value }); next_pc = 0; store = None }
 
+-- what an effect broadcasts, with what it stores
 abbrev pub effect_message : Option StoreAccess → Effect → Message
 effect_message access (Retires written next) =
     record { value = value_written written; fault = None; next_pc = next.pc; store = access }

@@ -38,6 +38,7 @@ steps_of (report ∷ reports) = report.steps ++ steps_of reports
 abbrev pub busy_of : List Report → ℕ
 busy_of reports = count_by (λ report. not (report.dispatched == 0)) reports
 
+-- one more cycle, under a reason or none
 abbrev pub counted_stall : Option Stall → StallCounts → StallCounts
 counted_stall None counts = counts
 counted_stall (Some stall) counts = counted stall counts
@@ -47,9 +48,11 @@ abbrev pub stalls_from : StallCounts → List Report → StallCounts
 stalls_from counts [] = counts
 stalls_from counts (report ∷ reports) = stalls_from (counted_stall report.stall counts) reports
 
+-- the cycles that dispatched nothing, by their reasons
 abbrev pub stalls_of : List Report → StallCounts
 stalls_of reports = stalls_from (record { fetch = 0; serial = 0; rob = 0; station = 0; store = 0 }) reports
 
+-- a cycle without steps
 abbrev pub is_silent : List Step → Bool
 is_silent [] = true
 is_silent (step ∷ steps) = false
@@ -60,6 +63,7 @@ longest_gap_from silent [] = silent
 longest_gap_from silent (report ∷ reports) =
     if is_silent report.steps then longest_gap_from (silent + 1) reports else max silent (longest_gap_from 0 reports)
 
+-- the greatest number of consecutive cycles without a step
 abbrev pub longest_gap_of : List Report → ℕ
 longest_gap_of reports = longest_gap_from 0 reports
 

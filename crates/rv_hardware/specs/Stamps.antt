@@ -26,6 +26,7 @@ rows_of (Interrupt pc cause cycle ∷ steps) = rows_of steps
 abbrev pub steps_below : ℕ → List Step → List Step
 steps_below c steps = filter (λ step. nat_lt (stamp_of step) c) steps
 
+-- the steps of a cycle
 abbrev pub steps_in : ℕ → List Step → List Step
 steps_in c steps = filter (λ step. stamp_of step == c) steps
 
@@ -42,9 +43,11 @@ abbrev pub last_from : {X : Type 0} → Option X → (X → Bool) → List X →
 last_from found test [] = found
 last_from found test (x ∷ xs) = last_from (if test x then Some x else found) test xs
 
+-- the last one that passes a test
 abbrev pub last_that : {X : Type 0} → (X → Bool) → List X → Option X
 last_that test xs = last_from None test xs
 
+-- the instruction of a row
 abbrev pub instruction_of_row : Row → Option Instr
 instruction_of_row row = instruction_of row.word
 
@@ -54,6 +57,7 @@ is_store_row row = is_store (instruction_of_row row)
 abbrev pub is_load_row : Row → Bool
 is_load_row row = is_load (instruction_of_row row)
 
+-- the instruction is FENCE.I
 abbrev pub is_fence_i : Option Instr → Bool
 is_fence_i (Some FenceI) = true
 is_fence_i _ = false
@@ -73,9 +77,11 @@ needs_no_unit Breakpoint = true
 needs_no_unit EnvironmentCall = true
 needs_no_unit _ = false
 
+-- the row used a unit of a kind
 abbrev pub is_row_of_kind : Kind → Row → Bool
 is_row_of_kind kind row = is_of_kind kind (kind_of_word (instruction_of_row row))
 
+-- the registers that it read
 abbrev pub sources_of_row : Row → List (Option ℕ)
 sources_of_row row = sources_of_word (instruction_of_row row)
 
@@ -93,6 +99,7 @@ flushes (Retired row) = is_serialising (instruction_of_row row)
 flushes (Trap pc cause value cycle) = true
 flushes (Interrupt pc cause cycle) = true
 
+-- the step is an interrupt
 abbrev pub is_interrupt : Step → Bool
 is_interrupt (Retired row) = false
 is_interrupt (Trap pc cause value cycle) = false

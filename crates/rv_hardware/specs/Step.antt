@@ -11,6 +11,7 @@ stamp_of (Retired row) = row.retired
 stamp_of (Trap pc cause value cycle) = cycle
 stamp_of (Interrupt pc cause cycle) = cycle
 
+-- the cause of a breakpoint
 abbrev pub is_breakpoint_cause : Cause → Bool
 is_breakpoint_cause cause.Breakpoint = true
 is_breakpoint_cause _ = false
