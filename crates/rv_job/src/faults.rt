@@ -1,7 +1,6 @@
-ghost use Rattle.std.specs.Prelude.{◌≡◌, OnOk, OnErr};
-ghost use Rattle.std.specs.Io.KnownBytes.{Appends};
+ghost use Rattle.std.specs.Prelude.{◌≡◌};
 ghost use Rattle.rv_job.specs.Fault.{arrivals_kind, arrivals_line, description_kind, description_line, fault_line, fault_name, fault_status, input_fault_line, input_fault_status};
-ghost use Rattle.rv_text.specs.Written.{AppendsBeginning};
+ghost use Rattle.rv_text.specs.Written.{IsWritten};
 
 use crate::errors::SimError;
 use crate::input::InputError;
@@ -49,8 +48,7 @@ fn write_description_fault<W: Write>(
     writer: &mut W,
     error: DescriptionError,
 ) -> Result<(), ReportError>
-    ensures whole { OnOk result (Appends (W.contents writer.old) (W.contents writer.new) (description_line error)) }
-    ensures beginning { OnErr result (AppendsBeginning (W.contents writer.old) (W.contents writer.new) (description_line error)) }
+    ensures { IsWritten result (W.contents writer.old) (W.contents writer.new) (description_line error) }
 {
     let kind = description_kind(error).as_bytes();
     let key = key_name(error.place()).as_bytes();
@@ -74,8 +72,7 @@ fn arrivals_kind(error: ArrivalsError) -> &'static str
 // The line that tells a fault of arrivals, with the number of the entry that it names.
 #[tactic(auto, unfolding(crate::specs::Fault::arrivals_line, crate::specs::Fault::entry_text))]
 fn write_arrivals_fault<W: Write>(writer: &mut W, error: ArrivalsError) -> Result<(), ReportError>
-    ensures whole { OnOk result (Appends (W.contents writer.old) (W.contents writer.new) (arrivals_line error)) }
-    ensures beginning { OnErr result (AppendsBeginning (W.contents writer.old) (W.contents writer.new) (arrivals_line error)) }
+    ensures { IsWritten result (W.contents writer.old) (W.contents writer.new) (arrivals_line error) }
 {
     let kind = arrivals_kind(error).as_bytes();
     let entry = error.entry();
@@ -90,8 +87,7 @@ fn write_arrivals_fault<W: Write>(writer: &mut W, error: ArrivalsError) -> Resul
 /// Writes the line that tells a fault.
 #[tactic(auto, unfolding(crate::specs::Fault::fault_line))]
 pub(crate) fn write_fault<W: Write>(writer: &mut W, error: SimError) -> Result<(), ReportError>
-    ensures whole { OnOk result (Appends (W.contents writer.old) (W.contents writer.new) (fault_line error)) }
-    ensures beginning { OnErr result (AppendsBeginning (W.contents writer.old) (W.contents writer.new) (fault_line error)) }
+    ensures { IsWritten result (W.contents writer.old) (W.contents writer.new) (fault_line error) }
 {
     match error {
         SimError::TooLong => put(writer, b"error: job too long\n"),

@@ -1,8 +1,7 @@
-ghost use Rattle.std.specs.Prelude.{length, IfOk, IfErr, OnOk, OnErr};
-ghost use Rattle.std.specs.Io.KnownBytes.{Appends};
+ghost use Rattle.std.specs.Prelude.{length, IfOk, IfErr};
 ghost use Rattle.rv_job.specs.ImageRefusal.{RefusesImage};
 ghost use Rattle.rv_job.specs.ImageText.{IsDescribedImageOf, image_line};
-ghost use Rattle.rv_text.specs.Written.{AppendsBeginning};
+ghost use Rattle.rv_text.specs.Written.{IsWritten};
 
 use crate::errors::SimError;
 use crate::job_text::{read_image, read_machine, read_parts};
@@ -37,8 +36,7 @@ pub fn read_image_text(alloc: Global, text: &[u8]) -> Result<DescribedImage, Sim
 /// Writes the line that says how many bytes an image has, and where execution starts.
 #[tactic(auto, unfolding(crate::specs::ImageText::image_line))]
 pub fn write_image_line<W: Write>(writer: &mut W, image: &Image) -> Result<(), ReportError>
-    ensures whole { OnOk result (Appends (W.contents writer.old) (W.contents writer.new) (image_line (length image.now.bytes) image.now.start)) }
-    ensures beginning { OnErr result (AppendsBeginning (W.contents writer.old) (W.contents writer.new) (image_line (length image.now.bytes) image.now.start)) }
+    ensures { IsWritten result (W.contents writer.old) (W.contents writer.new) (image_line (length image.now.bytes) image.now.start) }
 {
     let mut buffer = Buffer::new();
     let count = buffer.format(image.bytes.len()).as_bytes();

@@ -1,6 +1,6 @@
 -- A run whose report is written as its cycles come: what was written so far, one cycle more, and the end.
 use Rattle.std.proofs.Common.{◌≡◌, ◌∙◌, ℕ, ◌+◌, ◌*◌, ◌^◌, ◌<◌, ◌≤◌, Bool, true, false, List, [], ◌++◌, length, Option, Some, None, count_by, sym, ap, refl, subst, arith, length-append}
-use Rattle.std.specs.Prelude.{OnOk, OnErr, Result, Ok, Err}
+use Rattle.std.specs.Prelude.{IsErrAnd, Result, Ok, Err}
 use Rattle.std.specs.Result.{is_ok}
 use Rattle.std.specs.Io.KnownBytes.{Appends}
 use Rattle.std.proofs.lemmas.Bool.{true≢false}
@@ -17,22 +17,20 @@ use Rattle.rv_hardware.specs.Hardware.{Hardware}
 use Rattle.rv_hardware.specs.Run.{IsStop, steps_of}
 use Rattle.rv_hardware.specs.declared.step.Step.{Step}
 use Rattle.rv_hardware.proofs.HeadlineReached.{cycles_counted}
-use Rattle.rv_report.specs.LiveReport.{IsRunReport, IsTraced, IsWritten}
+use Rattle.rv_report.specs.LiveReport.{IsRunReport, IsTraced, Reports}
 use Rattle.rv_report.specs.Rows.{step_line, trace_lines}
 use Rattle.rv_report.specs.RunReport.{end_of, run_report, trace_of}
 use Rattle.rv_report.specs.Totals.{HasRoom, both_counts, counts_of, is_interrupt, is_retired, is_trap, totals_with}
-use Rattle.rv_text.specs.Written.{AppendsBeginning}
+use Rattle.rv_text.specs.Written.{AppendsBeginning, IsWritten}
 use Rattle.rv_report.specs.declared.options.Options.{Options}
 use Rattle.rv_report.specs.declared.totals.StepCounts.{StepCounts}
 use Rattle.rv_report.specs.declared.totals.Totals.{Totals}
-use Rattle.rv_text.proofs.Writing.{Appends-both, Appends-nothing, Appends-same, beginning-both, beginning-longer}
+use Rattle.rv_text.proofs.Writing.{Appends-both, Appends-nothing, Appends-same, beginning-both, beginning-longer, written_behind}
 
--- more is written behind a text
-pub written_on : {T E T' E' : Type 0} (old : Result T E) (new : Result T' E') (a b c : Option (List ℕ)) (text more : List ℕ) → is_ok old ≡ true
-    → OnOk new (Appends b c more) → OnErr new (AppendsBeginning b c more) → IsWritten old a b text → IsWritten new a c (text ++ more)
-written_on (Ok done) (Ok next) a b c text more ok whole beginning is = Appends-both a b c text more is whole
-written_on (Ok done) (Err error) a b c text more ok whole beginning is = beginning-both a b c text more is beginning
-written_on (Err error) new a b c text more ok whole beginning is = absurd (true≢false (sym ok))
+-- more is written behind a text that was written whole
+pub written_on : {T E T' E' : Type 0} (old : Result T E) (new : Result T' E') (a b c : Option (List ℕ)) (text more : List ℕ) → is_ok old ≡ true → IsWritten new b c more → IsWritten old a b text → IsWritten new a c (text ++ more)
+written_on (Ok done) new a b c text more ok next is = written_behind new a b c text more is next
+written_on (Err error) new a b c text more ok next is = absurd (true≢false (sym ok))
 
 trace_of-none : (shown : Bool) → trace_of shown [] ≡ []
 unfolding trace_lines
@@ -53,6 +51,12 @@ counts_of-append xs ys = λ i. record {
   traps = count_by-append is_trap xs ys i;
   interrupts = count_by-append is_interrupt xs ys i;
 }
+
+-- an error that `?` hands on, where a beginning was written
+pub reports_in_part : {E : Type 0} (IsReport : Stop → List ℕ → Type 0) (r : Result Stop E) (error : E) (old new : Option (List ℕ)) → IsErrAnd r (λ e. e ≡ error)
+    → (stop : Stop) × (text : List ℕ) × IsReport stop text × AppendsBeginning old new text → Reports IsReport r old new
+reports_in_part IsReport (Ok stop) error old new failed beginning = absurd failed
+reports_in_part IsReport (Err e) error old new failed beginning = beginning
 
 -- what is told of a run by the values that its end hands on
 pub traced_by : {T E : Type 0} (arrivals : List Arrival) (options : Options) (old new new' : Hardware) (totals totals' : Totals) (written written' : Result T E) (before after : Option (List ℕ))

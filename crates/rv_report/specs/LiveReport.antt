@@ -9,14 +9,9 @@ use Rattle.rv_hardware.specs.Run.{Cycles, IsStop, steps_of}
 use Rattle.rv_hardware.specs.Seen.{layout_of, seen}
 use Rattle.rv_report.specs.RunReport.{run_report, trace_of}
 use Rattle.rv_report.specs.Totals.{totals_at}
-use Rattle.rv_text.specs.Written.{AppendsBeginning}
+use Rattle.rv_text.specs.Written.{AppendsBeginning, IsWritten}
 use Rattle.rv_report.specs.declared.options.Options.{Options}
 use Rattle.rv_report.specs.declared.totals.Totals.{Totals}
-
--- a text is written, or a beginning of it where a write failed
-abbrev pub IsWritten : {T E : Type 0} → Result T E → Option (List ℕ) → Option (List ℕ) → List ℕ → Type 0
-IsWritten (Ok done) old new text = Appends old new text
-IsWritten (Err error) old new text = AppendsBeginning old new text
 
 -- cycles that ended, with what they came to, and with their trace, where it is asked for, written
 pub record IsTraced {T E : Type 0} (arrivals : List Arrival) (options : Options) (old new : Hardware) (totals : Totals) (written : Result T E) (before after : Option (List ℕ)) : Type 0 where
@@ -33,3 +28,8 @@ pub record IsRunReport (arrivals : List Arrival) (options : Options) (old : Hard
   pub cycles : Cycles arrivals old reports new
   pub stops : IsStop options.limit reports new stop
   pub text_is : text ≡ run_report (steps_of reports) (totals_at reports stop) (layout_of new.values) (seen new) new.lines options
+
+-- One of the reports that may come is written, and why its run ended is answered, or a beginning of one is written.
+abbrev pub Reports : {E : Type 0} → (Stop → List ℕ → Type 0) → Result Stop E → Option (List ℕ) → Option (List ℕ) → Type 0
+Reports IsReport (Ok stop) old new = (text : List ℕ) × IsReport stop text × Appends old new text
+Reports IsReport (Err error) old new = (stop : Stop) × (text : List ℕ) × IsReport stop text × AppendsBeginning old new text

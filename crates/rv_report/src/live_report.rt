@@ -1,9 +1,8 @@
-ghost use Rattle.std.specs.Prelude.{◌≡◌, ◌≤◌, ℕ, List, [], ◌++◌, Option, Ok, length, vec_capacity, IfOk, OnErr};
-ghost use Rattle.std.specs.Io.KnownBytes.{Appends};
-ghost use Rattle.rv_report.specs.LiveReport.{IsRunReport, IsTraced, IsWritten};
+ghost use Rattle.std.specs.Prelude.{◌≡◌, ◌≤◌, ℕ, List, [], ◌++◌, Option, Ok, length, vec_capacity};
+ghost use Rattle.rv_report.specs.LiveReport.{IsRunReport, IsTraced, Reports};
 ghost use Rattle.rv_report.specs.RunReport.{trace_of};
 ghost use Rattle.rv_report.specs.Totals.{HasRoom, both_counts, counts_of, totals_with};
-ghost use Rattle.rv_text.specs.Written.{AppendsBeginning};
+ghost use Rattle.rv_text.specs.Written.{IsWritten};
 
 use crate::options::Options;
 use crate::run_report::{write_totals, write_trace};
@@ -68,8 +67,7 @@ pub fn write_run<W: Write>(
     writer: &mut W,
 ) -> Result<Stop, ReportError>
     requires room { 8 ≤ vec_capacity steps }
-    ensures whole { IfOk result (λ stop. (text : List ℕ) × IsRunReport arrivals.now options.now core stop text × Appends (W.contents writer.old) (W.contents writer.new) text) }
-    ensures beginning { OnErr result ((stop : Stop) × (text : List ℕ) × IsRunReport arrivals.now options.now core stop text × AppendsBeginning (W.contents writer.old) (W.contents writer.new) text) }
+    ensures { Reports (IsRunReport arrivals.now options.now core) result (W.contents writer.old) (W.contents writer.new) }
 {
     let run = run_traced(core, arrivals, options, steps, writer);
     run.written?;

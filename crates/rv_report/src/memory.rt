@@ -1,8 +1,7 @@
-ghost use Rattle.std.specs.Prelude.{◌≡◌, OnOk, OnErr};
-ghost use Rattle.std.specs.Io.KnownBytes.{Appends};
+ghost use Rattle.std.specs.Prelude.{◌≡◌};
 ghost use Rattle.rv_hardware.specs.Seen.{layout_of, seen};
 ghost use Rattle.rv_report.specs.Memory.{memory_line, word_seen, seen_memory_lines};
-ghost use Rattle.rv_text.specs.Written.{AppendsBeginning};
+ghost use Rattle.rv_text.specs.Written.{IsWritten};
 
 use rv_core::Core;
 use rv_text::{ReportError, hexadecimal, put_all};
@@ -15,8 +14,7 @@ pub(crate) fn write_word<W: Write>(
     address: u32,
     word: Option<u32>,
 ) -> Result<(), ReportError>
-    ensures whole { OnOk result (Appends (W.contents writer.old) (W.contents writer.new) (memory_line address word)) }
-    ensures beginning { OnErr result (AppendsBeginning (W.contents writer.old) (W.contents writer.new) (memory_line address word)) }
+    ensures { IsWritten result (W.contents writer.old) (W.contents writer.new) (memory_line address word) }
 {
     let place = hexadecimal(address);
     match word {
@@ -52,8 +50,7 @@ pub(crate) fn write_memory<W: Write>(
     address: u32,
     words: u32,
 ) -> Result<(), ReportError>
-    ensures whole { OnOk result (Appends (W.contents writer.old) (W.contents writer.new) (seen_memory_lines (layout_of core.now.values) (seen core.now).ram address words)) }
-    ensures beginning { OnErr result (AppendsBeginning (W.contents writer.old) (W.contents writer.new) (seen_memory_lines (layout_of core.now.values) (seen core.now).ram address words)) }
+    ensures { IsWritten result (W.contents writer.old) (W.contents writer.new) (seen_memory_lines (layout_of core.now.values) (seen core.now).ram address words) }
 {
     for number in 0..words {
         let place = address.wrapping_add(number.wrapping_mul(4));

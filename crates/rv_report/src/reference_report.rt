@@ -1,8 +1,7 @@
-ghost use Rattle.std.specs.Prelude.{◌≡◌, OnOk, OnErr};
-ghost use Rattle.std.specs.Io.KnownBytes.{Appends};
+ghost use Rattle.std.specs.Prelude.{◌≡◌};
 ghost use Rattle.rv_report.specs.Memory.{word_seen, seen_memory_lines};
 ghost use Rattle.rv_report.specs.ReferenceReport.{count_lines, reference_report};
-ghost use Rattle.rv_text.specs.Written.{AppendsBeginning};
+ghost use Rattle.rv_text.specs.Written.{IsWritten};
 
 use crate::memory::write_word;
 use crate::options::Options;
@@ -14,8 +13,7 @@ use std::io::Write;
 // The counts of a run.
 #[tactic(auto, unfolding(crate::specs::ReferenceReport::count_lines, rv_text::specs::Line::count_line))]
 fn write_counts<W: Write>(writer: &mut W, outcome: &RefOutcome) -> Result<(), ReportError>
-    ensures whole { OnOk result (Appends (W.contents writer.old) (W.contents writer.new) (count_lines outcome.now)) }
-    ensures beginning { OnErr result (AppendsBeginning (W.contents writer.old) (W.contents writer.new) (count_lines outcome.now)) }
+    ensures { IsWritten result (W.contents writer.old) (W.contents writer.new) (count_lines outcome.now) }
 {
     write_fields(
         writer,
@@ -61,8 +59,7 @@ fn write_seen_memory<W: Write>(
     address: u32,
     words: u32,
 ) -> Result<(), ReportError>
-    ensures whole { OnOk result (Appends (W.contents writer.old) (W.contents writer.new) (seen_memory_lines reference.now.layout reference.now.state.ram address words)) }
-    ensures beginning { OnErr result (AppendsBeginning (W.contents writer.old) (W.contents writer.new) (seen_memory_lines reference.now.layout reference.now.state.ram address words)) }
+    ensures { IsWritten result (W.contents writer.old) (W.contents writer.new) (seen_memory_lines reference.now.layout reference.now.state.ram address words) }
 {
     for number in 0..words {
         let place = address.wrapping_add(number.wrapping_mul(4));
@@ -80,8 +77,7 @@ pub fn write_reference<W: Write>(
     options: &Options,
     writer: &mut W,
 ) -> Result<(), ReportError>
-    ensures whole { OnOk result (Appends (W.contents writer.old) (W.contents writer.new) (reference_report outcome.now reference.now options.now)) }
-    ensures beginning { OnErr result (AppendsBeginning (W.contents writer.old) (W.contents writer.new) (reference_report outcome.now reference.now options.now)) }
+    ensures { IsWritten result (W.contents writer.old) (W.contents writer.new) (reference_report outcome.now reference.now options.now) }
 {
     write_stop(writer, outcome.stop)?;
     write_counts(writer, outcome)?;

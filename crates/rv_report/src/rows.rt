@@ -1,7 +1,6 @@
-ghost use Rattle.std.specs.Prelude.{◌≡◌, OnOk, OnErr};
-ghost use Rattle.std.specs.Io.KnownBytes.{Appends};
+ghost use Rattle.std.specs.Prelude.{◌≡◌};
 ghost use Rattle.rv_report.specs.Rows.{stamp_text, issued_in, broadcast_in, passage_text, written_text, row_line, step_line, trace_lines};
-ghost use Rattle.rv_text.specs.Written.{AppendsBeginning};
+ghost use Rattle.rv_text.specs.Written.{IsWritten};
 
 use itoa::Buffer;
 use rv_hardware::{Row, Step};
@@ -40,8 +39,7 @@ fn broadcast(row: &Row) -> Option<u64>
 // Where an instruction stood, and when it passed through the hardware.
 #[tactic(auto, unfolding(crate::specs::Rows::passage_text))]
 fn write_passage<W: Write>(writer: &mut W, row: &Row) -> Result<(), ReportError>
-    ensures whole { OnOk result (Appends (W.contents writer.old) (W.contents writer.new) (passage_text row.now)) }
-    ensures beginning { OnErr result (AppendsBeginning (W.contents writer.old) (W.contents writer.new) (passage_text row.now)) }
+    ensures { IsWritten result (W.contents writer.old) (W.contents writer.new) (passage_text row.now) }
 {
     let pc = hexadecimal(row.pc);
     let word = hexadecimal(row.word);
@@ -79,8 +77,7 @@ fn write_passage<W: Write>(writer: &mut W, row: &Row) -> Result<(), ReportError>
 // What an instruction wrote.
 #[tactic(auto, unfolding(crate::specs::Rows::written_text))]
 fn write_written<W: Write>(writer: &mut W, written: Option<(Reg, u32)>) -> Result<(), ReportError>
-    ensures whole { OnOk result (Appends (W.contents writer.old) (W.contents writer.new) (written_text written)) }
-    ensures beginning { OnErr result (AppendsBeginning (W.contents writer.old) (W.contents writer.new) (written_text written)) }
+    ensures { IsWritten result (W.contents writer.old) (W.contents writer.new) (written_text written) }
 {
     match written {
         Some((register, word)) => {
@@ -95,8 +92,7 @@ fn write_written<W: Write>(writer: &mut W, written: Option<(Reg, u32)>) -> Resul
 
 #[tactic(auto, unfolding(crate::specs::Rows::row_line))]
 fn write_row<W: Write>(writer: &mut W, row: &Row) -> Result<(), ReportError>
-    ensures whole { OnOk result (Appends (W.contents writer.old) (W.contents writer.new) (row_line row.now)) }
-    ensures beginning { OnErr result (AppendsBeginning (W.contents writer.old) (W.contents writer.new) (row_line row.now)) }
+    ensures { IsWritten result (W.contents writer.old) (W.contents writer.new) (row_line row.now) }
 {
     write_passage(writer, row)?;
     write_written(writer, row.written)
@@ -104,8 +100,7 @@ fn write_row<W: Write>(writer: &mut W, row: &Row) -> Result<(), ReportError>
 
 #[tactic(auto, unfolding(crate::specs::Rows::step_line))]
 fn write_step<W: Write>(writer: &mut W, step: &Step) -> Result<(), ReportError>
-    ensures whole { OnOk result (Appends (W.contents writer.old) (W.contents writer.new) (step_line step.now)) }
-    ensures beginning { OnErr result (AppendsBeginning (W.contents writer.old) (W.contents writer.new) (step_line step.now)) }
+    ensures { IsWritten result (W.contents writer.old) (W.contents writer.new) (step_line step.now) }
 {
     match *step {
         Step::Retired(row) => write_row(writer, &row),
@@ -160,8 +155,7 @@ fn write_step<W: Write>(writer: &mut W, step: &Step) -> Result<(), ReportError>
 /// written is then a beginning of the lines.
 #[tactic(auto, unfolding(crate::specs::Rows::trace_lines))]
 pub fn write_steps<W: Write>(writer: &mut W, steps: &[Step]) -> Result<(), ReportError>
-    ensures whole { OnOk result (Appends (W.contents writer.old) (W.contents writer.new) (trace_lines steps.now)) }
-    ensures beginning { OnErr result (AppendsBeginning (W.contents writer.old) (W.contents writer.new) (trace_lines steps.now)) }
+    ensures { IsWritten result (W.contents writer.old) (W.contents writer.new) (trace_lines steps.now) }
 {
     for step in steps {
         write_step(writer, step)?;

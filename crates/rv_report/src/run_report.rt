@@ -1,9 +1,7 @@
-ghost use Rattle.std.specs.Prelude.{OnOk, OnErr};
-ghost use Rattle.std.specs.Io.KnownBytes.{Appends};
 ghost use Rattle.rv_hardware.specs.Seen.{seen};
 ghost use Rattle.rv_report.specs.Totals.{total_lines};
 ghost use Rattle.rv_report.specs.RunReport.{end_lines, end_of, trace_of, report_of};
-ghost use Rattle.rv_text.specs.Written.{AppendsBeginning};
+ghost use Rattle.rv_text.specs.Written.{IsWritten};
 
 use crate::memory::write_memory;
 use crate::options::Options;
@@ -18,8 +16,7 @@ use std::io::Write;
 // The counts of a run.
 #[tactic(auto, unfolding(crate::specs::Totals::total_lines, crate::specs::Totals::stall_lines, rv_text::specs::Line::count_line))]
 fn write_counts<W: Write>(writer: &mut W, totals: &Totals) -> Result<(), ReportError>
-    ensures whole { OnOk result (Appends (W.contents writer.old) (W.contents writer.new) (total_lines totals.now)) }
-    ensures beginning { OnErr result (AppendsBeginning (W.contents writer.old) (W.contents writer.new) (total_lines totals.now)) }
+    ensures { IsWritten result (W.contents writer.old) (W.contents writer.new) (total_lines totals.now) }
 {
     write_fields(
         writer,
@@ -81,8 +78,7 @@ fn write_counts<W: Write>(writer: &mut W, totals: &Totals) -> Result<(), ReportE
 
 // Why a run ended, its counts, and the state that it left, but for memory.
 fn write_end<W: Write>(writer: &mut W, totals: &Totals, core: &Core) -> Result<(), ReportError>
-    ensures whole { OnOk result (Appends (W.contents writer.old) (W.contents writer.new) (end_lines totals.now (seen core.now) core.now.lines)) }
-    ensures beginning { OnErr result (AppendsBeginning (W.contents writer.old) (W.contents writer.new) (end_lines totals.now (seen core.now) core.now.lines)) }
+    ensures { IsWritten result (W.contents writer.old) (W.contents writer.new) (end_lines totals.now (seen core.now) core.now.lines) }
 {
     write_stop(writer, totals.stop)?;
     write_counts(writer, totals)?;
@@ -98,8 +94,7 @@ pub fn write_totals<W: Write>(
     options: &Options,
     writer: &mut W,
 ) -> Result<(), ReportError>
-    ensures whole { OnOk result (Appends (W.contents writer.old) (W.contents writer.new) (end_of totals.now core.now options.now)) }
-    ensures beginning { OnErr result (AppendsBeginning (W.contents writer.old) (W.contents writer.new) (end_of totals.now core.now options.now)) }
+    ensures { IsWritten result (W.contents writer.old) (W.contents writer.new) (end_of totals.now core.now options.now) }
 {
     write_end(writer, totals, core)?;
     write_memory(writer, core, options.dump_address, options.dump_words)
@@ -108,8 +103,7 @@ pub fn write_totals<W: Write>(
 /// Writes the lines of some steps, where a trace is asked for. Asks for no memory. Fails by `WriteFailed` alone, and what
 /// was written is then a beginning of the lines.
 pub fn write_trace<W: Write>(writer: &mut W, trace: bool, steps: &[Step]) -> Result<(), ReportError>
-    ensures whole { OnOk result (Appends (W.contents writer.old) (W.contents writer.new) (trace_of trace steps.now)) }
-    ensures beginning { OnErr result (AppendsBeginning (W.contents writer.old) (W.contents writer.new) (trace_of trace steps.now)) }
+    ensures { IsWritten result (W.contents writer.old) (W.contents writer.new) (trace_of trace steps.now) }
 {
     if trace {
         write_steps(writer, steps)
@@ -127,8 +121,7 @@ pub fn write_report<W: Write>(
     options: &Options,
     writer: &mut W,
 ) -> Result<(), ReportError>
-    ensures whole { OnOk result (Appends (W.contents writer.old) (W.contents writer.new) (report_of outcome.now core.now options.now)) }
-    ensures beginning { OnErr result (AppendsBeginning (W.contents writer.old) (W.contents writer.new) (report_of outcome.now core.now options.now)) }
+    ensures { IsWritten result (W.contents writer.old) (W.contents writer.new) (report_of outcome.now core.now options.now) }
 {
     write_trace(writer, options.trace, outcome.steps.as_slice())?;
     write_totals(&Totals::of(outcome), core, options, writer)

@@ -1,8 +1,7 @@
-ghost use Rattle.std.specs.Prelude.{◌≡◌, true, is_some, OnOk, OnErr, Some};
-ghost use Rattle.std.specs.Io.KnownBytes.{Appends};
+ghost use Rattle.std.specs.Prelude.{◌≡◌, true, is_some, Some};
 ghost use Rattle.rv_arch.specs.Csr.{csr_at, read_at};
 ghost use Rattle.rv_report.specs.State.{stop_line, register_line, register_lines, csr_lines, state_lines};
-ghost use Rattle.rv_text.specs.Written.{AppendsBeginning};
+ghost use Rattle.rv_text.specs.Written.{IsWritten};
 
 use itoa::Buffer;
 use rv_arch::{Observed, Stop};
@@ -12,8 +11,7 @@ use std::io::Write;
 /// Writes the line that says why a run ended.
 #[tactic(auto, unfolding(crate::specs::State::stop_line, crate::specs::State::stop_text, rv_text::specs::Line::line_of))]
 pub(crate) fn write_stop<W: Write>(writer: &mut W, stop: Stop) -> Result<(), ReportError>
-    ensures whole { OnOk result (Appends (W.contents writer.old) (W.contents writer.new) (stop_line stop)) }
-    ensures beginning { OnErr result (AppendsBeginning (W.contents writer.old) (W.contents writer.new) (stop_line stop)) }
+    ensures { IsWritten result (W.contents writer.old) (W.contents writer.new) (stop_line stop) }
 {
     match stop {
         Stop::Limit => put(writer, b"stop limit\n"),
@@ -25,8 +23,7 @@ pub(crate) fn write_stop<W: Write>(writer: &mut W, stop: Stop) -> Result<(), Rep
 
 #[tactic(auto, unfolding(crate::specs::State::register_line, rv_text::specs::Line::word_line, rv_text::specs::Line::line_of))]
 fn write_register<W: Write>(writer: &mut W, number: usize, word: u32) -> Result<(), ReportError>
-    ensures whole { OnOk result (Appends (W.contents writer.old) (W.contents writer.new) (register_line number word)) }
-    ensures beginning { OnErr result (AppendsBeginning (W.contents writer.old) (W.contents writer.new) (register_line number word)) }
+    ensures { IsWritten result (W.contents writer.old) (W.contents writer.new) (register_line number word) }
 {
     let mut buffer = Buffer::new();
     let digits = buffer.format(number).as_bytes();
@@ -38,8 +35,7 @@ fn write_register<W: Write>(writer: &mut W, number: usize, word: u32) -> Result<
 
 // The registers, a line each.
 fn write_registers<W: Write>(writer: &mut W, registers: &[u32; 32]) -> Result<(), ReportError>
-    ensures whole { OnOk result (Appends (W.contents writer.old) (W.contents writer.new) (register_lines registers.now)) }
-    ensures beginning { OnErr result (AppendsBeginning (W.contents writer.old) (W.contents writer.new) (register_lines registers.now)) }
+    ensures { IsWritten result (W.contents writer.old) (W.contents writer.new) (register_lines registers.now) }
 {
     for number in 0..32 {
         write_register(writer, number, registers[number])?;
@@ -57,8 +53,7 @@ fn csr(seen: &Observed, address: u32) -> u32
 
 #[tactic(auto, unfolding(crate::specs::State::csr_lines, rv_text::specs::Line::word_line))]
 fn write_csrs<W: Write>(writer: &mut W, seen: &Observed) -> Result<(), ReportError>
-    ensures whole { OnOk result (Appends (W.contents writer.old) (W.contents writer.new) (csr_lines seen.now.csrs seen.now.lines)) }
-    ensures beginning { OnErr result (AppendsBeginning (W.contents writer.old) (W.contents writer.new) (csr_lines seen.now.csrs seen.now.lines)) }
+    ensures { IsWritten result (W.contents writer.old) (W.contents writer.new) (csr_lines seen.now.csrs seen.now.lines) }
 {
     let mstatus = csr(seen, 0x300);
     let mie = csr(seen, 0x304);
@@ -110,8 +105,7 @@ fn write_csrs<W: Write>(writer: &mut W, seen: &Observed) -> Result<(), ReportErr
 /// Writes the pc, the registers and the control and status registers.
 #[tactic(auto, unfolding(rv_text::specs::Line::word_line))]
 pub(crate) fn write_state<W: Write>(writer: &mut W, seen: &Observed) -> Result<(), ReportError>
-    ensures whole { OnOk result (Appends (W.contents writer.old) (W.contents writer.new) (state_lines seen.now.pc seen.now.regs seen.now.csrs seen.now.lines)) }
-    ensures beginning { OnErr result (AppendsBeginning (W.contents writer.old) (W.contents writer.new) (state_lines seen.now.pc seen.now.regs seen.now.csrs seen.now.lines)) }
+    ensures { IsWritten result (W.contents writer.old) (W.contents writer.new) (state_lines seen.now.pc seen.now.regs seen.now.csrs seen.now.lines) }
 {
     write_fields(
         writer,

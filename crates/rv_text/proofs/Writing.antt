@@ -1,13 +1,13 @@
 -- What a writer holds after several writes.
 use Rattle.std.proofs.Common.{◌≡◌, ℕ, zero, suc, ◌+◌, ◌<◌, List, [], ◌∷◌, ◌++◌, length, get_or, take, drop, Option, Some, None, sym, ap, ◌∙◌, append_assoc, append-nil, length-append, add-one, arith, ⊎_elim}
-use Rattle.std.specs.Prelude.{◌*◌, ◌%◌, ◌^◌, OnOk, OnErr, Result, Ok, Err}
+use Rattle.std.specs.Prelude.{◌*◌, ◌%◌, ◌^◌, IsErrAnd, Result, Ok, Err}
 use Rattle.std.specs.List.{flat_map, range_with_len}
 use Rattle.std.proofs.Math.Seq.{take-append-add}
 use Rattle.std.proofs.lemmas.List.{take-append-le, take_more, take-append-drop}
 use Rattle.std.proofs.lemmas.Grind.{flat_map-append}
 use Rattle.std.specs.Io.KnownBytes.{Appends, Keeps}
 use Rattle.std.proofs.str.Laws.{order}
-use Rattle.rv_text.specs.Written.{AppendsBeginning}
+use Rattle.rv_text.specs.Written.{AppendsBeginning, IsWritten}
 
 pub Appends-nothing : (known : Option (List ℕ)) → Appends known known []
 Appends-nothing None = tt
@@ -47,25 +47,18 @@ beginning-both a b c xs ys first (n, within, appended) = (
 pub beginning-same : (a b : Option (List ℕ)) (xs ys : List ℕ) → xs ≡ ys → AppendsBeginning a b xs → AppendsBeginning a b ys
 beginning-same a b xs ys same beginning = rw same at beginning
 
-pub on_err : {T E P : Type 0} (r : Result T E) → P → OnErr r P
-on_err (Ok value) fact = tt
-on_err (Err error) fact = fact
+-- an error that `?` hands on, where a beginning was written
+pub handed_on : {T E : Type 0} (r : Result T E) (error : E) (a b : Option (List ℕ)) (xs : List ℕ) → IsErrAnd r (λ e. e ≡ error) → AppendsBeginning a b xs → IsWritten r a b xs
+handed_on (Ok value) error a b xs failed beginning = absurd failed
+handed_on (Err e) error a b xs failed beginning = beginning
 
--- what comes of an Ok, and of an Err
-pub on_ok_by : {T E P Q : Type 0} (r : Result T E) → (P → Q) → OnOk r P → OnOk r Q
-on_ok_by (Ok value) then fact = then fact
-on_ok_by (Err error) then fact = tt
-
-pub on_err_by : {T E P Q : Type 0} (r : Result T E) → (P → Q) → OnErr r P → OnErr r Q
-on_err_by (Ok value) then fact = tt
-on_err_by (Err error) then fact = then fact
+pub written_same : {T E : Type 0} (r : Result T E) (a b : Option (List ℕ)) (xs ys : List ℕ) → xs ≡ ys → IsWritten r a b xs → IsWritten r a b ys
+written_same r a b xs ys same written = rw same at written
 
 -- a text was written, and the next one by a call that answers so
-pub whole_behind : {T E : Type 0} (r : Result T E) (a b c : Option (List ℕ)) (xs ys : List ℕ) → Appends a b xs → OnOk r (Appends b c ys) → OnOk r (Appends a c (xs ++ ys))
-whole_behind r a b c xs ys first second = on_ok_by r (Appends-both a b c xs ys first) second
-
-pub beginning_behind : {T E : Type 0} (r : Result T E) (a b c : Option (List ℕ)) (xs ys : List ℕ) → Appends a b xs → OnErr r (AppendsBeginning b c ys) → OnErr r (AppendsBeginning a c (xs ++ ys))
-beginning_behind r a b c xs ys first second = on_err_by r (beginning-both a b c xs ys first) second
+pub written_behind : {T E : Type 0} (r : Result T E) (a b c : Option (List ℕ)) (xs ys : List ℕ) → Appends a b xs → IsWritten r b c ys → IsWritten r a c (xs ++ ys)
+written_behind (Ok value) a b c xs ys first second = Appends-both a b c xs ys first second
+written_behind (Err error) a b c xs ys first second = beginning-both a b c xs ys first second
 
 -- texts that are written one behind the other, at the place of one of them
 module _ {X : Type 0} (text : X → List ℕ) (items : List X) (place : ℕ) (other : X) (here : place < length items) where

@@ -1,9 +1,7 @@
-ghost use Rattle.std.specs.Prelude.{OnOk, OnErr};
 ghost use Rattle.std.specs.List.{flat_map};
-ghost use Rattle.std.specs.Io.KnownBytes.{Appends};
 ghost use Rattle.rv_text.specs.Line.{line_of, ratio_text};
 ghost use Rattle.rv_text.specs.ReadField.{field_line};
-ghost use Rattle.rv_text.specs.Written.{AppendsBeginning};
+ghost use Rattle.rv_text.specs.Written.{IsWritten};
 
 use crate::digits::{hexadecimal, thousandths, three_digits};
 use crate::output::{ReportError, put_all};
@@ -28,8 +26,7 @@ pub struct Field<'a> {
 
 #[tactic(auto, unfolding(crate::specs::Line::line_of))]
 fn write_line<W: Write>(writer: &mut W, name: &str, text: &[u8]) -> Result<(), ReportError>
-    ensures whole { OnOk result (Appends (W.contents writer.old) (W.contents writer.new) (line_of name.now text.now)) }
-    ensures beginning { OnErr result (AppendsBeginning (W.contents writer.old) (W.contents writer.new) (line_of name.now text.now)) }
+    ensures { IsWritten result (W.contents writer.old) (W.contents writer.new) (line_of name.now text.now) }
 {
     put_all(writer, &[name.as_bytes(), b" ", text, b"\n"])
 }
@@ -41,8 +38,7 @@ fn write_ratio<W: Write>(
     count: u64,
     each: u64,
 ) -> Result<(), ReportError>
-    ensures whole { OnOk result (Appends (W.contents writer.old) (W.contents writer.new) (line_of name.now (ratio_text count each))) }
-    ensures beginning { OnErr result (AppendsBeginning (W.contents writer.old) (W.contents writer.new) (line_of name.now (ratio_text count each))) }
+    ensures { IsWritten result (W.contents writer.old) (W.contents writer.new) (line_of name.now (ratio_text count each)) }
 {
     let name = name.as_bytes();
     if each == 0 {
@@ -55,8 +51,7 @@ fn write_ratio<W: Write>(
 }
 
 fn write_field<W: Write>(writer: &mut W, field: Field<'_>) -> Result<(), ReportError>
-    ensures whole { OnOk result (Appends (W.contents writer.old) (W.contents writer.new) (field_line field.entry)) }
-    ensures beginning { OnErr result (AppendsBeginning (W.contents writer.old) (W.contents writer.new) (field_line field.entry)) }
+    ensures { IsWritten result (W.contents writer.old) (W.contents writer.new) (field_line field.entry) }
 {
     match field.value {
         Value::Count(count) => {
@@ -70,8 +65,7 @@ fn write_field<W: Write>(writer: &mut W, field: Field<'_>) -> Result<(), ReportE
 
 /// Writes lines one behind the other.
 pub fn write_fields<W: Write>(writer: &mut W, fields: &[Field<'_>]) -> Result<(), ReportError>
-    ensures whole { OnOk result (Appends (W.contents writer.old) (W.contents writer.new) (flat_map field_line fields.now)) }
-    ensures beginning { OnErr result (AppendsBeginning (W.contents writer.old) (W.contents writer.new) (flat_map field_line fields.now)) }
+    ensures { IsWritten result (W.contents writer.old) (W.contents writer.new) (flat_map field_line fields.now) }
 {
     for field in fields {
         write_field(writer, *field)?;

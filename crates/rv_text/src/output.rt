@@ -1,7 +1,5 @@
-ghost use Rattle.std.specs.Prelude.{OnOk, OnErr};
 ghost use Rattle.std.specs.List.{flat_map};
-ghost use Rattle.std.specs.Io.KnownBytes.{Appends};
-ghost use Rattle.rv_text.specs.Written.{AppendsBeginning};
+ghost use Rattle.rv_text.specs.Written.{IsWritten};
 
 use std::io::Write;
 use thiserror::Error;
@@ -16,8 +14,7 @@ pub enum ReportError {
 
 /// Writes all the bytes of a text, and asks for no memory.
 pub fn put<W: Write>(writer: &mut W, text: &[u8]) -> Result<(), ReportError>
-    ensures whole { OnOk result (Appends (W.contents writer.old) (W.contents writer.new) text.now) }
-    ensures beginning { OnErr result (AppendsBeginning (W.contents writer.old) (W.contents writer.new) text.now) }
+    ensures { IsWritten result (W.contents writer.old) (W.contents writer.new) text.now }
 {
     let mut written = 0;
     while written < text.len() {
@@ -32,8 +29,7 @@ pub fn put<W: Write>(writer: &mut W, text: &[u8]) -> Result<(), ReportError>
 
 /// Writes texts one behind the other, and asks for no memory.
 pub fn put_all<W: Write>(writer: &mut W, texts: &[&[u8]]) -> Result<(), ReportError>
-    ensures whole { OnOk result (Appends (W.contents writer.old) (W.contents writer.new) (flat_map (λ t. t.now) texts.now)) }
-    ensures beginning { OnErr result (AppendsBeginning (W.contents writer.old) (W.contents writer.new) (flat_map (λ t. t.now) texts.now)) }
+    ensures { IsWritten result (W.contents writer.old) (W.contents writer.new) (flat_map (λ t. t.now) texts.now) }
 {
     for text in texts {
         put(writer, text)?;

@@ -4,32 +4,17 @@ use Rattle.rv_describe.specs.Entries.{entry_of}
 use Rattle.rv_job.specs.Fault.{arrivals_line, entry_text}
 use Rattle.rv_job.proofs.faults.write_arrivals_fault.Goals as goal
 
-pub returns-then-entry-eq0-clause-whole : goal.returns-then-entry-eq0-clause-whole
+pub returns-then-entry-eq0 : goal.returns-then-entry-eq0
 unfolding arrivals_line entry_text
-returns-then-entry-eq0-clause-whole g c =
+returns-then-entry-eq0 g c =
     let kind_is = c.as_bytes-kind.ensures.value ∙ c.arrivals_kind.ensures in
     let none : entry_of c.args.error ≡ 0 = sym c.entry-entry.ensures ∙ c.if-entry-eq0.true in
-    rw (← kind_is, none) c.put_all.ensures.whole
+    rw (← kind_is, none) c.put_all.ensures
 
-pub returns-clause-whole : goal.returns-clause-whole
+pub returns : goal.returns
 unfolding arrivals_line entry_text
-returns-clause-whole g c =
+returns g c =
     let kind_is = c.as_bytes-kind.ensures.value ∙ c.arrivals_kind.ensures in
     let number_is = c.as_bytes-number.ensures.value ∙ c.format.ensures.text ∙ ap decimal c.entry-entry.ensures in
     let some = ne_eqb (entry_of c.args.error) 0 (λ none. c.if-entry-eq0.false (c.entry-entry.ensures ∙ none)) in
-    rw (some, ← kind_is, ← number_is) c.put_all-2.ensures.whole
-
-pub returns-then-entry-eq0-clause-beginning : goal.returns-then-entry-eq0-clause-beginning
-unfolding arrivals_line entry_text
-returns-then-entry-eq0-clause-beginning g c =
-    let kind_is = c.as_bytes-kind.ensures.value ∙ c.arrivals_kind.ensures in
-    let none : entry_of c.args.error ≡ 0 = sym c.entry-entry.ensures ∙ c.if-entry-eq0.true in
-    rw (← kind_is, none) c.put_all.ensures.beginning
-
-pub returns-clause-beginning : goal.returns-clause-beginning
-unfolding arrivals_line entry_text
-returns-clause-beginning g c =
-    let kind_is = c.as_bytes-kind.ensures.value ∙ c.arrivals_kind.ensures in
-    let number_is = c.as_bytes-number.ensures.value ∙ c.format.ensures.text ∙ ap decimal c.entry-entry.ensures in
-    let some = ne_eqb (entry_of c.args.error) 0 (λ none. c.if-entry-eq0.false (c.entry-entry.ensures ∙ none)) in
-    rw (some, ← kind_is, ← number_is) c.put_all-2.ensures.beginning
+    rw (some, ← kind_is, ← number_is) c.put_all-2.ensures

@@ -3,16 +3,9 @@ use Rattle.rv_isa.specs.Key.{text_at}
 use Rattle.rv_job.specs.Fault.{description_line}
 use Rattle.rv_job.proofs.faults.write_description_fault.Goals as goal
 
-pub returns-clause-whole : goal.returns-clause-whole
+pub returns : goal.returns
 unfolding description_line
-returns-clause-whole g c =
+returns g c =
     let kind_is = c.as_bytes-kind.ensures.value ∙ c.description_kind.ensures in
     let key_is = c.as_bytes-key.ensures.value ∙ c.key_name.ensures ∙ ap text_at c.place.ensures in
-    rw (← kind_is, ← key_is) c.put_all.ensures.whole
-
-pub returns-clause-beginning : goal.returns-clause-beginning
-unfolding description_line
-returns-clause-beginning g c =
-    let kind_is = c.as_bytes-kind.ensures.value ∙ c.description_kind.ensures in
-    let key_is = c.as_bytes-key.ensures.value ∙ c.key_name.ensures ∙ ap text_at c.place.ensures in
-    rw (← kind_is, ← key_is) c.put_all.ensures.beginning
+    rw (← kind_is, ← key_is) c.put_all.ensures

@@ -2,16 +2,9 @@ use Rattle.std.proofs.Common.{◌∙◌, ap, decimal}
 use Rattle.rv_job.specs.ImageText.{image_line}
 use Rattle.rv_job.proofs.image_text.write_image_line.Goals as goal
 
-pub returns-clause-whole : goal.returns-clause-whole
+pub returns : goal.returns
 unfolding image_line
-returns-clause-whole g c =
+returns g c =
     let count_is = c.as_bytes-count.ensures.value ∙ c.format.ensures.text ∙ ap decimal c.len.ensures in
     let start_is = c.as_slice.ensures ∙ c.hexadecimal-start.ensures in
-    rw (← count_is, ← start_is) c.put_all.ensures.whole
-
-pub returns-clause-beginning : goal.returns-clause-beginning
-unfolding image_line
-returns-clause-beginning g c =
-    let count_is = c.as_bytes-count.ensures.value ∙ c.format.ensures.text ∙ ap decimal c.len.ensures in
-    let start_is = c.as_slice.ensures ∙ c.hexadecimal-start.ensures in
-    rw (← count_is, ← start_is) c.put_all.ensures.beginning
+    rw (← count_is, ← start_is) c.put_all.ensures

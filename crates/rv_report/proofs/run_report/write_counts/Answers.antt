@@ -2,7 +2,7 @@ use Rattle.std.proofs.Common.{List, ℕ, ◌++◌, ap, append-nil, codes}
 use Rattle.rv_text.specs.Line.{count_line, line_of, ratio_text}
 use Rattle.rv_report.specs.Totals.{total_lines, stall_lines}
 use Rattle.rv_report.specs.declared.totals.Totals.{Totals}
-use Rattle.rv_text.proofs.Writing.{Appends-same, beginning-same, on_ok_by, on_err_by}
+use Rattle.rv_text.proofs.Writing.{written_same}
 use Rattle.rv_report.proofs.run_report.write_counts.Goals as goal
 
 -- the lines of the counts, with what comes behind them
@@ -20,12 +20,6 @@ lines_before t rest =
     (count_line (codes "stall rob") t.stalls.rob ++
     (count_line (codes "stall station") t.stalls.station ++ rest))))))))))
 
-pub returns-clause-whole : goal.returns-clause-whole
+pub returns : goal.returns
 unfolding total_lines stall_lines count_line
-returns-clause-whole g c =
-    on_ok_by _ (Appends-same _ _ _ _ (ap (lines_before c.args.totals.now) (append-nil _))) c.write_fields.ensures.whole
-
-pub returns-clause-beginning : goal.returns-clause-beginning
-unfolding total_lines stall_lines count_line
-returns-clause-beginning g c =
-    on_err_by _ (beginning-same _ _ _ _ (ap (lines_before c.args.totals.now) (append-nil _))) c.write_fields.ensures.beginning
+returns g c = written_same _ _ _ _ _ (ap (lines_before c.args.totals.now) (append-nil _)) c.write_fields.ensures

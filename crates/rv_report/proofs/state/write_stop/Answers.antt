@@ -3,14 +3,16 @@ use Rattle.rv_text.specs.Line.{line_of}
 use Rattle.rv_report.specs.State.{stop_line, stop_text}
 use Rattle.rv_report.proofs.state.write_stop.Goals as goal
 
-pub returns-in-Stale-clause-whole : goal.returns-in-Stale-clause-whole
+pub returns-in-Breakpoint : goal.returns-in-Breakpoint
 unfolding stop_line stop_text line_of
-returns-in-Stale-clause-whole g c =
-    let text_is = c.as_slice.ensures ∙ c.hexadecimal.ensures in
-    rw (c.in-Stale.is, ← text_is) c.put_all.ensures.whole
+returns-in-Breakpoint g c = rw c.in-Breakpoint.is c.put-in-Breakpoint.ensures
 
-pub returns-in-Stale-clause-beginning : goal.returns-in-Stale-clause-beginning
+pub returns-in-Stale : goal.returns-in-Stale
 unfolding stop_line stop_text line_of
-returns-in-Stale-clause-beginning g c =
+returns-in-Stale g c =
     let text_is = c.as_slice.ensures ∙ c.hexadecimal.ensures in
-    rw (c.in-Stale.is, ← text_is) c.put_all.ensures.beginning
+    rw (c.in-Stale.is, ← text_is) c.put_all.ensures
+
+pub returns-in-Exhausted : goal.returns-in-Exhausted
+unfolding stop_line stop_text line_of
+returns-in-Exhausted g c = rw c.in-Exhausted.is c.put-in-Exhausted.ensures

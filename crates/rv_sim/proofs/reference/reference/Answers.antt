@@ -20,7 +20,7 @@ returns-in_err-write_reference-clause-beginning g c failed =
       outcome.stop,
       reference_report outcome end c.with_dump-options.result,
       record { outcome = outcome; end = end; run = ran; stopped = refl; text_is = ap (reference_report outcome end) options_are },
-      c.in_err-write_reference.ensures.beginning,
+      c.in_err-write_reference.ensures,
     )
 
 pub returns-clause-report : goal.returns-clause-report
@@ -36,5 +36,5 @@ returns-clause-report g c =
     let ran = run_from_same _ _ _ _ _ _ _ c.run_reference-outcome.ensures (ap (λ (options : Options). options.limit) options_are) at_start in (
       reference_report outcome end c.with_dump-options.result,
       record { outcome = outcome; end = end; run = ran; stopped = refl; text_is = ap (reference_report outcome end) options_are },
-      c.in_ok-write_reference.ensures.whole,
+      c.in_ok-write_reference.ensures,
     )

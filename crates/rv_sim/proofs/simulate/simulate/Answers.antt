@@ -16,7 +16,7 @@ returns-in_err-write_run-clause-beginning g c failed =
     let described : c.values.result ≡ c.args.job.description = c.values.ensures.values in
     let asked = c.with_dump-options.ensures ∙ ap (λ (values : Values). shown values.report c.args.options.now) described in
     let legal = subst IsLegal described c.values.ensures.legal in
-    let (stop, text, run, written) = c.in_err-write_run.ensures.beginning in
+    let (stop, text, run, written) = c.in_err-write_run.ensures in
     (stop, text, run_simulated c.args.job c.args.options.now c.with_dump-options.result c.in-Ok.core stop text legal c.in-Ok.ensures.fits c.in-Ok.ensures.made asked run, written)
 
 pub returns-in_err-write_run-clause-errors : goal.returns-in_err-write_run-clause-errors
@@ -28,5 +28,5 @@ returns-clause-report g c =
     let described : c.values.result ≡ c.args.job.description = c.values.ensures.values in
     let asked = c.with_dump-options.ensures ∙ ap (λ (values : Values). shown values.report c.args.options.now) described in
     let legal = subst IsLegal described c.values.ensures.legal in
-    let (text, run, written) = c.in_ok-write_run.ensures.whole in
+    let (text, run, written) = c.in_ok-write_run.ensures in
     (text, run_simulated c.args.job c.args.options.now c.with_dump-options.result c.in-Ok.core c.in_ok-write_run.field-0 text legal c.in-Ok.ensures.fits c.in-Ok.ensures.made asked run, written)
