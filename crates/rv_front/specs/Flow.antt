@@ -1,5 +1,6 @@
 -- Where a program may go on behind an instruction.
-use Rattle.std.specs.Prelude.{ℕ, pos, int_lt, Option, Some, None}
+use Rattle.std.specs.Prelude.{ℕ, ◌==◌, Bool, pos, int_lt, List, [], ◌∷◌, bit_and, Option, Some, None}
+use Rattle.std.specs.List.{list_any}
 use Rattle.rv_isa.specs.Word.{pc_plus}
 use Rattle.rv_isa.specs.declared.instructions.Instr.{Instr}
 use Rattle.rv_isa.specs.declared.instructions.Instr.TheVariants.{Jal, Jalr, Branch}
@@ -21,3 +22,11 @@ flow_behind pc (Some instruction) = flow_of pc instruction
 -- where the program may go on behind a word at a pc
 abbrev pub flow_at : ℕ → ℕ → Flow
 flow_at pc word = flow_behind pc (instruction_of word)
+
+-- Unprivileged ISA 20191213, 24, table 24.1: the opcodes BRANCH, JALR and JAL
+abbrev pub codes_elsewhere : List ℕ
+codes_elsewhere = 0x63 ∷ 0x67 ∷ 0x6f ∷ []
+
+-- the word's opcode is one of them
+abbrev pub leads_elsewhere : ℕ → Bool
+leads_elsewhere word = list_any (λ code. bit_and word 0x7f == code) codes_elsewhere

@@ -60,32 +60,38 @@ impl Predictor for Bimodal {
         ensures { result ≡ bimodal self.now pc (flow_at pc word) }
     {
         let next = pc.wrapping_add(4);
-        let place = self.place(pc);
         match Flow::at(pc, word) {
             Flow::Sequential => next,
             Flow::Jump { target } => target,
             Flow::Branch { target, .. } => {
+                let place = self.place(pc);
                 if self.counters[place] >= 2 {
                     target
                 } else {
                     next
                 }
             }
-            Flow::Indirect => self.targets[place].unwrap_or(next),
+            Flow::Indirect => {
+                let place = self.place(pc);
+                self.targets[place].unwrap_or(next)
+            }
         }
     }
 
     fn learn(&mut self, pc: u32, word: u32, next: u32)
         ensures { self.new ≡ learned self.old pc next (flow_at pc word) }
     {
-        let place = self.place(pc);
         match Flow::at(pc, word) {
             Flow::Sequential | Flow::Jump { .. } => {}
             Flow::Branch { .. } => {
+                let place = self.place(pc);
                 let taken = next != pc.wrapping_add(4);
                 self.counters[place] = moved(taken, self.counters[place]);
             }
-            Flow::Indirect => self.targets[place] = Some(next),
+            Flow::Indirect => {
+                let place = self.place(pc);
+                self.targets[place] = Some(next);
+            }
         }
     }
 }

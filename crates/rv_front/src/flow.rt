@@ -1,5 +1,5 @@
 ghost use Rattle.std.specs.Prelude.{◌≡◌};
-ghost use Rattle.rv_front.specs.Flow.{flow_at, flow_of};
+ghost use Rattle.rv_front.specs.Flow.{flow_at, flow_of, leads_elsewhere};
 
 use rv_decode::decode;
 use rv_isa::Instr;
@@ -30,6 +30,10 @@ impl Flow {
     pub fn at(pc: u32, word: u32) -> Flow
         ensures { result ≡ flow_at pc word }
     {
+        // Most words end here, and none of them is decoded.
+        if !leads_elsewhere(word) {
+            return Flow::Sequential;
+        }
         match decode(word) {
             Some(instruction) => Flow::of(pc, instruction),
             None => Flow::Sequential,
@@ -52,4 +56,11 @@ impl Flow {
             _ => Flow::Sequential,
         }
     }
+}
+
+// Whether the opcode is that of the branches, of JAL or of JALR.
+fn leads_elsewhere(word: u32) -> bool
+    ensures { result ≡ leads_elsewhere word }
+{
+    matches!(word & 0x7f, 0x63 | 0x67 | 0x6f)
 }

@@ -1,5 +1,7 @@
 -- The waiting instructions that four lists of one length tell, as an edit of all four leaves them.
-use Rattle.std.proofs.Common.{◌≡◌, ℕ, zero, suc, ◌-◌, ◌<◌, List, [], ◌∷◌, ◌++◌, length, get_or, take, map, remove, slice_get, Some, refl, ap, ap₂, sym, ◌∙◌, inl, inr, vec_len, arith}
+use Rattle.std.proofs.Common.{◌≡◌, ◌&&◌, Bool, ℕ, zero, suc, ◌-◌, ◌<◌, List, [], ◌∷◌, ◌++◌, length, get_or, take, map, remove, slice_get, Some, refl, ap, ap₂, sym, ◌∙◌, inl, inr, vec_len, arith}
+use Rattle.std.specs.Option.{option_map}
+use Rattle.std.proofs.lemmas.Option.{slice_get-get_or}
 use Rattle.std.specs.List.Sorted.{IsNonDecreasingBy}
 use Rattle.std.specs.Simd.Lanes.{zip2}
 use Rattle.std.proofs.lemmas.Bool.{cases_lt}
@@ -10,7 +12,7 @@ use Rattle.rv_stations.specs.declared.waiting.Operand.{Operand}
 use Rattle.rv_stations.specs.declared.waiting.Operand.TheVariants.{Value}
 use Rattle.rv_stations.specs.declared.waiting.Waiting.{Waiting}
 use Rattle.rv_stations.specs.declared.pool.Dispatched.{Dispatched}
-use Rattle.rv_stations.specs.Waiting.{seq_of, woken, woken_operand}
+use Rattle.rv_stations.specs.Waiting.{seq_of, has_value, is_ready, woken, woken_operand}
 use Rattle.rv_stations.specs.PoolFields.{with_dispatched, both_operands, instruction_of, joined, IsSoundPool}
 use Rattle.rv_stations.specs.declared.pool.StationPool.TheInside.{Inside}
 use Rattle.rv_stations.proofs.ZipLemmas.{zip2-append, zip2-take, zip2-remove, slice_get-zip2}
@@ -66,6 +68,17 @@ pub slice_get-joined : (ns : List ℕ) (fs : List Dispatched) (xs ys : List Oper
 slice_get-joined ns fs xs ys i n f x y at_n at_f at_x at_y =
     slice_get-zip2 instruction_of i _ _ (n, f) (x, y) (slice_get-zip2 with_dispatched i ns fs n f at_n at_f) (slice_get-zip2 both_operands i xs ys x y at_x at_y)
 
+-- an instruction is ready where both columns hold values
+pub ready-joined : (ns : List ℕ) (fs : List Dispatched) (xs ys : List Operand) → SameLengths ns fs xs ys → (i : ℕ) (x y : Operand) → i < length ns → slice_get xs i ≡ Some x → slice_get ys i ≡ Some y → option_map is_ready (slice_get (joined ns fs xs ys) i) ≡ Some (has_value x && has_value y)
+ready-joined ns fs xs ys same i x y within at_x at_y =
+    let none : Dispatched = record { pc = 0; instruction = Fence } in
+    ap (option_map is_ready) (slice_get-joined ns fs xs ys i (get_or ns i 0) (get_or fs i none) x y (slice_get-get_or ns i 0 within) (slice_get-get_or fs i none (omega (arith, same.dispatched))) at_x at_y)
+
+-- what is known of the instruction in a place
+pub is_ready-in_place : (ws : List Waiting) (i : ℕ) (w : Waiting) (ready : Bool) → slice_get ws i ≡ Some w → option_map is_ready (slice_get ws i) ≡ Some ready → is_ready w ≡ ready
+is_ready-in_place ws i w ready is told =
+    let same : Some (is_ready w) ≡ Some ready = sym (ap (option_map is_ready) is) ∙ told in cc same
+
 -- both columns are woken
 pub joined-woken : (seq value : ℕ) (ns : List ℕ) (fs : List Dispatched) (xs ys : List Operand) → joined ns fs (map (woken_operand seq value) xs) (map (woken_operand seq value) ys) ≡ map (woken seq value) (joined ns fs xs ys)
 joined-woken seq value [] fs xs ys = refl
@@ -85,7 +98,7 @@ seq-joined (n ∷ ns) (f ∷ fs) (x ∷ xs) (y ∷ ys) same (suc i) d e within =
     seq-joined ns fs xs ys (record { dispatched = omega (arith, same.dispatched); first = omega (arith, same.first); second = omega (arith, same.second) }) i d e (omega arith)
 
 -- an instruction, to stand for what a list does not hold
-some_waiting : Waiting
+pub some_waiting : Waiting
 some_waiting = record { seq = 0; pc = 0; instruction = Fence; first = Value 0; second = Value 0 }
 
 -- the numbers themselves rise

@@ -3,6 +3,7 @@ ghost use Rattle.rv_stations.specs.Waiting.{IsOperand, woken_operand};
 ghost use Rattle.rv_stations.specs.Column.{operand_of, is_producer, with_operand};
 
 use crate::lanes::{self, NO_PRODUCER};
+use crate::take_out::take_out;
 use crate::waiting::Operand;
 use std::alloc::{AllocError, Global};
 use std::marker::Model;
@@ -104,8 +105,8 @@ impl OperandColumn {
         requires { at < length self.old.operands }
         ensures { self.new ≡ record self.old { operands = remove self.old.operands at } }
     {
-        let tag = self.tags.remove(at);
-        self.values.remove(at);
+        let tag = self.tags[at];
+        take_out(&mut self.tags, &mut self.values, at);
         self.waiting -= waits(tag);
     }
 

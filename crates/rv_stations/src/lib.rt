@@ -7,6 +7,7 @@ mod column;
 mod lanes;
 mod pool;
 mod stations;
+mod take_out;
 mod waiting;
 
 pub use stations::Stations;

@@ -1,8 +1,10 @@
 ghost use Rattle.std.specs.Prelude.{◌≡◌, ◌<◌, ◌≤◌, ◌↔◌, Bool, Some, length, nat_le, slice_get, IsTrue, IfOk, IfSome, option_and_then};
 ghost use Rattle.rv_isa.specs.Numbered.{AreBelow, IsInOrder};
-ghost use Rattle.rv_stations.specs.Waiting.{seq_of, IsOperand, ready_of, oldest_ready};
+ghost use Rattle.rv_stations.specs.Waiting.{seq_of, IsOperand, is_ready, ready_of, oldest_ready};
+ghost use Rattle.std.specs.Option.{option_map};
 
 use crate::column::OperandColumn;
+use crate::take_out::take_out;
 use crate::waiting::{Ready, Waiting};
 use rv_isa::{Instr, KindValues};
 use std::alloc::{AllocError, Global};
@@ -123,6 +125,14 @@ impl StationPool {
         }
     }
 
+    /// Whether both operands of the instruction in a place have their values.
+    fn is_ready_at(&self, at: usize) -> bool
+        requires { at < length self.now.waiting }
+        ensures { option_map is_ready (slice_get self.now.waiting at) ≡ Some result }
+    {
+        self.first.get(at).has_value() && self.second.get(at).has_value()
+    }
+
     /// The place of the oldest instruction that is ready and passes a filter.
     fn place_of_oldest_ready<F: Fn(&Waiting) -> bool>(&self, filter: &F) -> Option<usize>
         requires { F.IsAlwaysCallable filter.now }
@@ -132,8 +142,7 @@ impl StationPool {
         ensures in_order { IsInOrder seq_of self.now.waiting }
     {
         for at in 0..self.len() {
-            let waiting = self.instruction_at(at);
-            if waiting.is_ready() && filter(&waiting) {
+            if self.is_ready_at(at) && filter(&self.instruction_at(at)) {
                 return Some(at);
             }
         }
@@ -147,8 +156,7 @@ impl StationPool {
         ensures others { self.new ≡ without_place (Some at) self.old }
     {
         let taken = self.instruction_at(at);
-        self.seqs.remove(at);
-        self.dispatched.remove(at);
+        take_out(&mut self.seqs, &mut self.dispatched, at);
         self.first.remove(at);
         self.second.remove(at);
         taken

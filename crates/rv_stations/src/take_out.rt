@@ -1,0 +1,22 @@
+ghost use Rattle.std.specs.Prelude.{◌≡◌, ◌+◌, ◌<◌, remove, vec_len, vec_capacity};
+
+/// Takes the items in a place out of two lists of one length. Few stand behind it, so that one loop over both is quicker
+/// than a long move in each.
+pub fn take_out<A: Copy, B: Copy>(first: &mut Vec<A>, second: &mut Vec<B>, at: usize)
+    requires within { at < vec_len first.old }
+    requires same { vec_len second.old ≡ vec_len first.old }
+    ensures first { first.new.items ≡ remove first.old.items at }
+    ensures second { second.new.items ≡ remove second.old.items at }
+    ensures first_len { vec_len first.new + 1 ≡ vec_len first.old }
+    ensures second_len { vec_len second.new + 1 ≡ vec_len second.old }
+    ensures first_capacity { vec_capacity first.new ≡ vec_capacity first.old }
+    ensures second_capacity { vec_capacity second.new ≡ vec_capacity second.old }
+{
+    let last = first.len() - 1;
+    for place in at..last {
+        first[place] = first[place + 1];
+        second[place] = second[place + 1];
+    }
+    first.pop();
+    second.pop();
+}
