@@ -108,14 +108,10 @@ fn operation_kind(op: AluOp) -> Kind
 #[cfg(test)]
 mod tests {
     use super::*;
-    use crate::branch_offsets::BranchOffset;
-    use crate::csr_addresses::CsrAddress;
-    use crate::csr_immediates::CsrImmediate;
-    use crate::immediates::Immediate;
-    use crate::jump_offsets::JumpOffset;
+    use crate::fields::{
+        BranchOffset, CsrAddress, CsrImmediate, Immediate, JumpOffset, ShiftAmount, UpperImmediate,
+    };
     use crate::operations::{Condition, CsrOp, ImmediateOp, LoadForm, ShiftOp, Width};
-    use crate::shift_amounts::ShiftAmount;
-    use crate::upper_immediates::UpperImmediate;
 
     fn x(number: u8) -> Reg {
         Reg::new(number).unwrap_or(Reg::ZERO)
