@@ -56,16 +56,13 @@ fn branches(rt: HostRuntime) {
         (0x8073_0063, Condition::Equal, -4096),
     ] {
         let offset = BranchOffset::new(offset).expect(&rt, "even");
-        same(
-            &rt,
-            word,
-            Instr::Branch {
-                condition,
-                rs1,
-                rs2,
-                offset,
-            },
-        );
+        let instruction = Instr::Branch {
+            condition,
+            rs1,
+            rs2,
+            offset,
+        };
+        same(&rt, word, instruction);
     }
 }
 
@@ -81,16 +78,13 @@ fn loads_and_jalr(rt: HostRuntime) {
         (0x7a53_4283, LoadForm::ByteUnsigned),
         (0x7a53_5283, LoadForm::HalfUnsigned),
     ] {
-        same(
-            &rt,
-            word,
-            Instr::Load {
-                form,
-                rd,
-                rs1,
-                offset,
-            },
-        );
+        let instruction = Instr::Load {
+            form,
+            rd,
+            rs1,
+            offset,
+        };
+        same(&rt, word, instruction);
     }
 }
 
@@ -105,16 +99,13 @@ fn stores(rt: HostRuntime) {
         (0x8073_2023, Width::Word, -2048),
     ] {
         let offset = immediate(&rt, offset);
-        same(
-            &rt,
-            word,
-            Instr::Store {
-                width,
-                rs1,
-                rs2,
-                offset,
-            },
-        );
+        let instruction = Instr::Store {
+            width,
+            rs1,
+            rs2,
+            offset,
+        };
+        same(&rt, word, instruction);
     }
 }
 
@@ -131,16 +122,13 @@ fn operations_with_an_immediate(rt: HostRuntime) {
         (0x8003_0293, ImmediateOp::Addi, -2048),
     ] {
         let immediate = immediate(&rt, value);
-        same(
-            &rt,
-            word,
-            Instr::OpImmediate {
-                op,
-                rd,
-                rs1,
-                immediate,
-            },
-        );
+        let instruction = Instr::OpImmediate {
+            op,
+            rd,
+            rs1,
+            immediate,
+        };
+        same(&rt, word, instruction);
     }
     let amount = ShiftAmount::new(0b10101).expect(&rt, "five bits");
     for (word, op) in [
@@ -148,16 +136,13 @@ fn operations_with_an_immediate(rt: HostRuntime) {
         (0x0153_5293, ShiftOp::Srli),
         (0x4153_5293, ShiftOp::Srai),
     ] {
-        same(
-            &rt,
-            word,
-            Instr::Shift {
-                op,
-                rd,
-                rs1,
-                amount,
-            },
-        );
+        let instruction = Instr::Shift {
+            op,
+            rd,
+            rs1,
+            amount,
+        };
+        same(&rt, word, instruction);
     }
 }
 
@@ -207,16 +192,13 @@ fn csr_instructions(rt: HostRuntime) {
             (with_register, CsrSource::Register(rs1)),
             (with_number, CsrSource::Immediate(number)),
         ] {
-            same(
-                &rt,
-                word,
-                Instr::Csr {
-                    op,
-                    rd,
-                    csr,
-                    source,
-                },
-            );
+            let instruction = Instr::Csr {
+                op,
+                rd,
+                csr,
+                source,
+            };
+            same(&rt, word, instruction);
         }
     }
 }

@@ -6,7 +6,7 @@ use Rattle.toml.specs.Data.{Data}
 use Rattle.rv_isa.specs.declared.lines.Arrival.{Arrival}
 use Rattle.rv_describe.specs.Entry.{has_unknown_field, fields_of, arrival_of}
 use Rattle.rv_describe.specs.declared.arrivals_error.ArrivalsError.{ArrivalsError}
-use Rattle.rv_describe.specs.declared.arrivals_error.ArrivalsError.TheVariants.{NotToml, UnknownKey, WrongKind, OutOfRange, Unsorted, Memory}
+use Rattle.rv_describe.specs.declared.arrivals_error.ArrivalsError.TheVariants.{UnknownKey, WrongKind, OutOfRange, Unsorted}
 
 -- the number, from 1, of the first item that `read` gives nothing for
 abbrev pub first_without : {A B : Type 0} → (A → Option B) → List A → Option ℕ
@@ -59,9 +59,7 @@ abbrev pub entry_of : ArrivalsError → ℕ
 entry_of (WrongKind entry) = entry
 entry_of (OutOfRange entry) = entry
 entry_of (Unsorted entry) = entry
-entry_of NotToml = 0
-entry_of UnknownKey = 0
-entry_of Memory = 0
+entry_of _ = 0
 
 -- the arrivals, unless there is a fault
 abbrev pub unless : Option ArrivalsError → List Arrival → Result (List Arrival) ArrivalsError

@@ -1,5 +1,5 @@
 -- What is wrong with the values of a table of TOML.
-use Rattle.std.specs.Prelude.{ℕ, ℤ, Bool, true, false, is_some, Option, Some, None, if◌then◌else◌}
+use Rattle.std.specs.Prelude.{ℕ, ℤ, Bool, true, false, is_some, List, Option, Some, None, if◌then◌else◌}
 use Rattle.std.specs.List.{position_from}
 use Rattle.std.specs.Option.{option_map_or}
 use Rattle.toml.specs.Data.{Data, Members, as_integer, as_bool, as_str}
@@ -34,20 +34,15 @@ integer_fault bounds size z = option_map_or (bounds_fault bounds size) (word_of 
 abbrev pub number_fault : Bounds → ℕ → Data → Option ValueFault
 number_fault bounds size value = option_map_or (integer_fault bounds size) (as_integer value) (Some WrongKind)
 
-abbrev pub recovery_fault : Data → Option ValueFault
-recovery_fault value =
-    option_map_or (λ name. unless (is_some (recovery_named name)) OutOfRange) (as_str value) (Some WrongKind)
-
-abbrev pub predictor_fault : Data → Option ValueFault
-predictor_fault value =
-    option_map_or (λ name. unless (is_some (predictor_named name)) OutOfRange) (as_str value) (Some WrongKind)
+abbrev pub choice_fault : {X : Type 0} → (List ℕ → Option X) → Data → Option ValueFault
+choice_fault named value = option_map_or (λ name. unless (is_some (named name)) OutOfRange) (as_str value) (Some WrongKind)
 
 -- what is wrong with a value
 abbrev pub value_fault : Key → ℕ → Data → Option ValueFault
 value_fault (Number key) size value = number_fault (row_of key).bounds size value
-value_fault Recovery size value = recovery_fault value
+value_fault Recovery size value = choice_fault recovery_named value
 value_fault (Pipelined kind) size value = unless (is_some (as_bool value)) WrongKind
-value_fault PredictorKind size value = predictor_fault value
+value_fault PredictorKind size value = choice_fault predictor_named value
 
 -- A key that is not there has no fault. A name that must hold a table and does not is each of its keys' fault, and so
 -- the first one's.
@@ -65,11 +60,10 @@ unfoldable pub key_fault : Members → Key → Option ValueFault
 key_fault members key = held_fault key (ram_size_of members) (held members (key_place key))
 
 abbrev pub is_fault : ValueFault → Option ValueFault → Bool
-is_fault fault None = false
 is_fault WrongKind (Some WrongKind) = true
 is_fault OutOfRange (Some OutOfRange) = true
 is_fault NotPowerOfTwo (Some NotPowerOfTwo) = true
-is_fault fault (Some other) = false
+is_fault _ _ = false
 
 -- the place, from 1, of the first key with a fault
 unfoldable pub first_place : ValueFault → Members → Option ℕ
@@ -80,6 +74,4 @@ abbrev pub place_of : DescriptionError → ℕ
 place_of (error.WrongKind place) = place
 place_of (error.OutOfRange place) = place
 place_of (error.NotPowerOfTwo place) = place
-place_of error.NotToml = 0
-place_of error.UnknownKey = 0
-place_of error.Memory = 0
+place_of _ = 0

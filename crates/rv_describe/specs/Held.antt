@@ -1,6 +1,6 @@
 -- What a table of TOML holds at a key.
 use Rattle.std.specs.Prelude.{List, ℕ, Option, Some, None}
-use Rattle.toml.specs.Data.{Data, table, Members, get_member, string, integer, float, boolean, datetime, array}
+use Rattle.toml.specs.Data.{Data, table, Members, get_member}
 use Rattle.rv_isa.specs.Key.{Place}
 use Rattle.toml.specs.View.{view}
 use Rattle.rv_describe.specs.declared.held.Held.{Held as Look}
@@ -21,12 +21,7 @@ at_name (Some value) = present value
 abbrev pub within_table : List ℕ → Option Data → Held
 within_table name None = absent
 within_table name (Some (table members)) = at_name (get_member name members)
-within_table name (Some (string text)) = misplaced
-within_table name (Some (integer number)) = misplaced
-within_table name (Some (float number)) = misplaced
-within_table name (Some (boolean truth)) = misplaced
-within_table name (Some (datetime time)) = misplaced
-within_table name (Some (array items)) = misplaced
+within_table name _ = misplaced
 
 abbrev pub held_under : Option (List ℕ) → List ℕ → Members → Held
 held_under None name members = at_name (get_member name members)

@@ -2,15 +2,14 @@
 use Rattle.std.specs.Prelude.{ℕ, Bool, true, false, not, ◌&&◌, ◌||◌, List, Option, Some, None}
 use Rattle.std.specs.List.{list_any}
 use Rattle.std.specs.Str.{bytes_eq}
-use Rattle.toml.specs.Data.{Data, table, Members, no_members, member, string, integer, float, boolean, datetime, array}
+use Rattle.toml.specs.Data.{Data, table, Members, no_members, member}
 use Rattle.rv_isa.specs.Key.{key_place, order}
 
 -- the same place of keys: the top level, or the table of a name
 abbrev pub same_table : Option (List ℕ) → Option (List ℕ) → Bool
 same_table None None = true
-same_table None (Some other) = false
-same_table (Some outer) None = false
 same_table (Some outer) (Some other) = bytes_eq outer other
+same_table _ _ = false
 
 -- some key has this name in this table
 unfoldable pub is_key : Option (List ℕ) → List ℕ → Bool
@@ -28,12 +27,7 @@ any_member is_unknown (member name value rest) = is_unknown name value || any_me
 -- some name in a table of keys is none of its keys; what is no table has no names
 abbrev pub unknown_within : List ℕ → Data → Bool
 unknown_within name (table members) = any_member (λ inner value. not (is_key (Some name) inner)) members
-unknown_within name (string text) = false
-unknown_within name (integer number) = false
-unknown_within name (float number) = false
-unknown_within name (boolean truth) = false
-unknown_within name (datetime time) = false
-unknown_within name (array items) = false
+unknown_within name _ = false
 
 -- A name at top level is a key's, and then its value is not looked into, or a table's.
 abbrev pub unknown_at_top : List ℕ → Data → Bool

@@ -1,7 +1,7 @@
 ghost use Rattle.std.specs.Prelude.{◌≡◌, Some};
 ghost use Rattle.std.specs.List.{position_from};
 ghost use Rattle.toml.specs.View.{view, table_view};
-ghost use Rattle.rv_describe.specs.Fault.{unless, bounds_fault, integer_fault, number_fault, recovery_fault, predictor_fault, value_fault, key_fault, is_fault, first_place, ram_size_of};
+ghost use Rattle.rv_describe.specs.Fault.{unless, bounds_fault, integer_fault, number_fault, choice_fault, value_fault, key_fault, is_fault, first_place, ram_size_of};
 ghost use Rattle.rv_describe.specs.Setting.{recovery_named, predictor_named};
 
 use crate::held::{Held, look_up};
@@ -54,7 +54,7 @@ fn number_fault(bounds: Bounds, size: u32, value: &Value) -> Option<ValueFault>
 }
 
 fn recovery_fault(value: &Value) -> Option<ValueFault>
-    ensures { result ≡ recovery_fault (view value.now) }
+    ensures { result ≡ choice_fault recovery_named (view value.now) }
 {
     match value.as_str() {
         Some(name) => unless(recovery_named(name).is_some(), ValueFault::OutOfRange),
@@ -63,7 +63,7 @@ fn recovery_fault(value: &Value) -> Option<ValueFault>
 }
 
 fn predictor_fault(value: &Value) -> Option<ValueFault>
-    ensures { result ≡ predictor_fault (view value.now) }
+    ensures { result ≡ choice_fault predictor_named (view value.now) }
 {
     match value.as_str() {
         Some(name) => unless(predictor_named(name).is_some(), ValueFault::OutOfRange),

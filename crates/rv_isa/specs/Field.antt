@@ -1,13 +1,5 @@
-use Rattle.std.specs.Prelude.{◌≡◌, ℤ, pos, negsuc, ◌≤ℤ◌, unsigned_abs, ◌%◌}
+use Rattle.std.specs.Prelude.{◌≡◌, ℕ, ◌%◌, ℤ, pos, ◌-ℤ◌, ◌≤ℤ◌, ◌<ℤ◌, unsigned_abs}
 
--- Unprivileged ISA 20191213, 2.3: the immediates of the formats I and S, from -2048 to 2047
-abbrev pub IsImmediate : ℤ → Type 0
-IsImmediate z = (negsuc 2047 ≤ℤ z) × (z ≤ℤ pos 2047)
-
--- Unprivileged ISA 20191213, 2.3: the immediates of the format B, even and from -4096 to 4094
-abbrev pub IsBranchOffset : ℤ → Type 0
-IsBranchOffset z = (negsuc 4095 ≤ℤ z) × (z ≤ℤ pos 4094) × (unsigned_abs z % 2 ≡ 0)
-
--- Unprivileged ISA 20191213, 2.3: the immediates of the format J, even and from -1048576 to 1048574
-abbrev pub IsJumpOffset : ℤ → Type 0
-IsJumpOffset z = (negsuc 1048575 ≤ℤ z) × (z ≤ℤ pos 1048574) × (unsigned_abs z % 2 ≡ 0)
+-- Unprivileged ISA 20191213, 2.3: the immediates that are extended by their sign, as the multiples of a step from -half to less than half
+abbrev pub IsSigned : ℕ → ℕ → ℤ → Type 0
+IsSigned half step z = ((pos 0 -ℤ pos half) ≤ℤ z) × (z <ℤ pos half) × (unsigned_abs z % step ≡ 0)

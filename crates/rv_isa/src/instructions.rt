@@ -1,12 +1,8 @@
-use crate::branch_offsets::BranchOffset;
-use crate::csr_addresses::CsrAddress;
-use crate::csr_immediates::CsrImmediate;
-use crate::immediates::Immediate;
-use crate::jump_offsets::JumpOffset;
+use crate::fields::{
+    BranchOffset, CsrAddress, CsrImmediate, Immediate, JumpOffset, ShiftAmount, UpperImmediate,
+};
 use crate::operations::{AluOp, Condition, CsrOp, ImmediateOp, LoadForm, ShiftOp, Width};
 use crate::registers::Reg;
-use crate::shift_amounts::ShiftAmount;
-use crate::upper_immediates::UpperImmediate;
 
 /// The source of a CSR instruction, in bits 19 to 15 of its word (Unprivileged ISA 20191213, 9.1).
 #[derive(Clone, Copy, Debug, PartialEq, Eq)]

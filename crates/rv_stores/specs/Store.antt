@@ -13,9 +13,8 @@ written_at place access = if nat_le access.address place then slice_get access.b
 
 -- the byte of a store at a place of memory: one that waits or faults covers none
 abbrev pub byte_of_state : ℕ → StoreState → Option ℕ
-byte_of_state place Waiting = None
-byte_of_state place Faulted = None
 byte_of_state place (Filled access phase) = written_at place access
+byte_of_state place _ = None
 
 abbrev pub byte_at : ℕ → Store → Option ℕ
 byte_at place store = byte_of_state place store.state
@@ -33,41 +32,32 @@ laid_over address count store found = map (laid_byte address count store found) 
 -- the store was filled or marked as faulting
 abbrev pub is_known_state : StoreState → Bool
 is_known_state Waiting = false
-is_known_state Faulted = true
-is_known_state (Filled access phase) = true
+is_known_state _ = true
 
 abbrev pub is_known : Store → Bool
 is_known store = is_known_state store.state
 
 -- the store has retired
 abbrev pub is_committed_state : StoreState → Bool
-is_committed_state Waiting = false
-is_committed_state Faulted = false
-is_committed_state (Filled access Speculative) = false
 is_committed_state (Filled access Committed) = true
 is_committed_state (Filled access Draining) = true
+is_committed_state _ = false
 
 abbrev pub is_committed : Store → Bool
 is_committed store = is_committed_state store.state
 
 -- the store's access to the cache is under way
 abbrev pub is_draining_state : StoreState → Bool
-is_draining_state Waiting = false
-is_draining_state Faulted = false
-is_draining_state (Filled access Speculative) = false
-is_draining_state (Filled access Committed) = false
 is_draining_state (Filled access Draining) = true
+is_draining_state _ = false
 
 abbrev pub is_draining : Store → Bool
 is_draining store = is_draining_state store.state
 
 -- what a store writes, where it is committed and not draining
 abbrev pub state_to_drain : StoreState → Option StoreAccess
-state_to_drain Waiting = None
-state_to_drain Faulted = None
-state_to_drain (Filled access Speculative) = None
 state_to_drain (Filled access Committed) = Some access
-state_to_drain (Filled access Draining) = None
+state_to_drain _ = None
 
 abbrev pub access_to_drain : Store → Option StoreAccess
 access_to_drain store = state_to_drain store.state
@@ -83,8 +73,7 @@ filled_with access = Filled access Speculative
 -- after a broadcast: a store that waits learns the news, any other stays
 abbrev pub told : StoreState → StoreState → StoreState
 told news Waiting = news
-told news Faulted = Faulted
-told news (Filled access phase) = Filled access phase
+told news state = state
 
 -- a store after the broadcast of a number
 abbrev pub answered : ℕ → StoreState → Store → Store
@@ -92,12 +81,10 @@ answered seq news store = if store.seq == seq then record store { state = told n
 
 -- after its retirement: a filled store is committed
 abbrev pub retired : StoreState → StoreState
-retired Waiting = Waiting
-retired Faulted = Faulted
 retired (Filled access phase) = Filled access Committed
+retired state = state
 
 -- after its access to the cache began: a filled store drains
 abbrev pub draining : StoreState → StoreState
-draining Waiting = Waiting
-draining Faulted = Faulted
 draining (Filled access phase) = Filled access Draining
+draining state = state
