@@ -63,14 +63,18 @@ value_of kept lines Mstatus = mstatus_of kept
 value_of kept lines Misa = 0x40001100
 value_of kept lines Mie = interrupt_bits kept.mie
 value_of kept lines Mtvec = kept.mtvec
+value_of kept lines Mstatush = 0
 value_of kept lines Mscratch = kept.mscratch
 value_of kept lines Mepc = kept.mepc
 value_of kept lines Mcause = kept.mcause
 value_of kept lines Mtval = kept.mtval
 -- 3.1.9: the levels of the lines
 value_of kept lines Mip = interrupt_bits lines
--- mstatush, mvendorid, marchid, mimpid, mhartid and mconfigptr
-value_of kept lines _ = 0
+value_of kept lines Mvendorid = 0
+value_of kept lines Marchid = 0
+value_of kept lines Mimpid = 0
+value_of kept lines Mhartid = 0
+value_of kept lines Mconfigptr = 0
 
 -- 3.1.7: the base in bits 31 to 2 and the mode, direct 0 or vectored 1; a reserved mode becomes direct
 abbrev pub legal_mtvec : ℕ → ℕ
@@ -83,13 +87,20 @@ legal_mepc word = 4 * (word / 4)
 -- Privileged Architecture 20211203, 3.1: what is kept once a word was written to each CSR
 abbrev pub written : Kept → Csr → ℕ → Kept
 written kept Mstatus word = record kept { mstatus_mie = has_bit word 3; mstatus_mpie = has_bit word 7 }
+written kept Misa word = kept
 written kept Mie word = record kept { mie = interrupts_of word }
 written kept Mtvec word = record kept { mtvec = legal_mtvec word }
+written kept Mstatush word = kept
 written kept Mscratch word = record kept { mscratch = word }
 written kept Mepc word = record kept { mepc = legal_mepc word }
 written kept Mcause word = record kept { mcause = word }
 written kept Mtval word = record kept { mtval = word }
-written kept _ word = kept
+written kept Mip word = kept
+written kept Mvendorid word = kept
+written kept Marchid word = kept
+written kept Mimpid word = kept
+written kept Mhartid word = kept
+written kept Mconfigptr word = kept
 
 -- Privileged Architecture 20211203, 2.1: bits 11 and 10 of a read-only CSR's address are both 1
 abbrev pub is_read_only : ℕ → Bool
@@ -98,7 +109,8 @@ is_read_only address = has_bit address 11 && has_bit address 10
 -- Unprivileged ISA 20191213, 9.1: csrrs and csrrc with x0, csrrsi and csrrci with 0, do not write
 abbrev pub does_write : CsrOp → Bool → Bool
 does_write Write field_is_zero = true
-does_write _ field_is_zero = not field_is_zero
+does_write Set field_is_zero = not field_is_zero
+does_write Clear field_is_zero = not field_is_zero
 
 -- Unprivileged ISA 20191213, 9.1: the word that is written, of the old value and the source
 abbrev pub new_value : CsrOp → ℕ → ℕ → ℕ

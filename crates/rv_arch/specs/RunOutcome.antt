@@ -36,7 +36,9 @@ IsStop layout arrivals limit outcomes s stop.Exhausted = ⊥
 -- how many steps were asked for: one more than were taken where the last was found stale
 abbrev pub steps_asked : ℕ → Stop → ℕ
 steps_asked steps (stop.Stale pc) = steps + 1
-steps_asked steps _ = steps
+steps_asked steps stop.Limit = steps
+steps_asked steps stop.Breakpoint = steps
+steps_asked steps stop.Exhausted = steps
 
 -- A run from old to new with the stamps 0, 1, 2 and so on, up to a breakpoint, a stale word or the limit.
 pub record IsRunTo (arrivals : List Arrival) (limit : ℕ) (old new : Machine) (outcome : RefOutcome) : Type 0 where

@@ -188,7 +188,9 @@ values_with number is_pipelined recovery predictor =
 -- the value at a key is one that the key takes
 abbrev pub obeys : Values → Key → Bool
 obeys v (Number key) = takes (row_of key).bounds v.ram_size (number_of v key)
-obeys v _ = true
+obeys v Recovery = true
+obeys v (Pipelined kind) = true
+obeys v PredictorKind = true
 
 -- the value at each key is one that the key takes
 abbrev pub ObeysEachKey : Values → Type 0

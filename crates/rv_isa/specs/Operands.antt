@@ -1,14 +1,17 @@
 use Rattle.std.specs.Prelude.{ℕ, List, [], ◌∷◌, ◌==◌, cond, Option, None, Some}
 use Rattle.rv_isa.specs.declared.operations.AluOp.{AluOp}
-use Rattle.rv_isa.specs.declared.operations.AluOp.TheVariants.{Mul, Mulh, Mulhsu, Mulhu, Div, Divu, Rem, Remu}
+use Rattle.rv_isa.specs.declared.operations.AluOp.TheVariants.{Add, Sub, Sll, Slt, Sltu, Xor, Srl, Sra, Or, And, Mul, Mulh, Mulhsu, Mulhu, Div, Divu, Rem, Remu, Sh1add, Sh2add, Sh3add}
 use Rattle.rv_isa.specs.declared.operations.Kind.{Kind}
 use Rattle.rv_isa.specs.declared.operations.Kind.TheVariants as kind
 use Rattle.rv_isa.specs.declared.instructions.CsrSource.TheVariants as source
 use Rattle.rv_isa.specs.declared.instructions.Instr.{Instr}
-use Rattle.rv_isa.specs.declared.instructions.Instr.TheVariants.{Lui, Auipc, Jal, Jalr, Branch, Load, Store, OpImmediate, Shift, Op, Csr}
+use Rattle.rv_isa.specs.declared.instructions.Instr.TheVariants.{Lui, Auipc, Jal, Jalr, Branch, Load, Store, OpImmediate, Shift, Op, Fence, FenceI, Csr, Ecall, Ebreak, Mret, Wfi}
 
 -- Unprivileged ISA 20191213, 2.2: the fields rs1 and rs2 that the instruction's format has
 abbrev pub sources_of : Instr → List (Option ℕ)
+sources_of (Lui rd immediate) = None ∷ None ∷ []
+sources_of (Auipc rd immediate) = None ∷ None ∷ []
+sources_of (Jal rd offset) = None ∷ None ∷ []
 sources_of (Jalr rd rs1 offset) = Some rs1 ∷ None ∷ []
 sources_of (Branch condition rs1 rs2 offset) = Some rs1 ∷ Some rs2 ∷ []
 sources_of (Load form rd rs1 offset) = Some rs1 ∷ None ∷ []
@@ -16,8 +19,14 @@ sources_of (Store width rs1 rs2 offset) = Some rs1 ∷ Some rs2 ∷ []
 sources_of (OpImmediate op rd rs1 immediate) = Some rs1 ∷ None ∷ []
 sources_of (Shift op rd rs1 amount) = Some rs1 ∷ None ∷ []
 sources_of (Op op rd rs1 rs2) = Some rs1 ∷ Some rs2 ∷ []
+sources_of Fence = None ∷ None ∷ []
+sources_of FenceI = None ∷ None ∷ []
 sources_of (Csr op rd csr (source.Register rs1)) = Some rs1 ∷ None ∷ []
-sources_of _ = None ∷ None ∷ []
+sources_of (Csr op rd csr (source.Immediate immediate)) = None ∷ None ∷ []
+sources_of Ecall = None ∷ None ∷ []
+sources_of Ebreak = None ∷ None ∷ []
+sources_of Mret = None ∷ None ∷ []
+sources_of Wfi = None ∷ None ∷ []
 
 -- a register that is written, for x0 drops what is written to it (Unprivileged ISA 20191213, 2.1)
 abbrev pub written : ℕ → Option ℕ
@@ -29,15 +38,32 @@ target_of (Lui rd immediate) = written rd
 target_of (Auipc rd immediate) = written rd
 target_of (Jal rd offset) = written rd
 target_of (Jalr rd rs1 offset) = written rd
+target_of (Branch condition rs1 rs2 offset) = None
 target_of (Load form rd rs1 offset) = written rd
+target_of (Store width rs1 rs2 offset) = None
 target_of (OpImmediate op rd rs1 immediate) = written rd
 target_of (Shift op rd rs1 amount) = written rd
 target_of (Op op rd rs1 rs2) = written rd
+target_of Fence = None
+target_of FenceI = None
 target_of (Csr op rd csr source) = written rd
-target_of _ = None
+target_of Ecall = None
+target_of Ebreak = None
+target_of Mret = None
+target_of Wfi = None
 
--- Unprivileged ISA 20191213, 7.1 and 7.2: the kind of unit for a register operation
+-- the kind of unit for a register operation
 abbrev pub operation_kind_of : AluOp → Kind
+operation_kind_of Add = kind.Alu
+operation_kind_of Sub = kind.Alu
+operation_kind_of Sll = kind.Alu
+operation_kind_of Slt = kind.Alu
+operation_kind_of Sltu = kind.Alu
+operation_kind_of Xor = kind.Alu
+operation_kind_of Srl = kind.Alu
+operation_kind_of Sra = kind.Alu
+operation_kind_of Or = kind.Alu
+operation_kind_of And = kind.Alu
 operation_kind_of Mul = kind.Mul
 operation_kind_of Mulh = kind.Mul
 operation_kind_of Mulhsu = kind.Mul
@@ -46,7 +72,9 @@ operation_kind_of Div = kind.Div
 operation_kind_of Divu = kind.Div
 operation_kind_of Rem = kind.Div
 operation_kind_of Remu = kind.Div
-operation_kind_of _ = kind.Alu
+operation_kind_of Sh1add = kind.Alu
+operation_kind_of Sh2add = kind.Alu
+operation_kind_of Sh3add = kind.Alu
 
 -- the kind of unit for an instruction: none where it needs nothing to be computed, or waits to be the oldest
 abbrev pub kind_of : Instr → Option Kind
@@ -60,4 +88,10 @@ kind_of (Store width rs1 rs2 offset) = Some kind.Mem
 kind_of (OpImmediate op rd rs1 immediate) = Some kind.Alu
 kind_of (Shift op rd rs1 amount) = Some kind.Alu
 kind_of (Op op rd rs1 rs2) = Some (operation_kind_of op)
-kind_of _ = None
+kind_of Fence = None
+kind_of FenceI = None
+kind_of (Csr op rd csr source) = None
+kind_of Ecall = None
+kind_of Ebreak = None
+kind_of Mret = None
+kind_of Wfi = None
