@@ -1,10 +1,10 @@
-ghost use Rattle.std.specs.Prelude.{◌≡◌, ◌+◌, ◌^◌, ◌<◌, ◌≤◌, vec_len, vec_capacity, IfErr, IfOk, MatchResult};
+ghost use Rattle.std.specs.Prelude.{◌≡◌, ◌+◌, ◌^◌, ◌<◌, ◌≤◌, [], vec_len, vec_capacity, IfErr, IfOk, MatchResult};
 ghost use Rattle.rv_isa.specs.Description.{gap_bound_of};
 ghost use Rattle.rv_hardware.specs.Headline.{IsTrueRun, IsTrueStop};
 ghost use Rattle.rv_hardware.specs.Laws.{AreCounted, Laws, TakesDueInterrupts};
 ghost use Rattle.rv_hardware.specs.LongestGap.{IsLongestGap};
 ghost use Rattle.rv_hardware.specs.Seen.{layout_of, seen};
-ghost use Rattle.rv_core.specs.Progress.{IsBounded, IsNextCycle, progress_after};
+ghost use Rattle.rv_core.specs.Progress.{IsBounded, IsNextCycle, progress_after, progress_of};
 ghost use Rattle.rv_core.specs.RunDone.{IsCutShort, IsOutcome};
 ghost use Rattle.rv_core.specs.Told.{report_with};
 ghost use Rattle.rv_hardware.specs.Report.{counted};
@@ -59,7 +59,7 @@ fn run_cycles(
     ensures { MatchResult result (λ outcome. IsOutcome arrivals.now limit core.old core.new outcome) (λ done. IsCutShort arrivals.now limit core.old core.new done) }
 {
     let mut steps = Vec::new(alloc);
-    let mut progress = Progress::default();
+    let mut progress = Progress::new();
     for _ in 0..limit {
         if core.is_exhausted() {
             return Ok(progress.outcome(steps, Stop::Exhausted));
@@ -93,6 +93,25 @@ fn count_stall(stalls: &mut StallCounts, stall: Stall)
 }
 
 impl Progress {
+    /// The counts of no cycle.
+    pub fn new() -> Progress
+        ensures { result ≡ progress_of [] }
+    {
+        Progress {
+            stalls: StallCounts {
+                fetch: 0,
+                serial: 0,
+                rob: 0,
+                station: 0,
+                store: 0,
+            },
+            busy: 0,
+            cycles: 0,
+            silent: 0,
+            longest_gap: 0,
+        }
+    }
+
     /// Does one more cycle of a run, with the lines of its number, appends its steps to a list that has room for eight, and
     /// counts it. Takes no memory. Tells why the run stops with this cycle, if it does.
     pub fn run_cycle(

@@ -41,7 +41,7 @@ pub struct Outcome {
 }
 
 /// The counts of a run so far.
-#[derive(Clone, Copy, Debug, Default, PartialEq, Eq)]
+#[derive(Clone, Copy, Debug, PartialEq, Eq)]
 pub struct Progress {
     /// The cycles that dispatched nothing, by the reason.
     pub stalls: StallCounts,

@@ -88,7 +88,7 @@ fn run_traced<W: Write>(
 {
     let mut core = core;
     let mut steps = steps;
-    let mut progress = Progress::default();
+    let mut progress = Progress::new();
     let mut trace = Trace::new();
     for _ in 0..options.limit {
         if core.is_exhausted() {

@@ -1,6 +1,6 @@
-use Rattle.std.proofs.Common.{◌≡◌, ◌+◌, [], ◌++◌, sym, ap, ◌∙◌, subst, arith}
+use Rattle.std.proofs.Common.{◌≡◌, ◌+◌, ◌++◌, sym, ap, ◌∙◌, subst, arith}
 use Rattle.std.proofs.lemmas.Bool.{leb-true}
-use Rattle.rv_core.specs.Progress.{IsBounded, progress_after, progress_of}
+use Rattle.rv_core.specs.Progress.{IsBounded, progress_after}
 use Rattle.rv_core.specs.RunDone.{IsCutShort, IsOutcome}
 use Rattle.rv_core.specs.Told.{IsCommitStop}
 use Rattle.rv_core.specs.declared.errors.OutOfMemory.{OutOfMemory}
@@ -14,17 +14,7 @@ use Rattle.rv_core.proofs.cycles.run_cycles.Given.{Over}
 
 pub loop-init : goal.loop-init
 loop-init g c =
-    let zero = c.default-progress.ensures in
-    let none : c.default-progress.result ≡ progress_of [] =
-    λ j. record {
-      stalls = record { fetch = zero.0.0 j; serial = zero.0.1.0 j; rob = zero.0.1.1.0 j; station = zero.0.1.1.1.0 j; store = zero.0.1.1.1.1 j };
-      busy = zero.1.0 j;
-      cycles = zero.1.1.0 j;
-      silent = zero.1.1.1.0 j;
-      longest_gap = zero.1.1.1.1 j;
-    }
-    in
-    (begins c.args.arrivals.now c.args.core.now c.default-progress.result c.new-steps.result.items none c.new-steps.ensures.items, zero.1.1.0)
+    (begins c.args.arrivals.now c.args.core.now c.new-progress.result c.new-steps.result.items c.new-progress.ensures c.new-steps.ensures.items, ap (λ (p : Progress). p.cycles) c.new-progress.ensures)
 
 pub returns-then-is_exhausted : goal.returns-then-is_exhausted
 returns-then-is_exhausted g c =
