@@ -1,11 +1,12 @@
-use Rattle.std.specs.Prelude.{ℕ, ◌+◌, ◌-◌, ◌*◌, ◌/◌, ◌%◌, ◌^◌, ◌==◌, ◌&&◌, Bool, true, false, not, if◌then◌else◌, List, [], ◌∷◌, Option, Some, None, bit_and, bit_or, nat_lt}
+use Rattle.std.specs.Prelude.{ℕ, ◌+◌, ◌-◌, ◌*◌, ◌/◌, ◌%◌, ◌^◌, ◌==◌, ◌&&◌, Bool, true, false, not, if◌then◌else◌, Option, None, bit_and, bit_or, nat_lt}
 use Rattle.std.specs.Option.{option_map}
 use Rattle.rv_isa.specs.declared.lines.Lines.{Lines}
 use Rattle.rv_isa.specs.declared.operations.CsrOp.{CsrOp}
 use Rattle.rv_isa.specs.declared.operations.CsrOp.TheVariants.{Write, Set, Clear}
-use Rattle.rv_arch.specs.declared.csr.Csr.{Csr}
+use Rattle.rv_isa.specs.declared.csrs.Csr.{Csr}
+use Rattle.rv_isa.specs.declared.csrs.Csr.TheVariants.{Mstatus, Misa, Mie, Mtvec, Mscratch, Mepc, Mcause, Mtval, Mip}
+use Rattle.rv_isa.specs.Csr.{csr_at}
 use Rattle.rv_arch.specs.declared.csr.CsrOperand.{CsrOperand}
-use Rattle.rv_arch.specs.declared.csr.Csr.TheVariants.{Mstatus, Misa, Mie, Mtvec, Mstatush, Mscratch, Mepc, Mcause, Mtval, Mip, Mvendorid, Marchid, Mimpid, Mhartid, Mconfigptr}
 
 -- Privileged Architecture 20211203, 3.1: the bits of the CSRs that are kept. Every other bit reads as a constant.
 pub record Kept : Type 0 where
@@ -17,21 +18,6 @@ pub record Kept : Type 0 where
   pub mepc : ℕ
   pub mcause : ℕ
   pub mtval : ℕ
-
--- Privileged Architecture 20211203, 2.2, tables 2.5 and 2.6: the addresses of the CSRs
-abbrev pub csr_table : List (ℕ × Csr)
-csr_table =
-    (0x300, Mstatus) ∷ (0x301, Misa) ∷ (0x304, Mie) ∷ (0x305, Mtvec) ∷ (0x310, Mstatush) ∷
-    (0x340, Mscratch) ∷ (0x341, Mepc) ∷ (0x342, Mcause) ∷ (0x343, Mtval) ∷ (0x344, Mip) ∷
-    (0xf11, Mvendorid) ∷ (0xf12, Marchid) ∷ (0xf13, Mimpid) ∷ (0xf14, Mhartid) ∷ (0xf15, Mconfigptr) ∷ []
-
-abbrev pub find_csr : ℕ → List (ℕ × Csr) → Option Csr
-find_csr address [] = None
-find_csr address (row ∷ rows) = if address == row.0 then Some row.1 else find_csr address rows
-
--- the CSR at an address, if there is one
-abbrev pub csr_at : ℕ → Option Csr
-csr_at address = find_csr address csr_table
 
 -- whether bit n of a word is 1
 abbrev pub has_bit : ℕ → ℕ → Bool

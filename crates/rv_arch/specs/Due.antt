@@ -1,7 +1,7 @@
 use Rattle.std.specs.Prelude.{ℕ, ◌&&◌, Bool, if◌then◌else◌, [], ◌∷◌, Option, None}
 use Rattle.std.specs.List.{find}
 use Rattle.rv_isa.specs.declared.lines.Lines.{Lines}
-use Rattle.rv_arch.specs.declared.csr.Csr.TheVariants.{Mie, Mip}
+use Rattle.rv_isa.specs.declared.csrs.Csr.TheVariants.{Mie, Mip}
 use Rattle.rv_arch.specs.Csr.{Kept, has_bit, value_of}
 
 -- Privileged Architecture 20211203, 3.1.9: an interrupt is pending and enabled where its bit is 1 in mip and in mie

@@ -4,55 +4,6 @@ use rv_isa::{CsrSource, Reg};
 use std::error::Error;
 use std::fmt;
 
-/// A control and status register of machine mode (Privileged Architecture 20211203, 2.2, tables 2.5
-/// and 2.6).
-#[derive(Clone, Copy, Debug, PartialEq, Eq)]
-pub enum Csr {
-    Mstatus,
-    Misa,
-    Mie,
-    Mtvec,
-    Mstatush,
-    Mscratch,
-    Mepc,
-    Mcause,
-    Mtval,
-    Mip,
-    Mvendorid,
-    Marchid,
-    Mimpid,
-    Mhartid,
-    Mconfigptr,
-}
-
-impl Csr {
-    ghost use Rattle.rv_arch.specs.Csr.{csr_at};
-
-    /// The register at an address, or `None` where there is none.
-    pub fn at(address: u32) -> Option<Csr>
-        ensures { result ≡ csr_at address }
-    {
-        match address {
-            0x300 => Some(Csr::Mstatus),
-            0x301 => Some(Csr::Misa),
-            0x304 => Some(Csr::Mie),
-            0x305 => Some(Csr::Mtvec),
-            0x310 => Some(Csr::Mstatush),
-            0x340 => Some(Csr::Mscratch),
-            0x341 => Some(Csr::Mepc),
-            0x342 => Some(Csr::Mcause),
-            0x343 => Some(Csr::Mtval),
-            0x344 => Some(Csr::Mip),
-            0xf11 => Some(Csr::Mvendorid),
-            0xf12 => Some(Csr::Marchid),
-            0xf13 => Some(Csr::Mimpid),
-            0xf14 => Some(Csr::Mhartid),
-            0xf15 => Some(Csr::Mconfigptr),
-            _ => None,
-        }
-    }
-}
-
 /// The source of a CSR instruction.
 #[derive(Clone, Copy, Debug, PartialEq, Eq)]
 pub struct CsrOperand {

@@ -1,11 +1,11 @@
 ghost use Rattle.std.specs.Prelude.{◌≡◌, ◌%◌, ◌≤◌, IfOk, IfSome, OnErr};
 
-use crate::csr::{Csr, CsrOperand, Illegal};
+use crate::csr::{CsrOperand, Illegal};
 use crate::csr_fields::{
     bit, does_write, has_bit, interrupt_bits, interrupts_of, is_read_only, legal_mepc, legal_mtvec,
     new_value,
 };
-use rv_isa::{CsrAddress, CsrOp, Lines};
+use rv_isa::{Csr, CsrAddress, CsrOp, Lines};
 use std::marker::Model;
 
 /// The causes from here on are those of interrupts (Privileged Architecture 20211203, 3.1.15).
@@ -80,7 +80,8 @@ impl Csrs {
         }
     }
 
-    fn value(&self, csr: Csr, lines: Lines) -> u32
+    /// What a register reads. `mip` reads the lines.
+    pub fn value(&self, csr: Csr, lines: Lines) -> u32
         ensures { result ≡ value_of self.now lines csr }
     {
         match csr {

@@ -15,7 +15,7 @@ mod step;
 #[cfg(test)]
 mod tests;
 
-pub use csr::{Csr, CsrOperand, Illegal};
+pub use csr::{CsrOperand, Illegal};
 pub use csrs::Csrs;
 pub use execution::extended;
 pub use observed::Observed;

@@ -1,6 +1,9 @@
 -- The names of registers and CSRs.
 use Rattle.std.specs.Prelude.{ℕ, List, [], ◌∷◌, Option, Some, None, if◌then◌else◌, codes}
+use Rattle.std.specs.Option.{option_map}
 use Rattle.std.specs.Str.{bytes_eq}
+use Rattle.rv_isa.specs.Csr as csr
+use Rattle.rv_isa.specs.Csr.{row_of}
 
 -- what the first row with this name has
 abbrev pub named : {T : Type 0} → List (List ℕ × T) → List ℕ → Option T
@@ -28,19 +31,9 @@ register_names =
     (codes "t3", 28) ∷ (codes "t4", 29) ∷ (codes "t5", 30) ∷ (codes "t6", 31) ∷
     []
 
--- Privileged Architecture 20211203, 2.2: the names of the CSRs that the machine has, and their addresses
-unfoldable pub csr_names : List (List ℕ × ℕ)
-csr_names =
-    (codes "mstatus", 0x300) ∷ (codes "misa", 0x301) ∷ (codes "mie", 0x304) ∷
-    (codes "mtvec", 0x305) ∷ (codes "mstatush", 0x310) ∷
-    (codes "mscratch", 0x340) ∷ (codes "mepc", 0x341) ∷ (codes "mcause", 0x342) ∷
-    (codes "mtval", 0x343) ∷ (codes "mip", 0x344) ∷
-    (codes "mvendorid", 0xf11) ∷ (codes "marchid", 0xf12) ∷ (codes "mimpid", 0xf13) ∷
-    (codes "mhartid", 0xf14) ∷ (codes "mconfigptr", 0xf15) ∷
-    []
-
 abbrev pub register_named : List ℕ → Option ℕ
 register_named name = named register_names name
 
+-- the address of the CSR of a name
 abbrev pub csr_named : List ℕ → Option ℕ
-csr_named name = named csr_names name
+csr_named name = option_map (λ found. (row_of found).0) (csr.csr_named name)

@@ -1,7 +1,7 @@
 ghost use Rattle.std.specs.Prelude.{◌≡◌, map};
 ghost use Rattle.rv_asm.specs.Names.{named, register_named, csr_named};
 
-use rv_isa::Reg;
+use rv_isa::{Csr, Reg};
 
 /// The registers' names: x0 to x31, and those of the calling convention.
 static REGISTERS: [(&[u8], u8); 65] = [
@@ -72,25 +72,6 @@ static REGISTERS: [(&[u8], u8); 65] = [
     (b"t6", 31),
 ];
 
-/// The names of the CSRs that the machine has, and their addresses.
-static CSRS: [(&[u8], u16); 15] = [
-    (b"mstatus", 0x300),
-    (b"misa", 0x301),
-    (b"mie", 0x304),
-    (b"mtvec", 0x305),
-    (b"mstatush", 0x310),
-    (b"mscratch", 0x340),
-    (b"mepc", 0x341),
-    (b"mcause", 0x342),
-    (b"mtval", 0x343),
-    (b"mip", 0x344),
-    (b"mvendorid", 0xf11),
-    (b"marchid", 0xf12),
-    (b"mimpid", 0xf13),
-    (b"mhartid", 0xf14),
-    (b"mconfigptr", 0xf15),
-];
-
 /// What a table has for a name.
 pub fn lookup<T: Copy>(table: &[(&[u8], T)], name: &[u8]) -> Option<T>
     ensures { result ≡ named (map (λ row. (row.0.now, row.1)) table.now) name.now }
@@ -121,8 +102,9 @@ pub fn register_named(name: &[u8]) -> Option<Reg>
 }
 
 /// The address of the CSR that a name names.
-pub fn csr_named(name: &[u8]) -> Option<u16>
+pub fn csr_named(name: &[u8]) -> Option<u32>
     ensures { result ≡ csr_named name.now }
 {
-    lookup(&CSRS, name)
+    let csr = Csr::named(name)?;
+    Some(csr.row().0)
 }

@@ -9,9 +9,10 @@ use Rattle.rv_isa.specs.declared.instructions.Instr.TheVariants.{FenceI, Csr, Mr
 use Rattle.rv_isa.specs.declared.instructions.CsrSource.{CsrSource}
 use Rattle.rv_isa.specs.declared.lines.Lines.{Lines}
 use Rattle.rv_isa.specs.declared.operations.CsrOp.{CsrOp}
-use Rattle.rv_arch.specs.declared.csr.Csr.{Csr as Register}
-use Rattle.rv_arch.specs.declared.csr.Csr.TheVariants as csr
-use Rattle.rv_arch.specs.Csr.{Kept, written, access, access_csr, csr_at, does_write, is_read_only, new_value, value_of}
+use Rattle.rv_isa.specs.declared.csrs.Csr.{Csr as Register}
+use Rattle.rv_isa.specs.declared.csrs.Csr.TheVariants as csr
+use Rattle.rv_isa.specs.Csr.{csr_at}
+use Rattle.rv_arch.specs.Csr.{Kept, written, access, access_csr, does_write, is_read_only, new_value, value_of}
 use Rattle.rv_arch.specs.Effect.{Effect, Retires, Faults, effect, accesses, operand_of}
 use Rattle.rv_arch.specs.State.{State}
 use Rattle.rv_stores.specs.declared.store.Store.{Store as QueuedStore}

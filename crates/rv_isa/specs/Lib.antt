@@ -4,6 +4,7 @@ pub mod Bounds
 pub mod Bytes
 pub mod Cause
 pub mod Comparison
+pub mod Csr
 pub mod Description
 pub mod Field
 pub mod Key

@@ -9,6 +9,7 @@ mod bounds;
 mod broadcast;
 mod causes;
 mod comparison;
+mod csrs;
 mod description;
 mod fields;
 mod images;
@@ -29,6 +30,7 @@ pub use bounds::Bounds;
 pub use broadcast::{Message, StoreAccess};
 pub use causes::{Cause, Fault};
 pub use comparison::branch_taken;
+pub use csrs::Csr;
 pub use description::Description;
 pub use fields::{
     BranchOffset, CsrAddress, CsrImmediate, Immediate, JumpOffset, ShiftAmount, Signed, Unsigned,

@@ -1,9 +1,10 @@
 -- The lines of a report that show the state at the end of a run: the pc, the registers, and the control and status registers.
-use Rattle.std.specs.Prelude.{ℕ, List, ◌++◌, codes, decimal, slice_index}
+use Rattle.std.specs.Prelude.{ℕ, List, [], ◌∷◌, ◌++◌, codes, decimal, slice_index}
 use Rattle.std.specs.List.{flat_map, range_with_len}
+use Rattle.rv_isa.specs.Csr.{row_of}
 use Rattle.rv_isa.specs.declared.lines.Lines.{Lines}
 use Rattle.rv_arch.specs.Csr.{Kept, value_of}
-use Rattle.rv_arch.specs.declared.csr.Csr.TheVariants.{Mstatus, Mie, Mtvec, Mscratch, Mepc, Mcause, Mtval, Mip}
+use Rattle.rv_isa.specs.declared.csrs.Csr.TheVariants.{Mstatus, Mie, Mtvec, Mscratch, Mepc, Mcause, Mtval, Mip}
 use Rattle.rv_arch.specs.declared.outcome.Stop.{Stop}
 use Rattle.rv_arch.specs.declared.outcome.Stop.TheVariants.{Limit, Breakpoint, Stale, Exhausted}
 use Rattle.rv_text.specs.Line.{word_text, line_of, word_line}
@@ -29,14 +30,8 @@ register_lines registers = flat_map (λ number. register_line number (slice_inde
 -- the CSRs that are shown, by the manuals' names
 unfoldable pub csr_lines : Kept → Lines → List ℕ
 csr_lines kept lines =
-    word_line (codes "mstatus") (value_of kept lines Mstatus) ++
-    (word_line (codes "mie") (value_of kept lines Mie) ++
-    (word_line (codes "mtvec") (value_of kept lines Mtvec) ++
-    (word_line (codes "mscratch") (value_of kept lines Mscratch) ++
-    (word_line (codes "mepc") (value_of kept lines Mepc) ++
-    (word_line (codes "mcause") (value_of kept lines Mcause) ++
-    (word_line (codes "mtval") (value_of kept lines Mtval) ++
-    word_line (codes "mip") (value_of kept lines Mip)))))))
+    flat_map (λ csr. word_line (row_of csr).1 (value_of kept lines csr))
+    (Mstatus ∷ Mie ∷ Mtvec ∷ Mscratch ∷ Mepc ∷ Mcause ∷ Mtval ∷ Mip ∷ [])
 
 -- the pc, the registers and the CSRs, with the levels of the interrupt lines
 unfoldable pub state_lines : ℕ → List ℕ → Kept → Lines → List ℕ

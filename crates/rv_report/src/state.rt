@@ -1,10 +1,12 @@
-ghost use Rattle.std.specs.Prelude.{◌≡◌, true, is_some, Some};
-ghost use Rattle.rv_arch.specs.Csr.{csr_at, read_at};
+ghost use Rattle.std.specs.Prelude.{◌≡◌};
+ghost use Rattle.rv_isa.specs.Csr.{row_of};
+ghost use Rattle.rv_arch.specs.Csr.{value_of};
 ghost use Rattle.rv_report.specs.State.{stop_line, register_line, register_lines, csr_lines, state_lines};
 ghost use Rattle.rv_text.specs.Written.{IsWritten};
 
 use itoa::Buffer;
 use rv_arch::{Observed, Stop};
+use rv_isa::Csr;
 use rv_text::{Field, ReportError, Value, hexadecimal, put, put_all, write_fields};
 use std::io::Write;
 
@@ -43,63 +45,32 @@ fn write_registers<W: Write>(writer: &mut W, registers: &[u32; 32]) -> Result<()
     Ok(())
 }
 
-// What the control and status register at an address reads.
-fn csr(seen: &Observed, address: u32) -> u32
-    requires { is_some (csr_at address) ≡ true }
-    ensures { Some result ≡ read_at seen.now.csrs seen.now.lines address }
+// The line of a control and status register.
+fn field(seen: &Observed, csr: Csr) -> Field<'static>
+    ensures name { result.name.now ≡ (row_of csr).1 }
+    ensures value { result.value ≡ Value.Word (value_of seen.now.csrs seen.now.lines csr) }
 {
-    seen.csrs.read(address, seen.lines).unwrap()
+    Field {
+        name: csr.row().1,
+        value: Value::Word(seen.csrs.value(csr, seen.lines)),
+    }
 }
 
 #[tactic(auto, unfolding(crate::specs::State::csr_lines, rv_text::specs::Line::word_line))]
 fn write_csrs<W: Write>(writer: &mut W, seen: &Observed) -> Result<(), ReportError>
     ensures { IsWritten result (W.contents writer.old) (W.contents writer.new) (csr_lines seen.now.csrs seen.now.lines) }
 {
-    let mstatus = csr(seen, 0x300);
-    let mie = csr(seen, 0x304);
-    let mtvec = csr(seen, 0x305);
-    let mscratch = csr(seen, 0x340);
-    let mepc = csr(seen, 0x341);
-    let mcause = csr(seen, 0x342);
-    let mtval = csr(seen, 0x343);
-    let mip = csr(seen, 0x344);
-    write_fields(
-        writer,
-        &[
-            Field {
-                name: "mstatus",
-                value: Value::Word(mstatus),
-            },
-            Field {
-                name: "mie",
-                value: Value::Word(mie),
-            },
-            Field {
-                name: "mtvec",
-                value: Value::Word(mtvec),
-            },
-            Field {
-                name: "mscratch",
-                value: Value::Word(mscratch),
-            },
-            Field {
-                name: "mepc",
-                value: Value::Word(mepc),
-            },
-            Field {
-                name: "mcause",
-                value: Value::Word(mcause),
-            },
-            Field {
-                name: "mtval",
-                value: Value::Word(mtval),
-            },
-            Field {
-                name: "mip",
-                value: Value::Word(mip),
-            },
-        ],
-    )
+    let fields = [
+        field(seen, Csr::Mstatus),
+        field(seen, Csr::Mie),
+        field(seen, Csr::Mtvec),
+        field(seen, Csr::Mscratch),
+        field(seen, Csr::Mepc),
+        field(seen, Csr::Mcause),
+        field(seen, Csr::Mtval),
+        field(seen, Csr::Mip),
+    ];
+    write_fields(writer, &fields)
 }
 
 /// Writes the pc, the registers and the control and status registers.

@@ -4,7 +4,7 @@ use Rattle.std.specs.Option.{option_or}
 use Rattle.rv_isa.specs.declared.broadcast.StoreAccess.{StoreAccess}
 use Rattle.rv_stores.specs.declared.store.StorePhase.TheVariants.{Speculative, Committed, Draining}
 use Rattle.rv_stores.specs.declared.store.StoreState.{StoreState}
-use Rattle.rv_stores.specs.declared.store.StoreState.TheVariants.{Waiting, Faulted, Filled}
+use Rattle.rv_stores.specs.declared.store.StoreState.TheVariants.{Waiting, Filled}
 use Rattle.rv_stores.specs.declared.store.Store.{Store}
 
 -- the byte that an access writes at a place of memory, where it covers the place
