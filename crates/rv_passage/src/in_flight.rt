@@ -24,9 +24,11 @@ pub(crate) fn passage_at(core: &Core, place: usize) -> Option<Passage>
     let buffer = core.reorder_buffer();
     let dispatched = buffer.len();
     if place < dispatched {
-        let entry = buffer.get(buffer.retired() + place as u64)?;
-        return Some(Passage::of_entry(entry));
+        let behind = dispatched - place;
+        let number = buffer.next_number() - behind as u64;
+        buffer.get(number).map(|entry| Passage::of_entry(entry))
+    } else {
+        let fetched = core.front().get(place - dispatched);
+        fetched.map(|word| Passage::of_fetched(word))
     }
-    let fetched = core.front().get(place - dispatched)?;
-    Some(Passage::of_fetched(fetched))
 }

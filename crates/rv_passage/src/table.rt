@@ -67,8 +67,8 @@ impl Table {
         requires countable { CanCount (passages_of self.old) }
         requires few { length steps.now ≤ 8 }
         ensures followed { passages_of self.new ≡ after_cycle cycle steps.now core.now (passages_of self.old) }
-        ensures rows { vec_capacity self.new.rows ≡ vec_capacity self.old.rows }
-        ensures interrupts { vec_capacity self.new.interrupts ≡ vec_capacity self.old.interrupts }
+        ensures rows { vec_capacity self.old.rows ≤ vec_capacity self.new.rows }
+        ensures interrupts { vec_capacity self.old.interrupts ≤ vec_capacity self.new.interrupts }
         ensures fetched { self.new.fetched ≤ self.old.fetched + 288 }
         ensures retired { self.new.retired ≤ self.old.retired + 8 }
         ensures in_flight { length (in_flight core.now) ≤ 288 }
@@ -85,8 +85,8 @@ impl Table {
         requires countable { self.old.retired + 1 < 2 ^ 64 }
         requires room { length self.old.interrupts.items < vec_capacity self.old.interrupts }
         ensures taken { passages_of self.new ≡ with_step step.now (passages_of self.old) }
-        ensures rows { vec_capacity self.new.rows ≡ vec_capacity self.old.rows }
-        ensures interrupts { vec_capacity self.new.interrupts ≡ vec_capacity self.old.interrupts }
+        ensures rows { vec_capacity self.old.rows ≤ vec_capacity self.new.rows }
+        ensures interrupts { vec_capacity self.old.interrupts ≤ vec_capacity self.new.interrupts }
     {
         match *step {
             Step::Retired(row) => {
@@ -107,7 +107,7 @@ impl Table {
         ensures rows { self.new.rows.items ≡ self.old.rows.items ++ numbered_from self.old.fetched (drop from (in_flight core.now)) }
         ensures fetched { self.new.fetched ≡ self.old.fetched + length (drop from (in_flight core.now)) }
         ensures others { (self.new.interrupts ≡ self.old.interrupts) × (self.new.retired ≡ self.old.retired) }
-        ensures capacity { vec_capacity self.new.rows ≡ vec_capacity self.old.rows }
+        ensures capacity { vec_capacity self.old.rows ≤ vec_capacity self.new.rows }
         ensures few { length (in_flight core.now) ≤ 288 }
     {
         for place in from..count_in_flight(core) {
@@ -125,8 +125,8 @@ impl Table {
     /// Forgets the instructions that left the hardware, and the interrupts.
     pub fn drop_ended(&mut self)
         ensures opened { passages_of self.new ≡ still_open (passages_of self.old) }
-        ensures rows { vec_capacity self.new.rows ≡ vec_capacity self.old.rows }
-        ensures interrupts { vec_capacity self.new.interrupts ≡ vec_capacity self.old.interrupts }
+        ensures rows { vec_capacity self.old.rows ≤ vec_capacity self.new.rows }
+        ensures interrupts { vec_capacity self.old.interrupts ≤ vec_capacity self.new.interrupts }
     {
         self.rows.retain(|row| row.is_in_flight());
         self.interrupts.clear();

@@ -1,0 +1,53 @@
+-- How many are in flight, and the place of each.
+use Rattle.std.proofs.Common.{◌≡◌, ◌∙◌, ℕ, zero, suc, ◌+◌, ◌-◌, ◌<◌, ◌≤◌, nat_lt, List, [], ◌∷◌, ◌++◌, length, map, slice_get, Some, refl, sym, ap, arith, length-append, le-ltb, false}
+use Rattle.std.proofs.lemmas.List.{length-map}
+use Rattle.std.proofs.lemmas.Option.{slice_get-map}
+use Rattle.rv_front.specs.declared.fetched.Fetched.{Fetched}
+use Rattle.rv_rob.specs.ReorderBuffer.{entry_of}
+use Rattle.rv_rob.specs.declared.entry.Entry.{Entry}
+use Rattle.rv_rob.proofs.Places.{entry_of-place}
+use Rattle.rv_hardware.specs.Hardware.{Hardware}
+use Rattle.rv_hardware.specs.Run.{Reachable}
+use Rattle.rv_hardware.proofs.GapSound.{sound}
+use Rattle.rv_passage.specs.Passage.{in_flight, of_entry, of_fetched}
+use Rattle.rv_passage.specs.declared.passage.Passage.{Passage}
+
+pub few_entries : {h : Hardware} → Reachable h → h.rob.capacity ≤ 256
+few_entries reached =
+    let sizes = (sound reached).sizes in
+    omega (arith, sizes.rob_is, sizes.legal.pipeline.rob.1)
+
+pub few_words : {h : Hardware} → Reachable h → h.front.capacity ≤ 32
+few_words reached =
+    let sizes = (sound reached).sizes in
+    omega (arith, sizes.buffer_is, sizes.legal.pipeline.fetch_buffer.1)
+
+pub length-in_flight : (h : Hardware) → length (in_flight h) ≡ length h.rob.entries + length h.front.entries
+length-in_flight h =
+    length-append (map of_entry h.rob.entries) (map of_fetched h.front.entries) ∙ (λ i. length-map h.rob.entries of_entry i + length-map h.front.entries of_fetched i)
+
+get-front : {X : Type 0} (xs ys : List X) (i : ℕ) → i < length xs → slice_get (xs ++ ys) i ≡ slice_get xs i
+get-front [] ys i within = absurd (omega arith)
+get-front (x ∷ xs) ys zero within = refl
+get-front (x ∷ xs) ys (suc i) within = get-front xs ys i (omega arith)
+
+get-behind : {X : Type 0} (xs ys : List X) (i k : ℕ) → i ≡ length xs + k → slice_get (xs ++ ys) i ≡ slice_get ys k
+get-behind [] ys i k is = ap (slice_get ys) (omega arith)
+get-behind (x ∷ xs) ys zero k is = absurd (omega arith)
+get-behind (x ∷ xs) ys (suc i) k is = get-behind xs ys i k (omega arith)
+
+-- the entry of a number is at its distance from the oldest
+pub entry_at : (h : Hardware) (number place : ℕ) → number ≡ h.rob.retired + place → place < length h.rob.entries →
+    slice_get (in_flight h) place ≡ slice_get (map of_entry h.rob.entries) place
+entry_at h number place is within =
+    get-front (map of_entry h.rob.entries) (map of_fetched h.front.entries) place (omega (arith, length-map h.rob.entries of_entry))
+
+pub entry_of-at : (number oldest place : ℕ) (es : List Entry) → number ≡ oldest + place → entry_of number oldest es ≡ slice_get es place
+entry_of-at number oldest place es is =
+    let later : nat_lt number oldest ≡ false = le-ltb number oldest (omega arith) in
+    entry_of-place place number oldest es (rw later (omega arith))
+
+pub word_at : (h : Hardware) (place k : ℕ) → place ≡ length h.rob.entries + k →
+    slice_get (in_flight h) place ≡ slice_get (map of_fetched h.front.entries) k
+word_at h place k is =
+    get-behind (map of_entry h.rob.entries) (map of_fetched h.front.entries) place k (omega (arith, length-map h.rob.entries of_entry))
