@@ -1,4 +1,4 @@
-ghost use Rattle.std.specs.Prelude.{◌≡◌, ◌≤◌, length, slice_get};
+ghost use Rattle.std.specs.Prelude.{◌≡◌, ◌≤◌, ◌<◌, Some, length, slice_get};
 ghost use Rattle.rv_passage.specs.Passage.{in_flight};
 
 use crate::passage::Passage;
@@ -26,9 +26,21 @@ pub(crate) fn passage_at(core: &Core, place: usize) -> Option<Passage>
     if place < dispatched {
         let behind = dispatched - place;
         let number = buffer.next_number() - behind as u64;
-        buffer.get(number).map(|entry| Passage::of_entry(entry))
+        let entry = buffer.get(number)?;
+        Some(Passage::of_entry(entry))
     } else {
-        let fetched = core.front().get(place - dispatched);
-        fetched.map(|word| Passage::of_fetched(word))
+        let word = core.front().get(place - dispatched)?;
+        Some(Passage::of_fetched(word))
+    }
+}
+
+// The instruction at a place that there is.
+pub(crate) fn present_at(core: &Core, place: usize) -> Passage
+    requires { place < length (in_flight core.now) }
+    ensures { slice_get (in_flight core.now) place ≡ Some result }
+{
+    match passage_at(core, place) {
+        Some(passage) => passage,
+        None => unreachable!(),
     }
 }
