@@ -1,7 +1,8 @@
 -- The operands of tags and values that were written for a producer.
-use Rattle.std.proofs.Common.{◌≡◌, sym, ℕ, zero, suc, ◌+◌, ◌<◌, ◌≤◌, ◌^◌, ◌%◌, inl, inr, Bool, true, false, cond, List, [], ◌∷◌, ◌++◌, length, filter, get_or, remove, map, arith, eqb, refl, ap, ap₂, ◌∙◌, mod-eq_of_lt}
+use Rattle.std.proofs.Common.{◌≡◌, sym, ℕ, zero, suc, ◌+◌, ◌<◌, ◌≤◌, ◌^◌, ◌%◌, inl, inr, Bool, true, false, cond, ◌==◌, List, [], ◌∷◌, ◌++◌, length, filter, get_or, remove, map, arith, eqb, refl, ap, ap₂, ◌∙◌, mod-eq_of_lt}
+use Rattle.std.specs.List.{list_any}
 use Rattle.std.specs.Simd.Lanes.{zip2}
-use Rattle.std.proofs.lemmas.Bool.{cases_Bool, eqb-true, eq-eqb, ne_eqb}
+use Rattle.std.proofs.lemmas.Bool.{cases_Bool, true≢false, eqb-true, eq-eqb, ne_eqb}
 use Rattle.std.proofs.lemmas.List.Sums.{length-filter, count_by-le-length}
 use Rattle.std.proofs.lemmas.Simd.{length-zip2}
 use Rattle.rv_stations.specs.declared.waiting.Operand.TheVariants.{Value, Tag}
@@ -56,6 +57,15 @@ operands-idle seq value (t ∷ ts) [] none = refl
 operands-idle seq value (t ∷ ts) (v ∷ vs) none = elim (cases_Bool (eqb t 18446744073709551615)) [
   | inl has ↦ ap₂ ◌∷◌ (rw has refl) (operands-idle seq value ts vs (rw has at none))
   | inr waits ↦ let some : suc (producers ts) ≡ 0 = rw waits at none in absurd (omega arith)
+]
+
+-- where no tag is the number, no operand is woken
+pub operands-unheld : (seq value : ℕ) (tags values : List ℕ) → list_any (λ tag. tag == seq) tags ≡ false → map (woken_operand seq value) (zip2 operand_of tags values) ≡ zip2 operand_of tags values
+operands-unheld seq value [] values none = refl
+operands-unheld seq value (t ∷ ts) [] none = refl
+operands-unheld seq value (t ∷ ts) (v ∷ vs) none = elim (cases_Bool (eqb t seq)) [
+  | inl same ↦ absurd (true≢false (rw same at none))
+  | inr other ↦ ap₂ ◌∷◌ (unwoken seq value t v other) (operands-unheld seq value ts vs (rw other at none))
 ]
 
 -- a tag counts once at most

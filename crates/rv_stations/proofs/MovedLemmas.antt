@@ -1,5 +1,5 @@
 -- A list in which the places from one on up to another have taken what stands behind them.
-use Rattle.std.proofs.Common.{◌≡◌, ℕ, zero, suc, ◌+◌, ◌-◌, ◌<◌, ◌≤◌, List, [], ◌∷◌, length, take, remove, slice_index_or, slice_set, refl, sym, ap, ◌∙◌, arith}
+use Rattle.std.proofs.Common.{◌≡◌, ℕ, zero, suc, ◌+◌, ◌<◌, ◌≤◌, List, [], ◌∷◌, length, take, remove, slice_index_or, slice_set, refl, ap, ◌∙◌, arith}
 
 module _ {A : Type 0} where
   abbrev pub moved : ℕ → ℕ → List A → List A

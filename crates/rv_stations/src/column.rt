@@ -85,10 +85,22 @@ impl OperandColumn {
     }
 
     /// Gives each operand whose tag is a sequence number the value of its producer.
+    #[inline(always)]
     pub fn wake(&mut self, seq: u64, value: u32)
         ensures { self.new ≡ record self.old { operands = map (woken_operand seq value) self.old.operands } }
     {
         if self.waiting == 0 {
+            return;
+        }
+        self.wake_held(seq, value);
+    }
+
+    // Most broadcasts are of a producer for which no operand of the column waits.
+    #[inline(never)]
+    fn wake_held(&mut self, seq: u64, value: u32)
+        ensures { self.new ≡ record self.old { operands = map (woken_operand seq value) self.old.operands } }
+    {
+        if !lanes::holds(self.tags.as_slice(), seq) {
             return;
         }
         if seq == NO_PRODUCER {

@@ -1,4 +1,5 @@
-ghost use Rattle.std.specs.Prelude.{◌≡◌, length, map};
+ghost use Rattle.std.specs.Prelude.{◌≡◌, ◌==◌, length, map};
+ghost use Rattle.std.specs.List.{list_any};
 ghost use Rattle.std.specs.Simd.Lanes.{zip2};
 ghost use Rattle.rv_stations.specs.Column.{is_producer, producers, woken_tag, woken_value};
 
@@ -14,7 +15,14 @@ pub fn is_producer(tag: u64) -> bool
     tag != NO_PRODUCER
 }
 
-/// How many of the tags are.
+/// Whether a tag is this sequence number.
+pub fn holds(tags: &[u64], seq: u64) -> bool
+    ensures { result ≡ list_any (λ tag. tag == seq) tags.now }
+{
+    tags.iter().any(|tag| *tag == seq)
+}
+
+/// How many of the tags are sequence numbers of producers.
 pub fn producers(tags: &[u64]) -> usize
     ensures { result ≡ producers tags.now }
 {

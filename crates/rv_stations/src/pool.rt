@@ -100,6 +100,7 @@ impl StationPool {
     }
 
     /// Gives each operand whose tag is a sequence number the value of its producer.
+    #[inline(always)]
     pub fn wake(&mut self, seq: u64, value: u32)
         ensures { self.new ≡ woken_pool seq value self.old }
     {
@@ -150,6 +151,7 @@ impl StationPool {
     }
 
     /// Takes out the instruction in a place.
+    #[inline(always)]
     fn take(&mut self, at: usize) -> Waiting
         requires { at < length self.old.waiting }
         ensures taken { slice_get self.old.waiting at ≡ Some result }
@@ -164,6 +166,7 @@ impl StationPool {
 
     /// Takes out the oldest instruction that is ready and passes a filter, and answers it with the
     /// values of its operands; none where none is and does.
+    #[inline(always)]
     pub fn take_oldest_ready<F: Fn(&Waiting) -> bool>(&mut self, filter: F) -> Option<Ready>
         requires { F.IsAlwaysCallable filter }
         ensures oldest { (test : Waiting → Bool) → Answers F.Fn filter test → result ≡ option_and_then ready_of (oldest_ready test self.old.waiting) }

@@ -85,6 +85,7 @@ impl Stations {
 
     /// Gives every operand whose tag is a sequence number the value of its producer, and changes no
     /// other.
+    #[inline(always)]
     pub fn wake(&mut self, seq: u64, value: u32)
         ensures { self.new ≡ each_pool (woken_pool seq value) self.old }
     {
@@ -96,6 +97,7 @@ impl Stations {
 
     /// Takes out the oldest instruction of a kind that is ready, with both operands' values there, and
     /// that passes a filter, and answers it with those values; none where there is none.
+    #[inline(always)]
     pub fn take_oldest_ready<F: Fn(&Waiting) -> bool>(
         &mut self,
         kind: Kind,

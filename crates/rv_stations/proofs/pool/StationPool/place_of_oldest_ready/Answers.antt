@@ -1,5 +1,5 @@
 -- What is not ready, or does not pass, is passed by.
-use Rattle.std.proofs.Common.{◌≡◌, true, false, ◌&&◌, List, get_or, ap, sym, ◌∙◌, arith}
+use Rattle.std.proofs.Common.{true, false, List, get_or, ap, sym, ◌∙◌, arith}
 use Rattle.std.proofs.lemmas.Fn.{says_at}
 use Rattle.std.proofs.lemmas.Bool.{and_from, and_left, and_right}
 use Rattle.std.proofs.lemmas.Option.{slice_get-get_or}
