@@ -10,20 +10,20 @@ use Rattle.clap.specs.declared.builder.value_parser.ValueParser.TheVariants as v
 use Rattle.clap.specs.declared.parser.matches.Found.{Found}
 use Rattle.clap.proofs.ValueTestLemmas.{Accepts-accepts, accepts-Accepts}
 use Rattle.clap.proofs.WalkLemmas.{both, one_text-rows}
-use Rattle.rv_command.specs.Command.{limit_from, limit_in}
+use Rattle.rv_command.specs.Command.{limit_from, limit_in, most_steps}
 
 abbrev pub legal : Option ℕ → Option ℕ
-legal = option_and_then (λ n. if nat_le 1 n && nat_le n 1000000 then Some n else None)
+legal = option_and_then (λ n. if nat_le 1 n && nat_le n most_steps then Some n else None)
 
-pub legal_number : (r : Option ℕ) (n : ℕ) → r ≡ Some n → 1 ≤ n → n ≤ 1000000 → legal r ≡ Some n
-legal_number r n is low high = rw (is, le-leb 1 n low, le-leb n 1000000 high) refl
+pub legal_number : (r : Option ℕ) (n : ℕ) → r ≡ Some n → 1 ≤ n → n ≤ most_steps → legal r ≡ Some n
+legal_number r n is low high = rw (is, le-leb 1 n low, le-leb n most_steps high) refl
 
 none_either : (n : ℕ) (b : Bool) → (if b && false then Some n else None) ≡ None
 none_either n true = refl
 none_either n false = refl
 
-pub legal_over : (r : Option ℕ) (n : ℕ) → r ≡ Some n → 1000000 < n → legal r ≡ None
-legal_over r n is over = rw (is, lt-leb n 1000000 over) (none_either n (nat_le 1 n))
+pub legal_over : (r : Option ℕ) (n : ℕ) → r ≡ Some n → most_steps < n → legal r ≡ None
+legal_over r n is over = rw (is, lt-leb n most_steps over) (none_either n (nat_le 1 n))
 
 pub legal_zero : (r : Option ℕ) (n : ℕ) → r ≡ Some n → n < 1 → legal r ≡ None
 legal_zero r n is low = rw (is, lt-leb 1 n low) refl
@@ -38,12 +38,12 @@ number_read E t v parsed =
     rw (numeral, fits, parsed.1) refl
 
 none_read : {E : Type 0} (t : List ℕ) (e : E) → ParsesUnsigned 64 10 t (Err e) → None ≡ limit_from t
-none_read t e refused = go (is_unsigned_in 1 1000000 t) refl
+none_read t e refused = go (is_unsigned_in 1 most_steps t) refl
   where
-    go : (b : Bool) → is_unsigned_in 1 1000000 t ≡ b
+    go : (b : Bool) → is_unsigned_in 1 most_steps t ≡ b
         → None ≡ (if b then Some (digits_value 10 (without_leading_plus t)) else None)
     go true passes =
-        let accepted = accepts-Accepts false (vp.Unsigned 1 1000000) t passes in
+        let accepted = accepts-Accepts false (vp.Unsigned 1 most_steps) t passes in
         absurd (refused (accepted.0, accepted.1))
     go false _ = refl
 

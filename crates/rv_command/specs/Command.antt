@@ -16,10 +16,14 @@ use Rattle.clap.specs.declared.builder.value_parser.ValueParser.TheVariants.{Uns
 use Rattle.rv_command.specs.declared.command.Command.{Command}
 use Rattle.rv_command.specs.declared.command.Command.TheVariants.{Run, Reference, Check}
 
+-- the most cycles, or steps of the reference, that a run may have
+abbrev pub most_steps : ℕ
+most_steps = 1000000
+
 -- the limit of a run is 1 to 1,000,000
 abbrev pub HasLegalLimit : Command → Type 0
-HasLegalLimit (Run trace limit) = (1 ≤ limit) × (limit ≤ 1000000)
-HasLegalLimit (Reference limit) = (1 ≤ limit) × (limit ≤ 1000000)
+HasLegalLimit (Run trace limit) = (1 ≤ limit) × (limit ≤ most_steps)
+HasLegalLimit (Reference limit) = (1 ≤ limit) × (limit ≤ most_steps)
 HasLegalLimit Check = ⊤
 
 -- ---- the program's arguments: `rv_sim run [--trace] [--limit N]`, `rv_sim reference [--limit N]` and `rv_sim check`
@@ -35,7 +39,7 @@ limit_rule = record (new_rule (codes "limit")) {
   action = Some Set;
   value_names = 1;
   defaults = codes "100000" ∷ [];
-  parser = Some (Unsigned 1 1000000);
+  parser = Some (Unsigned 1 most_steps);
 }
 
 abbrev pub run_arguments : App
@@ -65,7 +69,7 @@ IsParserOf arguments parser = (app_of parser ≡ arguments)
 
 -- the number that a text is, where it is one from 1 to 1,000,000
 abbrev pub limit_from : Text → Option ℕ
-limit_from text = if is_unsigned_in 1 1000000 text
+limit_from text = if is_unsigned_in 1 most_steps text
     then Some (digits_value 10 (without_leading_plus text)) else None
 
 -- the limit that the matches of `run` or `reference` hold

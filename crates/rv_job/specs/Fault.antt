@@ -80,11 +80,11 @@ fault_status WriteFailed = 4
 -- the line that tells why the input could not be read, and the exit status
 unfoldable pub input_fault_line : InputError → List ℕ
 input_fault_line unread.Failed = codes "error: input\n"
-input_fault_line unread.Memory = codes "error: memory\n"
+input_fault_line unread.Memory = fault_line Memory
 
 unfoldable pub input_fault_status : InputError → ℕ
 input_fault_status unread.Failed = 4
-input_fault_status unread.Memory = 5
+input_fault_status unread.Memory = fault_status Memory
 
 -- the exit status of what has one, or of a fault
 abbrev pub exit_status : Result ℕ SimError → ℕ

@@ -2,6 +2,7 @@ use Rattle.std.specs.Prelude.{◌<◌, ℕ, List, length}
 use Rattle.rv_isa.specs.declared.images.Image.{Image}
 use Rattle.rv_isa.specs.declared.lines.Arrival.{Arrival}
 use Rattle.rv_isa.specs.declared.values.Values.{Values}
+use Rattle.rv_job.specs.Input.{most_bytes}
 use Rattle.rv_job.specs.JobText.{Assembles, Describes, HasLegalLength, Lists, RefusesArrivals, RefusesAssembly, RefusesDescription}
 use Rattle.rv_job.specs.Parts.{parts_of}
 use Rattle.rv_job.specs.TextImage.{Fits}
@@ -10,7 +11,7 @@ use Rattle.rv_job.specs.declared.errors.SimError.TheVariants.{TooLong, ImageDoes
 
 -- Why a text is refused as a job: what is tested earlier is without fault.
 pub data RefusesJob (text : List ℕ) : SimError → Type 0 where
-  too_long : 33554432 < length text → RefusesJob text TooLong
+  too_long : most_bytes < length text → RefusesJob text TooLong
   description : {error : SimError} → HasLegalLength text → RefusesDescription (parts_of text).description error → RefusesJob text error
   arrivals : {error : SimError} {machine : Values} → HasLegalLength text → Describes text machine →
       RefusesArrivals (parts_of text).arrivals error → RefusesJob text error

@@ -5,6 +5,7 @@ use Rattle.rv_isa.specs.declared.lines.Arrival.{Arrival}
 use Rattle.rv_isa.specs.declared.values.Values.{Values}
 use Rattle.rv_describe.specs.ArrivalList.{listed_arrivals}
 use Rattle.rv_describe.specs.Description.{description_of}
+use Rattle.rv_job.specs.Input.{most_bytes}
 use Rattle.rv_job.specs.Parts.{parts_of}
 use Rattle.rv_job.specs.TextImage.{IsImageOf, text_fault}
 use Rattle.rv_job.specs.declared.errors.SimError.{SimError}
@@ -13,7 +14,7 @@ use Rattle.rv_job.specs.declared.job.Job.{Job}
 
 -- a text is not too long
 abbrev pub HasLegalLength : List ℕ → Type 0
-HasLegalLength text = length text ≤ 33554432
+HasLegalLength text = length text ≤ most_bytes
 
 -- the first part of a text describes a machine
 abbrev pub Describes : List ℕ → Values → Type 0

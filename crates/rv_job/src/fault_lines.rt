@@ -3,7 +3,7 @@ ghost use Rattle.rv_job.specs.Fault.{fault_line, fault_status, input_fault_line,
 ghost use Rattle.rv_job.specs.FaultStream.{Tells};
 
 use crate::errors::SimError;
-use crate::faults::{fault_status, input_fault_line, input_fault_status, write_fault};
+use crate::faults::{fault_status, write_fault};
 use crate::input::InputError;
 use rv_text::put;
 use std::io::Write;
@@ -70,12 +70,19 @@ impl<E: Write> FaultLines<E> {
         self.has_failed = self.has_failed || told.is_err();
     }
 
-    /// Writes the line of an input that can't be read, and answers its exit status.
+    /// Writes the line of an input that can't be read, and answers its exit status: 4 where a read failed, 5 for want of
+    /// memory.
+    #[tactic(auto, unfolding(crate::specs::Fault::input_fault_line, crate::specs::Fault::input_fault_status))]
     pub fn tell_unread(&mut self, error: InputError) -> u8
         ensures line { Tells self.old self.new (input_fault_line error) }
         ensures status { result ≡ input_fault_status error }
     {
-        self.tell_text(input_fault_line(error));
-        input_fault_status(error)
+        match error {
+            InputError::Failed => {
+                self.tell_text(b"error: input\n");
+                4
+            }
+            InputError::Memory => self.tell(SimError::Memory),
+        }
     }
 }

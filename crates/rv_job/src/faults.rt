@@ -1,9 +1,8 @@
 ghost use Rattle.std.specs.Prelude.{◌≡◌};
-ghost use Rattle.rv_job.specs.Fault.{arrivals_kind, arrivals_line, description_kind, description_line, fault_line, fault_name, fault_status, input_fault_line, input_fault_status};
+ghost use Rattle.rv_job.specs.Fault.{arrivals_kind, arrivals_line, description_kind, description_line, fault_line, fault_name, fault_status};
 ghost use Rattle.rv_text.specs.Written.{IsWritten};
 
 use crate::errors::SimError;
-use crate::input::InputError;
 use itoa::Buffer;
 use rv_asm::AsmFault;
 use rv_describe::{ArrivalsError, DescriptionError, key_name};
@@ -105,28 +104,6 @@ pub(crate) fn write_fault<W: Write>(writer: &mut W, error: SimError) -> Result<(
         SimError::ImageDoesNotFit => put(writer, b"error: image does not fit\n"),
         SimError::Memory => put(writer, b"error: memory\n"),
         SimError::WriteFailed => put(writer, b"error: output\n"),
-    }
-}
-
-/// The line that tells why the input could not be read.
-#[tactic(auto, unfolding(crate::specs::Fault::input_fault_line))]
-pub(crate) fn input_fault_line(error: InputError) -> &'static [u8]
-    ensures { result.now ≡ input_fault_line error }
-{
-    match error {
-        InputError::Failed => b"error: input\n",
-        InputError::Memory => b"error: memory\n",
-    }
-}
-
-/// The exit status of an input that could not be read: 4 where a read failed, 5 for want of memory.
-#[tactic(auto, unfolding(crate::specs::Fault::input_fault_status))]
-pub(crate) fn input_fault_status(error: InputError) -> u8
-    ensures { result ≡ input_fault_status error }
-{
-    match error {
-        InputError::Failed => 4,
-        InputError::Memory => 5,
     }
 }
 

@@ -1,6 +1,7 @@
 ghost use Rattle.std.specs.Prelude.{◌≡◌, ◌<◌, length, IfOk, IfErr, Ok};
 ghost use Rattle.rv_describe.specs.ArrivalList.{listed_arrivals};
 ghost use Rattle.rv_describe.specs.Description.{description_of};
+ghost use Rattle.rv_job.specs.Input.{most_bytes};
 ghost use Rattle.rv_job.specs.JobRefusal.{RefusesJob};
 ghost use Rattle.rv_job.specs.JobText.{HasLegalLength, IsJobOf, RefusesArrivals, RefusesAssembly, RefusesDescription};
 ghost use Rattle.rv_job.specs.Parts.{parts_of};
@@ -20,7 +21,7 @@ pub(crate) fn read_parts(text: &[u8]) -> Result<Parts<'_>, SimError>
     ensures length { IfOk result (λ _. HasLegalLength text.entry.now) }
     ensures parts { IfOk result (λ parts. parts_in parts ≡ parts_of text.entry.now) }
     ensures too_long { IfErr result (λ error. error ≡ SimError.TooLong) }
-    ensures refused { IfErr result (λ _. 33554432 < length text.entry.now) }
+    ensures refused { IfErr result (λ _. most_bytes < length text.entry.now) }
 {
     if text.len() > MOST_BYTES {
         return Err(SimError::TooLong);

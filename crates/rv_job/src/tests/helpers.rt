@@ -1,5 +1,6 @@
 use crate::{FaultLines, SimError, read_image_text, read_job, write_image_line};
 use std::alloc::Global;
+use std::process::Abort;
 use std::test::Fail;
 
 /// The line of a fault, where its exit status is 1.
@@ -34,4 +35,30 @@ pub(crate) fn image_line(alloc: Global, text: &[u8]) -> Result<Vec<u8>, Fail> {
     let mut output = Vec::new(alloc);
     write_image_line(&mut output, &made.image)?;
     Ok(output)
+}
+
+/// Checks the lines of texts that are refused as jobs.
+pub(crate) fn check_job_faults(
+    rt: &impl Abort,
+    alloc: Global,
+    cases: &[(&[u8], &str)],
+) -> Result<(), Fail> {
+    for (text, line) in cases {
+        let fault = job_fault(alloc, text)?;
+        assert_eq!(rt; fault.as_slice(), line.as_bytes());
+    }
+    Ok(())
+}
+
+/// Checks the lines of texts that are refused as jobs, and just so where their images alone are asked for.
+pub(crate) fn check_faults(
+    rt: &impl Abort,
+    alloc: Global,
+    cases: &[(&[u8], &str)],
+) -> Result<(), Fail> {
+    for (text, line) in cases {
+        let fault = image_fault(alloc, text)?;
+        assert_eq!(rt; fault.as_slice(), line.as_bytes());
+    }
+    check_job_faults(rt, alloc, cases)
 }

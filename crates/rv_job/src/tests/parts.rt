@@ -1,5 +1,5 @@
 use crate::read_job;
-use crate::tests::helpers::{image_fault, image_line, job_fault};
+use crate::tests::helpers::{check_faults, check_job_faults, image_line, job_fault};
 use std::test::Fail;
 
 #[test]
@@ -38,13 +38,7 @@ fn a_fault_of_the_description_is_told_with_its_key(rt: HostRuntime) -> Result<()
             "error: description: UnknownKey\n",
         ),
     ];
-    for (text, line) in cases {
-        let checked = image_fault(rt.alloc(), text)?;
-        assert_eq!(rt; checked.as_slice(), line.as_bytes());
-        let read = job_fault(rt.alloc(), text)?;
-        assert_eq!(rt; read.as_slice(), line.as_bytes());
-    }
-    Ok(())
+    check_faults(&rt, rt.alloc(), &cases)
 }
 
 #[test]
@@ -67,11 +61,7 @@ fn a_fault_of_the_arrivals_is_told_with_its_entry(rt: HostRuntime) -> Result<(),
             "error: arrivals: UnknownKey\n",
         ),
     ];
-    for (text, line) in cases {
-        let errors = job_fault(rt.alloc(), text)?;
-        assert_eq!(rt; errors.as_slice(), line.as_bytes());
-    }
-    Ok(())
+    check_job_faults(&rt, rt.alloc(), &cases)
 }
 
 #[test]
@@ -94,11 +84,7 @@ fn only_the_first_two_separators_separate(rt: HostRuntime) -> Result<(), Fail> {
             "error: description: NotToml\n",
         ),
     ];
-    for (text, line) in cases {
-        let errors = image_fault(rt.alloc(), text)?;
-        assert_eq!(rt; errors.as_slice(), line.as_bytes());
-    }
-    Ok(())
+    check_faults(&rt, rt.alloc(), &cases)
 }
 
 #[test]

@@ -1,5 +1,5 @@
 use crate::read_job;
-use crate::tests::helpers::{image_fault, image_line, job_fault};
+use crate::tests::helpers::{check_faults, image_line, job_fault};
 use std::test::Fail;
 
 #[test]
@@ -39,13 +39,7 @@ fn the_first_fault_of_a_text_is_told_with_its_line(rt: HostRuntime) -> Result<()
             "error: assembly line 4: OutOfRange\n",
         ),
     ];
-    for (text, line) in cases {
-        let checked = image_fault(rt.alloc(), text)?;
-        assert_eq!(rt; checked.as_slice(), line.as_bytes());
-        let read = job_fault(rt.alloc(), text)?;
-        assert_eq!(rt; read.as_slice(), line.as_bytes());
-    }
-    Ok(())
+    check_faults(&rt, rt.alloc(), &cases)
 }
 
 #[test]
