@@ -1,6 +1,7 @@
 -- Short programs, computed from the definition: each gives the steps that were worked out by hand.
 use Rattle.std.specs.Prelude.{◌≡◌, ℕ, zero, suc, ◌+◌, nat_lt, false, if◌then◌else◌, List, [], ◌∷◌, ◌++◌, length, Option, Some, None, is_none, option_and_then, refl}
 use Rattle.rv_isa.specs.Bytes.{bytes_of_number}
+use Rattle.rv_isa.specs.Csr as csr
 use Rattle.rv_isa.specs.Standard.{standard_values}
 use Rattle.rv_isa.specs.Word.{pc_plus_4}
 use Rattle.rv_isa.specs.declared.causes.Cause.TheVariants.{InstructionAccessFault, IllegalInstruction, Breakpoint}
@@ -189,7 +190,7 @@ serialising_instruction_waits_for_the_head : steps_of (machine) (0x02004333 ∷ 
     serialised 0x80000004 0x344022f3 (Some (5, 0)) 0 1 19 ∷
     breakpoint 0x80000008 21 ∷
     []
-unfolding instruction_of table
+unfolding instruction_of table csr.order
 serialising_instruction_waits_for_the_head = refl
 
 -- a wrong prediction behind a division is mended when the branch retires
