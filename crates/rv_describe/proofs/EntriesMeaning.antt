@@ -4,7 +4,7 @@ use Rattle.std.specs.List.{filter_map, list_any}
 use Rattle.toml.specs.Data.{Data}
 use Rattle.toml.specs.View.{view}
 use Rattle.toml.specs.declared.value.Value.{Value}
-use Rattle.rv_describe.specs.Entries.{first_without, first_fall, range_fault, entries_meaning, wrong_kind, out_of_range}
+use Rattle.rv_describe.specs.Entries.{first_without, first_fall, range_fault, entries_meaning}
 use Rattle.rv_describe.specs.Entry.{has_unknown_field, fields_of, arrival_from, arrival_of}
 use Rattle.rv_describe.specs.declared.arrivals_error.ArrivalsError.{ArrivalsError}
 use Rattle.rv_describe.specs.declared.arrivals_error.ArrivalsError.TheVariants.{UnknownKey, WrongKind, OutOfRange, Unsorted}
@@ -25,7 +25,7 @@ pub means_wrong_kind : (values : List Value) (error : ArrivalsError) → list_an
     → option_map WrongKind (first_without (λ entry. fields_of (view entry)) values) ≡ Some error → entries_meaning (map view values) ≡ Err error
 unfolding entries_meaning
 means_wrong_kind values error known found =
-    let wrong : wrong_kind (map view values) ≡ Some error = ap (option_map WrongKind) (first_without-map fields_of view values) ∙ found in
+    let wrong : option_map WrongKind (first_without fields_of (map view values)) ≡ Some error = ap (option_map WrongKind) (first_without-map fields_of view values) ∙ found in
     rw (known, wrong)
 
 pub has_fields : (values : List Value) (fields : List Fields) → list_any has_unknown_field (map view values) ≡ false
@@ -48,7 +48,7 @@ pub means_out_of_range : (entries : List Data) (fields : List Fields) (error : A
     → option_map OutOfRange (range_fault arrival_from fields) ≡ Some error → entries_meaning entries ≡ Err error
 unfolding entries_meaning
 means_out_of_range entries fields error has found =
-    let out : out_of_range entries ≡ Some error = ap (option_map OutOfRange) (same_ranges entries fields has) ∙ found in
+    let out : option_map OutOfRange (range_fault arrival_of entries) ≡ Some error = ap (option_map OutOfRange) (same_ranges entries fields has) ∙ found in
     rw (has.known, has.sound, out)
 
 pub means_unsorted : (entries : List Data) (fields : List Fields) (number : ℕ) → HasFields entries fields → range_fault arrival_from fields ≡ None

@@ -1,5 +1,6 @@
 -- A list of arrivals: a TOML document with an array of tables `arrival`.
 use Rattle.std.specs.Prelude.{ℕ, List, [], ◌∷◌, Option, Some, None, option_map, Result, Err, if◌then◌else◌, codes}
+use Rattle.std.specs.Option.{option_map_or}
 use Rattle.toml.specs.Data.{Data, Items, no_items, item, Members, get_member, as_array}
 use Rattle.rv_isa.specs.declared.lines.Arrival.{Arrival}
 use Rattle.rv_describe.specs.Document.{document}
@@ -29,10 +30,6 @@ table_meaning table =
     if has_other_name (codes "arrival" ∷ []) table then Err UnknownKey
     else list_meaning (entries_in (get_member (codes "arrival") table))
 
-abbrev pub document_meaning : Option Members → Result (List Arrival) ArrivalsError
-document_meaning None = Err NotToml
-document_meaning (Some table) = table_meaning table
-
 -- what bytes list: the arrivals in order, or the fault
 unfoldable pub listed_arrivals : List ℕ → Result (List Arrival) ArrivalsError
-listed_arrivals bytes = document_meaning (document bytes)
+listed_arrivals bytes = option_map_or table_meaning (document bytes) (Err NotToml)

@@ -1,7 +1,7 @@
 -- The entries of a list of arrivals, and their faults.
 use Rattle.std.specs.Prelude.{ℕ, ◌+◌, nat_lt, List, [], ◌∷◌, length, take, Option, Some, None, is_some, option_map, Result, Ok, Err, if◌then◌else◌}
 use Rattle.std.specs.List.{filter_map, list_any}
-use Rattle.std.specs.Option.{option_or}
+use Rattle.std.specs.Option.{option_or, option_map_or}
 use Rattle.toml.specs.Data.{Data}
 use Rattle.rv_isa.specs.declared.lines.Arrival.{Arrival}
 use Rattle.rv_describe.specs.Entry.{has_unknown_field, fields_of, arrival_of}
@@ -22,14 +22,6 @@ first_fall (first ∷ second ∷ later) =
     if nat_lt second.cycle first.cycle then Some 2
     else option_map (λ number. number + 1) (first_fall (second ∷ later))
 
--- an entry has an unknown field
-abbrev pub unknown_field : List Data → Option ArrivalsError
-unknown_field entries = if list_any has_unknown_field entries then Some UnknownKey else None
-
--- the first entry that is no table, or whose fields are missing or of another type
-abbrev pub wrong_kind : List Data → Option ArrivalsError
-wrong_kind entries = option_map WrongKind (first_without fields_of entries)
-
 -- the number of the first item that `read` gives nothing for, else of the first behind the 100,000th
 unfoldable pub range_fault : {A B : Type 0} → (A → Option B) → List A → Option ℕ
 range_fault read items =
@@ -37,22 +29,18 @@ range_fault read items =
     (first_without read (take 100000 items))
     (if nat_lt 100000 (length items) then Some 100001 else None)
 
--- the first entry with a value that is not allowed, or behind the 100,000th
-abbrev pub out_of_range : List Data → Option ArrivalsError
-out_of_range entries = option_map OutOfRange (range_fault arrival_of entries)
-
 -- the arrivals, in the order of the entries
 abbrev pub arrivals_of : List Data → List Arrival
 arrivals_of entries = filter_map arrival_of entries
 
--- the first entry with a cycle below the one before
-abbrev pub unsorted : List Data → Option ArrivalsError
-unsorted entries = option_map Unsorted (first_fall (arrivals_of entries))
-
--- the fault of the entries: each kind before the next
+-- The fault of the entries: an unknown field anywhere comes before the first entry that is no table or whose fields are missing
+-- or of another type, that before the first with a value that is not allowed, and that before the first with a falling cycle.
 abbrev pub fault_of : List Data → Option ArrivalsError
 fault_of entries =
-    option_or (unknown_field entries) (option_or (wrong_kind entries) (option_or (out_of_range entries) (unsorted entries)))
+    option_or (if list_any has_unknown_field entries then Some UnknownKey else None)
+    (option_or (option_map WrongKind (first_without fields_of entries))
+    (option_or (option_map OutOfRange (range_fault arrival_of entries))
+    (option_map Unsorted (first_fall (arrivals_of entries)))))
 
 -- the entry that a fault names, from 1, and 0 where it names none
 abbrev pub entry_of : ArrivalsError → ℕ
@@ -61,11 +49,6 @@ entry_of (OutOfRange entry) = entry
 entry_of (Unsorted entry) = entry
 entry_of _ = 0
 
--- the arrivals, unless there is a fault
-abbrev pub unless : Option ArrivalsError → List Arrival → Result (List Arrival) ArrivalsError
-unless None arrivals = Ok arrivals
-unless (Some fault) arrivals = Err fault
-
 -- the arrivals of the entries, or their fault
 unfoldable pub entries_meaning : List Data → Result (List Arrival) ArrivalsError
-entries_meaning entries = unless (fault_of entries) (arrivals_of entries)
+entries_meaning entries = option_map_or Err (fault_of entries) (Ok (arrivals_of entries))

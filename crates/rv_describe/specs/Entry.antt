@@ -1,5 +1,6 @@
 -- An entry of a list of arrivals: an element of the array of tables `arrival`.
 use Rattle.std.specs.Prelude.{ℕ, ℤ, pos, negsuc, nat_le, ◌==◌, Bool, true, false, List, [], ◌∷◌, Option, Some, None, option_map, option_and_then, unwrap_or, if◌then◌else◌, codes}
+use Rattle.std.specs.Option.{option_map_or}
 use Rattle.std.specs.Str.{bytes_eq}
 use Rattle.toml.specs.Data.{Data, Members, get_member, as_integer, as_str, as_table}
 use Rattle.rv_isa.specs.declared.lines.Line.{Line}
@@ -29,26 +30,19 @@ line_named name =
 abbrev pub line_at : Members → Option (Option Line)
 line_at table = option_map line_named (option_and_then as_str (get_member (codes "line") table))
 
--- an integer that may be missing
-abbrev pub integer_or : ℤ → Option Data → Option ℤ
-integer_or missing None = Some missing
-integer_or missing (Some value) = as_integer value
-
 -- the integer at `level`, 1 where it is missing
 abbrev pub level_in : Members → Option ℤ
-level_in table = integer_or (pos 1) (get_member (codes "level") table)
+level_in table = option_map_or as_integer (get_member (codes "level") table) (Some (pos 1))
 
 -- the three fields, where each has the right type
 abbrev pub fields_from : Option ℤ → Option (Option Line) → Option ℤ → Option Fields
 fields_from (Some cycle) (Some line) (Some level) = Some (record { cycle = cycle; line = line; level = level })
 fields_from _ _ _ = None
 
-abbrev pub fields_in : Members → Option Fields
-fields_in table = fields_from (integer_at (codes "cycle") table) (line_at table) (level_in table)
-
 -- the fields of an entry, if it is a table
 abbrev pub fields_of : Data → Option Fields
-fields_of entry = option_and_then fields_in (as_table entry)
+fields_of entry =
+    option_and_then (λ table. fields_from (integer_at (codes "cycle") table) (line_at table) (level_in table)) (as_table entry)
 
 -- a cycle is a number from 0 to 1,000,000
 abbrev pub cycle_of : ℤ → Option ℕ
