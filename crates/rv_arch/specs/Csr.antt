@@ -4,7 +4,7 @@ use Rattle.rv_isa.specs.declared.lines.Lines.{Lines}
 use Rattle.rv_isa.specs.declared.operations.CsrOp.{CsrOp}
 use Rattle.rv_isa.specs.declared.operations.CsrOp.TheVariants.{Write, Set, Clear}
 use Rattle.rv_isa.specs.declared.csrs.Csr.{Csr}
-use Rattle.rv_isa.specs.declared.csrs.Csr.TheVariants.{Mstatus, Misa, Mie, Mtvec, Mscratch, Mepc, Mcause, Mtval, Mip}
+use Rattle.rv_isa.specs.declared.csrs.Csr.TheVariants.{Mstatus, Misa, Mie, Mtvec, Mstatush, Mscratch, Mepc, Mcause, Mtval, Mip, Mvendorid, Marchid, Mimpid, Mhartid, Mconfigptr}
 use Rattle.rv_isa.specs.Csr.{csr_at}
 use Rattle.rv_arch.specs.declared.csr.CsrOperand.{CsrOperand}
 
