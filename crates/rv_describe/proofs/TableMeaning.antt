@@ -6,7 +6,7 @@ use Rattle.toml.specs.Data.{Data, Members, get_member, as_array}
 use Rattle.toml.specs.Parse.{parse_document}
 use Rattle.toml.specs.View.{items_of}
 use Rattle.rv_describe.specs.Document.{document}
-use Rattle.rv_describe.specs.ArrivalList.{item_list, listed_arrivals, table_meaning, list_meaning}
+use Rattle.rv_describe.specs.ArrivalList.{item_list, listed_arrivals, table_meaning}
 use Rattle.rv_describe.specs.Entries.{entries_meaning}
 use Rattle.rv_describe.specs.Names.{has_other_name}
 use Rattle.rv_describe.specs.declared.arrivals_error.ArrivalsError.TheVariants.{NotToml, UnknownKey, WrongKind}
@@ -20,15 +20,15 @@ unfolding table_meaning
 means_other_name table other = rw other
 
 pub means_missing : (table : Members) → has_other_name (codes "arrival" ∷ []) table ≡ false → get_member (codes "arrival") table ≡ None → table_meaning table ≡ entries_meaning []
-unfolding table_meaning list_meaning
+unfolding table_meaning
 means_missing table known missing = rw (known, missing)
 
 pub means_no_array : (table : Members) (value : Data) → has_other_name (codes "arrival" ∷ []) table ≡ false → get_member (codes "arrival") table ≡ Some value → as_array value ≡ None → table_meaning table ≡ Err (WrongKind 1)
-unfolding table_meaning list_meaning
+unfolding table_meaning
 means_no_array table value known found other = rw (known, found, other)
 
 pub means_entries : (table : Members) (value : Data) (items : List Data) → has_other_name (codes "arrival" ∷ []) table ≡ false → get_member (codes "arrival") table ≡ Some value → as_array value ≡ Some (items_of items) → table_meaning table ≡ entries_meaning items
-unfolding table_meaning list_meaning
+unfolding table_meaning
 means_entries table value items known found array = rw (known, found, array, item_list-items_of items)
 
 pub means_table : (bytes : List ℕ) (table : Members) → IsUtf8 bytes → parse_document bytes ≡ Some table → listed_arrivals bytes ≡ table_meaning table

@@ -19,16 +19,11 @@ abbrev pub entries_in : Option Data → Option (List Data)
 entries_in None = Some []
 entries_in (Some value) = option_map item_list (as_array value)
 
--- what `arrival` means: its entries' arrivals or fault, or the wrong type at entry 1
-unfoldable pub list_meaning : Option (List Data) → Result (List Arrival) ArrivalsError
-list_meaning None = Err (WrongKind 1)
-list_meaning (Some entries) = entries_meaning entries
-
--- what a table means: its one name is `arrival`
+-- what a table means: its one name is `arrival`, which gives its entries' arrivals or fault, or the wrong type at entry 1
 unfoldable pub table_meaning : Members → Result (List Arrival) ArrivalsError
 table_meaning table =
     if has_other_name (codes "arrival" ∷ []) table then Err UnknownKey
-    else list_meaning (entries_in (get_member (codes "arrival") table))
+    else option_map_or entries_meaning (entries_in (get_member (codes "arrival") table)) (Err (WrongKind 1))
 
 -- what bytes list: the arrivals in order, or the fault
 unfoldable pub listed_arrivals : List ℕ → Result (List Arrival) ArrivalsError
