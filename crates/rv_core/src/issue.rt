@@ -39,6 +39,7 @@ impl Parts {
         self.issue_kind(Kind::Mem);
     }
 
+    #[inline(always)]
     fn issue_kind(&mut self, kind: Kind)
         ensures { self.new ≡ issue_kind kind self.old }
     {
@@ -50,6 +51,7 @@ impl Parts {
     }
 
     // Issues the oldest ready instruction of a kind, and tells whether the phase goes on.
+    #[inline(always)]
     fn issue_one(&mut self, kind: Kind) -> bool
         ensures { turn_of result self.new ≡ issue_turn kind self.old }
     {
@@ -110,6 +112,7 @@ fn execute(cache: &mut Cache<Ram>, queue: &StoreQueue, times: &Times, ready: &Re
 }
 
 // Takes the oldest instruction of a kind that is ready and may go.
+#[inline(always)]
 fn take_ready(
     stations: &mut Stations,
     kind: Kind,
@@ -130,6 +133,7 @@ fn take_ready(
 }
 
 // An execution holds a unit of its kind.
+#[inline(always)]
 fn hold_unit(units: &mut Units, kind: Kind, issue: Issue)
     requires { IsTrue (is_free issue.cycle (pool_of kind units.old)) }
     ensures { units.new ≡ with_pool kind (started_unit issue.cost issue.cycle (pool_of kind units.old)) units.old }

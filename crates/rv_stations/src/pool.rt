@@ -151,6 +151,7 @@ impl StationPool {
     }
 
     /// Takes out the instruction in a place.
+    #[inline(always)]
     fn take(&mut self, at: usize) -> Waiting
         requires { at < length self.old.waiting }
         ensures taken { slice_get self.old.waiting at ≡ Some result }
@@ -165,6 +166,7 @@ impl StationPool {
 
     /// Takes out the oldest instruction that is ready and passes a filter, and answers it with the
     /// values of its operands; none where none is and does.
+    #[inline(always)]
     pub fn take_oldest_ready<F: Fn(&Waiting) -> bool>(&mut self, filter: F) -> Option<Ready>
         requires { F.IsAlwaysCallable filter }
         ensures oldest { (test : Waiting → Bool) → Answers F.Fn filter test → result ≡ option_and_then ready_of (oldest_ready test self.old.waiting) }

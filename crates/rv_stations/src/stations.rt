@@ -97,6 +97,7 @@ impl Stations {
 
     /// Takes out the oldest instruction of a kind that is ready, with both operands' values there, and
     /// that passes a filter, and answers it with those values; none where there is none.
+    #[inline(always)]
     pub fn take_oldest_ready<F: Fn(&Waiting) -> bool>(
         &mut self,
         kind: Kind,

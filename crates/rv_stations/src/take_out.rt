@@ -1,7 +1,10 @@
 ghost use Rattle.std.specs.Prelude.{◌≡◌, ◌+◌, ◌<◌, remove, vec_len, vec_capacity};
 
-/// Takes the items in a place out of two lists of one length. Few stand behind it, so that one loop over both is quicker
-/// than a long move in each.
+/// How many items are moved one by one at most.
+const FEW: usize = 8;
+
+/// Takes the items in a place out of two lists of one length. Where few stand behind it, one loop over both is quicker than
+/// a move in each.
 pub fn take_out<A: Copy, B: Copy>(first: &mut Vec<A>, second: &mut Vec<B>, at: usize)
     requires within { at < vec_len first.old }
     requires same { vec_len second.old ≡ vec_len first.old }
@@ -13,6 +16,11 @@ pub fn take_out<A: Copy, B: Copy>(first: &mut Vec<A>, second: &mut Vec<B>, at: u
     ensures second_capacity { vec_capacity second.new ≡ vec_capacity second.old }
 {
     let last = first.len() - 1;
+    if last - at > FEW {
+        first.remove(at);
+        second.remove(at);
+        return;
+    }
     for place in at..last {
         first[place] = first[place + 1];
         second[place] = second[place + 1];

@@ -39,6 +39,7 @@ impl Units {
     }
 
     /// Whether a unit of a kind is free in a cycle.
+    #[inline(always)]
     pub fn free(&self, kind: Kind, cycle: u64) -> bool
         ensures { result ≡ is_free cycle (pool_of kind self.now) }
     {
@@ -52,6 +53,7 @@ impl Units {
 
     /// Starts an execution of a cost on a unit of a kind that is free in a cycle. The cycles handed in
     /// never fall, so what holds no unit any more is forgotten.
+    #[inline(always)]
     pub fn start(&mut self, kind: Kind, cost: u32, cycle: u64)
         requires { IsTrue (is_free cycle (pool_of kind self.old)) }
         ensures { self.new ≡ with_pool kind (started cost cycle (pool_of kind self.old)) self.old }
