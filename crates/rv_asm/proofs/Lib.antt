@@ -4,10 +4,13 @@ pub mod Kept
 pub mod Labels
 pub mod LineAdded
 pub mod Lines
+pub mod Moves
 pub mod Named
 pub mod Operands
+pub mod Ranges
 pub mod SecondPass
 pub mod TokenFirst
 pub mod TokenLines
 pub mod TokenNumbers
 pub mod TokenStrings
+pub mod Words

@@ -3,7 +3,9 @@ pub mod Emitted
 pub mod Faults
 pub mod FirstPass
 pub mod Kept
+pub mod KeptWords
 pub mod Layout
+pub mod Listing
 pub mod Meaning
 pub mod Mnemonic
 pub mod Names

@@ -7,6 +7,7 @@ mod fault;
 mod filling;
 mod instructions;
 mod layout;
+mod listing;
 mod mnemonic;
 mod names;
 mod operand;
@@ -22,6 +23,7 @@ mod token;
 
 pub use assembler::assemble;
 pub use fault::{AsmError, AsmFault};
+pub use listing::list_text;
 
 #[cfg(test)]
 mod tests;

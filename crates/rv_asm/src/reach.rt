@@ -1,6 +1,6 @@
 ghost use Rattle.std.specs.Prelude.{◌≡◌, ◌+◌, ◌-◌, ◌*◌, ◌<◌, ◌≤◌, ◌^◌, ◌∷◌, [], Ok, Err, Some, None};
 ghost use Rattle.std.specs.Prelude.{unsigned_abs, option_to_list};
-ghost use Rattle.rv_asm.specs.Layout.{offset, grow_in, known, padding, size, instruction_size, advance};
+ghost use Rattle.rv_asm.specs.Layout.{offset, offset_in, grow_in, known, padding, size, instruction_size, advance};
 ghost use Rattle.rv_asm.specs.Layout.{upper, lower, signed_word, load_number, load_address, unless_too_large};
 ghost use Rattle.rv_asm.specs.ReadOperand.{expression_of, operands_in};
 ghost use Rattle.rv_asm.specs.ReadStatement.{statement_of};
@@ -37,14 +37,21 @@ impl Reach {
         data_size: 0,
     };
 
+    /// How many bytes a section has so far.
+    pub fn offset_in(self, section: Section) -> usize
+        ensures { result ≡ offset_in section self }
+    {
+        match section {
+            Section::Text => self.text_size,
+            Section::Data => self.data_size,
+        }
+    }
+
     /// How many bytes the section in force has so far.
     pub fn offset(self) -> usize
         ensures { result ≡ offset self }
     {
-        match self.section {
-            Section::Text => self.text_size,
-            Section::Data => self.data_size,
-        }
+        self.offset_in(self.section)
     }
 
     /// So many bytes more in the section in force, if text and data are not too large then.

@@ -3,6 +3,7 @@
 
 mod encodings;
 mod layouts;
+mod listings;
 mod operands;
 mod order;
 mod prefixes;
@@ -10,7 +11,7 @@ mod programs;
 mod ranges;
 mod symbols;
 
-use crate::{AsmFault, assemble};
+use crate::{AsmFault, assemble, list_text};
 use std::alloc::Global;
 use std::test::Fail;
 

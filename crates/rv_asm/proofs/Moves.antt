@@ -1,0 +1,67 @@
+-- How far a line moves the sections: that in force grows, and the other stays.
+use Rattle.std.proofs.Common.{◌≡◌, ◌+◌, ◌≤◌, ℕ, List, [], ◌∷◌, Result, Ok, Err, true, ◌∙◌, refl, ap, arith}
+use Rattle.rv_asm.specs.Kept.{is_idle}
+use Rattle.rv_asm.proofs.Kept.{idle_says_nothing}
+use Rattle.rv_asm.specs.Layout.{Line, Unreadable, Readable, Layout, Meanings, advance, behind, extended, grow_in, laid, labelled, label_at, offset, offset_in, size, statement_in}
+use Rattle.rv_asm.specs.Placed.{place}
+use Rattle.rv_asm.specs.Statement.{Statement, Nothing, Choice, Constant, Instruction, Values, Zeros, Align, Characters}
+use Rattle.rv_asm.specs.declared.fault.AsmFault.{AsmFault}
+use Rattle.rv_asm.specs.declared.operation.Section.{Section}
+use Rattle.rv_asm.specs.declared.operation.Section.TheVariants.{Text, Data}
+use Rattle.rv_asm.specs.declared.reach.Reach.{Reach}
+
+-- no section shrinks
+pub record Grows (before behind' : Reach) : Type 0 where
+  pub text_grows : before.text_size ≤ behind'.text_size
+  pub data_grows : before.data_size ≤ behind'.data_size
+
+still : (reach : Reach) → Grows reach reach
+still reach = record { text_grows = omega arith; data_grows = omega arith }
+
+grow : (s : Section) (n : ℕ) (reach : Reach) → Grows reach (grow_in s n reach)
+grow Text n reach = record { text_grows = omega arith; data_grows = omega arith }
+grow Data n reach = record { text_grows = omega arith; data_grows = omega arith }
+
+advances : (m : Meanings) (s : Statement) (reach : Reach) → Grows reach (advance m s reach)
+advances m (Choice section) reach = record { text_grows = omega arith; data_grows = omega arith }
+advances m Nothing reach = grow reach.section 0 reach
+advances m (Constant name number) reach = grow reach.section 0 reach
+advances m (Instruction operation fields value) reach = grow reach.section (size m (offset reach) (Instruction operation fields value)) reach
+advances m (Values width operands) reach = grow reach.section (size m (offset reach) (Values width operands)) reach
+advances m (Zeros count) reach = grow reach.section count reach
+advances m (Align multiple) reach = grow reach.section (size m (offset reach) (Align multiple)) reach
+advances m (Characters bytes terminated) reach = grow reach.section (size m (offset reach) (Characters bytes terminated)) reach
+
+behind_grows : (m : Meanings) (reach : Reach) (said : Result Statement AsmFault) → Grows reach (behind m reach said).reach
+behind_grows m reach (Ok said) = advances m said reach
+behind_grows m reach (Err fault) = still reach
+
+extended_grows : (before : Layout) (line : Line) → Grows before.reach (extended before line).reach
+extended_grows before Unreadable = still before.reach
+extended_grows before (Readable labels body) = behind_grows (labelled before.meanings (label_at before.reach) labels) before.reach (statement_in body)
+
+grows_in : (part : Section) (before after : Reach) → Grows before after → offset_in part before ≤ offset_in part after
+grows_in Text before after g = g.text_grows
+grows_in Data before after g = g.data_grows
+
+-- behind a line a section is not smaller, nor behind many
+pub line_grows : (part : Section) (before : Layout) (line : Line) → offset_in part before.reach ≤ offset_in part (extended before line).reach
+line_grows part before line = grows_in part before.reach (extended before line).reach (extended_grows before line)
+
+pub lines_grow : (part : Section) (before : Layout) (lines : List Line) → offset_in part before.reach ≤ offset_in part (laid before lines).reach
+lines_grow part before [] = omega arith
+lines_grow part before (line ∷ others) = omega (arith, line_grows part before line, lines_grow part (extended before line) others)
+
+grow_nothing : (s : Section) (reach : Reach) → grow_in s 0 reach ≡ reach
+grow_nothing Text reach = let same : reach.text_size + 0 ≡ reach.text_size = omega arith in ap (λ n. record reach { text_size = n }) same
+grow_nothing Data reach = let same : reach.data_size + 0 ≡ reach.data_size = omega arith in ap (λ n. record reach { data_size = n }) same
+
+-- an idle line moves nothing
+pub idle_stays : (before : Layout) (line : Line) → is_idle (place before.reach line) ≡ true → (extended before line).reach ≡ before.reach
+idle_stays before Unreadable idle = refl
+idle_stays before (Readable labels body) idle =
+    ap (λ said. (behind (labelled before.meanings (label_at before.reach) labels) before.reach said).reach) (idle_says_nothing (place before.reach (Readable labels body)) idle).nothing ∙ grow_nothing before.reach.section before.reach
+
+pub place_reach : (reach : Reach) (line : Line) → (place reach line).reach ≡ reach
+place_reach reach Unreadable = refl
+place_reach reach (Readable labels body) = refl

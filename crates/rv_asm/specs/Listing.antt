@@ -1,0 +1,61 @@
+-- Which line of a text each word of its image comes from.
+use Rattle.std.specs.Prelude.{ℕ, ◌+◌, ◌-◌, ◌*◌, ◌/◌, List, [], ◌∷◌, ◌++◌, map, length, take, drop, replicate, Bool, ◌&&◌, ◌==◌, nat_le, nat_lt, if◌then◌else◌, Option, Some, None}
+use Rattle.std.specs.Char.{is_ascii_whitespace}
+use Rattle.std.specs.List.{prefix_len, suffix_len, range_with_len, slice_split}
+use Rattle.rv_source.specs.Listing as source
+use Rattle.rv_source.specs.Listing.{Listed}
+use Rattle.rv_asm.specs.Layout.{Layout, extended, laid, line_in, offset_in, unlaid}
+use Rattle.rv_asm.specs.Meaning.{round_up}
+use Rattle.rv_asm.specs.declared.operation.Section.{Section}
+use Rattle.rv_asm.specs.declared.operation.Section.TheVariants.{Text, Data}
+use Rattle.rv_asm.specs.declared.reach.Reach.{Reach}
+
+-- bytes from the first on that is no white space
+abbrev pub behind_space : List ℕ → List ℕ
+behind_space bytes = drop (prefix_len is_ascii_whitespace bytes) bytes
+
+-- and up to the last one
+abbrev pub before_space : List ℕ → List ℕ
+before_space bytes = take (length bytes - suffix_len is_ascii_whitespace bytes) bytes
+
+-- a line that a listing shows: its number, and its bytes without white space at their ends
+abbrev pub shown : ℕ → List ℕ → source.Line
+shown number bytes = record { number = number; text = before_space (behind_space bytes) }
+
+-- the bytes of a line hold an offset of a section: they begin where the section had come before the line, and end where
+-- it has come behind it
+abbrev pub holds : Section → Reach → Reach → ℕ → Bool
+holds part before behind offset = nat_le (offset_in part before) offset && nat_lt offset (offset_in part behind)
+
+-- the first line whose bytes hold an offset of a section, of lines behind a layout, numbered from here on
+abbrev pub line_holding : Section → ℕ → Layout → List (List ℕ) → ℕ → Option source.Line
+line_holding part number before [] offset = None
+line_holding part number before (bytes ∷ others) offset =
+    if holds part before.reach (extended before (line_in bytes)).reach offset then Some (shown number bytes)
+    else line_holding part (number + 1) (extended before (line_in bytes)) others offset
+
+-- how many words hold so many bytes
+abbrev pub word_count : ℕ → ℕ
+word_count size = (size + 3) / 4
+
+-- the lines of the words of a section that has so many bytes, each by the offset of its first byte
+abbrev pub section_lines : Section → ℕ → List (List ℕ) → List (Option source.Line)
+section_lines part size lines = map (λ i. line_holding part 1 unlaid lines (4 * i)) (range_with_len 0 (word_count size))
+
+-- what stands behind the words of the text: the zero bytes up to the data, which come from no line, and the data, if there are any
+abbrev pub lines_behind_text : ℕ → ℕ → List (Option source.Line) → List (Option source.Line)
+lines_behind_text text_size data_size lines =
+    if data_size == 0 then [] else (replicate (word_count (round_up text_size) - word_count text_size) None ++ lines)
+
+-- the lines of the words of the image
+abbrev pub image_lines : Reach → List (List ℕ) → List (Option source.Line)
+image_lines end lines =
+    section_lines Text end.text_size lines ++ lines_behind_text end.text_size end.data_size (section_lines Data end.data_size lines)
+
+-- the listing of a text at a base
+abbrev pub listed : ℕ → List (List ℕ) → Listed
+listed base lines = record { base = base; words = image_lines (laid unlaid (map line_in lines)).reach lines }
+
+-- the listing of a text; a line feed ends a line
+abbrev pub listing_of : ℕ → List ℕ → Listed
+listing_of base text = listed base (slice_split (λ byte. byte == 10) text)

@@ -1,0 +1,149 @@
+ghost use Rattle.std.specs.Prelude.{◌≡◌, ◌-◌, ◌++◌, Some, None, IfOk, IfErr, replicate};
+ghost use Rattle.rv_asm.specs.Answer.{RefusedAt};
+ghost use Rattle.rv_asm.specs.Faults.{first_fault_of};
+ghost use Rattle.rv_asm.specs.KeptWords.{reach_before, words_between, words_in};
+ghost use Rattle.rv_asm.specs.Layout.{lines_of};
+ghost use Rattle.rv_asm.specs.Listing.{listing_of, lines_behind_text, shown, word_count};
+ghost use Rattle.rv_asm.specs.Meaning.{round_up};
+ghost use Rattle.rv_asm.specs.Symbols.{kept_in};
+
+use crate::fault::{AsmError, AsmFault};
+use crate::layout::Layout;
+use crate::operation::Section;
+use crate::reach::Reach;
+use crate::record::{Record, TextLine};
+use rv_source::{Listing, SourceLine};
+use std::alloc::{AllocError, Global};
+
+/// How many words hold so many bytes.
+fn word_count(size: usize) -> usize
+    ensures { result ≡ word_count size }
+{
+    ((size as u128 + 3) / 4) as usize
+}
+
+/// How many words of the section begin between two points of a text.
+fn words_between(section: Section, before: Reach, behind: Reach) -> usize
+    ensures { result ≡ words_between section before behind }
+{
+    word_count(behind.offset_in(section)).saturating_sub(word_count(before.offset_in(section)))
+}
+
+/// How many words of zero bytes begin between the text and the data.
+fn words_of_gap(text_size: usize) -> usize
+    ensures { result ≡ word_count (round_up text_size) - word_count text_size }
+{
+    let rounded = (text_size as u128 + 15) / 16 * 16;
+    ((rounded + 3) / 4 - (text_size as u128 + 3) / 4) as usize
+}
+
+/// The line as a listing shows it: without white space at its ends.
+fn shown(alloc: Global, line: TextLine<'_>) -> Result<SourceLine, AllocError>
+    ensures { IfOk result (λ source. source ≡ shown line.entry.number line.entry.bytes.now) }
+{
+    let mut text = Vec::new(alloc);
+    text.extend_from_slice(line.bytes.trim_ascii())?;
+    Ok(SourceLine::new(line.number, text))
+}
+
+/// Appends words that come from a line, if there are any.
+fn push_words(
+    alloc: Global,
+    line: TextLine<'_>,
+    words: usize,
+    listing: &mut Listing,
+) -> Result<(), AllocError>
+    ensures { IfOk result (λ _. listing.new ≡ record listing.old {
+      words = listing.old.words
+          ++ replicate words (Some (shown line.entry.number line.entry.bytes.now));
+    }) }
+{
+    if words == 0 {
+        return Ok(());
+    }
+    listing.push_line(shown(alloc, line)?, words)?;
+    Ok(())
+}
+
+/// How far the text has come before records, where it comes as far as the end behind them.
+fn reach_before(end: Reach, records: &[Record<'_>]) -> Reach
+    ensures { result ≡ reach_before end (kept_in records.now) }
+{
+    match records.first() {
+        Some(record) => record.reach,
+        None => end,
+    }
+}
+
+/// Appends the words of a section.
+fn push_section(
+    alloc: Global,
+    layout: &Layout<'_>,
+    section: Section,
+    listing: &mut Listing,
+) -> Result<(), AllocError>
+    ensures { IfOk result (λ _. listing.new ≡ record listing.old {
+      words = listing.old.words
+          ++ words_in section layout.now.reach (kept_in layout.now.records.items);
+    }) }
+{
+    let records = layout.records.as_slice();
+    let mut count = 0;
+    loop {
+        let (_, rest) = records.split_at(count);
+        let Some((record, others)) = rest.split_first() else {
+            return Ok(());
+        };
+        let words = words_between(section, record.reach, reach_before(layout.reach, others));
+        push_words(alloc, record.line, words, listing)?;
+        count += 1;
+    }
+}
+
+/// Appends the zero bytes behind the text, and the data.
+fn push_data(alloc: Global, layout: &Layout<'_>, listing: &mut Listing) -> Result<(), AllocError>
+    ensures { IfOk result (λ _. listing.new ≡ record listing.old {
+      words = listing.old.words
+          ++ lines_behind_text layout.now.reach.text_size layout.now.reach.data_size
+          (words_in Section.Data layout.now.reach (kept_in layout.now.records.items));
+    }) }
+{
+    if layout.reach.data_size == 0 {
+        return Ok(());
+    }
+    listing.push_gap(words_of_gap(layout.reach.text_size))?;
+    push_section(alloc, layout, Section::Data, listing)?;
+    Ok(())
+}
+
+/// The listing of a layout at a base.
+fn listing_of(alloc: Global, layout: &Layout<'_>, base: u32) -> Result<Listing, AllocError>
+    ensures { IfOk result (λ listing. listing ≡ record {
+      base = base;
+      words =
+          words_in Section.Text layout.now.reach (kept_in layout.now.records.items)
+          ++ lines_behind_text layout.now.reach.text_size layout.now.reach.data_size
+          (words_in Section.Data layout.now.reach (kept_in layout.now.records.items));
+    }) }
+{
+    let mut listing = Listing::new(alloc, base);
+    push_section(alloc, layout, Section::Text, &mut listing)?;
+    push_data(alloc, layout, &mut listing)?;
+    Ok(listing)
+}
+
+/// Which line of an assembly text each word of its image comes from, where the text section begins at
+/// the base; or the text's first fault in the first pass. What only the second pass refuses, such as
+/// a symbol that is not defined, has its words all the same.
+pub fn list_text(alloc: Global, text: &[u8], base: u32) -> Result<Listing, AsmError>
+    ensures clean { IfOk result (λ _. first_fault_of (lines_of text.now) ≡ None) }
+    ensures listing { IfOk result (λ listing. listing ≡ listing_of base text.now) }
+    ensures refused { RefusedAt (first_fault_of (lines_of text.now)) result }
+    ensures memory { IfErr result (λ error. error.fault ≡ AsmFault.Memory → error.line ≡ 0) }
+{
+    let layout = Layout::of_text(alloc, text)?;
+    match listing_of(alloc, &layout, base) {
+        Ok(listing) => Ok(listing),
+        Err(_) => Err(AsmError::at(AsmFault::Memory, 0)),
+    }
+}
