@@ -15,10 +15,11 @@ use crate::outcome::{CycleEnd, CycleReport};
 use crate::parts::Parts;
 use arrayvec::ArrayVec;
 use rv_arch::{Observed, Stop};
-use rv_front::Predictor;
+use rv_front::{Front, Predictor};
 use rv_hardware::Step;
 use rv_isa::{Description, Image, Lines};
 use rv_memory::Backing;
+use rv_rob::Rob;
 use std::alloc::Global;
 use std::marker::Model;
 
@@ -159,6 +160,20 @@ impl Core {
             csrs: parts.csrs,
             lines: parts.lines,
         }
+    }
+
+    /// The instructions in flight.
+    pub fn reorder_buffer(&self) -> &Rob
+        ensures { result.now ≡ self.now.rob }
+    {
+        &self.parts.rob
+    }
+
+    /// The fetched words that wait for their dispatch.
+    pub fn front(&self) -> &Front
+        ensures { result.now ≡ self.now.front }
+    {
+        &self.parts.front
     }
 
     /// The byte that programs see at an address, or `None` outside RAM: that of the youngest retired store that the

@@ -1,4 +1,4 @@
-ghost use Rattle.std.specs.Prelude.{◌≡◌, ◌<◌, [], ◌∷◌, length, drop, slice_get, Some, option_copied, IfOk, false};
+ghost use Rattle.std.specs.Prelude.{◌≡◌, ◌<◌, ◌≤◌, [], ◌∷◌, length, drop, slice_get, Some, option_copied, IfOk, false};
 ghost use Rattle.rv_front.specs.FetchBuffer.{FetchesInto, FetchesOne, IsChain, IsFetchedAt, head_pc};
 
 use crate::fetched::{FetchStop, Fetched};
@@ -85,6 +85,21 @@ impl Front {
         ensures { option_copied result ≡ slice_get self.now.entries 0 }
     {
         self.ring.front()
+    }
+
+    /// How many words the buffer holds.
+    pub fn len(&self) -> usize
+        ensures count { result ≡ length self.now.entries }
+        ensures within { result ≤ self.now.capacity }
+    {
+        self.ring.len()
+    }
+
+    /// The word at a place of the buffer, the oldest at place 0.
+    pub fn get(&self, place: usize) -> Option<&Fetched>
+        ensures { option_copied result ≡ slice_get self.now.entries place }
+    {
+        self.ring.get(place)
     }
 
     /// Takes the oldest word out of the buffer.

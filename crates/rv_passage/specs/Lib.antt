@@ -1,0 +1,3 @@
+pub mod Passage
+pub mod Table
+pub mod Follows

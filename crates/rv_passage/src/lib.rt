@@ -1,0 +1,13 @@
+//! What becomes of each fetched instruction, cycle by cycle: when it was fetched, dispatched, issued and broadcast, and how
+//! it left the hardware. Its model is the list of passages in order of fetch; `specs/` defines what a cycle makes of it.
+//! The pictures and logs of a run stand on it.
+#![tactic(auto)]
+
+mod in_flight;
+mod passage;
+mod rows;
+mod table;
+
+pub use in_flight::MOST_IN_FLIGHT;
+pub use passage::{Ending, Passage};
+pub use table::Table;

@@ -1,0 +1,151 @@
+ghost use Rattle.std.specs.Prelude.{◌≡◌};
+
+use rv_front::Fetched;
+use rv_hardware::Row;
+use rv_isa::{Cause, Reg};
+use rv_rob::{Entry, Stage};
+
+/// How an instruction left the hardware, or that it did not yet.
+#[derive(Clone, Copy, Debug, PartialEq, Eq)]
+pub enum Ending {
+    InFlight,
+    /// It retired, and wrote a register, never x0, or none.
+    Retired {
+        /// How many retired before it, since the table began.
+        order: u64,
+        cycle: u64,
+        written: Option<(Reg, u32)>,
+    },
+    /// It, or its fetch, trapped.
+    Trapped {
+        cycle: u64,
+        cause: Cause,
+    },
+    /// It was on a path that the program did not take, or behind a trap, an interrupt or a serialising instruction.
+    Squashed {
+        cycle: u64,
+    },
+}
+
+/// A fetched instruction, and when it passed through the hardware.
+#[derive(Clone, Copy, Debug, PartialEq, Eq)]
+pub struct Passage {
+    /// How many were fetched before it, since the table began.
+    pub number: u64,
+    pub pc: u32,
+    /// What RAM held at the pc, None outside RAM.
+    pub word: Option<u32>,
+    /// The cycle of its fetch.
+    pub fetched: u64,
+    /// The cycle of its dispatch.
+    pub dispatched: Option<u64>,
+    /// The cycle in which its execution began; None, too, where it uses no unit.
+    pub issued: Option<u64>,
+    /// The cycle of its broadcast; None, too, where it uses no unit.
+    pub broadcast: Option<u64>,
+    pub ending: Ending,
+}
+
+// The cycle in which a result was broadcast.
+fn broadcast_of(stage: &Stage) -> Option<u64>
+    ensures { result ≡ broadcast_of stage.now }
+{
+    match *stage {
+        Stage::Finished {
+            issue: Some(_),
+            cycle,
+            ..
+        } => Some(cycle),
+        _ => None,
+    }
+}
+
+impl Passage {
+    ghost use Rattle.rv_passage.specs.Passage.{is_in_flight, of_entry, of_fetched, retired_by, trapped_by, squashed_in, standing_at};
+
+    /// Whether the instruction did not leave the hardware yet.
+    pub fn is_in_flight(&self) -> bool
+        ensures { result ≡ is_in_flight self.now }
+    {
+        matches!(self.ending, Ending::InFlight)
+    }
+
+    // An instruction in the reorder buffer.
+    pub(crate) fn of_entry(entry: &Entry) -> Passage
+        ensures { result ≡ of_entry entry.now }
+    {
+        Passage {
+            number: 0,
+            pc: entry.pc,
+            word: entry.word,
+            fetched: entry.fetched,
+            dispatched: Some(entry.dispatched),
+            issued: entry.stage.issue().map(|issue| issue.cycle),
+            broadcast: broadcast_of(&entry.stage),
+            ending: Ending::InFlight,
+        }
+    }
+
+    // A word in the fetch buffer.
+    pub(crate) fn of_fetched(fetched: &Fetched) -> Passage
+        ensures { result ≡ of_fetched fetched.now }
+    {
+        Passage {
+            number: 0,
+            pc: fetched.pc,
+            word: fetched.word,
+            fetched: fetched.cycle,
+            dispatched: None,
+            issued: None,
+            broadcast: None,
+            ending: Ending::InFlight,
+        }
+    }
+
+    pub(crate) fn retired_by(self, row: &Row, order: u64) -> Passage
+        ensures { result ≡ retired_by row.now order self }
+    {
+        Passage {
+            number: self.number,
+            pc: row.pc,
+            word: Some(row.word),
+            fetched: row.fetched,
+            dispatched: Some(row.dispatched),
+            issued: row.execution.map(|execution| execution.issued),
+            broadcast: row.execution.map(|execution| execution.broadcast),
+            ending: Ending::Retired {
+                order,
+                cycle: row.retired,
+                written: row.written,
+            },
+        }
+    }
+
+    pub(crate) fn trapped_by(self, cause: Cause, cycle: u64) -> Passage
+        ensures { result ≡ trapped_by cause cycle self }
+    {
+        Passage {
+            ending: Ending::Trapped { cycle, cause },
+            ..self
+        }
+    }
+
+    pub(crate) fn squashed_in(self, cycle: u64) -> Passage
+        ensures { result ≡ squashed_in cycle self }
+    {
+        Passage {
+            ending: Ending::Squashed { cycle },
+            ..self
+        }
+    }
+
+    // The instruction as it stands at the end of a cycle.
+    pub(crate) fn standing_at(self, now: Passage) -> Passage
+        ensures { result ≡ standing_at now self }
+    {
+        Passage {
+            number: self.number,
+            ..now
+        }
+    }
+}

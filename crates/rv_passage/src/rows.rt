@@ -1,0 +1,56 @@
+ghost use Rattle.std.specs.Prelude.{◌≡◌, ◌++◌, ℕ, drop};
+ghost use Rattle.rv_passage.specs.Passage.{in_flight, retired_by, trapped_by};
+ghost use Rattle.rv_passage.specs.Table.{moved_on, numbered_from, with_oldest};
+
+use crate::in_flight::passage_at;
+use crate::passage::Passage;
+use rv_core::Core;
+use rv_hardware::Row;
+use rv_isa::Cause;
+
+// The oldest in flight, if one is, retires as its row tells, so many before it.
+pub(crate) fn retire_oldest(rows: &mut [Passage], row: &Row, order: u64)
+    ensures { rows.new ≡ with_oldest (retired_by row.now order) rows.old }
+{
+    for place in 0..rows.len() {
+        let oldest = rows[place];
+        if oldest.is_in_flight() {
+            rows[place] = oldest.retired_by(row, order);
+            return;
+        }
+    }
+}
+
+// The oldest in flight, if one is, traps.
+pub(crate) fn trap_oldest(rows: &mut [Passage], cause: Cause, cycle: u64)
+    ensures { rows.new ≡ with_oldest (trapped_by cause cycle) rows.old }
+{
+    for place in 0..rows.len() {
+        let oldest = rows[place];
+        if oldest.is_in_flight() {
+            rows[place] = oldest.trapped_by(cause, cycle);
+            return;
+        }
+    }
+}
+
+// What was in flight before a cycle goes on as it stands at the cycle's end, or was squashed in it. Answers the place of the
+// first that was fetched in the cycle, among those in flight.
+pub(crate) fn move_on(rows: &mut [Passage], cycle: u64, core: &Core) -> usize
+    ensures { (number : ℕ) → moved_on cycle number rows.old (in_flight core.now) ≡ rows.new ++ numbered_from number (drop result (in_flight core.now)) }
+{
+    let mut next = 0;
+    for place in 0..rows.len() {
+        let row = rows[place];
+        if row.is_in_flight() {
+            match passage_at(core, next) {
+                Some(now) if now.fetched < cycle => {
+                    rows[place] = row.standing_at(now);
+                    next += 1;
+                }
+                _ => rows[place] = row.squashed_in(cycle),
+            }
+        }
+    }
+    next
+}
