@@ -1,13 +1,15 @@
 -- What the lines of a text mean, one after another.
-use Rattle.std.proofs.Common.{◌≡◌, ◌∙◌, ◌+◌, ◌<◌, ◌++◌, ◌∷◌, [], ℕ, List, map, drop, get_or, length, Some, None, Result, Ok, Err, OnOk, ap, sym, refl, subst, append_assoc, append-nil}
+use Rattle.std.proofs.Common.{◌≡◌, ◌∙◌, ◌+◌, ◌<◌, ◌++◌, ◌∷◌, [], ℕ, List, drop, get_or, length, Some, None, Result, Ok, Err, OnOk, ap, sym, refl, subst, append_assoc, append-nil}
+use Rattle.std.specs.Option.{option_map, option_or}
 use Rattle.std.proofs.lemmas.List.{drop_more}
 use Rattle.rv_asm.proofs.Emitted.{appends_nothing, spells_append}
 use Rattle.rv_asm.specs.Emitted.{Appends}
-use Rattle.rv_asm.specs.Faults.{earliest, second_fault}
+use Rattle.rv_asm.specs.Faults.{second_fault}
+use Rattle.rv_asm.specs.Kept.{Kept, first_with_fault, places}
 use Rattle.rv_asm.specs.Layout.{Layout}
 use Rattle.rv_asm.specs.Meaning.{Cell, Spells, contents, line_cells, nothing, parts_in}
 use Rattle.rv_asm.specs.Placed.{Placed}
-use Rattle.rv_asm.specs.Symbols.{lines_in, placed_of}
+use Rattle.rv_asm.specs.Symbols.{kept_in, kept_of}
 use Rattle.rv_asm.specs.declared.fault.AsmFault.{AsmFault}
 use Rattle.rv_asm.specs.declared.operation.Section.{Section}
 use Rattle.rv_asm.specs.declared.operation.Section.TheVariants as section
@@ -39,40 +41,40 @@ filled_all : (base : ℕ) (whole : Layout) (part : Section) (all rest : List Pla
 filled_all base whole part all rest bytes r none = subst (λ p. Spells p bytes) (sym (r.so_far ∙ ap (λ l. r.parts ++ contents base whole part l) none ∙ append-nil r.parts)) r.spells
 
 -- the second pass has written some lines: the others have the first fault, if there is one
-pub record SecondPass (base : ℕ) (whole : Layout) (all rest : List Placed) (number : ℕ) (text data' : List ℕ) : Type 0 where
-  pub fault : earliest 1 (map (second_fault base whole) all) ≡ earliest number (map (second_fault base whole) rest)
-  pub text_filled : Filled base whole section.Text all rest text
-  pub data_filled : Filled base whole section.Data all rest data'
+pub record SecondPass (base : ℕ) (whole : Layout) (all rest : List Kept) (text data' : List ℕ) : Type 0 where
+  pub fault : first_with_fault (second_fault base whole) all ≡ first_with_fault (second_fault base whole) rest
+  pub text_filled : Filled base whole section.Text (places all) (places rest) text
+  pub data_filled : Filled base whole section.Data (places all) (places rest) data'
 
-pub second_none : (base : ℕ) (whole : Layout) (all : List Placed) (text data' : List ℕ) → text ≡ [] → data' ≡ [] → SecondPass base whole all all 1 text data'
-second_none base whole all text data' no_text no_data = rw (no_text, no_data) record { fault = refl; text_filled = filled_none base whole section.Text all; data_filled = filled_none base whole section.Data all }
+pub second_none : (base : ℕ) (whole : Layout) (all : List Kept) (text data' : List ℕ) → text ≡ [] → data' ≡ [] → SecondPass base whole all all text data'
+second_none base whole all text data' no_text no_data = rw (no_text, no_data) record { fault = refl; text_filled = filled_none base whole section.Text (places all); data_filled = filled_none base whole section.Data (places all) }
 
-module _ (base : ℕ) (whole : Layout) (all rest others : List Placed) (line : Placed) (number : ℕ) (text data' : List ℕ) (r : SecondPass base whole all rest number text data') (rest_is : rest ≡ line ∷ others) where
+module _ (base : ℕ) (whole : Layout) (all rest others : List Kept) (line : Kept) (text data' : List ℕ) (r : SecondPass base whole all rest text data') (rest_is : rest ≡ line ∷ others) where
   -- a line without a fault
-  pub second_more : (text' data'' : List ℕ) → second_fault base whole line ≡ None → Appends (parts_in section.Text line.reach.section (line_cells base whole line)) text text' → Appends (parts_in section.Data line.reach.section (line_cells base whole line)) data' data'' → SecondPass base whole all others (number + 1) text' data''
+  pub second_more : (text' data'' : List ℕ) → second_fault base whole line.place ≡ None → Appends (parts_in section.Text line.place.reach.section (line_cells base whole line.place)) text text' → Appends (parts_in section.Data line.place.reach.section (line_cells base whole line.place)) data' data'' → SecondPass base whole all others text' data''
   second_more text' data'' clean text_more data_more = record {
-    fault = r.fault ∙ ap (λ l. earliest number (map (second_fault base whole) l)) rest_is ∙ ap (λ f. earliest number (f ∷ map (second_fault base whole) others)) clean;
-    text_filled = filled_more base whole section.Text all rest others line text r.text_filled rest_is text' text_more;
-    data_filled = filled_more base whole section.Data all rest others line data' r.data_filled rest_is data'' data_more;
+    fault = r.fault ∙ ap (first_with_fault (second_fault base whole)) rest_is ∙ ap (λ f. option_or (option_map (λ found. (found, line.number)) f) (first_with_fault (second_fault base whole) others)) clean;
+    text_filled = filled_more base whole section.Text (places all) (places rest) (places others) line.place text r.text_filled (ap places rest_is) text' text_more;
+    data_filled = filled_more base whole section.Data (places all) (places rest) (places others) line.place data' r.data_filled (ap places rest_is) data'' data_more;
   }
 
   -- a line with a fault
-  pub second_refused : (fault : AsmFault) → second_fault base whole line ≡ Some fault → earliest 1 (map (second_fault base whole) all) ≡ Some (fault, number)
-  second_refused fault found = r.fault ∙ ap (λ l. earliest number (map (second_fault base whole) l)) rest_is ∙ ap (λ f. earliest number (f ∷ map (second_fault base whole) others)) found
+  pub second_refused : (fault : AsmFault) → second_fault base whole line.place ≡ Some fault → first_with_fault (second_fault base whole) all ≡ Some (fault, line.number)
+  second_refused fault found = r.fault ∙ ap (first_with_fault (second_fault base whole)) rest_is ∙ ap (λ f. option_or (option_map (λ found. (found, line.number)) f) (first_with_fault (second_fault base whole) others)) found
 
 -- the next line of those that are left
-pub next_line : (lines : List Record) (i : ℕ) (line : Record) → line ≡ get_or lines i line → i < length lines → lines_in (drop i lines) ≡ placed_of line ∷ lines_in (drop (i + 1) lines)
-next_line lines i line is within = ap lines_in (drop_more lines i line within ∙ ap (λ l. l ∷ drop (i + 1) lines) (sym is))
+pub next_line : (lines : List Record) (i : ℕ) (line : Record) → line ≡ get_or lines i line → i < length lines → kept_in (drop i lines) ≡ kept_of line ∷ kept_in (drop (i + 1) lines)
+next_line lines i line is within = ap kept_in (drop_more lines i line within ∙ ap (λ l. l ∷ drop (i + 1) lines) (sym is))
 
 -- all lines are written, and none has a fault
-pub record AllWritten (base : ℕ) (whole : Layout) (all : List Placed) (text data' : List ℕ) : Type 0 where
-  pub clean : earliest 1 (map (second_fault base whole) all) ≡ None
-  pub text_spells : Spells (contents base whole section.Text all) text
-  pub data_spells : Spells (contents base whole section.Data all) data'
+pub record AllWritten (base : ℕ) (whole : Layout) (all : List Kept) (text data' : List ℕ) : Type 0 where
+  pub clean : first_with_fault (second_fault base whole) all ≡ None
+  pub text_spells : Spells (contents base whole section.Text (places all)) text
+  pub data_spells : Spells (contents base whole section.Data (places all)) data'
 
-pub second_done : (base : ℕ) (whole : Layout) (all rest : List Placed) (number : ℕ) (text data' : List ℕ) → SecondPass base whole all rest number text data' → rest ≡ [] → AllWritten base whole all text data'
-second_done base whole all rest number text data' r none = record {
-  clean = r.fault ∙ ap (λ l. earliest number (map (second_fault base whole) l)) none;
-  text_spells = filled_all base whole section.Text all rest text r.text_filled none;
-  data_spells = filled_all base whole section.Data all rest data' r.data_filled none;
+pub second_done : (base : ℕ) (whole : Layout) (all rest : List Kept) (text data' : List ℕ) → SecondPass base whole all rest text data' → rest ≡ [] → AllWritten base whole all text data'
+second_done base whole all rest text data' r none = record {
+  clean = r.fault ∙ ap (first_with_fault (second_fault base whole)) none;
+  text_spells = filled_all base whole section.Text (places all) (places rest) text r.text_filled (ap places none);
+  data_spells = filled_all base whole section.Data (places all) (places rest) data' r.data_filled (ap places none);
 }

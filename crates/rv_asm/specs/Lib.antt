@@ -2,6 +2,7 @@ pub mod Answer
 pub mod Emitted
 pub mod Faults
 pub mod FirstPass
+pub mod Kept
 pub mod Layout
 pub mod Meaning
 pub mod Mnemonic

@@ -3,6 +3,7 @@ use Rattle.std.specs.Prelude.{ℕ, ℤ, List, Option, Result, map}
 use Rattle.std.specs.BTreeMap.{get_by}
 use Rattle.std.specs.Cmp.Lexicographic.{slice_cmp}
 use Rattle.std.specs.Ordering.{nat_cmp}
+use Rattle.rv_asm.specs.Kept.{Kept, places}
 use Rattle.rv_asm.specs.Layout.{Layout}
 use Rattle.rv_asm.specs.Meaning.{Cell, cells_at, value_of}
 use Rattle.rv_asm.specs.Placed.{Placed, place_body}
@@ -32,8 +33,15 @@ layout_of program = record { reach = program.reach; meanings = found program.sym
 abbrev pub placed_of : Record → Placed
 placed_of line = place_body line.reach line.label_starts (statement line.reading.form (operands_in line.reading.operands.items))
 
+-- what the program keeps of a line
+abbrev pub kept_of : Record → Kept
+kept_of line = record { number = line.line.number; bytes = line.line.bytes.now; place = placed_of line }
+
+abbrev pub kept_in : List Record → List Kept
+kept_in records = map kept_of records
+
 abbrev pub lines_in : List Record → List Placed
-lines_in records = map placed_of records
+lines_in records = places (kept_in records)
 
 -- what a statement means in the program, behind the lines that lead so far
 abbrev pub means : Program → Reach → Statement → Result (List Cell) AsmFault

@@ -1,9 +1,11 @@
-ghost use Rattle.std.specs.Prelude.{◌≡◌, ◌∷◌, ◌++◌, [], None, IfOk, IfErr, Ok, map};
+ghost use Rattle.std.specs.Prelude.{◌≡◌, ◌∷◌, ◌++◌, ◌==◌, ◌≤◌, [], None, IfOk, IfErr, Ok, length};
+ghost use Rattle.std.specs.List.{position_or_len, slice_split};
 ghost use Rattle.rv_asm.specs.Answer.{RefusedBy, RefusedAt};
 ghost use Rattle.rv_asm.specs.Faults.{first_fault_of};
 ghost use Rattle.rv_asm.specs.FirstPass.{body_fault, first_fault, operand_fault};
 ghost use Rattle.rv_asm.specs.Layout.{behind, extended, layout, unlaid, lines_of, statement_in, line_in};
-ghost use Rattle.rv_asm.specs.Placed.{place, place_body, placed};
+ghost use Rattle.rv_asm.specs.Kept.{keep, kept, says_nothing};
+ghost use Rattle.rv_asm.specs.Placed.{place, place_body};
 ghost use Rattle.rv_asm.specs.ReadOperand.{operands_in};
 ghost use Rattle.rv_asm.specs.ReadToken.{tokens_in};
 ghost use Rattle.rv_asm.specs.Statement.{statement};
@@ -13,11 +15,11 @@ use crate::fault::{AsmError, AsmFault};
 use crate::operand::Operand;
 use crate::operation::Form;
 use crate::reach::{Reach, advance};
-use crate::record::Record;
+use crate::record::{Record, TextLine};
 use crate::statement::{Statement, make_statement, needed, read};
 use crate::symbols::{Definition, Symbols};
 use crate::token::{Token, tokenize};
-use std::alloc::{AllocError, Global};
+use std::alloc::Global;
 
 /// What the first pass learns of a text.
 #[derive(Drop)]
@@ -25,27 +27,35 @@ pub struct Layout<'a> {
     pub symbols: Symbols<'a>,
     /// How far the text has come.
     pub reach: Reach,
-    /// The lines, the first one first.
+    /// The lines with a statement or `_start`, the first one first.
     pub records: Vec<Record<'a>>,
 }
 
-/// The lines of a text; a line feed ends a line.
-fn lines_of(alloc: Global, text: &[u8]) -> Result<Vec<&[u8]>, AllocError>
-    ensures { IfOk result (λ lines. map (λ line. line_in line.now) lines.items ≡ lines_of text.now) }
+/// How many bytes stand before the first line feed, or how many there are.
+fn line_length(text: &[u8]) -> usize
+    ensures length { result ≡ position_or_len (λ byte. byte == 10) text.now }
+    ensures in_range { result ≤ length text.now }
 {
-    text.split(|byte| *byte == b'\n').collect(alloc)
+    for (count, byte) in text.iter().enumerate() {
+        if *byte == b'\n' {
+            return count;
+        }
+    }
+    text.len()
 }
 
-/// Adds a form with its operands. The answer is how far the text has come behind it.
+/// Adds a form with its operands. The answer is how far the text has come behind it, and whether
+/// its statement has no effect.
 fn add_form<'a>(
     symbols: &mut Symbols<'a>,
     reach: Reach,
     form: Form,
     operands: &[Operand<'a>],
-) -> Result<Reach, AsmFault>
+) -> Result<(Reach, bool), AsmFault>
     ensures added { IfOk result (λ _. operand_fault (found symbols.old) reach form (operands_in operands.now) ≡ None) }
+    ensures idle { IfOk result (λ next. next.1 ≡ says_nothing (statement form (operands_in operands.now))) }
     ensures reach { IfOk result (λ next.
-        next ≡ (behind (found symbols.old) reach (statement form (operands_in operands.now))).reach) }
+        next.0 ≡ (behind (found symbols.old) reach (statement form (operands_in operands.now))).reach) }
     ensures symbols { IfOk result (λ _.
         found symbols.new ≡ (behind (found symbols.old) reach (statement form (operands_in operands.now))).meanings) }
     ensures refused { RefusedBy (operand_fault (found symbols.old) reach form (operands_in operands.now)) result }
@@ -63,11 +73,11 @@ fn add_form<'a>(
     if let Statement::Constant(name, number) = statement {
         symbols.define(name, Definition::Constant(number))?;
     }
-    Ok(next)
+    Ok((next, matches!(statement, Statement::Nothing)))
 }
 
 impl<'a> Layout<'a> {
-    ghost use Rattle.rv_asm.specs.Symbols.{layout_of, lines_in};
+    ghost use Rattle.rv_asm.specs.Symbols.{layout_of, kept_in};
 
     /// The layout of no lines.
     fn new(alloc: Global) -> Self
@@ -85,6 +95,7 @@ impl<'a> Layout<'a> {
     fn add_body(
         &mut self,
         alloc: Global,
+        line: TextLine<'a>,
         label_starts: bool,
         body: &[Token<'a>],
     ) -> Result<(), AsmFault>
@@ -93,8 +104,8 @@ impl<'a> Layout<'a> {
             self.new.reach ≡ (behind (found self.old.symbols) self.old.reach (statement_in (tokens_in body.now))).reach) }
         ensures symbols { IfOk result (λ _.
             found self.new.symbols ≡ (behind (found self.old.symbols) self.old.reach (statement_in (tokens_in body.now))).meanings) }
-        ensures records { IfOk result (λ _. lines_in self.new.records.items ≡ lines_in self.old.records.items
-            ++ place_body self.old.reach label_starts (statement_in (tokens_in body.now)) ∷ []) }
+        ensures records { IfOk result (λ _. kept_in self.new.records.items ≡ kept_in self.old.records.items
+            ++ keep line.entry.number line.entry.bytes.now (place_body self.old.reach label_starts (statement_in (tokens_in body.now)))) }
         ensures refused { RefusedBy (body_fault (found self.old.symbols) self.old.reach (tokens_in body.now)) result }
     {
         if self.symbols.redefines(body) {
@@ -102,13 +113,18 @@ impl<'a> Layout<'a> {
         }
         let reading = read(alloc, body)?;
         let reach = self.reach;
-        self.reach = add_form(
+        let (next, says_nothing) = add_form(
             &mut self.symbols,
             reach,
             reading.form,
             reading.operands.as_slice(),
         )?;
+        self.reach = next;
+        if says_nothing && !label_starts {
+            return Ok(());
+        }
         self.records.push(Record {
+            line,
             reach,
             label_starts,
             reading,
@@ -117,18 +133,18 @@ impl<'a> Layout<'a> {
     }
 
     /// Adds a line.
-    fn add(&mut self, alloc: Global, line: &'a [u8]) -> Result<(), AsmFault>
-        ensures added { IfOk result (λ _. first_fault (layout_of self.old) (line_in line.entry.now) ≡ None) }
-        ensures layout { IfOk result (λ _. layout_of self.new ≡ extended (layout_of self.old) (line_in line.entry.now)) }
-        ensures records { IfOk result (λ _. lines_in self.new.records.items
-            ≡ lines_in self.old.records.items ++ place self.old.reach (line_in line.entry.now) ∷ []) }
-        ensures refused { RefusedBy (first_fault (layout_of self.old) (line_in line.entry.now)) result }
+    fn add(&mut self, alloc: Global, line: TextLine<'a>) -> Result<(), AsmFault>
+        ensures added { IfOk result (λ _. first_fault (layout_of self.old) (line_in line.entry.bytes.now) ≡ None) }
+        ensures layout { IfOk result (λ _. layout_of self.new ≡ extended (layout_of self.old) (line_in line.entry.bytes.now)) }
+        ensures records { IfOk result (λ _. kept_in self.new.records.items
+            ≡ kept_in self.old.records.items ++ keep line.entry.number line.entry.bytes.now (place self.old.reach (line_in line.entry.bytes.now))) }
+        ensures refused { RefusedBy (first_fault (layout_of self.old) (line_in line.entry.bytes.now)) result }
     {
-        let tokens = tokenize(alloc, line)?;
+        let tokens = tokenize(alloc, line.bytes)?;
         let here = Definition::Label(self.reach.section, self.reach.offset());
         let (count, starts) = self.symbols.define_labels(tokens.as_slice(), here)?;
         let (_, body) = tokens.as_slice().split_at(count);
-        match self.add_body(alloc, starts, body) {
+        match self.add_body(alloc, line, starts, body) {
             Ok(()) => Ok(()),
             Err(fault) => Err(fault),
         }
@@ -138,20 +154,24 @@ impl<'a> Layout<'a> {
     pub fn of_text(alloc: Global, text: &'a [u8]) -> Result<Self, AsmError>
         ensures clean { IfOk result (λ _. first_fault_of (lines_of text.entry.now) ≡ None) }
         ensures tells { IfOk result (λ program. layout_of program ≡ layout (lines_of text.entry.now)) }
-        ensures lines { IfOk result (λ program. lines_in program.records.items ≡ placed unlaid (lines_of text.entry.now)) }
+        ensures kept { IfOk result (λ program. kept_in program.records.items ≡ kept 1 unlaid (slice_split (λ byte. byte == 10) text.entry.now)) }
         ensures refused { RefusedAt (first_fault_of (lines_of text.entry.now)) result }
         ensures memory { IfErr result (λ error. error.fault ≡ AsmFault.Memory → error.line ≡ 0) }
     {
         let mut layout = Layout::new(alloc);
-        let lines = match lines_of(alloc, text) {
-            Ok(lines) => lines,
-            Err(_) => return Err(AsmError::at(AsmFault::Memory, 0)),
-        };
-        for (i, line) in lines.iter().enumerate() {
-            if let Err(fault) = layout.add(alloc, line) {
-                return Err(AsmError::at(fault, i + 1));
+        let mut begin = 0;
+        let mut number = 1;
+        loop {
+            let (_, rest) = text.split_at(begin);
+            let (bytes, behind) = rest.split_at(line_length(rest));
+            if let Err(fault) = layout.add(alloc, TextLine { number, bytes }) {
+                return Err(AsmError::at(fault, number));
             }
+            if behind.is_empty() {
+                return Ok(layout);
+            }
+            begin += bytes.len() + 1;
+            number += 1;
         }
-        Ok(layout)
     }
 }

@@ -1,12 +1,13 @@
-ghost use Rattle.std.specs.Prelude.{◌≡◌, ◌%◌, [], List, Ok, map, None, OnOk, IfOk, IfErr};
+ghost use Rattle.std.specs.Prelude.{◌≡◌, ◌%◌, [], List, Ok, None, OnOk, IfOk, IfErr};
 ghost use Rattle.rv_asm.specs.Answer.{RefusedBy, RefusedAt};
 ghost use Rattle.rv_asm.specs.Emitted.{Appends, Emits};
-ghost use Rattle.rv_asm.specs.Faults.{earliest, second_fault};
+ghost use Rattle.rv_asm.specs.Faults.{second_fault};
+ghost use Rattle.rv_asm.specs.Kept.{first_with_fault};
 ghost use Rattle.rv_asm.specs.Meaning.{Spells, contents, line_cells, parts_in, start_address};
 ghost use Rattle.rv_asm.specs.Operand.{Operand};
 ghost use Rattle.rv_asm.specs.Placed.{constant_starts};
 ghost use Rattle.rv_asm.specs.ReadStatement.{statement_of};
-ghost use Rattle.rv_asm.specs.Symbols.{layout_of, lines_in, placed_of};
+ghost use Rattle.rv_asm.specs.Symbols.{kept_in, layout_of, lines_in, placed_of};
 
 use crate::emit::emit;
 use crate::fault::{AsmError, AsmFault};
@@ -104,20 +105,20 @@ impl Sections {
 
     /// The sections of a program, or its first fault in the second pass.
     pub fn of_program(alloc: Global, program: &Program<'_, '_>) -> Result<Sections, AsmError>
-        ensures clean { IfOk result (λ _. earliest 1 (map (second_fault program.now.base (layout_of program.now.layout.now))
-            (lines_in program.now.layout.now.records.items)) ≡ None) }
+        ensures clean { IfOk result (λ _. first_with_fault (second_fault program.now.base (layout_of program.now.layout.now))
+            (kept_in program.now.layout.now.records.items) ≡ None) }
         ensures text { IfOk result (λ sections. Spells (contents program.now.base (layout_of program.now.layout.now)
             Section.Text (lines_in program.now.layout.now.records.items)) sections.text.items) }
         ensures data_bytes { IfOk result (λ sections. Spells (contents program.now.base (layout_of program.now.layout.now)
             Section.Data (lines_in program.now.layout.now.records.items)) sections.data_bytes.items) }
-        ensures refused { RefusedAt (earliest 1 (map (second_fault program.now.base (layout_of program.now.layout.now))
-            (lines_in program.now.layout.now.records.items))) result }
+        ensures refused { RefusedAt (first_with_fault (second_fault program.now.base (layout_of program.now.layout.now))
+            (kept_in program.now.layout.now.records.items)) result }
         ensures memory { IfErr result (λ error. error.fault ≡ AsmFault.Memory → error.line ≡ 0) }
     {
         let mut sections = Sections::new(alloc);
-        for (i, line) in program.layout.records.iter().enumerate() {
+        for line in &program.layout.records {
             if let Err(fault) = sections.add(program, line) {
-                return Err(AsmError::at(fault, i + 1));
+                return Err(AsmError::at(fault, line.line.number));
             }
         }
         Ok(sections)

@@ -1,5 +1,5 @@
 -- The passages in order of fetch, and what a cycle makes of them.
-use Rattle.std.specs.Prelude.{ℕ, ◌+◌, ◌-◌, ◌≤◌, ◌<◌, ◌^◌, nat_lt, Bool, if◌then◌else◌, List, [], ◌∷◌, ◌++◌, length, filter, vec_len, vec_capacity}
+use Rattle.std.specs.Prelude.{ℕ, ◌+◌, ◌-◌, ◌≤◌, ◌<◌, ◌^◌, nat_lt, Bool, if◌then◌else◌, List, [], ◌∷◌, ◌++◌, length, filter, vec_capacity}
 use Rattle.rv_hardware.specs.Hardware.{Hardware}
 use Rattle.rv_hardware.specs.declared.step.Step.{Step}
 use Rattle.rv_hardware.specs.declared.step.Step.TheVariants as step
@@ -67,8 +67,8 @@ still_open t = record t { rows = filter is_in_flight t.rows; interrupts = [] }
 
 -- room for what a cycle may add: as many rows as can be in flight, and an interrupt for each step
 pub record HasRoom (t : Table) : Type 0 where
-  pub rows : vec_len t.rows + 288 ≤ vec_capacity t.rows
-  pub interrupts : vec_len t.interrupts + 8 ≤ vec_capacity t.interrupts
+  pub rows : length t.rows.items + 288 ≤ vec_capacity t.rows
+  pub interrupts : length t.interrupts.items + 8 ≤ vec_capacity t.interrupts
 
 -- the counts can go on
 pub record CanCount (t : Passages) : Type 0 where

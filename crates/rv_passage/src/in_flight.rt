@@ -1,4 +1,4 @@
-ghost use Rattle.std.specs.Prelude.{◌≡◌, ◌≤◌, length, slice_get};
+ghost use Rattle.std.specs.Prelude.{◌≡◌, ◌≤◌, ◌<◌, Some, length, slice_get};
 ghost use Rattle.rv_passage.specs.Passage.{in_flight};
 
 use crate::passage::Passage;
@@ -24,9 +24,23 @@ pub(crate) fn passage_at(core: &Core, place: usize) -> Option<Passage>
     let buffer = core.reorder_buffer();
     let dispatched = buffer.len();
     if place < dispatched {
-        let entry = buffer.get(buffer.retired() + place as u64)?;
-        return Some(Passage::of_entry(entry));
+        let behind = dispatched - place;
+        let number = buffer.next_number() - behind as u64;
+        let entry = buffer.get(number)?;
+        Some(Passage::of_entry(entry))
+    } else {
+        let word = core.front().get(place - dispatched)?;
+        Some(Passage::of_fetched(word))
     }
-    let fetched = core.front().get(place - dispatched)?;
-    Some(Passage::of_fetched(fetched))
+}
+
+// The instruction at a place that there is.
+pub(crate) fn present_at(core: &Core, place: usize) -> Passage
+    requires { place < length (in_flight core.now) }
+    ensures { slice_get (in_flight core.now) place ≡ Some result }
+{
+    match passage_at(core, place) {
+        Some(passage) => passage,
+        None => unreachable!(),
+    }
 }

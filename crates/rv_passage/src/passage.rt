@@ -1,4 +1,5 @@
 ghost use Rattle.std.specs.Prelude.{◌≡◌};
+ghost use Rattle.rv_passage.specs.Passage.{broadcast_of};
 
 use rv_front::Fetched;
 use rv_hardware::Row;

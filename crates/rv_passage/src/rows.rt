@@ -1,5 +1,6 @@
 ghost use Rattle.std.specs.Prelude.{◌≡◌, ◌++◌, ℕ, drop};
-ghost use Rattle.rv_passage.specs.Passage.{in_flight, retired_by, trapped_by};
+ghost use Rattle.std.specs.List.{position};
+ghost use Rattle.rv_passage.specs.Passage.{in_flight, is_in_flight, retired_by, trapped_by};
 ghost use Rattle.rv_passage.specs.Table.{moved_on, numbered_from, with_oldest};
 
 use crate::in_flight::passage_at;
@@ -8,16 +9,19 @@ use rv_core::Core;
 use rv_hardware::Row;
 use rv_isa::Cause;
 
+// The place of the oldest instruction in flight.
+fn oldest_in_flight(rows: &[Passage]) -> Option<usize>
+    ensures { result ≡ position is_in_flight rows.now }
+{
+    rows.iter().position(|row| row.is_in_flight())
+}
+
 // The oldest in flight, if one is, retires as its row tells, so many before it.
 pub(crate) fn retire_oldest(rows: &mut [Passage], row: &Row, order: u64)
     ensures { rows.new ≡ with_oldest (retired_by row.now order) rows.old }
 {
-    for place in 0..rows.len() {
-        let oldest = rows[place];
-        if oldest.is_in_flight() {
-            rows[place] = oldest.retired_by(row, order);
-            return;
-        }
+    if let Some(place) = oldest_in_flight(rows) {
+        rows[place] = rows[place].retired_by(row, order);
     }
 }
 
@@ -25,12 +29,8 @@ pub(crate) fn retire_oldest(rows: &mut [Passage], row: &Row, order: u64)
 pub(crate) fn trap_oldest(rows: &mut [Passage], cause: Cause, cycle: u64)
     ensures { rows.new ≡ with_oldest (trapped_by cause cycle) rows.old }
 {
-    for place in 0..rows.len() {
-        let oldest = rows[place];
-        if oldest.is_in_flight() {
-            rows[place] = oldest.trapped_by(cause, cycle);
-            return;
-        }
+    if let Some(place) = oldest_in_flight(rows) {
+        rows[place] = rows[place].trapped_by(cause, cycle);
     }
 }
 

@@ -1,8 +1,8 @@
-ghost use Rattle.std.specs.Prelude.{◌≡◌, ◌+◌, ◌≤◌, ◌<◌, ◌^◌, ◌++◌, drop, filter, length, vec_capacity, IfOk, OnErr};
-ghost use Rattle.rv_passage.specs.Passage.{in_flight, is_in_flight};
-ghost use Rattle.rv_passage.specs.Table.{CanCount, HasRoom, after_cycle, numbered_from, passages_of, still_open, table_at, with_step, with_steps};
+ghost use Rattle.std.specs.Prelude.{◌≡◌, ℕ, ◌+◌, ◌≤◌, ◌<◌, ◌^◌, ◌++◌, [], ◌∷◌, drop, length, vec_capacity, IfOk};
+ghost use Rattle.rv_passage.specs.Passage.{in_flight, numbered};
+ghost use Rattle.rv_passage.specs.Table.{CanCount, HasRoom, after_cycle, moved_on, numbered_from, passages_of, still_open, table_at, with_step, with_steps};
 
-use crate::in_flight::{MOST_IN_FLIGHT, count_in_flight, passage_at};
+use crate::in_flight::{MOST_IN_FLIGHT, count_in_flight, present_at};
 use crate::passage::Passage;
 use crate::rows::{move_on, retire_oldest, trap_oldest};
 use rv_core::Core;
@@ -26,7 +26,7 @@ impl Table {
         ensures room { IfOk result HasRoom }
         ensures rows { IfOk result (λ table. 576 ≤ vec_capacity table.rows) }
         ensures interrupts { IfOk result (λ table. 8 ≤ vec_capacity table.interrupts) }
-        ensures few { length (in_flight core.now) ≤ 288 }
+        ensures few { IfOk result (λ table. length (passages_of table).rows ≤ 288) }
     {
         let mut table = Table {
             rows: Vec::with_capacity(alloc, 2 * MOST_IN_FLIGHT)?,
@@ -67,17 +67,39 @@ impl Table {
         requires countable { CanCount (passages_of self.old) }
         requires few { length steps.now ≤ 8 }
         ensures followed { passages_of self.new ≡ after_cycle cycle steps.now core.now (passages_of self.old) }
-        ensures rows { vec_capacity self.new.rows ≡ vec_capacity self.old.rows }
-        ensures interrupts { vec_capacity self.new.interrupts ≡ vec_capacity self.old.interrupts }
+        ensures rows { vec_capacity self.old.rows ≤ vec_capacity self.new.rows }
+        ensures interrupts { vec_capacity self.old.interrupts ≤ vec_capacity self.new.interrupts }
         ensures fetched { self.new.fetched ≤ self.old.fetched + 288 }
         ensures retired { self.new.retired ≤ self.old.retired + 8 }
-        ensures in_flight { length (in_flight core.now) ≤ 288 }
+        ensures open { length (still_open (passages_of self.new)).rows ≤ 288 }
+    {
+        self.take_steps(steps);
+        let fetched = self.move_rows_on(cycle, core);
+        self.append_fetched(fetched, core);
+    }
+
+    // Ends an instruction for each step, or notes an interrupt.
+    fn take_steps(&mut self, steps: &[Step])
+        requires countable { self.old.retired + 8 < 2 ^ 64 }
+        requires room { length self.old.interrupts.items + 8 ≤ vec_capacity self.old.interrupts }
+        requires few { length steps.now ≤ 8 }
+        ensures taken { passages_of self.new ≡ with_steps steps.now (passages_of self.old) }
+        ensures rows { vec_capacity self.old.rows ≤ vec_capacity self.new.rows }
+        ensures interrupts { vec_capacity self.old.interrupts ≤ vec_capacity self.new.interrupts }
     {
         for step in steps {
             self.take_step(step);
         }
-        let fetched = move_on(self.rows.as_mut_slice(), cycle, core);
-        self.append_fetched(fetched, core);
+    }
+
+    // What was in flight before a cycle goes on, or was squashed in it.
+    fn move_rows_on(&mut self, cycle: u64, core: &Core) -> usize
+        ensures rows { (number : ℕ) → moved_on cycle number self.old.rows.items (in_flight core.now) ≡ self.new.rows.items ++ numbered_from number (drop result (in_flight core.now)) }
+        ensures len { length self.new.rows.items ≡ length self.old.rows.items }
+        ensures others { (self.new.interrupts ≡ self.old.interrupts) × (self.new.fetched ≡ self.old.fetched) × (self.new.retired ≡ self.old.retired) }
+        ensures capacity { vec_capacity self.new.rows ≡ vec_capacity self.old.rows }
+    {
+        move_on(self.rows.as_mut_slice(), cycle, core)
     }
 
     // Ends the oldest instruction in flight by a step, or notes an interrupt.
@@ -85,8 +107,8 @@ impl Table {
         requires countable { self.old.retired + 1 < 2 ^ 64 }
         requires room { length self.old.interrupts.items < vec_capacity self.old.interrupts }
         ensures taken { passages_of self.new ≡ with_step step.now (passages_of self.old) }
-        ensures rows { vec_capacity self.new.rows ≡ vec_capacity self.old.rows }
-        ensures interrupts { vec_capacity self.new.interrupts ≡ vec_capacity self.old.interrupts }
+        ensures rows { vec_capacity self.old.rows ≤ vec_capacity self.new.rows }
+        ensures interrupts { vec_capacity self.old.interrupts ≤ vec_capacity self.new.interrupts }
     {
         match *step {
             Step::Retired(row) => {
@@ -107,26 +129,36 @@ impl Table {
         ensures rows { self.new.rows.items ≡ self.old.rows.items ++ numbered_from self.old.fetched (drop from (in_flight core.now)) }
         ensures fetched { self.new.fetched ≡ self.old.fetched + length (drop from (in_flight core.now)) }
         ensures others { (self.new.interrupts ≡ self.old.interrupts) × (self.new.retired ≡ self.old.retired) }
-        ensures capacity { vec_capacity self.new.rows ≡ vec_capacity self.old.rows }
+        ensures capacity { vec_capacity self.old.rows ≤ vec_capacity self.new.rows }
         ensures few { length (in_flight core.now) ≤ 288 }
     {
         for place in from..count_in_flight(core) {
-            if let Some(now) = passage_at(core, place) {
-                let passage = Passage {
-                    number: self.fetched,
-                    ..now
-                };
-                self.rows.extend_from_slice(&[passage]).unwrap();
-                self.fetched += 1;
-            }
+            self.append(present_at(core, place));
         }
+    }
+
+    // Numbers an instruction, and appends it.
+    fn append(&mut self, now: Passage)
+        requires room { length self.old.rows.items < vec_capacity self.old.rows }
+        requires countable { self.old.fetched + 1 < 2 ^ 64 }
+        ensures rows { self.new.rows.items ≡ self.old.rows.items ++ numbered self.old.fetched now ∷ [] }
+        ensures fetched { self.new.fetched ≡ self.old.fetched + 1 }
+        ensures others { (self.new.interrupts ≡ self.old.interrupts) × (self.new.retired ≡ self.old.retired) }
+        ensures capacity { vec_capacity self.old.rows ≤ vec_capacity self.new.rows }
+    {
+        let passage = Passage {
+            number: self.fetched,
+            ..now
+        };
+        self.rows.push(passage).unwrap();
+        self.fetched += 1;
     }
 
     /// Forgets the instructions that left the hardware, and the interrupts.
     pub fn drop_ended(&mut self)
         ensures opened { passages_of self.new ≡ still_open (passages_of self.old) }
-        ensures rows { vec_capacity self.new.rows ≡ vec_capacity self.old.rows }
-        ensures interrupts { vec_capacity self.new.interrupts ≡ vec_capacity self.old.interrupts }
+        ensures rows { vec_capacity self.old.rows ≤ vec_capacity self.new.rows }
+        ensures interrupts { vec_capacity self.old.interrupts ≤ vec_capacity self.new.interrupts }
     {
         self.rows.retain(|row| row.is_in_flight());
         self.interrupts.clear();

@@ -1,30 +1,44 @@
-use Rattle.std.proofs.Common.{◌∙◌, map, ap, sym, arith, subst}
-use Rattle.std.proofs.lemmas.List.{drop_more, drop_all}
-use Rattle.rv_asm.proofs.Lines.{AllRead, FirstPass, first_none, first_more, first_refused, first_done}
-use Rattle.rv_asm.specs.Layout.{line_in, lines_of}
-use Rattle.rv_asm.specs.Symbols.{layout_of, lines_in}
+use Rattle.std.proofs.Common.{◌∙◌, ◌==◌, ap, arith, length, refl}
+use Rattle.std.specs.List.{slice_split}
+use Rattle.rv_asm.proofs.Lines.{AllRead, first_line, next_line, last_line, some_left, none_left, first_none, first_more, first_refused, first_done}
+use Rattle.rv_asm.specs.Symbols.{layout_of, kept_in}
 use Rattle.rv_asm.proofs.layout.Layout.of_text.Goals as goal
-use Rattle.rv_asm.proofs.layout.Layout.of_text.Goals.{After-drop-lines-2}
+use Rattle.rv_asm.proofs.layout.Layout.of_text.Goals.{Then-is_empty}
 
-pub loop-i-init : goal.loop-i-init
-loop-i-init c = subst (λ rest. FirstPass (lines_of c.args.text.now) rest 1 (layout_of c.new-layout.result) (lines_in c.new-layout.result.records.items)) (sym (ap (map (λ line. line_in line.now)) c.deref-line-items.ensures.value ∙ c.in-Ok.ensures)) (first_none _ _ _ c.new-layout.ensures.layout (ap lines_in c.new-layout.ensures.records))
+pub loop-fault-init : goal.loop-fault-init
+loop-fault-init c = record {
+  in_range = omega arith;
+  numbered = omega arith;
+  read = first_none _ _ _ c.new-layout.ensures.layout (ap (λ r. kept_in r) c.new-layout.ensures.records);
+}
 
-pub loop-i-preserved : goal.loop-i-preserved
-loop-i-preserved c = first_more _ _ _ _ _ _ _ c.loop-i.invariant (ap (map (λ line. line_in line.now)) (drop_more c.deref-line-items.result.now c.loop-i.i _ c.loop-i-test.true)) _ _ c.in_default.ensures.added c.in_default.ensures.layout c.in_default.ensures.records
+pub loop-fault-preserved : goal.loop-fault-preserved
+loop-fault-preserved c =
+    let more = some_left _ _ c.is_empty.ensures c.if-is_empty.false in
+    let back = ap length c.split_at-in-loop-fault.ensures.back in
+    let next = next_line c.args.text.now c.split_at.result.1.now c.split_at-in-loop-fault.result.0.now c.split_at-in-loop-fault.result.1.now c.loop-fault.begin c.line_length.result c.split_at.ensures.back c.line_length.ensures.length c.split_at-in-loop-fault.ensures.front c.split_at-in-loop-fault.ensures.back_len c.line_length.ensures.in_range more in
+    record {
+      in_range = omega (arith, more);
+      numbered = omega arith;
+      read = first_more _ _ _ _ _ _ _ c.loop-fault.invariant.read next _ _ c.in_default.ensures.added c.in_default.ensures.layout c.in_default.ensures.records;
+    }
 
-pub returns-in-Err-add-clause-refused : goal.returns-in-Err-add-clause-refused
-returns-in-Err-add-clause-refused c = λ memory.
-    let not_memory = λ (e : _). memory (c.at-in-Err-add.ensures.fault ∙ e) in
-    rw (c.at-in-Err-add.ensures.fault, c.at-in-Err-add.ensures.line not_memory) (first_refused _ _ _ _ _ _ _ c.loop-i.invariant (ap (map (λ line. line_in line.now)) (drop_more c.deref-line-items.result.now c.loop-i.i _ c.loop-i-test.true)) c.in-Err-add.fault (c.in-Err-add.ensures.refused not_memory))
+read : (c : Then-is_empty) → AllRead (slice_split (λ byte. byte == 10) c.args.text.now) (layout_of c.add.new.self) (kept_in c.add.new.self.records.items)
+read c =
+    let last = last_line c.args.text.now c.split_at.result.1.now c.split_at-in-loop-fault.result.0.now c.split_at-in-loop-fault.result.1.now c.loop-fault.begin c.line_length.result c.split_at.ensures.back c.line_length.ensures.length c.split_at-in-loop-fault.ensures.front c.split_at-in-loop-fault.ensures.back_len c.line_length.ensures.in_range (none_left _ _ c.is_empty.ensures c.if-is_empty.true) in
+    first_done _ _ _ _ _ (first_more _ _ _ _ _ _ _ c.loop-fault.invariant.read last _ _ c.in_default.ensures.added c.in_default.ensures.layout c.in_default.ensures.records) refl
 
-read : (c : After-drop-lines-2) → AllRead (lines_of c.args.text.now) (layout_of c.loop-i.layout) (lines_in c.loop-i.layout.records.items)
-read c = first_done _ _ _ _ _ c.loop-i.invariant (ap (map (λ line. line_in line.now)) (drop_all c.loop-i.i c.deref-line-items.result.now (omega (arith, c.loop-i-test.false))))
+pub returns-then-is_empty-clause-clean : goal.returns-then-is_empty-clause-clean
+returns-then-is_empty-clause-clean c = (read c).clean
 
-pub returns-clause-clean : goal.returns-clause-clean
-returns-clause-clean c = (read c).clean
+pub returns-then-is_empty-clause-tells : goal.returns-then-is_empty-clause-tells
+returns-then-is_empty-clause-tells c = (read c).whole
 
-pub returns-clause-tells : goal.returns-clause-tells
-returns-clause-tells c = (read c).whole
+pub returns-then-is_empty-clause-kept : goal.returns-then-is_empty-clause-kept
+returns-then-is_empty-clause-kept c = (read c).places
 
-pub returns-clause-lines : goal.returns-clause-lines
-returns-clause-lines c = (read c).places
+pub returns-in-Err-clause-refused : goal.returns-in-Err-clause-refused
+returns-in-Err-clause-refused c = λ memory.
+    let not_memory = λ (e : _). memory (c.at.ensures.fault ∙ e) in
+    let line = first_line c.args.text.now c.split_at.result.1.now c.split_at-in-loop-fault.result.0.now c.split_at-in-loop-fault.result.1.now c.loop-fault.begin c.line_length.result c.split_at.ensures.back c.line_length.ensures.length c.split_at-in-loop-fault.ensures.front c.split_at-in-loop-fault.ensures.back_len c.line_length.ensures.in_range _ refl in
+    rw (c.at.ensures.fault, c.at.ensures.line not_memory) (first_refused _ _ _ _ _ _ _ c.loop-fault.invariant.read line.1 c.in-Err.fault (c.in-Err.ensures.refused not_memory))

@@ -1,0 +1,2 @@
+mod InFlight
+mod Moving

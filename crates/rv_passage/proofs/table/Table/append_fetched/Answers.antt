@@ -1,0 +1,18 @@
+use Rattle.std.proofs.Common.{◌≡◌, ◌∙◌, ◌∷◌, [], ap, length, arith, length-append}
+use Rattle.rv_passage.specs.Passage.{in_flight, numbered}
+use Rattle.rv_passage.proofs.Moving.{drop-at, numbered-more}
+use Rattle.rv_passage.proofs.table.Table.append_fetched.Goals as goal
+
+pub loop-place-preserved : goal.loop-place-preserved
+loop-place-preserved g c =
+    let now = in_flight c.args.core.now in
+    let left = ap length (drop-at now c.loop-place.place c.present_at.result c.present_at.ensures) in
+    let more = ap length c.append.ensures.rows in
+    let one = length-append c.loop-place.self.rows.items (numbered c.loop-place.self.fetched c.present_at.result ∷ []) in
+    record {
+      rows = numbered-more now c.loop-place.self.rows.items c.append.new.self.rows.items c.loop-place.place c.loop-place.self.fetched c.append.new.self.fetched c.present_at.result (numbered c.loop-place.self.fetched c.present_at.result) c.present_at.ensures (λ i. numbered c.loop-place.self.fetched c.present_at.result) c.append.ensures.rows c.append.ensures.fetched ∙ c.loop-place.invariant.rows;
+      count = omega (arith, left, c.append.ensures.fetched, c.loop-place.invariant.count);
+      room = omega (arith, left, more, one, c.append.ensures.capacity, c.loop-place.invariant.room);
+      capacity = omega (arith, c.append.ensures.capacity, c.loop-place.invariant.capacity);
+      others = (c.append.ensures.others.0 ∙ c.loop-place.invariant.others.0, c.append.ensures.others.1 ∙ c.loop-place.invariant.others.1);
+    }

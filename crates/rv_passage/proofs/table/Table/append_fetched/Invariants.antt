@@ -1,0 +1,14 @@
+use Rattle.std.proofs.Common.{◌≡◌, ◌≤◌, ◌+◌, ℕ, ◌++◌, drop, length, vec_capacity}
+use Rattle.rv_passage.specs.Passage.{in_flight}
+use Rattle.rv_passage.specs.Table.{numbered_from}
+use Rattle.rv_passage.proofs.table.Table.append_fetched.Given as goal
+
+-- the instructions so far are appended, and there is room for the others
+abbrev pub invariant-loop-place : goal.invariant-loop-place
+invariant-loop-place g l = record {
+  rows : l.self.rows.items ++ numbered_from l.self.fetched (drop l.place (in_flight l.core)) ≡ l.fn.self.rows.items ++ numbered_from l.fn.self.fetched (drop l.fn.from (in_flight l.core));
+  count : l.self.fetched + length (drop l.place (in_flight l.core)) ≡ l.fn.self.fetched + length (drop l.fn.from (in_flight l.core));
+  room : length l.self.rows.items + length (drop l.place (in_flight l.core)) ≤ vec_capacity l.self.rows;
+  capacity : vec_capacity l.fn.self.rows ≤ vec_capacity l.self.rows;
+  others : (l.self.interrupts ≡ l.fn.self.interrupts) × (l.self.retired ≡ l.fn.self.retired);
+}
