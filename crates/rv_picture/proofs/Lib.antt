@@ -1,1 +1,2 @@
 mod SvgRows
+pub mod UnderWay

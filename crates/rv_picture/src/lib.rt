@@ -5,11 +5,17 @@
 mod cell;
 mod frame;
 mod label;
+mod picture;
 mod place;
+mod recording;
 mod svg;
 mod text;
 mod window;
+mod written;
 
+pub use picture::{Form, PictureError};
+pub use recording::{Recording, record_window};
 pub use svg::write_picture_svg;
 pub use text::write_picture_text;
 pub use window::Window;
+pub use written::write_picture;
