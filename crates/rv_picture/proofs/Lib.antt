@@ -1,0 +1,2 @@
+mod SvgRows
+pub mod UnderWay

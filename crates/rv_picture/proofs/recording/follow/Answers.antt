@@ -1,0 +1,85 @@
+use Rattle.std.proofs.Common.{◌≡◌, ◌∙◌, [], refl, sym, subst, arith}
+use Rattle.std.proofs.lemmas.Bool.{leb-true}
+use Rattle.rv_arch.specs.declared.outcome.Stop.TheVariants as stop
+use Rattle.rv_core.specs.Progress.{progress_of}
+use Rattle.rv_passage.specs.Table.{Passages, after_cycle, passages_of}
+use Rattle.rv_picture.specs.Recording.{IsFollowed}
+use Rattle.rv_picture.specs.declared.recording.Recording.{Recording}
+use Rattle.rv_picture.proofs.UnderWay.{IsFollowing, can_count, followed_to, followed_to_stop, following_nothing, following_on, going-bounded, ends_exhausted, ends_by_limit, one_more}
+use Rattle.rv_picture.proofs.recording.follow.Goals as goal
+
+pub loop-init : goal.loop-init
+loop-init g c =
+    let zero = c.default-progress.ensures in
+    let none : c.default-progress.result ≡ progress_of [] =
+    λ j. record {
+      stalls = record { fetch = zero.0.0 j; serial = zero.0.1.0 j; rob = zero.0.1.1.0 j; station = zero.0.1.1.1.0 j; store = zero.0.1.1.1.1 j };
+      busy = zero.1.0 j;
+      cycles = zero.1.1.0 j;
+      silent = zero.1.1.1.0 j;
+      longest_gap = zero.1.1.1.1 j;
+    }
+    in
+    (following_nothing c.args.arrivals.now c.args.core.now c.default-progress.result (passages_of c.in_ok-table.table) none c.in_ok-table.ensures.table c.in_ok-table.ensures.few, zero.1.1.0, omega (arith, c.in_ok-steps.ensures.exact))
+
+pub returns-then-is_exhausted : goal.returns-then-is_exhausted
+returns-then-is_exhausted g c =
+    let arrivals = c.args.arrivals.now in
+    let old = c.args.core.now in
+    let now = c.loop.core in
+    let following = c.loop.invariant.0 in
+    let over = leb-true 1099511627776 now.cycle (sym c.is_exhausted.ensures.exhausted ∙ c.if-is_exhausted.true) in
+    let ends = ends_exhausted arrivals old now c.loop.progress following.going c.args.limit (omega (arith, c.loop.invariant.1, c.loop-test.true)) (omega (arith, over, c.is_exhausted.ensures.within)) in
+    subst (λ (r : Recording). IsFollowed arrivals c.args.limit old now (passages_of r.table) r.window r.stop) (sym c.recorded.ensures)
+    (followed_to arrivals old now c.loop.progress (passages_of c.loop.table) following c.args.limit (record { first = c.cycles_done-first.result; cycles = c.loop.progress.cycles }) stop.Exhausted ends c.cycles_done-first.ensures.number refl)
+
+pub run_cycle-stop-requires-clause-bounded : goal.run_cycle-stop-requires-clause-bounded
+run_cycle-stop-requires-clause-bounded g c = going-bounded c.args.arrivals.now c.args.core.now c.loop.core c.loop.progress c.loop.invariant.0.going
+
+pub run_cycle-stop-requires-clause-countable : goal.run_cycle-stop-requires-clause-countable
+run_cycle-stop-requires-clause-countable g c = omega (arith, c.loop.invariant.1, c.loop-test.true, c.ranges.limit)
+
+pub follow-requires-clause-countable : goal.follow-requires-clause-countable
+follow-requires-clause-countable g c =
+    let following = subst (λ (t : Passages). IsFollowing c.args.arrivals.now c.args.core.now c.loop.core c.loop.progress t) (sym c.make_room.ensures.same) c.loop.invariant.0 in
+    can_count c.args.arrivals.now c.args.core.now c.loop.core c.loop.progress (passages_of c.make_room.new.self) following c.is_exhausted.ensures.within
+
+pub returns-in-Some : goal.returns-in-Some
+returns-in-Some g c =
+    let arrivals = c.args.arrivals.now in
+    let old = c.args.core.now in
+    let now = c.loop.core in
+    let new = c.run_cycle-stop.new.core in
+    let table = passages_of c.make_room.new.self in
+    let following = subst (λ (t : Passages). IsFollowing arrivals old now c.loop.progress t) (sym c.make_room.ensures.same) c.loop.invariant.0 in
+    let takes = c.follow.ensures.followed ∙ (λ i. after_cycle (c.cycles_done-cycle.ensures.number i) c.as_slice.result.now new table) in
+    subst (λ (r : Recording). IsFollowed arrivals c.args.limit old new (passages_of r.table) r.window r.stop) (sym c.recorded-in-Some.ensures)
+    (followed_to_stop arrivals old now c.loop.progress table following new c.clear.new.self.items c.run_cycle-stop.new.steps.items c.as_slice.result.now c.run_cycle-stop.new.self c.run_cycle-stop.result c.run_cycle-stop.ensures.cycle
+    c.clear.ensures.items c.as_slice.ensures.value (passages_of c.follow.new.self) takes c.follow.ensures.fetched c.follow.ensures.retired
+    c.args.limit (record { first = c.cycles_done-first.result; cycles = c.run_cycle-stop.new.self.cycles }) c.in-Some.stop c.in-Some.is (omega (arith, c.loop.invariant.1, c.loop-test.true)) c.cycles_done-first.ensures.number refl)
+
+pub loop-preserved : goal.loop-preserved
+loop-preserved g c =
+    let arrivals = c.args.arrivals.now in
+    let old = c.args.core.now in
+    let now = c.loop.core in
+    let new = c.run_cycle-stop.new.core in
+    let table = passages_of c.make_room.new.self in
+    let next = c.run_cycle-stop.ensures.cycle in
+    let following = subst (λ (t : Passages). IsFollowing arrivals old now c.loop.progress t) (sym c.make_room.ensures.same) c.loop.invariant.0 in
+    let takes = c.follow.ensures.followed ∙ (λ i. after_cycle (c.cycles_done-cycle.ensures.number i) c.as_slice.result.now new table) in (
+      following_on arrivals old now c.loop.progress table following new c.clear.new.self.items c.run_cycle-stop.new.steps.items c.as_slice.result.now c.run_cycle-stop.new.self c.run_cycle-stop.result next
+          c.clear.ensures.items c.as_slice.ensures.value (passages_of c.follow.new.self) takes c.follow.ensures.fetched c.follow.ensures.retired c.in_default.is,
+      omega (arith, one_more arrivals old now c.loop.progress following.going new c.clear.new.self.items c.run_cycle-stop.new.steps.items c.run_cycle-stop.new.self c.run_cycle-stop.result next, c.loop.invariant.1),
+      omega (arith, c.run_cycle-stop.ensures.capacity, c.clear.ensures.capacity, c.loop.invariant.2),
+    )
+
+pub returns : goal.returns
+returns g c =
+    let arrivals = c.args.arrivals.now in
+    let old = c.args.core.now in
+    let now = c.loop.core in
+    let following = c.loop.invariant.0 in
+    let ends = ends_by_limit arrivals old now c.loop.progress following.going c.args.limit (omega (arith, c.loop.invariant.1, c.loop-test.false, c.loop.auto.counter-end)) in
+    subst (λ (r : Recording). IsFollowed arrivals c.args.limit old now (passages_of r.table) r.window r.stop) (sym c.recorded-2.ensures)
+    (followed_to arrivals old now c.loop.progress (passages_of c.loop.table) following c.args.limit (record { first = c.cycles_done-first.result; cycles = c.loop.progress.cycles }) stop.Limit ends c.cycles_done-first.ensures.number refl)

@@ -1,0 +1,48 @@
+use Rattle.std.proofs.Common.{◌≡◌, ◌∙◌, [], sym, arith}
+use Rattle.std.proofs.lemmas.Bool.{leb-true}
+use Rattle.rv_core.specs.Progress.{progress_of}
+use Rattle.rv_picture.proofs.UnderWay.{going-bounded, going_nowhere, going_on, gone_to_exhaustion, gone_to_limit, gone_to_stop, one_more}
+use Rattle.rv_picture.proofs.recording.run_on.Goals as goal
+
+pub loop-init : goal.loop-init
+loop-init g c =
+    let zero = c.default-progress.ensures in
+    let none : c.default-progress.result ≡ progress_of [] =
+    λ j. record {
+      stalls = record { fetch = zero.0.0 j; serial = zero.0.1.0 j; rob = zero.0.1.1.0 j; station = zero.0.1.1.1.0 j; store = zero.0.1.1.1.1 j };
+      busy = zero.1.0 j;
+      cycles = zero.1.1.0 j;
+      silent = zero.1.1.1.0 j;
+      longest_gap = zero.1.1.1.1 j;
+    }
+    in
+    (going_nowhere c.args.arrivals.now c.args.core.now c.default-progress.result none, zero.1.1.0, omega (arith, c.in_ok-steps.ensures.exact))
+
+pub returns-then-is_exhausted : goal.returns-then-is_exhausted
+returns-then-is_exhausted g c =
+    let over = leb-true 1099511627776 c.loop.core.cycle (sym c.is_exhausted.ensures.exhausted ∙ c.if-is_exhausted.true) in
+    gone_to_exhaustion c.args.arrivals.now c.args.core.now c.loop.core c.loop.progress c.loop.invariant.0 c.args.limit (omega (arith, c.loop.invariant.1, c.loop-test.true)) (omega (arith, over, c.is_exhausted.ensures.within))
+
+pub run_cycle-requires-clause-bounded : goal.run_cycle-requires-clause-bounded
+run_cycle-requires-clause-bounded g c = going-bounded c.args.arrivals.now c.args.core.now c.loop.core c.loop.progress c.loop.invariant.0
+
+pub run_cycle-requires-clause-countable : goal.run_cycle-requires-clause-countable
+run_cycle-requires-clause-countable g c = omega (arith, c.loop.invariant.1, c.loop-test.true, c.ranges.limit)
+
+pub returns-in-Some : goal.returns-in-Some
+returns-in-Some g c =
+    gone_to_stop c.args.arrivals.now c.args.core.now c.loop.core c.loop.progress c.loop.invariant.0 c.run_cycle.new.core c.clear.new.self.items c.run_cycle.new.steps.items c.run_cycle.new.self c.run_cycle.result c.run_cycle.ensures.cycle
+    c.args.limit c.in-Some.stop c.in-Some.is (omega (arith, c.loop.invariant.1, c.loop-test.true))
+
+pub loop-preserved : goal.loop-preserved
+loop-preserved g c =
+    let arrivals = c.args.arrivals.now in
+    let next = c.run_cycle.ensures.cycle in (
+      going_on arrivals c.args.core.now c.loop.core c.loop.progress c.loop.invariant.0 c.run_cycle.new.core c.clear.new.self.items c.run_cycle.new.steps.items c.run_cycle.new.self c.run_cycle.result next c.in_default.is,
+      omega (arith, one_more arrivals c.args.core.now c.loop.core c.loop.progress c.loop.invariant.0 c.run_cycle.new.core c.clear.new.self.items c.run_cycle.new.steps.items c.run_cycle.new.self c.run_cycle.result next, c.loop.invariant.1),
+      omega (arith, c.run_cycle.ensures.capacity, c.clear.ensures.capacity, c.loop.invariant.2),
+    )
+
+pub returns : goal.returns
+returns g c =
+    gone_to_limit c.args.arrivals.now c.args.core.now c.loop.core c.loop.progress c.loop.invariant.0 c.args.limit (omega (arith, c.loop.invariant.1, c.loop-test.false, c.loop.auto.counter-end))

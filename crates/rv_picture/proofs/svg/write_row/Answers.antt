@@ -1,0 +1,38 @@
+use Rattle.rv_picture.specs.SvgPicture.{svg_row}
+use Rattle.rv_text.proofs.Writing.{handed_on, beginning-both, beginning-longer, written_behind}
+use Rattle.rv_picture.proofs.svg.write_row.Goals as goal
+
+pub returns-in_err-write_row_begin : goal.returns-in_err-write_row_begin
+unfolding svg_row
+returns-in_err-write_row_begin g c =
+    handed_on _ _ _ _ _ c.from_residual.ensures.1 (beginning-longer _ _ _ _ c.in_err-write_row_begin.ensures)
+
+pub returns-in_err-write_statement : goal.returns-in_err-write_statement
+unfolding svg_row
+returns-in_err-write_statement g c =
+    handed_on _ _ _ _ _ c.from_residual-in_err-write_statement.ensures.1 (beginning-both _ _ _ _ _ c.in_ok-write_row_begin.ensures (beginning-longer _ _ _ _ c.in_err-write_statement.ensures))
+
+pub returns-in_err-put : goal.returns-in_err-put
+unfolding svg_row
+returns-in_err-put g c =
+    handed_on _ _ _ _ _ c.from_residual-in_err-put.ensures.1 (beginning-both _ _ _ _ _ c.in_ok-write_row_begin.ensures (beginning-both _ _ _ _ _ c.in_ok-write_statement.ensures (beginning-longer _ _ _ _ c.in_err-put.ensures)))
+
+pub returns-in_err-write_written : goal.returns-in_err-write_written
+unfolding svg_row
+returns-in_err-write_written g c =
+    handed_on _ _ _ _ _ c.from_residual-in_err-write_written.ensures.1 (beginning-both _ _ _ _ _ c.in_ok-write_row_begin.ensures (beginning-both _ _ _ _ _ c.in_ok-write_statement.ensures (beginning-both _ _ _ _ _ c.in_ok-put.ensures (beginning-longer _ _ _ _ c.in_err-write_written.ensures))))
+
+pub returns-in_err-put-2 : goal.returns-in_err-put-2
+unfolding svg_row
+returns-in_err-put-2 g c =
+    handed_on _ _ _ _ _ c.from_residual-in_err-put-2.ensures.1 (beginning-both _ _ _ _ _ c.in_ok-write_row_begin.ensures (beginning-both _ _ _ _ _ c.in_ok-write_statement.ensures (beginning-both _ _ _ _ _ c.in_ok-put.ensures (beginning-both _ _ _ _ _ c.in_ok-write_written.ensures (beginning-longer _ _ _ _ c.in_err-put-2.ensures)))))
+
+pub returns-in_err-write_boxes : goal.returns-in_err-write_boxes
+unfolding svg_row
+returns-in_err-write_boxes g c =
+    handed_on _ _ _ _ _ c.from_residual-in_err-write_boxes.ensures.1 (beginning-both _ _ _ _ _ c.in_ok-write_row_begin.ensures (beginning-both _ _ _ _ _ c.in_ok-write_statement.ensures (beginning-both _ _ _ _ _ c.in_ok-put.ensures (beginning-both _ _ _ _ _ c.in_ok-write_written.ensures (beginning-both _ _ _ _ _ c.in_ok-put-2.ensures (beginning-longer _ _ _ _ c.in_err-write_boxes.ensures))))))
+
+pub returns : goal.returns
+unfolding svg_row
+returns g c =
+    written_behind _ _ _ _ _ _ c.in_ok-write_row_begin.ensures (written_behind _ _ _ _ _ _ c.in_ok-write_statement.ensures (written_behind _ _ _ _ _ _ c.in_ok-put.ensures (written_behind _ _ _ _ _ _ c.in_ok-write_written.ensures (written_behind _ _ _ _ _ _ c.in_ok-put-2.ensures (written_behind _ _ _ _ _ _ c.in_ok-write_boxes.ensures c.put-3.ensures)))))

@@ -1,0 +1,12 @@
+use Rattle.std.proofs.Common.{arith}
+use Rattle.rv_passage.specs.Table.{passages_of}
+use Rattle.rv_picture.specs.Recording.{is_limit}
+use Rattle.rv_picture.proofs.UnderWay.{shown_to_the_end}
+use Rattle.rv_picture.proofs.written.write_picture.Goals as goal
+
+pub write_recording-requires : goal.write_recording-requires
+write_recording-requires g c =
+    let recording = c.in-Ok.recording in
+    let way = c.in-Ok.ensures in
+    let end = shown_to_the_end c.args.arrivals.now (is_limit way.reason) c.args.limit way.reason way.start c.record_window.new.core (passages_of recording.table) recording.window recording.stop way.shown in
+    omega (arith, end, c.is_exhausted.ensures.within)

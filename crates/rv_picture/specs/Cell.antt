@@ -1,0 +1,87 @@
+-- What a picture shows of an instruction in a cycle.
+use Rattle.std.specs.Prelude.{ℕ, ◌+◌, ◌==◌, ◌&&◌, ◌||◌, Bool, true, false, not, if◌then◌else◌, nat_lt, List, codes, Option, Some, None}
+use Rattle.rv_passage.specs.declared.passage.Ending.{Ending}
+use Rattle.rv_passage.specs.declared.passage.Ending.TheVariants.{InFlight, Retired, Trapped, Squashed}
+use Rattle.rv_passage.specs.declared.passage.Passage.{Passage}
+use Rattle.rv_picture.specs.declared.cell.Cell.{Cell}
+use Rattle.rv_picture.specs.declared.cell.Cell.TheVariants as cell
+use Rattle.rv_picture.specs.declared.window.Window.{Window}
+
+-- a phase came in this cycle, or before it
+abbrev pub is_at : ℕ → Option ℕ → Bool
+is_at cycle None = false
+is_at cycle (Some stamp) = stamp == cycle
+
+abbrev pub is_past : ℕ → Option ℕ → Bool
+is_past cycle None = false
+is_past cycle (Some stamp) = nat_lt stamp cycle
+
+-- the cycle in which an instruction left the hardware, if it did
+abbrev pub left_in : Ending → Option ℕ
+left_in InFlight = None
+left_in (Retired order cycle written) = Some cycle
+left_in (Trapped cycle cause) = Some cycle
+left_in (Squashed cycle) = Some cycle
+
+-- what is shown in that cycle
+abbrev pub mark_of : Ending → Cell
+mark_of (Retired order cycle written) = cell.Retirement
+mark_of (Trapped cycle cause) = cell.Trap
+mark_of (Squashed cycle) = cell.Squash
+mark_of InFlight = cell.Wait
+
+-- what is shown in the cycles before: the last phase of the cycle, else whether it executes
+unfoldable pub phase_of : Passage → ℕ → Cell
+phase_of passage cycle =
+    if is_at cycle passage.broadcast then cell.Broadcast
+    else if is_at cycle passage.issued then cell.Issue
+    else if is_at cycle passage.dispatched then cell.Dispatch
+    else if passage.fetched == cycle then cell.Fetch
+    else if is_past cycle passage.issued && not (is_past cycle passage.broadcast) then cell.Execution
+    else cell.Wait
+
+-- nothing before the fetch and behind the end
+unfoldable pub cell_of : Passage → ℕ → Option Cell
+cell_of passage cycle =
+    if nat_lt cycle passage.fetched || is_past cycle (left_in passage.ending) then None
+    else if is_at cycle (left_in passage.ending) then Some (mark_of passage.ending)
+    else Some (phase_of passage cycle)
+
+-- an instruction shows something in a window: it was fetched before the window's end, and did not end before its begin
+unfoldable pub has_cell : Window → Passage → Bool
+has_cell window passage =
+    nat_lt 0 window.cycles && nat_lt passage.fetched (window.first + window.cycles) && not (is_past window.first (left_in passage.ending))
+
+-- the letter of a cell, what it is called, and its class in the style of an SVG
+unfoldable pub letter_of : Cell → List ℕ
+letter_of cell.Fetch = codes "F"
+letter_of cell.Dispatch = codes "D"
+letter_of cell.Issue = codes "I"
+letter_of cell.Execution = codes "="
+letter_of cell.Broadcast = codes "B"
+letter_of cell.Retirement = codes "C"
+letter_of cell.Trap = codes "T"
+letter_of cell.Squash = codes "x"
+letter_of cell.Wait = codes "."
+
+unfoldable pub name_of : Cell → List ℕ
+name_of cell.Fetch = codes "fetch"
+name_of cell.Dispatch = codes "dispatch"
+name_of cell.Issue = codes "issue"
+name_of cell.Execution = codes "execution"
+name_of cell.Broadcast = codes "broadcast"
+name_of cell.Retirement = codes "retirement"
+name_of cell.Trap = codes "trap"
+name_of cell.Squash = codes "squash"
+name_of cell.Wait = codes "wait"
+
+unfoldable pub class_of : Cell → List ℕ
+class_of cell.Fetch = codes "f"
+class_of cell.Dispatch = codes "d"
+class_of cell.Issue = codes "i"
+class_of cell.Execution = codes "e"
+class_of cell.Broadcast = codes "b"
+class_of cell.Retirement = codes "c"
+class_of cell.Trap = codes "t"
+class_of cell.Squash = codes "x"
+class_of cell.Wait = codes "w"

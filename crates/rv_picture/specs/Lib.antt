@@ -1,0 +1,9 @@
+pub mod Cell
+pub mod Columns
+pub mod Label
+pub mod Picture
+pub mod Places
+pub mod Recording
+pub mod SvgFrame
+pub mod SvgPicture
+pub mod TextPicture

@@ -1,0 +1,100 @@
+-- A picture as an SVG: cycle numbers on top, a row for each instruction with a box for each cell, a line for each interrupt,
+-- and a legend.
+use Rattle.std.specs.Prelude.{ℕ, ◌+◌, ◌-◌, ◌%◌, ◌==◌, ◌&&◌, if◌then◌else◌, nat_le, nat_lt, List, [], ◌∷◌, ◌++◌, codes, decimal, Option, Some, None, count_by}
+use Rattle.std.specs.List.{flat_map}
+use Rattle.rv_passage.specs.declared.passage.Ending.{Ending}
+use Rattle.rv_passage.specs.declared.passage.Ending.TheVariants.{InFlight, Retired, Trapped, Squashed}
+use Rattle.rv_passage.specs.declared.passage.Passage.{Passage}
+use Rattle.rv_source.specs.Listing.{Listed}
+use Rattle.rv_picture.specs.Cell.{cell_of, class_of, has_cell, letter_of, name_of}
+use Rattle.rv_picture.specs.Columns.{columns}
+use Rattle.rv_picture.specs.Label.{markup_byte, statement_of, text_at, written_by, written_text}
+use Rattle.rv_picture.specs.Places.{column_x, row_y}
+use Rattle.rv_picture.specs.SvgFrame.{svg_begin, svg_style, svg_legend}
+use Rattle.rv_picture.specs.declared.cell.Cell.{Cell}
+use Rattle.rv_picture.specs.declared.window.Window.{Window}
+use Rattle.rv_text.specs.Line.{word_text}
+
+-- the number of a tenth cycle, over a line down to the last row
+unfoldable pub tenth_mark : List ℕ → List ℕ → List ℕ → List ℕ
+tenth_mark x bottom cycle =
+    codes "<g class='n' transform='translate(" ++ (x ++ (codes " 0)'><path d='M0 20V" ++ (bottom ++
+    (codes "'/><text x='3' y='16'>" ++ (cycle ++ codes "</text></g>\n")))))
+
+-- the mark of a column, over so many rows
+unfoldable pub tenth_at : Window → ℕ → ℕ → List ℕ
+tenth_at window rows column =
+    if (window.first + column) % 10 == 0
+    then tenth_mark (decimal (column_x column)) (decimal (row_y rows)) (decimal (window.first + column))
+    else []
+
+-- a line in front of the cycle of an interrupt
+unfoldable pub interrupt_mark : List ℕ → List ℕ → List ℕ → List ℕ
+interrupt_mark x cycle bottom =
+    codes "<g class='v' transform='translate(" ++ (x ++ (codes " 0)'><title>interrupt in cycle " ++ (cycle ++
+    (codes "</title><path d='M0 38V" ++ (bottom ++ codes "'/><text x='7' y='34'>!</text></g>\n")))))
+
+-- those in the window, across so many rows
+unfoldable pub interrupt_in : Window → ℕ → ℕ → List ℕ
+interrupt_in window rows cycle =
+    if nat_le window.first cycle && nat_lt cycle (window.first + window.cycles)
+    then interrupt_mark (decimal (column_x (cycle - window.first))) (decimal cycle) (decimal (row_y rows))
+    else []
+
+-- a box with a letter, and a tip with the cycle
+unfoldable pub cell_box : List ℕ → List ℕ → List ℕ → List ℕ → List ℕ → List ℕ
+cell_box class x name cycle letter =
+    codes "<g class='p " ++ (class ++ (codes "' transform='translate(" ++ (x ++
+    (codes " 0)'><title>" ++ (name ++ (codes " in cycle " ++ (cycle ++
+    (codes "</title><rect width='14' height='18'/><text x='7' y='13'>" ++ (letter ++ codes "</text></g>\n")))))))))
+
+unfoldable pub box_of : Option Cell → ℕ → ℕ → List ℕ
+box_of None column cycle = []
+box_of (Some cell) column cycle = cell_box (class_of cell) (decimal (column_x column)) (name_of cell) (decimal cycle) (letter_of cell)
+
+unfoldable pub box_at : Window → Passage → ℕ → List ℕ
+box_at window passage column = box_of (cell_of passage (window.first + column)) column (window.first + column)
+
+-- the class of a row tells how its instruction ended
+unfoldable pub row_class : Ending → List ℕ
+row_class InFlight = codes "open"
+row_class (Retired order cycle written) = codes "done"
+row_class (Trapped cycle cause) = codes "trap"
+row_class (Squashed cycle) = codes "out"
+
+unfoldable pub row_begin : List ℕ → List ℕ → List ℕ → List ℕ
+row_begin class y pc =
+    codes "<g class='" ++ (class ++ (codes "' transform='translate(0 " ++ (y ++
+    (codes ")'><text x='8' y='13'>" ++ (pc ++ codes "</text><text x='84' y='13'>")))))
+
+-- an instruction: its address, its statement, what it wrote, and its cells
+unfoldable pub svg_row : Listed → Window → ℕ → Passage → List ℕ
+svg_row listing window place passage =
+    row_begin (row_class passage.ending) (decimal (row_y place)) (word_text passage.pc) ++
+    (flat_map markup_byte (statement_of (text_at listing passage.pc) passage.word) ++
+    (codes "</text><text x='344' y='13'>" ++ (written_text (written_by passage.ending) ++
+    (codes "</text>\n" ++ (columns window (box_at window passage) ++ codes "</g>\n")))))
+
+-- one that has a cell in the window takes a row
+unfoldable pub placed_row : Listed → Window → ℕ → Passage → List ℕ
+placed_row listing window place passage = if has_cell window passage then svg_row listing window place passage else []
+
+abbrev pub rows_of : Window → Passage → ℕ
+rows_of window passage = if has_cell window passage then 1 else 0
+
+-- each row stands below those before
+unfoldable pub svg_rows : Listed → Window → ℕ → List Passage → List ℕ
+svg_rows listing window place [] = []
+svg_rows listing window place (passage ∷ passages) =
+    placed_row listing window place passage ++ svg_rows listing window (place + rows_of window passage) passages
+
+-- the picture of some instructions, which take so many rows, and interrupts in a window
+unfoldable pub svg_of : ℕ → List Passage → List ℕ → Listed → Window → List ℕ
+svg_of rows passages interrupts listing window =
+    svg_begin window.cycles rows ++ (svg_style ++
+    (columns window (tenth_at window rows) ++ (svg_rows listing window 0 passages ++
+    (flat_map (interrupt_in window rows) interrupts ++ svg_legend rows))))
+
+-- the picture of some instructions and interrupts in a window
+unfoldable pub svg_picture : List Passage → List ℕ → Listed → Window → List ℕ
+svg_picture passages interrupts listing window = svg_of (count_by (has_cell window) passages) passages interrupts listing window

@@ -1,0 +1,162 @@
+ghost use Rattle.std.specs.Prelude.{◌≡◌, ◌+◌, ◌<◌, ◌^◌};
+ghost use Rattle.rv_picture.specs.Cell.{is_at, is_past, left_in, mark_of, phase_of, cell_of, has_cell, letter_of, name_of, class_of};
+
+use crate::window::Window;
+use rv_passage::{Ending, Passage};
+
+/// What the hardware did with an instruction in a cycle.
+#[derive(Clone, Copy, Debug, PartialEq, Eq)]
+pub enum Cell {
+    Fetch,
+    Dispatch,
+    Issue,
+    /// Between issue and broadcast.
+    Execution,
+    Broadcast,
+    Retirement,
+    Trap,
+    Squash,
+    /// Nothing.
+    Wait,
+}
+
+impl Cell {
+    /// The letter of a cell.
+    #[tactic(auto, unfolding(crate::specs::Cell::letter_of))]
+    pub(crate) fn letter(self) -> &'static [u8]
+        ensures { result.now ≡ letter_of self }
+    {
+        match self {
+            Cell::Fetch => b"F",
+            Cell::Dispatch => b"D",
+            Cell::Issue => b"I",
+            Cell::Execution => b"=",
+            Cell::Broadcast => b"B",
+            Cell::Retirement => b"C",
+            Cell::Trap => b"T",
+            Cell::Squash => b"x",
+            Cell::Wait => b".",
+        }
+    }
+
+    /// What a cell is called.
+    #[tactic(auto, unfolding(crate::specs::Cell::name_of))]
+    pub(crate) fn name(self) -> &'static [u8]
+        ensures { result.now ≡ name_of self }
+    {
+        match self {
+            Cell::Fetch => b"fetch",
+            Cell::Dispatch => b"dispatch",
+            Cell::Issue => b"issue",
+            Cell::Execution => b"execution",
+            Cell::Broadcast => b"broadcast",
+            Cell::Retirement => b"retirement",
+            Cell::Trap => b"trap",
+            Cell::Squash => b"squash",
+            Cell::Wait => b"wait",
+        }
+    }
+
+    /// The class of a cell in the style of an SVG.
+    #[tactic(auto, unfolding(crate::specs::Cell::class_of))]
+    pub(crate) fn class(self) -> &'static [u8]
+        ensures { result.now ≡ class_of self }
+    {
+        match self {
+            Cell::Fetch => b"f",
+            Cell::Dispatch => b"d",
+            Cell::Issue => b"i",
+            Cell::Execution => b"e",
+            Cell::Broadcast => b"b",
+            Cell::Retirement => b"c",
+            Cell::Trap => b"t",
+            Cell::Squash => b"x",
+            Cell::Wait => b"w",
+        }
+    }
+}
+
+fn is_at(stamp: Option<u64>, cycle: u64) -> bool
+    ensures { result ≡ is_at cycle stamp }
+{
+    match stamp {
+        Some(stamp) => stamp == cycle,
+        None => false,
+    }
+}
+
+fn is_past(stamp: Option<u64>, cycle: u64) -> bool
+    ensures { result ≡ is_past cycle stamp }
+{
+    match stamp {
+        Some(stamp) => stamp < cycle,
+        None => false,
+    }
+}
+
+fn left(ending: Ending) -> Option<u64>
+    ensures { result ≡ left_in ending }
+{
+    match ending {
+        Ending::InFlight => None,
+        Ending::Retired { cycle, .. }
+        | Ending::Trapped { cycle, .. }
+        | Ending::Squashed { cycle } => Some(cycle),
+    }
+}
+
+fn mark(ending: Ending) -> Cell
+    ensures { result ≡ mark_of ending }
+{
+    match ending {
+        Ending::Retired { .. } => Cell::Retirement,
+        Ending::Trapped { .. } => Cell::Trap,
+        Ending::Squashed { .. } => Cell::Squash,
+        Ending::InFlight => Cell::Wait,
+    }
+}
+
+#[tactic(auto, unfolding(crate::specs::Cell::phase_of))]
+fn phase(row: &Passage, cycle: u64) -> Cell
+    ensures { result ≡ phase_of row.now cycle }
+{
+    if is_at(row.broadcast, cycle) {
+        Cell::Broadcast
+    } else if is_at(row.issued, cycle) {
+        Cell::Issue
+    } else if is_at(row.dispatched, cycle) {
+        Cell::Dispatch
+    } else if row.fetched == cycle {
+        Cell::Fetch
+    } else if is_past(row.issued, cycle) && !is_past(row.broadcast, cycle) {
+        Cell::Execution
+    } else {
+        Cell::Wait
+    }
+}
+
+/// What a row shows in a cycle, if anything.
+#[tactic(auto, unfolding(crate::specs::Cell::cell_of))]
+pub(crate) fn cell_in(row: &Passage, cycle: u64) -> Option<Cell>
+    ensures { result ≡ cell_of row.now cycle }
+{
+    let left = left(row.ending);
+    if cycle < row.fetched || is_past(left, cycle) {
+        None
+    } else if is_at(left, cycle) {
+        Some(mark(row.ending))
+    } else {
+        Some(phase(row, cycle))
+    }
+}
+
+/// Whether a row shows something in a window.
+#[tactic(auto, unfolding(crate::specs::Cell::has_cell))]
+pub(crate) fn has_cell(window: Window, row: &Passage) -> bool
+    requires { window.first + window.cycles < 2 ^ 64 }
+    ensures { result ≡ has_cell window row.now }
+{
+    0 < window.cycles
+        && row.fetched < window.first + window.cycles
+        && !is_past(left(row.ending), window.first)
+}

@@ -1,0 +1,121 @@
+ghost use Rattle.std.specs.Prelude.{◌≡◌, List, IfOk};
+ghost use Rattle.rv_hardware.specs.Report.{Report};
+ghost use Rattle.rv_hardware.specs.Run.{Cycles, IsStop};
+ghost use Rattle.rv_passage.specs.Table.{passages_of};
+ghost use Rattle.rv_picture.specs.Recording.{IsFollowed, IsOver, IsRecording, is_limit};
+
+use crate::window::Window;
+use rv_arch::Stop;
+use rv_core::{Core, Progress};
+use rv_isa::Arrivals;
+use rv_passage::Table;
+use std::alloc::{AllocError, Global};
+
+/// What became of the instructions in some cycles of a run.
+#[derive(Debug, Drop)]
+pub struct Recording {
+    /// The instructions, those that were in flight before the cycles too, and the interrupts.
+    pub table: Table,
+    /// The cycles.
+    pub window: Window,
+    /// Why the run ended.
+    pub stop: Stop,
+}
+
+// Runs a core up to so many cycles. Answers why the run ended.
+fn run_on(
+    alloc: Global,
+    core: &mut Core,
+    arrivals: &Arrivals,
+    limit: u64,
+) -> Result<Stop, AllocError>
+    ensures { IfOk result (λ stop. (reports : List Report) × Cycles arrivals.now core.old reports core.new × IsStop limit reports core.new stop) }
+{
+    let mut steps = Vec::with_capacity(alloc, 8)?;
+    let mut progress = Progress::default();
+    for _ in 0..limit {
+        if core.is_exhausted() {
+            return Ok(Stop::Exhausted);
+        }
+        steps.clear();
+        if let Some(stop) = progress.run_cycle(core, arrivals, &mut steps) {
+            return Ok(stop);
+        }
+    }
+    Ok(Stop::Limit)
+}
+
+// Runs a core up to so many cycles, and follows its instructions through them.
+fn follow(
+    alloc: Global,
+    core: &mut Core,
+    arrivals: &Arrivals,
+    limit: u64,
+) -> Result<Recording, AllocError>
+    ensures { IfOk result (λ recording. IsFollowed arrivals.now limit core.old core.new (passages_of recording.table) recording.window recording.stop) }
+{
+    let first = core.cycles_done();
+    let mut table = Table::begin(alloc, core)?;
+    let mut steps = Vec::with_capacity(alloc, 8)?;
+    let mut progress = Progress::default();
+    for _ in 0..limit {
+        if core.is_exhausted() {
+            return Ok(recorded(table, first, progress.cycles, Stop::Exhausted));
+        }
+        table.make_room()?;
+        steps.clear();
+        let cycle = core.cycles_done();
+        let stop = progress.run_cycle(core, arrivals, &mut steps);
+        table.follow(cycle, steps.as_slice(), core);
+        if let Some(stop) = stop {
+            return Ok(recorded(table, first, progress.cycles, stop));
+        }
+    }
+    Ok(recorded(table, first, progress.cycles, Stop::Limit))
+}
+
+fn recorded(table: Table, first: u64, cycles: u64, stop: Stop) -> Recording
+    ensures { result ≡ record { table = table; window = record { first = first; cycles = cycles }; stop = stop } }
+{
+    Recording {
+        table,
+        window: Window { first, cycles },
+        stop,
+    }
+}
+
+fn is_limit(stop: Stop) -> bool
+    ensures { result ≡ is_limit stop }
+{
+    matches!(stop, Stop::Limit)
+}
+
+// The recording of a run that ended before its window.
+fn nothing_shown(alloc: Global, core: &Core, stop: Stop) -> Result<Recording, AllocError>
+    ensures { IfOk result (λ recording. IsOver stop core.now core.now (passages_of recording.table) recording.window recording.stop) }
+{
+    let table = Table::begin(alloc, core)?;
+    Ok(recorded(table, core.cycles_done(), 0, stop))
+}
+
+/// Runs a core for `from` cycles, each with the lines of its number, and then up to `limit` cycles in which it follows
+/// the instructions. A breakpoint, a stale word or exhaustion ends the run; where that is before the window begins, no
+/// cycle is recorded.
+///
+/// Fails by want of memory alone; memory is asked for before each cycle, and the core stands at the end of a cycle then.
+pub fn record_window(
+    alloc: Global,
+    core: &mut Core,
+    arrivals: &Arrivals,
+    from: u64,
+    limit: u64,
+) -> Result<Recording, AllocError>
+    ensures { IfOk result (λ recording. IsRecording arrivals.now from limit core.old core.new (passages_of recording.table) recording.window recording.stop) }
+{
+    let stop = run_on(alloc, core, arrivals, from)?;
+    if is_limit(stop) {
+        follow(alloc, core, arrivals, limit)
+    } else {
+        nothing_shown(alloc, core, stop)
+    }
+}

@@ -1,0 +1,356 @@
+ghost use Rattle.std.specs.Prelude.{◌≡◌, ◌+◌, ◌≤◌, ◌<◌, ◌^◌, count_by, decimal};
+ghost use Rattle.std.specs.List.{flat_map};
+ghost use Rattle.rv_picture.specs.Cell.{class_of, has_cell, letter_of, name_of};
+ghost use Rattle.rv_picture.specs.Columns.{columns};
+ghost use Rattle.rv_picture.specs.Label.{markup_byte, statement_of, text_at};
+ghost use Rattle.rv_picture.specs.Places.{column_x, row_y};
+ghost use Rattle.rv_picture.specs.SvgPicture.{tenth_mark, tenth_at, interrupt_mark, interrupt_in, cell_box, box_at, row_class, row_begin, svg_row, placed_row, rows_of, svg_rows, svg_of, svg_picture};
+ghost use Rattle.rv_text.specs.Line.{word_text};
+ghost use Rattle.rv_text.specs.Written.{IsWritten};
+
+use crate::cell::{Cell, cell_in, has_cell};
+use crate::frame::{write_begin, write_legend, write_style};
+use crate::label::{statement, write_markup, write_written};
+use crate::place::{column_x, digits, row_y};
+use crate::window::Window;
+use itoa::Buffer;
+use rv_passage::{Ending, Passage};
+use rv_source::Listing;
+use rv_text::{ReportError, hexadecimal, put, put_all};
+use std::io::Write;
+
+fn write_tenth_mark<W: Write>(
+    writer: &mut W,
+    rows: usize,
+    column: u64,
+    cycle: u64,
+) -> Result<(), ReportError>
+    ensures { IsWritten result (W.contents writer.old) (W.contents writer.new) (tenth_mark (decimal (column_x column)) (decimal (row_y rows)) (decimal cycle)) }
+{
+    let mut at_column = Buffer::new();
+    let x = digits(&mut at_column, column_x(column));
+    let mut at_bottom = Buffer::new();
+    let bottom = digits(&mut at_bottom, row_y(rows));
+    let mut at_cycle = Buffer::new();
+    let cycle = digits(&mut at_cycle, u128::from(cycle));
+    put_all(
+        writer,
+        &[
+            b"<g class='n' transform='translate(",
+            x,
+            b" 0)'><path d='M0 20V",
+            bottom,
+            b"'/><text x='3' y='16'>",
+            cycle,
+            b"</text></g>\n",
+        ],
+    )
+}
+
+#[tactic(auto, unfolding(crate::specs::SvgPicture::tenth_at))]
+fn write_tenth<W: Write>(
+    writer: &mut W,
+    window: Window,
+    rows: usize,
+    column: u64,
+) -> Result<(), ReportError>
+    requires { window.first + column < 2 ^ 64 }
+    ensures { IsWritten result (W.contents writer.old) (W.contents writer.new) (tenth_at window rows column) }
+{
+    let cycle = window.first + column;
+    if cycle % 10 == 0 {
+        write_tenth_mark(writer, rows, column, cycle)
+    } else {
+        Ok(())
+    }
+}
+
+// The cycle numbers.
+fn write_tenths<W: Write>(writer: &mut W, window: Window, rows: usize) -> Result<(), ReportError>
+    requires { window.first + window.cycles < 2 ^ 64 }
+    ensures { IsWritten result (W.contents writer.old) (W.contents writer.new) (columns window (tenth_at window rows)) }
+{
+    for column in 0..window.cycles {
+        write_tenth(writer, window, rows, column)?;
+    }
+    Ok(())
+}
+
+fn write_interrupt_mark<W: Write>(
+    writer: &mut W,
+    rows: usize,
+    column: u64,
+    cycle: u64,
+) -> Result<(), ReportError>
+    ensures { IsWritten result (W.contents writer.old) (W.contents writer.new) (interrupt_mark (decimal (column_x column)) (decimal cycle) (decimal (row_y rows))) }
+{
+    let mut at_column = Buffer::new();
+    let x = digits(&mut at_column, column_x(column));
+    let mut at_bottom = Buffer::new();
+    let bottom = digits(&mut at_bottom, row_y(rows));
+    let mut at_cycle = Buffer::new();
+    let cycle = digits(&mut at_cycle, u128::from(cycle));
+    put_all(
+        writer,
+        &[
+            b"<g class='v' transform='translate(",
+            x,
+            b" 0)'><title>interrupt in cycle ",
+            cycle,
+            b"</title><path d='M0 38V",
+            bottom,
+            b"'/><text x='7' y='34'>!</text></g>\n",
+        ],
+    )
+}
+
+#[tactic(auto, unfolding(crate::specs::SvgPicture::interrupt_in))]
+fn write_interrupt<W: Write>(
+    writer: &mut W,
+    window: Window,
+    rows: usize,
+    cycle: u64,
+) -> Result<(), ReportError>
+    requires { window.first + window.cycles < 2 ^ 64 }
+    ensures { IsWritten result (W.contents writer.old) (W.contents writer.new) (interrupt_in window rows cycle) }
+{
+    if window.first <= cycle && cycle < window.first + window.cycles {
+        write_interrupt_mark(writer, rows, cycle - window.first, cycle)
+    } else {
+        Ok(())
+    }
+}
+
+fn write_interrupts<W: Write>(
+    writer: &mut W,
+    window: Window,
+    rows: usize,
+    interrupts: &[u64],
+) -> Result<(), ReportError>
+    requires { window.first + window.cycles < 2 ^ 64 }
+    ensures { IsWritten result (W.contents writer.old) (W.contents writer.new) (flat_map (interrupt_in window rows) interrupts.now) }
+{
+    for cycle in interrupts {
+        write_interrupt(writer, window, rows, *cycle)?;
+    }
+    Ok(())
+}
+
+fn write_box<W: Write>(
+    writer: &mut W,
+    cell: Cell,
+    column: u64,
+    cycle: u64,
+) -> Result<(), ReportError>
+    ensures { IsWritten result (W.contents writer.old) (W.contents writer.new) (cell_box (class_of cell) (decimal (column_x column)) (name_of cell) (decimal cycle) (letter_of cell)) }
+{
+    let mut at_column = Buffer::new();
+    let x = digits(&mut at_column, column_x(column));
+    let mut at_cycle = Buffer::new();
+    let cycle = digits(&mut at_cycle, u128::from(cycle));
+    let class = cell.class();
+    let name = cell.name();
+    let letter = cell.letter();
+    put_all(
+        writer,
+        &[
+            b"<g class='p ",
+            class,
+            b"' transform='translate(",
+            x,
+            b" 0)'><title>",
+            name,
+            b" in cycle ",
+            cycle,
+            b"</title><rect width='14' height='18'/><text x='7' y='13'>",
+            letter,
+            b"</text></g>\n",
+        ],
+    )
+}
+
+#[tactic(auto, unfolding(crate::specs::SvgPicture::box_at, crate::specs::SvgPicture::box_of))]
+fn write_box_at<W: Write>(
+    writer: &mut W,
+    window: Window,
+    row: &Passage,
+    column: u64,
+) -> Result<(), ReportError>
+    requires { window.first + column < 2 ^ 64 }
+    ensures { IsWritten result (W.contents writer.old) (W.contents writer.new) (box_at window row.now column) }
+{
+    let cycle = window.first + column;
+    match cell_in(row, cycle) {
+        Some(cell) => write_box(writer, cell, column, cycle),
+        None => Ok(()),
+    }
+}
+
+// The cells of a row.
+fn write_boxes<W: Write>(writer: &mut W, window: Window, row: &Passage) -> Result<(), ReportError>
+    requires { window.first + window.cycles < 2 ^ 64 }
+    ensures { IsWritten result (W.contents writer.old) (W.contents writer.new) (columns window (box_at window row.now)) }
+{
+    for column in 0..window.cycles {
+        write_box_at(writer, window, row, column)?;
+    }
+    Ok(())
+}
+
+#[tactic(auto, unfolding(crate::specs::SvgPicture::row_class))]
+fn class(ending: Ending) -> &'static [u8]
+    ensures { result.now ≡ row_class ending }
+{
+    match ending {
+        Ending::InFlight => b"open",
+        Ending::Retired { .. } => b"done",
+        Ending::Trapped { .. } => b"trap",
+        Ending::Squashed { .. } => b"out",
+    }
+}
+
+fn write_row_begin<W: Write>(writer: &mut W, place: usize, row: &Passage) -> Result<(), ReportError>
+    ensures { IsWritten result (W.contents writer.old) (W.contents writer.new) (row_begin (row_class row.now.ending) (decimal (row_y place)) (word_text row.now.pc)) }
+{
+    let mut at_row = Buffer::new();
+    let y = digits(&mut at_row, row_y(place));
+    let pc = hexadecimal(row.pc);
+    let class = class(row.ending);
+    put_all(
+        writer,
+        &[
+            b"<g class='",
+            class,
+            b"' transform='translate(0 ",
+            y,
+            b")'><text x='8' y='13'>",
+            pc.as_slice(),
+            b"</text><text x='84' y='13'>",
+        ],
+    )
+}
+
+fn write_statement<W: Write>(
+    writer: &mut W,
+    listing: &Listing,
+    row: &Passage,
+) -> Result<(), ReportError>
+    ensures { IsWritten result (W.contents writer.old) (W.contents writer.new) (flat_map markup_byte (statement_of (text_at listing.now row.now.pc) row.now.word)) }
+{
+    let mut buffer = [0; 8];
+    write_markup(writer, statement(&mut buffer, listing, row))
+}
+
+fn write_row<W: Write>(
+    writer: &mut W,
+    listing: &Listing,
+    window: Window,
+    place: usize,
+    row: &Passage,
+) -> Result<(), ReportError>
+    requires { window.first + window.cycles < 2 ^ 64 }
+    ensures { IsWritten result (W.contents writer.old) (W.contents writer.new) (svg_row listing.now window place row.now) }
+{
+    write_row_begin(writer, place, row)?;
+    write_statement(writer, listing, row)?;
+    put(writer, b"</text><text x='344' y='13'>")?;
+    write_written(writer, row)?;
+    put(writer, b"</text>\n")?;
+    write_boxes(writer, window, row)?;
+    put(writer, b"</g>\n")
+}
+
+#[tactic(auto, unfolding(crate::specs::SvgPicture::placed_row))]
+fn write_placed<W: Write>(
+    writer: &mut W,
+    listing: &Listing,
+    window: Window,
+    place: usize,
+    row: &Passage,
+) -> Result<(), ReportError>
+    requires { window.first + window.cycles < 2 ^ 64 }
+    ensures { IsWritten result (W.contents writer.old) (W.contents writer.new) (placed_row listing.now window place row.now) }
+{
+    if has_cell(window, row) {
+        write_row(writer, listing, window, place, row)
+    } else {
+        Ok(())
+    }
+}
+
+fn rows_of(window: Window, row: &Passage) -> usize
+    requires { window.first + window.cycles < 2 ^ 64 }
+    ensures taken { result ≡ rows_of window row.now }
+    ensures few { result ≤ 1 }
+{
+    if has_cell(window, row) { 1 } else { 0 }
+}
+
+fn write_rows<W: Write>(
+    writer: &mut W,
+    listing: &Listing,
+    window: Window,
+    rows: &[Passage],
+) -> Result<(), ReportError>
+    requires { window.first + window.cycles < 2 ^ 64 }
+    ensures { IsWritten result (W.contents writer.old) (W.contents writer.new) (svg_rows listing.now window 0 rows.now) }
+{
+    let mut place = 0;
+    for row in rows {
+        write_placed(writer, listing, window, place, row)?;
+        place += rows_of(window, row);
+    }
+    Ok(())
+}
+
+// How many rows have a cell in a window.
+fn count_shown(window: Window, rows: &[Passage]) -> usize
+    requires { window.first + window.cycles < 2 ^ 64 }
+    ensures { result ≡ count_by (has_cell window) rows.now }
+{
+    let mut shown = 0;
+    for row in rows {
+        if has_cell(window, row) {
+            shown += 1;
+        }
+    }
+    shown
+}
+
+// Writes a picture with so many rows.
+fn write_shown<W: Write>(
+    writer: &mut W,
+    rows: &[Passage],
+    interrupts: &[u64],
+    listing: &Listing,
+    window: Window,
+    shown: usize,
+) -> Result<(), ReportError>
+    requires { window.first + window.cycles < 2 ^ 64 }
+    ensures { IsWritten result (W.contents writer.old) (W.contents writer.new) (svg_of shown rows.now interrupts.now listing.now window) }
+{
+    write_begin(writer, window.cycles, shown)?;
+    write_style(writer)?;
+    write_tenths(writer, window, shown)?;
+    write_rows(writer, listing, window, rows)?;
+    write_interrupts(writer, window, shown, interrupts)?;
+    write_legend(writer, shown)
+}
+
+/// Writes a picture as an SVG: cycle numbers on top, a row for each instruction that shows something in the window, with a
+/// box for each cell, a line for each interrupt, and a legend. Asks for no memory. Fails by `WriteFailed` alone, and what
+/// was written is then a beginning of the picture.
+#[tactic(auto, unfolding(crate::specs::SvgPicture::svg_picture))]
+pub fn write_picture_svg<W: Write>(
+    rows: &[Passage],
+    interrupts: &[u64],
+    listing: &Listing,
+    window: Window,
+    writer: &mut W,
+) -> Result<(), ReportError>
+    requires { window.first + window.cycles < 2 ^ 64 }
+    ensures { IsWritten result (W.contents writer.old) (W.contents writer.new) (svg_picture rows.now interrupts.now listing.now window) }
+{
+    let shown = count_shown(window, rows);
+    write_shown(writer, rows, interrupts, listing, window, shown)
+}

@@ -1,0 +1,64 @@
+ghost use Rattle.std.specs.Prelude.{◌+◌, ◌<◌, ◌^◌};
+ghost use Rattle.rv_passage.specs.Table.{passages_of};
+ghost use Rattle.rv_picture.specs.Picture.{IsPictured, picture_of};
+ghost use Rattle.rv_text.specs.Written.{IsWritten};
+
+use crate::picture::{Form, PictureError};
+use crate::recording::{Recording, record_window};
+use crate::svg::write_picture_svg;
+use crate::text::write_picture_text;
+use rv_arch::Stop;
+use rv_core::Core;
+use rv_isa::Arrivals;
+use rv_source::Listing;
+use rv_text::ReportError;
+use std::alloc::Global;
+use std::io::Write;
+
+/// Runs a core for `from` cycles, each with the lines of its number, and then up to `limit` cycles, and writes the picture
+/// of these, with the texts of a listing. A breakpoint, a stale word or exhaustion ends the run; where that is before the
+/// window begins, no cycle is shown. Answers why the run ended.
+///
+/// # Errors
+///
+/// `Memory` for want of memory: then nothing was written. `WriteFailed` where a write fails: then what was written is a
+/// beginning of the picture.
+pub fn write_picture<W: Write>(
+    alloc: Global,
+    core: &mut Core,
+    arrivals: &Arrivals,
+    from: u64,
+    limit: u64,
+    form: Form,
+    listing: &Listing,
+    writer: &mut W,
+) -> Result<Stop, PictureError>
+    ensures { IsPictured arrivals.now from limit form listing.now core.old core.new result (W.contents writer.old) (W.contents writer.new) }
+{
+    let Ok(recording) = record_window(alloc, core, arrivals, from, limit) else {
+        return Err(PictureError::Memory);
+    };
+    // No core counts more cycles than a window can number.
+    let _ = core.is_exhausted();
+    match write_recording(&recording, form, listing, writer) {
+        Ok(()) => Ok(recording.stop),
+        Err(ReportError::WriteFailed) => Err(PictureError::WriteFailed),
+    }
+}
+
+fn write_recording<W: Write>(
+    recording: &Recording,
+    form: Form,
+    listing: &Listing,
+    writer: &mut W,
+) -> Result<(), ReportError>
+    requires { recording.now.window.first + recording.now.window.cycles < 2 ^ 64 }
+    ensures { IsWritten result (W.contents writer.old) (W.contents writer.new) (picture_of form (passages_of recording.now.table) listing.now recording.now.window) }
+{
+    let rows = recording.table.rows();
+    let interrupts = recording.table.interrupts();
+    match form {
+        Form::Text => write_picture_text(rows, interrupts, listing, recording.window, writer),
+        Form::Svg => write_picture_svg(rows, interrupts, listing, recording.window, writer),
+    }
+}
