@@ -12,7 +12,6 @@ use Rattle.rv_hardware.specs.Hardware.{Hardware}
 use Rattle.rv_hardware.specs.Run.{Reachable}
 use Rattle.rv_hardware.proofs.GapSound.{sound}
 use Rattle.rv_passage.specs.Passage.{in_flight, of_entry, of_fetched}
-use Rattle.rv_passage.specs.declared.passage.Passage.{Passage}
 
 pub few_entries : {h : Hardware} → Reachable h → h.rob.capacity ≤ 256
 few_entries reached =

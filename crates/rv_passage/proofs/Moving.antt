@@ -1,8 +1,8 @@
 -- The passages through a cycle, one by one.
-use Rattle.std.proofs.Common.{◌≡◌, ◌∙◌, ℕ, zero, suc, ◌+◌, ◌-◌, ◌<◌, ◌≤◌, nat_lt, Bool, true, false, cond, List, [], ◌∷◌, ◌++◌, length, filter, take, drop, set, get_or, slice_get, Option, None, Some, refl, subst, sym, ap, arith, inl, inr, drop-cons, length-append, append_assoc, append-nil}
+use Rattle.std.proofs.Common.{◌≡◌, ◌∙◌, ℕ, zero, suc, ◌+◌, ◌-◌, ◌<◌, ◌≤◌, nat_lt, true, false, List, [], ◌∷◌, ◌++◌, length, filter, take, drop, set, get_or, slice_get, None, Some, refl, subst, sym, ap, arith, inl, inr, length-append, append_assoc}
 use Rattle.std.specs.List.{position, position_or_len}
 use Rattle.std.proofs.lemmas.Bool.{cases_Bool, le-ltb, lt-ltb, ltb-false}
-use Rattle.std.proofs.lemmas.List.{drop_more, take_more_set, drop-set-lt, take_more, set-get_or, set_split}
+use Rattle.std.proofs.lemmas.List.{drop_more, take_more_set, drop-set-lt, take_more}
 use Rattle.std.proofs.lemmas.List.Quantifiers.{position-Some}
 use Rattle.std.proofs.lemmas.Option.{slice_get_within, get_or_from_slice_get, none-some}
 use Rattle.rv_hardware.specs.declared.step.Step.{Step}

@@ -1,7 +1,6 @@
 -- A run under way whose instructions are followed: one more cycle of it, and its end.
 use Rattle.std.proofs.Common.{◌≡◌, ◌∙◌, ℕ, ◌+◌, ◌*◌, ◌^◌, ◌<◌, ◌≤◌, Bool, true, false, List, [], ◌∷◌, ◌++◌, length, Option, Some, None, refl, sym, ap, subst, arith, length-append}
 use Rattle.std.specs.Prelude.{IfOk, Result, Ok, Err}
-use Rattle.rv_isa.specs.Arrivals.{lines_at}
 use Rattle.rv_isa.specs.declared.lines.Arrival.{Arrival}
 use Rattle.rv_arch.specs.declared.outcome.Stop.{Stop}
 use Rattle.rv_arch.specs.declared.outcome.Stop.TheVariants as stop
@@ -19,7 +18,7 @@ use Rattle.rv_passage.specs.Follows.{Follows, begun, followed}
 use Rattle.rv_passage.specs.Passage.{in_flight}
 use Rattle.rv_passage.specs.Table.{CanCount, Passages, after_cycle, numbered_from, table_at}
 use Rattle.rv_passage.specs.declared.passage.Passage.{Passage}
-use Rattle.rv_picture.specs.Recording.{IsFollowed, IsOver, IsShownIf}
+use Rattle.rv_picture.specs.Recording.{IsFollowed, IsShownIf}
 use Rattle.rv_picture.specs.declared.window.Window.{Window}
 
 pub NoneStops-push : (reports : List Report) (last : Report) → NoneStops reports → last.stop ≡ None → NoneStops (reports ++ last ∷ [])

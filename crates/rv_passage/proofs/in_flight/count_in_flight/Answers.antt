@@ -1,4 +1,4 @@
-use Rattle.std.proofs.Common.{◌≡◌, ◌∙◌, ◌≤◌, ap, sym, arith, length}
+use Rattle.std.proofs.Common.{ap, arith, length}
 use Rattle.rv_front.specs.FetchBuffer.{FetchBuffer}
 use Rattle.rv_rob.specs.ReorderBuffer.{ReorderBuffer}
 use Rattle.rv_passage.proofs.InFlight.{few_entries, few_words, length-in_flight}

@@ -1,7 +1,5 @@
-use Rattle.std.proofs.Common.{◌≡◌, ◌∙◌, ◌-◌, ◌≤◌, Option, Some, None, length, slice_get, ap, sym, arith}
+use Rattle.std.proofs.Common.{◌∙◌, ◌-◌, Some, None, slice_get, ap, sym, arith}
 use Rattle.std.specs.Option.{option_copied}
-use Rattle.rv_front.specs.declared.fetched.Fetched.{Fetched}
-use Rattle.rv_rob.specs.declared.entry.Entry.{Entry}
 use Rattle.rv_passage.proofs.InFlight.{entry_here, word_here}
 use Rattle.rv_passage.proofs.in_flight.passage_at.Goals as goal
 

@@ -1,4 +1,4 @@
-use Rattle.std.proofs.Common.{◌≡◌, ◌∙◌, ◌<◌, length, sym, arith}
+use Rattle.std.proofs.Common.{◌∙◌, ◌<◌, length, sym, arith}
 use Rattle.rv_passage.specs.Passage.{in_flight}
 use Rattle.rv_passage.proofs.Moving.{moved-ended, moved-gone, moved-squashed, moved-standing}
 use Rattle.rv_passage.proofs.rows.move_on.Goals as goal

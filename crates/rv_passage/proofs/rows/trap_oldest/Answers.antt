@@ -1,4 +1,4 @@
-use Rattle.std.proofs.Common.{◌≡◌, ◌∙◌, ap, set, sym}
+use Rattle.std.proofs.Common.{◌∙◌, ap, set, sym}
 use Rattle.rv_passage.specs.Passage.{trapped_by}
 use Rattle.rv_passage.specs.declared.passage.Passage.{Passage}
 use Rattle.rv_passage.proofs.Moving.{with_oldest-at, with_oldest-none}

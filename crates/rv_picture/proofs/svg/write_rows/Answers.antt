@@ -1,4 +1,4 @@
-use Rattle.std.proofs.Common.{◌≡◌, ◌∙◌, ◌+◌, ap, arith, sym}
+use Rattle.std.proofs.Common.{◌∙◌, ◌+◌, ap, arith, sym}
 use Rattle.rv_picture.specs.SvgPicture.{placed_row, rows_of, svg_rows}
 use Rattle.rv_picture.proofs.SvgRows.{count-more, svg_rows-more, svg_rows-split}
 use Rattle.rv_text.proofs.Writing.{Appends-both, Appends-nothing, Appends-same, beginning-both, beginning-longer, beginning-same, handed_on}

@@ -1,4 +1,4 @@
-use Rattle.std.proofs.Common.{◌≡◌, ◌∙◌, ◌∷◌, [], ap, length, arith, length-append}
+use Rattle.std.proofs.Common.{◌∙◌, ◌∷◌, [], ap, length, arith, length-append}
 use Rattle.rv_passage.specs.Passage.{in_flight, numbered}
 use Rattle.rv_passage.proofs.Moving.{drop-at, numbered-more}
 use Rattle.rv_passage.proofs.table.Table.append_fetched.Goals as goal

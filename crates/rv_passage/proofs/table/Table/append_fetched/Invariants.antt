@@ -1,4 +1,4 @@
-use Rattle.std.proofs.Common.{◌≡◌, ◌≤◌, ◌+◌, ℕ, ◌++◌, drop, length, vec_capacity}
+use Rattle.std.proofs.Common.{◌≡◌, ◌≤◌, ◌+◌, ◌++◌, drop, length, vec_capacity}
 use Rattle.rv_passage.specs.Passage.{in_flight}
 use Rattle.rv_passage.specs.Table.{numbered_from}
 use Rattle.rv_passage.proofs.table.Table.append_fetched.Given as goal

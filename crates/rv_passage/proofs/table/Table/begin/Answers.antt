@@ -1,4 +1,4 @@
-use Rattle.std.proofs.Common.{◌≡◌, ◌+◌, ◌++◌, ◌≤◌, ℕ, Vec, Global, vec_capacity, subst, sym, ap, length, arith, length-append}
+use Rattle.std.proofs.Common.{◌+◌, ◌≤◌, ℕ, Vec, Global, vec_capacity, subst, sym, ap, length, arith, length-append}
 use Rattle.rv_passage.specs.Passage.{in_flight}
 use Rattle.rv_passage.specs.Table.{numbered_from}
 use Rattle.rv_passage.proofs.Moving.{length-numbered_from}

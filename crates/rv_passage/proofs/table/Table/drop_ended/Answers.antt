@@ -1,8 +1,6 @@
-use Rattle.std.proofs.Common.{◌≡◌, filter, rules, ap, List}
+use Rattle.std.proofs.Common.{◌≡◌, filter, rules}
 use Rattle.std.proofs.lemmas.Fn.{filter_same}
 use Rattle.rv_passage.specs.Passage.{is_in_flight}
-use Rattle.rv_passage.specs.Table.{Passages, still_open}
-use Rattle.rv_passage.specs.declared.passage.Passage.{Passage}
 use Rattle.rv_passage.proofs.table.Table.drop_ended.Goals as goal
 
 pub returns-clause-opened : goal.returns-clause-opened

@@ -1,4 +1,4 @@
-use Rattle.std.proofs.Common.{◌≡◌, ◌∙◌, ◌+◌, ◌++◌, ◌≤◌, ℕ, Vec, Global, drop, filter, length, ap, arith, length-drop}
+use Rattle.std.proofs.Common.{◌∙◌, ◌+◌, ◌++◌, ℕ, Vec, Global, drop, filter, length, ap, arith, length-drop}
 use Rattle.rv_passage.specs.Passage.{in_flight, is_in_flight}
 use Rattle.rv_passage.specs.Table.{Passages, at_the_end, numbered_from, passages_of, with_steps}
 use Rattle.rv_passage.proofs.Moving.{ended-with, open-moved, steps-within}

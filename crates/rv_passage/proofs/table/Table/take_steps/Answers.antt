@@ -1,5 +1,5 @@
-use Rattle.std.proofs.Common.{◌≡◌, ◌∙◌, ◌≤◌, length, take, ap, arith, length-take-le}
-use Rattle.rv_passage.specs.Table.{Passages, passages_of, with_step, with_steps}
+use Rattle.std.proofs.Common.{◌∙◌, length, take, ap, arith, length-take-le}
+use Rattle.rv_passage.specs.Table.{Passages, passages_of, with_step}
 use Rattle.rv_passage.proofs.Moving.{steps-within, with_steps-more}
 use Rattle.rv_passage.proofs.table.Table.take_steps.Goals as goal
 
