@@ -1,0 +1,127 @@
+ghost use Rattle.std.specs.Prelude.{◌≡◌, ◌++◌, [], Some, None, IfOk, OnErr, replicate};
+ghost use Rattle.std.specs.Option.{option_copied, option_map};
+ghost use Rattle.rv_source.specs.Listing.{line_at};
+
+use crate::line::SourceLine;
+use std::alloc::{AllocError, Global};
+use std::marker::Model;
+
+/// Which line of a source text each word of an image comes from.
+#[derive(Debug, Drop)]
+pub struct Listing {
+    base: u32,
+    lines: Vec<SourceLine>,
+    // For each word of the image the place of its line in `lines`.
+    words: Vec<Option<usize>>,
+}
+
+impl Model for Listing {
+    ghost use Rattle.rv_source.specs.Listing.{Listed};
+
+    ghost Value = { Listed };
+
+    ghost use Rattle.rv_source.specs.Places.{lines_at, AreWithin};
+
+    ghost view = { λ l. record { base = l.base; words = lines_at l.lines.items l.words.items } };
+
+    ghost invariant = { λ l. AreWithin l.lines.items l.words.items };
+}
+
+// Appends a place some times.
+fn push_places(
+    places: &mut Vec<Option<usize>>,
+    count: usize,
+    place: Option<usize>,
+) -> Result<(), AllocError>
+    ensures pushed { IfOk result (λ _. places.new.items ≡ places.old.items ++ replicate count place) }
+    ensures kept { OnErr result (places.new.items ≡ places.old.items) }
+{
+    let Some(size) = places.len().checked_add(count) else {
+        return Err(AllocError);
+    };
+    places.resize(size, place)?;
+    Ok(())
+}
+
+impl Listing {
+    /// The listing of an image without words that begins at an address.
+    pub fn new(alloc: Global, base: u32) -> Self
+        ensures { result ≡ record { base = base; words = [] } }
+    {
+        Listing {
+            base,
+            lines: Vec::new(alloc),
+            words: Vec::new(alloc),
+        }
+    }
+
+    /// Appends words that come from a line. The only error is want of memory.
+    pub fn push_line(&mut self, line: SourceLine, words: usize) -> Result<(), AllocError>
+        ensures { IfOk result (λ _. self.new ≡ record self.old { words = self.old.words ++ replicate words (Some line) }) }
+    {
+        let place = self.lines.len();
+        self.lines.push(line)?;
+        push_places(&mut self.words, words, Some(place))?;
+        Ok(())
+    }
+
+    /// Appends words that come from no line. The only error is want of memory.
+    pub fn push_gap(&mut self, words: usize) -> Result<(), AllocError>
+        ensures { IfOk result (λ _. self.new ≡ record self.old { words = self.old.words ++ replicate words None }) }
+    {
+        push_places(&mut self.words, words, None)?;
+        Ok(())
+    }
+
+    /// The line of the word that holds the byte at an address.
+    fn line_at(&self, address: u32) -> Option<&SourceLine>
+        ensures { option_copied result ≡ line_at self.now address }
+    {
+        let offset = address.checked_sub(self.base)?;
+        let place = (*self.words.get((offset / 4) as usize)?)?;
+        self.lines.get(place)
+    }
+
+    /// The number of the line of the word that holds the byte at an address, or `None` where the
+    /// word comes from no line or lies outside the image.
+    pub fn number_at(&self, address: u32) -> Option<usize>
+        ensures { result ≡ option_map (λ line. line.number) (line_at self.now address) }
+    {
+        Some(self.line_at(address)?.number())
+    }
+
+    /// The text of that line.
+    pub fn text_at(&self, address: u32) -> Option<&[u8]>
+        ensures { option_copied result ≡ option_map (λ line. line.text) (line_at self.now address) }
+    {
+        Some(self.line_at(address)?.text())
+    }
+}
+
+#[cfg(test)]
+mod tests {
+    use super::{Listing, SourceLine};
+    use std::test::Fail;
+
+    #[test]
+    fn a_word_has_the_line_that_was_pushed_for_it(rt: HostRuntime) -> Result<(), Fail> {
+        let alloc = rt.alloc();
+        let mut listing = Listing::new(alloc, 0x8000_0000);
+        listing.push_line(SourceLine::new(2, vec![in alloc; b'l', b'a']?), 2)?;
+        listing.push_gap(1)?;
+        listing.push_line(SourceLine::new(9, vec![in alloc; b'r']?), 1)?;
+        let rows = [
+            (0x7fff_ffff, None, None),
+            (0x8000_0000, Some(2), Some(b"la".as_slice())),
+            (0x8000_0007, Some(2), Some(b"la".as_slice())),
+            (0x8000_0008, None, None),
+            (0x8000_000c, Some(9), Some(b"r".as_slice())),
+            (0x8000_0010, None, None),
+        ];
+        for (address, number, text) in rows {
+            assert_eq!(rt; listing.number_at(address), number);
+            assert_eq!(rt; listing.text_at(address), text);
+        }
+        Ok(())
+    }
+}
