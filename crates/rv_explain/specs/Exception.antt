@@ -46,7 +46,7 @@ cause_name EnvironmentCall = codes "Environment call from M-mode"
 -- what was taken, and when
 unfoldable pub cause_text : Exception → List ℕ
 cause_text e =
-    codes "The first trap came in cycle " ++ (decimal e.cycle ++ (codes ": " ++ (cause_name e.cause ++
+    codes "The first exception came in cycle " ++ (decimal e.cycle ++ (codes ": " ++ (cause_name e.cause ++
     (codes ", mtval " ++ (word_text e.value ++ codes ", at ")))))
 
 -- how the program went on, by what mtvec held
@@ -62,5 +62,5 @@ unfoldable pub taken_text : Listed → Exception → List ℕ
 taken_text listing e = cause_text e ++ (place_text listing e.pc ++ handler_text e)
 
 unfoldable pub exception_text : Listed → Option Exception → List ℕ
-exception_text listing None = codes "There was no other trap.\n"
+exception_text listing None = codes "No exception came before that.\n"
 exception_text listing (Some e) = taken_text listing e

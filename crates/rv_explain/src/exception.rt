@@ -1,6 +1,3 @@
-ghost use Rattle.std.specs.Prelude.{◌≡◌};
-ghost use Rattle.rv_text.specs.Written.{IsWritten};
-
 use rv_isa::Cause;
 
 /// A trap that is no breakpoint.

@@ -78,7 +78,7 @@ fn write_cause<W: Write>(writer: &mut W, exception: &Exception) -> Result<(), Re
     put_all(
         writer,
         &[
-            b"The first trap came in cycle ",
+            b"The first exception came in cycle ",
             cycle,
             b": ",
             name,
@@ -133,6 +133,6 @@ pub(crate) fn write_exception<W: Write>(
 {
     match exception {
         Some(exception) => write_taken(writer, listing, exception),
-        None => put(writer, b"There was no other trap.\n"),
+        None => put(writer, b"No exception came before that.\n"),
     }
 }

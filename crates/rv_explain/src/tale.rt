@@ -1,4 +1,4 @@
-ghost use Rattle.std.specs.Prelude.{◌≡◌, ◌+◌, ◌<◌, ◌^◌, [], None, count_by, length};
+ghost use Rattle.std.specs.Prelude.{◌≡◌, ◌+◌, ◌<◌, ◌^◌, None, count_by, length};
 ghost use Rattle.std.specs.Option.{option_or};
 ghost use Rattle.rv_explain.specs.Exception.{exception_in};
 ghost use Rattle.rv_explain.specs.Tale.{is_retired};
