@@ -1,0 +1,19 @@
+use Rattle.rv_explain.specs.Explanation.{explanation}
+use Rattle.rv_text.proofs.Writing.{handed_on, written_behind, beginning-longer, beginning-both}
+use Rattle.rv_explain.proofs.explanation.write_told.Goals as goal
+
+pub returns-in_err-write_ending : goal.returns-in_err-write_ending
+unfolding explanation
+returns-in_err-write_ending g c =
+    handed_on _ _ _ _ _ c.from_residual.ensures.1 (beginning-longer _ _ _ _ c.in_err-write_ending.ensures)
+
+pub returns-in_err-write_exception : goal.returns-in_err-write_exception
+unfolding explanation
+returns-in_err-write_exception g c =
+    handed_on _ _ _ _ _ c.from_residual-in_err-write_exception.ensures.1
+    (beginning-both _ _ _ _ _ c.in_ok-write_ending.ensures (beginning-longer _ _ _ _ c.in_err-write_exception.ensures))
+
+pub returns : goal.returns
+unfolding explanation
+returns g c =
+    written_behind _ _ _ _ _ _ c.in_ok-write_ending.ensures (written_behind _ _ _ _ _ _ c.in_ok-write_exception.ensures c.write_cycles.ensures)

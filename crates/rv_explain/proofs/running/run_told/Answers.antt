@@ -1,0 +1,77 @@
+use Rattle.std.proofs.Common.{◌≡◌, ◌∙◌, ◌+◌, ◌++◌, [], length, sym, ap, subst, arith}
+use Rattle.std.proofs.lemmas.Bool.{leb-true}
+use Rattle.rv_arch.specs.declared.outcome.Stop.TheVariants.{Exhausted, Limit}
+use Rattle.rv_core.specs.Progress.{IsBounded, progress_of}
+use Rattle.rv_core.specs.declared.outcome.Progress.{Progress}
+use Rattle.rv_core.proofs.RunReports.{progress-bounded}
+use Rattle.rv_explain.proofs.Telling.{room, so_many, told_at_the_stop, told_by, told_nothing, told_on, told_to_the_end}
+use Rattle.rv_explain.proofs.running.run_told.Goals as goal
+
+pub loop-init : goal.loop-init
+loop-init g c =
+    let zero = c.default-progress.ensures in
+    let none : c.default-progress.result ≡ progress_of [] =
+    λ j. record {
+      stalls = record { fetch = zero.0.0 j; serial = zero.0.1.0 j; rob = zero.0.1.1.0 j; station = zero.0.1.1.1.0 j; store = zero.0.1.1.1.1 j };
+      busy = zero.1.0 j;
+      cycles = zero.1.1.0 j;
+      silent = zero.1.1.1.0 j;
+      longest_gap = zero.1.1.1.1 j;
+    }
+    in (told_nothing c.args.arrivals.now c.args.core c.default-progress.result c.new-tale.result none c.new-tale.ensures, zero.1.1.0, c.requires.room)
+
+pub returns-then-is_exhausted : goal.returns-then-is_exhausted
+returns-then-is_exhausted g c =
+    let told = c.loop.invariant.0 in
+    let arrivals = c.args.arrivals.now in
+    let count = so_many arrivals c.args.core c.loop.core c.loop.progress c.loop.tale told c.loop.counter c.loop.invariant.1 in
+    let over = leb-true 1099511627776 c.loop.core.cycle (sym c.is_exhausted.ensures.exhausted ∙ c.if-is_exhausted.true) in
+    let ends = c.finished.ensures in
+    told_by arrivals c.args.limit c.args.core c.loop.core _ _ _ _ _ _ _ ends.core ends.stop ends.progress ends.tale
+    (told_to_the_end arrivals c.args.core c.loop.core c.loop.progress c.loop.tale told Exhausted c.args.limit
+    (told.way.none_stops, omega (arith, count, c.loop-test.true), omega (arith, over, c.is_exhausted.ensures.within)))
+
+pub run_cycle-stop-requires-clause-bounded : goal.run_cycle-stop-requires-clause-bounded
+run_cycle-stop-requires-clause-bounded g c =
+    subst IsBounded (sym c.loop.invariant.0.way.counted) (progress-bounded c.loop.invariant.0.way.reports)
+
+pub add-requires : goal.add-requires
+add-requires g c =
+    let next = c.run_cycle-stop.ensures.cycle in
+    let steps_are = c.as_slice.ensures.value ∙ next.steps_are ∙ ap (λ l. l ++ next.report.steps) c.clear.ensures.items in
+    record {
+      room = room c.args.arrivals.now c.args.core c.loop.core c.loop.progress c.loop.tale c.loop.invariant.0 c.as_slice.result.now c.is_exhausted.ensures.within (omega (arith, ap length steps_are, next.few));
+    }
+
+pub returns-in-Some : goal.returns-in-Some
+returns-in-Some g c =
+    let told = c.loop.invariant.0 in
+    let arrivals = c.args.arrivals.now in
+    let next = c.run_cycle-stop.ensures.cycle in
+    let count = so_many arrivals c.args.core c.loop.core c.loop.progress c.loop.tale told c.loop.counter c.loop.invariant.1 in
+    let ends = c.finished-in-Some.ensures in
+    told_by arrivals c.args.limit c.args.core c.run_cycle-stop.new.core _ _ _ _ _ _ _ ends.core ends.stop ends.progress ends.tale
+    (told_at_the_stop arrivals c.args.core c.loop.core c.loop.progress c.loop.tale told
+    c.run_cycle-stop.new.core c.clear.new.self.items c.run_cycle-stop.new.steps.items c.as_slice.result.now c.run_cycle-stop.new.self c.add.new.self c.run_cycle-stop.result
+    c.clear.ensures.items next c.as_slice.ensures.value c.add.ensures.retired c.add.ensures.exception c.in-Some.stop c.args.limit c.in-Some.is (omega (arith, count, c.loop-test.true)))
+
+pub loop-preserved : goal.loop-preserved
+loop-preserved g c =
+    let told = c.loop.invariant.0 in
+    let next = c.run_cycle-stop.ensures.cycle in (
+      told_on c.args.arrivals.now c.args.core c.loop.core c.loop.progress c.loop.tale told
+          c.run_cycle-stop.new.core c.clear.new.self.items c.run_cycle-stop.new.steps.items c.as_slice.result.now c.run_cycle-stop.new.self c.add.new.self c.run_cycle-stop.result
+          c.clear.ensures.items next c.as_slice.ensures.value c.add.ensures.retired c.add.ensures.exception c.in_default.is,
+      ap (λ (p : Progress). p.cycles) next.counted ∙ ap (λ n. n + 1) c.loop.invariant.1,
+      omega (arith, c.run_cycle-stop.ensures.capacity, c.clear.ensures.capacity, c.loop.invariant.2),
+    )
+
+pub returns : goal.returns
+returns g c =
+    let told = c.loop.invariant.0 in
+    let arrivals = c.args.arrivals.now in
+    let count = so_many arrivals c.args.core c.loop.core c.loop.progress c.loop.tale told c.loop.counter c.loop.invariant.1 in
+    let ends = c.finished-2.ensures in
+    told_by arrivals c.args.limit c.args.core c.loop.core _ _ _ _ _ _ _ ends.core ends.stop ends.progress ends.tale
+    (told_to_the_end arrivals c.args.core c.loop.core c.loop.progress c.loop.tale told Limit c.args.limit
+    (told.way.none_stops, omega (arith, count, c.loop-test.false, c.loop.auto.counter-end)))

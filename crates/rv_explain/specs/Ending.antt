@@ -1,0 +1,25 @@
+-- How a run ended.
+use Rattle.std.specs.Prelude.{ℕ, List, ◌++◌, codes}
+use Rattle.rv_arch.specs.declared.outcome.Stop.{Stop}
+use Rattle.rv_arch.specs.declared.outcome.Stop.TheVariants.{Limit, Breakpoint, Stale, Exhausted}
+use Rattle.rv_hardware.specs.Hardware.{Hardware}
+use Rattle.rv_source.specs.Listing.{Listed}
+use Rattle.rv_explain.specs.Place.{place_text}
+
+-- why a run ended
+unfoldable pub reason_text : Stop → List ℕ
+reason_text Breakpoint = codes "The run ended at a breakpoint, at "
+reason_text (Stale pc) = codes "The run ended at a word that was stored to, and fetched with no FENCE.I behind the store, at "
+reason_text Limit = codes "The run was cut off at its limit of cycles, and the program stood at "
+reason_text Exhausted = codes "The core has done all the cycles that it counts, and the program stood at "
+
+-- where it ended: at the breakpoint, as mepc has it (Privileged Architecture 20211203, 3.1.14), at the stale word, or at the
+-- first instruction that has not retired
+abbrev pub place_of : Stop → Hardware → ℕ
+place_of Breakpoint h = h.csrs.mepc
+place_of (Stale pc) h = pc
+place_of Limit h = h.pc
+place_of Exhausted h = h.pc
+
+unfoldable pub ending_text : Listed → Stop → Hardware → List ℕ
+ending_text listing stop h = reason_text stop ++ place_text listing (place_of stop h)

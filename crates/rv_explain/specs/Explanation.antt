@@ -1,0 +1,43 @@
+-- What a run came to, in sentences.
+use Rattle.std.specs.Prelude.{◌≡◌, ℕ, List, ◌++◌, codes}
+use Rattle.rv_isa.specs.declared.lines.Arrival.{Arrival}
+use Rattle.rv_arch.specs.declared.outcome.Stop.{Stop}
+use Rattle.rv_core.specs.Progress.{progress_of}
+use Rattle.rv_core.specs.declared.outcome.Progress.{Progress}
+use Rattle.rv_hardware.specs.Hardware.{Hardware}
+use Rattle.rv_hardware.specs.Run.{IsStop}
+use Rattle.rv_source.specs.Listing.{Listed}
+use Rattle.rv_text.specs.Line.{line_of, ratio_text}
+use Rattle.rv_explain.specs.Ending.{ending_text}
+use Rattle.rv_explain.specs.Exception.{exception_text}
+use Rattle.rv_explain.specs.History.{History, Moment, reports_of}
+use Rattle.rv_explain.specs.Stack.{count_text, stall_text}
+use Rattle.rv_explain.specs.Tale.{tale_of}
+use Rattle.rv_explain.specs.declared.tale.Tale.{Tale}
+
+-- cycles, with the hardware that each left, up to the end of a run, and what was kept of them
+pub record IsTold (arrivals : List Arrival) (limit : ℕ) (old new : Hardware) (stop : Stop) (progress : Progress) (tale : Tale) : Type 0 where
+  pub moments : List Moment
+  pub passes : History arrivals old moments new
+  pub stops : IsStop limit (reports_of moments) new stop
+  pub counted : progress ≡ progress_of (reports_of moments)
+  pub kept : tale ≡ tale_of moments
+
+-- the cycles, and those to each instruction
+unfoldable pub cycle_text : Progress → Tale → List ℕ
+cycle_text progress tale =
+    count_text progress.cycles tale.retired ++
+    (line_of (codes "cycles per instruction") (ratio_text progress.cycles tale.retired) ++ stall_text progress.cycles progress.busy progress.stalls)
+
+-- the sentences
+unfoldable pub explanation : Listed → Stop → Hardware → Progress → Tale → List ℕ
+explanation listing stop h progress tale =
+    ending_text listing stop h ++ (exception_text listing tale.exception ++ cycle_text progress tale)
+
+-- A text explains a run that ended for a reason.
+pub record IsExplanation (arrivals : List Arrival) (limit : ℕ) (listing : Listed) (old : Hardware) (stop : Stop) (text : List ℕ) : Type 0 where
+  pub moments : List Moment
+  pub new : Hardware
+  pub passes : History arrivals old moments new
+  pub stops : IsStop limit (reports_of moments) new stop
+  pub text_is : text ≡ explanation listing stop new (progress_of (reports_of moments)) (tale_of moments)

@@ -1,0 +1,59 @@
+ghost use Rattle.std.specs.Prelude.{◌≡◌, Some, is_some, true};
+ghost use Rattle.rv_arch.specs.Csr.{csr_at, read_at};
+ghost use Rattle.rv_explain.specs.Ending.{reason_text, place_of, ending_text};
+ghost use Rattle.rv_text.specs.Written.{IsWritten};
+
+use crate::place::write_place;
+use rv_arch::Stop;
+use rv_core::Core;
+use rv_source::Listing;
+use rv_text::{ReportError, put};
+use std::io::Write;
+
+/// What the control and status register at an address reads.
+pub(crate) fn csr(core: &Core, address: u32) -> u32
+    requires { is_some (csr_at address) ≡ true }
+    ensures { Some result ≡ read_at core.now.csrs core.now.lines address }
+{
+    let seen = core.observe();
+    seen.csrs.read(address, seen.lines).unwrap()
+}
+
+#[tactic(auto, unfolding(crate::specs::Ending::reason_text))]
+fn reason(stop: Stop) -> &'static [u8]
+    ensures { result.now ≡ reason_text stop }
+{
+    match stop {
+        Stop::Breakpoint => b"The run ended at a breakpoint, at ",
+        Stop::Stale(_) => {
+            b"The run ended at a word that was stored to, and fetched with no FENCE.I behind the store, at "
+        }
+        Stop::Limit => b"The run was cut off at its limit of cycles, and the program stood at ",
+        Stop::Exhausted => {
+            b"The core has done all the cycles that it counts, and the program stood at "
+        }
+    }
+}
+
+fn place(stop: Stop, core: &Core) -> u32
+    ensures { result ≡ place_of stop core.now }
+{
+    match stop {
+        Stop::Breakpoint => csr(core, 0x341),
+        Stop::Stale(pc) => pc,
+        Stop::Limit | Stop::Exhausted => core.observe().pc,
+    }
+}
+
+/// Writes why a run ended, and where.
+pub(crate) fn write_ending<W: Write>(
+    writer: &mut W,
+    listing: &Listing,
+    stop: Stop,
+    core: &Core,
+) -> Result<(), ReportError>
+    ensures { IsWritten result (W.contents writer.old) (W.contents writer.new) (ending_text listing.now stop core.now) }
+{
+    put(writer, reason(stop))?;
+    write_place(writer, listing, place(stop, core))
+}

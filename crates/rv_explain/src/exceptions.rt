@@ -1,0 +1,138 @@
+ghost use Rattle.std.specs.Prelude.{◌≡◌};
+ghost use Rattle.rv_explain.specs.Exception.{exception_of, exception_in, cause_name, cause_text, went_on, handler_text, taken_text, exception_text};
+ghost use Rattle.rv_text.specs.Written.{IsWritten};
+
+use crate::ending::csr;
+use crate::exception::Exception;
+use crate::place::write_place;
+use itoa::Buffer;
+use rv_core::Core;
+use rv_hardware::Step;
+use rv_isa::Cause;
+use rv_source::Listing;
+use rv_text::{ReportError, hexadecimal, put, put_all};
+use std::io::Write;
+
+// A trap of the core's last cycle, where it is no breakpoint.
+fn exception_of(step: &Step, core: &Core) -> Option<Exception>
+    ensures { result ≡ exception_of core.now step.now }
+{
+    match *step {
+        Step::Trap {
+            cause: Cause::Breakpoint,
+            ..
+        }
+        | Step::Retired(_)
+        | Step::Interrupt { .. } => None,
+        Step::Trap {
+            pc,
+            cause,
+            value,
+            cycle,
+        } => Some(Exception {
+            pc,
+            cause,
+            value,
+            cycle,
+            mtvec: csr(core, 0x305),
+            next_pc: core.observe().pc,
+        }),
+    }
+}
+
+/// The first trap among the steps of the core's last cycle that is no breakpoint.
+pub(crate) fn exception_in(steps: &[Step], core: &Core) -> Option<Exception>
+    ensures { result ≡ exception_in core.now steps.now }
+{
+    match steps {
+        [] => None,
+        [step, rest @ ..] => exception_of(step, core).or(exception_in(rest, core)),
+    }
+}
+
+#[tactic(auto, unfolding(crate::specs::Exception::cause_name))]
+fn cause_name(cause: Cause) -> &'static [u8]
+    ensures { result.now ≡ cause_name cause }
+{
+    match cause {
+        Cause::InstructionAddressMisaligned => b"Instruction address misaligned",
+        Cause::InstructionAccessFault => b"Instruction access fault",
+        Cause::IllegalInstruction => b"Illegal instruction",
+        Cause::Breakpoint => b"Breakpoint",
+        Cause::LoadAddressMisaligned => b"Load address misaligned",
+        Cause::LoadAccessFault => b"Load access fault",
+        Cause::StoreAddressMisaligned => b"Store/AMO address misaligned",
+        Cause::StoreAccessFault => b"Store/AMO access fault",
+        Cause::EnvironmentCall => b"Environment call from M-mode",
+    }
+}
+
+#[tactic(auto, unfolding(crate::specs::Exception::cause_text))]
+fn write_cause<W: Write>(writer: &mut W, exception: &Exception) -> Result<(), ReportError>
+    ensures { IsWritten result (W.contents writer.old) (W.contents writer.new) (cause_text exception.now) }
+{
+    let mut buffer = Buffer::new();
+    let cycle = buffer.format(exception.cycle).as_bytes();
+    let name = cause_name(exception.cause);
+    let value = hexadecimal(exception.value);
+    put_all(
+        writer,
+        &[
+            b"The first exception came in cycle ",
+            cycle,
+            b": ",
+            name,
+            b", mtval ",
+            &value,
+            b", at ",
+        ],
+    )
+}
+
+// How the program went on behind a trap.
+#[tactic(auto, unfolding(crate::specs::Exception::went_on))]
+fn went_on(mtvec: u32) -> &'static [u8]
+    ensures { result.now ≡ went_on mtvec }
+{
+    if mtvec == 0 {
+        b"No handler was set (mtvec was 0), and the program went on at "
+    } else {
+        b"The program went on at its handler, at "
+    }
+}
+
+#[tactic(auto, unfolding(crate::specs::Exception::handler_text))]
+fn write_handler<W: Write>(writer: &mut W, exception: &Exception) -> Result<(), ReportError>
+    ensures { IsWritten result (W.contents writer.old) (W.contents writer.new) (handler_text exception.now) }
+{
+    let how = went_on(exception.mtvec);
+    let next_pc = hexadecimal(exception.next_pc);
+    put_all(writer, &[how, &next_pc, b"\n"])
+}
+
+fn write_taken<W: Write>(
+    writer: &mut W,
+    listing: &Listing,
+    exception: &Exception,
+) -> Result<(), ReportError>
+    ensures { IsWritten result (W.contents writer.old) (W.contents writer.new) (taken_text listing.now exception.now) }
+{
+    write_cause(writer, exception)?;
+    write_place(writer, listing, exception.pc)?;
+    write_handler(writer, exception)
+}
+
+/// Writes what the first trap was that is no breakpoint, and where the program went on behind it.
+#[tactic(auto, unfolding(crate::specs::Exception::exception_text))]
+pub(crate) fn write_exception<W: Write>(
+    writer: &mut W,
+    listing: &Listing,
+    exception: &Option<Exception>,
+) -> Result<(), ReportError>
+    ensures { IsWritten result (W.contents writer.old) (W.contents writer.new) (exception_text listing.now exception.now) }
+{
+    match exception {
+        Some(exception) => write_taken(writer, listing, exception),
+        None => put(writer, b"No exception came before that.\n"),
+    }
+}
