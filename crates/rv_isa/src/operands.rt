@@ -120,83 +120,173 @@ mod tests {
     // The instructions of each format, of rd x5, rs1 x6 and rs2 x7, or x0 where the name says so.
     #[test]
     fn each_format_has_its_registers_and_its_kind(rt: HostRuntime) {
-        let (rd, rs1, rs2, x0) = (x(5), x(6), x(7), x(0));
-        let (immediate, jump) = (UpperImmediate::from_field(9), JumpOffset::from_field(8));
-        let (offset, csr) = (Immediate::from_field(4), CsrAddress::from_field(0x340));
-        let jump_of_x0 = Instr::Jalr {
-            rd: x0,
-            rs1: x0,
-            offset,
-        };
-        let branch = Instr::Branch {
-            condition: Condition::Equal,
-            rs1,
-            rs2,
-            offset: BranchOffset::from_field(8),
-        };
-        let load = Instr::Load {
-            form: LoadForm::Word,
-            rd,
-            rs1,
-            offset,
-        };
-        let store = Instr::Store {
-            width: Width::Word,
-            rs1,
-            rs2,
-            offset,
-        };
-        let op_immediate = Instr::OpImmediate {
-            op: ImmediateOp::Addi,
-            rd,
-            rs1,
-            immediate: offset,
-        };
-        let shift = Instr::Shift {
-            op: ShiftOp::Slli,
-            rd,
-            rs1,
-            amount: ShiftAmount::from_field(3),
-        };
-        let (op, set) = (AluOp::Sub, CsrOp::Set);
-        let csr_register = Instr::Csr {
-            op: set,
-            rd,
-            csr,
-            source: CsrSource::Register(rs1),
-        };
-        let csr_number = Instr::Csr {
-            op: set,
-            rd,
-            csr,
-            source: CsrSource::Immediate(CsrImmediate::from_field(6)),
-        };
-        let (none, one, two) = ([None, None], [Some(rs1), None], [Some(rs1), Some(rs2)]);
-        let (alu, mem) = (Some(Kind::Alu), Some(Kind::Mem));
+        let (rd, rs1, rs2, zero) = (x(5), x(6), x(7), x(0));
+        let (offset, number) = (Immediate::from_field(4), UpperImmediate::from_field(9));
+        let csr = CsrAddress::from_field(0x340);
         let cases = [
-            (Instr::Lui { rd, immediate }, none, Some(rd), alu),
-            (Instr::Lui { rd: x0, immediate }, none, None, alu),
-            (Instr::Auipc { rd, immediate }, none, Some(rd), alu),
-            (Instr::Jal { rd, offset: jump }, none, Some(rd), alu),
-            (Instr::Jalr { rd, rs1, offset }, one, Some(rd), alu),
-            (jump_of_x0, [Some(x0), None], None, alu),
-            (branch, two, None, alu),
-            (load, one, Some(rd), mem),
-            (store, two, None, mem),
-            (op_immediate, one, Some(rd), alu),
-            (shift, one, Some(rd), alu),
-            (Instr::Op { op, rd, rs1, rs2 }, two, Some(rd), alu),
-            (Instr::Fence, none, None, None),
-            (Instr::FenceI, none, None, None),
-            (csr_register, one, Some(rd), None),
-            (csr_number, none, Some(rd), None),
-            (Instr::Ecall, none, None, None),
-            (Instr::Ebreak, none, None, None),
-            (Instr::Mret, none, None, None),
-            (Instr::Wfi, none, None, None),
+            (
+                Instr::Lui {
+                    rd,
+                    immediate: number,
+                },
+                None,
+                None,
+                Some(rd),
+                Some(Kind::Alu),
+            ),
+            (
+                Instr::Lui {
+                    rd: zero,
+                    immediate: number,
+                },
+                None,
+                None,
+                None,
+                Some(Kind::Alu),
+            ),
+            (
+                Instr::Auipc {
+                    rd,
+                    immediate: number,
+                },
+                None,
+                None,
+                Some(rd),
+                Some(Kind::Alu),
+            ),
+            (
+                Instr::Jal {
+                    rd,
+                    offset: JumpOffset::from_field(8),
+                },
+                None,
+                None,
+                Some(rd),
+                Some(Kind::Alu),
+            ),
+            (
+                Instr::Jalr { rd, rs1, offset },
+                Some(rs1),
+                None,
+                Some(rd),
+                Some(Kind::Alu),
+            ),
+            (
+                Instr::Jalr {
+                    rd: zero,
+                    rs1: zero,
+                    offset,
+                },
+                Some(zero),
+                None,
+                None,
+                Some(Kind::Alu),
+            ),
+            (
+                Instr::Branch {
+                    condition: Condition::Equal,
+                    rs1,
+                    rs2,
+                    offset: BranchOffset::from_field(8),
+                },
+                Some(rs1),
+                Some(rs2),
+                None,
+                Some(Kind::Alu),
+            ),
+            (
+                Instr::Load {
+                    form: LoadForm::Word,
+                    rd,
+                    rs1,
+                    offset,
+                },
+                Some(rs1),
+                None,
+                Some(rd),
+                Some(Kind::Mem),
+            ),
+            (
+                Instr::Store {
+                    width: Width::Word,
+                    rs1,
+                    rs2,
+                    offset,
+                },
+                Some(rs1),
+                Some(rs2),
+                None,
+                Some(Kind::Mem),
+            ),
+            (
+                Instr::OpImmediate {
+                    op: ImmediateOp::Addi,
+                    rd,
+                    rs1,
+                    immediate: offset,
+                },
+                Some(rs1),
+                None,
+                Some(rd),
+                Some(Kind::Alu),
+            ),
+            (
+                Instr::Shift {
+                    op: ShiftOp::Slli,
+                    rd,
+                    rs1,
+                    amount: ShiftAmount::from_field(3),
+                },
+                Some(rs1),
+                None,
+                Some(rd),
+                Some(Kind::Alu),
+            ),
+            (
+                Instr::Op {
+                    op: AluOp::Sub,
+                    rd,
+                    rs1,
+                    rs2,
+                },
+                Some(rs1),
+                Some(rs2),
+                Some(rd),
+                Some(Kind::Alu),
+            ),
+            (Instr::Fence, None, None, None, None),
+            (Instr::FenceI, None, None, None, None),
+            (
+                Instr::Csr {
+                    op: CsrOp::Set,
+                    rd,
+                    csr,
+                    source: CsrSource::Register(rs1),
+                },
+                Some(rs1),
+                None,
+                Some(rd),
+                None,
+            ),
+            (
+                Instr::Csr {
+                    op: CsrOp::Set,
+                    rd,
+                    csr,
+                    source: CsrSource::Immediate(CsrImmediate::from_field(6)),
+                },
+                None,
+                None,
+                Some(rd),
+                None,
+            ),
+            (Instr::Ecall, None, None, None, None),
+            (Instr::Ebreak, None, None, None, None),
+            (Instr::Mret, None, None, None, None),
+            (Instr::Wfi, None, None, None, None),
         ];
-        for (instruction, read, written, unit) in cases {
-            assert_eq!(rt; sources(&instruction), read);
+        for (instruction, first, second, written, unit) in cases {
+            assert_eq!(rt; sources(&instruction), [first, second]);
             assert_eq!(rt; target(&instruction), written);
             assert_eq!(rt; kind(&instruction), unit);
         }
