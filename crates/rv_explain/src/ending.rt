@@ -1,5 +1,6 @@
 ghost use Rattle.std.specs.Prelude.{◌≡◌, Some, is_some, true};
-ghost use Rattle.rv_arch.specs.Csr.{csr_at, read_at};
+ghost use Rattle.rv_isa.specs.Csr.{csr_at};
+ghost use Rattle.rv_arch.specs.Csr.{read_at};
 ghost use Rattle.rv_explain.specs.Ending.{reason_text, place_of, ending_text};
 ghost use Rattle.rv_text.specs.Written.{IsWritten};
 

@@ -23,7 +23,7 @@ pub(crate) fn run_told(core: Core, arrivals: &Arrivals, limit: u64, steps: Vec<S
 {
     let mut core = core;
     let mut steps = steps;
-    let mut progress = Progress::default();
+    let mut progress = Progress::new();
     let mut tale = Tale::new();
     for _ in 0..limit {
         if core.is_exhausted() {

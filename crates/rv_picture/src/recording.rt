@@ -32,7 +32,7 @@ fn run_on(
     ensures { IfOk result (λ stop. (reports : List Report) × Cycles arrivals.now core.old reports core.new × IsStop limit reports core.new stop) }
 {
     let mut steps = Vec::with_capacity(alloc, 8)?;
-    let mut progress = Progress::default();
+    let mut progress = Progress::new();
     for _ in 0..limit {
         if core.is_exhausted() {
             return Ok(Stop::Exhausted);
@@ -57,7 +57,7 @@ fn follow(
     let first = core.cycles_done();
     let mut table = Table::begin(alloc, core)?;
     let mut steps = Vec::with_capacity(alloc, 8)?;
-    let mut progress = Progress::default();
+    let mut progress = Progress::new();
     for _ in 0..limit {
         if core.is_exhausted() {
             return Ok(recorded(table, first, progress.cycles, Stop::Exhausted));

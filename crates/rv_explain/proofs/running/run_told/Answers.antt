@@ -1,7 +1,7 @@
-use Rattle.std.proofs.Common.{◌≡◌, ◌∙◌, ◌+◌, ◌++◌, [], length, sym, ap, subst, arith}
+use Rattle.std.proofs.Common.{◌∙◌, ◌+◌, ◌++◌, length, sym, ap, subst, arith}
 use Rattle.std.proofs.lemmas.Bool.{leb-true}
 use Rattle.rv_arch.specs.declared.outcome.Stop.TheVariants.{Exhausted, Limit}
-use Rattle.rv_core.specs.Progress.{IsBounded, progress_of}
+use Rattle.rv_core.specs.Progress.{IsBounded}
 use Rattle.rv_core.specs.declared.outcome.Progress.{Progress}
 use Rattle.rv_core.proofs.RunReports.{progress-bounded}
 use Rattle.rv_explain.proofs.Telling.{room, so_many, told_at_the_stop, told_by, told_nothing, told_on, told_to_the_end}
@@ -9,16 +9,7 @@ use Rattle.rv_explain.proofs.running.run_told.Goals as goal
 
 pub loop-init : goal.loop-init
 loop-init g c =
-    let zero = c.default-progress.ensures in
-    let none : c.default-progress.result ≡ progress_of [] =
-    λ j. record {
-      stalls = record { fetch = zero.0.0 j; serial = zero.0.1.0 j; rob = zero.0.1.1.0 j; station = zero.0.1.1.1.0 j; store = zero.0.1.1.1.1 j };
-      busy = zero.1.0 j;
-      cycles = zero.1.1.0 j;
-      silent = zero.1.1.1.0 j;
-      longest_gap = zero.1.1.1.1 j;
-    }
-    in (told_nothing c.args.arrivals.now c.args.core c.default-progress.result c.new-tale.result none c.new-tale.ensures, zero.1.1.0, c.requires.room)
+    (told_nothing c.args.arrivals.now c.args.core c.new-progress.result c.new-tale.result c.new-progress.ensures c.new-tale.ensures, ap (λ (p : Progress). p.cycles) c.new-progress.ensures, c.requires.room)
 
 pub returns-then-is_exhausted : goal.returns-then-is_exhausted
 returns-then-is_exhausted g c =

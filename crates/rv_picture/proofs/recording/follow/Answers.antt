@@ -1,7 +1,7 @@
-use Rattle.std.proofs.Common.{◌≡◌, ◌∙◌, [], refl, sym, subst, arith}
+use Rattle.std.proofs.Common.{ap, ◌∙◌, refl, sym, subst, arith}
 use Rattle.std.proofs.lemmas.Bool.{leb-true}
 use Rattle.rv_arch.specs.declared.outcome.Stop.TheVariants as stop
-use Rattle.rv_core.specs.Progress.{progress_of}
+use Rattle.rv_core.specs.declared.outcome.Progress.{Progress}
 use Rattle.rv_passage.specs.Table.{Passages, after_cycle, passages_of}
 use Rattle.rv_picture.specs.Recording.{IsFollowed}
 use Rattle.rv_picture.specs.declared.recording.Recording.{Recording}
@@ -10,17 +10,7 @@ use Rattle.rv_picture.proofs.recording.follow.Goals as goal
 
 pub loop-init : goal.loop-init
 loop-init g c =
-    let zero = c.default-progress.ensures in
-    let none : c.default-progress.result ≡ progress_of [] =
-    λ j. record {
-      stalls = record { fetch = zero.0.0 j; serial = zero.0.1.0 j; rob = zero.0.1.1.0 j; station = zero.0.1.1.1.0 j; store = zero.0.1.1.1.1 j };
-      busy = zero.1.0 j;
-      cycles = zero.1.1.0 j;
-      silent = zero.1.1.1.0 j;
-      longest_gap = zero.1.1.1.1 j;
-    }
-    in
-    (following_nothing c.args.arrivals.now c.args.core.now c.default-progress.result (passages_of c.in_ok-table.table) none c.in_ok-table.ensures.table c.in_ok-table.ensures.few, zero.1.1.0, omega (arith, c.in_ok-steps.ensures.exact))
+    (following_nothing c.args.arrivals.now c.args.core.now c.new-progress.result (passages_of c.in_ok-table.table) c.new-progress.ensures c.in_ok-table.ensures.table c.in_ok-table.ensures.few, ap (λ (p : Progress). p.cycles) c.new-progress.ensures, omega (arith, c.in_ok-steps.ensures.exact))
 
 pub returns-then-is_exhausted : goal.returns-then-is_exhausted
 returns-then-is_exhausted g c =

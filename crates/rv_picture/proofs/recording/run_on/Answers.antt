@@ -1,22 +1,12 @@
-use Rattle.std.proofs.Common.{◌≡◌, ◌∙◌, [], sym, arith}
+use Rattle.std.proofs.Common.{ap, ◌∙◌, sym, arith}
 use Rattle.std.proofs.lemmas.Bool.{leb-true}
-use Rattle.rv_core.specs.Progress.{progress_of}
+use Rattle.rv_core.specs.declared.outcome.Progress.{Progress}
 use Rattle.rv_picture.proofs.UnderWay.{going-bounded, going_nowhere, going_on, gone_to_exhaustion, gone_to_limit, gone_to_stop, one_more}
 use Rattle.rv_picture.proofs.recording.run_on.Goals as goal
 
 pub loop-init : goal.loop-init
 loop-init g c =
-    let zero = c.default-progress.ensures in
-    let none : c.default-progress.result ≡ progress_of [] =
-    λ j. record {
-      stalls = record { fetch = zero.0.0 j; serial = zero.0.1.0 j; rob = zero.0.1.1.0 j; station = zero.0.1.1.1.0 j; store = zero.0.1.1.1.1 j };
-      busy = zero.1.0 j;
-      cycles = zero.1.1.0 j;
-      silent = zero.1.1.1.0 j;
-      longest_gap = zero.1.1.1.1 j;
-    }
-    in
-    (going_nowhere c.args.arrivals.now c.args.core.now c.default-progress.result none, zero.1.1.0, omega (arith, c.in_ok-steps.ensures.exact))
+    (going_nowhere c.args.arrivals.now c.args.core.now c.new-progress.result c.new-progress.ensures, ap (λ (p : Progress). p.cycles) c.new-progress.ensures, omega (arith, c.in_ok-steps.ensures.exact))
 
 pub returns-then-is_exhausted : goal.returns-then-is_exhausted
 returns-then-is_exhausted g c =
