@@ -1,23 +1,22 @@
-ghost use Rattle.std.specs.Prelude.{◌≡◌, Some, is_some, true};
-ghost use Rattle.rv_isa.specs.Csr.{csr_at};
-ghost use Rattle.rv_arch.specs.Csr.{read_at};
+ghost use Rattle.std.specs.Prelude.{◌≡◌};
+ghost use Rattle.rv_arch.specs.Csr.{value_of};
 ghost use Rattle.rv_explain.specs.Ending.{reason_text, place_of, ending_text};
 ghost use Rattle.rv_text.specs.Written.{IsWritten};
 
 use crate::place::write_place;
 use rv_arch::Stop;
 use rv_core::Core;
+use rv_isa::Csr;
 use rv_source::Listing;
 use rv_text::{ReportError, put};
 use std::io::Write;
 
-/// What the control and status register at an address reads.
-pub(crate) fn csr(core: &Core, address: u32) -> u32
-    requires { is_some (csr_at address) ≡ true }
-    ensures { Some result ≡ read_at core.now.csrs core.now.lines address }
+/// What a control and status register reads.
+pub(crate) fn csr(core: &Core, csr: Csr) -> u32
+    ensures { result ≡ value_of core.now.csrs core.now.lines csr }
 {
     let seen = core.observe();
-    seen.csrs.read(address, seen.lines).unwrap()
+    seen.csrs.value(csr, seen.lines)
 }
 
 #[tactic(auto, unfolding(crate::specs::Ending::reason_text))]
@@ -40,7 +39,7 @@ fn place(stop: Stop, core: &Core) -> u32
     ensures { result ≡ place_of stop core.now }
 {
     match stop {
-        Stop::Breakpoint => csr(core, 0x341),
+        Stop::Breakpoint => csr(core, Csr::Mepc),
         Stop::Stale(pc) => pc,
         Stop::Limit | Stop::Exhausted => core.observe().pc,
     }

@@ -8,7 +8,7 @@ use crate::place::write_place;
 use itoa::Buffer;
 use rv_core::Core;
 use rv_hardware::Step;
-use rv_isa::Cause;
+use rv_isa::{Cause, Csr};
 use rv_source::Listing;
 use rv_text::{ReportError, hexadecimal, put, put_all};
 use std::io::Write;
@@ -34,7 +34,7 @@ fn exception_of(step: &Step, core: &Core) -> Option<Exception>
             cause,
             value,
             cycle,
-            mtvec: csr(core, 0x305),
+            mtvec: csr(core, Csr::Mtvec),
             next_pc: core.observe().pc,
         }),
     }
