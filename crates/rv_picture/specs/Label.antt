@@ -1,16 +1,13 @@
 -- What stands at the left of a row: the instruction's address, its statement, and the register that it wrote.
-use Rattle.std.specs.Prelude.{ℕ, ◌-◌, ◌==◌, ◌&&◌, if◌then◌else◌, nat_le, List, [], ◌∷◌, ◌++◌, length, take, codes, decimal, Option, Some, None}
+use Rattle.std.specs.Prelude.{ℕ, ◌-◌, ◌==◌, if◌then◌else◌, List, ◌++◌, length, take, codes, decimal, Option, Some, None}
 use Rattle.std.specs.Option.{option_map}
 use Rattle.rv_passage.specs.declared.passage.Ending.{Ending}
 use Rattle.rv_passage.specs.declared.passage.Ending.TheVariants.{InFlight, Retired, Trapped, Squashed}
 use Rattle.rv_source.specs.Listing.{Listed, line_at}
 use Rattle.rv_text.specs.Line.{word_text}
+use Rattle.rv_text.specs.Plain.{plain_byte}
 
--- a byte as it is shown: a question mark for what no terminal prints
-unfoldable pub plain_byte : ℕ → List ℕ
-plain_byte byte = if nat_le 32 byte && nat_le byte 126 then byte ∷ [] else codes "?"
-
--- the same in an SVG
+-- a byte of a statement as an SVG has it
 unfoldable pub markup_byte : ℕ → List ℕ
 markup_byte byte =
     if byte == 38 then codes "&amp;"

@@ -1,4 +1,5 @@
 pub mod Cell
+pub mod ColumnText
 pub mod Columns
 pub mod Label
 pub mod Picture

@@ -15,11 +15,15 @@ use Rattle.rv_picture.specs.declared.cell.Cell.{Cell}
 use Rattle.rv_picture.specs.declared.window.Window.{Window}
 use Rattle.rv_text.specs.Line.{word_text}
 
--- the number of a tenth cycle, over a line down to the last row
+-- a line in front of a column, down to the last row, with its cycle as a tip
+unfoldable pub line_down : List ℕ → List ℕ → List ℕ → List ℕ → List ℕ → List ℕ
+line_down begin top x cycle bottom = begin ++ (x ++ (codes " 0)'><title>cycle " ++ (cycle ++ (top ++ (bottom ++ codes "'/>")))))
+
+-- the number of a tenth cycle, over such a line
 unfoldable pub tenth_mark : List ℕ → List ℕ → List ℕ → List ℕ
 tenth_mark x bottom cycle =
-    codes "<g class='n' transform='translate(" ++ (x ++ (codes " 0)'><path d='M0 20V" ++ (bottom ++
-    (codes "'/><text x='3' y='16'>" ++ (cycle ++ codes "</text></g>\n")))))
+    line_down (codes "<g class='n' transform='translate(") (codes "</title><path d='M0 20V") x cycle bottom ++
+    (codes "<text x='3' y='16'>" ++ (cycle ++ codes "</text></g>\n"))
 
 -- the mark of a column, over so many rows
 unfoldable pub tenth_at : Window → ℕ → ℕ → List ℕ
@@ -31,8 +35,8 @@ tenth_at window rows column =
 -- a line in front of the cycle of an interrupt
 unfoldable pub interrupt_mark : List ℕ → List ℕ → List ℕ → List ℕ
 interrupt_mark x cycle bottom =
-    codes "<g class='v' transform='translate(" ++ (x ++ (codes " 0)'><title>interrupt in cycle " ++ (cycle ++
-    (codes "</title><path d='M0 38V" ++ (bottom ++ codes "'/><text x='7' y='34'>!</text></g>\n")))))
+    line_down (codes "<g class='v' transform='translate(") (codes ", interrupt</title><path d='M0 38V") x cycle bottom ++
+    codes "<text x='7' y='34'>!</text></g>\n"
 
 -- those in the window, across so many rows
 unfoldable pub interrupt_in : Window → ℕ → ℕ → List ℕ

@@ -5,10 +5,11 @@ use Rattle.rv_passage.specs.declared.passage.Passage.{Passage}
 use Rattle.rv_source.specs.Listing.{Listed}
 use Rattle.rv_picture.specs.Columns.{columns}
 use Rattle.rv_picture.specs.Cell.{cell_of, has_cell, letter_of}
-use Rattle.rv_picture.specs.Label.{blanks, padded, plain_byte, statement_of, text_at, written_by, written_text}
+use Rattle.rv_picture.specs.Label.{blanks, padded, statement_of, text_at, written_by, written_text}
 use Rattle.rv_picture.specs.declared.cell.Cell.{Cell}
 use Rattle.rv_picture.specs.declared.window.Window.{Window}
 use Rattle.rv_text.specs.Line.{word_text}
+use Rattle.rv_text.specs.Plain.{plain_text}
 
 -- the number of each tenth cycle begins in its column and takes ten; the columns before the first have blanks
 unfoldable pub scale_at : Window → ℕ → List ℕ
@@ -24,7 +25,7 @@ scale_line window =
 
 -- a statement in 33 columns
 unfoldable pub statement_field : List ℕ → List ℕ
-statement_field statement = flat_map plain_byte statement ++ blanks (33 - length statement)
+statement_field statement = plain_text statement ++ blanks (33 - length statement)
 
 -- what was written in 13 columns
 unfoldable pub room_behind : Option (ℕ × ℕ) → List ℕ

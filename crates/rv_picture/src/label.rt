@@ -1,13 +1,13 @@
 ghost use Rattle.std.specs.Prelude.{◌≡◌, ◌-◌, take};
 ghost use Rattle.std.specs.List.{flat_map};
-ghost use Rattle.rv_picture.specs.Label.{blanks, plain_byte, markup_byte, statement_of, text_at, written_by, written_text, padded};
+ghost use Rattle.rv_picture.specs.Label.{blanks, markup_byte, statement_of, text_at, written_by, written_text, padded};
 ghost use Rattle.rv_text.specs.Written.{IsWritten};
 
 use itoa::Buffer;
 use rv_isa::Reg;
 use rv_passage::{Ending, Passage};
 use rv_source::Listing;
-use rv_text::{ReportError, hexadecimal, put, put_all};
+use rv_text::{ReportError, hexadecimal, put, put_all, write_plain_byte};
 use std::io::Write;
 
 // So many blanks, at most 40.
@@ -72,17 +72,6 @@ pub(crate) fn statement<'a>(
     }
 }
 
-#[tactic(auto, unfolding(crate::specs::Label::plain_byte))]
-fn write_plain_byte<W: Write>(writer: &mut W, byte: u8) -> Result<(), ReportError>
-    ensures { IsWritten result (W.contents writer.old) (W.contents writer.new) (plain_byte byte) }
-{
-    if 32 <= byte && byte <= 126 {
-        put(writer, &[byte])
-    } else {
-        put(writer, b"?")
-    }
-}
-
 #[tactic(auto, unfolding(crate::specs::Label::markup_byte))]
 fn write_markup_byte<W: Write>(writer: &mut W, byte: u8) -> Result<(), ReportError>
     ensures { IsWritten result (W.contents writer.old) (W.contents writer.new) (markup_byte byte) }
@@ -98,16 +87,6 @@ fn write_markup_byte<W: Write>(writer: &mut W, byte: u8) -> Result<(), ReportErr
     } else {
         write_plain_byte(writer, byte)
     }
-}
-
-/// Writes a statement for a terminal.
-pub(crate) fn write_plain<W: Write>(writer: &mut W, statement: &[u8]) -> Result<(), ReportError>
-    ensures { IsWritten result (W.contents writer.old) (W.contents writer.new) (flat_map plain_byte statement.now) }
-{
-    for byte in statement {
-        write_plain_byte(writer, *byte)?;
-    }
-    Ok(())
 }
 
 /// Writes a statement for an SVG.

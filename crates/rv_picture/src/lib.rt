@@ -3,12 +3,15 @@
 #![tactic(auto)]
 
 mod cell;
+mod columns;
 mod frame;
 mod label;
 mod picture;
 mod place;
 mod recording;
 mod svg;
+#[cfg(test)]
+mod tests;
 mod text;
 mod window;
 mod written;

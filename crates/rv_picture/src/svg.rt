@@ -1,14 +1,14 @@
 ghost use Rattle.std.specs.Prelude.{◌≡◌, ◌+◌, ◌≤◌, ◌<◌, ◌^◌, count_by, decimal};
 ghost use Rattle.std.specs.List.{flat_map};
 ghost use Rattle.rv_picture.specs.Cell.{class_of, has_cell, letter_of, name_of};
-ghost use Rattle.rv_picture.specs.Columns.{columns};
 ghost use Rattle.rv_picture.specs.Label.{markup_byte, statement_of, text_at};
 ghost use Rattle.rv_picture.specs.Places.{column_x, row_y};
-ghost use Rattle.rv_picture.specs.SvgPicture.{tenth_mark, tenth_at, interrupt_mark, interrupt_in, cell_box, box_at, row_class, row_begin, svg_row, placed_row, rows_of, svg_rows, svg_of, svg_picture};
+ghost use Rattle.rv_picture.specs.SvgPicture.{line_down, tenth_mark, tenth_at, interrupt_mark, interrupt_in, cell_box, box_at, row_class, row_begin, svg_row, placed_row, rows_of, svg_rows, svg_of, svg_picture};
 ghost use Rattle.rv_text.specs.Line.{word_text};
 ghost use Rattle.rv_text.specs.Written.{IsWritten};
 
 use crate::cell::{Cell, cell_in, has_cell};
+use crate::columns::{Columns, write_columns};
 use crate::frame::{write_begin, write_legend, write_style};
 use crate::label::{statement, write_markup, write_written};
 use crate::place::{column_x, digits, row_y};
@@ -19,6 +19,29 @@ use rv_source::Listing;
 use rv_text::{ReportError, hexadecimal, put, put_all};
 use std::io::Write;
 
+// A line down in front of a column, from a height to the last of so many rows, with the cycle as its tip.
+fn write_line_down<W: Write>(
+    writer: &mut W,
+    begin: &[u8],
+    top: &[u8],
+    rows: usize,
+    column: u64,
+    cycle: u64,
+) -> Result<(), ReportError>
+    ensures { IsWritten result (W.contents writer.old) (W.contents writer.new) (line_down begin.now top.now (decimal (column_x column)) (decimal cycle) (decimal (row_y rows))) }
+{
+    let mut at_column = Buffer::new();
+    let x = digits(&mut at_column, column_x(column));
+    let mut at_cycle = Buffer::new();
+    let cycle = digits(&mut at_cycle, u128::from(cycle));
+    let mut at_bottom = Buffer::new();
+    let bottom = digits(&mut at_bottom, row_y(rows));
+    put_all(
+        writer,
+        &[begin, x, b" 0)'><title>cycle ", cycle, top, bottom, b"'/>"],
+    )
+}
+
 fn write_tenth_mark<W: Write>(
     writer: &mut W,
     rows: usize,
@@ -27,28 +50,21 @@ fn write_tenth_mark<W: Write>(
 ) -> Result<(), ReportError>
     ensures { IsWritten result (W.contents writer.old) (W.contents writer.new) (tenth_mark (decimal (column_x column)) (decimal (row_y rows)) (decimal cycle)) }
 {
-    let mut at_column = Buffer::new();
-    let x = digits(&mut at_column, column_x(column));
-    let mut at_bottom = Buffer::new();
-    let bottom = digits(&mut at_bottom, row_y(rows));
-    let mut at_cycle = Buffer::new();
-    let cycle = digits(&mut at_cycle, u128::from(cycle));
-    put_all(
+    write_line_down(
         writer,
-        &[
-            b"<g class='n' transform='translate(",
-            x,
-            b" 0)'><path d='M0 20V",
-            bottom,
-            b"'/><text x='3' y='16'>",
-            cycle,
-            b"</text></g>\n",
-        ],
-    )
+        b"<g class='n' transform='translate(",
+        b"</title><path d='M0 20V",
+        rows,
+        column,
+        cycle,
+    )?;
+    let mut buffer = Buffer::new();
+    let cycle = digits(&mut buffer, u128::from(cycle));
+    put_all(writer, &[b"<text x='3' y='16'>", cycle, b"</text></g>\n"])
 }
 
 #[tactic(auto, unfolding(crate::specs::SvgPicture::tenth_at))]
-fn write_tenth<W: Write>(
+pub(crate) fn write_tenth<W: Write>(
     writer: &mut W,
     window: Window,
     rows: usize,
@@ -65,17 +81,6 @@ fn write_tenth<W: Write>(
     }
 }
 
-// The cycle numbers.
-fn write_tenths<W: Write>(writer: &mut W, window: Window, rows: usize) -> Result<(), ReportError>
-    requires { window.first + window.cycles < 2 ^ 64 }
-    ensures { IsWritten result (W.contents writer.old) (W.contents writer.new) (columns window (tenth_at window rows)) }
-{
-    for column in 0..window.cycles {
-        write_tenth(writer, window, rows, column)?;
-    }
-    Ok(())
-}
-
 fn write_interrupt_mark<W: Write>(
     writer: &mut W,
     rows: usize,
@@ -84,24 +89,15 @@ fn write_interrupt_mark<W: Write>(
 ) -> Result<(), ReportError>
     ensures { IsWritten result (W.contents writer.old) (W.contents writer.new) (interrupt_mark (decimal (column_x column)) (decimal cycle) (decimal (row_y rows))) }
 {
-    let mut at_column = Buffer::new();
-    let x = digits(&mut at_column, column_x(column));
-    let mut at_bottom = Buffer::new();
-    let bottom = digits(&mut at_bottom, row_y(rows));
-    let mut at_cycle = Buffer::new();
-    let cycle = digits(&mut at_cycle, u128::from(cycle));
-    put_all(
+    write_line_down(
         writer,
-        &[
-            b"<g class='v' transform='translate(",
-            x,
-            b" 0)'><title>interrupt in cycle ",
-            cycle,
-            b"</title><path d='M0 38V",
-            bottom,
-            b"'/><text x='7' y='34'>!</text></g>\n",
-        ],
-    )
+        b"<g class='v' transform='translate(",
+        b", interrupt</title><path d='M0 38V",
+        rows,
+        column,
+        cycle,
+    )?;
+    put(writer, b"<text x='7' y='34'>!</text></g>\n")
 }
 
 #[tactic(auto, unfolding(crate::specs::SvgPicture::interrupt_in))]
@@ -170,7 +166,7 @@ fn write_box<W: Write>(
 }
 
 #[tactic(auto, unfolding(crate::specs::SvgPicture::box_at, crate::specs::SvgPicture::box_of))]
-fn write_box_at<W: Write>(
+pub(crate) fn write_box_at<W: Write>(
     writer: &mut W,
     window: Window,
     row: &Passage,
@@ -184,17 +180,6 @@ fn write_box_at<W: Write>(
         Some(cell) => write_box(writer, cell, column, cycle),
         None => Ok(()),
     }
-}
-
-// The cells of a row.
-fn write_boxes<W: Write>(writer: &mut W, window: Window, row: &Passage) -> Result<(), ReportError>
-    requires { window.first + window.cycles < 2 ^ 64 }
-    ensures { IsWritten result (W.contents writer.old) (W.contents writer.new) (columns window (box_at window row.now)) }
-{
-    for column in 0..window.cycles {
-        write_box_at(writer, window, row, column)?;
-    }
-    Ok(())
 }
 
 #[tactic(auto, unfolding(crate::specs::SvgPicture::row_class))]
@@ -256,7 +241,7 @@ fn write_row<W: Write>(
     put(writer, b"</text><text x='344' y='13'>")?;
     write_written(writer, row)?;
     put(writer, b"</text>\n")?;
-    write_boxes(writer, window, row)?;
+    write_columns(writer, window, Columns::Boxes(row))?;
     put(writer, b"</g>\n")
 }
 
@@ -331,7 +316,7 @@ fn write_shown<W: Write>(
 {
     write_begin(writer, window.cycles, shown)?;
     write_style(writer)?;
-    write_tenths(writer, window, shown)?;
+    write_columns(writer, window, Columns::Tenths { rows: shown })?;
     write_rows(writer, listing, window, rows)?;
     write_interrupts(writer, window, shown, interrupts)?;
     write_legend(writer, shown)

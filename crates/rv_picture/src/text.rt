@@ -1,22 +1,22 @@
 ghost use Rattle.std.specs.Prelude.{◌≡◌, ◌+◌, ◌<◌, ◌^◌, ◌++◌, codes};
 ghost use Rattle.std.specs.List.{flat_map};
-ghost use Rattle.rv_picture.specs.Columns.{columns};
 ghost use Rattle.rv_picture.specs.TextPicture.{scale_at, scale_line, statement_field, room_behind, written_field, cell_text, cell_at, row_line, shown_line, interrupt_at, mark_line, interrupt_line, text_picture};
 ghost use Rattle.rv_picture.specs.Label.{statement_of, text_at, written_by};
 ghost use Rattle.rv_text.specs.Line.{word_text};
 ghost use Rattle.rv_text.specs.Written.{IsWritten};
 
 use crate::cell::{Cell, cell_in, has_cell};
-use crate::label::{statement, write_blanks, write_padded, write_plain, write_written, written};
+use crate::columns::{Columns, write_columns};
+use crate::label::{statement, write_blanks, write_padded, write_written, written};
 use crate::window::Window;
 use itoa::Buffer;
 use rv_passage::Passage;
 use rv_source::Listing;
-use rv_text::{ReportError, hexadecimal, put, put_all};
+use rv_text::{ReportError, hexadecimal, put, put_all, write_plain};
 use std::io::Write;
 
 #[tactic(auto, unfolding(crate::specs::TextPicture::scale_at))]
-fn write_scale_column<W: Write>(
+pub(crate) fn write_scale_column<W: Write>(
     writer: &mut W,
     window: Window,
     column: u64,
@@ -35,16 +35,6 @@ fn write_scale_column<W: Write>(
     }
 }
 
-fn write_scale_columns<W: Write>(writer: &mut W, window: Window) -> Result<(), ReportError>
-    requires { window.first + window.cycles < 2 ^ 64 }
-    ensures { IsWritten result (W.contents writer.old) (W.contents writer.new) (columns window (scale_at window)) }
-{
-    for column in 0..window.cycles {
-        write_scale_column(writer, window, column)?;
-    }
-    Ok(())
-}
-
 // The cycle numbers.
 fn write_scale<W: Write>(writer: &mut W, window: Window) -> Result<(), ReportError>
     requires { window.first + window.cycles < 2 ^ 64 }
@@ -54,7 +44,7 @@ fn write_scale<W: Write>(writer: &mut W, window: Window) -> Result<(), ReportErr
         writer,
         b"                                                       ",
     )?;
-    write_scale_columns(writer, window)?;
+    write_columns(writer, window, Columns::Scale)?;
     put(writer, b"\n")
 }
 
@@ -115,7 +105,7 @@ fn letter(cell: Option<Cell>) -> &'static [u8]
 }
 
 #[tactic(auto, unfolding(crate::specs::TextPicture::cell_at))]
-fn write_cell<W: Write>(
+pub(crate) fn write_cell<W: Write>(
     writer: &mut W,
     window: Window,
     row: &Passage,
@@ -125,16 +115,6 @@ fn write_cell<W: Write>(
     ensures { IsWritten result (W.contents writer.old) (W.contents writer.new) (cell_at window row.now column) }
 {
     put(writer, letter(cell_in(row, window.first + column)))
-}
-
-fn write_cells<W: Write>(writer: &mut W, window: Window, row: &Passage) -> Result<(), ReportError>
-    requires { window.first + window.cycles < 2 ^ 64 }
-    ensures { IsWritten result (W.contents writer.old) (W.contents writer.new) (columns window (cell_at window row.now)) }
-{
-    for column in 0..window.cycles {
-        write_cell(writer, window, row, column)?;
-    }
-    Ok(())
 }
 
 fn write_row<W: Write>(
@@ -149,7 +129,7 @@ fn write_row<W: Write>(
     write_pc(writer, row.pc)?;
     write_statement(writer, listing, row)?;
     write_written_field(writer, row)?;
-    write_cells(writer, window, row)?;
+    write_columns(writer, window, Columns::Letters(row))?;
     put(writer, b"\n")
 }
 
@@ -186,7 +166,7 @@ fn write_rows<W: Write>(
 }
 
 #[tactic(auto, unfolding(crate::specs::TextPicture::interrupt_at))]
-fn write_interrupt_column<W: Write>(
+pub(crate) fn write_interrupt_column<W: Write>(
     writer: &mut W,
     window: Window,
     interrupts: &[u64],
@@ -202,20 +182,6 @@ fn write_interrupt_column<W: Write>(
     }
 }
 
-fn write_interrupt_columns<W: Write>(
-    writer: &mut W,
-    window: Window,
-    interrupts: &[u64],
-) -> Result<(), ReportError>
-    requires { window.first + window.cycles < 2 ^ 64 }
-    ensures { IsWritten result (W.contents writer.old) (W.contents writer.new) (columns window (interrupt_at window interrupts.now)) }
-{
-    for column in 0..window.cycles {
-        write_interrupt_column(writer, window, interrupts, column)?;
-    }
-    Ok(())
-}
-
 fn write_mark_line<W: Write>(
     writer: &mut W,
     window: Window,
@@ -228,7 +194,7 @@ fn write_mark_line<W: Write>(
         writer,
         b"interrupts                                             ",
     )?;
-    write_interrupt_columns(writer, window, interrupts)?;
+    write_columns(writer, window, Columns::Marks(interrupts))?;
     put(writer, b"\n")
 }
 

@@ -53,14 +53,7 @@ pub struct Ready {
 }
 
 impl Waiting {
-    ghost use Rattle.rv_stations.specs.Waiting.{is_ready, ready_of};
-
-    /// Whether both operands have their values.
-    pub fn is_ready(&self) -> bool
-        ensures { result ≡ is_ready self.now }
-    {
-        self.first.has_value() && self.second.has_value()
-    }
+    ghost use Rattle.rv_stations.specs.Waiting.{ready_of};
 
     /// The instruction with the values of its operands, where both are there.
     pub fn ready(&self) -> Option<Ready>

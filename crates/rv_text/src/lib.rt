@@ -5,7 +5,9 @@
 mod digits;
 mod fields;
 mod output;
+mod plain;
 
 pub use digits::hexadecimal;
 pub use fields::{Field, Value, write_fields};
 pub use output::{ReportError, put, put_all};
+pub use plain::{write_plain, write_plain_byte};

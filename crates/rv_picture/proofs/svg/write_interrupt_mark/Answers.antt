@@ -1,13 +1,13 @@
-use Rattle.std.proofs.Common.{◌∙◌, ap}
-use Rattle.std.specs.Prelude.{decimal}
 use Rattle.rv_picture.specs.SvgPicture.{interrupt_mark}
-use Rattle.rv_text.proofs.Writing.{written_same}
+use Rattle.rv_text.proofs.Writing.{handed_on, beginning-longer, written_behind}
 use Rattle.rv_picture.proofs.svg.write_interrupt_mark.Goals as goal
+
+pub returns-in_err-write_line_down : goal.returns-in_err-write_line_down
+unfolding interrupt_mark
+returns-in_err-write_line_down g c =
+    handed_on _ _ _ _ _ c.from_residual.ensures.1 (beginning-longer _ _ _ _ c.in_err-write_line_down.ensures)
 
 pub returns : goal.returns
 unfolding interrupt_mark
 returns g c =
-    let x = c.digits-x.ensures ∙ ap decimal c.column_x.ensures in
-    let cycle = c.digits-cycle.ensures ∙ ap decimal c.from.ensures in
-    let bottom = c.digits-bottom.ensures ∙ ap decimal c.row_y.ensures in
-    written_same _ _ _ _ _ (λ i. interrupt_mark (x i) (cycle i) (bottom i)) c.put_all.ensures
+    written_behind _ _ _ _ _ _ c.in_ok-write_line_down.ensures c.put.ensures

@@ -27,12 +27,12 @@ unfolding svg_row
 returns-in_err-put-2 g c =
     handed_on _ _ _ _ _ c.from_residual-in_err-put-2.ensures.1 (beginning-both _ _ _ _ _ c.in_ok-write_row_begin.ensures (beginning-both _ _ _ _ _ c.in_ok-write_statement.ensures (beginning-both _ _ _ _ _ c.in_ok-put.ensures (beginning-both _ _ _ _ _ c.in_ok-write_written.ensures (beginning-longer _ _ _ _ c.in_err-put-2.ensures)))))
 
-pub returns-in_err-write_boxes : goal.returns-in_err-write_boxes
+pub returns-in_err-write_columns : goal.returns-in_err-write_columns
 unfolding svg_row
-returns-in_err-write_boxes g c =
-    handed_on _ _ _ _ _ c.from_residual-in_err-write_boxes.ensures.1 (beginning-both _ _ _ _ _ c.in_ok-write_row_begin.ensures (beginning-both _ _ _ _ _ c.in_ok-write_statement.ensures (beginning-both _ _ _ _ _ c.in_ok-put.ensures (beginning-both _ _ _ _ _ c.in_ok-write_written.ensures (beginning-both _ _ _ _ _ c.in_ok-put-2.ensures (beginning-longer _ _ _ _ c.in_err-write_boxes.ensures))))))
+returns-in_err-write_columns g c =
+    handed_on _ _ _ _ _ c.from_residual-in_err-write_columns.ensures.1 (beginning-both _ _ _ _ _ c.in_ok-write_row_begin.ensures (beginning-both _ _ _ _ _ c.in_ok-write_statement.ensures (beginning-both _ _ _ _ _ c.in_ok-put.ensures (beginning-both _ _ _ _ _ c.in_ok-write_written.ensures (beginning-both _ _ _ _ _ c.in_ok-put-2.ensures (beginning-longer _ _ _ _ c.in_err-write_columns.ensures))))))
 
 pub returns : goal.returns
 unfolding svg_row
 returns g c =
-    written_behind _ _ _ _ _ _ c.in_ok-write_row_begin.ensures (written_behind _ _ _ _ _ _ c.in_ok-write_statement.ensures (written_behind _ _ _ _ _ _ c.in_ok-put.ensures (written_behind _ _ _ _ _ _ c.in_ok-write_written.ensures (written_behind _ _ _ _ _ _ c.in_ok-put-2.ensures (written_behind _ _ _ _ _ _ c.in_ok-write_boxes.ensures c.put-3.ensures)))))
+    written_behind _ _ _ _ _ _ c.in_ok-write_row_begin.ensures (written_behind _ _ _ _ _ _ c.in_ok-write_statement.ensures (written_behind _ _ _ _ _ _ c.in_ok-put.ensures (written_behind _ _ _ _ _ _ c.in_ok-write_written.ensures (written_behind _ _ _ _ _ _ c.in_ok-put-2.ensures (written_behind _ _ _ _ _ _ c.in_ok-write_columns.ensures c.put-3.ensures)))))

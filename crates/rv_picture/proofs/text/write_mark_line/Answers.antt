@@ -7,12 +7,12 @@ unfolding mark_line
 returns-in_err-put g c =
     handed_on _ _ _ _ _ c.from_residual.ensures.1 (beginning-longer _ _ _ _ c.in_err-put.ensures)
 
-pub returns-in_err-write_interrupt_columns : goal.returns-in_err-write_interrupt_columns
+pub returns-in_err-write_columns : goal.returns-in_err-write_columns
 unfolding mark_line
-returns-in_err-write_interrupt_columns g c =
-    handed_on _ _ _ _ _ c.from_residual-in_err-write_interrupt_columns.ensures.1 (beginning-both _ _ _ _ _ c.in_ok-put.ensures (beginning-longer _ _ _ _ c.in_err-write_interrupt_columns.ensures))
+returns-in_err-write_columns g c =
+    handed_on _ _ _ _ _ c.from_residual-in_err-write_columns.ensures.1 (beginning-both _ _ _ _ _ c.in_ok-put.ensures (beginning-longer _ _ _ _ c.in_err-write_columns.ensures))
 
 pub returns : goal.returns
 unfolding mark_line
 returns g c =
-    written_behind _ _ _ _ _ _ c.in_ok-put.ensures (written_behind _ _ _ _ _ _ c.in_ok-write_interrupt_columns.ensures c.put-2.ensures)
+    written_behind _ _ _ _ _ _ c.in_ok-put.ensures (written_behind _ _ _ _ _ _ c.in_ok-write_columns.ensures c.put-2.ensures)
