@@ -1,14 +1,14 @@
 use crate::{Ending, Table};
 use rv_core::{Core, Progress};
 use rv_front::NotTaken;
-use rv_isa::{Arrivals, Description, Image, Values};
+use rv_isa::{Arrivals, Cause, Description, Image, Reg, Values};
 use std::test::Fail;
 
 // addi x1,x0,5 and ebreak.
 const PROGRAM: [u8; 8] = [0x93, 0x00, 0x50, 0x00, 0x73, 0x00, 0x10, 0x00];
 
 #[test]
-fn one_retires_one_traps_and_those_behind_are_squashed(rt: HostRuntime) -> Result<(), Fail> {
+fn one_retires_one_traps_and_one_is_squashed(rt: HostRuntime) -> Result<(), Fail> {
     let alloc = rt.alloc();
     let description = Description::new(Values::standard()).expect(&rt, "a legal description");
     let image = Image::from_bytes(alloc, 0x8000_0000, &PROGRAM, 0x8000_0000)?;
@@ -27,8 +27,27 @@ fn one_retires_one_traps_and_those_behind_are_squashed(rt: HostRuntime) -> Resul
     let endings = (
         table.rows().first().map(|row| row.ending),
         table.rows().get(1).map(|row| row.ending),
+        table.rows().get(2).map(|row| row.ending),
         table.rows().last().map(|row| row.ending),
     );
-    assert_eq!(&rt; endings, (None, None, None));
+    let register = Reg::new(1).expect(&rt, "a register");
+    let retired = Ending::Retired {
+        order: 0,
+        cycle: 4,
+        written: Some((register, 5)),
+    };
+    let trapped = Ending::Trapped {
+        cycle: 4,
+        cause: Cause::Breakpoint,
+    };
+    assert_eq!(&rt;
+        endings,
+        (
+            Some(retired),
+            Some(trapped),
+            Some(Ending::Squashed { cycle: 4 }),
+            Some(Ending::InFlight)
+        )
+    );
     Ok(())
 }

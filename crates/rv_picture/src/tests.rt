@@ -6,6 +6,14 @@ use rv_isa::{Arrivals, Description, Image, Values};
 use rv_source::Listing;
 use std::test::Fail;
 
+const EXPECTED: &str = "                                                       0         \n\
+80000000 00500093                         x1=00000005  FDIBC\n\
+80000004 00100073                         -             FD.T\n\
+80000008 00000000                         -              FDx\n\
+8000000c 00000000                         -               Fx\n\
+00000000 -                                -                F\n\
+F fetch  D dispatch  I issue  = execution  B broadcast  C retirement  T trap  x squash  . wait  ! interrupt\n";
+
 // addi x1,x0,5 and ebreak.
 const PROGRAM: [u8; 8] = [0x93, 0x00, 0x50, 0x00, 0x73, 0x00, 0x10, 0x00];
 
@@ -32,6 +40,6 @@ fn two_words_in_characters(rt: HostRuntime) -> Result<(), Fail> {
         &mut text,
     );
     assert_eq!(&rt; stop, Ok(Stop::Breakpoint));
-    assert_eq!(&rt; text.as_slice(), b"");
+    assert_eq!(&rt; text.as_slice(), EXPECTED.as_bytes());
     Ok(())
 }
