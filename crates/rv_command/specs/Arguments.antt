@@ -64,13 +64,21 @@ picture_arguments =
 abbrev pub with_required_subcommand : App → App
 with_required_subcommand app = record app { top = record app.top { subcommand_required = true } }
 
+-- `--version` is taken
+abbrev pub with_version : App → App
+with_version app = record app { top = record app.top { has_version = true } }
+
+-- the program with no command yet
+abbrev pub bare_arguments : App
+bare_arguments = with_required_subcommand (with_version (new_app (codes "rv_sim")))
+
 -- a program with more commands, in turn
 abbrev pub with_commands : App → List App → App
 with_commands program [] = program
 with_commands program (command ∷ rest) = with_commands (with_subcommand program command.top) rest
 
 abbrev pub program_arguments : App
-program_arguments = with_commands (with_required_subcommand (new_app (codes "rv_sim"))) (
+program_arguments = with_commands bare_arguments (
     run_arguments ∷
     limited_arguments (codes "reference") ∷
     check_arguments ∷

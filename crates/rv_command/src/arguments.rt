@@ -1,14 +1,17 @@
 //! The arguments of the program, as `clap` is given them.
-ghost use Rattle.std.specs.Prelude.{◌≡◌, codes, false, IfOk};
+ghost use Rattle.std.specs.Prelude.{◌≡◌, false, IfOk};
 ghost use Rattle.clap.specs.Words.{new_app, rule_of};
 ghost use Rattle.rv_command.specs.Arguments.{IsParserOf, check_arguments, cycles_rule, flag_rule, from_rule, limit_rule};
 ghost use Rattle.rv_command.specs.Arguments.{limited_arguments, number_rule, picture_arguments, program_arguments, run_arguments};
-ghost use Rattle.rv_command.specs.Arguments.{with_required_subcommand};
+ghost use Rattle.rv_command.specs.Arguments.{bare_arguments};
 
 use crate::command::{LAST_CYCLE, MOST_CYCLES_SHOWN, MOST_STEPS};
+use crate::help::{self, CommandHelp};
 use clap::builder::ValueParser;
 use clap::{Arg, ArgAction, Command};
 use std::alloc::{AllocError, Global};
+
+const VERSION: &str = "0.1.0";
 
 fn flag_argument<'a>(alloc: Global, name: &'a str, help: &'a str) -> Arg<'a>
     ensures rule { rule_of result ≡ flag_rule name.entry.now }
@@ -47,11 +50,19 @@ fn limit_argument<'a>(alloc: Global, help: &'a str) -> Arg<'a>
     number_argument(alloc, "limit", 1, MOST_STEPS, "100000", help)
 }
 
+// A command with the texts of its help, and no option yet.
+fn described<'a>(alloc: Global, name: &'a str, texts: CommandHelp) -> Command<'a>
+    ensures arguments { IsParserOf (new_app name.entry.now) result }
+{
+    Command::new(alloc, name)
+        .about(texts.about)
+        .after_help(texts.ending)
+}
+
 fn run_command<'a>(alloc: Global) -> Result<Command<'a>, AllocError>
     ensures arguments { IfOk result (IsParserOf run_arguments) }
 {
-    Command::new(alloc, "run")
-        .about("Runs the text on standard input on the core, cycle by cycle")
+    described(alloc, "run", help::RUN)
         .arg(flag_argument(
             alloc,
             "trace",
@@ -64,27 +75,24 @@ fn run_command<'a>(alloc: Global) -> Result<Command<'a>, AllocError>
 fn limited_command<'a>(
     alloc: Global,
     name: &'a str,
-    about: &'a str,
+    texts: CommandHelp,
     help: &'a str,
 ) -> Result<Command<'a>, AllocError>
     ensures arguments { IfOk result (IsParserOf (limited_arguments name.entry.now)) }
 {
-    Command::new(alloc, name)
-        .about(about)
-        .arg(limit_argument(alloc, help))
+    described(alloc, name, texts).arg(limit_argument(alloc, help))
 }
 
 fn check_command<'a>(alloc: Global) -> Command<'a>
     ensures arguments { IsParserOf check_arguments result }
 {
-    Command::new(alloc, "check").about("Assembles the text on standard input")
+    described(alloc, "check", help::CHECK)
 }
 
 fn picture_command<'a>(alloc: Global) -> Result<Command<'a>, AllocError>
     ensures arguments { IfOk result (IsParserOf picture_arguments) }
 {
-    Command::new(alloc, "picture")
-        .about("Draws some cycles of a run of the text on standard input")
+    described(alloc, "picture", help::PICTURE)
         .arg(flag_argument(alloc, "text", "Draws in characters, and not as SVG"))?
         .arg(number_argument(
             alloc,
@@ -106,14 +114,13 @@ fn picture_command<'a>(alloc: Global) -> Result<Command<'a>, AllocError>
 
 // The program with no command yet.
 fn program<'a>(alloc: Global) -> Result<Command<'a>, AllocError>
-    ensures arguments { IfOk result (IsParserOf (with_required_subcommand (new_app (codes "rv_sim")))) }
+    ensures arguments { IfOk result (IsParserOf bare_arguments) }
 {
     let named = Command::new(alloc, "rv_sim").bin_name("rv_sim")?;
-    Ok(
-        named
-            .about("Simulates a RISC-V core")
-            .subcommand_required(true),
-    )
+    let described = named
+        .about("Simulates a RISC-V core")
+        .after_help(help::PROGRAM_ENDING);
+    Ok(described.version(VERSION).subcommand_required(true))
 }
 
 /// The parser of the program's command lines.
@@ -125,27 +132,22 @@ pub(crate) fn parser<'a>(alloc: Global) -> Result<Command<'a>, AllocError>
         .subcommand(limited_command(
             alloc,
             "reference",
-            "Runs the text on standard input, one step at a time",
+            help::REFERENCE,
             "The most steps, 1 to 1000000",
         )?)?
         .subcommand(check_command(alloc))?
         .subcommand(picture_command(alloc)?)?
-        .subcommand(limited_command(
-            alloc,
-            "log",
-            "Writes a run of the text on standard input as a log for pipeline viewers (Konata)",
-            "The most cycles, 1 to 1000000",
-        )?)?
+        .subcommand(limited_command(alloc, "log", help::LOG, "The most cycles, 1 to 1000000")?)?
         .subcommand(limited_command(
             alloc,
             "explain",
-            "Says in sentences how a run of the text on standard input went",
+            help::EXPLAIN,
             "The most cycles, 1 to 1000000",
         )?)?
         .subcommand(limited_command(
             alloc,
             "compare",
-            "Runs one program on several machines, and compares their totals",
+            help::COMPARE,
             "The most cycles of each run, 1 to 1000000",
         )?)
 }

@@ -4,6 +4,7 @@
 
 mod arguments;
 mod command;
+mod help;
 #[cfg(test)]
 mod tests;
 mod usage;
