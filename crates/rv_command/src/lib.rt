@@ -2,7 +2,9 @@
 //! `clap`'s reading of the words with the program's arguments. The program stands on it.
 #![tactic(auto)]
 
+mod arguments;
 mod command;
+mod help;
 #[cfg(test)]
 mod tests;
 mod usage;

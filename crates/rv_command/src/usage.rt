@@ -1,7 +1,7 @@
-ghost use Rattle.std.specs.Prelude.{◌≡◌, ◌<◌, IfSome, None, length};
+ghost use Rattle.std.specs.Prelude.{◌≡◌, IfSome, None};
 ghost use Rattle.clap.specs.Words.{kind_of};
 ghost use Rattle.clap.specs.declared.error.kind.ErrorKind.TheVariants.{OutOfMemory};
-ghost use Rattle.rv_command.specs.Usage.{ShowsUsage};
+ghost use Rattle.rv_command.specs.Usage.{HasHint, ShowsUsage, hint_of};
 
 use clap::Error;
 use clap::error::ErrorKind;
@@ -10,21 +10,40 @@ use rv_text::put;
 use std::alloc::Global;
 use std::io::Write;
 
-// What `clap` says of words that are no command; `None` for want of memory, of which it says nothing.
+const JOB_HINT: &str = "A job comes on standard input, as in 'rv_sim run < FILE'.\n";
+
+// A word that is no argument and no command may be meant as the name of a job's file.
+#[tactic(auto, unfolding(crate::specs::Usage::hint_of, crate::specs::Usage::job_hint))]
+fn hint_of(kind: ErrorKind) -> &'static str
+    ensures hint { result.now ≡ hint_of kind }
+{
+    match kind {
+        ErrorKind::UnknownArgument | ErrorKind::InvalidSubcommand => JOB_HINT,
+        _ => "",
+    }
+}
+
+// What is said of words that are no command: `clap`'s text and a hint. `None` for want of memory, of which `clap` says
+// nothing.
 fn text_of(alloc: Global, error: &Error) -> Option<String>
-    ensures text { IfSome result (λ text. 0 < length text.bytes.items) }
+    ensures text { IfSome result (λ text. HasHint (kind_of error.now) text.bytes.items) }
     ensures memory { kind_of error.now ≡ OutOfMemory → result ≡ None }
 {
     if error.kind() == ErrorKind::OutOfMemory {
         return None;
     }
-    let text = format!(in alloc; "{error}").ok()?;
-    if text.is_empty() { None } else { Some(text) }
+    let mut text = format!(in alloc; "{error}").ok()?;
+    if text.is_empty() {
+        return None;
+    }
+    text.push_str(hint_of(error.kind())).ok()?;
+    Some(text)
 }
 
-/// Shows what `clap` says of words that are no command: help on `output`, and else on `errors`. The
-/// answer is the exit status: 0 for help, 2 for a fault of usage, 4 where help could not be written,
-/// 5 for want of memory.
+/// Shows what `clap` says of words that are no command: help and the version on `output`, and else on
+/// `errors`, with a hint behind it where a word may be meant as the name of a job's file. The answer is the
+/// exit status: 0 for help and the version, 2 for a fault of usage, 4 where help or the version could not be
+/// written, 5 for want of memory.
 pub fn show_usage<W: Write, E: Write>(
     alloc: Global,
     error: &Error,

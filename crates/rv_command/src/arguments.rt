@@ -1,0 +1,153 @@
+//! The arguments of the program, as `clap` is given them.
+ghost use Rattle.std.specs.Prelude.{◌≡◌, false, IfOk};
+ghost use Rattle.clap.specs.Words.{new_app, rule_of};
+ghost use Rattle.rv_command.specs.Arguments.{IsParserOf, check_arguments, cycles_rule, flag_rule, from_rule, limit_rule};
+ghost use Rattle.rv_command.specs.Arguments.{limited_arguments, number_rule, picture_arguments, program_arguments, run_arguments};
+ghost use Rattle.rv_command.specs.Arguments.{bare_arguments};
+
+use crate::command::{LAST_CYCLE, MOST_CYCLES_SHOWN, MOST_STEPS};
+use crate::help::{self, CommandHelp};
+use clap::builder::ValueParser;
+use clap::{Arg, ArgAction, Command};
+use std::alloc::{AllocError, Global};
+
+const VERSION: &str = "0.1.0";
+
+fn flag_argument<'a>(alloc: Global, name: &'a str, help: &'a str) -> Arg<'a>
+    ensures rule { rule_of result ≡ flag_rule name.entry.now }
+    ensures local { result.global ≡ false }
+{
+    Arg::new(alloc, name)
+        .long(name)
+        .help(help)
+        .action(ArgAction::SetTrue)
+}
+
+fn number_argument<'a>(
+    alloc: Global,
+    name: &'a str,
+    low: u64,
+    high: u64,
+    default: &'a str,
+    help: &'a str,
+) -> Arg<'a>
+    ensures rule { rule_of result ≡ number_rule name.entry.now low high default.entry.now }
+    ensures local { result.global ≡ false }
+{
+    Arg::new(alloc, name)
+        .long(name)
+        .value_name("N")
+        .help(help)
+        .action(ArgAction::Set)
+        .value_parser(ValueParser::unsigned(low, high))
+        .default_value(default)
+}
+
+fn limit_argument<'a>(alloc: Global, help: &'a str) -> Arg<'a>
+    ensures rule { rule_of result ≡ limit_rule }
+    ensures local { result.global ≡ false }
+{
+    number_argument(alloc, "limit", 1, MOST_STEPS, "100000", help)
+}
+
+// A command with the texts of its help, and no option yet.
+fn described<'a>(alloc: Global, name: &'a str, texts: CommandHelp) -> Command<'a>
+    ensures arguments { IsParserOf (new_app name.entry.now) result }
+{
+    Command::new(alloc, name)
+        .about(texts.about)
+        .after_help(texts.ending)
+}
+
+fn run_command<'a>(alloc: Global) -> Result<Command<'a>, AllocError>
+    ensures arguments { IfOk result (IsParserOf run_arguments) }
+{
+    described(alloc, "run", help::RUN)
+        .arg(flag_argument(
+            alloc,
+            "trace",
+            "Begins the report with a line for each step",
+        ))?
+        .arg(limit_argument(alloc, "The most cycles, 1 to 1000000"))
+}
+
+// A command that takes a limit and nothing else.
+fn limited_command<'a>(
+    alloc: Global,
+    name: &'a str,
+    texts: CommandHelp,
+    help: &'a str,
+) -> Result<Command<'a>, AllocError>
+    ensures arguments { IfOk result (IsParserOf (limited_arguments name.entry.now)) }
+{
+    described(alloc, name, texts).arg(limit_argument(alloc, help))
+}
+
+fn check_command<'a>(alloc: Global) -> Command<'a>
+    ensures arguments { IsParserOf check_arguments result }
+{
+    described(alloc, "check", help::CHECK)
+}
+
+fn picture_command<'a>(alloc: Global) -> Result<Command<'a>, AllocError>
+    ensures arguments { IfOk result (IsParserOf picture_arguments) }
+{
+    described(alloc, "picture", help::PICTURE)
+        .arg(flag_argument(alloc, "text", "Draws in characters, and not as SVG"))?
+        .arg(number_argument(
+            alloc,
+            "from",
+            0,
+            LAST_CYCLE,
+            "0",
+            "The first cycle, 0 to 999999",
+        ))?
+        .arg(number_argument(
+            alloc,
+            "cycles",
+            1,
+            MOST_CYCLES_SHOWN,
+            "60",
+            "How many cycles, 1 to 1000",
+        ))
+}
+
+// The program with no command yet.
+fn program<'a>(alloc: Global) -> Result<Command<'a>, AllocError>
+    ensures arguments { IfOk result (IsParserOf bare_arguments) }
+{
+    let named = Command::new(alloc, "rv_sim").bin_name("rv_sim")?;
+    let described = named
+        .about("Simulates a RISC-V core")
+        .after_help(help::PROGRAM_ENDING);
+    Ok(described.version(VERSION).subcommand_required(true))
+}
+
+/// The parser of the program's command lines.
+pub(crate) fn parser<'a>(alloc: Global) -> Result<Command<'a>, AllocError>
+    ensures arguments { IfOk result (IsParserOf program_arguments) }
+{
+    program(alloc)?
+        .subcommand(run_command(alloc)?)?
+        .subcommand(limited_command(
+            alloc,
+            "reference",
+            help::REFERENCE,
+            "The most steps, 1 to 1000000",
+        )?)?
+        .subcommand(check_command(alloc))?
+        .subcommand(picture_command(alloc)?)?
+        .subcommand(limited_command(alloc, "log", help::LOG, "The most cycles, 1 to 1000000")?)?
+        .subcommand(limited_command(
+            alloc,
+            "explain",
+            help::EXPLAIN,
+            "The most cycles, 1 to 1000000",
+        )?)?
+        .subcommand(limited_command(
+            alloc,
+            "compare",
+            help::COMPARE,
+            "The most cycles of each run, 1 to 1000000",
+        )?)
+}

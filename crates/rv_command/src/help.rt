@@ -1,0 +1,86 @@
+//! What help says of the program and of its commands.
+
+/// What help says of a command: in a line what it does, and at the end what it reads, an example and the exit
+/// statuses.
+#[derive(Clone, Copy)]
+pub(crate) struct CommandHelp {
+    pub(crate) about: &'static str,
+    pub(crate) ending: &'static str,
+}
+
+// The end of the help of a command that runs a job.
+macro_rules! ending_of_run {
+    ($example:literal) => {
+        concat!(
+            "Reads a job from standard input, as in:\n  ",
+            $example,
+            "\n
+Exit status:
+  0  the run ended by a breakpoint or its limit
+  1  the job was refused
+  2  wrong usage
+  3  the run stopped at a stale word
+  4  standard input or output failed
+  5  out of memory",
+        )
+    };
+}
+
+pub(crate) const PROGRAM_ENDING: &str =
+    "A job is a program in assembly; or a description of the machine in TOML, a line %%, and a program;
+or a description, %%, interrupt arrivals in TOML, %%, and a program.
+
+Example:
+  printf 'addi x1,x0,5\\nebreak\\n' | rv_sim run --trace";
+
+pub(crate) const RUN: CommandHelp = CommandHelp {
+    about: "Runs the text on standard input on the core, cycle by cycle",
+    ending: ending_of_run!("rv_sim run --trace < FILE"),
+};
+
+pub(crate) const REFERENCE: CommandHelp = CommandHelp {
+    about: "Runs the text on standard input, one step at a time",
+    ending: ending_of_run!("rv_sim reference < FILE"),
+};
+
+pub(crate) const CHECK: CommandHelp = CommandHelp {
+    about: "Assembles the text on standard input",
+    ending: "Reads a job from standard input, and of it not the arrivals, as in:
+  rv_sim check < FILE
+
+Exit status:
+  0  the program was assembled
+  1  the job was refused
+  2  wrong usage
+  4  standard input or output failed
+  5  out of memory",
+};
+
+pub(crate) const PICTURE: CommandHelp = CommandHelp {
+    about: "Draws some cycles of a run of the text on standard input",
+    ending: ending_of_run!("rv_sim picture --from 100 --cycles 40 < FILE > FILE.svg"),
+};
+
+pub(crate) const LOG: CommandHelp = CommandHelp {
+    about: "Writes a run of the text on standard input as a log for pipeline viewers (Konata)",
+    ending: ending_of_run!("rv_sim log < FILE > FILE.log"),
+};
+
+pub(crate) const EXPLAIN: CommandHelp = CommandHelp {
+    about: "Says in sentences how a run of the text on standard input went",
+    ending: ending_of_run!("rv_sim explain < FILE"),
+};
+
+pub(crate) const COMPARE: CommandHelp = CommandHelp {
+    about: "Runs one program on several machines, and compares their totals",
+    ending: "Reads from standard input descriptions of machines, a line %% behind each, and a program, as in:
+  rv_sim compare < FILE
+
+Exit status:
+  0  each run ended by a breakpoint or its limit
+  1  a description or the program was refused
+  2  wrong usage
+  3  a run stopped at a stale word
+  4  standard input or output failed
+  5  out of memory",
+};
