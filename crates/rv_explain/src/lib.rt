@@ -10,5 +10,7 @@ mod place;
 mod running;
 mod stack;
 mod tale;
+#[cfg(test)]
+mod tests;
 
 pub use explanation::write_explanation;

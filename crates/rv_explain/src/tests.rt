@@ -1,0 +1,54 @@
+use crate::explanation::write_explanation;
+use rv_core::Core;
+use rv_front::NotTaken;
+use rv_isa::{Arrivals, Description, Image, Values};
+use rv_source::{Listing, SourceLine};
+use std::alloc::{AllocError, Global};
+use std::test::Fail;
+
+// addi x1,x0,5; ecall
+const BYTES: [u8; 8] = [0x93, 0x00, 0x50, 0x00, 0x73, 0x00, 0x00, 0x00];
+
+const SENTENCES: &[u8] = b"\
+The run was cut off at its limit of cycles, and the program stood at 00000000, which no line of the program fills
+The first exception came in cycle 4: Environment call from M-mode, mtval 00000000, at 80000004, line 2: ecall
+No handler was set (mtvec was 0), and the program went on at 00000000
+20 cycles, 1 instructions retired
+cycles per instruction 20.000
+busy           11   55.0%  ############################
+fetch           9   45.0%  #######################
+serial          0    0.0% \x20
+rob             0    0.0% \x20
+station         0    0.0% \x20
+store           0    0.0% \x20
+";
+
+// A listing of lines, each of one word.
+fn listed(alloc: Global, texts: &[&str]) -> Result<Listing, AllocError> {
+    let mut listing = Listing::new(alloc, 0x8000_0000);
+    let mut number = 1_usize;
+    for text in texts {
+        let mut bytes = Vec::new(alloc);
+        bytes.extend_from_slice(text.as_bytes())?;
+        listing.push_line(SourceLine::new(number, bytes), 1)?;
+        number = number.wrapping_add(1);
+    }
+    Ok(listing)
+}
+
+// A call without a handler goes on at address 0, outside RAM, where each fetch traps again.
+#[test]
+fn a_trap_without_a_handler_is_explained(rt: HostRuntime) -> Result<(), Fail> {
+    let alloc = rt.alloc();
+    let listing = listed(alloc, &["addi x1,x0,5", "ecall"])?;
+    let arrivals = Arrivals::new(Vec::new(alloc)).expect(&rt, "no arrivals");
+    let steps = Vec::with_capacity(alloc, 8)?;
+    let mut output = Vec::new(alloc);
+    let description = Description::new(Values::standard()).expect(&rt, "a legal description");
+    let image = Image::from_bytes(alloc, 0x8000_0000, &BYTES, 0x8000_0000)?;
+    let predictor = Box::new(alloc, NotTaken)?;
+    let core = Core::new(alloc, &description, &image, predictor).expect(&rt, "a core");
+    write_explanation(core, &arrivals, 20, &listing, steps, &mut output).expect(&rt, "room");
+    assert!(&rt; output.as_slice() == SENTENCES);
+    Ok(())
+}
