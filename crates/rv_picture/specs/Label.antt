@@ -1,9 +1,10 @@
 -- What stands at the left of a row: the instruction's address, its statement, and the register that it wrote.
 use Rattle.std.specs.Prelude.{ℕ, ◌-◌, ◌==◌, if◌then◌else◌, List, ◌++◌, length, take, codes, decimal, Option, Some, None}
-use Rattle.std.specs.Option.{option_map}
 use Rattle.rv_passage.specs.declared.passage.Ending.{Ending}
 use Rattle.rv_passage.specs.declared.passage.Ending.TheVariants.{InFlight, Retired, Trapped, Squashed}
-use Rattle.rv_source.specs.Listing.{Listed, line_at}
+use Rattle.rv_passage.specs.declared.passage.Passage.{Passage}
+use Rattle.rv_source.specs.Listing.{Listed}
+use Rattle.rv_source.specs.Statement.{statement_at}
 use Rattle.rv_text.specs.Line.{word_text}
 use Rattle.rv_text.specs.Plain.{plain_byte}
 
@@ -16,15 +17,9 @@ markup_byte byte =
     else if byte == 34 then codes "&quot;"
     else plain_byte byte
 
--- the text of the line that an instruction comes from, if it comes from one
-abbrev pub text_at : Listed → ℕ → Option (List ℕ)
-text_at listing address = option_map (λ line. line.text) (line_at listing address)
-
--- a statement: at most 32 bytes of its text, or the word that was fetched where there is none
-unfoldable pub statement_of : Option (List ℕ) → Option ℕ → List ℕ
-statement_of (Some text) word = take 32 text
-statement_of None (Some word) = word_text word
-statement_of None None = codes "-"
+-- the statement of an instruction, at most 32 bytes of it
+abbrev pub statement_of : Listed → Passage → List ℕ
+statement_of listing passage = take 32 (statement_at listing passage.pc passage.word)
 
 -- what an instruction wrote, if it retired
 abbrev pub written_by : Ending → Option (ℕ × ℕ)

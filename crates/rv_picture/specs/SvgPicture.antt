@@ -8,7 +8,7 @@ use Rattle.rv_passage.specs.declared.passage.Passage.{Passage}
 use Rattle.rv_source.specs.Listing.{Listed}
 use Rattle.rv_picture.specs.Cell.{cell_of, class_of, has_cell, letter_of, name_of}
 use Rattle.rv_picture.specs.Columns.{columns}
-use Rattle.rv_picture.specs.Label.{markup_byte, statement_of, text_at, written_by, written_text}
+use Rattle.rv_picture.specs.Label.{markup_byte, statement_of, written_by, written_text}
 use Rattle.rv_picture.specs.Places.{column_x, row_y}
 use Rattle.rv_picture.specs.SvgFrame.{svg_begin, svg_style, svg_legend}
 use Rattle.rv_picture.specs.declared.cell.Cell.{Cell}
@@ -75,7 +75,7 @@ row_begin class y pc =
 unfoldable pub svg_row : Listed → Window → ℕ → Passage → List ℕ
 svg_row listing window place passage =
     row_begin (row_class passage.ending) (decimal (row_y place)) (word_text passage.pc) ++
-    (flat_map markup_byte (statement_of (text_at listing passage.pc) passage.word) ++
+    (flat_map markup_byte (statement_of listing passage) ++
     (codes "</text><text x='344' y='13'>" ++ (written_text (written_by passage.ending) ++
     (codes "</text>\n" ++ (columns window (box_at window passage) ++ codes "</g>\n")))))
 

@@ -5,7 +5,7 @@ use Rattle.rv_passage.specs.declared.passage.Passage.{Passage}
 use Rattle.rv_source.specs.Listing.{Listed}
 use Rattle.rv_picture.specs.Columns.{columns}
 use Rattle.rv_picture.specs.Cell.{cell_of, has_cell, letter_of}
-use Rattle.rv_picture.specs.Label.{blanks, padded, statement_of, text_at, written_by, written_text}
+use Rattle.rv_picture.specs.Label.{blanks, padded, statement_of, written_by, written_text}
 use Rattle.rv_picture.specs.declared.cell.Cell.{Cell}
 use Rattle.rv_picture.specs.declared.window.Window.{Window}
 use Rattle.rv_text.specs.Line.{word_text}
@@ -47,7 +47,7 @@ cell_at window passage column = cell_text (cell_of passage (window.first + colum
 unfoldable pub row_line : Listed → Window → Passage → List ℕ
 row_line listing window passage =
     (word_text passage.pc ++ codes " ") ++
-    (statement_field (statement_of (text_at listing passage.pc) passage.word) ++
+    (statement_field (statement_of listing passage) ++
     (written_field (written_by passage.ending) ++
     (columns window (cell_at window passage) ++ codes "\n")))
 

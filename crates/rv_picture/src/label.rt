@@ -1,6 +1,6 @@
 ghost use Rattle.std.specs.Prelude.{◌≡◌, ◌-◌, take};
 ghost use Rattle.std.specs.List.{flat_map};
-ghost use Rattle.rv_picture.specs.Label.{blanks, markup_byte, statement_of, text_at, written_by, written_text, padded};
+ghost use Rattle.rv_picture.specs.Label.{blanks, markup_byte, statement_of, written_by, written_text, padded};
 ghost use Rattle.rv_text.specs.Written.{IsWritten};
 
 use itoa::Buffer;
@@ -53,23 +53,15 @@ fn cut(text: &[u8]) -> &[u8]
     front
 }
 
-/// The statement of an instruction. A word that is shown in its place stands in the buffer.
-#[tactic(auto, unfolding(crate::specs::Label::statement_of))]
+/// The statement of an instruction, at most 32 bytes of it. A word that is shown in its place stands in the buffer.
 pub(crate) fn statement<'a>(
     buffer: &'a mut [u8; 8],
     listing: &'a Listing,
     row: &Passage,
 ) -> &'a [u8]
-    ensures { result.now ≡ statement_of (text_at listing.now row.now.pc) row.now.word }
+    ensures { result.now ≡ statement_of listing.now row.now }
 {
-    match (listing.text_at(row.pc), row.word) {
-        (Some(text), _) => cut(text),
-        (None, Some(word)) => {
-            *buffer = hexadecimal(word);
-            buffer.as_slice()
-        }
-        (None, None) => b"-",
-    }
+    cut(listing.statement(buffer, row.pc, row.word))
 }
 
 #[tactic(auto, unfolding(crate::specs::Label::markup_byte))]

@@ -1,7 +1,7 @@
 ghost use Rattle.std.specs.Prelude.{◌≡◌, ◌+◌, ◌≤◌, ◌<◌, ◌^◌, count_by, decimal};
 ghost use Rattle.std.specs.List.{flat_map};
 ghost use Rattle.rv_picture.specs.Cell.{class_of, has_cell, letter_of, name_of};
-ghost use Rattle.rv_picture.specs.Label.{markup_byte, statement_of, text_at};
+ghost use Rattle.rv_picture.specs.Label.{markup_byte, statement_of};
 ghost use Rattle.rv_picture.specs.Places.{column_x, row_y};
 ghost use Rattle.rv_picture.specs.SvgPicture.{line_down, tenth_mark, tenth_at, interrupt_mark, interrupt_in, cell_box, box_at, row_class, row_begin, svg_row, placed_row, rows_of, svg_rows, svg_of, svg_picture};
 ghost use Rattle.rv_text.specs.Line.{word_text};
@@ -220,7 +220,7 @@ fn write_statement<W: Write>(
     listing: &Listing,
     row: &Passage,
 ) -> Result<(), ReportError>
-    ensures { IsWritten result (W.contents writer.old) (W.contents writer.new) (flat_map markup_byte (statement_of (text_at listing.now row.now.pc) row.now.word)) }
+    ensures { IsWritten result (W.contents writer.old) (W.contents writer.new) (flat_map markup_byte (statement_of listing.now row.now)) }
 {
     let mut buffer = [0; 8];
     write_markup(writer, statement(&mut buffer, listing, row))

@@ -1,7 +1,7 @@
 ghost use Rattle.std.specs.Prelude.{◌≡◌, ◌+◌, ◌<◌, ◌^◌, ◌++◌, codes};
 ghost use Rattle.std.specs.List.{flat_map};
 ghost use Rattle.rv_picture.specs.TextPicture.{scale_at, scale_line, statement_field, room_behind, written_field, cell_text, cell_at, row_line, shown_line, interrupt_at, mark_line, interrupt_line, text_picture};
-ghost use Rattle.rv_picture.specs.Label.{statement_of, text_at, written_by};
+ghost use Rattle.rv_picture.specs.Label.{statement_of, written_by};
 ghost use Rattle.rv_text.specs.Line.{word_text};
 ghost use Rattle.rv_text.specs.Written.{IsWritten};
 
@@ -60,7 +60,7 @@ fn write_statement<W: Write>(
     listing: &Listing,
     row: &Passage,
 ) -> Result<(), ReportError>
-    ensures { IsWritten result (W.contents writer.old) (W.contents writer.new) (statement_field (statement_of (text_at listing.now row.now.pc) row.now.word)) }
+    ensures { IsWritten result (W.contents writer.old) (W.contents writer.new) (statement_field (statement_of listing.now row.now)) }
 {
     let mut buffer = [0; 8];
     write_statement_field(writer, statement(&mut buffer, listing, row))

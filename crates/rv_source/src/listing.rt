@@ -1,8 +1,10 @@
 ghost use Rattle.std.specs.Prelude.{◌≡◌, ◌++◌, [], Some, None, IfOk, OnErr, replicate};
 ghost use Rattle.std.specs.Option.{option_copied, option_map};
 ghost use Rattle.rv_source.specs.Listing.{line_at};
+ghost use Rattle.rv_source.specs.Statement.{statement_at, text_at};
 
 use crate::line::SourceLine;
+use rv_text::hexadecimal;
 use std::alloc::{AllocError, Global};
 use std::marker::Model;
 
@@ -92,9 +94,31 @@ impl Listing {
 
     /// The text of that line.
     pub fn text_at(&self, address: u32) -> Option<&[u8]>
-        ensures { option_copied result ≡ option_map (λ line. line.text) (line_at self.now address) }
+        ensures { option_copied result ≡ text_at self.now address }
     {
         Some(self.line_at(address)?.text())
+    }
+
+    /// The statement of an instruction at an address: the text of its line, or where it comes from none
+    /// the digits of the word that was fetched there, or a hyphen where none was. The digits stand in
+    /// the buffer.
+    #[tactic(auto, unfolding(crate::specs::Statement::text_or_word))]
+    pub fn statement<'a>(
+        &'a self,
+        buffer: &'a mut [u8; 8],
+        address: u32,
+        word: Option<u32>,
+    ) -> &'a [u8]
+        ensures { result.now ≡ statement_at self.now address word }
+    {
+        match (self.text_at(address), word) {
+            (Some(text), _) => text,
+            (None, Some(word)) => {
+                *buffer = hexadecimal(word);
+                buffer.as_slice()
+            }
+            (None, None) => b"-",
+        }
     }
 }
 

@@ -1,7 +1,5 @@
-use Rattle.std.proofs.Common.{◌∙◌, ap}
-use Rattle.rv_picture.specs.Label.{statement_of}
+use Rattle.std.proofs.Common.{◌∙◌, ap, take}
 use Rattle.rv_picture.proofs.label.statement.Goals as goal
 
-pub returns-in-Some-default : goal.returns-in-Some-default
-unfolding statement_of
-returns-in-Some-default c = c.cut.ensures ∙ ap (λ text. statement_of text c.args.row.now.word) c.in-Some-default.ensures
+pub returns : goal.returns
+returns c = c.cut.ensures ∙ ap (take 32) c.statement.ensures
