@@ -1,3 +1,4 @@
+pub mod Comments
 pub mod Defined
 pub mod Emitted
 pub mod Kept

@@ -1,7 +1,7 @@
 -- Which line of a text each word of its image comes from.
 use Rattle.std.specs.Prelude.{ℕ, ◌+◌, ◌-◌, ◌*◌, ◌/◌, List, [], ◌∷◌, ◌++◌, map, length, take, drop, replicate, Bool, ◌&&◌, ◌==◌, nat_le, nat_lt, if◌then◌else◌, Option, Some, None}
 use Rattle.std.specs.Char.{is_ascii_whitespace}
-use Rattle.std.specs.List.{prefix_len, suffix_len, range_with_len, slice_split}
+use Rattle.std.specs.List.{before_first, prefix_len, suffix_len, range_with_len, slice_split}
 use Rattle.rv_source.specs.Listing as source
 use Rattle.rv_source.specs.Listing.{Listed}
 use Rattle.rv_asm.specs.Layout.{Layout, extended, laid, line_in, offset_in, unlaid}
@@ -18,9 +18,17 @@ behind_space bytes = drop (prefix_len is_ascii_whitespace bytes) bytes
 abbrev pub before_space : List ℕ → List ℕ
 before_space bytes = take (length bytes - suffix_len is_ascii_whitespace bytes) bytes
 
--- a line that a listing shows: its number, and its bytes without white space at their ends
+-- a number sign begins a comment
+abbrev pub is_number_sign : ℕ → Bool
+is_number_sign byte = byte == 35
+
+-- the bytes of a line before the first one
+abbrev pub before_comment : List ℕ → List ℕ
+before_comment bytes = before_first is_number_sign bytes
+
+-- a line that a listing shows: its number, and its statement without white space at its ends
 abbrev pub shown : ℕ → List ℕ → source.Line
-shown number bytes = record { number = number; text = before_space (behind_space bytes) }
+shown number bytes = record { number = number; text = before_space (behind_space (before_comment bytes)) }
 
 -- the bytes of a line hold an offset of a section: they begin where the section had come before the line, and end where
 -- it has come behind it

@@ -1,9 +1,10 @@
 ghost use Rattle.std.specs.Prelude.{◌≡◌, ◌-◌, ◌++◌, Some, None, IfOk, IfErr, replicate};
+ghost use Rattle.std.specs.List.{position};
 ghost use Rattle.rv_asm.specs.Answer.{RefusedAt};
 ghost use Rattle.rv_asm.specs.Faults.{first_fault_of};
 ghost use Rattle.rv_asm.specs.KeptWords.{reach_before, words_between, words_in};
 ghost use Rattle.rv_asm.specs.Layout.{lines_of};
-ghost use Rattle.rv_asm.specs.Listing.{listing_of, lines_behind_text, shown, word_count};
+ghost use Rattle.rv_asm.specs.Listing.{before_comment, is_number_sign, listing_of, lines_behind_text, shown, word_count};
 ghost use Rattle.rv_asm.specs.Meaning.{round_up};
 ghost use Rattle.rv_asm.specs.Symbols.{kept_in};
 
@@ -37,12 +38,32 @@ fn words_of_gap(text_size: usize) -> usize
     ((rounded + 3) / 4 - (text_size as u128 + 3) / 4) as usize
 }
 
-/// The line as a listing shows it: without white space at its ends.
+/// The place of the first `#` of a line.
+fn place_of_comment(line: &[u8]) -> Option<usize>
+    ensures { result ≡ position is_number_sign line.now }
+{
+    line.iter().position(|byte| *byte == b'#')
+}
+
+/// The bytes of a line before its first `#`.
+fn before_comment(line: &[u8]) -> &[u8]
+    ensures { result.now ≡ before_comment line.now }
+{
+    match place_of_comment(line) {
+        Some(count) => {
+            let (statement, _) = line.split_at(count);
+            statement
+        }
+        None => line,
+    }
+}
+
+/// The line as a listing shows it: without its comment, and without white space at its ends.
 fn shown(alloc: Global, line: TextLine<'_>) -> Result<SourceLine, AllocError>
     ensures { IfOk result (λ source. source ≡ shown line.entry.number line.entry.bytes.now) }
 {
     let mut text = Vec::new(alloc);
-    text.extend_from_slice(line.bytes.trim_ascii())?;
+    text.extend_from_slice(before_comment(line.bytes).trim_ascii())?;
     Ok(SourceLine::new(line.number, text))
 }
 
