@@ -20,6 +20,7 @@ statement_of (Some text) word = text
 statement_of None (Some word) = word_text word
 statement_of None None = codes "-"
 
+-- the statement of an instruction, each byte as it is shown
 unfoldable pub statement_text : Listed → Passage → List ℕ
 statement_text listing passage =
     flat_map (λ byte. shown_byte byte ∷ []) (statement_of (text_at listing passage.pc) passage.word)
