@@ -17,6 +17,7 @@ stage_at cycle number name (Some stamp) = if stamp == cycle then stage_line numb
 unfoldable pub fetched_text : Listed → Passage → List ℕ
 fetched_text listing passage = appearance_text listing passage ++ stage_line passage.number stage.Fetch
 
+-- that in the cycle of its fetch
 unfoldable pub fetch_at : Listed → ℕ → Passage → List ℕ
 fetch_at listing cycle passage = if passage.fetched == cycle then fetched_text listing passage else []
 
@@ -24,9 +25,11 @@ fetch_at listing cycle passage = if passage.fetched == cycle then fetched_text l
 unfoldable pub retired_text : ℕ → ℕ → List ℕ
 retired_text number order = stage_line number stage.Retirement ++ retirement_line number order
 
+-- that in the cycle of its retirement
 unfoldable pub retirement_at : ℕ → ℕ → ℕ → ℕ → List ℕ
 retirement_at cycle number order retired = if retired == cycle then retired_text number order else []
 
+-- it is flushed in one cycle
 unfoldable pub flush_at : ℕ → ℕ → ℕ → List ℕ
 flush_at cycle number flushed = if flushed == cycle then flush_line number else []
 

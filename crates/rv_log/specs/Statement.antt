@@ -5,5 +5,6 @@ use Rattle.rv_source.specs.Listing.{Listed}
 use Rattle.rv_source.specs.Statement.{statement_at}
 use Rattle.rv_text.specs.Plain.{plain_text}
 
+-- the text of the line that it comes from, or the word that was fetched, in printing characters
 abbrev pub statement_text : Listed → Passage → List ℕ
 statement_text listing passage = plain_text (statement_at listing passage.pc passage.word)
