@@ -34,33 +34,40 @@ number_rule name low high default = record (new_rule name) {
   parser = Some (Unsigned low high);
 }
 
+-- `--limit N`: how many cycles or steps a run may have
 abbrev pub limit_rule : Rule
 limit_rule = number_rule (codes "limit") 1 most_steps (codes "100000")
 
+-- `--from N`: the first cycle that a picture shows
 abbrev pub from_rule : Rule
 from_rule = number_rule (codes "from") 0 last_cycle (codes "0")
 
+-- `--cycles N`: how many cycles a picture shows
 abbrev pub cycles_rule : Rule
 cycles_rule = number_rule (codes "cycles") 1 most_cycles_shown (codes "60")
 
 -- ---- the commands
 
--- a command with `--limit N` alone
+-- `rv_sim NAME [--limit N]`
 abbrev pub limited_arguments : Text → App
 limited_arguments name = with_rule (new_app name) limit_rule
 
+-- `rv_sim run [--trace] [--limit N]`
 abbrev pub run_arguments : App
 run_arguments = with_rule (with_rule (new_app (codes "run")) (flag_rule (codes "trace"))) limit_rule
 
+-- `rv_sim check`
 abbrev pub check_arguments : App
 check_arguments = new_app (codes "check")
 
+-- `rv_sim picture [--text] [--from N] [--cycles N]`
 abbrev pub picture_arguments : App
 picture_arguments =
     with_rule (with_rule (with_rule (new_app (codes "picture")) (flag_rule (codes "text"))) from_rule) cycles_rule
 
 -- ---- the program
 
+-- a command has to be named
 abbrev pub with_required_subcommand : App → App
 with_required_subcommand app = record app { top = record app.top { subcommand_required = true } }
 
@@ -77,6 +84,7 @@ abbrev pub with_commands : App → List App → App
 with_commands program [] = program
 with_commands program (command ∷ rest) = with_commands (with_subcommand program command.top) rest
 
+-- the program with its commands
 abbrev pub program_arguments : App
 program_arguments = with_commands bare_arguments (
     run_arguments ∷

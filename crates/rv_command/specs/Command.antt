@@ -46,6 +46,7 @@ number_from low high text = if is_unsigned_in low high text
 abbrev pub number_in : Text → ℕ → ℕ → List Row → Option ℕ
 number_in name low high rows = option_and_then (number_from low high) (one_of name rows)
 
+-- the numbers of each option
 abbrev pub limit_in : List Row → Option ℕ
 limit_in = number_in (codes "limit") 1 most_steps
 
@@ -55,9 +56,11 @@ from_in = number_in (codes "from") 0 last_cycle
 abbrev pub cycles_in : List Row → Option ℕ
 cycles_in = number_in (codes "cycles") 1 most_cycles_shown
 
+-- what the matches of `run` ask for
 abbrev pub run_in : List Row → Option Command
 run_in rows = option_map (Run (flag_in (codes "trace") rows)) (limit_in rows)
 
+-- what the matches of `picture` ask for
 abbrev pub picture_in : List Row → Option Command
 picture_in rows = option_and_then (λ from. option_map (Picture (flag_in (codes "text") rows) from) (cycles_in rows))
     (from_in rows)

@@ -7,7 +7,7 @@ use Rattle.rv_job.specs.FaultStream.{FaultStream, Tells, TellsError, TellsWantOf
 use Rattle.rv_job.specs.declared.errors.SimError.TheVariants.{WriteFailed}
 use Rattle.rv_text.specs.Written.{AppendsBeginning}
 
--- a kind of error that is no request for help
+-- a kind of error that is no request for help or the version
 abbrev pub IsMistake : ErrorKind → Type 0
 IsMistake kind = (kind ≢ DisplayHelp) × (kind ≢ DisplayVersion)
 
@@ -31,7 +31,7 @@ pub record HasHint (kind : ErrorKind) (text : List ℕ) : Type 0 where
 abbrev pub TellsMistake : List ℕ → Option (List ℕ) → Option (List ℕ) → FaultStream → FaultStream → ℕ → Type 0
 TellsMistake text old-output new-output old new status = (new-output ≡ old-output) × Tells old new text × (status ≡ 2)
 
--- help: the text is written whole, or a beginning of it, which is told
+-- help or the version: the text is written whole, or a beginning of it, which is told
 abbrev pub ShowsHelp : List ℕ → Option (List ℕ) → Option (List ℕ) → FaultStream → FaultStream → ℕ → Type 0
 ShowsHelp text old-output new-output old new status =
     (Appends old-output new-output text × (new ≡ old) × (status ≡ 0))
