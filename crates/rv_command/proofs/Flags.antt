@@ -9,7 +9,7 @@ use Rattle.std.specs.Str.Parse.{ParsesBool, true_text, false_text}
 use Rattle.clap.specs.Words.{ReadsOne, one_text, rows_of}
 use Rattle.clap.specs.declared.parser.matches.Found.{Found}
 use Rattle.clap.proofs.WalkLemmas.{one_text-rows}
-use Rattle.rv_command.specs.Command.{trace_in}
+use Rattle.rv_command.specs.Command.{flag_in}
 
 named : (t : List ℕ) (b : Bool) → MatchBool b (t ≡ true_text) (t ≡ false_text) → b ≡ bytes_eq t (codes "true")
 named t true is = rw is refl
@@ -31,11 +31,11 @@ text_read t (Some b) read = named t b read
 text_read t None read = other t read.1.0
 
 -- the flag that `get_one` reads is the one that the matches hold
-pub trace_read : (f : Found) (r : Option Bool) → (one_text f (codes "trace") ≡ None → r ≡ None)
-    → ((t : List ℕ) → one_text f (codes "trace") ≡ Some t → ReadsOne Reads t r)
-    → unwrap_or r false ≡ trace_in (rows_of f)
-trace_read f r none value = go (one_text f (codes "trace")) refl
+pub flag_read : (f : Found) (name : List ℕ) (r : Option Bool) → (one_text f name ≡ None → r ≡ None)
+    → ((t : List ℕ) → one_text f name ≡ Some t → ReadsOne Reads t r)
+    → unwrap_or r false ≡ flag_in name (rows_of f)
+flag_read f name r none value = go (one_text f name) refl
   where
-    go : (o : Option (List ℕ)) → one_text f (codes "trace") ≡ o → unwrap_or r false ≡ trace_in (rows_of f)
-    go None is = rw (← one_text-rows f (codes "trace"), is, none is) refl
-    go (Some t) is = rw (← one_text-rows f (codes "trace"), is) (text_read t r (value t is))
+    go : (o : Option (List ℕ)) → one_text f name ≡ o → unwrap_or r false ≡ flag_in name (rows_of f)
+    go None is = rw (← one_text-rows f name, is, none is) refl
+    go (Some t) is = rw (← one_text-rows f name, is) (text_read t r (value t is))

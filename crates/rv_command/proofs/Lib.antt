@@ -1,4 +1,4 @@
 mod Flags
-mod Limits
+mod Numbers
 mod Parses
 mod Subcommands

@@ -9,7 +9,8 @@ use Rattle.clap.specs.declared.error.Error.{Error}
 use Rattle.clap.specs.declared.error.kind.ErrorKind.TheVariants.{OutOfMemory, ValueValidation}
 use Rattle.clap.specs.declared.builder.command.Command.{Command as Parser}
 use Rattle.clap.specs.declared.parser.matches.ArgMatches.{ArgMatches}
-use Rattle.rv_command.specs.Command.{command_named, command_of, program_arguments, refused_kinds}
+use Rattle.rv_command.specs.Arguments.{program_arguments}
+use Rattle.rv_command.specs.Command.{command_named, command_of, refused_kinds}
 
 arguments_are_simple : is_simple program_arguments ≡ true
 arguments_are_simple = refl

@@ -2,7 +2,7 @@
 use Rattle.std.proofs.Common.{◌∙◌, ap, refl}
 use Rattle.clap.specs.Words.{AddsSubcommand, App, shape_of, with_subcommand}
 use Rattle.clap.specs.declared.builder.command.Command.{Command as Parser}
-use Rattle.rv_command.specs.Command.{IsParserOf}
+use Rattle.rv_command.specs.Arguments.{IsParserOf}
 
 pub subcommand_added : (old sub new : Parser) (program command : App) → IsParserOf program old → IsParserOf command sub
     → AddsSubcommand old sub new → IsParserOf (with_subcommand program command.top) new

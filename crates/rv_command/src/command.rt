@@ -1,14 +1,21 @@
-ghost use Rattle.std.specs.Prelude.{◌≡◌, ◌⊎◌, false, None, Some, IfErr, IfOk, map, option_and_then, option_map};
-ghost use Rattle.clap.specs.Words.{HasKind, found_of, kind_of, rows_of, rule_of, subcommand_rows_of};
-ghost use Rattle.rv_command.specs.Command.{HasLegalLimit, IsParserOf, command_named, command_of, limit_in, refused_kinds, run_in, trace_in};
-ghost use Rattle.rv_command.specs.Command.{check_arguments, limit_rule, program_arguments, reference_arguments, run_arguments, trace_rule};
+ghost use Rattle.std.specs.Prelude.{◌≡◌, ◌≤◌, ◌⊎◌, None, Some, IfErr, IfOk, IfSome, map, option_and_then};
+ghost use Rattle.clap.specs.Words.{HasKind, found_of, kind_of, rows_of, subcommand_rows_of};
+ghost use Rattle.rv_command.specs.Command.{HasLegalLimit, IsLegalLimit, command_named, command_of, flag_in, limit_in, number_in};
+ghost use Rattle.rv_command.specs.Command.{picture_in, refused_kinds, run_in};
 
+use crate::arguments::parser;
 use clap::error::ErrorKind;
-use clap::{Arg, ArgAction, ArgMatches, Error, value_parser};
-use std::alloc::{AllocError, Global};
+use clap::{ArgMatches, Error};
+use std::alloc::Global;
 
 /// The most steps or cycles that a run may be asked for.
 pub const MOST_STEPS: u64 = 1_000_000;
+
+/// The last cycle that a run may have, and that a picture may begin with; the first is 0.
+pub const LAST_CYCLE: u64 = MOST_STEPS - 1;
+
+/// The most cycles that a picture may show.
+pub const MOST_CYCLES_SHOWN: u64 = 1_000;
 
 /// What the program is asked to do.
 #[derive(Clone, Copy, Debug, PartialEq, Eq)]
@@ -20,111 +27,85 @@ pub enum Command {
     Reference { limit: u64 },
     /// Say which image a job makes, or what is wrong with it.
     Check,
+    /// Draw the picture of so many cycles, from one on, of a run of a job on the core: in characters where
+    /// `text` says so, and else as SVG.
+    Picture { text: bool, from: u64, cycles: u64 },
+    /// Write a run of a job on the core, of at most so many cycles, as a log that pipeline viewers read
+    /// (Konata).
+    Log { limit: u64 },
+    /// Say in sentences how a run of a job on the core went, of at most so many cycles.
+    Explain { limit: u64 },
+    /// Compare machines by the totals of one program's run on each, of at most so many cycles.
+    Compare { limit: u64 },
 }
 
-fn trace_argument<'a>(alloc: Global) -> Arg<'a>
-    ensures rule { rule_of result ≡ trace_rule }
-    ensures local { result.global ≡ false }
+fn flag_given(given: &ArgMatches, name: &str) -> bool
+    ensures flag { result ≡ flag_in name.now (rows_of (found_of given.now)) }
 {
-    Arg::new(alloc, "trace")
-        .long("trace")
-        .help("Begins the report with a line for each step")
-        .action(ArgAction::SetTrue)
+    given.get_one::<bool>(name).unwrap_or(false)
 }
 
-fn limit_argument<'a>(alloc: Global, help: &'a str) -> Arg<'a>
-    ensures rule { rule_of result ≡ limit_rule }
-    ensures local { result.global ≡ false }
+fn number_given(given: &ArgMatches, name: &str, low: u64, high: u64) -> Option<u64>
+    ensures number { result ≡ number_in name.now low high (rows_of (found_of given.now)) }
+    ensures range { IfSome result (λ n. (low ≤ n) × (n ≤ high)) }
 {
-    Arg::new(alloc, "limit")
-        .long("limit")
-        .value_name("N")
-        .help(help)
-        .action(ArgAction::Set)
-        .value_parser(value_parser!(u64).range(1..=1_000_000))
-        .default_value("100000")
-}
-
-fn run_command<'a>(alloc: Global) -> Result<clap::Command<'a>, AllocError>
-    ensures arguments { IfOk result (IsParserOf run_arguments) }
-{
-    clap::Command::new(alloc, "run")
-        .about("Runs the text on standard input on the core, cycle by cycle")
-        .arg(trace_argument(alloc))?
-        .arg(limit_argument(alloc, "The most cycles, 1 to 1000000"))
-}
-
-fn reference_command<'a>(alloc: Global) -> Result<clap::Command<'a>, AllocError>
-    ensures arguments { IfOk result (IsParserOf reference_arguments) }
-{
-    clap::Command::new(alloc, "reference")
-        .about("Runs the text on standard input, one step at a time")
-        .arg(limit_argument(alloc, "The most steps, 1 to 1000000"))
-}
-
-fn check_command<'a>(alloc: Global) -> clap::Command<'a>
-    ensures arguments { IsParserOf check_arguments result }
-{
-    clap::Command::new(alloc, "check").about("Assembles the text on standard input")
-}
-
-fn parser<'a>(alloc: Global) -> Result<clap::Command<'a>, AllocError>
-    ensures arguments { IfOk result (IsParserOf program_arguments) }
-{
-    clap::Command::new(alloc, "rv_sim")
-        .bin_name("rv_sim")?
-        .about("Simulates a RISC-V core")
-        .subcommand_required(true)
-        .subcommand(run_command(alloc)?)?
-        .subcommand(reference_command(alloc)?)?
-        .subcommand(check_command(alloc))
-}
-
-fn limit_given(given: &ArgMatches) -> Option<u64>
-    ensures limit { result ≡ limit_in (rows_of (found_of given.now)) }
-{
-    let limit = given.get_one::<u64>("limit")?;
-    if 1 <= limit && limit <= MOST_STEPS {
-        Some(limit)
+    let number = given.get_one::<u64>(name)?;
+    if low <= number && number <= high {
+        Some(number)
     } else {
         None
     }
 }
 
-fn trace_given(given: &ArgMatches) -> bool
-    ensures trace { result ≡ trace_in (rows_of (found_of given.now)) }
+fn limit_given(given: &ArgMatches) -> Option<u64>
+    ensures limit { result ≡ limit_in (rows_of (found_of given.now)) }
+    ensures legal { IfSome result IsLegalLimit }
 {
-    given.get_one::<bool>("trace").unwrap_or(false)
+    number_given(given, "limit", 1, MOST_STEPS)
 }
 
 fn run_given(given: &ArgMatches) -> Option<Command>
     ensures run { result ≡ run_in (rows_of (found_of given.now)) }
+    ensures legal { IfSome result HasLegalLimit }
 {
     let limit = limit_given(given)?;
-    let trace = trace_given(given);
+    let trace = flag_given(given, "trace");
     Some(Command::Run { trace, limit })
 }
 
-fn reference_given(given: &ArgMatches) -> Option<Command>
-    ensures reference { result ≡ option_map Command.Reference (limit_in (rows_of (found_of given.now))) }
+fn picture_given(given: &ArgMatches) -> Option<Command>
+    ensures picture { result ≡ picture_in (rows_of (found_of given.now)) }
+    ensures legal { IfSome result HasLegalLimit }
 {
-    let limit = limit_given(given)?;
-    Some(Command::Reference { limit })
+    let text = flag_given(given, "text");
+    let from = number_given(given, "from", 0, LAST_CYCLE)?;
+    let cycles = number_given(given, "cycles", 1, MOST_CYCLES_SHOWN)?;
+    Some(Command::Picture { text, from, cycles })
 }
 
 fn command_given(matches: &ArgMatches) -> Option<Command>
     ensures command { result ≡ option_and_then command_named (subcommand_rows_of matches.now) }
+    ensures legal { IfSome result HasLegalLimit }
 {
-    if let Some(given) = matches.subcommand_matches("run") {
-        return run_given(given);
+    let (name, given) = matches.subcommand()?;
+    match name {
+        "run" => run_given(given),
+        "reference" => Some(Command::Reference {
+            limit: limit_given(given)?,
+        }),
+        "check" => Some(Command::Check),
+        "picture" => picture_given(given),
+        "log" => Some(Command::Log {
+            limit: limit_given(given)?,
+        }),
+        "explain" => Some(Command::Explain {
+            limit: limit_given(given)?,
+        }),
+        "compare" => Some(Command::Compare {
+            limit: limit_given(given)?,
+        }),
+        _ => None,
     }
-    if let Some(given) = matches.subcommand_matches("reference") {
-        return reference_given(given);
-    }
-    if matches.subcommand_matches("check").is_some() {
-        return Some(Command::Check);
-    }
-    None
 }
 
 /// What the words of a command line ask for; the first word is the program's name. Fails where
@@ -143,9 +124,6 @@ pub fn parse_words(alloc: Global, words: &[String]) -> Result<Command, Error>
     let matches = parser.try_get_matches_from_mut(words)?;
     match command_given(&matches) {
         Some(command) => Ok(command),
-        None => Err(parser.error(
-            ErrorKind::ValueValidation,
-            "N is no number from 1 to 1000000",
-        )?),
+        None => Err(parser.error(ErrorKind::ValueValidation, "N is no number in its range")?),
     }
 }

@@ -2,6 +2,7 @@
 //! `clap`'s reading of the words with the program's arguments. The program stands on it.
 #![tactic(auto)]
 
+mod arguments;
 mod command;
 #[cfg(test)]
 mod tests;

@@ -1,0 +1,87 @@
+-- The program's arguments, as `clap` is given them: `rv_sim COMMAND [OPTION..]`.
+use Rattle.std.specs.Prelude.{◌≡◌, ℕ, List, [], ◌∷◌, Some, true, false, codes}
+use Rattle.clap.specs.Words.{App, Rule, Text, app_of, new_app, new_rule, with_rule, with_subcommand}
+use Rattle.clap.specs.declared.builder.ArgAction.TheVariants.{Set, SetTrue}
+use Rattle.clap.specs.declared.builder.command.Command.{Command as Parser}
+use Rattle.clap.specs.declared.builder.command.Command.TheViews.{out-Command as fields_of}
+use Rattle.clap.specs.declared.builder.value_parser.ValueParser.TheVariants.{Unsigned}
+
+-- the most cycles, or steps of the reference, that a run may have
+abbrev pub most_steps : ℕ
+most_steps = 1000000
+
+-- the last cycle that a run may have; the first is 0
+abbrev pub last_cycle : ℕ
+last_cycle = 999999
+
+-- the most cycles that a picture may show
+abbrev pub most_cycles_shown : ℕ
+most_cycles_shown = 1000
+
+-- ---- the options of a command
+
+-- the flag `--NAME`
+abbrev pub flag_rule : Text → Rule
+flag_rule name = record (new_rule name) { long = Some name; action = Some SetTrue }
+
+-- `--NAME N` with a number from low to high, which is the default where it is not given
+abbrev pub number_rule : Text → ℕ → ℕ → Text → Rule
+number_rule name low high default = record (new_rule name) {
+  long = Some name;
+  action = Some Set;
+  value_names = 1;
+  defaults = default ∷ [];
+  parser = Some (Unsigned low high);
+}
+
+abbrev pub limit_rule : Rule
+limit_rule = number_rule (codes "limit") 1 most_steps (codes "100000")
+
+abbrev pub from_rule : Rule
+from_rule = number_rule (codes "from") 0 last_cycle (codes "0")
+
+abbrev pub cycles_rule : Rule
+cycles_rule = number_rule (codes "cycles") 1 most_cycles_shown (codes "60")
+
+-- ---- the commands
+
+-- a command with `--limit N` alone
+abbrev pub limited_arguments : Text → App
+limited_arguments name = with_rule (new_app name) limit_rule
+
+abbrev pub run_arguments : App
+run_arguments = with_rule (with_rule (new_app (codes "run")) (flag_rule (codes "trace"))) limit_rule
+
+abbrev pub check_arguments : App
+check_arguments = new_app (codes "check")
+
+abbrev pub picture_arguments : App
+picture_arguments =
+    with_rule (with_rule (with_rule (new_app (codes "picture")) (flag_rule (codes "text"))) from_rule) cycles_rule
+
+-- ---- the program
+
+abbrev pub with_required_subcommand : App → App
+with_required_subcommand app = record app { top = record app.top { subcommand_required = true } }
+
+-- a program with more commands, in turn
+abbrev pub with_commands : App → List App → App
+with_commands program [] = program
+with_commands program (command ∷ rest) = with_commands (with_subcommand program command.top) rest
+
+abbrev pub program_arguments : App
+program_arguments = with_commands (with_required_subcommand (new_app (codes "rv_sim"))) (
+    run_arguments ∷
+    limited_arguments (codes "reference") ∷
+    check_arguments ∷
+    picture_arguments ∷
+    limited_arguments (codes "log") ∷
+    limited_arguments (codes "explain") ∷
+    limited_arguments (codes "compare") ∷
+    []
+    )
+
+-- the parser has these arguments, none of which its subcommands take over
+abbrev pub IsParserOf : App → Parser → Type 0
+IsParserOf arguments parser = (app_of parser ≡ arguments)
+    × ((fields_of parser).has_globals ≡ false)
