@@ -1,0 +1,10 @@
+use Rattle.std.proofs.Common.{take}
+use Rattle.std.specs.Io.KnownBytes.{Appends}
+use Rattle.std.specs.List.{flat_map}
+use Rattle.rv_log.specs.Command.{appearance_text}
+use Rattle.rv_log.proofs.cycle.write_appearances.Given as goal
+
+-- what comes before is written
+abbrev pub invariant-loop-row : goal.invariant-loop-row
+invariant-loop-row g l =
+    Appends (g.W.Write.contents l.initial.writer) (g.W.Write.contents l.writer) (flat_map (appearance_text l.listing) (take l.row-index l.rows))

@@ -1,0 +1,9 @@
+use Rattle.std.proofs.Common.{◌≡◌, ◌≤◌, vec_capacity}
+use Rattle.rv_log.proofs.Logging.{IsLogging, IsRoomy}
+use Rattle.rv_passage.specs.Table.{passages_of}
+use Rattle.rv_log.proofs.running.run_logged.Given as goal
+
+-- the log of the cycles so far is written, and the table and the list keep their room
+abbrev pub invariant-loop : goal.invariant-loop
+invariant-loop g l =
+    IsLogging l.arrivals l.listing l.fn.core l.core l.progress (passages_of l.table) l.written (g.W.Write.contents l.fn.writer) (g.W.Write.contents l.writer) × (l.progress.cycles ≡ l.counter) × IsRoomy l.table × (8 ≤ vec_capacity l.steps)

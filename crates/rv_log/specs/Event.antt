@@ -1,0 +1,47 @@
+-- What a log tells of an instruction in a cycle.
+use Rattle.std.specs.Prelude.{ℕ, ◌==◌, if◌then◌else◌, List, [], ◌++◌, Option, Some, None}
+use Rattle.rv_passage.specs.declared.passage.Ending.{Ending}
+use Rattle.rv_passage.specs.declared.passage.Ending.TheVariants.{InFlight, Retired, Trapped, Squashed}
+use Rattle.rv_passage.specs.declared.passage.Passage.{Passage}
+use Rattle.rv_source.specs.Listing.{Listed}
+use Rattle.rv_log.specs.Command.{appearance_text, flush_line, retirement_line, stage_line}
+use Rattle.rv_log.specs.declared.stage.Stage.{Stage}
+use Rattle.rv_log.specs.declared.stage.Stage.TheVariants as stage
+
+-- a stage begins in the cycle of its stamp
+unfoldable pub stage_at : ℕ → ℕ → Stage → Option ℕ → List ℕ
+stage_at cycle number name None = []
+stage_at cycle number name (Some stamp) = if stamp == cycle then stage_line number name else []
+
+-- an instruction appears with its fetch
+unfoldable pub fetched_text : Listed → Passage → List ℕ
+fetched_text listing passage = appearance_text listing passage ++ stage_line passage.number stage.Fetch
+
+unfoldable pub fetch_at : Listed → ℕ → Passage → List ℕ
+fetch_at listing cycle passage = if passage.fetched == cycle then fetched_text listing passage else []
+
+-- its last stage is the retirement
+unfoldable pub retired_text : ℕ → ℕ → List ℕ
+retired_text number order = stage_line number stage.Retirement ++ retirement_line number order
+
+unfoldable pub retirement_at : ℕ → ℕ → ℕ → ℕ → List ℕ
+retirement_at cycle number order retired = if retired == cycle then retired_text number order else []
+
+unfoldable pub flush_at : ℕ → ℕ → ℕ → List ℕ
+flush_at cycle number flushed = if flushed == cycle then flush_line number else []
+
+-- it leaves the hardware: what trapped is flushed as what was squashed is
+unfoldable pub end_at : ℕ → ℕ → Ending → List ℕ
+end_at cycle number InFlight = []
+end_at cycle number (Retired order retired written) = retirement_at cycle number order retired
+end_at cycle number (Trapped trapped cause) = flush_at cycle number trapped
+end_at cycle number (Squashed squashed) = flush_at cycle number squashed
+
+-- all that became of an instruction in a cycle
+unfoldable pub events_at : Listed → ℕ → Passage → List ℕ
+events_at listing cycle passage =
+    fetch_at listing cycle passage ++
+    (stage_at cycle passage.number stage.Dispatch passage.dispatched ++
+    (stage_at cycle passage.number stage.Issue passage.issued ++
+    (stage_at cycle passage.number stage.Broadcast passage.broadcast ++
+    end_at cycle passage.number passage.ending)))

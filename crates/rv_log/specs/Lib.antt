@@ -1,0 +1,4 @@
+pub mod Command
+pub mod Event
+pub mod Log
+pub mod Statement

@@ -1,0 +1,76 @@
+-- The log of a run in Konata's format, version 0004.
+use Rattle.std.specs.Prelude.{◌≡◌, ℕ, List, [], ◌∷◌, ◌++◌, codes, decimal, Option, Result, Ok, Err}
+use Rattle.std.specs.Io.KnownBytes.{Appends}
+use Rattle.std.specs.List.{flat_map}
+use Rattle.rv_isa.specs.Arrivals.{lines_at}
+use Rattle.rv_isa.specs.declared.lines.Arrival.{Arrival}
+use Rattle.rv_arch.specs.declared.outcome.Stop.{Stop}
+use Rattle.rv_hardware.specs.Cycle.{IsCycle, any_prediction}
+use Rattle.rv_hardware.specs.Hardware.{Hardware}
+use Rattle.rv_hardware.specs.Report.{Report}
+use Rattle.rv_hardware.specs.Run.{Cycles, IsStop}
+use Rattle.rv_passage.specs.Table.{Passages, after_cycle, still_open, table_at}
+use Rattle.rv_passage.specs.declared.passage.Passage.{Passage}
+use Rattle.rv_source.specs.Listing.{Listed}
+use Rattle.rv_text.specs.Written.{AppendsBeginning, IsWritten}
+use Rattle.rv_log.specs.Command.{appearance_text}
+use Rattle.rv_log.specs.Event.{events_at}
+use Rattle.rv_log.specs.declared.error.LogError.{LogError}
+use Rattle.rv_log.specs.declared.error.LogError.TheVariants.{Memory, WriteFailed}
+
+-- the format, and the number of the first cycle
+unfoldable pub head_text : ℕ → List ℕ
+head_text cycle = codes "Kanata\t0004\nC=\t" ++ (decimal cycle ++ codes "\n")
+
+-- what is in flight before the first cycle appears there
+unfoldable pub begin_text : Listed → ℕ → List Passage → List ℕ
+begin_text listing cycle rows = head_text cycle ++ flat_map (appearance_text listing) rows
+
+-- a cycle: what became of each instruction in it, and then it passes
+unfoldable pub cycle_text : Listed → ℕ → List Passage → List ℕ
+cycle_text listing cycle rows = flat_map (events_at listing cycle) rows ++ codes "C\t1\n"
+
+-- the number of a cycle, and the instructions at its end, those that left the hardware in it among them
+pub record Moment : Type 0 where
+  pub cycle : ℕ
+  pub rows : List Passage
+
+-- the cycles from some hardware on, one behind the other
+unfoldable pub log_text : Listed → Hardware → List Moment → List ℕ
+log_text listing first moments =
+    begin_text listing first.cycle (table_at first).rows ++ flat_map (λ moment. cycle_text listing moment.cycle moment.rows) moments
+
+-- a cycle by its number, and the passages behind it
+abbrev pub moment_of : ℕ → Passages → Moment
+moment_of cycle table = record { cycle = cycle; rows = table.rows }
+
+-- cycles from some hardware on, each with the lines of its number; what left the hardware in one is forgotten behind it
+pub data Passes (arrivals : List Arrival) (first : Hardware) : List Report → List Moment → Hardware → Passages → Type 0 where
+  begun : Passes arrivals first [] [] first (table_at first)
+  passed : {reports : List Report} {moments : List Moment} {old new : Hardware} {table : Passages} {report : Report} →
+      Passes arrivals first reports moments old table → IsCycle any_prediction (lines_at arrivals old.cycle) old report new →
+      Passes arrivals first (reports ++ report ∷ []) (moments ++ moment_of old.cycle (after_cycle old.cycle report.steps new table) ∷ [])
+      new (still_open (after_cycle old.cycle report.steps new table))
+
+-- a text is the log of a run that ended for a reason
+pub record IsLog (arrivals : List Arrival) (limit : ℕ) (listing : Listed) (old new : Hardware) (stop : Stop) (text : List ℕ) : Type 0 where
+  pub reports : List Report
+  pub moments : List Moment
+  pub table : Passages
+  pub cycles : Cycles arrivals old reports new
+  pub passes : Passes arrivals old reports moments new table
+  pub stops : IsStop limit reports new stop
+  pub text_is : text ≡ log_text listing old moments
+
+-- the log of a run that ended for a reason is written, or a beginning of it
+abbrev pub WritesLog : {T E : Type 0} → List Arrival → ℕ → Listed → Hardware → Hardware → Stop → Result T E → Option (List ℕ) → Option (List ℕ) → Type 0
+WritesLog arrivals limit listing old new stop written before after =
+    (text : List ℕ) × IsLog arrivals limit listing old new stop text × IsWritten written before after text
+
+-- the log is written, or a beginning of it where a write failed, or nothing is done for want of memory
+abbrev pub IsLogged : List Arrival → ℕ → Listed → Hardware → Hardware → Result Stop LogError → Option (List ℕ) → Option (List ℕ) → Type 0
+IsLogged arrivals limit listing old new (Ok stop) before after =
+    (text : List ℕ) × IsLog arrivals limit listing old new stop text × Appends before after text
+IsLogged arrivals limit listing old new (Err WriteFailed) before after =
+    (stop : Stop) × (text : List ℕ) × IsLog arrivals limit listing old new stop text × AppendsBeginning before after text
+IsLogged arrivals limit listing old new (Err Memory) before after = (new ≡ old) × (after ≡ before)

@@ -1,0 +1,140 @@
+ghost use Rattle.rv_log.specs.Event.{stage_at, fetched_text, fetch_at, retired_text, retirement_at, flush_at, end_at, events_at};
+ghost use Rattle.rv_text.specs.Written.{IsWritten};
+
+use crate::command::{write_appearance, write_flush, write_retirement, write_stage};
+use crate::stage::Stage;
+use rv_passage::{Ending, Passage};
+use rv_source::Listing;
+use rv_text::ReportError;
+use std::io::Write;
+
+// Writes that a stage begins, where its stamp is this cycle.
+#[tactic(auto, unfolding(crate::specs::Event::stage_at))]
+fn write_stage_at<W: Write>(
+    writer: &mut W,
+    cycle: u64,
+    number: u64,
+    stage: Stage,
+    stamp: Option<u64>,
+) -> Result<(), ReportError>
+    ensures { IsWritten result (W.contents writer.old) (W.contents writer.new) (stage_at cycle number stage stamp) }
+{
+    match stamp {
+        Some(stamp) => {
+            if stamp == cycle {
+                write_stage(writer, number, stage)
+            } else {
+                Ok(())
+            }
+        }
+        None => Ok(()),
+    }
+}
+
+fn write_fetched<W: Write>(
+    writer: &mut W,
+    listing: &Listing,
+    row: &Passage,
+) -> Result<(), ReportError>
+    ensures { IsWritten result (W.contents writer.old) (W.contents writer.new) (fetched_text listing.now row.now) }
+{
+    write_appearance(writer, listing, row)?;
+    write_stage(writer, row.number, Stage::Fetch)
+}
+
+// Writes the fetch of an instruction, where it came in this cycle.
+#[tactic(auto, unfolding(crate::specs::Event::fetch_at))]
+fn write_fetch_at<W: Write>(
+    writer: &mut W,
+    listing: &Listing,
+    cycle: u64,
+    row: &Passage,
+) -> Result<(), ReportError>
+    ensures { IsWritten result (W.contents writer.old) (W.contents writer.new) (fetch_at listing.now cycle row.now) }
+{
+    if row.fetched == cycle {
+        write_fetched(writer, listing, row)
+    } else {
+        Ok(())
+    }
+}
+
+fn write_retired<W: Write>(writer: &mut W, number: u64, order: u64) -> Result<(), ReportError>
+    ensures { IsWritten result (W.contents writer.old) (W.contents writer.new) (retired_text number order) }
+{
+    write_stage(writer, number, Stage::Retirement)?;
+    write_retirement(writer, number, order)
+}
+
+// Writes the retirement of an instruction, where it came in this cycle.
+#[tactic(auto, unfolding(crate::specs::Event::retirement_at))]
+fn write_retirement_at<W: Write>(
+    writer: &mut W,
+    cycle: u64,
+    number: u64,
+    order: u64,
+    retired: u64,
+) -> Result<(), ReportError>
+    ensures { IsWritten result (W.contents writer.old) (W.contents writer.new) (retirement_at cycle number order retired) }
+{
+    if retired == cycle {
+        write_retired(writer, number, order)
+    } else {
+        Ok(())
+    }
+}
+
+// Writes that an instruction is flushed, where that came in this cycle.
+#[tactic(auto, unfolding(crate::specs::Event::flush_at))]
+fn write_flush_at<W: Write>(
+    writer: &mut W,
+    cycle: u64,
+    number: u64,
+    flushed: u64,
+) -> Result<(), ReportError>
+    ensures { IsWritten result (W.contents writer.old) (W.contents writer.new) (flush_at cycle number flushed) }
+{
+    if flushed == cycle {
+        write_flush(writer, number)
+    } else {
+        Ok(())
+    }
+}
+
+// Writes how an instruction left the hardware, where it did in this cycle.
+#[tactic(auto, unfolding(crate::specs::Event::end_at))]
+fn write_end_at<W: Write>(
+    writer: &mut W,
+    cycle: u64,
+    number: u64,
+    ending: Ending,
+) -> Result<(), ReportError>
+    ensures { IsWritten result (W.contents writer.old) (W.contents writer.new) (end_at cycle number ending) }
+{
+    match ending {
+        Ending::InFlight => Ok(()),
+        Ending::Retired {
+            order,
+            cycle: retired,
+            ..
+        } => write_retirement_at(writer, cycle, number, order, retired),
+        Ending::Trapped { cycle: trapped, .. } => write_flush_at(writer, cycle, number, trapped),
+        Ending::Squashed { cycle: squashed } => write_flush_at(writer, cycle, number, squashed),
+    }
+}
+
+/// Writes what became of an instruction in a cycle.
+pub(crate) fn write_events<W: Write>(
+    writer: &mut W,
+    listing: &Listing,
+    cycle: u64,
+    row: &Passage,
+) -> Result<(), ReportError>
+    ensures { IsWritten result (W.contents writer.old) (W.contents writer.new) (events_at listing.now cycle row.now) }
+{
+    write_fetch_at(writer, listing, cycle, row)?;
+    write_stage_at(writer, cycle, row.number, Stage::Dispatch, row.dispatched)?;
+    write_stage_at(writer, cycle, row.number, Stage::Issue, row.issued)?;
+    write_stage_at(writer, cycle, row.number, Stage::Broadcast, row.broadcast)?;
+    write_end_at(writer, cycle, row.number, row.ending)
+}

@@ -1,0 +1,28 @@
+ghost use Rattle.std.specs.Prelude.{◌≡◌};
+ghost use Rattle.rv_log.specs.Command.{letter_of};
+
+/// A stage of an instruction's way through the hardware.
+#[derive(Clone, Copy, Debug, PartialEq, Eq)]
+pub(crate) enum Stage {
+    Fetch,
+    Dispatch,
+    Issue,
+    Broadcast,
+    Retirement,
+}
+
+impl Stage {
+    /// The letter of a stage.
+    #[tactic(auto, unfolding(crate::specs::Command::letter_of))]
+    pub(crate) fn letter(self) -> &'static [u8]
+        ensures { result.now ≡ letter_of self }
+    {
+        match self {
+            Stage::Fetch => b"F",
+            Stage::Dispatch => b"D",
+            Stage::Issue => b"I",
+            Stage::Broadcast => b"B",
+            Stage::Retirement => b"C",
+        }
+    }
+}

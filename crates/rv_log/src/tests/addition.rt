@@ -1,0 +1,88 @@
+use crate::write_log;
+use rv_arch::Stop;
+use rv_core::Core;
+use rv_front::NotTaken;
+use rv_isa::{Arrivals, Description, Image, Values};
+use rv_source::{Listing, SourceLine};
+use std::test::Fail;
+
+// One addition and a breakpoint.
+const PROGRAM: &[u8] = &[0x93, 0x00, 0x50, 0x00, 0x73, 0x00, 0x10, 0x00];
+
+// The addition is fetched in cycle 0, dispatched in 1, issued in 2, broadcast in 3 and retired in 4; the breakpoint traps in 5,
+// which flushes what was fetched behind it, and fetches where mtvec points to, outside RAM.
+const LOG: &[u8] = b"Kanata\t0004
+C=\t0
+I\t0\t0\t0
+L\t0\t0\t80000000: addi?x1
+S\t0\t0\tF
+C\t1
+S\t0\t0\tD
+I\t1\t1\t0
+L\t1\t0\t80000004: 00100073
+S\t1\t0\tF
+C\t1
+S\t0\t0\tI
+S\t1\t0\tD
+I\t2\t2\t0
+L\t2\t0\t80000008: 00000000
+S\t2\t0\tF
+C\t1
+S\t0\t0\tB
+S\t2\t0\tD
+I\t3\t3\t0
+L\t3\t0\t8000000c: 00000000
+S\t3\t0\tF
+C\t1
+S\t0\t0\tC
+R\t0\t0\t0
+S\t3\t0\tD
+I\t4\t4\t0
+L\t4\t0\t80000010: 00000000
+S\t4\t0\tF
+C\t1
+R\t1\t1\t1
+R\t2\t2\t1
+R\t3\t3\t1
+R\t4\t4\t1
+I\t5\t5\t0
+L\t5\t0\t00000000: -
+S\t5\t0\tF
+C\t1
+";
+
+// A machine that does one thing a cycle.
+fn narrow() -> Values {
+    let mut values = Values::standard();
+    values.fetch_width = 1;
+    values.dispatch_width = 1;
+    values.commit_width = 1;
+    values.bus_width = 1;
+    values.alu.units = 1;
+    values
+}
+
+#[test]
+fn an_addition_passes_through_each_stage(rt: HostRuntime) -> Result<(), Fail> {
+    let alloc = rt.alloc();
+    let description = Description::new(narrow()).expect(&rt, "a legal description");
+    let image = Image::from_bytes(alloc, 0x8000_0000, PROGRAM, 0x8000_0000)?;
+    let mut listing = Listing::new(alloc, 0x8000_0000);
+    listing.push_line(
+        SourceLine::new(
+            1,
+            vec![in alloc; b'a', b'd', b'd', b'i', b'\t', b'x', b'1']?,
+        ),
+        1,
+    )?;
+    let arrivals = Arrivals::new(Vec::new(alloc)).expect(&rt, "no arrivals");
+    let mut text = Vec::new(alloc);
+    let mut core = Core::new(alloc, &description, &image, Box::new(alloc, NotTaken)?).expect(
+        &rt,
+        "room for the core",
+    );
+    let stop = write_log(alloc, &mut core, &arrivals, 100, &listing, &mut text);
+    assert_eq!(&rt; stop, Ok(Stop::Breakpoint));
+    assert_eq!(&rt; text.as_slice(), LOG);
+    Ok(())
+}

@@ -1,0 +1,45 @@
+ghost use Rattle.rv_log.specs.Log.{IsLogged};
+
+use crate::error::LogError;
+use crate::running::run_logged;
+use rv_arch::Stop;
+use rv_core::Core;
+use rv_isa::Arrivals;
+use rv_passage::Table;
+use rv_source::Listing;
+use rv_text::ReportError;
+use std::alloc::Global;
+use std::io::Write;
+
+/// Runs a core, each cycle with the lines of its number, up to a breakpoint, a stale word, exhaustion or so many cycles, and
+/// writes the log of the run in Konata's format, version 0004, each cycle as it comes: when each instruction was fetched (F),
+/// dispatched (D), issued (I), broadcast (B) and retired (C), or that it was flushed, which a trap is too. An instruction's
+/// number counts from 0 in order of fetch; its label is its address and its statement by the listing. Asks for no memory once it
+/// has written. Answers why the run ended.
+///
+/// # Errors
+///
+/// `Memory` for want of memory: then nothing was run and nothing was written. `WriteFailed` where a write fails: then what was
+/// written is a beginning of the log, and the run is done to its end.
+pub fn write_log<W: Write>(
+    alloc: Global,
+    core: &mut Core,
+    arrivals: &Arrivals,
+    limit: u64,
+    listing: &Listing,
+    writer: &mut W,
+) -> Result<Stop, LogError>
+    ensures { IsLogged arrivals.now limit listing.now core.old core.new result (W.contents writer.old) (W.contents writer.new) }
+{
+    let Ok(table) = Table::begin(alloc, core) else {
+        return Err(LogError::Memory);
+    };
+    let Ok(steps) = Vec::with_capacity(alloc, 8) else {
+        return Err(LogError::Memory);
+    };
+    let ended = run_logged(core, arrivals, limit, listing, table, steps, writer);
+    match ended.written {
+        Ok(()) => Ok(ended.stop),
+        Err(ReportError::WriteFailed) => Err(LogError::WriteFailed),
+    }
+}
