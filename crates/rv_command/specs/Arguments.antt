@@ -77,7 +77,6 @@ program_arguments = with_commands (with_required_subcommand (new_app (codes "rv_
     picture_arguments ∷
     limited_arguments (codes "log") ∷
     limited_arguments (codes "explain") ∷
-    limited_arguments (codes "compare") ∷
     []
     )
 

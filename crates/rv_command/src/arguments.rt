@@ -141,11 +141,5 @@ pub(crate) fn parser<'a>(alloc: Global) -> Result<Command<'a>, AllocError>
             "explain",
             "Says in sentences how a run of the text on standard input went",
             "The most cycles, 1 to 1000000",
-        )?)?
-        .subcommand(limited_command(
-            alloc,
-            "compare",
-            "Runs one program on several machines, and compares their totals",
-            "The most cycles of each run, 1 to 1000000",
         )?)
 }

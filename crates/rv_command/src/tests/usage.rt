@@ -15,7 +15,6 @@ Commands:
   picture    Draws some cycles of a run of the text on standard input
   log        Writes a run of the text on standard input as a log for pipeline viewers (Konata)
   explain    Says in sentences how a run of the text on standard input went
-  compare    Runs one program on several machines, and compares their totals
   help       Print this message or the help of the given subcommand(s)
 
 Options:
