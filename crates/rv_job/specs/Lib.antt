@@ -5,6 +5,7 @@ pub mod ImageText
 pub mod Input
 pub mod JobRefusal
 pub mod JobText
+pub mod ListedJob
 pub mod Parts
 pub mod ReadParts
 pub mod TextImage

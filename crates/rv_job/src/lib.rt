@@ -9,6 +9,7 @@ mod image_text;
 mod input;
 mod job;
 mod job_text;
+mod listed_job;
 mod parts;
 #[cfg(test)]
 mod tests;
@@ -19,3 +20,4 @@ pub use image_text::{DescribedImage, read_image_text, write_image_line};
 pub use input::{InputError, read_input};
 pub use job::Job;
 pub use job_text::read_job;
+pub use listed_job::{ListedJob, read_listed_job};

@@ -1,4 +1,5 @@
 mod helpers;
+mod listings;
 mod parts;
 mod reading;
 mod refusals;

@@ -1,3 +1,4 @@
+mod Answered
 mod Ending
 mod LinesAfter
 mod Running

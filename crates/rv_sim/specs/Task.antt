@@ -1,5 +1,5 @@
 -- What a command asks of an input, and how that ends.
-use Rattle.std.specs.Prelude.{◌≡◌, ℕ, Bool, List, length, false, ⊤, Option, Result, Ok, Err}
+use Rattle.std.specs.Prelude.{◌≡◌, ℕ, Bool, List, length, true, false, ⊤, Option, Result, Ok, Err}
 use Rattle.std.specs.Io.KnownBytes.{Appends, Keeps}
 use Rattle.rv_arch.specs.declared.outcome.Stop.{Stop}
 use Rattle.rv_arch.specs.declared.outcome.Stop.TheVariants.{Stale, Limit, Breakpoint, Exhausted}
@@ -10,24 +10,43 @@ use Rattle.rv_job.specs.ImageRefusal.{RefusesImage}
 use Rattle.rv_job.specs.ImageText.{IsDescribedImageOf, image_line}
 use Rattle.rv_job.specs.JobRefusal.{RefusesJob}
 use Rattle.rv_job.specs.JobText.{IsJobOf}
+use Rattle.rv_job.specs.ListedJob.{IsListedJobOf}
 use Rattle.rv_job.specs.declared.errors.SimError.{SimError}
 use Rattle.rv_job.specs.declared.errors.SimError.TheVariants.{TooLong, Description, Arrivals, Assembly, ImageDoesNotFit, Memory, WriteFailed}
+use Rattle.rv_picture.specs.declared.picture.Form.{Form}
+use Rattle.rv_picture.specs.declared.picture.Form.TheVariants.{Text, Svg}
 use Rattle.rv_report.specs.declared.options.Options.{Options}
 use Rattle.rv_text.specs.Written.{AppendsBeginning}
 use Rattle.rv_sim.specs.CoreReport.{IsSimulation}
+use Rattle.rv_sim.specs.ExplanationReport.{IsExplanationOf}
+use Rattle.rv_sim.specs.LogReport.{IsLogOf}
+use Rattle.rv_sim.specs.PictureReport.{IsPictureOf}
 use Rattle.rv_sim.specs.ReferenceReport.{IsReferenceReport}
+use Rattle.rv_sim.specs.declared.picture.View.{View}
 use Rattle.rv_sim.specs.declared.task.Task.{Task}
-use Rattle.rv_sim.specs.declared.task.Task.TheVariants.{Run, Reference, Check}
+use Rattle.rv_sim.specs.declared.task.Task.TheVariants.{Run, Reference, Check, Picture, Log, Explain}
 
 -- the options of a command; which words of memory a report shows is the job's to say
 abbrev pub asked : Bool → ℕ → Options
 asked trace limit = record { trace = trace; limit = limit; dump_address = 0; dump_words = 0 }
+
+-- a picture is lines of characters where that is asked for, and else an SVG
+abbrev pub form_of : Bool → Form
+form_of true = Text
+form_of false = Svg
+
+-- the view of a command
+abbrev pub viewed : Bool → ℕ → ℕ → View
+viewed text from cycles = record { form = form_of text; from = from; cycles = cycles }
 
 -- a task is what a command asks of an input
 abbrev pub Asks : Command → List ℕ → Task → Type 0
 Asks (command.Run trace limit) input (Run job options) = IsJobOf input job × (options ≡ asked trace limit)
 Asks (command.Reference limit) input (Reference job options) = IsJobOf input job × (options ≡ asked false limit)
 Asks command.Check input (Check made) = IsDescribedImageOf input made
+Asks (command.Picture text from cycles) input (Picture listed view) = IsListedJobOf input listed × (view ≡ viewed text from cycles)
+Asks (command.Log limit) input (Log listed asked_limit) = IsListedJobOf input listed × (asked_limit ≡ limit)
+Asks (command.Explain limit) input (Explain listed asked_limit) = IsListedJobOf input listed × (asked_limit ≡ limit)
 Asks _ input _ = ⊥
 
 -- an input has an error for which a command refuses it
@@ -35,12 +54,18 @@ abbrev pub Refuses : Command → List ℕ → SimError → Type 0
 Refuses (command.Run trace limit) input error = RefusesJob input error
 Refuses (command.Reference limit) input error = RefusesJob input error
 Refuses command.Check input error = RefusesImage input error
+Refuses (command.Picture text from cycles) input error = RefusesJob input error
+Refuses (command.Log limit) input error = RefusesJob input error
+Refuses (command.Explain limit) input error = RefusesJob input error
 
 -- the predictor that a task's machine has
 abbrev pub predictor_of : Task → PredictorValues
 predictor_of (Run job options) = job.description.predictor
 predictor_of (Reference job options) = job.description.predictor
 predictor_of (Check made) = made.description.predictor
+predictor_of (Picture listed view) = listed.job.description.predictor
+predictor_of (Log listed limit) = listed.job.description.predictor
+predictor_of (Explain listed limit) = listed.job.description.predictor
 
 -- the exit status of a run
 unfoldable pub stop_status : Stop → ℕ
@@ -56,12 +81,21 @@ Shows (Run job options) text status =
 Shows (Reference job options) text status =
     (stop : Stop) × IsReferenceReport job options stop text × (status ≡ stop_status stop)
 Shows (Check made) text status = (text ≡ image_line (length made.image.bytes) made.image.start) × (status ≡ 0)
+Shows (Picture listed view) text status =
+    (stop : Stop) × IsPictureOf listed view stop text × (status ≡ stop_status stop)
+Shows (Log listed limit) text status =
+    (stop : Stop) × IsLogOf listed limit stop text × (status ≡ stop_status stop)
+Shows (Explain listed limit) text status =
+    (stop : Stop) × IsExplanationOf listed limit stop text × (status ≡ stop_status stop)
 
 -- only a run asks for memory
 abbrev pub AsksForMemory : Task → Type 0
 AsksForMemory (Run job options) = ⊤
 AsksForMemory (Reference job options) = ⊤
 AsksForMemory (Check made) = ⊥
+AsksForMemory (Picture listed view) = ⊤
+AsksForMemory (Log listed limit) = ⊤
+AsksForMemory (Explain listed limit) = ⊤
 
 -- A task ended so: with an exit status and its text whole, or by an error. The known bytes of its output go from old to new.
 abbrev pub Ends : Task → Option (List ℕ) → Option (List ℕ) → Result ℕ SimError → Type 0

@@ -3,6 +3,9 @@
 #![tactic(auto)]
 
 mod boxed_predictor;
+mod explain;
+mod log;
+mod picture;
 mod program;
 mod reference;
 mod simulate;

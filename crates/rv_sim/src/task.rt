@@ -2,18 +2,23 @@ ghost use Rattle.std.specs.Prelude.{◌≡◌, ℕ, IfOk, IfErr, OnOk, Result};
 ghost use Rattle.rv_isa.specs.Description.{IsLegalPredictor};
 ghost use Rattle.rv_job.specs.Fault.{fault_line, fault_status, exit_status};
 ghost use Rattle.rv_job.specs.FaultStream.{Tells, TellsOf};
-ghost use Rattle.rv_sim.specs.Task.{Asks, Refuses, Ends, asked, predictor_of, stop_status};
+ghost use Rattle.rv_sim.specs.Task.{Asks, Refuses, Ends, asked, form_of, predictor_of, stop_status};
 ghost use Rattle.rv_job.specs.declared.errors.SimError.{SimError as OneError};
 
 use crate::boxed_predictor::BoxedPredictor;
+use crate::explain::explain;
+use crate::log::log;
+use crate::picture::{View, picture};
 use crate::reference::reference;
 use crate::simulate::simulate;
 use rv_arch::Stop;
 use rv_command::Command;
 use rv_isa::PredictorValues;
 use rv_job::{
-    DescribedImage, FaultLines, Job, SimError, read_image_text, read_job, write_image_line,
+    DescribedImage, FaultLines, Job, ListedJob, SimError, read_image_text, read_job,
+    read_listed_job, write_image_line,
 };
+use rv_picture::Form;
 use rv_report::Options;
 use std::alloc::Global;
 use std::io::Write;
@@ -27,6 +32,12 @@ pub enum Task {
     Reference { job: Job, options: Options },
     /// Say which image the job makes.
     Check { made: DescribedImage },
+    /// Run a job on the core, and show a view of its cycles.
+    Picture { listed: ListedJob, view: View },
+    /// Run a job on the core, up to so many cycles, and write the log of the run.
+    Log { listed: ListedJob, limit: u64 },
+    /// Run a job on the core, up to so many cycles, and tell what the run came to.
+    Explain { listed: ListedJob, limit: u64 },
 }
 
 impl Task {
@@ -41,6 +52,9 @@ impl Task {
                 .values()
                 .predictor,
             Task::Check { made } => made.description.values().predictor,
+            Task::Picture { listed, .. }
+            | Task::Log { listed, .. }
+            | Task::Explain { listed, .. } => listed.job.description.values().predictor,
         }
     }
 }
@@ -55,6 +69,12 @@ const fn options(trace: bool, limit: u64) -> Options
         dump_address: 0,
         dump_words: 0,
     }
+}
+
+const fn form(is_text: bool) -> Form
+    ensures { result ≡ form_of is_text }
+{
+    if is_text { Form::Text } else { Form::Svg }
 }
 
 fn read_task(alloc: Global, command: &Command, input: &[u8]) -> Result<Task, SimError>
@@ -75,6 +95,25 @@ fn read_task(alloc: Global, command: &Command, input: &[u8]) -> Result<Task, Sim
         Command::Check => {
             let made = read_image_text(alloc, input)?;
             Ok(Task::Check { made })
+        }
+        Command::Picture { text, from, cycles } => {
+            let listed = read_listed_job(alloc, input)?;
+            let view = View {
+                form: form(*text),
+                from: *from,
+                cycles: *cycles,
+            };
+            Ok(Task::Picture { listed, view })
+        }
+        Command::Log { limit } => {
+            let listed = read_listed_job(alloc, input)?;
+            let limit = *limit;
+            Ok(Task::Log { listed, limit })
+        }
+        Command::Explain { limit } => {
+            let listed = read_listed_job(alloc, input)?;
+            let limit = *limit;
+            Ok(Task::Explain { listed, limit })
         }
     }
 }
@@ -132,11 +171,23 @@ fn perform<W: Write>(
             write_image_line(output, &made.image)?;
             Ok(0)
         }
+        Task::Picture { listed, view } => {
+            let stop = picture(alloc, listed, predictor, &view, output)?;
+            Ok(stop_status(stop))
+        }
+        Task::Log { listed, limit } => {
+            let stop = log(alloc, listed, predictor, limit, output)?;
+            Ok(stop_status(stop))
+        }
+        Task::Explain { listed, limit } => {
+            let stop = explain(alloc, listed, predictor, limit, output)?;
+            Ok(stop_status(stop))
+        }
     }
 }
 
-/// Does the task: writes the report, or the line that says which image the job makes, to `output`,
-/// and answers the exit status. A fault is told on `errors`. Only a run of the core asks the
+/// Does the task: writes its report, picture, log or sentences, or the line that says which image the
+/// job makes, to `output`, and answers the exit status. A fault is told on `errors`. Only a run of the core asks the
 /// predictor.
 pub fn finish<W: Write, E: Write>(
     alloc: Global,

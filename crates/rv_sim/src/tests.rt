@@ -1,10 +1,13 @@
 mod checks;
 mod described;
 mod examples;
+mod explanations;
 mod guesses;
 mod helpers;
 mod hostile;
+mod logs;
 mod outputs;
+mod pictures;
 mod pieces;
 mod predictors;
 mod prefixes;

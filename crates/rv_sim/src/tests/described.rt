@@ -5,6 +5,12 @@ use rv_isa::{PredictorKind, PredictorValues};
 use rv_job::FaultLines;
 use std::alloc::Global;
 
+const PICTURE: Command = Command::Picture {
+    text: true,
+    from: 0,
+    cycles: 1,
+};
+
 // The predictor that the task of a command on an input has.
 fn predictor(alloc: Global, command: Command, input: &[u8]) -> Option<PredictorValues> {
     let mut errors = FaultLines::new(Vec::new(alloc));
@@ -34,7 +40,13 @@ fn a_task_has_the_predictor_that_is_described(rt: HostRuntime) {
     ];
     for (text, kind, entries) in cases {
         let described = Some(PredictorValues { kind, entries });
-        for command in [WHOLE, Command::Check] {
+        for command in [
+            WHOLE,
+            Command::Check,
+            PICTURE,
+            Command::Log { limit: 1 },
+            Command::Explain { limit: 1 },
+        ] {
             assert_eq!(rt;
                 predictor(rt.alloc(), command, text.as_bytes()),
                 described,

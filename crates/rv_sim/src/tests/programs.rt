@@ -1,3 +1,14 @@
+/// One addition on a machine that does one thing a cycle.
+pub(crate) const ADDITION: &[u8] = b"fetch_width = 1
+dispatch_width = 1
+commit_width = 1
+bus_width = 1
+alu.units = 1
+%%
+addi x1,x0,5
+ebreak
+";
+
 /// The sum of 1 to 10, which an interrupt of the timer counts in x30 once, if it comes soon enough.
 pub(crate) const INTERRUPTED_SUM: &str = "la x31,h
 csrw mtvec,x31

@@ -1,0 +1,13 @@
+-- What the log of a job's run tells.
+use Rattle.std.specs.Prelude.{ℕ, List}
+use Rattle.rv_arch.specs.declared.outcome.Stop.{Stop}
+use Rattle.rv_hardware.specs.Hardware.{Hardware}
+use Rattle.rv_job.specs.declared.listed_job.ListedJob.{ListedJob}
+use Rattle.rv_log.specs.Log.{IsLog}
+use Rattle.rv_sim.specs.CoreReport.{hardware_of}
+
+-- A text is the log of the run of the described hardware, from reset with the job's image, with the lines of the job's program; and that
+-- is why the run ended.
+pub record IsLogOf (listed : ListedJob) (limit : ℕ) (stop : Stop) (text : List ℕ) : Type 0 where
+  pub end : Hardware
+  pub logs : IsLog listed.job.arrivals limit listed.listing (hardware_of listed.job) end stop text
