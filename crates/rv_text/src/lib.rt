@@ -7,5 +7,5 @@ mod fields;
 mod output;
 
 pub use digits::hexadecimal;
-pub use fields::{Field, Value, write_fields};
+pub use fields::{Field, Value, write_cells, write_fields};
 pub use output::{ReportError, put, put_all};
