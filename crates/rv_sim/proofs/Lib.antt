@@ -1,3 +1,4 @@
+mod Compared
 mod Ending
 mod LinesAfter
 mod Running

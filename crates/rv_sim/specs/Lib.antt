@@ -3,3 +3,4 @@ pub mod ReferenceReport
 pub mod SimulationReport
 pub mod CoreReport
 pub mod Task
+pub mod Comparison

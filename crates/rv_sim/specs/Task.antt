@@ -11,7 +11,7 @@ use Rattle.rv_job.specs.ImageText.{IsDescribedImageOf, image_line}
 use Rattle.rv_job.specs.JobRefusal.{RefusesJob}
 use Rattle.rv_job.specs.JobText.{IsJobOf}
 use Rattle.rv_job.specs.declared.errors.SimError.{SimError}
-use Rattle.rv_job.specs.declared.errors.SimError.TheVariants.{TooLong, Description, Arrivals, Assembly, ImageDoesNotFit, Memory, WriteFailed}
+use Rattle.rv_job.specs.declared.errors.SimError.TheVariants.{TooLong, Description, Described, Arrivals, Assembly, ImageDoesNotFit, DoesNotFit, Memory, WriteFailed}
 use Rattle.rv_report.specs.declared.options.Options.{Options}
 use Rattle.rv_text.specs.Written.{AppendsBeginning}
 use Rattle.rv_sim.specs.CoreReport.{IsSimulation}
@@ -70,6 +70,8 @@ Ends task old new (Err WriteFailed) = (text : List ℕ) × (status : ℕ) × Sho
 Ends task old new (Err Memory) = AsksForMemory task × Keeps old new
 Ends task old new (Err TooLong) = ⊥
 Ends task old new (Err (Description error)) = ⊥
+Ends task old new (Err (Described number error)) = ⊥
 Ends task old new (Err (Arrivals error)) = ⊥
 Ends task old new (Err (Assembly error)) = ⊥
 Ends task old new (Err ImageDoesNotFit) = ⊥
+Ends task old new (Err (DoesNotFit number)) = ⊥
