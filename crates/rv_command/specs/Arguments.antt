@@ -93,6 +93,7 @@ program_arguments = with_commands bare_arguments (
     picture_arguments ∷
     limited_arguments (codes "log") ∷
     limited_arguments (codes "explain") ∷
+    limited_arguments (codes "compare") ∷
     []
     )
 

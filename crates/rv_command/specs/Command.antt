@@ -11,7 +11,7 @@ use Rattle.clap.specs.Words.{Kinds, Row, Text, fault_of, one_of, subcommand_of}
 use Rattle.clap.specs.declared.error.kind.ErrorKind.TheVariants.{ValueValidation}
 use Rattle.rv_command.specs.Arguments.{last_cycle, most_cycles_shown, most_steps, program_arguments}
 use Rattle.rv_command.specs.declared.command.Command.{Command}
-use Rattle.rv_command.specs.declared.command.Command.TheVariants.{Run, Reference, Check, Picture, Log, Explain}
+use Rattle.rv_command.specs.declared.command.Command.TheVariants.{Run, Reference, Check, Picture, Log, Explain, Compare}
 
 -- the limit of a run is 1 to 1,000,000
 abbrev pub IsLegalLimit : ℕ → Type 0
@@ -29,6 +29,7 @@ HasLegalLimit Check = ⊤
 HasLegalLimit (Picture text from cycles) = IsLegalWindow from cycles
 HasLegalLimit (Log limit) = IsLegalLimit limit
 HasLegalLimit (Explain limit) = IsLegalLimit limit
+HasLegalLimit (Compare limit) = IsLegalLimit limit
 
 -- ---- what the matches of a command hold
 
@@ -74,7 +75,8 @@ command_named given =
     else (if bytes_eq given.0 (codes "check") then Some Check
     else (if bytes_eq given.0 (codes "picture") then picture_in given.1
     else (if bytes_eq given.0 (codes "log") then option_map Log (limit_in given.1)
-    else (if bytes_eq given.0 (codes "explain") then option_map Explain (limit_in given.1) else None)))))
+    else (if bytes_eq given.0 (codes "explain") then option_map Explain (limit_in given.1)
+    else (if bytes_eq given.0 (codes "compare") then option_map Compare (limit_in given.1) else None))))))
 
 -- the command that the words ask for, where they fit the program's arguments
 abbrev pub command_of : List Text → Option Command

@@ -143,5 +143,11 @@ pub(crate) fn parser<'a>(alloc: Global) -> Result<Command<'a>, AllocError>
             "explain",
             help::EXPLAIN,
             "The most cycles, 1 to 1000000",
+        )?)?
+        .subcommand(limited_command(
+            alloc,
+            "compare",
+            help::COMPARE,
+            "The most cycles of each run, 1 to 1000000",
         )?)
 }

@@ -35,6 +35,8 @@ pub enum Command {
     Log { limit: u64 },
     /// Say in sentences how a run of a job on the core went, of at most so many cycles.
     Explain { limit: u64 },
+    /// Compare machines by the totals of one program's run on each, of at most so many cycles.
+    Compare { limit: u64 },
 }
 
 fn flag_given(given: &ArgMatches, name: &str) -> bool
@@ -97,6 +99,9 @@ fn command_given(matches: &ArgMatches) -> Option<Command>
             limit: limit_given(given)?,
         }),
         "explain" => Some(Command::Explain {
+            limit: limit_given(given)?,
+        }),
+        "compare" => Some(Command::Compare {
             limit: limit_given(given)?,
         }),
         _ => None,

@@ -70,3 +70,16 @@ pub(crate) const EXPLAIN: CommandHelp = CommandHelp {
     about: "Says in sentences how a run of the text on standard input went",
     ending: ending_of_run!("rv_sim explain < FILE"),
 };
+
+pub(crate) const COMPARE: CommandHelp = CommandHelp {
+    about: "Runs one program on several machines, and compares their totals",
+    ending: "Reads from standard input descriptions of machines, a line %% behind each, and a program, as in:
+  rv_sim compare < FILE
+
+Exit status:
+  0  the table was written; its last column says how each run ended
+  1  a description or the program was refused
+  2  wrong usage
+  4  standard input or output failed
+  5  out of memory",
+};

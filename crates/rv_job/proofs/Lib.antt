@@ -1,3 +1,5 @@
+mod Compared
+mod HalvesShorter
 pub mod HandedOn
 mod JobParts
 mod Places

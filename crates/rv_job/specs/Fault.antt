@@ -10,7 +10,7 @@ use Rattle.rv_describe.specs.declared.arrivals_error.ArrivalsError.TheVariants a
 use Rattle.rv_describe.specs.declared.description_error.DescriptionError.{DescriptionError}
 use Rattle.rv_describe.specs.declared.description_error.DescriptionError.TheVariants as described
 use Rattle.rv_job.specs.declared.errors.SimError.{SimError}
-use Rattle.rv_job.specs.declared.errors.SimError.TheVariants.{TooLong, Description, Arrivals, Assembly, ImageDoesNotFit, Memory, WriteFailed}
+use Rattle.rv_job.specs.declared.errors.SimError.TheVariants.{TooLong, Description, Described, Arrivals, Assembly, ImageDoesNotFit, DoesNotFit, Memory, WriteFailed}
 use Rattle.rv_job.specs.declared.input.InputError.{InputError}
 use Rattle.rv_job.specs.declared.input.InputError.TheVariants as unread
 
@@ -40,6 +40,11 @@ description_kind described.Memory = codes "Memory"
 unfoldable pub description_line : DescriptionError → List ℕ
 description_line error = codes "error: description: " ++ (description_kind error ++ (text_at (place_of error) ++ codes "\n"))
 
+-- the line of the fault of one of several descriptions, with its number and the key that it names
+unfoldable pub described_line : ℕ → DescriptionError → List ℕ
+described_line number error =
+    codes "error: description " ++ (decimal number ++ (codes ": " ++ (description_kind error ++ (text_at (place_of error) ++ codes "\n"))))
+
 -- the name of a fault of arrivals, and a space where a number stands behind it
 unfoldable pub arrivals_kind : ArrivalsError → List ℕ
 arrivals_kind listed.NotToml = codes "NotToml"
@@ -57,13 +62,19 @@ entry_text entry = if entry == 0 then [] else decimal entry
 unfoldable pub arrivals_line : ArrivalsError → List ℕ
 arrivals_line error = codes "error: arrivals: " ++ (arrivals_kind error ++ (entry_text (entry_of error) ++ codes "\n"))
 
+-- the line of an image that does not fit one of several descriptions, with its number
+unfoldable pub unfit_line : ℕ → List ℕ
+unfit_line number = codes "error: image does not fit description " ++ (decimal number ++ codes "\n")
+
 -- the line that tells a fault
 unfoldable pub fault_line : SimError → List ℕ
 fault_line TooLong = codes "error: job too long\n"
 fault_line (Description error) = description_line error
+fault_line (Described number error) = described_line number error
 fault_line (Arrivals error) = arrivals_line error
 fault_line (Assembly error) = codes "error: assembly line " ++ (decimal error.line ++ (codes ": " ++ (fault_name error.fault ++ codes "\n")))
 fault_line ImageDoesNotFit = codes "error: image does not fit\n"
+fault_line (DoesNotFit number) = unfit_line number
 fault_line Memory = codes "error: memory\n"
 fault_line WriteFailed = codes "error: output\n"
 
@@ -71,9 +82,11 @@ fault_line WriteFailed = codes "error: output\n"
 unfoldable pub fault_status : SimError → ℕ
 fault_status TooLong = 1
 fault_status (Description error) = 1
+fault_status (Described number error) = 1
 fault_status (Arrivals error) = 1
 fault_status (Assembly error) = 1
 fault_status ImageDoesNotFit = 1
+fault_status (DoesNotFit number) = 1
 fault_status Memory = 5
 fault_status WriteFailed = 4
 

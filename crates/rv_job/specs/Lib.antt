@@ -1,3 +1,4 @@
+pub mod Comparison
 pub mod Fault
 pub mod FaultStream
 pub mod ImageRefusal

@@ -15,6 +15,12 @@ pub enum SimError {
     /// The fault of the description.
     #[error("description")]
     Description(DescriptionError),
+    /// The fault of one of several descriptions that are compared, with its number, from 1.
+    #[error("description {number}")]
+    Described {
+        number: usize,
+        error: DescriptionError,
+    },
     /// The fault of the arrivals.
     #[error("arrivals")]
     Arrivals(ArrivalsError),
@@ -24,6 +30,11 @@ pub enum SimError {
     /// The image is longer than the RAM that is described, or its start is no multiple of 4.
     #[error("image does not fit")]
     ImageDoesNotFit,
+    /// The same of one of several descriptions that are compared, with its number, from 1.
+    #[error("image does not fit description {number}")]
+    DoesNotFit {
+        number: usize,
+    },
     /// Memory was refused.
     #[error("memory")]
     Memory,

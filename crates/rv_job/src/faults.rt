@@ -1,5 +1,5 @@
 ghost use Rattle.std.specs.Prelude.{◌≡◌};
-ghost use Rattle.rv_job.specs.Fault.{arrivals_kind, arrivals_line, description_kind, description_line, fault_line, fault_name, fault_status};
+ghost use Rattle.rv_job.specs.Fault.{arrivals_kind, arrivals_line, described_line, description_kind, description_line, fault_line, fault_name, fault_status, unfit_line};
 ghost use Rattle.rv_text.specs.Written.{IsWritten};
 
 use crate::errors::SimError;
@@ -54,6 +54,38 @@ fn write_description_fault<W: Write>(
     put_all(writer, &[b"error: description: ", kind, key, b"\n"])
 }
 
+// The line that tells the fault of one of several descriptions, with its number and the key that the fault names.
+#[tactic(auto, unfolding(crate::specs::Fault::described_line))]
+fn write_described_fault<W: Write>(
+    writer: &mut W,
+    number: usize,
+    error: DescriptionError,
+) -> Result<(), ReportError>
+    ensures { IsWritten result (W.contents writer.old) (W.contents writer.new) (described_line number error) }
+{
+    let mut buffer = Buffer::new();
+    let number = buffer.format(number).as_bytes();
+    let kind = description_kind(error).as_bytes();
+    let key = key_name(error.place()).as_bytes();
+    put_all(
+        writer,
+        &[b"error: description ", number, b": ", kind, key, b"\n"],
+    )
+}
+
+// The line that tells that an image does not fit one of several descriptions, with its number.
+#[tactic(auto, unfolding(crate::specs::Fault::unfit_line))]
+fn write_unfit<W: Write>(writer: &mut W, number: usize) -> Result<(), ReportError>
+    ensures { IsWritten result (W.contents writer.old) (W.contents writer.new) (unfit_line number) }
+{
+    let mut buffer = Buffer::new();
+    let number = buffer.format(number).as_bytes();
+    put_all(
+        writer,
+        &[b"error: image does not fit description ", number, b"\n"],
+    )
+}
+
 #[tactic(auto, unfolding(crate::specs::Fault::arrivals_kind))]
 fn arrivals_kind(error: ArrivalsError) -> &'static str
     ensures { result.now ≡ arrivals_kind error }
@@ -91,6 +123,7 @@ pub(crate) fn write_fault<W: Write>(writer: &mut W, error: SimError) -> Result<(
     match error {
         SimError::TooLong => put(writer, b"error: job too long\n"),
         SimError::Description(error) => write_description_fault(writer, error),
+        SimError::Described { number, error } => write_described_fault(writer, number, error),
         SimError::Arrivals(error) => write_arrivals_fault(writer, error),
         SimError::Assembly(error) => {
             let mut buffer = Buffer::new();
@@ -102,6 +135,7 @@ pub(crate) fn write_fault<W: Write>(writer: &mut W, error: SimError) -> Result<(
             )
         }
         SimError::ImageDoesNotFit => put(writer, b"error: image does not fit\n"),
+        SimError::DoesNotFit { number } => write_unfit(writer, number),
         SimError::Memory => put(writer, b"error: memory\n"),
         SimError::WriteFailed => put(writer, b"error: output\n"),
     }
@@ -116,9 +150,11 @@ pub(crate) fn fault_status(error: SimError) -> u8
     match error {
         SimError::TooLong
         | SimError::Description(_)
+        | SimError::Described { .. }
         | SimError::Arrivals(_)
         | SimError::Assembly(_)
-        | SimError::ImageDoesNotFit => 1,
+        | SimError::ImageDoesNotFit
+        | SimError::DoesNotFit { .. } => 1,
         SimError::WriteFailed => 4,
         SimError::Memory => 5,
     }

@@ -2,6 +2,7 @@
 //! arrivals and the image that the parts of its text mean. The program stands on it.
 #![tactic(auto)]
 
+mod comparison;
 mod errors;
 mod fault_lines;
 mod faults;
@@ -14,6 +15,7 @@ mod parts;
 #[cfg(test)]
 mod tests;
 
+pub use comparison::{Comparison, read_comparison};
 pub use errors::SimError;
 pub use fault_lines::FaultLines;
 pub use image_text::{DescribedImage, read_image_text, write_image_line};

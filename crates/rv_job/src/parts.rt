@@ -10,9 +10,9 @@ const SEPARATOR_RETURNED: &[u8] = b"%%\r";
 
 /// What stands before a separator, and behind it.
 #[derive(Clone, Copy)]
-struct Halves<'a> {
-    before: &'a [u8],
-    behind: &'a [u8],
+pub(crate) struct Halves<'a> {
+    pub(crate) before: &'a [u8],
+    pub(crate) behind: &'a [u8],
 }
 
 /// The parts of a job's text. One that is missing is empty.
@@ -70,7 +70,7 @@ fn later_halves(text: &[u8]) -> Option<Halves<'_>>
 
 // The halves of a text at its first separator.
 #[tactic(auto, unfolding(crate::specs::Parts::halves_of))]
-fn cut_at_separator(text: &[u8]) -> Option<Halves<'_>>
+pub(crate) fn cut_at_separator(text: &[u8]) -> Option<Halves<'_>>
     ensures { option_map halves_in result ≡ halves_of text.entry.now }
 {
     match behind_separator(text) {

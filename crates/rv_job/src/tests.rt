@@ -1,3 +1,4 @@
+mod comparisons;
 mod helpers;
 mod listings;
 mod parts;

@@ -1,3 +1,5 @@
 mod Counts
 mod LiveReport
 mod MemoryLines
+mod TableRows
+mod Totalled

@@ -5,3 +5,4 @@ pub mod Rows
 pub mod Totals
 pub mod RunReport
 pub mod LiveReport
+pub mod Comparison

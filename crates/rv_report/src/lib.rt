@@ -2,6 +2,7 @@
 //! A report is a function of both; where a write fails, what was written is a beginning of it.
 #![tactic(auto)]
 
+mod comparison;
 mod live_report;
 mod memory;
 mod options;
@@ -13,7 +14,8 @@ mod state;
 mod tests;
 mod totals;
 
-pub use live_report::write_run;
+pub use comparison::write_table;
+pub use live_report::{run_totals, write_run};
 pub use options::Options;
 pub use reference_report::write_reference;
 pub use rows::write_steps;

@@ -1,4 +1,5 @@
 ghost use Rattle.std.specs.Prelude.{◌≡◌, ◌≤◌, ℕ, List, [], ◌++◌, Option, Ok, length, vec_capacity};
+ghost use Rattle.rv_report.specs.Comparison.{RunsTo};
 ghost use Rattle.rv_report.specs.LiveReport.{IsRunReport, IsTraced, Reports};
 ghost use Rattle.rv_report.specs.RunReport.{trace_of};
 ghost use Rattle.rv_report.specs.Totals.{HasRoom, both_counts, counts_of, totals_with};
@@ -12,6 +13,7 @@ use rv_core::{Core, Progress};
 use rv_hardware::Step;
 use rv_isa::Arrivals;
 use rv_text::ReportError;
+use std::io;
 use std::io::Write;
 
 // The steps of a run so far: how many there were of each sort, and whether their lines were written.
@@ -73,6 +75,22 @@ pub fn write_run<W: Write>(
     run.written?;
     write_totals(&run.totals, &run.core, options, writer)?;
     Ok(run.totals.stop)
+}
+
+/// Runs a core, each cycle with the lines of its number, up to a breakpoint, a stale word, exhaustion or a limit of cycles.
+/// `steps` is a list with room for the eight steps of a cycle. Asks for no memory. Answers what the run came to.
+pub fn run_totals(core: Core, arrivals: &Arrivals, limit: u64, steps: Vec<Step>) -> Totals
+    requires room { 8 ≤ vec_capacity steps }
+    ensures { RunsTo arrivals.now limit core result }
+{
+    let options = Options {
+        trace: false,
+        limit,
+        dump_address: 0,
+        dump_words: 0,
+    };
+    let run = run_traced(core, arrivals, &options, steps, &mut io::sink());
+    run.totals
 }
 
 // Runs a core to the end, and writes the trace, where it is asked for, as far as no write fails.

@@ -1,7 +1,7 @@
-ghost use Rattle.std.specs.Prelude.{◌≡◌};
+ghost use Rattle.std.specs.Prelude.{◌≡◌, ◌++◌, codes};
 ghost use Rattle.rv_isa.specs.Csr.{row_of};
 ghost use Rattle.rv_arch.specs.Csr.{value_of};
-ghost use Rattle.rv_report.specs.State.{stop_line, register_line, register_lines, csr_lines, state_lines};
+ghost use Rattle.rv_report.specs.State.{stop_line, stop_text, register_line, register_lines, csr_lines, state_lines};
 ghost use Rattle.rv_text.specs.Written.{IsWritten};
 
 use itoa::Buffer;
@@ -10,17 +10,25 @@ use rv_isa::Csr;
 use rv_text::{Field, ReportError, Value, hexadecimal, put, put_all, write_fields};
 use std::io::Write;
 
+/// Writes why a run ended, and a line feed.
+#[tactic(auto, unfolding(crate::specs::State::stop_text))]
+pub(crate) fn write_reason<W: Write>(writer: &mut W, stop: Stop) -> Result<(), ReportError>
+    ensures { IsWritten result (W.contents writer.old) (W.contents writer.new) (stop_text stop ++ codes "\n") }
+{
+    match stop {
+        Stop::Limit => put(writer, b"limit\n"),
+        Stop::Breakpoint => put(writer, b"breakpoint\n"),
+        Stop::Stale(pc) => put_all(writer, &[b"stale ", hexadecimal(pc).as_slice(), b"\n"]),
+        Stop::Exhausted => put(writer, b"exhausted\n"),
+    }
+}
+
 /// Writes the line that says why a run ended.
-#[tactic(auto, unfolding(crate::specs::State::stop_line, crate::specs::State::stop_text, rv_text::specs::Line::line_of))]
 pub(crate) fn write_stop<W: Write>(writer: &mut W, stop: Stop) -> Result<(), ReportError>
     ensures { IsWritten result (W.contents writer.old) (W.contents writer.new) (stop_line stop) }
 {
-    match stop {
-        Stop::Limit => put(writer, b"stop limit\n"),
-        Stop::Breakpoint => put(writer, b"stop breakpoint\n"),
-        Stop::Stale(pc) => put_all(writer, &[b"stop stale ", hexadecimal(pc).as_slice(), b"\n"]),
-        Stop::Exhausted => put(writer, b"stop exhausted\n"),
-    }
+    put(writer, b"stop ")?;
+    write_reason(writer, stop)
 }
 
 #[tactic(auto, unfolding(crate::specs::State::register_line, rv_text::specs::Line::word_line, rv_text::specs::Line::line_of))]

@@ -10,7 +10,7 @@ use Rattle.rv_job.specs.declared.errors.SimError.TheVariants.{Memory, WriteFaile
 use Rattle.rv_sim.specs.declared.task.Task.{Task}
 
 -- for want of memory, or where the output failed
-Ends-by_error : (task : Task) (old new : Option (List ℕ)) (error : SimError) → AsksForMemory task
+pub Ends-by_error : (task : Task) (old new : Option (List ℕ)) (error : SimError) → AsksForMemory task
     → (error ≡ Memory) ⊎ (error ≡ WriteFailed) → (error ≡ Memory → Keeps old new)
     → (error ≡ WriteFailed → (text : List ℕ) × (status : ℕ) × Shows task text status × AppendsBeginning old new text)
     → Ends task old new (Err error)

@@ -1,4 +1,5 @@
 mod Answered
+mod Compared
 mod Ending
 mod LinesAfter
 mod Running

@@ -6,3 +6,4 @@ pub mod PictureReport
 pub mod LogReport
 pub mod ExplanationReport
 pub mod Task
+pub mod Comparison

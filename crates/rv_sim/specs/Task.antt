@@ -5,18 +5,21 @@ use Rattle.rv_arch.specs.declared.outcome.Stop.{Stop}
 use Rattle.rv_arch.specs.declared.outcome.Stop.TheVariants.{Stale, Limit, Breakpoint, Exhausted}
 use Rattle.rv_command.specs.declared.command.Command.{Command}
 use Rattle.rv_command.specs.declared.command.Command.TheVariants as command
+use Rattle.rv_isa.specs.Standard.{standard_values}
 use Rattle.rv_isa.specs.declared.values.PredictorValues.{PredictorValues}
+use Rattle.rv_job.specs.Comparison.{IsComparisonOf, RefusesComparison}
 use Rattle.rv_job.specs.ImageRefusal.{RefusesImage}
 use Rattle.rv_job.specs.ImageText.{IsDescribedImageOf, image_line}
 use Rattle.rv_job.specs.JobRefusal.{RefusesJob}
 use Rattle.rv_job.specs.JobText.{IsJobOf}
 use Rattle.rv_job.specs.ListedJob.{IsListedJobOf}
 use Rattle.rv_job.specs.declared.errors.SimError.{SimError}
-use Rattle.rv_job.specs.declared.errors.SimError.TheVariants.{TooLong, Description, Arrivals, Assembly, ImageDoesNotFit, Memory, WriteFailed}
+use Rattle.rv_job.specs.declared.errors.SimError.TheVariants.{TooLong, Description, Described, Arrivals, Assembly, ImageDoesNotFit, DoesNotFit, Memory, WriteFailed}
 use Rattle.rv_picture.specs.declared.picture.Form.{Form}
 use Rattle.rv_picture.specs.declared.picture.Form.TheVariants.{Text, Svg}
 use Rattle.rv_report.specs.declared.options.Options.{Options}
 use Rattle.rv_text.specs.Written.{AppendsBeginning}
+use Rattle.rv_sim.specs.Comparison.{IsComparisonTable}
 use Rattle.rv_sim.specs.CoreReport.{IsSimulation}
 use Rattle.rv_sim.specs.ExplanationReport.{IsExplanationOf}
 use Rattle.rv_sim.specs.LogReport.{IsLogOf}
@@ -24,7 +27,7 @@ use Rattle.rv_sim.specs.PictureReport.{IsPictureOf}
 use Rattle.rv_sim.specs.ReferenceReport.{IsReferenceReport}
 use Rattle.rv_sim.specs.declared.picture.View.{View}
 use Rattle.rv_sim.specs.declared.task.Task.{Task}
-use Rattle.rv_sim.specs.declared.task.Task.TheVariants.{Run, Reference, Check, Picture, Log, Explain}
+use Rattle.rv_sim.specs.declared.task.Task.TheVariants.{Run, Reference, Check, Picture, Log, Explain, Compare}
 
 -- the options of a command; which words of memory a report shows is the job's to say
 abbrev pub asked : Bool → ℕ → Options
@@ -47,6 +50,7 @@ Asks command.Check input (Check made) = IsDescribedImageOf input made
 Asks (command.Picture text from cycles) input (Picture listed view) = IsListedJobOf input listed × (view ≡ viewed text from cycles)
 Asks (command.Log limit) input (Log listed asked_limit) = IsListedJobOf input listed × (asked_limit ≡ limit)
 Asks (command.Explain limit) input (Explain listed asked_limit) = IsListedJobOf input listed × (asked_limit ≡ limit)
+Asks (command.Compare limit) input (Compare comparison asked_limit) = IsComparisonOf input comparison × (asked_limit ≡ limit)
 Asks _ input _ = ⊥
 
 -- an input has an error for which a command refuses it
@@ -57,8 +61,9 @@ Refuses command.Check input error = RefusesImage input error
 Refuses (command.Picture text from cycles) input error = RefusesJob input error
 Refuses (command.Log limit) input error = RefusesJob input error
 Refuses (command.Explain limit) input error = RefusesJob input error
+Refuses (command.Compare limit) input error = RefusesComparison input error
 
--- the predictor that a task's machine has
+-- the predictor that a task's machine has; each machine of a comparison has its own, and this one guides none of them
 abbrev pub predictor_of : Task → PredictorValues
 predictor_of (Run job options) = job.description.predictor
 predictor_of (Reference job options) = job.description.predictor
@@ -66,6 +71,7 @@ predictor_of (Check made) = made.description.predictor
 predictor_of (Picture listed view) = listed.job.description.predictor
 predictor_of (Log listed limit) = listed.job.description.predictor
 predictor_of (Explain listed limit) = listed.job.description.predictor
+predictor_of (Compare comparison limit) = standard_values.predictor
 
 -- the exit status of a run
 unfoldable pub stop_status : Stop → ℕ
@@ -87,6 +93,7 @@ Shows (Log listed limit) text status =
     (stop : Stop) × IsLogOf listed limit stop text × (status ≡ stop_status stop)
 Shows (Explain listed limit) text status =
     (stop : Stop) × IsExplanationOf listed limit stop text × (status ≡ stop_status stop)
+Shows (Compare comparison limit) text status = IsComparisonTable comparison limit text × (status ≡ 0)
 
 -- only a run asks for memory
 abbrev pub AsksForMemory : Task → Type 0
@@ -96,6 +103,7 @@ AsksForMemory (Check made) = ⊥
 AsksForMemory (Picture listed view) = ⊤
 AsksForMemory (Log listed limit) = ⊤
 AsksForMemory (Explain listed limit) = ⊤
+AsksForMemory (Compare comparison limit) = ⊤
 
 -- A task ended so: with an exit status and its text whole, or by an error. The known bytes of its output go from old to new.
 abbrev pub Ends : Task → Option (List ℕ) → Option (List ℕ) → Result ℕ SimError → Type 0
@@ -104,6 +112,8 @@ Ends task old new (Err WriteFailed) = (text : List ℕ) × (status : ℕ) × Sho
 Ends task old new (Err Memory) = AsksForMemory task × Keeps old new
 Ends task old new (Err TooLong) = ⊥
 Ends task old new (Err (Description error)) = ⊥
+Ends task old new (Err (Described number error)) = ⊥
 Ends task old new (Err (Arrivals error)) = ⊥
 Ends task old new (Err (Assembly error)) = ⊥
 Ends task old new (Err ImageDoesNotFit) = ⊥
+Ends task old new (Err (DoesNotFit number)) = ⊥

@@ -3,6 +3,7 @@
 #![tactic(auto)]
 
 mod boxed_predictor;
+mod compare;
 mod explain;
 mod log;
 mod picture;

@@ -6,6 +6,7 @@ ghost use Rattle.rv_sim.specs.Task.{Asks, Refuses, Ends, asked, form_of, predict
 ghost use Rattle.rv_job.specs.declared.errors.SimError.{SimError as OneError};
 
 use crate::boxed_predictor::BoxedPredictor;
+use crate::compare::compare;
 use crate::explain::explain;
 use crate::log::log;
 use crate::picture::{View, picture};
@@ -13,10 +14,10 @@ use crate::reference::reference;
 use crate::simulate::simulate;
 use rv_arch::Stop;
 use rv_command::Command;
-use rv_isa::PredictorValues;
+use rv_isa::{PredictorValues, Values};
 use rv_job::{
-    DescribedImage, FaultLines, Job, ListedJob, SimError, read_image_text, read_job,
-    read_listed_job, write_image_line,
+    Comparison, DescribedImage, FaultLines, Job, ListedJob, SimError, read_comparison,
+    read_image_text, read_job, read_listed_job, write_image_line,
 };
 use rv_picture::Form;
 use rv_report::Options;
@@ -38,10 +39,13 @@ pub enum Task {
     Log { listed: ListedJob, limit: u64 },
     /// Run a job on the core, up to so many cycles, and tell what the run came to.
     Explain { listed: ListedJob, limit: u64 },
+    /// Run a program on several machines, up to so many cycles on each, and write a table of what the runs came to.
+    Compare { comparison: Comparison, limit: u64 },
 }
 
 impl Task {
-    /// Which predictor guides the fetch of the machine, and how many entries it has.
+    /// Which predictor guides the fetch of the machine, and how many entries it has. Each machine of a comparison has its
+    /// own, and what is answered for one guides none of them.
     pub fn predictor(&self) -> PredictorValues
         ensures predictor { result ≡ predictor_of self.now }
         ensures legal { IsLegalPredictor result }
@@ -55,6 +59,7 @@ impl Task {
             Task::Picture { listed, .. }
             | Task::Log { listed, .. }
             | Task::Explain { listed, .. } => listed.job.description.values().predictor,
+            Task::Compare { .. } => Values::standard().predictor,
         }
     }
 }
@@ -114,6 +119,11 @@ fn read_task(alloc: Global, command: &Command, input: &[u8]) -> Result<Task, Sim
             let listed = read_listed_job(alloc, input)?;
             let limit = *limit;
             Ok(Task::Explain { listed, limit })
+        }
+        Command::Compare { limit } => {
+            let comparison = read_comparison(alloc, input)?;
+            let limit = *limit;
+            Ok(Task::Compare { comparison, limit })
         }
     }
 }
@@ -182,6 +192,10 @@ fn perform<W: Write>(
         Task::Explain { listed, limit } => {
             let stop = explain(alloc, listed, predictor, limit, output)?;
             Ok(stop_status(stop))
+        }
+        Task::Compare { comparison, limit } => {
+            compare(alloc, &comparison, limit, output)?;
+            Ok(0)
         }
     }
 }

@@ -1,4 +1,5 @@
 mod checks;
+mod comparisons;
 mod described;
 mod examples;
 mod explanations;

@@ -8,6 +8,6 @@ mod output;
 mod plain;
 
 pub use digits::hexadecimal;
-pub use fields::{Field, Value, write_fields};
+pub use fields::{Field, Value, write_cells, write_fields};
 pub use output::{ReportError, put, put_all};
 pub use plain::{write_plain, write_plain_byte};

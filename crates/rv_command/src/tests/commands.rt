@@ -126,11 +126,16 @@ fn a_log_an_explanation_and_a_comparison_have_a_limit_and_nothing_else(
             &["rv_sim", "explain", "--limit=8"],
             Command::Explain { limit: 8 },
         ),
+        (&["rv_sim", "compare"], Command::Compare { limit: 100_000 }),
+        (
+            &["rv_sim", "compare", "--limit", "9"],
+            Command::Compare { limit: 9 },
+        ),
     ];
     for (texts, command) in cases {
         is_taken(&rt, alloc, texts, command)?;
     }
-    for name in ["log", "explain"] {
+    for name in ["log", "explain", "compare"] {
         is_refused(&rt, alloc, &["rv_sim", name, "--limit", "0"])?;
         is_refused(&rt, alloc, &["rv_sim", name, "--limit", "1000001"])?;
         is_refused(&rt, alloc, &["rv_sim", name, "--trace"])?;

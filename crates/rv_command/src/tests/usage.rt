@@ -15,6 +15,7 @@ Commands:
   picture    Draws some cycles of a run of the text on standard input
   log        Writes a run of the text on standard input as a log for pipeline viewers (Konata)
   explain    Says in sentences how a run of the text on standard input went
+  compare    Runs one program on several machines, and compares their totals
   help       Print this message or the help of the given subcommand(s)
 
 Options:
@@ -132,6 +133,25 @@ Options:
     "rv_sim explain < FILE"
 );
 
+const HELP_OF_COMPARE: &str = "Runs one program on several machines, and compares their totals
+
+Usage: rv_sim compare [OPTIONS]
+
+Options:
+      --limit <N>  The most cycles of each run, 1 to 1000000 [default: 100000]
+  -h, --help       Print help
+
+Reads from standard input descriptions of machines, a line %% behind each, and a program, as in:
+  rv_sim compare < FILE
+
+Exit status:
+  0  the table was written; its last column says how each run ended
+  1  a description or the program was refused
+  2  wrong usage
+  4  standard input or output failed
+  5  out of memory
+";
+
 const VERSION: &str = "rv_sim 0.1.0
 ";
 
@@ -141,7 +161,7 @@ For more information, try '--help'.
 ";
 
 const NO_COMMAND: &str = "error: 'rv_sim' requires a subcommand but one was not provided
-  [subcommands: run, reference, check, picture, log, explain, help]
+  [subcommands: run, reference, check, picture, log, explain, compare, help]
 
 Usage: rv_sim <COMMAND>
 
@@ -212,6 +232,7 @@ fn help_and_version_have_their_texts(rt: HostRuntime) -> Result<(), Fail> {
         (&["rv_sim", "help", "picture"], HELP_OF_PICTURE),
         (&["rv_sim", "log", "--help"], HELP_OF_LOG),
         (&["rv_sim", "explain", "--help"], HELP_OF_EXPLAIN),
+        (&["rv_sim", "compare", "--help"], HELP_OF_COMPARE),
         (&["rv_sim", "--version"], VERSION),
     ];
     for (words, text) in cases {

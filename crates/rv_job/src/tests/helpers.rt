@@ -1,4 +1,4 @@
-use crate::{FaultLines, SimError, read_image_text, read_job, write_image_line};
+use crate::{FaultLines, SimError, read_comparison, read_image_text, read_job, write_image_line};
 use std::alloc::Global;
 use std::process::Abort;
 use std::test::Fail;
@@ -61,4 +61,20 @@ pub(crate) fn check_faults(
         assert_eq!(rt; fault.as_slice(), line.as_bytes());
     }
     check_job_faults(rt, alloc, cases)
+}
+
+/// Checks the lines of texts that are refused as comparisons.
+pub(crate) fn check_comparison_faults(
+    rt: &impl Abort,
+    alloc: Global,
+    cases: &[(&[u8], &str)],
+) -> Result<(), Fail> {
+    for (text, line) in cases {
+        let Err(error) = read_comparison(alloc, text) else {
+            return Err(Fail::from("a comparison was taken"));
+        };
+        let fault = line_of(alloc, error)?;
+        assert_eq!(rt; fault.as_slice(), line.as_bytes());
+    }
+    Ok(())
 }

@@ -17,6 +17,10 @@ pub returns-in-ImageDoesNotFit : goal.returns-in-ImageDoesNotFit
 unfolding fault_line
 returns-in-ImageDoesNotFit g c = rw c.in-ImageDoesNotFit.is c.put-in-ImageDoesNotFit.ensures
 
+pub returns-in-DoesNotFit : goal.returns-in-DoesNotFit
+unfolding fault_line
+returns-in-DoesNotFit g c = rw c.in-DoesNotFit.is c.write_unfit.ensures
+
 pub returns-in-Memory : goal.returns-in-Memory
 unfolding fault_line
 returns-in-Memory g c = rw c.in-Memory.is c.put-in-Memory.ensures

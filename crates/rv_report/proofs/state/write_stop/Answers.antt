@@ -1,18 +1,12 @@
-use Rattle.std.proofs.Common.{◌∙◌}
 use Rattle.rv_text.specs.Line.{line_of}
-use Rattle.rv_report.specs.State.{stop_line, stop_text}
+use Rattle.rv_report.specs.State.{stop_line}
+use Rattle.rv_text.proofs.Writing.{handed_on, beginning-longer, written_behind}
 use Rattle.rv_report.proofs.state.write_stop.Goals as goal
 
-pub returns-in-Breakpoint : goal.returns-in-Breakpoint
-unfolding stop_line stop_text line_of
-returns-in-Breakpoint g c = rw c.in-Breakpoint.is c.put-in-Breakpoint.ensures
+pub returns-in_err-put : goal.returns-in_err-put
+unfolding stop_line line_of
+returns-in_err-put g c = handed_on _ _ _ _ _ c.from_residual.ensures.1 (beginning-longer _ _ _ _ c.in_err-put.ensures)
 
-pub returns-in-Stale : goal.returns-in-Stale
-unfolding stop_line stop_text line_of
-returns-in-Stale g c =
-    let text_is = c.as_slice.ensures ∙ c.hexadecimal.ensures in
-    rw (c.in-Stale.is, ← text_is) c.put_all.ensures
-
-pub returns-in-Exhausted : goal.returns-in-Exhausted
-unfolding stop_line stop_text line_of
-returns-in-Exhausted g c = rw c.in-Exhausted.is c.put-in-Exhausted.ensures
+pub returns : goal.returns
+unfolding stop_line line_of
+returns g c = written_behind _ _ _ _ _ _ c.in_ok-put.ensures c.write_reason.ensures

@@ -6,8 +6,8 @@ use Rattle.rv_sim.specs.ExplanationReport.{IsExplanationOf}
 use Rattle.rv_sim.specs.LogReport.{IsLogOf}
 use Rattle.rv_sim.specs.PictureReport.{IsPictureOf}
 use Rattle.rv_sim.specs.ReferenceReport.{IsReferenceReport}
-use Rattle.rv_sim.specs.declared.task.Task.TheVariants.{Run, Reference, Picture, Log, Explain}
-use Rattle.rv_sim.proofs.Ending.{Ends-by_failed_run}
+use Rattle.rv_sim.specs.declared.task.Task.TheVariants.{Run, Reference, Picture, Log, Explain, Compare}
+use Rattle.rv_sim.proofs.Ending.{Ends-by_error, Ends-by_failed_run}
 use Rattle.rv_sim.proofs.task.perform.Goals as goal
 
 pub returns-in_err-stop-in-Run : goal.returns-in_err-stop-in-Run
@@ -44,3 +44,10 @@ returns-in_err-stop-in-Explain g c =
     let ended = Ends-by_failed_run (Explain c.in-Explain.listed c.in-Explain.limit) (IsExplanationOf c.in-Explain.listed c.in-Explain.limit) _ _ _ tt (λ stop text report. (stop, report, refl))
     failed.errors (λ is. failed.nothing (ap Err is)) (λ is. failed.beginning (ap Err is)) in
     rw (c.in-Explain.is, handed_on _ _ c.from_residual-in_err-stop-in-Explain.ensures.1) ended
+
+pub returns-in_err-compare : goal.returns-in_err-compare
+returns-in_err-compare g c =
+    let failed = c.in_err-compare.ensures in
+    let ended = Ends-by_error (Compare c.in-Compare.comparison c.in-Compare.limit) _ _ _ tt failed.errors (λ is. failed.nothing (ap Err is))
+    (λ is. let (text, table, written) = failed.beginning (ap Err is) in (text, 0, (table, refl), written)) in
+    rw (c.in-Compare.is, handed_on _ _ c.from_residual-in_err-compare.ensures.1) ended

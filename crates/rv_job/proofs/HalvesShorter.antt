@@ -1,0 +1,51 @@
+-- What stands behind a separator is shorter than the text.
+use Rattle.std.proofs.Common.{◌≡◌, ℕ, suc, ◌+◌, ◌<◌, List, [], ◌∷◌, length, Option, Some, None, Bool, true, false, subst, option_map, arith}
+use Rattle.std.specs.Prelude.{if◌then◌else◌, IfSome}
+use Rattle.std.specs.List.{after_first, before_first, position_or_len}
+use Rattle.std.specs.Option.{option_or}
+use Rattle.std.proofs.lemmas.List.{length-drop}
+use Rattle.rv_job.specs.Parts.{Halves, behind_separator, halves_at_front, halves_of, is_line_feed, is_separator, later_halves, preceded}
+
+abbrev IsShorter : ℕ → Option Halves → Type 0
+IsShorter bound found = IfSome found (λ halves. length halves.behind < bound)
+
+either : (bound : ℕ) (one other : Option Halves) → IsShorter bound one → IsShorter bound other → IsShorter bound (option_or one other)
+either bound None other first second = second
+either bound (Some halves) other first second = first
+
+behind_byte : (byte bound : ℕ) (found : Option Halves) → IsShorter bound found → IsShorter (suc bound) (option_map (preceded (byte ∷ [])) found)
+behind_byte byte bound None shorter = tt
+behind_byte byte bound (Some halves) shorter = omega (arith, shorter)
+
+where_tested : (test : Bool) (bound : ℕ) (found : Option Halves) → IsShorter bound found → IsShorter bound (if test then found else None)
+where_tested true bound found shorter = shorter
+where_tested false bound found shorter = tt
+
+at_front : (text : List ℕ) → IsShorter (length text) (halves_at_front text)
+unfolding behind_separator
+at_front [] = tt
+at_front (byte ∷ later) = go (is_separator (before_first is_line_feed (byte ∷ later)))
+  where
+    text : List ℕ
+    text = byte ∷ later
+
+    place : ℕ
+    place = position_or_len is_line_feed text
+
+    go : (test : Bool) → IsShorter (length text) (option_map (λ behind. record { before = []; behind = behind }) (if test then Some (after_first is_line_feed text) else None))
+    go true = omega (arith, length-drop (place + 1) text)
+    go false = tt
+
+later_shorter : (text : List ℕ) → IsShorter (length text) (later_halves text)
+unfolding later_halves
+later_shorter [] = tt
+later_shorter (byte ∷ later) =
+    behind_byte byte (length later) _
+    (either (length later) _ _ (where_tested (is_line_feed byte) (length later) _ (at_front later)) (later_shorter later))
+
+shorter : (text : List ℕ) → IsShorter (length text) (halves_of text)
+unfolding halves_of
+shorter text = either (length text) _ _ (at_front text) (later_shorter text)
+
+pub behind_shorter : (text : List ℕ) (halves : Halves) → halves_of text ≡ Some halves → length halves.behind < length text
+behind_shorter text halves is = subst (IsShorter (length text)) is (shorter text)

@@ -1,0 +1,79 @@
+-- What a text says as a comparison: descriptions, each with a separator behind it, and a program; and why it is refused.
+use Rattle.std.specs.Prelude.{◌≡◌, ◌<◌, ℕ, ◌+◌, List, [], ◌∷◌, ◌++◌, length, ⊤, Some, None, Ok, Err}
+use Rattle.rv_isa.specs.declared.images.Image.{Image}
+use Rattle.rv_isa.specs.declared.values.Values.{Values}
+use Rattle.rv_describe.specs.Description.{description_of}
+use Rattle.rv_job.specs.Input.{most_bytes}
+use Rattle.rv_job.specs.JobText.{HasLegalLength, RefusesAssembly}
+use Rattle.rv_job.specs.Parts.{Halves, halves_of}
+use Rattle.rv_job.specs.TextImage.{Fits, IsImageOf}
+use Rattle.rv_job.specs.declared.comparison.Comparison.{Comparison}
+use Rattle.rv_job.specs.declared.errors.SimError.{SimError}
+use Rattle.rv_job.specs.declared.errors.SimError.TheVariants.{TooLong, Described, DoesNotFit, Memory}
+use Rattle.rv_job.specs.declared.job.Job.{Job}
+
+-- the front of a text describes machines, with a separator behind each description, and the rest stands behind the last of them
+pub data IsBehind (text : List ℕ) : List Values → List ℕ → Type 0 where
+  nothing : IsBehind text [] text
+  another : {machines : List Values} {rest : List ℕ} {machine : Values} {halves : Halves} → IsBehind text machines rest →
+      halves_of rest ≡ Some halves → description_of halves.before ≡ Ok machine → IsBehind text (machines ++ machine ∷ []) halves.behind
+
+-- a text compares a program on some machines; where no separator stands, on the one that an empty description describes
+pub data Compares (text : List ℕ) : List Values → List ℕ → Type 0 where
+  alone : {machine : Values} → halves_of text ≡ None → description_of [] ≡ Ok machine → Compares text (machine ∷ []) text
+  described : {machines : List Values} {program : List ℕ} →
+      IsBehind text machines program → halves_of program ≡ None → 0 < length machines → Compares text machines program
+
+-- a job is a program on a machine, without arrivals
+pub record IsLoaded (program : List ℕ) (machine : Values) (job : Job) : Type 0 where
+  pub description : job.description ≡ machine
+  pub arrivals : job.arrivals ≡ []
+  pub image : IsImageOf machine.ram_base program job.image
+
+-- jobs are a program on each of some machines
+pub data AreLoaded (program : List ℕ) : List Values → List Job → Type 0 where
+  nothing : AreLoaded program [] []
+  another : {machines : List Values} {jobs : List Job} {machine : Values} {job : Job} → AreLoaded program machines jobs →
+      IsLoaded program machine job → AreLoaded program (machines ++ machine ∷ []) (jobs ++ job ∷ [])
+
+-- a comparison is what a text says
+pub record IsComparisonOf (text : List ℕ) (comparison : Comparison) : Type 0 where
+  pub length : HasLegalLength text
+  pub machines : List Values
+  pub program : List ℕ
+  pub compares : Compares text machines program
+  pub loaded : AreLoaded program machines comparison.jobs.items
+
+-- why the description with a number is refused; memory may be refused for each part
+abbrev pub RefusesDescribed : ℕ → List ℕ → SimError → Type 0
+RefusesDescribed number part (Described place error) = (place ≡ number) × (description_of part ≡ Err error)
+RefusesDescribed number part Memory = ⊤
+RefusesDescribed number part _ = ⊥
+
+-- the image of a program does not fit a machine
+abbrev pub IsUnfit : List ℕ → Values → Type 0
+IsUnfit program machine = (image : Image) × IsImageOf machine.ram_base program image × (Fits machine image → ⊥)
+
+-- why a program is refused on the machine with a number
+abbrev pub RefusesProgram : ℕ → List ℕ → Values → SimError → Type 0
+RefusesProgram number program machine (DoesNotFit place) = (place ≡ number) × IsUnfit program machine
+RefusesProgram number program machine error = RefusesAssembly machine.ram_base program error
+
+-- why descriptions are refused: those before the one at fault are without fault
+pub data RefusesDescriptions (text : List ℕ) : SimError → Type 0 where
+  memory : RefusesDescriptions text Memory
+  at : {machines : List Values} {rest : List ℕ} {halves : Halves} {error : SimError} → IsBehind text machines rest →
+      halves_of rest ≡ Some halves → RefusesDescribed (length machines + 1) halves.before error → RefusesDescriptions text error
+
+-- why a program is refused on some machines: on those before the one that is named it is not
+pub data RefusesLoading (program : List ℕ) : List Values → SimError → Type 0 where
+  memory : {machines : List Values} → RefusesLoading program machines Memory
+  on : {before : List Values} (machine : Values) (after : List Values) {jobs : List Job} {error : SimError} →
+      AreLoaded program before jobs → RefusesProgram (length before + 1) program machine error → RefusesLoading program (before ++ machine ∷ after) error
+
+-- Why a text is refused as a comparison: what is tested earlier is without fault.
+pub data RefusesComparison (text : List ℕ) : SimError → Type 0 where
+  too_long : most_bytes < length text → RefusesComparison text TooLong
+  descriptions : {error : SimError} → HasLegalLength text → RefusesDescriptions text error → RefusesComparison text error
+  program : {machines : List Values} {program : List ℕ} {error : SimError} → HasLegalLength text → Compares text machines program →
+      RefusesLoading program machines error → RefusesComparison text error

@@ -1,0 +1,48 @@
+-- What several runs came to, in a table: a line for each run, its cells with a tab between two.
+use Rattle.std.specs.Prelude.{◌≡◌, ℕ, List, [], ◌∷◌, ◌++◌, codes}
+use Rattle.std.specs.List.{enumerate_from, flat_map}
+use Rattle.rv_isa.specs.declared.lines.Arrival.{Arrival}
+use Rattle.rv_hardware.specs.Hardware.{Hardware}
+use Rattle.rv_hardware.specs.Report.{Report}
+use Rattle.rv_hardware.specs.Run.{Cycles, IsStop}
+use Rattle.rv_report.specs.State.{stop_text}
+use Rattle.rv_report.specs.Totals.{totals_at}
+use Rattle.rv_report.specs.declared.totals.Totals.{Totals}
+use Rattle.rv_text.specs.ReadField.{cell_text}
+use Rattle.rv_text.specs.declared.fields.Value.{Value}
+use Rattle.rv_text.specs.declared.fields.Value.TheVariants.{Count, Ratio}
+
+-- a run of some hardware, up to a limit of cycles, came to these totals
+pub record RunsTo (arrivals : List Arrival) (limit : ℕ) (old : Hardware) (totals : Totals) : Type 0 where
+  pub reports : List Report
+  pub new : Hardware
+  pub cycles : Cycles arrivals old reports new
+  pub stops : IsStop limit reports new totals.stop
+  pub totals_are : totals ≡ totals_at reports totals.stop
+
+-- the names of the columns
+unfoldable pub table_head : List ℕ
+table_head = codes "number\tcycles\tretired\tcpi\tbusy\tfetch\tserial\trob\tstation\tstore\tstop\n"
+
+-- the number of a run, its counts, and the cycles that dispatched nothing, by the reason
+abbrev pub row_values : ℕ → Totals → List Value
+row_values number totals =
+    Count number ∷
+    Count totals.cycles ∷
+    Count totals.steps.retired ∷
+    Ratio totals.cycles totals.steps.retired ∷
+    Count totals.busy ∷
+    Count totals.stalls.fetch ∷
+    Count totals.stalls.serial ∷
+    Count totals.stalls.rob ∷
+    Count totals.stalls.station ∷
+    Count totals.stalls.store ∷
+    []
+
+-- the line of a run ends with why it ended
+unfoldable pub table_row : ℕ → Totals → List ℕ
+table_row number totals = flat_map cell_text (row_values number totals) ++ (stop_text totals.stop ++ codes "\n")
+
+-- runs are numbered from 1
+unfoldable pub table_of : List Totals → List ℕ
+table_of runs = table_head ++ flat_map (λ run. table_row run.0 run.1) (enumerate_from 1 runs)

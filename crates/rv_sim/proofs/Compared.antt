@@ -1,0 +1,26 @@
+-- Jobs that are run one behind the other.
+use Rattle.std.proofs.Common.{◌≡◌, ◌∙◌, ℕ, ◌+◌, ◌<◌, List, [], ◌∷◌, ◌++◌, length, take, get_or, sym, ap, subst, arith}
+use Rattle.std.proofs.lemmas.List.{take_all, take_more}
+use Rattle.rv_job.specs.declared.comparison.Comparison.{Comparison}
+use Rattle.rv_job.specs.declared.job.Job.{Job}
+use Rattle.rv_report.specs.Comparison.{table_of}
+use Rattle.rv_report.specs.declared.totals.Totals.{Totals}
+use Rattle.rv_sim.specs.Comparison.{AreRuns, IsComparisonTable, IsRun}
+
+-- one more run
+pub run_more : (limit : ℕ) (jobs : List Job) (place : ℕ) → place < length jobs → (runs : List Totals) → AreRuns limit (take place jobs) runs
+    → (job : Job) → job ≡ get_or jobs place job → (totals : Totals) → IsRun limit job totals → AreRuns limit (take (place + 1) jobs) (runs ++ totals ∷ [])
+run_more limit jobs place below runs done job is totals here =
+    subst (λ l. AreRuns limit l (runs ++ totals ∷ []))
+    (ap (λ j. take place jobs ++ j ∷ []) is ∙ sym (take_more jobs place job below))
+    (AreRuns.another job done here)
+
+-- all are run
+pub all_run : (limit : ℕ) (jobs : List Job) (place : ℕ) (runs : List Totals) → place ≡ length jobs → AreRuns limit (take place jobs) runs → AreRuns limit jobs runs
+all_run limit jobs place runs is done = subst (λ l. AreRuns limit l runs) (take_all place jobs (omega (arith, is))) done
+
+-- the table of all
+pub table_made : (comparison : Comparison) (limit : ℕ) (jobs : List Job) (runs rows : List Totals) → jobs ≡ comparison.jobs.items → rows ≡ runs → AreRuns limit jobs runs
+    → IsComparisonTable comparison limit (table_of rows)
+table_made comparison limit jobs runs rows jobs_are rows_are done =
+    record { runs = runs; done = subst (λ l. AreRuns limit l runs) jobs_are done; text_is = ap table_of rows_are }

@@ -1,0 +1,23 @@
+-- What the table of a comparison says.
+use Rattle.std.specs.Prelude.{◌≡◌, ℕ, List, [], ◌∷◌, ◌++◌}
+use Rattle.rv_job.specs.declared.comparison.Comparison.{Comparison}
+use Rattle.rv_job.specs.declared.job.Job.{Job}
+use Rattle.rv_report.specs.Comparison.{RunsTo, table_of}
+use Rattle.rv_report.specs.declared.totals.Totals.{Totals}
+use Rattle.rv_sim.specs.CoreReport.{hardware_of}
+
+-- a run of the hardware that a job describes, from reset with its image, came to these totals
+abbrev pub IsRun : ℕ → Job → Totals → Type 0
+IsRun limit job totals = RunsTo job.arrivals limit (hardware_of job) totals
+
+-- runs of some jobs came to these totals, in the jobs' order
+pub data AreRuns (limit : ℕ) : List Job → List Totals → Type 0 where
+  nothing : AreRuns limit [] []
+  another : {jobs : List Job} {runs : List Totals} {totals : Totals} (job : Job) → AreRuns limit jobs runs →
+      IsRun limit job totals → AreRuns limit (jobs ++ job ∷ []) (runs ++ totals ∷ [])
+
+-- a text is the table of runs of a comparison's jobs
+pub record IsComparisonTable (comparison : Comparison) (limit : ℕ) (text : List ℕ) : Type 0 where
+  pub runs : List Totals
+  pub done : AreRuns limit comparison.jobs.items runs
+  pub text_is : text ≡ table_of runs

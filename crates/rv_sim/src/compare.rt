@@ -1,0 +1,113 @@
+ghost use Rattle.std.specs.Prelude.{◌≡◌, ◌⊎◌, ℕ, List, IfOk, IfErr};
+ghost use Rattle.std.specs.Io.KnownBytes.{Appends, Keeps};
+ghost use Rattle.rv_sim.specs.Comparison.{AreRuns, IsComparisonTable, IsRun};
+ghost use Rattle.rv_text.specs.Written.{AppendsBeginning};
+
+use crate::boxed_predictor::BoxedPredictor;
+use rv_core::Core;
+use rv_front::{BackwardTaken, Bimodal, NotTaken};
+use rv_isa::PredictorKind;
+use rv_job::{Comparison, Job, SimError};
+use rv_report::{Totals, run_totals, write_table};
+use std::alloc::Global;
+use std::io::Write;
+
+// Runs a job with a predictor.
+fn run_with(
+    alloc: Global,
+    job: &Job,
+    predictor: BoxedPredictor,
+    limit: u64,
+) -> Result<Totals, SimError>
+    ensures totals { IfOk result (IsRun limit job.now) }
+    ensures errors { IfErr result (λ e. e ≡ SimError.Memory) }
+{
+    let Ok(steps) = Vec::with_capacity(alloc, 8) else {
+        return Err(SimError::Memory);
+    };
+    // The image of a job fits, so that memory alone can be wanting.
+    let Ok(core) = Core::new(alloc, &job.description, &job.image, predictor.predictor) else {
+        return Err(SimError::Memory);
+    };
+    Ok(run_totals(core, &job.arrivals, limit, steps))
+}
+
+/// Runs a job on the core that it describes, with the predictor that it describes, up to a breakpoint, a stale word or a
+/// limit of cycles. Answers what the run came to.
+///
+/// Fails by `Memory` alone.
+pub fn run_one(alloc: Global, job: &Job, limit: u64) -> Result<Totals, SimError>
+    ensures totals { IfOk result (IsRun limit job.now) }
+    ensures errors { IfErr result (λ e. e ≡ SimError.Memory) }
+{
+    let described = job.description.values().predictor;
+    match described.kind {
+        PredictorKind::NotTaken => {
+            let Ok(predictor) = Box::new(alloc, NotTaken) else {
+                return Err(SimError::Memory);
+            };
+            run_with(alloc, job, BoxedPredictor { predictor }, limit)
+        }
+        PredictorKind::BackwardTaken => {
+            let Ok(predictor) = Box::new(alloc, BackwardTaken) else {
+                return Err(SimError::Memory);
+            };
+            run_with(alloc, job, BoxedPredictor { predictor }, limit)
+        }
+        PredictorKind::Bimodal => {
+            let Ok(bimodal) = Bimodal::new(alloc, described.entries) else {
+                return Err(SimError::Memory);
+            };
+            let Ok(predictor) = Box::new(alloc, bimodal) else {
+                return Err(SimError::Memory);
+            };
+            run_with(alloc, job, BoxedPredictor { predictor }, limit)
+        }
+    }
+}
+
+// Runs jobs one behind the other.
+fn run_each(alloc: Global, jobs: &[Job], limit: u64) -> Result<Vec<Totals>, SimError>
+    ensures runs { IfOk result (λ runs. AreRuns limit jobs.now runs.items) }
+    ensures errors { IfErr result (λ e. e ≡ SimError.Memory) }
+{
+    let mut runs = Vec::new(alloc);
+    for job in jobs {
+        let Ok(totals) = run_one(alloc, job, limit) else {
+            return Err(SimError::Memory);
+        };
+        let Ok(()) = runs.push(totals) else {
+            return Err(SimError::Memory);
+        };
+    }
+    Ok(runs)
+}
+
+/// Runs the program of a comparison on each of its machines, one behind the other, each up to a breakpoint, a stale word or
+/// a limit of cycles, and writes a table of what the runs came to: a line for each machine, in their order. Asks for no
+/// memory once it has written.
+///
+/// Fails by `Memory`, and has written nothing then, or by `WriteFailed`, and has written a beginning of the table.
+pub fn compare<W: Write>(
+    alloc: Global,
+    comparison: &Comparison,
+    limit: u64,
+    writer: &mut W,
+) -> Result<(), SimError>
+    ensures table { IfOk result (λ _. (text : List ℕ)
+        × IsComparisonTable comparison.now limit text
+        × Appends (W.contents writer.old) (W.contents writer.new) text) }
+    ensures beginning { result ≡ Err SimError.WriteFailed → (text : List ℕ)
+        × IsComparisonTable comparison.now limit text
+        × AppendsBeginning (W.contents writer.old) (W.contents writer.new) text }
+    ensures nothing { result ≡ Err SimError.Memory → Keeps (W.contents writer.old) (W.contents writer.new) }
+    ensures errors { IfErr result (λ e. (e ≡ SimError.Memory) ⊎ (e ≡ SimError.WriteFailed)) }
+{
+    let jobs = comparison.jobs.as_slice();
+    let Ok(runs) = run_each(alloc, jobs, limit) else {
+        return Err(SimError::Memory);
+    };
+    let rows = runs.as_slice();
+    write_table(rows, writer)?;
+    Ok(())
+}

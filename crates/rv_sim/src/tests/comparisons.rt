@@ -1,0 +1,47 @@
+use crate::compare::compare;
+use crate::tests::helpers::Narrow;
+use rv_job::{SimError, read_comparison};
+use std::test::Fail;
+
+// The same program on machines that differ in their predictors alone, of which it asks nothing.
+const TEXT: &[u8] = b"predictor.kind = \"not_taken\"
+%%
+predictor.kind = \"backward_taken\"
+%%
+predictor.kind = \"bimodal\"
+%%
+addi x1,x0,5
+ebreak
+";
+
+const TABLE: &str = "number\tcycles\tretired\tcpi\tbusy\tfetch\tserial\trob\tstation\tstore\tstop
+1\t5\t1\t5.000\t3\t2\t0\t0\t0\t0\tbreakpoint
+2\t5\t1\t5.000\t3\t2\t0\t0\t0\t0\tbreakpoint
+3\t5\t1\t5.000\t3\t2\t0\t0\t0\t0\tbreakpoint
+";
+
+#[test]
+fn a_comparison_has_a_line_for_each_machine(rt: HostRuntime) -> Result<(), Fail> {
+    let comparison = read_comparison(rt.alloc(), TEXT)?;
+    let mut table = Vec::new(rt.alloc());
+    compare(rt.alloc(), &comparison, 100_000, &mut table)?;
+    assert_eq!(rt; table.as_slice(), TABLE.as_bytes());
+    Ok(())
+}
+
+#[test]
+fn an_output_that_is_full_has_a_beginning_of_the_table(rt: HostRuntime) -> Result<(), Fail> {
+    let comparison = read_comparison(rt.alloc(), TEXT)?;
+    for room in [0, 1, 70, 100] {
+        let mut output = Narrow {
+            width: 9,
+            room,
+            taken: Vec::new(rt.alloc()),
+        };
+        let ended = compare(rt.alloc(), &comparison, 100_000, &mut output);
+        assert_eq!(rt; ended.err(), Some(SimError::WriteFailed));
+        assert_eq!(rt; output.taken.len(), room);
+        assert!(rt; TABLE.as_bytes().starts_with(output.taken.as_slice()));
+    }
+    Ok(())
+}
