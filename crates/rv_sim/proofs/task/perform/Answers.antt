@@ -45,9 +45,9 @@ returns-in_err-stop-in-Explain g c =
     failed.errors (λ is. failed.nothing (ap Err is)) (λ is. failed.beginning (ap Err is)) in
     rw (c.in-Explain.is, handed_on _ _ c.from_residual-in_err-stop-in-Explain.ensures.1) ended
 
-pub returns-in_err-compare : goal.returns-in_err-compare
-returns-in_err-compare g c =
-    let failed = c.in_err-compare.ensures in
+pub returns-in_err-compare-in-Compare : goal.returns-in_err-compare-in-Compare
+returns-in_err-compare-in-Compare g c =
+    let failed = c.in_err-compare-in-Compare.ensures in
     let ended = Ends-by_error (Compare c.in-Compare.comparison c.in-Compare.limit) _ _ _ tt failed.errors (λ is. failed.nothing (ap Err is))
     (λ is. let (text, table, written) = failed.beginning (ap Err is) in (text, 0, (table, refl), written)) in
-    rw (c.in-Compare.is, handed_on _ _ c.from_residual-in_err-compare.ensures.1) ended
+    rw (c.in-Compare.is, handed_on _ _ c.from_residual-in_err-compare-in-Compare.ensures.1) ended
