@@ -10,7 +10,7 @@ fn a_word_has_the_line_whose_bytes_hold_its_first_byte(rt: HostRuntime) -> Resul
     let rows = [
         (BASE, Some(4), Some(b"la x8,d".as_slice())),
         (BASE + 4, Some(4), Some(b"la x8,d".as_slice())),
-        (BASE + 8, Some(6), Some(b"nop # x".as_slice())),
+        (BASE + 8, Some(6), Some(b"nop".as_slice())),
         (BASE + 12, Some(7), Some(b".half 3".as_slice())),
         (BASE + 16, Some(9), Some(b"ebreak".as_slice())),
         (BASE + 20, None, None),

@@ -8,7 +8,7 @@ fn the_lines_of_a_job_are_those_of_its_program(rt: HostRuntime) -> Result<(), Fa
     let rows = [
         (4092, None, None),
         (4096, Some(1), Some(b"nop".as_slice())),
-        (4104, Some(2), Some(b"la x8,d # where".as_slice())),
+        (4104, Some(2), Some(b"la x8,d".as_slice())),
         (4108, None, None),
         (4112, Some(4), Some(b"d: .word 1".as_slice())),
         (4116, None, None),
