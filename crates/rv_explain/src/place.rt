@@ -1,32 +1,12 @@
 ghost use Rattle.std.specs.Prelude.{◌≡◌};
-ghost use Rattle.rv_explain.specs.Place.{shown_byte, statement_text, number_text, line_text, line_behind, place_text};
+ghost use Rattle.rv_explain.specs.Place.{number_text, line_text, line_behind, place_text};
 ghost use Rattle.rv_source.specs.Listing.{line_at};
 ghost use Rattle.rv_text.specs.Written.{IsWritten};
 
 use itoa::Buffer;
 use rv_source::Listing;
-use rv_text::{ReportError, hexadecimal, put, put_all};
+use rv_text::{ReportError, hexadecimal, put, put_all, write_plain};
 use std::io::Write;
-
-fn shown_byte(byte: u8) -> u8
-    ensures { result ≡ shown_byte byte }
-{
-    if (32..=126).contains(&byte) {
-        byte
-    } else {
-        b'?'
-    }
-}
-
-#[tactic(auto, unfolding(crate::specs::Place::statement_text))]
-fn write_statement<W: Write>(writer: &mut W, text: &[u8]) -> Result<(), ReportError>
-    ensures { IsWritten result (W.contents writer.old) (W.contents writer.new) (statement_text text.now) }
-{
-    for byte in text {
-        put(writer, &[shown_byte(*byte)])?;
-    }
-    Ok(())
-}
 
 #[tactic(auto, unfolding(crate::specs::Place::number_text))]
 fn write_number<W: Write>(writer: &mut W, number: usize) -> Result<(), ReportError>
@@ -46,7 +26,7 @@ pub(crate) fn write_line<W: Write>(
     ensures { IsWritten result (W.contents writer.old) (W.contents writer.new) (line_text number text.now) }
 {
     write_number(writer, number)?;
-    write_statement(writer, text)?;
+    write_plain(writer, text)?;
     put(writer, b"\n")
 }
 

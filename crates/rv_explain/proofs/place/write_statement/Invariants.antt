@@ -1,9 +1,0 @@
-use Rattle.std.proofs.Common.{take, [], ◌∷◌}
-use Rattle.std.specs.List.{flat_map}
-use Rattle.std.specs.Io.KnownBytes.{Appends}
-use Rattle.rv_explain.specs.Place.{shown_byte}
-use Rattle.rv_explain.proofs.place.write_statement.Given as goal
-
--- the bytes so far are written
-abbrev pub invariant-loop-byte : goal.invariant-loop-byte
-invariant-loop-byte g l = Appends (g.W.Write.contents l.initial.writer) (g.W.Write.contents l.writer) (flat_map (λ byte. shown_byte byte ∷ []) (take l.byte-index l.text))
