@@ -8,7 +8,7 @@ use crate::ending::write_ending;
 use crate::exceptions::write_exception;
 use crate::hotspots::write_hotspots;
 use crate::loads::write_loads;
-use crate::running::{Told, run_told};
+use crate::running::run_told;
 use crate::stack::{write_counts, write_stalls};
 use crate::tale::Tale;
 use rv_arch::Stop;
@@ -86,13 +86,16 @@ fn write_costs<W: Write>(
 fn write_told<W: Write>(
     writer: &mut W,
     listing: &Listing,
-    told: &mut Told,
+    stop: Stop,
+    core: &Core,
+    progress: &Progress,
+    tale: &mut Tale,
 ) -> Result<(), ReportError>
-    ensures { IsWritten result (W.contents writer.old) (W.contents writer.new) (explanation listing.now told.old.stop told.old.core told.old.progress told.old.tale) }
+    ensures { IsWritten result (W.contents writer.old) (W.contents writer.new) (explanation listing.now stop core.now progress.now tale.old) }
 {
-    write_ending(writer, listing, told.stop, &told.core, &told.tale.words)?;
-    write_exception(writer, listing, &told.tale.exception)?;
-    write_costs(writer, listing, &told.progress, &mut told.tale)
+    write_ending(writer, listing, stop, core, &tale.words)?;
+    write_exception(writer, listing, &tale.exception)?;
+    write_costs(writer, listing, progress, tale)
 }
 
 /// Runs a core, each cycle with the lines of its number, up to a breakpoint, a stale word, exhaustion or so many cycles,
@@ -119,7 +122,7 @@ pub fn write_explanation<W: Write>(
     let Ok(beginning) = begin(alloc, description) else {
         return Err(ExplanationError::Memory);
     };
-    let mut told = run_told(
+    let told = run_told(
         core,
         description,
         arrivals,
@@ -127,9 +130,16 @@ pub fn write_explanation<W: Write>(
         beginning.steps,
         beginning.tale,
     );
-    let stop = told.stop;
-    match write_told(writer, listing, &mut told) {
-        Ok(()) => Ok(stop),
+    let mut tale = told.tale;
+    match write_told(
+        writer,
+        listing,
+        told.stop,
+        &told.core,
+        &told.progress,
+        &mut tale,
+    ) {
+        Ok(()) => Ok(told.stop),
         Err(ReportError::WriteFailed) => Err(ExplanationError::WriteFailed),
     }
 }
