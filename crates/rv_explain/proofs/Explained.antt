@@ -1,7 +1,7 @@
 -- A run that is told is explained by its sentences.
 use Rattle.std.proofs.Common.{◌≡◌, ℕ, List}
-use Rattle.std.specs.Prelude.{IsErrAnd, MatchResult, Result, Ok, Err}
 use Rattle.rv_isa.specs.declared.lines.Arrival.{Arrival}
+use Rattle.rv_isa.specs.declared.values.Values.{Values}
 use Rattle.rv_arch.specs.declared.outcome.Stop.{Stop}
 use Rattle.rv_core.specs.declared.outcome.Progress.{Progress}
 use Rattle.rv_hardware.specs.Hardware.{Hardware}
@@ -9,17 +9,12 @@ use Rattle.rv_source.specs.Listing.{Listed}
 use Rattle.rv_explain.specs.Explanation.{IsExplanation, IsTold, explanation}
 use Rattle.rv_explain.specs.declared.tale.Tale.{Tale}
 
-pub explained : (arrivals : List Arrival) (limit : ℕ) (listing : Listed) (old new : Hardware) (stop : Stop) (progress : Progress) (tale : Tale)
-    → IsTold arrivals limit old new stop progress tale → IsExplanation arrivals limit listing old stop (explanation listing stop new progress tale)
-explained arrivals limit listing old new stop progress tale told = record {
+pub explained : (arrivals : List Arrival) (limit : ℕ) (values : Values) (listing : Listed) (old new : Hardware) (stop : Stop) (progress : Progress) (tale : Tale)
+    → IsTold arrivals limit values old new stop progress tale → IsExplanation arrivals limit values listing old stop (explanation listing stop new progress tale)
+explained arrivals limit values listing old new stop progress tale told = record {
   moments = told.moments;
   new = new;
   passes = told.passes;
   stops = told.stops;
   text_is = λ i. explanation listing stop new (told.counted i) (told.kept i);
 }
-
--- what holds at an error that `?` hands on
-pub at_error : {T E : Type 0} (Q : T → Type 0) (P : Type 0) (r : Result T E) (error : E) → IsErrAnd r (λ e. e ≡ error) → P → MatchResult r Q (λ e. P)
-at_error Q P (Ok value) error failed fact = absurd failed
-at_error Q P (Err e) error failed fact = fact

@@ -1,3 +1,8 @@
 mod Explained
-mod Lines
+mod Heads
+mod LastStores
+mod Options
+mod Spots
+mod Tales
 mod Telling
+mod WordTable

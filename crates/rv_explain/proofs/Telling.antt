@@ -1,9 +1,8 @@
 -- A run that is told as its cycles come: what was kept so far, one cycle more, and the end.
-use Rattle.std.proofs.Common.{◌≡◌, ◌∙◌, ℕ, ◌+◌, ◌*◌, ◌^◌, ◌<◌, ◌≤◌, List, [], ◌∷◌, ◌++◌, length, Option, Some, None, count_by, sym, ap, refl, subst, arith, length-append}
-use Rattle.std.specs.Option.{option_or}
-use Rattle.std.proofs.lemmas.List.Sums.{count_by-le-length, sum_by-append}
+use Rattle.std.proofs.Common.{◌≡◌, ◌∙◌, ℕ, ◌+◌, ◌*◌, ◌^◌, ◌<◌, ◌≤◌, List, [], ◌∷◌, ◌++◌, length, Option, Some, None, suc, sym, ap, refl, subst, arith, length-append}
 use Rattle.rv_isa.specs.Arrivals.{lines_at}
 use Rattle.rv_isa.specs.declared.lines.Arrival.{Arrival}
+use Rattle.rv_isa.specs.declared.values.Values.{Values}
 use Rattle.rv_arch.specs.declared.outcome.Stop.{Stop}
 use Rattle.rv_core.specs.Progress.{IsNextCycle, progress_of}
 use Rattle.rv_core.specs.Told.{IsCommitStop}
@@ -16,34 +15,25 @@ use Rattle.rv_hardware.specs.Report.{Report}
 use Rattle.rv_hardware.specs.Run.{IsStop, NoneStops, steps_of, ended as no_cycle}
 use Rattle.rv_hardware.specs.declared.step.Step.{Step}
 use Rattle.rv_hardware.proofs.HeadlineReached.{cycles_counted}
-use Rattle.rv_explain.specs.Exception.{exception_in, first_exception}
 use Rattle.rv_explain.specs.Explanation.{IsTold}
 use Rattle.rv_explain.specs.History.{History, Moment, ended, cycled, reports_of}
-use Rattle.rv_explain.specs.Tale.{is_retired, tale_of}
+use Rattle.rv_explain.specs.Tale.{HasRoom, tale_after, tale_of}
 use Rattle.rv_explain.specs.declared.tale.Tale.{Tale}
+use Rattle.rv_explain.proofs.Tales.{has_room, tale-push}
+
+length-reports : (moments : List Moment) → length moments ≡ length (reports_of moments)
+length-reports [] = refl
+length-reports (moment ∷ moments) = ap suc (length-reports moments)
 
 reports_of-push : (moments : List Moment) (moment : Moment) → reports_of (moments ++ moment ∷ []) ≡ reports_of moments ++ moment.report ∷ []
 reports_of-push [] moment = refl
 reports_of-push (first ∷ moments) moment = ap (λ l. first.report ∷ l) (reports_of-push moments moment)
 
-option_or-assoc : {X : Type 0} (a b c : Option X) → option_or a (option_or b c) ≡ option_or (option_or a b) c
-option_or-assoc None b c = refl
-option_or-assoc (Some x) b c = refl
-
-option_or-none : {X : Type 0} (a : Option X) → option_or a None ≡ a
-option_or-none None = refl
-option_or-none (Some x) = refl
-
-first_exception-push : (moments : List Moment) (moment : Moment) → first_exception (moments ++ moment ∷ []) ≡ option_or (first_exception moments) (exception_in moment.after moment.report.steps)
-first_exception-push [] moment = option_or-none _
-first_exception-push (first ∷ moments) moment =
-    ap (option_or (exception_in first.after first.report.steps)) (first_exception-push moments moment) ∙ option_or-assoc (exception_in first.after first.report.steps) (first_exception moments) _
-
 NoneStops-push : (reports : List Report) (report : Report) → NoneStops reports → report.stop ≡ None → NoneStops (reports ++ report ∷ [])
 NoneStops-push [] report none is = (is, tt)
 NoneStops-push (first ∷ reports) report none is = (none.0, NoneStops-push reports report none.1 is)
 
-module _ (arrivals : List Arrival) where
+module _ (values : Values) (arrivals : List Arrival) where
   History-push : {old now : Hardware} {moments : List Moment} (moment : Moment) → History arrivals old moments now → IsCycle any_prediction (lines_at arrivals now.cycle) now moment.report moment.after → History arrivals old (moments ++ moment ∷ []) moment.after
   History-push moment ended last = cycled last ended
   History-push moment (cycled first rest) last = cycled first (History-push moment rest last)
@@ -56,10 +46,9 @@ module _ (arrivals : List Arrival) where
     pub moments : List Moment
     pub passes : History arrivals old moments now
     pub same : reports_of moments ≡ way.reports
-    pub retired : tale.retired ≡ count_by is_retired steps
-    pub exception : tale.exception ≡ first_exception moments
+    pub kept : tale ≡ tale_of values old moments
 
-  pub told_nothing : (h : Hardware) (progress : Progress) (tale : Tale) → progress ≡ progress_of [] → tale ≡ tale_of [] → IsUnder h h progress tale
+  pub told_nothing : (h : Hardware) (progress : Progress) (tale : Tale) → progress ≡ progress_of [] → tale ≡ tale_of values h [] → IsUnder h h progress tale
   told_nothing h progress tale none untold = record {
     steps = [];
     way = record { reports = []; goes = no_cycle; none_stops = tt; counted = none; listed = refl };
@@ -67,8 +56,7 @@ module _ (arrivals : List Arrival) where
     moments = [];
     passes = ended;
     same = refl;
-    retired = ap (λ (t : Tale). t.retired) untold;
-    exception = ap (λ (t : Tale). t.exception) untold;
+    kept = untold;
   }
 
   module _ (old now : Hardware) (progress : Progress) (tale : Tale) (told : IsUnder old now progress tale) where
@@ -77,26 +65,29 @@ module _ (arrivals : List Arrival) where
     so_many n is = sym (ap (λ (p : Progress). p.cycles) told.way.counted) ∙ is
 
     -- the steps of one more cycle can be counted
-    pub room : (done : List Step) → now.cycle ≤ 2 ^ 40 → length done ≤ 8 → tale.retired + length done < 2 ^ 64
-    room done within few =
+    pub room : (more : ℕ) → now.cycle ≤ 2 ^ 40 → more ≤ 8 → HasRoom tale more
+    room more within few =
         let cycles : progress.cycles ≡ length told.way.reports = ap (λ (p : Progress). p.cycles) told.way.counted in
-        let steps : length told.steps ≤ 8 * 2 ^ 40 = omega (arith, told.few, cycles, cycles_counted told.way.goes, within) in
-        omega (arith, told.retired, count_by-le-length is_retired told.steps, steps, few)
+        let moments : length told.moments ≡ length told.way.reports = length-reports told.moments ∙ ap length told.same in
+        let steps : steps_of (reports_of told.moments) ≡ told.steps = ap steps_of told.same ∙ sym told.way.listed in
+        let counted = cycles_counted told.way.goes in
+        subst (λ (t : Tale). HasRoom t more) (sym told.kept)
+        (has_room values old told.moments more (omega (arith, ap length steps, told.few, cycles, counted, within)) (omega (arith, moments, counted, within)) few)
 
     -- the run ended
-    pub told_to_the_end : (reason : Stop) (limit : ℕ) → IsStop limit told.way.reports now reason → IsTold arrivals limit old now reason progress tale
+    pub told_to_the_end : (reason : Stop) (limit : ℕ) → IsStop limit told.way.reports now reason → IsTold arrivals limit values old now reason progress tale
     told_to_the_end reason limit stops = record {
       moments = told.moments;
       passes = told.passes;
       stops = subst (λ (reports : List Report). IsStop limit reports now reason) (sym told.same) stops;
       counted = told.way.counted ∙ ap progress_of (sym told.same);
-      kept = λ i. record { retired = (told.retired ∙ ap (count_by is_retired) (told.way.listed ∙ ap steps_of (sym told.same))) i; exception = told.exception i };
+      kept = told.kept;
     }
 
     -- one more cycle
     module _ (new : Hardware) (cleared list done : List Step) (progress' : Progress) (tale' : Tale) (stop : Option Stop)
         (none : cleared ≡ []) (next : IsNextCycle arrivals now new cleared list progress progress' stop) (listed : done ≡ list)
-        (retired : tale'.retired ≡ tale.retired + count_by is_retired done) (exception : tale'.exception ≡ option_or tale.exception (exception_in new done)) where
+        (registers : List ℕ) (before : registers ≡ now.registers) (added : tale' ≡ tale_after registers done new tale) where
       steps_are : done ≡ next.report.steps
       steps_are = listed ∙ next.steps_are ∙ ap (λ l. l ++ next.report.steps) none
 
@@ -114,12 +105,9 @@ module _ (arrivals : List Arrival) where
       unfolding moment
       same_now = reports_of-push told.moments moment ∙ ap (λ reports. reports ++ next.report ∷ []) told.same
 
-      retired_now : tale'.retired ≡ count_by is_retired (told.steps ++ next.report.steps)
-      retired_now = retired ∙ (λ i. told.retired i + count_by is_retired (steps_are i)) ∙ sym (sum_by-append _ told.steps next.report.steps)
-
-      exception_now : tale'.exception ≡ first_exception moments_now
+      kept_now : tale' ≡ tale_of values old moments_now
       unfolding moment
-      exception_now = exception ∙ (λ i. option_or (told.exception i) (exception_in new (steps_are i))) ∙ sym (first_exception-push told.moments moment)
+      kept_now = added ∙ (λ i. tale_after (before i) (steps_are i) new (told.kept i)) ∙ tale-push values moment told.passes
 
       pub told_on : stop ≡ None → IsUnder old new progress' tale'
       told_on goes = record {
@@ -135,13 +123,11 @@ module _ (arrivals : List Arrival) where
         moments = moments_now;
         passes = passes_now;
         same = same_now;
-        retired = retired_now;
-        exception = exception_now;
+        kept = kept_now;
       }
 
-      pub told_at_the_stop : (reason : Stop) (limit : ℕ) → stop ≡ Some reason → length told.way.reports < limit → IsTold arrivals limit old new reason progress' tale'
+      pub told_at_the_stop : (reason : Stop) (limit : ℕ) → stop ≡ Some reason → length told.way.reports < limit → IsTold arrivals limit values old new reason progress' tale'
       told_at_the_stop reason limit is within =
-          let steps_now = listed_now arrivals old now new progress told.steps next.report told.way next.cycle in
           let progress_now = next.counted ∙ counted_now arrivals old now new progress told.steps next.report told.way next.cycle in
           let stops = is_stop limit told.way.reports next.report new reason told.way.none_stops (next.stop_is ∙ is) (subst IsCommitStop is next.reason) within in
           record {
@@ -149,11 +135,11 @@ module _ (arrivals : List Arrival) where
             passes = passes_now;
             stops = subst (λ (reports : List Report). IsStop limit reports new reason) (sym same_now) stops;
             counted = progress_now ∙ ap progress_of (sym same_now);
-            kept = λ i. record { retired = (retired_now ∙ ap (count_by is_retired) (steps_now ∙ ap steps_of (sym same_now))) i; exception = exception_now i };
+            kept = kept_now;
           }
 
 -- what is told of a run by the values that its end hands on
-pub told_by : (arrivals : List Arrival) (limit : ℕ) (old new new' : Hardware) (stop stop' : Stop) (progress progress' : Progress) (tale tale' : Tale)
-    → new' ≡ new → stop' ≡ stop → progress' ≡ progress → tale' ≡ tale → IsTold arrivals limit old new stop progress tale → IsTold arrivals limit old new' stop' progress' tale'
-told_by arrivals limit old new new' stop stop' progress progress' tale tale' core_is stop_is progress_is tale_is told =
+pub told_by : (values : Values) (arrivals : List Arrival) (limit : ℕ) (old new new' : Hardware) (stop stop' : Stop) (progress progress' : Progress) (tale tale' : Tale)
+    → new' ≡ new → stop' ≡ stop → progress' ≡ progress → tale' ≡ tale → IsTold arrivals limit values old new stop progress tale → IsTold arrivals limit values old new' stop' progress' tale'
+told_by values arrivals limit old new new' stop stop' progress progress' tale tale' core_is stop_is progress_is tale_is told =
     rw (core_is, stop_is, progress_is, tale_is) told

@@ -1,10 +1,14 @@
 -- How a run ended.
-use Rattle.std.specs.Prelude.{ℕ, List, ◌++◌, codes}
+use Rattle.std.specs.Prelude.{ℕ, List, [], ◌++◌, codes, Option, Some, None}
+use Rattle.std.specs.Option.{option_and_then}
 use Rattle.rv_arch.specs.declared.outcome.Stop.{Stop}
 use Rattle.rv_arch.specs.declared.outcome.Stop.TheVariants.{Limit, Breakpoint, Stale, Exhausted}
+use Rattle.rv_memory.specs.Memory.{word_of}
 use Rattle.rv_hardware.specs.Hardware.{Hardware}
 use Rattle.rv_source.specs.Listing.{Listed}
 use Rattle.rv_explain.specs.Place.{place_text}
+use Rattle.rv_explain.specs.WordNotes.{Notes, note_at}
+use Rattle.rv_explain.specs.declared.word_note.WordNote.{WordNote}
 
 -- why a run ended
 unfoldable pub reason_text : Stop → List ℕ
@@ -21,5 +25,18 @@ place_of (Stale pc) h = pc
 place_of Limit h = h.pc
 place_of Exhausted h = h.pc
 
-unfoldable pub ending_text : Listed → Stop → Hardware → List ℕ
-ending_text listing stop h = reason_text stop ++ place_text listing (place_of stop h)
+-- where the last store to a word is, if there was one
+unfoldable pub last_store_text : Listed → Option ℕ → List ℕ
+last_store_text listing (Some pc) = codes "The last store to that word was the one at " ++ place_text listing pc
+last_store_text listing None = []
+
+-- the last store to the word at which a run ended, if that is stale
+abbrev pub stale_text : Listed → Stop → Notes → List ℕ
+stale_text listing (Stale pc) notes =
+    last_store_text listing (option_and_then (λ (note : WordNote). note.last_store) (note_at notes (word_of pc)))
+stale_text listing Breakpoint notes = []
+stale_text listing Limit notes = []
+stale_text listing Exhausted notes = []
+
+unfoldable pub ending_text : Listed → Stop → Hardware → Notes → List ℕ
+ending_text listing stop h notes = reason_text stop ++ (place_text listing (place_of stop h) ++ stale_text listing stop notes)

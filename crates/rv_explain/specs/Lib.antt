@@ -1,7 +1,12 @@
 pub mod History
 pub mod Place
+pub mod WordNotes
+pub mod LastStore
+pub mod Head
+pub mod Load
+pub mod Stack
+pub mod Hotspot
 pub mod Ending
 pub mod Exception
-pub mod Stack
 pub mod Tale
 pub mod Explanation

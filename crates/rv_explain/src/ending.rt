@@ -1,9 +1,10 @@
 ghost use Rattle.std.specs.Prelude.{◌≡◌};
 ghost use Rattle.rv_arch.specs.Csr.{value_of};
-ghost use Rattle.rv_explain.specs.Ending.{reason_text, place_of, ending_text};
+ghost use Rattle.rv_explain.specs.Ending.{reason_text, place_of, last_store_text, stale_text, ending_text};
 ghost use Rattle.rv_text.specs.Written.{IsWritten};
 
 use crate::place::write_place;
+use crate::word_notes::WordNotes;
 use rv_arch::Stop;
 use rv_core::Core;
 use rv_isa::Csr;
@@ -45,15 +46,49 @@ fn place(stop: Stop, core: &Core) -> u32
     }
 }
 
+#[tactic(auto, unfolding(crate::specs::Ending::last_store_text))]
+fn write_last_store<W: Write>(
+    writer: &mut W,
+    listing: &Listing,
+    last_store: Option<u32>,
+) -> Result<(), ReportError>
+    ensures { IsWritten result (W.contents writer.old) (W.contents writer.new) (last_store_text listing.now last_store) }
+{
+    match last_store {
+        Some(pc) => {
+            put(writer, b"The last store to that word was the one at ")?;
+            write_place(writer, listing, pc)
+        }
+        None => Ok(()),
+    }
+}
+
+// The last store to the word that the run ended at, if it did at a stale one.
+fn write_stale<W: Write>(
+    writer: &mut W,
+    listing: &Listing,
+    stop: Stop,
+    words: &WordNotes,
+) -> Result<(), ReportError>
+    ensures { IsWritten result (W.contents writer.old) (W.contents writer.new) (stale_text listing.now stop words.now) }
+{
+    match stop {
+        Stop::Stale(pc) => write_last_store(writer, listing, words.last_store(pc / 4)),
+        Stop::Breakpoint | Stop::Limit | Stop::Exhausted => Ok(()),
+    }
+}
+
 /// Writes why a run ended, and where.
 pub(crate) fn write_ending<W: Write>(
     writer: &mut W,
     listing: &Listing,
     stop: Stop,
     core: &Core,
+    words: &WordNotes,
 ) -> Result<(), ReportError>
-    ensures { IsWritten result (W.contents writer.old) (W.contents writer.new) (ending_text listing.now stop core.now) }
+    ensures { IsWritten result (W.contents writer.old) (W.contents writer.new) (ending_text listing.now stop core.now words.now) }
 {
     put(writer, reason(stop))?;
-    write_place(writer, listing, place(stop, core))
+    write_place(writer, listing, place(stop, core))?;
+    write_stale(writer, listing, stop, words)
 }

@@ -1,70 +1,145 @@
-ghost use Rattle.std.specs.Prelude.{ℕ, List, ◌≤◌, vec_capacity, MatchResult};
-ghost use Rattle.std.specs.Io.KnownBytes.{Appends};
-ghost use Rattle.rv_explain.specs.Explanation.{IsExplanation, cycle_text, explanation};
-ghost use Rattle.rv_text.specs.Written.{AppendsBeginning, IsWritten};
+ghost use Rattle.std.specs.Prelude.{◌≡◌, ◌≤◌, [], vec_capacity, IfOk};
+ghost use Rattle.rv_explain.specs.Explanation.{IsExplained, cost_text, cycle_text, explanation};
+ghost use Rattle.rv_hardware.specs.Hardware.{Hardware};
+ghost use Rattle.rv_explain.specs.Tale.{tale_of};
+ghost use Rattle.rv_text.specs.Written.{IsWritten};
 
 use crate::ending::write_ending;
 use crate::exceptions::write_exception;
-use crate::running::{Told, run_told};
+use crate::hotspots::write_hotspots;
+use crate::loads::write_loads;
+use crate::running::run_told;
 use crate::stack::{write_counts, write_stalls};
 use crate::tale::Tale;
 use rv_arch::Stop;
 use rv_core::{Core, Progress};
 use rv_hardware::Step;
-use rv_isa::Arrivals;
+use rv_isa::{Arrivals, Description};
 use rv_source::Listing;
 use rv_text::{Field, ReportError, Value, write_fields};
+use std::alloc::{AllocError, Global};
 use std::io::Write;
+
+/// Why a run was not explained whole.
+#[derive(Clone, Copy, Debug, PartialEq, Eq)]
+pub enum ExplanationError {
+    /// There was no memory, and nothing was written.
+    Memory,
+    /// A write answered an error, or took nothing: what was written is a beginning of the sentences.
+    WriteFailed,
+}
+
+// What a run of the core begins with.
+#[derive(Drop)]
+struct Beginning {
+    steps: Vec<Step>,
+    tale: Tale,
+}
+
+// Room for the steps of a cycle, and a tale of no cycle.
+fn begin(alloc: Global, description: &Description) -> Result<Beginning, AllocError>
+    ensures room { IfOk result (λ beginning. 8 ≤ vec_capacity beginning.steps) }
+    ensures untold { IfOk result (λ beginning. (h : Hardware) → beginning.tale ≡ tale_of description.now h []) }
+{
+    let steps = Vec::with_capacity(alloc, 8)?;
+    let tale = Tale::new(alloc, description)?;
+    Ok(Beginning { steps, tale })
+}
 
 // The cycles, and those to each instruction.
 fn write_cycles<W: Write>(
     writer: &mut W,
     progress: &Progress,
-    tale: &Tale,
+    retired: u64,
 ) -> Result<(), ReportError>
-    ensures { IsWritten result (W.contents writer.old) (W.contents writer.new) (cycle_text progress.now tale.now) }
+    ensures { IsWritten result (W.contents writer.old) (W.contents writer.new) (cycle_text progress.now retired) }
 {
-    write_counts(writer, progress.cycles, tale.retired)?;
+    write_counts(writer, progress.cycles, retired)?;
     write_fields(
         writer,
         &[Field {
             name: "cycles per instruction",
             value: Value::Ratio {
                 count: progress.cycles,
-                each: tale.retired,
+                each: retired,
             },
         }],
     )?;
     write_stalls(writer, progress)
 }
 
-// The sentences on a run that ended.
-fn write_told<W: Write>(writer: &mut W, listing: &Listing, told: &Told) -> Result<(), ReportError>
-    ensures { IsWritten result (W.contents writer.old) (W.contents writer.new) (explanation listing.now told.now.stop told.now.core told.now.progress told.now.tale) }
+// Where the cycles went.
+fn write_costs<W: Write>(
+    writer: &mut W,
+    listing: &Listing,
+    progress: &Progress,
+    tale: &mut Tale,
+) -> Result<(), ReportError>
+    ensures { IsWritten result (W.contents writer.old) (W.contents writer.new) (cost_text listing.now progress.now tale.old) }
 {
-    write_ending(writer, listing, told.stop, &told.core)?;
-    write_exception(writer, listing, &told.tale.exception)?;
-    write_cycles(writer, &told.progress, &told.tale)
+    write_cycles(writer, progress, tale.retired)?;
+    write_loads(writer, &tale.loads)?;
+    write_hotspots(writer, listing, progress.cycles, &mut tale.words)
+}
+
+// The sentences on a run that ended.
+fn write_told<W: Write>(
+    writer: &mut W,
+    listing: &Listing,
+    stop: Stop,
+    core: &Core,
+    progress: &Progress,
+    tale: &mut Tale,
+) -> Result<(), ReportError>
+    ensures { IsWritten result (W.contents writer.old) (W.contents writer.new) (explanation listing.now stop core.now progress.now tale.old) }
+{
+    write_ending(writer, listing, stop, core, &tale.words)?;
+    write_exception(writer, listing, &tale.exception)?;
+    write_costs(writer, listing, progress, tale)
 }
 
 /// Runs a core, each cycle with the lines of its number, up to a breakpoint, a stale word, exhaustion or so many cycles,
-/// and then writes what the run came to, in plain sentences: how it ended, where and why; the first trap that is no breakpoint;
-/// and where the cycles went. The listing is that of the program, whose lines are shown. `steps` is a list with room for the
-/// eight steps of a cycle. Asks for no memory. Answers why the run ended.
+/// and then writes what the run came to, in plain sentences: how it ended, where and why, and for a stale word the last
+/// store to it; the first trap that is no breakpoint; where the cycles went; what its loads cost; and the five instructions
+/// that most cycles left at the head of the reorder buffer. The description tells where RAM lies, whose words are counted,
+/// and what loads cost. The listing is that of the program, whose lines are shown. Answers why the run ended.
 ///
-/// Fails by `WriteFailed` alone, and what was written is then a beginning of the sentences.
+/// # Errors
+///
+/// `Memory` for want of memory, before the run: then nothing was written. `WriteFailed` where a write fails: then what was
+/// written is a beginning of the sentences.
 pub fn write_explanation<W: Write>(
-    core: Core,
+    alloc: Global,
+    core: &mut Core,
+    description: &Description,
     arrivals: &Arrivals,
     limit: u64,
     listing: &Listing,
-    steps: Vec<Step>,
     writer: &mut W,
-) -> Result<Stop, ReportError>
-    requires room { 8 ≤ vec_capacity steps }
-    ensures { MatchResult result (λ stop. (text : List ℕ) × IsExplanation arrivals.now limit listing.now core stop text × Appends (W.contents writer.old) (W.contents writer.new) text) (λ error. (stop : Stop) × (text : List ℕ) × IsExplanation arrivals.now limit listing.now core stop text × AppendsBeginning (W.contents writer.old) (W.contents writer.new) text) }
+) -> Result<Stop, ExplanationError>
+    ensures { IsExplained arrivals.now limit description.now listing.now core.old result (W.contents writer.old) (W.contents writer.new) }
 {
-    let told = run_told(core, arrivals, limit, steps);
-    write_told(writer, listing, &told)?;
-    Ok(told.stop)
+    let Ok(beginning) = begin(alloc, description) else {
+        return Err(ExplanationError::Memory);
+    };
+    let told = run_told(
+        core,
+        description,
+        arrivals,
+        limit,
+        beginning.steps,
+        beginning.tale,
+    );
+    let mut tale = told.tale;
+    match write_told(
+        writer,
+        listing,
+        told.stop,
+        core,
+        &told.progress,
+        &mut tale,
+    ) {
+        Ok(()) => Ok(told.stop),
+        Err(ReportError::WriteFailed) => Err(ExplanationError::WriteFailed),
+    }
 }

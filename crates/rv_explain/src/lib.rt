@@ -1,16 +1,23 @@
-//! What a run of the core came to, in plain sentences: how it ended and why, the first trap, and where its cycles went.
-//! The text is a function of the run and of the listing of its program.
+//! What a run of the core came to, in plain sentences: how it ended and why, the first trap, where its cycles went, and what
+//! its loads cost. The text is a function of the run and of the listing of its program.
 #![tactic(auto)]
 
 mod ending;
 mod exception;
 mod exceptions;
 mod explanation;
+mod hotspot;
+mod hotspots;
+mod loads;
 mod place;
 mod running;
 mod stack;
+mod stored;
+mod stores;
 mod tale;
 #[cfg(test)]
 mod tests;
+mod word_note;
+mod word_notes;
 
-pub use explanation::write_explanation;
+pub use explanation::{ExplanationError, write_explanation};

@@ -1,52 +1,59 @@
-ghost use Rattle.std.specs.Prelude.{◌≡◌, ◌≤◌, vec_capacity};
+ghost use Rattle.std.specs.Prelude.{◌≡◌, ◌≤◌, [], vec_capacity};
 ghost use Rattle.rv_explain.specs.Explanation.{IsTold};
+ghost use Rattle.rv_explain.specs.Tale.{tale_of};
+ghost use Rattle.rv_isa.specs.declared.values.Values.{Values};
 
 use crate::tale::Tale;
 use rv_arch::Stop;
 use rv_core::{Core, Progress};
 use rv_hardware::Step;
-use rv_isa::Arrivals;
+use rv_isa::{Arrivals, Description};
 
-/// A core at the end of a run, why it ended, and what was kept of it.
+/// Why a run ended, and what was kept of it.
 #[derive(Drop)]
 pub(crate) struct Told {
-    pub(crate) core: Core,
     pub(crate) stop: Stop,
     pub(crate) progress: Progress,
     pub(crate) tale: Tale,
 }
 
-/// Runs a core to the end.
-pub(crate) fn run_told(core: Core, arrivals: &Arrivals, limit: u64, steps: Vec<Step>) -> Told
+/// Runs a core to the end, from a tale of no cycle on.
+pub(crate) fn run_told(
+    core: &mut Core,
+    description: &Description,
+    arrivals: &Arrivals,
+    limit: u64,
+    steps: Vec<Step>,
+    tale: Tale,
+) -> Told
     requires room { 8 ≤ vec_capacity steps }
-    ensures { IsTold arrivals.now limit core result.core result.stop result.progress result.tale }
+    requires untold { tale ≡ tale_of description.now core.old [] }
+    ensures { IsTold arrivals.now limit description.now core.old core.new result.stop result.progress result.tale }
 {
-    let mut core = core;
     let mut steps = steps;
     let mut progress = Progress::new();
-    let mut tale = Tale::new();
+    let mut tale = tale;
     for _ in 0..limit {
         if core.is_exhausted() {
-            return finished(core, Stop::Exhausted, progress, tale);
+            return finished(Stop::Exhausted, progress, tale);
         }
+        let mut registers = core.observe().regs;
         steps.clear();
-        let stop = progress.run_cycle(&mut core, arrivals, &mut steps);
-        tale.add(steps.as_slice(), &core);
+        let stop = progress.run_cycle(core, arrivals, &mut steps);
+        tale.add(&mut registers, steps.as_slice(), core);
         if let Some(stop) = stop {
-            return finished(core, stop, progress, tale);
+            return finished(stop, progress, tale);
         }
     }
-    finished(core, Stop::Limit, progress, tale)
+    finished(Stop::Limit, progress, tale)
 }
 
-fn finished(core: Core, stop: Stop, progress: Progress, tale: Tale) -> Told
-    ensures core { result.core ≡ core }
+fn finished(stop: Stop, progress: Progress, tale: Tale) -> Told
     ensures stop { result.stop ≡ stop }
     ensures progress { result.progress ≡ progress }
     ensures tale { result.tale ≡ tale }
 {
     Told {
-        core,
         stop,
         progress,
         tale,

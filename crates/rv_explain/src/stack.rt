@@ -41,7 +41,8 @@ fn front(text: &[u8], count: u128) -> &[u8]
     }
 }
 
-fn write_share<W: Write>(
+/// Writes a name, a count, and what part of all it is.
+pub(crate) fn write_share<W: Write>(
     writer: &mut W,
     name: &str,
     count: u64,

@@ -1,18 +1,26 @@
-ghost use Rattle.std.specs.Prelude.{◌≡◌, ◌+◌, ◌<◌, ◌^◌, None, count_by, length};
-ghost use Rattle.std.specs.Option.{option_or};
-ghost use Rattle.rv_explain.specs.Exception.{exception_in};
-ghost use Rattle.rv_explain.specs.Tale.{is_retired};
+ghost use Rattle.std.specs.Prelude.{◌≡◌, [], count_by, length, IfOk};
+ghost use Rattle.rv_hardware.specs.Hardware.{Hardware};
+ghost use Rattle.rv_explain.specs.Tale.{HasRoom, is_retired, tale_after, tale_of};
 
 use crate::exception::Exception;
 use crate::exceptions::exception_in;
+use crate::hotspots::note_head;
+use crate::loads::{Costs, Loads};
+use crate::stores::note_stores;
+use crate::word_notes::WordNotes;
 use rv_core::Core;
 use rv_hardware::Step;
+use rv_isa::Description;
+use std::alloc::{AllocError, Global};
 
-/// What is kept of a run's steps so far.
-#[derive(Clone, Copy, Debug)]
+/// What is kept of a run so far.
+#[derive(Debug, Drop)]
 pub(crate) struct Tale {
     pub(crate) retired: u64,
     pub(crate) exception: Option<Exception>,
+    pub(crate) costs: Costs,
+    pub(crate) loads: Loads,
+    pub(crate) words: WordNotes,
 }
 
 fn count_retired(steps: &[Step]) -> usize
@@ -25,22 +33,28 @@ fn count_retired(steps: &[Step]) -> usize
 }
 
 impl Tale {
-    pub(crate) fn new() -> Tale
-        ensures { result ≡ record { retired = 0; exception = None } }
+    /// What is kept of no cycle. The only error is want of memory.
+    pub(crate) fn new(alloc: Global, description: &Description) -> Result<Tale, AllocError>
+        ensures { IfOk result (λ tale. (h : Hardware) → tale ≡ tale_of description.now h []) }
     {
-        Tale {
+        Ok(Tale {
             retired: 0,
             exception: None,
-        }
+            costs: Costs::new(&description.values()),
+            loads: Loads { all: 0, quick: 0 },
+            words: WordNotes::new(alloc, description)?,
+        })
     }
 
-    /// Keeps what the steps of the core's last cycle tell.
-    pub(crate) fn add(&mut self, steps: &[Step], core: &Core)
-        requires room { self.old.retired + length steps.now < 2 ^ 64 }
-        ensures retired { self.new.retired ≡ self.old.retired + count_by is_retired steps.now }
-        ensures exception { self.new.exception ≡ option_or self.old.exception (exception_in core.now steps.now) }
+    /// Keeps what the core's last cycle tells, by its steps and the registers before them.
+    pub(crate) fn add(&mut self, registers: &mut [u32; 32], steps: &[Step], core: &Core)
+        requires room { HasRoom self.old (length steps.now) }
+        ensures { self.new ≡ tale_after registers.old steps.now core.now self.old }
     {
         self.retired += count_retired(steps) as u64;
         self.exception = self.exception.or(exception_in(steps, core));
+        self.loads.add(&self.costs, steps);
+        note_head(&mut self.words, core);
+        note_stores(&mut self.words, registers, steps);
     }
 }

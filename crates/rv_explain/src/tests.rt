@@ -42,13 +42,21 @@ fn a_trap_without_a_handler_is_explained(rt: HostRuntime) -> Result<(), Fail> {
     let alloc = rt.alloc();
     let listing = listed(alloc, &["addi x1,x0,5", "ecall"])?;
     let arrivals = Arrivals::new(Vec::new(alloc)).expect(&rt, "no arrivals");
-    let steps = Vec::with_capacity(alloc, 8)?;
     let mut output = Vec::new(alloc);
     let description = Description::new(Values::standard()).expect(&rt, "a legal description");
     let image = Image::from_bytes(alloc, 0x8000_0000, &BYTES, 0x8000_0000)?;
     let predictor = Box::new(alloc, NotTaken)?;
-    let core = Core::new(alloc, &description, &image, predictor).expect(&rt, "a core");
-    write_explanation(core, &arrivals, 20, &listing, steps, &mut output).expect(&rt, "room");
+    let mut core = Core::new(alloc, &description, &image, predictor).expect(&rt, "a core");
+    write_explanation(
+        alloc,
+        &mut core,
+        &description,
+        &arrivals,
+        20,
+        &listing,
+        &mut output,
+    )
+    .expect(&rt, "room");
     assert!(&rt; output.as_slice() == SENTENCES);
     Ok(())
 }

@@ -1,4 +1,4 @@
-ghost use Rattle.std.specs.Prelude.{◌≡◌, ◌⊎◌, ℕ, List, IfOk, IfErr};
+ghost use Rattle.std.specs.Prelude.{◌≡◌, ◌⊎◌, ℕ, List, Ok, Err, IfOk, IfErr};
 ghost use Rattle.std.specs.Io.KnownBytes.{Appends, Keeps};
 ghost use Rattle.rv_sim.specs.ExplanationReport.{IsExplanationOf};
 ghost use Rattle.rv_text.specs.Written.{AppendsBeginning};
@@ -6,10 +6,24 @@ ghost use Rattle.rv_text.specs.Written.{AppendsBeginning};
 use crate::boxed_predictor::BoxedPredictor;
 use rv_arch::Stop;
 use rv_core::Core;
-use rv_explain::write_explanation;
+use rv_explain::{ExplanationError, write_explanation};
 use rv_job::{ListedJob, SimError};
 use std::alloc::Global;
 use std::io::Write;
+
+// What is answered behind sentences that were written, or were not.
+fn answer(told: Result<Stop, ExplanationError>) -> Result<Stop, SimError>
+    ensures done { (stop : Stop) → result ≡ Ok stop → told ≡ Ok stop }
+    ensures memory { result ≡ Err SimError.Memory → told ≡ Err ExplanationError.Memory }
+    ensures failed { result ≡ Err SimError.WriteFailed → told ≡ Err ExplanationError.WriteFailed }
+    ensures errors { IfErr result (λ e. (e ≡ SimError.Memory) ⊎ (e ≡ SimError.WriteFailed)) }
+{
+    match told {
+        Ok(stop) => Ok(stop),
+        Err(ExplanationError::Memory) => Err(SimError::Memory),
+        Err(ExplanationError::WriteFailed) => Err(SimError::WriteFailed),
+    }
+}
 
 /// Simulates a job on the core that it describes, with the job's arrivals at the numbers of the cycles, up to a breakpoint,
 /// a stale word or so many cycles, and writes what the run came to, in plain sentences that show the lines of the job's
@@ -33,10 +47,18 @@ pub fn explain<W: Write>(
     ensures errors { IfErr result (λ e. (e ≡ SimError.Memory) ⊎ (e ≡ SimError.WriteFailed)) }
 {
     let job = &listed.job;
-    let steps = Vec::with_capacity(alloc, 8)?;
     // The image of a job fits, so that memory alone can be wanting.
-    let Ok(core) = Core::new(alloc, &job.description, &job.image, predictor.predictor) else {
+    let Ok(mut core) = Core::new(alloc, &job.description, &job.image, predictor.predictor) else {
         return Err(SimError::Memory);
     };
-    Ok(write_explanation(core, &job.arrivals, limit, &listed.listing, steps, writer)?)
+    let told = write_explanation(
+        alloc,
+        &mut core,
+        &job.description,
+        &job.arrivals,
+        limit,
+        &listed.listing,
+        writer,
+    );
+    answer(told)
 }

@@ -16,4 +16,4 @@ returns-in_err-write_exception g c =
 pub returns : goal.returns
 unfolding explanation
 returns g c =
-    written_behind _ _ _ _ _ _ c.in_ok-write_ending.ensures (written_behind _ _ _ _ _ _ c.in_ok-write_exception.ensures c.write_cycles.ensures)
+    written_behind _ _ _ _ _ _ c.in_ok-write_ending.ensures (written_behind _ _ _ _ _ _ c.in_ok-write_exception.ensures c.write_costs.ensures)

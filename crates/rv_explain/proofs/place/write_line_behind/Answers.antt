@@ -1,7 +1,7 @@
 use Rattle.std.proofs.Common.{◌∙◌, ap, sym}
 use Rattle.rv_source.specs.Listing.{Line}
 use Rattle.rv_explain.specs.Place.{line_behind}
-use Rattle.rv_explain.proofs.Lines.{map-none}
+use Rattle.rv_explain.proofs.Options.{map-none}
 use Rattle.rv_text.proofs.Writing.{written_same}
 use Rattle.rv_explain.proofs.place.write_line_behind.Goals as goal
 

@@ -1,0 +1,19 @@
+use Rattle.rv_explain.specs.Explanation.{cost_text}
+use Rattle.rv_text.proofs.Writing.{handed_on, written_behind, beginning-longer, beginning-both}
+use Rattle.rv_explain.proofs.explanation.write_costs.Goals as goal
+
+pub returns-in_err-write_cycles : goal.returns-in_err-write_cycles
+unfolding cost_text
+returns-in_err-write_cycles g c =
+    handed_on _ _ _ _ _ c.from_residual.ensures.1 (beginning-longer _ _ _ _ c.in_err-write_cycles.ensures)
+
+pub returns-in_err-write_loads : goal.returns-in_err-write_loads
+unfolding cost_text
+returns-in_err-write_loads g c =
+    handed_on _ _ _ _ _ c.from_residual-in_err-write_loads.ensures.1
+    (beginning-both _ _ _ _ _ c.in_ok-write_cycles.ensures (beginning-longer _ _ _ _ c.in_err-write_loads.ensures))
+
+pub returns : goal.returns
+unfolding cost_text
+returns g c =
+    written_behind _ _ _ _ _ _ c.in_ok-write_cycles.ensures (written_behind _ _ _ _ _ _ c.in_ok-write_loads.ensures c.write_hotspots.ensures)

@@ -1,0 +1,44 @@
+-- What is kept of each word of RAM.
+use Rattle.std.specs.Prelude.{ℕ, ◌+◌, ◌-◌, nat_lt, if◌then◌else◌, List, map, Option, Some, None, slice_set}
+use Rattle.std.specs.List.{range_with_len, slice_get}
+use Rattle.rv_isa.specs.declared.values.Values.{Values}
+use Rattle.rv_memory.specs.Memory.{word_of}
+use Rattle.rv_explain.specs.declared.word_note.WordNote.{WordNote}
+
+-- the number of RAM's first word, and what is kept of that word and of the others, in order
+pub record Notes : Type 0 where
+  pub first : ℕ
+  pub words : List WordNote
+
+-- what is kept, by the words' numbers
+abbrev pub notes_of : Values → (ℕ → WordNote) → Notes
+notes_of values note = record {
+  first = word_of values.ram_base;
+  words = map note (range_with_len (word_of values.ram_base) (word_of values.ram_size));
+}
+
+-- what is kept of a word, if it lies in RAM
+abbrev pub note_at : Notes → ℕ → Option WordNote
+note_at notes word = if nat_lt word notes.first then None else slice_get notes.words (word - notes.first)
+
+-- another note of a word that lies in RAM
+abbrev pub with_note : Notes → ℕ → WordNote → Notes
+with_note notes word note =
+    if nat_lt word notes.first then notes else record notes { words = slice_set notes.words (word - notes.first) note }
+
+-- a change of the note of a word, if it has one
+abbrev pub changed : (WordNote → WordNote) → Notes → ℕ → Option WordNote → Notes
+changed change notes word None = notes
+changed change notes word (Some note) = with_note notes word (change note)
+
+-- a change of what is kept of a word; of a word outside RAM nothing is
+abbrev pub with_change : (WordNote → WordNote) → Notes → ℕ → Notes
+with_change change notes word = changed change notes word (note_at notes word)
+
+-- the instruction at an address stored to a word
+abbrev pub stored_by : ℕ → WordNote → WordNote
+stored_by pc note = record note { last_store = Some pc }
+
+-- the instruction in a word stood at the head for one more cycle
+abbrev pub once_more_at_head : WordNote → WordNote
+once_more_at_head note = record note { head_cycles = note.head_cycles + 1 }

@@ -1,0 +1,83 @@
+ghost use Rattle.std.specs.Prelude.{◌≡◌};
+ghost use Rattle.std.specs.List.{flat_map};
+ghost use Rattle.rv_explain.specs.Head.{head_word, with_head};
+ghost use Rattle.rv_explain.specs.Hotspot.{counts_of, hotspot_text, hotspots, hotspots_text};
+ghost use Rattle.std.specs.Prelude.{◌+◌, ◌<◌, ◌^◌, ℕ, IfSome};
+ghost use Rattle.rv_explain.specs.WordNotes.{note_at};
+ghost use Rattle.rv_text.specs.Written.{IsWritten};
+
+use crate::hotspot::Hotspot;
+use crate::place::write_place;
+use crate::stack::write_share;
+use crate::word_notes::WordNotes;
+use rv_core::Core;
+use rv_source::Listing;
+use rv_text::{ReportError, put};
+use std::io::Write;
+
+// The word of the instruction at the head of the reorder buffer.
+fn head_word(core: &Core) -> Option<u32>
+    ensures { result ≡ head_word core.now }
+{
+    let head = core.reorder_buffer().head()?;
+    Some(head.pc / 4)
+}
+
+/// Keeps which instruction a cycle left at the head of the reorder buffer.
+pub(crate) fn note_head(words: &mut WordNotes, core: &Core)
+    requires room { (word : ℕ) → IfSome (note_at words.old word) (λ note. note.head_cycles + 1 < 2 ^ 64) }
+    ensures { words.new ≡ with_head (head_word core.now) words.old }
+{
+    if let Some(word) = head_word(core) {
+        words.note_head(word);
+    }
+}
+
+fn write_hotspot<W: Write>(
+    writer: &mut W,
+    listing: &Listing,
+    all: u64,
+    hotspot: &Hotspot,
+) -> Result<(), ReportError>
+    ensures { IsWritten result (W.contents writer.old) (W.contents writer.new) (hotspot_text listing.now all hotspot.now) }
+{
+    write_place(writer, listing, hotspot.address)?;
+    write_share(writer, "       ", hotspot.cycles, all)
+}
+
+// Writes at most so many of the words with the most cycles.
+fn write_most<W: Write>(
+    writer: &mut W,
+    listing: &Listing,
+    all: u64,
+    words: &mut WordNotes,
+    most: u32,
+) -> Result<(), ReportError>
+    ensures { IsWritten result (W.contents writer.old) (W.contents writer.new) (flat_map (hotspot_text listing.now all) (hotspots most words.old.first (counts_of words.old))) }
+{
+    if most == 0 {
+        return Ok(());
+    }
+    let hotspot = words.take_hotspot();
+    if hotspot.cycles == 0 {
+        return Ok(());
+    }
+    write_hotspot(writer, listing, all, &hotspot)?;
+    write_most(writer, listing, all, words, most - 1)
+}
+
+/// Writes the five places at which most cycles passed, and takes their cycles from what is kept.
+pub(crate) fn write_hotspots<W: Write>(
+    writer: &mut W,
+    listing: &Listing,
+    all: u64,
+    words: &mut WordNotes,
+) -> Result<(), ReportError>
+    ensures { IsWritten result (W.contents writer.old) (W.contents writer.new) (hotspots_text listing.now all words.old) }
+{
+    put(
+        writer,
+        b"Most cycles passed at the head of the reorder buffer:\n",
+    )?;
+    write_most(writer, listing, all, words, 5)
+}
