@@ -131,14 +131,7 @@ pub fn write_explanation<W: Write>(
         beginning.tale,
     );
     let mut tale = told.tale;
-    match write_told(
-        writer,
-        listing,
-        told.stop,
-        core,
-        &told.progress,
-        &mut tale,
-    ) {
+    match write_told(writer, listing, told.stop, core, &told.progress, &mut tale) {
         Ok(()) => Ok(told.stop),
         Err(ReportError::WriteFailed) => Err(ExplanationError::WriteFailed),
     }

@@ -21,6 +21,10 @@ serial          0    0.0% \x20
 rob             0    0.0% \x20
 station         0    0.0% \x20
 store           0    0.0% \x20
+loads: 0, of them 0 at the cost of a hit or of forwarding, 0 at that of a miss
+Most cycles passed at the head of the reorder buffer:
+80000000, line 1: addi x1,x0,5
+                3   15.0%  ########
 ";
 
 // A listing of lines, each of one word.

@@ -23,6 +23,10 @@ serial          0    0.0% \x20
 rob             0    0.0% \x20
 station         0    0.0% \x20
 store           0    0.0% \x20
+loads: 0, of them 0 at the cost of a hit or of forwarding, 0 at that of a miss
+Most cycles passed at the head of the reorder buffer:
+80000000, line 1: addi x1,x0,5
+                3   60.0%  ##############################
 ";
 
 #[test]
@@ -35,7 +39,8 @@ fn a_run_is_explained_with_the_lines_of_its_program(rt: HostRuntime) {
 
 #[test]
 fn a_stale_word_that_is_explained_gives_status_3(rt: HostRuntime) {
-    let line =
+    let ending =
         "The run ended at a word that was stored to, and fetched with no FENCE.I behind the store, at 80000014, line 4: t: addi x7,x0,2";
-    check_run(&rt, rt.alloc(), EXPLAIN, STORE_INTO_CODE, 3, &[line]);
+    let store = "The last store to that word was the one at 80000010, line 3: sw x6,0(x5)";
+    check_run(&rt, rt.alloc(), EXPLAIN, STORE_INTO_CODE, 3, &[ending, store]);
 }
