@@ -1,23 +1,21 @@
 -- What is kept of a run, with one cycle more.
-use Rattle.std.proofs.Common.{◌≡◌, ◌∙◌, ℕ, ◌+◌, ◌*◌, ◌^◌, ◌<◌, ◌≤◌, List, [], ◌∷◌, ◌++◌, length, Option, count_by, cond, sym, ap, refl, arith, append-nil, append_assoc}
+use Rattle.std.proofs.Common.{◌≡◌, ◌∙◌, ℕ, ◌+◌, ◌*◌, ◌^◌, ◌<◌, ◌≤◌, List, [], ◌∷◌, ◌++◌, length, count_by, cond, sym, ap, arith, append-nil, append_assoc}
 use Rattle.std.specs.Prelude.{is_some}
 use Rattle.std.specs.Option.{option_or}
 use Rattle.std.proofs.lemmas.List.Sums.{count_by-le-length, sum_by-append}
 use Rattle.rv_isa.specs.declared.lines.Arrival.{Arrival}
 use Rattle.rv_isa.specs.declared.values.Values.{Values}
 use Rattle.rv_hardware.specs.Hardware.{Hardware}
-use Rattle.rv_hardware.specs.Report.{Report}
 use Rattle.rv_hardware.specs.Run.{steps_of}
 use Rattle.rv_hardware.specs.declared.step.Step.{Step}
 use Rattle.rv_explain.specs.Exception.{exception_in, first_exception}
-use Rattle.rv_explain.specs.Head.{head_cycles, head_word}
+use Rattle.rv_explain.specs.Head.{head_cycles}
 use Rattle.rv_explain.specs.History.{History, Moment, reports_of}
 use Rattle.rv_explain.specs.LastStore.{last_store_to, stores_in, stores_of, with_stores}
 use Rattle.rv_explain.specs.Load.{both_loads, costs_of, is_quick, load_cost, loads_of}
 use Rattle.rv_explain.specs.Tale.{HasRoom, is_retired, tale_after, tale_of}
 use Rattle.rv_explain.specs.WordNotes.{notes_of}
 use Rattle.rv_explain.specs.declared.loads.Costs.{Costs}
-use Rattle.rv_explain.specs.declared.tale.Tale.{Tale}
 use Rattle.rv_explain.proofs.Heads.{head_cycles-le, with_head_of}
 use Rattle.rv_explain.proofs.LastStores.{stores_of-push, with_stores_of}
 use Rattle.rv_explain.proofs.Options.{option_or-assoc, option_or-none}

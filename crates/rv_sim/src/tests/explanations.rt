@@ -42,5 +42,12 @@ fn a_stale_word_that_is_explained_gives_status_3(rt: HostRuntime) {
     let ending =
         "The run ended at a word that was stored to, and fetched with no FENCE.I behind the store, at 80000014, line 4: t: addi x7,x0,2";
     let store = "The last store to that word was the one at 80000010, line 3: sw x6,0(x5)";
-    check_run(&rt, rt.alloc(), EXPLAIN, STORE_INTO_CODE, 3, &[ending, store]);
+    check_run(
+        &rt,
+        rt.alloc(),
+        EXPLAIN,
+        STORE_INTO_CODE,
+        3,
+        &[ending, store],
+    );
 }

@@ -1,7 +1,7 @@
 use Rattle.std.proofs.Common.{◌∙◌, List, None, ap}
 use Rattle.rv_memory.specs.Memory.{word_of}
 use Rattle.rv_isa.specs.declared.values.Values.{Values}
-use Rattle.rv_explain.specs.WordNotes.{Notes, notes_of}
+use Rattle.rv_explain.specs.WordNotes.{notes_of}
 use Rattle.rv_explain.specs.declared.word_note.WordNote.{WordNote}
 use Rattle.rv_explain.proofs.WordTable.{all_alike}
 use Rattle.rv_explain.proofs.word_notes.WordNotes.new.Goals as goal
