@@ -22,14 +22,14 @@ abbrev pub IsLegalWindow : ℕ → ℕ → Type 0
 IsLegalWindow from cycles = (from ≤ last_cycle) × (1 ≤ cycles) × (cycles ≤ most_cycles_shown)
 
 -- the numbers of a command lie in their ranges
-abbrev pub HasLegalLimit : Command → Type 0
-HasLegalLimit (Run trace limit) = IsLegalLimit limit
-HasLegalLimit (Reference limit) = IsLegalLimit limit
-HasLegalLimit Check = ⊤
-HasLegalLimit (Picture text from cycles) = IsLegalWindow from cycles
-HasLegalLimit (Log limit) = IsLegalLimit limit
-HasLegalLimit (Explain limit) = IsLegalLimit limit
-HasLegalLimit (Compare limit) = IsLegalLimit limit
+abbrev pub HasLegalNumbers : Command → Type 0
+HasLegalNumbers (Run trace limit) = IsLegalLimit limit
+HasLegalNumbers (Reference limit) = IsLegalLimit limit
+HasLegalNumbers Check = ⊤
+HasLegalNumbers (Picture text from cycles) = IsLegalWindow from cycles
+HasLegalNumbers (Log limit) = IsLegalLimit limit
+HasLegalNumbers (Explain limit) = IsLegalLimit limit
+HasLegalNumbers (Compare limit) = IsLegalLimit limit
 
 -- ---- what the matches of a command hold
 

@@ -1,6 +1,6 @@
 ghost use Rattle.std.specs.Prelude.{◌≡◌, ◌≤◌, ◌⊎◌, None, Some, IfErr, IfOk, IfSome, map, option_and_then};
 ghost use Rattle.clap.specs.Words.{HasKind, found_of, kind_of, rows_of, subcommand_rows_of};
-ghost use Rattle.rv_command.specs.Command.{HasLegalLimit, IsLegalLimit, command_named, command_of, flag_in, limit_in, number_in};
+ghost use Rattle.rv_command.specs.Command.{HasLegalNumbers, IsLegalLimit, command_named, command_of, flag_in, limit_in, number_in};
 ghost use Rattle.rv_command.specs.Command.{picture_in, refused_kinds, run_in};
 
 use crate::arguments::parser;
@@ -66,7 +66,7 @@ fn limit_given(given: &ArgMatches) -> Option<u64>
 
 fn run_given(given: &ArgMatches) -> Option<Command>
     ensures run { result ≡ run_in (rows_of (found_of given.now)) }
-    ensures legal { IfSome result HasLegalLimit }
+    ensures legal { IfSome result HasLegalNumbers }
 {
     let limit = limit_given(given)?;
     let trace = flag_given(given, "trace");
@@ -75,7 +75,7 @@ fn run_given(given: &ArgMatches) -> Option<Command>
 
 fn picture_given(given: &ArgMatches) -> Option<Command>
     ensures picture { result ≡ picture_in (rows_of (found_of given.now)) }
-    ensures legal { IfSome result HasLegalLimit }
+    ensures legal { IfSome result HasLegalNumbers }
 {
     let text = flag_given(given, "text");
     let from = number_given(given, "from", 0, LAST_CYCLE)?;
@@ -85,7 +85,7 @@ fn picture_given(given: &ArgMatches) -> Option<Command>
 
 fn command_given(matches: &ArgMatches) -> Option<Command>
     ensures command { result ≡ option_and_then command_named (subcommand_rows_of matches.now) }
-    ensures legal { IfSome result HasLegalLimit }
+    ensures legal { IfSome result HasLegalNumbers }
 {
     let (name, given) = matches.subcommand()?;
     match name {
@@ -118,7 +118,7 @@ pub fn parse_words(alloc: Global, words: &[String]) -> Result<Command, Error>
         (command_of (map (λ w. w.bytes.items) words.now) ≡ None)
         ⊎ (kind_of e ≡ ErrorKind.OutOfMemory)) }
     ensures kind { IfErr result (HasKind (refused_kinds (map (λ w. w.bytes.items) words.now))) }
-    ensures limit { IfOk result HasLegalLimit }
+    ensures ranges { IfOk result HasLegalNumbers }
 {
     let mut parser = parser(alloc)?;
     let matches = parser.try_get_matches_from_mut(words)?;

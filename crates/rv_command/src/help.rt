@@ -58,7 +58,18 @@ Exit status:
 
 pub(crate) const PICTURE: CommandHelp = CommandHelp {
     about: "Draws some cycles of a run of the text on standard input",
-    ending: ending_of_run!("rv_sim picture --from 100 --cycles 40 < FILE > FILE.svg"),
+    ending: "Reads a job from standard input, runs it up to the last of those cycles, and draws a column for each
+of them and a row for each instruction that was in the core then, as in:
+  rv_sim picture --from 100 --cycles 40 < FILE > FILE.svg
+  rv_sim picture --text < FILE
+
+Exit status:
+  0  the run ended by a breakpoint or with the last of those cycles
+  1  the job was refused
+  2  wrong usage
+  3  the run stopped at a stale word
+  4  standard input or output failed
+  5  out of memory",
 };
 
 pub(crate) const LOG: CommandHelp = CommandHelp {
@@ -73,8 +84,12 @@ pub(crate) const EXPLAIN: CommandHelp = CommandHelp {
 
 pub(crate) const COMPARE: CommandHelp = CommandHelp {
     about: "Runs one program on several machines, and compares their totals",
-    ending: "Reads from standard input descriptions of machines, a line %% behind each, and a program, as in:
+    ending: "Reads from standard input up to 64 descriptions of machines in TOML, a line %% behind each, and a program,
+as in:
   rv_sim compare < FILE
+
+Writes a line for each machine, in their order, its cells with a tab between two: its number, the
+counts of its run, and why the run ended.
 
 Exit status:
   0  the table was written; its last column says how each run ended

@@ -3,7 +3,7 @@ use Rattle.std.proofs.Common.{◌≡◌, ℕ, zero, suc, ◌+◌, ◌≤◌, ◌
 use Rattle.std.specs.Option.{unwrap_or}
 use Rattle.std.specs.Ordering.{nat_cmp}
 use Rattle.std.specs.FinSet as set
-use Rattle.rv_isa.specs.Description.{kind_values}
+use Rattle.rv_isa.specs.PerKind.{at_kind}
 use Rattle.rv_isa.specs.declared.broadcast.Message.{Message}
 use Rattle.rv_isa.specs.declared.broadcast.StoreAccess.{StoreAccess}
 use Rattle.rv_isa.specs.declared.causes.Cause.{Cause}
@@ -20,7 +20,6 @@ use Rattle.rv_memory.specs.Memory.{word_of}
 use Rattle.rv_rob.specs.declared.entry.Entry.{Entry}
 use Rattle.rv_stores.specs.Queue.{oldest_to_drain}
 use Rattle.rv_units.specs.Pool.{is_free}
-use Rattle.rv_units.specs.Units.{pool_of}
 use Rattle.rv_hardware.specs.Broadcast.{broadcast, broadcast_oldest, broadcast_result, broadcast_turn, has_result, is_mispredicted, mends_early, result_at, with_broadcast, with_recovery}
 use Rattle.rv_hardware.specs.Commit.{Committing, commit, commit_turn, commit_turn_of, commit_unless, execute_head, fence_instructions, finish_broadcast, finish_head, head_turn, is_drained, retire, take_effect, with_write_back, stop_of, write_back_time}
 use Rattle.rv_hardware.specs.Dispatch.{Dispatching, dispatch, dispatch_turn, dispatch_turn_of, dispatch_unless, reason_of}
@@ -80,13 +79,13 @@ module _ (now : ℕ) where
 
   issue_turn-now : (k : Kind) (h : Hardware) → IsNow h → Leaves IsNow (issue_turn k h)
   issue_turn-now k h is =
-      elim (is_free h.cycle (pool_of k h.units)) as (λ b. Leaves IsNow (cond b (issue_oldest k h (oldest (is_ready h k) h.rob.entries)) (Ends h))) [
+      elim (is_free h.cycle (at_kind k h.units)) as (λ b. Leaves IsNow (cond b (issue_oldest k h (oldest (is_ready h k) h.rob.entries)) (Ends h))) [
         | true ↦ issued-now k h (oldest (is_ready h k) h.rob.entries) is
         | false ↦ is
       ]
 
   issue_kind-now : (k : Kind) (h : Hardware) → IsNow h → IsNow (issue_kind k h)
-  issue_kind-now k h is = left_by_turns IsNow (issue_turn k) (issue_turn-now k) (kind_values h.values k).units h is
+  issue_kind-now k h is = left_by_turns IsNow (issue_turn k) (issue_turn-now k) (at_kind k h.values.kinds).units h is
 
   pub issue-now : (h : Hardware) → IsNow h → IsNow (issue h)
   issue-now h is =

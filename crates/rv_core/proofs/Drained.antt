@@ -7,7 +7,7 @@ use Rattle.rv_isa.specs.declared.broadcast.Message.{Message}
 use Rattle.rv_isa.specs.declared.broadcast.StoreAccess.{StoreAccess}
 use Rattle.rv_isa.specs.declared.values.Values.{Values}
 use Rattle.rv_rob.specs.declared.entry.Entry.{Entry}
-use Rattle.rv_stores.specs.Queue.{oldest_to_drain, with_oldest_draining, without_drained}
+use Rattle.rv_stores.specs.Queue.{is_oldest_draining, oldest_to_drain, with_oldest_draining, without_drained}
 use Rattle.rv_stores.specs.Store.{access_to_drain, draining, is_draining}
 use Rattle.rv_stores.specs.declared.store.Store.{Store as QueuedStore}
 use Rattle.rv_stores.specs.declared.store.StorePhase.TheVariants.{Speculative, Committed, Draining}
@@ -35,14 +35,15 @@ in_flight seq (Some message) = told seq message.store
 pub record NoneDrains (flight : List QueuedStore) : Type 0 where
   pub stays : without_drained flight ≡ flight
   pub idle : oldest_to_drain flight ≡ None
+  pub rests : is_oldest_draining flight ≡ false
 
 first_idle : (seq : ℕ) (is_store : Bool) (message : Option Message) (ss : List QueuedStore) → NoneDrains ss →
     NoneDrains (if is_store then record { seq = seq; state = store_of_broadcast message } ∷ ss else ss)
 first_idle seq false message ss none = none
-first_idle seq true message ss none = record { stays = rw ((in_flight seq message).0) refl; idle = (in_flight seq message).1 }
+first_idle seq true message ss none = record { stays = rw ((in_flight seq message).0) refl; idle = (in_flight seq message).1; rests = (in_flight seq message).0 }
 
 pub none_drains : (seq : ℕ) (es : List Entry) → NoneDrains (stores_of seq es)
-none_drains seq [] = record { stays = refl; idle = refl }
+none_drains seq [] = record { stays = refl; idle = refl; rests = refl }
 none_drains seq (e ∷ es) = first_idle seq (is_store e.instruction) (broadcast_of e.stage) (stores_of (seq + 1) es) (none_drains (seq + 1) es)
 
 -- the whole queue
@@ -59,6 +60,10 @@ without_drained_behind (s ∷ ss) flight none = first_leaves (is_draining s) s s
 pub oldest_behind : (ss flight : List QueuedStore) → NoneDrains flight → oldest_to_drain (ss ++ flight) ≡ oldest_to_drain ss
 oldest_behind [] flight none = none.idle
 oldest_behind (s ∷ ss) flight none = refl
+
+pub is_draining_behind : (ss flight : List QueuedStore) → NoneDrains flight → is_oldest_draining (ss ++ flight) ≡ is_oldest_draining ss
+is_draining_behind [] flight none = none.rests
+is_draining_behind (s ∷ ss) flight none = refl
 
 pub draining_behind : (ss flight : List QueuedStore) (access : StoreAccess) → oldest_to_drain ss ≡ Some access →
     with_oldest_draining (ss ++ flight) ≡ with_oldest_draining ss ++ flight

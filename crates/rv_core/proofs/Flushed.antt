@@ -1,14 +1,15 @@
 -- Everything in flight is squashed: what is left is empty, but for the retired stores.
 use Rattle.std.proofs.Common.{◌≡◌, ℕ, List, [], ◌∷◌, append-nil, filter, refl, ap, sym, ◌∙◌, arith, le-ltb}
-use Rattle.rv_isa.specs.declared.operations.Kind.TheVariants as kind
+use Rattle.rv_isa.proofs.WithKind.{by_kind-same}
+use Rattle.rv_isa.specs.PerKind.{for_each, at_kind}
 use Rattle.rv_isa.specs.Numbered.{below}
 use Rattle.rv_isa.proofs.Numbered.{below-goes}
+use Rattle.rv_isa.specs.declared.per_kind.PerKind.{PerKind}
 use Rattle.rv_isa.specs.declared.values.Values.{Values}
 use Rattle.rv_rename.specs.Renaming.{Renaming, cleared}
 use Rattle.rv_rob.specs.declared.entry.Entry.{Entry}
 use Rattle.rv_rob.specs.ReorderBuffer.{ReorderBuffer, cut_from, entries_below}
 use Rattle.rv_stations.specs.Pool.{Pool, squashed as squashed_pool}
-use Rattle.rv_stations.specs.Stations.{Pools, each_pool}
 use Rattle.rv_stores.specs.Queue.{Queue}
 use Rattle.rv_stores.specs.Store.{is_committed}
 use Rattle.rv_units.specs.Bus.{Pending, squashed as squashed_bus}
@@ -31,23 +32,19 @@ empty_pool : (pool : Pool) → squashed_pool 0 pool ≡ record { waiting = []; c
 empty_pool pool = ap (λ l. record { waiting = l; capacity = pool.capacity }) (none_below_0 (λ w. w.seq) pool.waiting)
 
 stations_when_empty : (values : Values) (registers left : List ℕ) (rob : ReorderBuffer) (capacity seq : ℕ) →
-    each_pool (squashed_pool 0) (stations_of values registers rob) ≡ stations_of values left (record { capacity = capacity; retired = seq; entries = [] })
-stations_when_empty values registers left rob capacity seq = λ i. record {
-  alu = empty_pool (pool_of_kind values registers rob kind.Alu) i;
-  mul = empty_pool (pool_of_kind values registers rob kind.Mul) i;
-  div = empty_pool (pool_of_kind values registers rob kind.Div) i;
-  mem = empty_pool (pool_of_kind values registers rob kind.Mem) i;
-}
+    for_each (squashed_pool 0) (stations_of values registers rob) ≡ stations_of values left (record { capacity = capacity; retired = seq; entries = [] })
+stations_when_empty values registers left rob capacity seq =
+    by_kind-same (λ kind. squashed_pool 0 (pool_of_kind values registers rob kind)) (λ kind. record { waiting = []; capacity = (at_kind kind values.kinds).stations }) (λ kind. empty_pool (pool_of_kind values registers rob kind))
 
 -- what a squash of everything leaves is tied to the flushed hardware, whatever became of its registers
-pub tied_when_flushed : (h : Hardware) (pc : ℕ) (registers : List ℕ) (rob : ReorderBuffer) (rename : Renaming) (stations : Pools) (bus : Pending) (queue : Queue) →
+pub tied_when_flushed : (h : Hardware) (pc : ℕ) (registers : List ℕ) (rob : ReorderBuffer) (rename : Renaming) (stations : PerKind Pool) (bus : Pending) (queue : Queue) →
     AreTied h rename stations bus queue → AreRetired h.values h.committed →
-    AreTied (flushed (record h { pc = pc; registers = registers; rob = rob })) (cleared rename) (each_pool (squashed_pool 0) stations) (squashed_bus 0 bus) (record queue { stores = filter is_committed queue.stores })
+    AreTied (flushed (record h { pc = pc; registers = registers; rob = rob })) (cleared rename) (for_each (squashed_pool 0) stations) (squashed_bus 0 bus) (record queue { stores = filter is_committed queue.stores })
 tied_when_flushed h pc registers rob rename stations bus queue tied are = record {
   renamed =
       ap cleared tied.renamed
       ∙ ap (λ cs. record { capacity = h.values.rob; producers = []; checkpoints = cs }) (sym (no_checkpoints (mends_early h.values.recovery)));
-  stationed = ap (each_pool (squashed_pool 0)) tied.stationed ∙ stations_when_empty h.values h.registers registers h.rob rob.capacity rob.retired;
+  stationed = ap (for_each (squashed_pool 0)) tied.stationed ∙ stations_when_empty h.values h.registers registers h.rob rob.capacity rob.retired;
   pending =
       ap (squashed_bus 0) tied.pending
       ∙ ap (λ l. record { results = l; capacity = h.values.rob; width = h.values.bus_width }) (none_below_0 (λ r. r.seq) (bus_of h.values h.rob).results);

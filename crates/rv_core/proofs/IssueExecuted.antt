@@ -1,8 +1,9 @@
 -- What the execution of an instruction leaves is what the definition's start of it leaves.
 use Rattle.std.proofs.Common.{◌≡◌, ℕ, ◌+◌, ◌^◌, ◌≤◌, Bool, true, false, cond, List, [], ◌∷◌, length, map, All, Option, Some, None, is_some, option_and_then, refl, sym, ap, ◌∙◌, subst, arith}
-use Rattle.rv_isa.specs.Description.{IsLegalCost, kind_values}
+use Rattle.rv_isa.specs.Description.{IsLegalCost}
 use Rattle.rv_isa.specs.Operands.{kind_of, sources_of}
 use Rattle.rv_isa.specs.Operation.{bytes_of, width_of}
+use Rattle.rv_isa.specs.PerKind.{at_kind, with_kind}
 use Rattle.rv_isa.specs.Word.{modulo_word, sum}
 use Rattle.rv_isa.specs.declared.broadcast.Message.{Message}
 use Rattle.rv_isa.specs.declared.instructions.Instr.{Instr}
@@ -10,6 +11,7 @@ use Rattle.rv_isa.specs.declared.instructions.Instr.TheVariants.{Load}
 use Rattle.rv_isa.specs.declared.issues.Issue.{Issue}
 use Rattle.rv_isa.specs.declared.lines.Lines.{Lines}
 use Rattle.rv_isa.specs.declared.operations.Kind.{Kind}
+use Rattle.rv_isa.specs.declared.per_kind.PerKind.{PerKind}
 use Rattle.rv_isa.specs.declared.values.CacheValues.{CacheValues}
 use Rattle.rv_decode.specs.Decodes.{instruction_of}
 use Rattle.rv_arch.specs.State.{State, register_of}
@@ -20,14 +22,12 @@ use Rattle.rv_rename.specs.Renaming.{Renaming}
 use Rattle.rv_rob.specs.Entry.{started}
 use Rattle.rv_rob.specs.ReorderBuffer.{changed}
 use Rattle.rv_rob.specs.declared.entry.Entry.{Entry}
-use Rattle.rv_stations.specs.Pool.{issued as taken_from}
-use Rattle.rv_stations.specs.Stations.{Pools, pool_of as stations_of_kind, with_pool as with_stations}
+use Rattle.rv_stations.specs.Pool.{issued as taken_from, Pool}
 use Rattle.rv_stations.specs.declared.waiting.Ready.{Ready}
 use Rattle.rv_stores.specs.Queue.{Queue, older_than}
 use Rattle.rv_stores.specs.declared.store.Store.{Store}
 use Rattle.rv_units.specs.Bus.{Pending, with_result}
-use Rattle.rv_units.specs.Pool.{started as started_unit}
-use Rattle.rv_units.specs.Units.{Pools as UnitPools, pool_of, with_pool}
+use Rattle.rv_units.specs.Pool.{started as started_unit, Pool as UnitPool}
 use Rattle.rv_hardware.specs.Hardware.{Hardware}
 use Rattle.rv_hardware.specs.InFlight.{is_store, memory_behind}
 use Rattle.rv_hardware.specs.Issue.{Path, Without, FromStores, FromCache, cost_of, issued, kind_of_word, path, path_of as path_of_word, path_of_load, with_start}
@@ -126,7 +126,7 @@ module _ (h : Hardware) (sound : IsSoundHardware h) where
       }
 
       module _ (message : Message) (cost port_free : ℕ) (cache : Contents Memory)
-          (costs : cost ≡ path_cost (kind_values h.values kind).latency h.values.forward h.cache code_path)
+          (costs : cost ≡ path_cost (at_kind kind h.values.kinds).latency h.values.forward h.cache code_path)
           (ports : port_free ≡ port_after h.cycle h.port_free h.cache code_path)
           (caches : cache ≡ cache_after h.cache code_path)
           (gives : is_some (kind_of ready.instruction) ≡ true → (t : State) (lines : Lines) (word : ℕ) → Reads t ready.pc ready.first ready.second ready.instruction → IsBehind h.cache (older_than ready.seq queued) t → message ≡ result_in h.cache.backing.layout t lines word ready.instruction) where
@@ -153,8 +153,8 @@ module _ (h : Hardware) (sound : IsSoundHardware h) where
         abbrev issue : Issue
         issue = record { cycle = h.cycle; cost = cost }
 
-        abbrev units : UnitPools
-        units = with_pool kind (started_unit cost h.cycle (pool_of kind h.units)) h.units
+        abbrev units : PerKind UnitPool
+        units = with_kind kind (started_unit cost h.cycle (at_kind kind h.units)) h.units
 
         -- the hardware once the instruction has started
         abbrev pub started_hardware : Hardware
@@ -164,13 +164,13 @@ module _ (h : Hardware) (sound : IsSoundHardware h) where
         is_issued =
             let p = path h before entry in
             let same_cost : cost ≡ cost_of h kind p =
-            costs ∙ ap (path_cost (kind_values h.values kind).latency h.values.forward h.cache) path_taken ∙ cost_is_defined h kind p in
+            costs ∙ ap (path_cost (at_kind kind h.values.kinds).latency h.values.forward h.cache) path_taken ∙ cost_is_defined h kind p in
             let same_port = ports ∙ ap (port_after h.cycle h.port_free h.cache) path_taken in
             let same_cache = caches ∙ ap (cache_after h.cache) path_taken in
             (λ j. record h {
               cache = same_cache j;
               port_free = same_port j;
-              units = with_pool kind (started_unit (same_cost j) h.cycle (pool_of kind h.units)) h.units;
+              units = with_kind kind (started_unit (same_cost j) h.cycle (at_kind kind h.units)) h.units;
               rob = changed (started (record { cycle = h.cycle; cost = same_cost j }) (result j)) (leaving.number j) h.rob;
             })
             ∙ ap (with_start kind place (cost_of h kind p) (result_of_word (layout_of h.values) s h.lines entry.word entry.instruction)) (access_is_defined h p)
@@ -190,7 +190,7 @@ module _ (h : Hardware) (sound : IsSoundHardware h) where
             sound_started h kind before entry leaving.rest leaving.split leaving.there ready.seq leaving.number issue message cache port_free units
             sound described (subst (λ n. n ≤ 2 ^ 43) (sym ports) (port_bound code_path)) legal_write
 
-        pub is_tied : (rename : Renaming) (stations : Pools) (bus : Pending) (queue : Queue) → AreTied h rename stations bus queue → AreTied started_hardware rename (with_stations kind (taken_from (test_of h kind) (stations_of_kind kind stations)) stations) (with_result ready.seq message (h.cycle + cost) bus) queue
+        pub is_tied : (rename : Renaming) (stations : PerKind Pool) (bus : Pending) (queue : Queue) → AreTied h rename stations bus queue → AreTied started_hardware rename (with_kind kind (taken_from (test_of h kind) (at_kind kind stations)) stations) (with_result ready.seq message (h.cycle + cost) bus) queue
         is_tied rename stations bus queue tied =
             tied_started h kind before entry leaving.rest leaving.split leaving.there ready.seq leaving.number issue message cache port_free units
             rename stations bus queue (test_of h kind) tied (leaving.left issue message)

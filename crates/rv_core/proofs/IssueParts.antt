@@ -1,14 +1,14 @@
 -- What the parts answer to a search in the stations, in the definition's words.
-use Rattle.std.proofs.Common.{◌≡◌, ℕ, ◌+◌, ◌<◌, Bool, true, false, nat_le, List, length, Option, None, Some, is_some, option_and_then, refl, sym, ap, ◌∙◌, subst}
+use Rattle.std.proofs.Common.{◌≡◌, ℕ, ◌+◌, ◌<◌, Bool, true, false, nat_le, List, length, Option, None, Some, is_some, option_and_then, sym, ap, ◌∙◌, subst}
 use Rattle.std.proofs.lemmas.Bool.{cond-true}
-use Rattle.rv_isa.specs.Description.{kind_values}
+use Rattle.rv_isa.proofs.WithKind.{at_kind-by_kind, with_kind-back}
 use Rattle.rv_isa.specs.Operands.{kind_of}
+use Rattle.rv_isa.specs.PerKind.{at_kind, with_kind}
 use Rattle.rv_isa.specs.declared.broadcast.Message.{Message}
 use Rattle.rv_isa.specs.declared.lines.Lines.{Lines}
 use Rattle.rv_isa.specs.declared.operations.Kind.{Kind}
-use Rattle.rv_isa.specs.declared.operations.Kind.TheVariants.{Alu, Mul, Div, Mem}
-use Rattle.rv_stations.specs.Pool.{issued as taken_from}
-use Rattle.rv_stations.specs.Stations.{Pools, pool_of as stations_of_kind, with_pool as with_stations}
+use Rattle.rv_isa.specs.declared.per_kind.PerKind.{PerKind}
+use Rattle.rv_stations.specs.Pool.{issued as taken_from, Pool}
 use Rattle.rv_stations.specs.Waiting.{oldest_ready, ready_of, without_oldest_ready}
 use Rattle.rv_stations.specs.declared.waiting.Ready.{Ready}
 use Rattle.rv_stations.specs.declared.waiting.Waiting.{Waiting}
@@ -19,8 +19,7 @@ use Rattle.rv_rob.specs.Entry.{started}
 use Rattle.rv_rob.specs.ReorderBuffer.{ReorderBuffer, changed}
 use Rattle.rv_stores.specs.Queue.{Queue, older_than}
 use Rattle.rv_units.specs.Bus.{Pending, holds, with_result}
-use Rattle.rv_units.specs.Pool.{is_free, started as started_unit}
-use Rattle.rv_units.specs.Units.{Pools as UnitPools, pool_of, with_pool}
+use Rattle.rv_units.specs.Pool.{is_free, started as started_unit, Pool as UnitPool}
 use Rattle.rv_hardware.specs.Hardware.{Hardware}
 use Rattle.rv_hardware.specs.Issue.{Path, is_ready as is_ready_entry, issue_oldest, issue_turn, oldest}
 use Rattle.rv_hardware.specs.Repeated.{Ends, GoesOn}
@@ -29,19 +28,13 @@ use Rattle.rv_hardware.specs.Seen.{stores_behind}
 use Rattle.rv_core.specs.Access.{IsBehind, cache_after, load_path, path_cost, port_after}
 use Rattle.rv_core.specs.Execution.{Reads}
 use Rattle.rv_core.specs.Soundness.{IsSoundHardware}
-use Rattle.rv_core.specs.Ties.{AreTied}
+use Rattle.rv_core.specs.Ties.{AreTied, pool_of_kind}
 use Rattle.rv_core.specs.Load.{goes}
 use Rattle.rv_core.specs.Parts.{IsSound, hardware_of}
 use Rattle.rv_core.specs.declared.parts.Parts.TheInside.{Inside}
 use Rattle.rv_core.proofs.IssueExecuted.{is_issued, is_sound, is_tied, started_hardware}
 use Rattle.rv_core.proofs.IssueFound.{Leaving, leaves, nothing_leaves, stationed_now, test_of}
-use Rattle.rv_core.proofs.IssueTied.{absent_from_bus, pool_of-stations, room_on_bus}
-
-with_own_stations : (kind : Kind) (stations : Pools) → with_stations kind (stations_of_kind kind stations) stations ≡ stations
-with_own_stations Alu stations = refl
-with_own_stations Mul stations = refl
-with_own_stations Div stations = refl
-with_own_stations Mem stations = refl
+use Rattle.rv_core.proofs.IssueTied.{absent_from_bus, room_on_bus}
 
 module _ (parts : Inside) (sound : IsSound parts) (kind : Kind) (idle : Bool) (port : idle ≡ nat_le parts.port_free parts.cycle) where
   abbrev h : Hardware
@@ -54,12 +47,12 @@ module _ (parts : Inside) (sound : IsSound parts) (kind : Kind) (idle : Bool) (p
   pub same_test : code_test ≡ test_of h kind
   same_test = λ j. goes kind (sound.sound.cache.layout j) (sound.tied.queued j).stores (port j)
 
-  same_waiting : (stations_of_kind kind parts.stations).waiting ≡ stationed_now h kind
+  same_waiting : (at_kind kind parts.stations).waiting ≡ stationed_now h kind
   same_waiting =
-      ap (λ (s : Pools). (stations_of_kind kind s).waiting) sound.tied.stationed
-      ∙ ap (λ p. p.waiting) (pool_of-stations kind h.values h.registers h.rob)
+      ap (λ (s : PerKind Pool). (at_kind kind s).waiting) sound.tied.stationed
+      ∙ ap (λ p. p.waiting) (at_kind-by_kind (pool_of_kind h.values h.registers h.rob) kind)
 
-  module _ (result : Option Ready) (answer : result ≡ option_and_then ready_of (oldest_ready code_test (stations_of_kind kind parts.stations).waiting)) where
+  module _ (result : Option Ready) (answer : result ≡ option_and_then ready_of (oldest_ready code_test (at_kind kind parts.stations).waiting)) where
     answered : result ≡ option_and_then ready_of (oldest_ready (test_of h kind) (stationed_now h kind))
     answered = answer ∙ (λ j. option_and_then ready_of (oldest_ready (same_test j) (same_waiting j)))
 
@@ -69,13 +62,13 @@ module _ (parts : Inside) (sound : IsSound parts) (kind : Kind) (idle : Bool) (p
     pub none_ready : result ≡ None → oldest (is_ready_entry h kind) h.rob.entries ≡ None
     none_ready is = (nothing_leaves h kind sound.sound result answered is).0
 
-    pub stations_stay : result ≡ None → with_stations kind (taken_from code_test (stations_of_kind kind parts.stations)) parts.stations ≡ parts.stations
+    pub stations_stay : result ≡ None → with_kind kind (taken_from code_test (at_kind kind parts.stations)) parts.stations ≡ parts.stations
     stations_stay is =
-        let pool = stations_of_kind kind parts.stations in
+        let pool = at_kind kind parts.stations in
         let same : without_oldest_ready code_test pool.waiting ≡ pool.waiting =
         (λ j. without_oldest_ready (same_test j) (same_waiting j)) ∙ (nothing_leaves h kind sound.sound result answered is).1 ∙ sym same_waiting in
-        ap (λ (ws : List Waiting). with_stations kind (record pool { waiting = ws }) parts.stations) same
-        ∙ with_own_stations kind parts.stations
+        ap (λ (ws : List Waiting). with_kind kind (record pool { waiting = ws }) parts.stations) same
+        ∙ with_kind-back kind parts.stations
 
     -- the parts once an instruction has started
     module _ (ready : Ready) (is : result ≡ Some ready) where
@@ -105,14 +98,14 @@ module _ (parts : Inside) (sound : IsSound parts) (kind : Kind) (idle : Bool) (p
           is_some (kind_of ready.instruction) ≡ true → (t : State) (lines : Lines) (word : ℕ) → Reads t ready.pc ready.first ready.second ready.instruction → IsBehind parts.cache (older_than ready.seq parts.stores.stores) t → message ≡ result_in parts.cache.backing.layout t lines word ready.instruction
 
       module _ (message : Message) (cost port_free : ℕ) (cache : Contents Memory)
-          (costs : cost ≡ path_cost (kind_values parts.values kind).latency parts.values.forward parts.cache path_now)
+          (costs : cost ≡ path_cost (at_kind kind parts.values.kinds).latency parts.values.forward parts.cache path_now)
           (ports : port_free ≡ port_after parts.cycle parts.port_free parts.cache path_now)
           (caches : cache ≡ cache_after parts.cache path_now)
           (gives : Gives message)
-          (units : UnitPools) (rob : ReorderBuffer) (stations : Pools) (bus : Pending)
-          (held : units ≡ with_pool kind (started_unit cost parts.cycle (pool_of kind parts.units)) parts.units)
+          (units : PerKind UnitPool) (rob : ReorderBuffer) (stations : PerKind Pool) (bus : Pending)
+          (held : units ≡ with_kind kind (started_unit cost parts.cycle (at_kind kind parts.units)) parts.units)
           (changes : rob ≡ changed (started (record { cycle = parts.cycle; cost = cost }) message) ready.seq parts.rob)
-          (left : stations ≡ with_stations kind (taken_from code_test (stations_of_kind kind parts.stations)) parts.stations)
+          (left : stations ≡ with_kind kind (taken_from code_test (at_kind kind parts.stations)) parts.stations)
           (accepted : bus ≡ with_result ready.seq message (parts.cycle + cost) parts.bus) where
         abbrev pub after : Inside
         after = record parts { cache = cache; port_free = port_free; units = units; stations = stations; bus = bus; rob = rob }
@@ -126,8 +119,8 @@ module _ (parts : Inside) (sound : IsSound parts) (kind : Kind) (idle : Bool) (p
         tied : AreTied started_now parts.rename stations bus parts.stores
         tied =
             subst (λ (b : Pending). AreTied started_now parts.rename stations b parts.stores) (sym accepted)
-            (subst (λ (ps : Pools). AreTied started_now parts.rename ps (with_result ready.seq message (parts.cycle + cost) parts.bus) parts.stores)
-            (sym (left ∙ ap (λ test. with_stations kind (taken_from test (stations_of_kind kind parts.stations)) parts.stations) same_test))
+            (subst (λ (ps : PerKind Pool). AreTied started_now parts.rename ps (with_result ready.seq message (parts.cycle + cost) parts.bus) parts.stores)
+            (sym (left ∙ ap (λ test. with_kind kind (taken_from test (at_kind kind parts.stations)) parts.stations) same_test))
             (is_tied h sound.sound kind ready leaving parts.stores.stores told message cost port_free cache costs ports caches gives parts.rename parts.stations parts.bus parts.stores sound.tied))
 
         pub sound_after : IsSound after
@@ -138,17 +131,17 @@ module _ (parts : Inside) (sound : IsSound parts) (kind : Kind) (idle : Bool) (p
           stale_size = sound.stale_size;
         }
 
-        pub turn_after : is_free parts.cycle (pool_of kind parts.units) ≡ true → GoesOn (hardware_of after) ≡ issue_turn kind h
+        pub turn_after : is_free parts.cycle (at_kind kind parts.units) ≡ true → GoesOn (hardware_of after) ≡ issue_turn kind h
         turn_after free =
             ap (λ (x : Hardware). GoesOn x) (sym view ∙ is_issued h sound.sound kind ready leaving parts.stores.stores told message cost port_free cache costs ports caches gives)
-            ∙ sym (cond-true (is_free parts.cycle (pool_of kind parts.units)) (issue_oldest kind h (oldest (is_ready_entry h kind) h.rob.entries)) (Ends h) free
+            ∙ sym (cond-true (is_free parts.cycle (at_kind kind parts.units)) (issue_oldest kind h (oldest (is_ready_entry h kind) h.rob.entries)) (Ends h) free
             ∙ ap (issue_oldest kind h) leaving.found)
 
     -- where nothing leaves
-    pub turn_ends : is_free parts.cycle (pool_of kind parts.units) ≡ true → result ≡ None → Ends h ≡ issue_turn kind h
+    pub turn_ends : is_free parts.cycle (at_kind kind parts.units) ≡ true → result ≡ None → Ends h ≡ issue_turn kind h
     turn_ends free is =
-        sym (cond-true (is_free parts.cycle (pool_of kind parts.units)) (issue_oldest kind h (oldest (is_ready_entry h kind) h.rob.entries)) (Ends h) free
+        sym (cond-true (is_free parts.cycle (at_kind kind parts.units)) (issue_oldest kind h (oldest (is_ready_entry h kind) h.rob.entries)) (Ends h) free
         ∙ ap (issue_oldest kind h) (none_ready is))
 
-    pub sound_still : result ≡ None → (stations : Pools) → stations ≡ with_stations kind (taken_from code_test (stations_of_kind kind parts.stations)) parts.stations → IsSound (record parts { stations = stations })
-    sound_still is stations left = subst (λ (ps : Pools). IsSound (record parts { stations = ps })) (sym (left ∙ stations_stay is)) sound
+    pub sound_still : result ≡ None → (stations : PerKind Pool) → stations ≡ with_kind kind (taken_from code_test (at_kind kind parts.stations)) parts.stations → IsSound (record parts { stations = stations })
+    sound_still is stations left = subst (λ (ps : PerKind Pool). IsSound (record parts { stations = ps })) (sym (left ∙ stations_stay is)) sound

@@ -1,9 +1,10 @@
 -- A station is ready, and passes the code's test, where the definition finds its instruction ready.
-use Rattle.std.proofs.Common.{◌≡◌, ℕ, ℤ, ◌+◌, ◌<◌, ◌&&◌, ◌||◌, Bool, true, false, not, nat_le, List, ◌∷◌, ◌++◌, length, slice_index, All, Option, Some, refl, sym, ap, ◌∙◌, arith, length-append}
+use Rattle.std.proofs.Common.{◌≡◌, ℕ, ℤ, ◌+◌, ◌<◌, ◌&&◌, ◌||◌, Bool, true, false, not, nat_le, List, ◌∷◌, ◌++◌, length, slice_index, All, Option, Some, refl, sym, ap, ◌∙◌, arith, length-append, None}
 use Rattle.std.specs.List.{list_all}
 use Rattle.std.specs.Option.{IfSome}
 use Rattle.std.proofs.lemmas.Bool.{and_parts}
 use Rattle.std.proofs.lemmas.List.{get_or_append_left}
+use Rattle.rv_isa.proofs.WithKind.{is_same-true}
 use Rattle.rv_isa.specs.Numbered.{AreBelow}
 use Rattle.rv_isa.specs.Operands.{kind_of}
 use Rattle.rv_isa.specs.Operation.{bytes_of, width_of}
@@ -53,11 +54,8 @@ away_by true operands may s = absurd (cc)
 
 -- an instruction in the stations of a kind is of that kind
 of_kind : (kind : Kind) (found : Option Kind) → is_of_kind kind found ≡ true → found ≡ Some kind
-of_kind Alu (Some Alu) is = refl
-of_kind Mul (Some Mul) is = refl
-of_kind Div (Some Div) is = refl
-of_kind Mem (Some Mem) is = refl
-of_kind _ _ is = absurd (cc)
+of_kind kind None is = absurd (cc)
+of_kind kind (Some other) is = ap (λ (k : Kind). Some k) (sym (is_same-true kind other is))
 
 pub kind_there : (kind : Kind) (e : Entry) → is_stationed kind e ≡ true → kind_of_word e.instruction ≡ Some kind
 kind_there kind e is =

@@ -6,7 +6,6 @@ use Rattle.rv_isa.specs.declared.broadcast.Message.{Message}
 use Rattle.rv_isa.specs.declared.instructions.Instr.{Instr}
 use Rattle.rv_isa.specs.declared.issues.Issue.{Issue}
 use Rattle.rv_isa.specs.declared.operations.Kind.{Kind}
-use Rattle.rv_isa.specs.declared.operations.Kind.TheVariants.{Alu, Mul, Div, Mem}
 use Rattle.rv_rob.specs.Entry.{started}
 use Rattle.rv_rob.specs.declared.entry.Entry.{Entry}
 use Rattle.rv_rob.specs.declared.entry.Stage.{Stage}
@@ -33,12 +32,6 @@ status_push status seq (x ∷ older) e =
     status_push (status_with status seq x) (seq + 1) older e
     ∙ ap (λ n. status_with (status_behind (status_with status seq x) (seq + 1) older) n e) (omega arith)
 
-is_of_kind-none : (kind : Kind) → is_of_kind kind None ≡ false
-is_of_kind-none Alu = refl
-is_of_kind-none Mul = refl
-is_of_kind-none Div = refl
-is_of_kind-none Mem = refl
-
 pub waits : (kind : Kind) (e : Entry) → is_stationed kind e ≡ true → is_waiting e.stage ≡ true
 waits kind e is = (and_parts (is_waiting e.stage) (is_of_kind kind (kind_of_word e.instruction)) is).0
 
@@ -51,7 +44,7 @@ module _ (kind : Kind) (status : RegisterStatus) (seq : ℕ) (e : Entry) where
   IsThere = (i : Instr) × (e.instruction ≡ Some i) × (waiting_at kind status seq e e.instruction ≡ waiting_of status seq e.pc i ∷ []) × (is_stationed kind e ≡ true)
 
   by_word : (word : Option Instr) → e.instruction ≡ word → IsAway ⊎ IsThere
-  by_word None is = inl (ap (waiting_at kind status seq e) is, ap (λ w. is_waiting e.stage && is_of_kind kind (kind_of_word w)) is ∙ and_right (is_waiting e.stage) (is_of_kind kind None) (is_of_kind-none kind))
+  by_word None is = inl (ap (waiting_at kind status seq e) is, ap (λ w. is_waiting e.stage && is_of_kind kind (kind_of_word w)) is ∙ and_right (is_waiting e.stage) false refl)
   by_word (Some i) is = elim (cases_Bool (is_stationed kind e)) [
     | inl there ↦ inr (i, is, ap (waiting_at kind status seq e) is ∙ cond-true (is_stationed kind e) (waiting_of status seq e.pc i ∷ []) [] there, there)
     | inr away ↦ inl (ap (waiting_at kind status seq e) is ∙ cond-false (is_stationed kind e) (waiting_of status seq e.pc i ∷ []) [] away, away)

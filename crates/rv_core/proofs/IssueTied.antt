@@ -1,25 +1,25 @@
 -- After the start of an instruction the parts are still told by the instructions in flight.
-use Rattle.std.proofs.Common.{◌≡◌, ℕ, ◌+◌, ◌^◌, ◌<◌, ◌≤◌, Bool, true, false, List, [], ◌∷◌, ◌++◌, length, All, Some, refl, sym, ap, ◌∙◌, arith}
+use Rattle.std.proofs.Common.{◌≡◌, ℕ, ◌+◌, ◌^◌, ◌<◌, ◌≤◌, Bool, true, false, List, [], ◌∷◌, ◌++◌, length, All, refl, sym, ap, ◌∙◌, arith}
 use Rattle.std.proofs.lemmas.Bool.{and_right}
 use Rattle.std.proofs.lemmas.List.Elements.{All-head, All-tail}
+use Rattle.rv_isa.proofs.WithKind.{at_kind-by_kind, with_kind-by_kind}
+use Rattle.rv_isa.specs.PerKind.{at_kind, with_kind}
 use Rattle.rv_isa.specs.declared.broadcast.Message.{Message}
 use Rattle.rv_isa.specs.declared.issues.Issue.{Issue}
 use Rattle.rv_isa.specs.declared.operations.Kind.{Kind}
-use Rattle.rv_isa.specs.declared.operations.Kind.TheVariants.{Alu, Mul, Div, Mem}
-use Rattle.rv_isa.specs.declared.values.Values.{Values}
+use Rattle.rv_isa.specs.declared.per_kind.PerKind.{PerKind}
 use Rattle.rv_cache.specs.Cache.{Contents}
 use Rattle.rv_memory.specs.Memory.{Memory}
 use Rattle.rv_rename.specs.Renaming.{Renaming}
 use Rattle.rv_rob.specs.Entry.{started}
 use Rattle.rv_rob.specs.ReorderBuffer.{ReorderBuffer, changed}
 use Rattle.rv_rob.specs.declared.entry.Entry.{Entry}
-use Rattle.rv_stations.specs.Pool.{issued}
-use Rattle.rv_stations.specs.Stations.{Pools, pool_of, with_pool}
+use Rattle.rv_stations.specs.Pool.{issued, Pool}
 use Rattle.rv_stations.specs.Waiting.{without_oldest_ready}
 use Rattle.rv_stations.specs.declared.waiting.Waiting.{Waiting}
 use Rattle.rv_stores.specs.Queue.{Queue}
 use Rattle.rv_units.specs.Bus.{Pending, holds, placed, with_result}
-use Rattle.rv_units.specs.Units.{Pools as UnitPools}
+use Rattle.rv_units.specs.Pool.{Pool as UnitPool}
 use Rattle.rv_hardware.specs.Dispatch.{is_stationed}
 use Rattle.rv_hardware.specs.Hardware.{Hardware}
 use Rattle.rv_hardware.specs.InFlight.{is_serialising, is_store, is_waiting, stores_of}
@@ -31,19 +31,6 @@ use Rattle.rv_core.proofs.IssueSearch.{waits}
 use Rattle.rv_core.proofs.IssueStarted.{All_started, others_started, pending_absent, pending_room, pending_started, stores_started, with_entry-at}
 use Rattle.rv_core.proofs.TiedEntries.{length-with_entry, pairs-with_entry}
 use Rattle.rv_core.proofs.TiedRenaming.{renaming-same}
-
-pub pool_of-stations : (kind : Kind) (values : Values) (registers : List ℕ) (rob : ReorderBuffer) → pool_of kind (stations_of values registers rob) ≡ pool_of_kind values registers rob kind
-pool_of-stations Alu values registers rob = refl
-pool_of-stations Mul values registers rob = refl
-pool_of-stations Div values registers rob = refl
-pool_of-stations Mem values registers rob = refl
-
--- the stations of one kind, and those of the others
-with_pool-stations : (kind : Kind) (values : Values) (registers : List ℕ) (rob rob' : ReorderBuffer) → ((k : Kind) → is_of_kind k (Some kind) ≡ false → pool_of_kind values registers rob k ≡ pool_of_kind values registers rob' k) → with_pool kind (pool_of_kind values registers rob' kind) (stations_of values registers rob) ≡ stations_of values registers rob'
-with_pool-stations Alu values registers rob rob' same = λ j. record { alu = pool_of_kind values registers rob' Alu; mul = same Mul refl j; div = same Div refl j; mem = same Mem refl j }
-with_pool-stations Mul values registers rob rob' same = λ j. record { alu = same Alu refl j; mul = pool_of_kind values registers rob' Mul; div = same Div refl j; mem = same Mem refl j }
-with_pool-stations Div values registers rob rob' same = λ j. record { alu = same Alu refl j; mul = same Mul refl j; div = pool_of_kind values registers rob' Div; mem = same Mem refl j }
-with_pool-stations Mem values registers rob rob' same = λ j. record { alu = same Alu refl j; mul = same Mul refl j; div = same Div refl j; mem = pool_of_kind values registers rob' Mem }
 
 pub All-at : (P : Entry → Type 0) (before : List Entry) (e : Entry) (rest : List Entry) → All P (before ++ e ∷ rest) → P e
 All-at P [] e rest all = All-head P e rest all
@@ -77,16 +64,16 @@ module _ (h : Hardware) (kind : Kind) (before : List Entry) (e : Entry) (rest : 
         ap (λ es. (changed (started issue message) n (record h.rob { entries = es })).entries) split
         ∙ with_entry-at (started issue message) n h.rob.retired before e rest at
 
-    stationed : (stations : Pools) (test : Waiting → Bool) → stations ≡ stations_of h.values h.registers h.rob → without_oldest_ready test (waiting_from kind (values_in h.registers) h.rob.retired h.rob.entries) ≡ waiting_from kind (values_in h.registers) h.rob.retired (before ++ started issue message e ∷ rest) → with_pool kind (issued test (pool_of kind stations)) stations ≡ stations_of h.values h.registers rob_started
+    stationed : (stations : PerKind Pool) (test : Waiting → Bool) → stations ≡ stations_of h.values h.registers h.rob → without_oldest_ready test (waiting_from kind (values_in h.registers) h.rob.retired h.rob.entries) ≡ waiting_from kind (values_in h.registers) h.rob.retired (before ++ started issue message e ∷ rest) → with_kind kind (issued test (at_kind kind stations)) stations ≡ stations_of h.values h.registers rob_started
     stationed stations test tied left =
         let n0 = h.rob.retired in
         let status = values_in h.registers in
-        let own : issued test (pool_of kind (stations_of h.values h.registers h.rob)) ≡ pool_of_kind h.values h.registers rob_started kind =
-        ap (issued test) (pool_of-stations kind h.values h.registers h.rob)
+        let own : issued test (at_kind kind (stations_of h.values h.registers h.rob)) ≡ pool_of_kind h.values h.registers rob_started kind =
+        ap (issued test) (at_kind-by_kind (pool_of_kind h.values h.registers h.rob) kind)
         ∙ (λ j. record { waiting = (left ∙ ap (waiting_from kind status n0) (sym entries_started)) j; capacity = (pool_of_kind h.values h.registers h.rob kind).capacity }) in
-        ap (λ s. with_pool kind (issued test (pool_of kind s)) s) tied
-        ∙ ap (λ p. with_pool kind p (stations_of h.values h.registers h.rob)) own
-        ∙ with_pool-stations kind h.values h.registers h.rob rob_started
+        ap (λ s. with_kind kind (issued test (at_kind kind s)) s) tied
+        ∙ ap (λ p. with_kind kind p (stations_of h.values h.registers h.rob)) own
+        ∙ with_kind-by_kind kind (pool_of_kind h.values h.registers h.rob) (pool_of_kind h.values h.registers rob_started)
         (λ k other.
         let away : is_stationed k e ≡ false = and_right (is_waiting e.stage) (is_of_kind k (kind_of_word e.instruction)) (ap (is_of_kind k) (kind_there kind e there) ∙ other) in
         let same : waiting_from k status n0 h.rob.entries ≡ waiting_from k status n0 rob_started.entries =
@@ -109,12 +96,12 @@ module _ (h : Hardware) (kind : Kind) (before : List Entry) (e : Entry) (rest : 
         ∙ sym (stores_started issue message e rest waiting h.rob.retired before)
         ∙ ap (stores_of h.rob.retired) (sym entries_started)
 
-    module _ (cache : Contents Memory) (port_free : ℕ) (units : UnitPools) where
+    module _ (cache : Contents Memory) (port_free : ℕ) (units : PerKind UnitPool) where
       -- the hardware after the start, whatever became of cache, port and units
       abbrev pub hardware_started : Hardware
       hardware_started = record h { cache = cache; port_free = port_free; units = units; rob = rob_started }
 
-      pub tied_started : (rename : Renaming) (stations : Pools) (bus : Pending) (queue : Queue) (test : Waiting → Bool) → AreTied h rename stations bus queue → without_oldest_ready test (waiting_from kind (values_in h.registers) h.rob.retired h.rob.entries) ≡ waiting_from kind (values_in h.registers) h.rob.retired (before ++ started issue message e ∷ rest) → AreTied hardware_started rename (with_pool kind (issued test (pool_of kind stations)) stations) (with_result n message (issue.cycle + issue.cost) bus) queue
+      pub tied_started : (rename : Renaming) (stations : PerKind Pool) (bus : Pending) (queue : Queue) (test : Waiting → Bool) → AreTied h rename stations bus queue → without_oldest_ready test (waiting_from kind (values_in h.registers) h.rob.retired h.rob.entries) ≡ waiting_from kind (values_in h.registers) h.rob.retired (before ++ started issue message e ∷ rest) → AreTied hardware_started rename (with_kind kind (issued test (at_kind kind stations)) stations) (with_result n message (issue.cycle + issue.cost) bus) queue
       tied_started rename stations bus queue test tied left = record {
         renamed = tied.renamed ∙ sym (renaming-same (started issue message) (λ x. refl) n h.values h.rob);
         stationed = stationed stations test tied.stationed left;

@@ -1,11 +1,11 @@
 -- The path of a load in the code is the definition's.
 use Rattle.std.proofs.Common.{◌≡◌, ℕ, ◌&&◌, ◌||◌, Bool, true, false, not, cond, nat_le, List, Option, Some, None, refl}
 use Rattle.std.proofs.Math.Bool.{or-true, or-false}
+use Rattle.rv_isa.specs.PerKind.{at_kind}
 use Rattle.rv_isa.specs.declared.causes.Cause.{Cause}
 use Rattle.rv_memory.specs.Memory.{is_aligned, is_in_ram}
 use Rattle.rv_stores.specs.Queue.{forwarded}
 use Rattle.rv_rob.specs.declared.entry.Entry.{Entry}
-use Rattle.rv_isa.specs.Description.{kind_values}
 use Rattle.rv_isa.specs.declared.operations.Kind.{Kind}
 use Rattle.rv_hardware.specs.Hardware.{Hardware}
 use Rattle.rv_hardware.specs.Issue.{Path as DefinedPath, Without as DefinedWithout, FromStores as DefinedFromStores, FromCache as DefinedFromCache, cost_of, has_port, path_of_load, with_access}
@@ -35,7 +35,7 @@ port_is_defined h address (FromStores overlay) = or-true (nat_le h.port_free h.c
 port_is_defined h address (FromCache overlay) = or-false (nat_le h.port_free h.cycle)
 
 -- what an execution costs
-pub cost_is_defined : (h : Hardware) (kind : Kind) (p : DefinedPath) → path_cost (kind_values h.values kind).latency h.values.forward h.cache p ≡ cost_of h kind p
+pub cost_is_defined : (h : Hardware) (kind : Kind) (p : DefinedPath) → path_cost (at_kind kind h.values.kinds).latency h.values.forward h.cache p ≡ cost_of h kind p
 cost_is_defined h kind DefinedWithout = refl
 cost_is_defined h kind DefinedFromStores = refl
 cost_is_defined h kind (DefinedFromCache address) = refl

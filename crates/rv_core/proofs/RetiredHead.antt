@@ -1,10 +1,12 @@
 -- The head retires: rename map, stations, bus and queue are those of the instructions behind it.
 use Rattle.std.proofs.Common.{◌≡◌, ◌≢◌, ℕ, ◌+◌, ◌<◌, Bool, true, false, ◌==◌, not, if◌then◌else◌, inl, inr, List, [], ◌∷◌, ◌++◌, length, map, filter, Option, None, Some, IfSome, refl, ap, sym, ◌∙◌, arith, eq-eqb, ne_eqb, get_or-set_same, get_or-set_other}
 use Rattle.std.proofs.lemmas.Bool.{cases_eq}
+use Rattle.rv_isa.proofs.WithKind.{by_kind-same}
+use Rattle.rv_isa.specs.PerKind.{at_kind}
 use Rattle.rv_isa.specs.declared.broadcast.Message.{Message}
 use Rattle.rv_isa.specs.declared.instructions.Instr.{Instr}
 use Rattle.rv_isa.specs.declared.operations.Kind.{Kind}
-use Rattle.rv_isa.specs.declared.operations.Kind.TheVariants as kind
+use Rattle.rv_isa.specs.declared.per_kind.PerKind.{PerKind}
 use Rattle.rv_isa.specs.declared.values.Values.{Values}
 use Rattle.rv_arch.specs.State.{with_register}
 use Rattle.rv_rename.specs.Renaming.{Checkpoint, checkpoint_without_oldest, without_oldest, retired, without_checkpoint, Renaming}
@@ -13,14 +15,14 @@ use Rattle.rv_rob.specs.ReorderBuffer.{ReorderBuffer, after_head, head_retired}
 use Rattle.rv_rob.specs.declared.entry.Entry.{Entry}
 use Rattle.rv_rob.specs.declared.entry.Stage.{Stage}
 use Rattle.rv_rob.specs.declared.entry.Stage.TheVariants.{Waiting, Running, Finished}
-use Rattle.rv_stations.specs.Stations.{Pools}
+use Rattle.rv_stations.specs.Pool.{Pool}
 use Rattle.rv_stores.specs.Queue.{Queue}
 use Rattle.rv_units.specs.Bus.{Pending}
 use Rattle.rv_hardware.specs.Hardware.{Hardware}
 use Rattle.rv_hardware.specs.Broadcast.{mends_early}
 use Rattle.rv_hardware.specs.InFlight.{broadcast_of, is_target, is_waiting, with_value, target_of_word, is_branch_or_jump, is_store, stores_of}
 use Rattle.rv_hardware.specs.Retirement.{committed_store, with_result}
-use Rattle.rv_core.specs.Ties.{RegisterStatus, operand_by, values_in, status_with, producer_of, producers_of, producers_with, checkpoints_of, renaming_of, waiting_at, waiting_from, stations_of, pending_of, bus_of, AreTied}
+use Rattle.rv_core.specs.Ties.{RegisterStatus, operand_by, values_in, status_with, producer_of, producers_of, producers_with, checkpoints_of, renaming_of, waiting_at, waiting_from, stations_of, pending_of, bus_of, AreTied, pool_of_kind}
 use Rattle.rv_core.specs.Soundness.{IsLegalWrite}
 use Rattle.rv_core.proofs.RetiredStores.{AreRetired, queued_behind_head}
 use Rattle.rv_core.specs.Retiring.{without_target, with_commit}
@@ -158,12 +160,9 @@ pub stationed_behind_head : (values : Values) (registers : List ℕ) (capacity s
     stations_of values registers (record { capacity = capacity; retired = seq; entries = e ∷ es })
     ≡ stations_of values (with_value registers (target_of_word e.instruction) (Some m)) (record { capacity = capacity; retired = seq + 1; entries = es })
 stationed_behind_head values registers capacity seq e es m known ok =
-    rw (
-      stations_behind_head kind.Alu registers seq e es m known ok,
-      stations_behind_head kind.Mul registers seq e es m known ok,
-      stations_behind_head kind.Div registers seq e es m known ok,
-      stations_behind_head kind.Mem registers seq e es m known ok,
-    ) refl
+    by_kind-same (pool_of_kind values registers (record { capacity = capacity; retired = seq; entries = e ∷ es }))
+    (pool_of_kind values (with_value registers (target_of_word e.instruction) (Some m)) (record { capacity = capacity; retired = seq + 1; entries = es }))
+    (λ kind i. record { waiting = stations_behind_head kind registers seq e es m known ok i; capacity = (at_kind kind values.kinds).stations })
 
 pub pending_behind_head : (values : Values) (capacity seq : ℕ) (e : Entry) (es : List Entry) (m : Message) → broadcast_of e.stage ≡ Some m →
     bus_of values (record { capacity = capacity; retired = seq; entries = e ∷ es })
@@ -181,7 +180,7 @@ pub buffer_behind : (rob : ReorderBuffer) (e : Entry) (es : List Entry) → rob.
 buffer_behind rob e es is = ap (after_head rob) is
 
 -- a head with its result retires
-pub tied_behind_head : (h : Hardware) (e : Entry) (es : List Entry) (m : Message) (rename : Renaming) (stations : Pools) (bus : Pending) (queue : Queue) →
+pub tied_behind_head : (h : Hardware) (e : Entry) (es : List Entry) (m : Message) (rename : Renaming) (stations : PerKind Pool) (bus : Pending) (queue : Queue) →
     AreTied h rename stations bus queue → AreRetired h.values h.committed → h.rob.entries ≡ e ∷ es → broadcast_of e.stage ≡ Some m →
     IsTarget h.registers (target_of_word e.instruction) → IsLegalWrite h.values (is_store e.instruction) None m.store →
     AreTied (with_result e m h) (without_checkpoint h.rob.retired (without_target h.rob.retired (target_of_word e.instruction) rename)) stations bus (with_commit m.store queue)

@@ -1,9 +1,9 @@
 -- Parts of which everything in flight was squashed are sound, and stand for the flushed hardware.
 use Rattle.std.proofs.Common.{◌≡◌, ℕ, List, filter, ◌∙◌}
+use Rattle.rv_isa.specs.PerKind.{for_each}
 use Rattle.rv_rename.specs.Renaming.{cleared}
 use Rattle.rv_rob.specs.ReorderBuffer.{ReorderBuffer}
 use Rattle.rv_stations.specs.Pool.{squashed as squashed_pool}
-use Rattle.rv_stations.specs.Stations.{each_pool}
 use Rattle.rv_stores.specs.Store.{is_committed}
 use Rattle.rv_units.specs.Bus.{squashed as squashed_bus}
 use Rattle.rv_hardware.specs.Hardware.{Hardware}
@@ -18,7 +18,7 @@ use Rattle.rv_core.specs.declared.parts.Parts.TheInside.{Inside}
 -- what stands beside the hardware, once everything in flight is squashed
 pub record AreSquashed (before after : Inside) : Type 0 where
   pub rename : after.rename ≡ cleared before.rename
-  pub stations : after.stations ≡ each_pool (squashed_pool 0) before.stations
+  pub stations : after.stations ≡ for_each (squashed_pool 0) before.stations
   pub bus : after.bus ≡ squashed_bus 0 before.bus
   pub stores : after.stores ≡ record before.stores { stores = filter is_committed before.stores.stores }
 

@@ -1,12 +1,12 @@
 -- A broadcast and the squash behind a wrong prediction keep the ties of the parts and the soundness of the hardware.
 use Rattle.std.proofs.Common.{◌≡◌, ℕ, ◌+◌, ◌&&◌, true, false, [], ◌++◌, length, find, map, Some, None, refl, sym, ap, subst, ◌∙◌, arith}
 use Rattle.std.specs.Option.{IfSome}
+use Rattle.rv_isa.specs.PerKind.{for_each}
 use Rattle.rv_rename.specs.Renaming.{restored}
 use Rattle.rv_rob.specs.Entry.{finished, predicting}
 use Rattle.rv_rob.specs.ReorderBuffer.{ReorderBuffer, changed, cut_from, entries_below, entry_of, with_entry}
 use Rattle.rv_rob.specs.declared.entry.Entry.{Entry}
 use Rattle.rv_stations.specs.Pool.{squashed as squashed_pool, woken_pool}
-use Rattle.rv_stations.specs.Stations.{each_pool}
 use Rattle.rv_stores.specs.Queue.{Queue, older_than}
 use Rattle.rv_stores.specs.Store.{answered}
 use Rattle.rv_units.specs.Bus.{Pending, granted_one, is_ready, squashed as squashed_bus}
@@ -59,7 +59,7 @@ module _ (p : Inside) (is : IsSound p) (r : PendingResult) (found : find (is_rea
   sent_parts = record p {
     bus = granted_one p.cycle p.bus;
     rob = changed (finished r.message p.cycle) r.seq p.rob;
-    stations = each_pool (woken_pool r.seq r.message.value) p.stations;
+    stations = for_each (woken_pool r.seq r.message.value) p.stations;
     stores = record p.stores { stores = map (answered r.seq (store_of_message r.message.store)) p.stores.stores };
   }
 
@@ -102,7 +102,7 @@ module _ (p : Inside) (is : IsSound p) (r : PendingResult) (found : find (is_rea
       record {
         renamed = is.tied.renamed ∙ sym (renaming-same (finished r.message p.cycle) (λ e. refl) r.seq h.values rob);
         stationed =
-            ap (each_pool (woken_pool r.seq r.message.value)) is.tied.stationed ∙
+            ap (for_each (woken_pool r.seq r.message.value)) is.tied.stationed ∙
             stations-woken h.values h.registers rob r.seq p.cycle r.message grant.entry grant.held busy silent;
         pending =
             ap (granted_one p.cycle) is.tied.pending ∙
@@ -126,7 +126,7 @@ module _ (p : Inside) (is : IsSound p) (seq next_pc : ℕ) (e : Entry) (early : 
   abbrev pub recovered_parts : Inside
   recovered_parts = record p {
     rob = cut_from (seq + 1) (changed (predicting next_pc) seq p.rob);
-    stations = each_pool (squashed_pool (seq + 1)) p.stations;
+    stations = for_each (squashed_pool (seq + 1)) p.stations;
     bus = squashed_bus (seq + 1) p.bus;
     stores = record p.stores { stores = older_than (seq + 1) p.stores.stores };
     rename = restored seq p.rename;
@@ -164,7 +164,7 @@ module _ (p : Inside) (is : IsSound p) (seq next_pc : ℕ) (e : Entry) (early : 
             ap (restored seq) (is.tied.renamed ∙ sym (renaming-same (predicting next_pc) (λ d. refl) seq h.values rob)) ∙
             renaming-restored h.values mended seq (predicting next_pc e) early (entry_of-changed (predicting next_pc) seq s es e held) jump;
         stationed =
-            ap (each_pool (squashed_pool (seq + 1))) (is.tied.stationed ∙ sym (stations-predicting h.values h.registers rob seq next_pc)) ∙
+            ap (for_each (squashed_pool (seq + 1))) (is.tied.stationed ∙ sym (stations-predicting h.values h.registers rob seq next_pc)) ∙
             stations-squashed h.values h.registers mended (seq + 1);
         pending =
             ap (squashed_bus (seq + 1)) (is.tied.pending ∙ sym (bus-predicting h.values rob seq next_pc)) ∙

@@ -5,22 +5,24 @@ use Rattle.std.specs.Option.{IfSome}
 use Rattle.std.proofs.lemmas.Bool.{leb-false, or_parts}
 use Rattle.std.proofs.lemmas.List.Elements.{All-cons, All-push}
 use Rattle.std.proofs.lemmas.List.Quantifiers.{all_pairs_push}
+use Rattle.rv_isa.proofs.WithKind.{at_kind-by_kind}
+use Rattle.rv_isa.specs.PerKind.{at_kind}
 use Rattle.rv_isa.specs.declared.broadcast.Message.{Message}
 use Rattle.rv_isa.specs.declared.instructions.Instr.{Instr}
 use Rattle.rv_isa.specs.declared.instructions.Instr.TheVariants as instruction
 use Rattle.rv_isa.specs.declared.lines.Lines.{Lines}
 use Rattle.rv_isa.specs.declared.operations.Kind.{Kind}
-use Rattle.rv_isa.specs.declared.operations.Kind.TheVariants as kind
+use Rattle.rv_isa.specs.declared.per_kind.PerKind.{PerKind}
 use Rattle.rv_isa.specs.declared.values.Values.{Values}
 use Rattle.rv_arch.specs.Effect.{Effect, Retires, Faults}
 use Rattle.rv_arch.specs.State.{State}
 use Rattle.rv_memory.specs.Memory.{Layout}
+use Rattle.rv_stations.specs.Pool.{Pool}
 use Rattle.rv_front.specs.declared.fetched.Fetched.{Fetched}
 use Rattle.rv_rename.specs.Renaming.{Renaming}
 use Rattle.rv_rob.specs.ReorderBuffer.{next_number, pushed, youngest}
 use Rattle.rv_rob.specs.declared.entry.Entry.{Entry}
 use Rattle.rv_rob.specs.declared.entry.Stage.TheVariants.{Finished}
-use Rattle.rv_stations.specs.Stations.{Pools}
 use Rattle.rv_stores.specs.Queue.{Queue}
 use Rattle.rv_units.specs.Bus.{Pending}
 use Rattle.rv_hardware.specs.Broadcast.{mends_early}
@@ -34,7 +36,7 @@ use Rattle.rv_hardware.specs.declared.report.Stall.{Stall}
 use Rattle.rv_hardware.specs.declared.report.Stall.TheVariants as stall
 use Rattle.rv_core.specs.Entering.{are_full_for, with_instruction, with_jump, with_store, with_target}
 use Rattle.rv_core.specs.Soundness.{IsDecoded, IsLegalWrite, IsSoundEntry, IsSoundHardware, message_of}
-use Rattle.rv_core.specs.Ties.{AreTied, stations_of, status_behind, values_in}
+use Rattle.rv_core.specs.Ties.{AreTied, stations_of, status_behind, values_in, pool_of_kind}
 use Rattle.rv_core.proofs.SoundInFlight.{sound_in_flight}
 use Rattle.rv_core.proofs.TiedBus.{bus-push}
 use Rattle.rv_core.proofs.TiedQueue.{stores-push}
@@ -95,10 +97,9 @@ serial-youngest (e ∷ es) last = serial-last (e ∷ es) (length (e ∷ es) - 1)
 -- the stations of a kind are full where as many instructions wait as there are stations
 pub full-is : (h : Hardware) (o : Option Kind) → are_full_for o (stations_of h.values h.registers h.rob) ≡ has_full_stations h o
 full-is h None = refl
-full-is h (Some kind.Alu) = ap (nat_le h.values.alu.stations) (waiting-count kind.Alu (values_in h.registers) h.rob.retired h.rob.entries)
-full-is h (Some kind.Mul) = ap (nat_le h.values.mul.stations) (waiting-count kind.Mul (values_in h.registers) h.rob.retired h.rob.entries)
-full-is h (Some kind.Div) = ap (nat_le h.values.div.stations) (waiting-count kind.Div (values_in h.registers) h.rob.retired h.rob.entries)
-full-is h (Some kind.Mem) = ap (nat_le h.values.mem.stations) (waiting-count kind.Mem (values_in h.registers) h.rob.retired h.rob.entries)
+full-is h (Some kind) =
+    ap (λ (pool : Pool). nat_le pool.capacity (length pool.waiting)) (at_kind-by_kind (pool_of_kind h.values h.registers h.rob) kind)
+    ∙ ap (nat_le (at_kind kind h.values.kinds).stations) (waiting-count kind (values_in h.registers) h.rob.retired h.rob.entries)
 
 -- the reason, of the four tests
 pub reason-is : (h : Hardware) (fetched : Fetched) (serial room station queue : Bool) → list_any (λ e. is_serialising e.instruction) h.rob.entries ≡ serial → nat_le h.rob.capacity (length h.rob.entries) ≡ room
@@ -162,7 +163,7 @@ module _ (h : Hardware) (fetched : Fetched) where
       sound.fetched
 
   -- the parts are tied to the hardware with the instruction
-  pub tied-dispatched : (rename : Renaming) (stations : Pools) (bus : Pending) (queue : Queue) → AreTied h rename stations bus queue
+  pub tied-dispatched : (rename : Renaming) (stations : PerKind Pool) (bus : Pending) (queue : Queue) → AreTied h rename stations bus queue
       → AreTied entered_hardware
       (with_jump (mends_early h.values.recovery && is_branch_or_jump fetched.instruction) (next_number h.rob) (with_target (next_number h.rob) (target_of_word fetched.instruction) rename))
       (with_instruction (status_behind (values_in h.registers) h.rob.retired h.rob.entries) (next_number h.rob) fetched.pc fetched.instruction stations)

@@ -2,9 +2,10 @@
 use Rattle.std.proofs.Common.{◌≡◌, ℕ, ◌+◌, ◌-◌, ◌≤◌, List, [], ◌++◌, length, drop, replicate, refl, sym, ap, length-append, arith}
 use Rattle.std.proofs.lemmas.List.{drop-replicate, length-replicate}
 use Rattle.rv_isa.specs.Description.{IsLegal}
+use Rattle.rv_isa.specs.PerKind.{for_each}
 use Rattle.rv_isa.specs.declared.values.Values.{Values}
 use Rattle.rv_rename.specs.Renaming.{empty as no_producers}
-use Rattle.rv_stations.specs.Stations.{empty_pools}
+use Rattle.rv_stations.specs.Pool.{empty_pool}
 use Rattle.rv_units.specs.Bus.{empty_bus}
 use Rattle.rv_hardware.specs.Broadcast.{mends_early}
 use Rattle.rv_hardware.specs.Reset.{reset_hardware}
@@ -19,7 +20,7 @@ image_over_zeros size image =
     rw none (ap (λ (rest : List ℕ). image ++ rest) (drop-replicate (length image) size 0))
 
 module _ (values : Values) (image : List ℕ) (start : ℕ) where
-  pub reset-tied : AreTied (reset_hardware values image start) (no_producers values.rob) (empty_pools values) (empty_bus values) (record { stores = []; capacity = values.store_queue })
+  pub reset-tied : AreTied (reset_hardware values image start) (no_producers values.rob) (for_each empty_pool values.kinds) (empty_bus values) (record { stores = []; capacity = values.store_queue })
   reset-tied = record {
     renamed = ap (λ checkpoints. record { capacity = values.rob; producers = []; checkpoints = checkpoints }) (sym (no_checkpoints (mends_early values.recovery)));
     stationed = refl;

@@ -1,15 +1,16 @@
 -- The reservation stations as the instructions in flight tell them, through a dispatch, a broadcast and a squash.
-use Rattle.std.proofs.Common.{◌≡◌, ℕ, ◌+◌, ◌<◌, ◌≤◌, ◌==◌, ◌&&◌, Bool, true, false, cond, inl, inr, List, [], ◌∷◌, ◌++◌, length, filter, map, slice_index_or, All, Option, Some, None, refl, sym, ap, ◌∙◌, append-nil, eq-eqb, ne_eqb, arith}
-use Rattle.std.proofs.lemmas.Bool.{cases_Bool, eqb-true, eqb-false}
+use Rattle.std.proofs.Common.{◌≡◌, ℕ, ◌+◌, ◌<◌, ◌≤◌, ◌==◌, ◌&&◌, Bool, true, false, cond, inl, inr, List, [], ◌∷◌, ◌++◌, length, filter, map, slice_index_or, All, Option, Some, None, refl, sym, ap, ◌∙◌, append-nil, eq-eqb, ne_eqb, arith, subst}
+use Rattle.std.proofs.lemmas.Bool.{cases_Bool, eqb-true, eqb-false, and_right}
 use Rattle.std.proofs.lemmas.List.{map-append}
 use Rattle.std.proofs.lemmas.List.Elements.{All-cons}
-use Rattle.rv_isa.specs.Description.{kind_values}
+use Rattle.rv_isa.proofs.WithKind.{at_kind-by_kind, by_kind-same, is_same-own, with_kind-by_kind}
 use Rattle.rv_isa.specs.Numbered.{below, AreBelow}
 use Rattle.rv_isa.specs.Operands.{kind_of, sources_of}
+use Rattle.rv_isa.specs.PerKind.{at_kind, for_each, by_kind, is_same, with_kind}
 use Rattle.rv_isa.specs.declared.broadcast.Message.{Message}
 use Rattle.rv_isa.specs.declared.instructions.Instr.{Instr}
 use Rattle.rv_isa.specs.declared.operations.Kind.{Kind}
-use Rattle.rv_isa.specs.declared.operations.Kind.TheVariants as kind
+use Rattle.rv_isa.specs.declared.per_kind.PerKind.{PerKind}
 use Rattle.rv_isa.specs.declared.values.Values.{Values}
 use Rattle.rv_rob.specs.Entry.{finished, predicting}
 use Rattle.rv_rob.specs.ReorderBuffer.{ReorderBuffer, changed, cut_from, entries_below, entry_of, next_number, pushed, with_entry}
@@ -17,7 +18,6 @@ use Rattle.rv_rob.specs.declared.entry.Entry.{Entry}
 use Rattle.rv_rob.specs.declared.entry.Stage.{Stage}
 use Rattle.rv_rob.specs.declared.entry.Stage.TheVariants as stage
 use Rattle.rv_stations.specs.Pool.{Pool, squashed, with_waiting, woken_pool}
-use Rattle.rv_stations.specs.Stations.{Pools, each_pool, pool_of}
 use Rattle.rv_stations.specs.Waiting.{seq_of, woken, woken_operand}
 use Rattle.rv_stations.specs.declared.waiting.Operand.TheVariants.{Value}
 use Rattle.rv_stations.specs.declared.waiting.Waiting.{Waiting}
@@ -73,17 +73,10 @@ module _ (unit : Kind) where
       sym (waiting-gathered status s es)
 
   -- ---- how many there are
-  kind-none : (k : Kind) (b : Bool) → (b && is_of_kind k None) ≡ false
-  kind-none kind.Alu true = refl
-  kind-none kind.Mul true = refl
-  kind-none kind.Div true = refl
-  kind-none kind.Mem true = refl
-  kind-none k false = refl
-
   count-at : (status : RegisterStatus) (s : ℕ) (e : Entry) (o : Option Instr) (es : List Entry) (ws : List Waiting) → e.instruction ≡ o → length ws ≡ length (filter (is_stationed unit) es)
       → length (waiting_at unit status s e o ++ ws) ≡ length (cond (is_stationed unit e) (e ∷ filter (is_stationed unit) es) (filter (is_stationed unit) es))
   count-at status s e None es ws is later =
-      let out : is_stationed unit e ≡ false = ap (λ x. is_waiting e.stage && is_of_kind unit (kind_of_word x)) is ∙ kind-none unit (is_waiting e.stage) in
+      let out : is_stationed unit e ≡ false = ap (λ x. is_waiting e.stage && is_of_kind unit (kind_of_word x)) is ∙ and_right (is_waiting e.stage) false refl in
       rw out later
   count-at status s e (Some instruction) es ws is later =
       elim (is_stationed unit e) as (λ b. length (cond b (waiting_of status s e.pc instruction ∷ []) [] ++ ws) ≡ length (cond b (e ∷ filter (is_stationed unit) es) (filter (is_stationed unit) es))) [
@@ -180,97 +173,65 @@ module _ (unit : Kind) where
       ]
 
 -- ---- the pools
--- pools that agree kind by kind
-pools_by : (a b : Pools) → a.alu ≡ b.alu → a.mul ≡ b.mul → a.div ≡ b.div → a.mem ≡ b.mem → a ≡ b
-pools_by a b alu mul div mem = λ i. record { alu = alu i; mul = mul i; div = div i; mem = mem i }
-
 stations_by : (values : Values) (registers : List ℕ) (rob : ReorderBuffer) (change : Pool → Pool) (new : ReorderBuffer) → ((k : Kind) → change (pool_of_kind values registers rob k) ≡ pool_of_kind values registers new k)
-    → each_pool change (stations_of values registers rob) ≡ stations_of values registers new
+    → for_each change (stations_of values registers rob) ≡ stations_of values registers new
 stations_by values registers rob change new is =
-    λ i. record { alu = is kind.Alu i; mul = is kind.Mul i; div = is kind.Div i; mem = is kind.Mem i }
+    by_kind-same (λ k. change (pool_of_kind values registers rob k)) (pool_of_kind values registers new) is
 
-pub stations-squashed : (values : Values) (registers : List ℕ) (rob : ReorderBuffer) (n : ℕ) → each_pool (squashed n) (stations_of values registers rob) ≡ stations_of values registers (cut_from n rob)
+pub stations-squashed : (values : Values) (registers : List ℕ) (rob : ReorderBuffer) (n : ℕ) → for_each (squashed n) (stations_of values registers rob) ≡ stations_of values registers (cut_from n rob)
 stations-squashed values registers rob n = stations_by values registers rob (squashed n) (cut_from n rob) (λ k i. record {
   waiting = waiting-cut k n (values_in registers) rob.retired rob.entries i;
-  capacity = (kind_values values k).stations;
+  capacity = (at_kind k values.kinds).stations;
 })
 
 pub stations-woken : (values : Values) (registers : List ℕ) (rob : ReorderBuffer) (n cycle : ℕ) (message : Message) (e : Entry) → entry_of n rob.retired rob.entries ≡ Some e → is_waiting e.stage ≡ false → broadcast_of e.stage ≡ None
-    → each_pool (woken_pool n message.value) (stations_of values registers rob) ≡ stations_of values registers (changed (finished message cycle) n rob)
+    → for_each (woken_pool n message.value) (stations_of values registers rob) ≡ stations_of values registers (changed (finished message cycle) n rob)
 stations-woken values registers rob n cycle message e held busy silent = stations_by values registers rob (woken_pool n message.value) (changed (finished message cycle) n rob) (λ k i. record {
   waiting = waiting-woken k n message.value cycle message refl (values_in registers) rob.retired rob.entries e held busy silent i;
-  capacity = (kind_values values k).stations;
+  capacity = (at_kind k values.kinds).stations;
 })
 
 pub stations-predicting : (values : Values) (registers : List ℕ) (rob : ReorderBuffer) (n next_pc : ℕ) → stations_of values registers (changed (predicting next_pc) n rob) ≡ stations_of values registers rob
 stations-predicting values registers rob n next_pc =
     stations_by values registers (changed (predicting next_pc) n rob) (λ pool. pool) rob (λ k i. record {
       waiting = waiting-predicting k next_pc n (values_in registers) rob.retired rob.entries i;
-      capacity = (kind_values values k).stations;
+      capacity = (at_kind k values.kinds).stations;
     })
 
 -- every number in a station is below that of the next instruction
-pub stations-below : (values : Values) (registers : List ℕ) (rob : ReorderBuffer) (k : Kind) → AreBelow seq_of (next_number rob) (pool_of k (stations_of values registers rob)).waiting
-stations-below values registers rob kind.Alu = waiting-below kind.Alu (next_number rob) (values_in registers) rob.retired rob.entries (omega arith)
-stations-below values registers rob kind.Mul = waiting-below kind.Mul (next_number rob) (values_in registers) rob.retired rob.entries (omega arith)
-stations-below values registers rob kind.Div = waiting-below kind.Div (next_number rob) (values_in registers) rob.retired rob.entries (omega arith)
-stations-below values registers rob kind.Mem = waiting-below kind.Mem (next_number rob) (values_in registers) rob.retired rob.entries (omega arith)
+pub stations-below : (values : Values) (registers : List ℕ) (rob : ReorderBuffer) (k : Kind) → AreBelow seq_of (next_number rob) (at_kind k (stations_of values registers rob)).waiting
+stations-below values registers rob k =
+    subst (λ (pool : Pool). AreBelow seq_of (next_number rob) pool.waiting) (sym (at_kind-by_kind (pool_of_kind values registers rob) k)) (waiting-below k (next_number rob) (values_in registers) rob.retired rob.entries (omega arith))
 
 -- ---- dispatch
 nothing_more : (pool : Pool) → pool ≡ record pool { waiting = pool.waiting ++ [] }
 nothing_more pool = ap (λ ws. record pool { waiting = ws }) (sym (append-nil pool.waiting))
 
--- the pools, with one more instruction in that of its kind
-abbrev with_each : (Kind → List Waiting) → Pools → Pools
-with_each more pools = record {
-  alu = record pools.alu { waiting = pools.alu.waiting ++ more kind.Alu };
-  mul = record pools.mul { waiting = pools.mul.waiting ++ more kind.Mul };
-  div = record pools.div { waiting = pools.div.waiting ++ more kind.Div };
-  mem = record pools.mem { waiting = pools.mem.waiting ++ more kind.Mem };
-}
+-- the pools, with more instructions in that of each kind
+abbrev with_each : (Kind → List Waiting) → PerKind Pool → PerKind Pool
+with_each more pools = by_kind (λ k. record (at_kind k pools) { waiting = (at_kind k pools).waiting ++ more k })
 
-with_none : (pools : Pools) → pools ≡ with_each (λ k. []) pools
-with_none pools = λ i. record {
-  alu = nothing_more pools.alu i;
-  mul = nothing_more pools.mul i;
-  div = nothing_more pools.div i;
-  mem = nothing_more pools.mem i;
-}
+with_none : (pools : PerKind Pool) → pools ≡ with_each (λ k. []) pools
+with_none pools =
+    by_kind-same (λ k. at_kind k pools) (λ k. record (at_kind k pools) { waiting = (at_kind k pools).waiting ++ [] }) (λ k. nothing_more (at_kind k pools))
 
 -- the stage in which an instruction enters
 abbrev first_stage_of : Option Kind → Bool → ℕ → Message → Stage
 first_stage_of unit serialising cycle message = stage_by unit serialising (stage.Finished None cycle message)
 
-with_station-is : (o : Option Kind) (serialising : Bool) (cycle : ℕ) (message : Message) (w : Waiting) (pools : Pools)
+with_station-is : (o : Option Kind) (serialising : Bool) (cycle : ℕ) (message : Message) (w : Waiting) (pools : PerKind Pool)
     → with_station o w pools ≡ with_each (λ k. cond (is_waiting (first_stage_of o serialising cycle message) && is_of_kind k o) (w ∷ []) []) pools
 with_station-is None true cycle message w pools = with_none pools
 with_station-is None false cycle message w pools = with_none pools
-with_station-is (Some kind.Alu) serialising cycle message w pools = λ i. record {
-  alu = with_waiting w pools.alu;
-  mul = nothing_more pools.mul i;
-  div = nothing_more pools.div i;
-  mem = nothing_more pools.mem i;
-}
-with_station-is (Some kind.Mul) serialising cycle message w pools = λ i. record {
-  alu = nothing_more pools.alu i;
-  mul = with_waiting w pools.mul;
-  div = nothing_more pools.div i;
-  mem = nothing_more pools.mem i;
-}
-with_station-is (Some kind.Div) serialising cycle message w pools = λ i. record {
-  alu = nothing_more pools.alu i;
-  mul = nothing_more pools.mul i;
-  div = with_waiting w pools.div;
-  mem = nothing_more pools.mem i;
-}
-with_station-is (Some kind.Mem) serialising cycle message w pools = λ i. record {
-  alu = nothing_more pools.alu i;
-  mul = nothing_more pools.mul i;
-  div = nothing_more pools.div i;
-  mem = with_waiting w pools.mem;
-}
+with_station-is (Some unit) serialising cycle message w pools =
+    let more : Kind → Pool = λ k. record (at_kind k pools) { waiting = (at_kind k pools).waiting ++ cond (is_same k unit) (w ∷ []) [] } in
+    let own : with_waiting w (at_kind unit pools) ≡ more unit =
+    ap (λ b. record (at_kind unit pools) { waiting = (at_kind unit pools).waiting ++ cond b (w ∷ []) [] }) (sym (is_same-own unit)) in
+    ap (λ pool. with_kind unit pool pools) own ∙
+    with_kind-by_kind unit (λ k. at_kind k pools) more (λ k differs.
+    nothing_more (at_kind k pools) ∙ ap (λ b. record (at_kind k pools) { waiting = (at_kind k pools).waiting ++ cond b (w ∷ []) [] }) (sym differs))
 
-with_instruction-is : (status : RegisterStatus) (n : ℕ) (e : Entry) (o : Option Instr) (serialising : Bool) (cycle : ℕ) (message : Message) (pools : Pools) → e.instruction ≡ o → e.stage ≡ first_stage_of (kind_of_word o) serialising cycle message
+with_instruction-is : (status : RegisterStatus) (n : ℕ) (e : Entry) (o : Option Instr) (serialising : Bool) (cycle : ℕ) (message : Message) (pools : PerKind Pool) → e.instruction ≡ o → e.stage ≡ first_stage_of (kind_of_word o) serialising cycle message
     → with_instruction status n e.pc o pools ≡ with_each (λ k. waiting_at k status n e o) pools
 with_instruction-is status n e None serialising cycle message pools is at = with_none pools
 with_instruction-is status n e (Some instruction) serialising cycle message pools is at =
@@ -284,11 +245,6 @@ pub stations-push : (values : Values) (registers : List ℕ) (rob : ReorderBuffe
 stations-push values registers rob e serialising cycle message at =
     let n = next_number rob in
     let status : RegisterStatus = status_behind (values_in registers) rob.retired rob.entries in
-    let more = λ (k : Kind). waiting-push k (values_in registers) rob.retired n rob.entries e refl in
-    (λ i. record {
-      alu = record { waiting = more kind.Alu i; capacity = values.alu.stations };
-      mul = record { waiting = more kind.Mul i; capacity = values.mul.stations };
-      div = record { waiting = more kind.Div i; capacity = values.div.stations };
-      mem = record { waiting = more kind.Mem i; capacity = values.mem.stations };
-    }) ∙
+    by_kind-same (pool_of_kind values registers (pushed e rob)) (λ k. record (pool_of_kind values registers rob k) { waiting = (pool_of_kind values registers rob k).waiting ++ waiting_at k status n e e.instruction })
+    (λ k i. record { waiting = waiting-push k (values_in registers) rob.retired n rob.entries e refl i; capacity = (at_kind k values.kinds).stations }) ∙
     sym (with_instruction-is status n e e.instruction serialising cycle message (stations_of values registers rob) refl at)

@@ -1,11 +1,11 @@
 -- What the parts of the core hold beside the hardware: functions of the instructions in flight, numbered from the oldest.
 use Rattle.std.specs.Prelude.{◌≡◌, ℕ, ◌+◌, if◌then◌else◌, List, [], ◌∷◌, ◌++◌, slice_index, slice_index_or, Option, Some, None}
-use Rattle.rv_isa.specs.Description.{kind_values}
 use Rattle.rv_isa.specs.Operands.{sources_of}
+use Rattle.rv_isa.specs.PerKind.{at_kind, by_kind}
 use Rattle.rv_isa.specs.declared.broadcast.Message.{Message}
 use Rattle.rv_isa.specs.declared.instructions.Instr.{Instr}
 use Rattle.rv_isa.specs.declared.operations.Kind.{Kind}
-use Rattle.rv_isa.specs.declared.operations.Kind.TheVariants as kind
+use Rattle.rv_isa.specs.declared.per_kind.PerKind.{PerKind}
 use Rattle.rv_isa.specs.declared.values.Values.{Values}
 use Rattle.rv_rename.specs.Renaming.{Checkpoint, Renaming}
 use Rattle.rv_rename.specs.declared.producer.Producer.{Producer}
@@ -14,7 +14,6 @@ use Rattle.rv_rob.specs.declared.entry.Entry.{Entry}
 use Rattle.rv_rob.specs.declared.entry.Stage.{Stage}
 use Rattle.rv_rob.specs.declared.entry.Stage.TheVariants as stage
 use Rattle.rv_stations.specs.Pool.{Pool}
-use Rattle.rv_stations.specs.Stations.{Pools}
 use Rattle.rv_stations.specs.declared.waiting.Operand.{Operand}
 use Rattle.rv_stations.specs.declared.waiting.Operand.TheVariants.{Value, Tag}
 use Rattle.rv_stations.specs.declared.waiting.Waiting.{Waiting}
@@ -110,17 +109,12 @@ waiting_from kind status seq (e ∷ es) =
 abbrev pub pool_of_kind : Values → List ℕ → ReorderBuffer → Kind → Pool
 pool_of_kind values registers rob kind = record {
   waiting = waiting_from kind (values_in registers) rob.retired rob.entries;
-  capacity = (kind_values values kind).stations;
+  capacity = (at_kind kind values.kinds).stations;
 }
 
 -- the reservation stations
-abbrev pub stations_of : Values → List ℕ → ReorderBuffer → Pools
-stations_of values registers rob = record {
-  alu = pool_of_kind values registers rob kind.Alu;
-  mul = pool_of_kind values registers rob kind.Mul;
-  div = pool_of_kind values registers rob kind.Div;
-  mem = pool_of_kind values registers rob kind.Mem;
-}
+abbrev pub stations_of : Values → List ℕ → ReorderBuffer → PerKind Pool
+stations_of values registers rob = by_kind (pool_of_kind values registers rob)
 
 -- the result of an instruction in execution, and the cycle from which it can be broadcast
 abbrev pub pending_of : ℕ → Stage → List PendingResult
@@ -146,7 +140,7 @@ abbrev pub queue_of : Hardware → Queue
 queue_of h = record { stores = stores_behind h h.rob.entries; capacity = h.values.store_queue }
 
 -- what the parts hold beside the hardware is told by the instructions in flight
-pub record AreTied (h : Hardware) (rename : Renaming) (stations : Pools) (bus : Pending) (queue : Queue) : Type 0 where
+pub record AreTied (h : Hardware) (rename : Renaming) (stations : PerKind Pool) (bus : Pending) (queue : Queue) : Type 0 where
   pub renamed : rename ≡ renaming_of h.values h.rob
   pub stationed : stations ≡ stations_of h.values h.registers h.rob
   pub pending : bus ≡ bus_of h.values h.rob

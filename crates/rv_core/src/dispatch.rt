@@ -1,11 +1,11 @@
 ghost use Rattle.std.specs.Prelude.{◌≡◌, ◌≢◌, ℕ, ◌<◌, ◌≤◌, ◌^◌, ◌&&◌, nat_le, length, true, false, None, Some, IfSome, option_and_then};
 ghost use Rattle.std.specs.List.{AllPairs, list_any};
 ghost use Rattle.rv_isa.specs.Numbered.{AreBelow};
+ghost use Rattle.rv_isa.specs.PerKind.{at_kind};
 ghost use Rattle.rv_isa.specs.declared.operations.Kind.{Kind as KindOf};
 ghost use Rattle.rv_rename.specs.Renaming.{CanDefine, CanCheckpoint};
 ghost use Rattle.rv_decode.specs.Decodes.{instruction_of};
 ghost use Rattle.rv_rob.specs.ReorderBuffer.{next_number, pushed};
-ghost use Rattle.rv_stations.specs.Stations.{pool_of};
 ghost use Rattle.rv_stations.specs.Waiting.{IsOperand, seq_of};
 ghost use Rattle.rv_stores.specs.Queue.{CanEnter};
 ghost use Rattle.rv_hardware.specs.Broadcast.{mends_early};
@@ -213,7 +213,7 @@ fn station(
     requires producers { rename.now.producers ≡ producers_of rob.now.retired rob.now.entries }
     requires numbers { next_number rob.now ≤ 2 ^ 44 }
     requires room { are_full_for (kind_of_word fetched.now.instruction) stations.old ≡ false }
-    requires youngest { (kind : KindOf) → AreBelow seq_of seq (pool_of kind stations.old).waiting }
+    requires youngest { (kind : KindOf) → AreBelow seq_of seq (at_kind kind stations.old).waiting }
     ensures { stations.new ≡ with_instruction (status_behind (values_in registers.now) rob.now.retired rob.now.entries) seq fetched.now.pc fetched.now.instruction stations.old }
 {
     let Some(instruction) = fetched.instruction else {

@@ -1,14 +1,13 @@
 ghost use Rattle.std.specs.Prelude.{◌≡◌, ℕ, ◌+◌, ◌^◌, ◌<◌, ◌≤◌, IsTrue, true, false, is_some, length, option_and_then};
 ghost use Rattle.rv_isa.specs.Operands.{kind_of};
+ghost use Rattle.rv_isa.specs.PerKind.{at_kind, with_kind};
 ghost use Rattle.rv_isa.specs.declared.lines.Lines.{Lines};
 ghost use Rattle.rv_arch.specs.State.{State};
 ghost use Rattle.rv_stations.specs.Pool.{issued as taken_from};
-ghost use Rattle.rv_stations.specs.Stations.{pool_of as stations_of_kind, with_pool as with_stations};
 ghost use Rattle.rv_stations.specs.Waiting.{ready_of, oldest_ready};
 ghost use Rattle.rv_stores.specs.Queue.{older_than};
 ghost use Rattle.rv_units.specs.Bus.{holds, with_result};
 ghost use Rattle.rv_units.specs.Pool.{is_free, started as started_unit};
-ghost use Rattle.rv_units.specs.Units.{pool_of, with_pool};
 ghost use Rattle.rv_hardware.specs.Result.{result_in};
 ghost use Rattle.rv_core.specs.Access.{IsBehind, IsOverRam, cache_after, load_path, path_cost, port_after};
 ghost use Rattle.rv_core.specs.Execution.{Reads};
@@ -43,7 +42,7 @@ impl Parts {
     fn issue_kind(&mut self, kind: Kind)
         ensures { self.new ≡ issue_kind kind self.old }
     {
-        for _ in 0..self.values.of_kind(kind).units {
+        for _ in 0..self.values.kinds.get(kind).units {
             if !self.issue_one(kind) {
                 return;
             }
@@ -69,7 +68,7 @@ impl Parts {
             return false;
         };
         let times = Times {
-            latency: self.values.of_kind(kind).latency,
+            latency: self.values.kinds.get(kind).latency,
             forward: self.values.forward,
             cycle: self.cycle,
             port_free: self.port_free,
@@ -120,8 +119,8 @@ fn take_ready(
     queue: &StoreQueue,
     port_idle: bool,
 ) -> Option<Ready>
-    ensures oldest { result ≡ option_and_then ready_of (oldest_ready (goes kind cache.now.backing.layout queue.now.stores port_idle) (stations_of_kind kind stations.old).waiting) }
-    ensures others { stations.new ≡ with_stations kind (taken_from (goes kind cache.now.backing.layout queue.now.stores port_idle) (stations_of_kind kind stations.old)) stations.old }
+    ensures oldest { result ≡ option_and_then ready_of (oldest_ready (goes kind cache.now.backing.layout queue.now.stores port_idle) (at_kind kind stations.old).waiting) }
+    ensures others { stations.new ≡ with_kind kind (taken_from (goes kind cache.now.backing.layout queue.now.stores port_idle) (at_kind kind stations.old)) stations.old }
 {
     if kind == Kind::Mem {
         let first_unknown = queue.first_unknown();
@@ -135,8 +134,8 @@ fn take_ready(
 // An execution holds a unit of its kind.
 #[inline(always)]
 fn hold_unit(units: &mut Units, kind: Kind, issue: Issue)
-    requires { IsTrue (is_free issue.cycle (pool_of kind units.old)) }
-    ensures { units.new ≡ with_pool kind (started_unit issue.cost issue.cycle (pool_of kind units.old)) units.old }
+    requires { IsTrue (is_free issue.cycle (at_kind kind units.old)) }
+    ensures { units.new ≡ with_kind kind (started_unit issue.cost issue.cycle (at_kind kind units.old)) units.old }
 {
     units.start(kind, issue.cost, issue.cycle);
 }

@@ -2,6 +2,7 @@ ghost use Rattle.std.specs.Prelude.{◌≡◌, ◌+◌, ◌^◌, ◌<◌, ◌≤
 ghost use Rattle.std.specs.FinSet as set;
 ghost use Rattle.rv_memory.specs.Memory.{byte_seen, word_of};
 ghost use Rattle.rv_hardware.specs.Cycle.{IsCycle, any_prediction};
+ghost use Rattle.rv_hardware.specs.Drain.{drain_end};
 ghost use Rattle.rv_hardware.specs.Headline.{IsTrueCycle};
 ghost use Rattle.rv_hardware.specs.Run.{Reachable};
 ghost use Rattle.rv_hardware.specs.Reset.{IsLoadable, reset_hardware};
@@ -174,6 +175,14 @@ impl Core {
         ensures { result.now ≡ self.now.front }
     {
         &self.parts.front
+    }
+
+    /// The first cycle in which the access of a retired store to the cache is over that is under way now, or `None` where
+    /// none is.
+    pub fn drain_end(&self) -> Option<u64>
+        ensures { result ≡ drain_end self.now }
+    {
+        self.parts.drain_end()
     }
 
     /// The byte that programs see at an address, or `None` outside RAM: that of the youngest retired store that the

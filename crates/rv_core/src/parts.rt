@@ -1,14 +1,14 @@
 ghost use Rattle.std.specs.Prelude.{◌≡◌, ◌+◌, ◌*◌, ◌^◌, ◌≤◌, ◌<◌, List, [], ◌++◌, filter, length, vec_len, vec_capacity, nat_le, IfOk};
 ghost use Rattle.std.specs.FinSet as set;
+ghost use Rattle.rv_isa.specs.PerKind.{for_each};
 ghost use Rattle.rv_front.specs.FetchBuffer.{FetchesInto};
 ghost use Rattle.rv_front.specs.Lesson.{AreTaught};
 ghost use Rattle.rv_rob.specs.ReorderBuffer.{cut_from, empty};
 ghost use Rattle.rv_rename.specs.Renaming.{cleared, empty as no_producers};
-ghost use Rattle.rv_stations.specs.Pool.{squashed as squashed_pool};
-ghost use Rattle.rv_stations.specs.Stations.{each_pool, empty_pools};
+ghost use Rattle.rv_stations.specs.Pool.{squashed as squashed_pool, empty_pool};
 ghost use Rattle.rv_stores.specs.Store.{is_committed};
 ghost use Rattle.rv_units.specs.Bus.{empty_bus, squashed as squashed_bus};
-ghost use Rattle.rv_units.specs.Units.{free_pools};
+ghost use Rattle.rv_units.specs.Pool.{free_pool};
 ghost use Rattle.rv_hardware.specs.Cycle.{IsCycle, any_prediction, execute};
 ghost use Rattle.rv_hardware.specs.Dispatch.{stall_of};
 ghost use Rattle.rv_hardware.specs.Run.{Reachable};
@@ -186,7 +186,7 @@ pub(crate) fn squash_all(
     stores: &mut StoreQueue,
 )
     ensures rob { rob.new ≡ cut_from 0 rob.old }
-    ensures stations { stations.new ≡ each_pool (squashed_pool 0) stations.old }
+    ensures stations { stations.new ≡ for_each (squashed_pool 0) stations.old }
     ensures bus { bus.new ≡ squashed_bus 0 bus.old }
     ensures rename { rename.new ≡ cleared rename.old }
     ensures stores { stores.new ≡ record stores.old { stores = filter is_committed stores.old.stores } }
@@ -220,8 +220,8 @@ fn empty_units(
     alloc: Global,
     description: &Description,
 ) -> Result<(Stations, Units, Bus), AllocError>
-    ensures stations { IfOk result (λ made. made.0 ≡ empty_pools description.now) }
-    ensures units { IfOk result (λ made. made.1 ≡ free_pools description.now) }
+    ensures stations { IfOk result (λ made. made.0 ≡ for_each empty_pool description.now.kinds) }
+    ensures units { IfOk result (λ made. made.1 ≡ for_each free_pool description.now.kinds) }
     ensures bus { IfOk result (λ made. made.2 ≡ empty_bus description.now) }
 {
     let bus = Bus::new(alloc, description)?;

@@ -1,8 +1,9 @@
 -- Which instruction a word is.
-use Rattle.std.specs.Prelude.{◌≡◌, ℕ, ◌==◌, if◌then◌else◌, List, [], ◌∷◌, Option, Some, None, bit_and}
+use Rattle.std.specs.Prelude.{◌≡◌, ℕ, Bool, ◌&&◌, ◌||◌, ◌==◌, if◌then◌else◌, List, [], ◌∷◌, Option, Some, None, bit_and}
 use Rattle.std.specs.List.{All, AllPairs, Contains}
 use Rattle.rv_isa.specs.declared.instructions.Instr.{Instr}
 use Rattle.rv_decode.specs.InstructionTable.{Row, table}
+use Rattle.rv_decode.specs.Operand.{opcode, rd, funct3, funct7}
 
 -- the word has the row's fixed bits under its mask
 abbrev pub Fits : ℕ → Row → Type 0
@@ -32,3 +33,14 @@ first_fit (row ∷ rows) word =
 -- the instruction that a word is, or none, as a function
 unfoldable pub instruction_of : ℕ → Option Instr
 instruction_of word = first_fit table word
+
+-- the row has these values in the fields that it fixes: a row that fixes rd fixes the whole word
+abbrev pub has_fields : Row → ℕ → ℕ → ℕ → ℕ → Bool
+has_fields row word code third seventh =
+    (opcode row.fixed == code) && ((funct3 row.mask == 0) || (funct3 row.fixed == third)) && (if rd row.mask == 0 then (funct7 row.mask == 0) || (funct7 row.fixed == seventh) else row.fixed == word)
+
+-- what the first of some rows with these fields makes of the word
+abbrev pub by_rows : List Row → ℕ → ℕ → ℕ → ℕ → Option Instr
+by_rows [] word code third seventh = None
+by_rows (row ∷ rows) word code third seventh =
+    if has_fields row word code third seventh then Some (row.instruction word) else by_rows rows word code third seventh

@@ -39,18 +39,6 @@ abbrev pub word_row : ℕ → Instr → Row
 word_row word instruction = record { mask = 0xffffffff; fixed = word; instruction = λ _. instruction }
 
 -- the forms: the instruction that a row makes of the operands in the word
-abbrev pub lui : ℕ → Instr
-lui word = Lui (rd word) (u_immediate word)
-
-abbrev pub auipc : ℕ → Instr
-auipc word = Auipc (rd word) (u_immediate word)
-
-abbrev pub jal : ℕ → Instr
-jal word = Jal (rd word) (j_immediate word)
-
-abbrev pub jalr : ℕ → Instr
-jalr word = Jalr (rd word) (rs1 word) (i_immediate word)
-
 abbrev pub branch : Condition → ℕ → Instr
 branch condition word = Branch condition (rs1 word) (rs2 word) (b_immediate word)
 
@@ -79,10 +67,10 @@ csr_with_immediate op word = Csr op (rd word) (csr_address word) (Immediate (csr
 unfoldable pub table : List Row
 table =
     -- RV32I
-    opcode_row 0b0110111 lui ∷
-    opcode_row 0b0010111 auipc ∷
-    opcode_row 0b1101111 jal ∷
-    funct3_row 0b000 0b1100111 jalr ∷
+    opcode_row 0b0110111 (λ word. Lui (rd word) (u_immediate word)) ∷
+    opcode_row 0b0010111 (λ word. Auipc (rd word) (u_immediate word)) ∷
+    opcode_row 0b1101111 (λ word. Jal (rd word) (j_immediate word)) ∷
+    funct3_row 0b000 0b1100111 (λ word. Jalr (rd word) (rs1 word) (i_immediate word)) ∷
     funct3_row 0b000 0b1100011 (branch Equal) ∷
     funct3_row 0b001 0b1100011 (branch NotEqual) ∷
     funct3_row 0b100 0b1100011 (branch LessThan) ∷

@@ -8,6 +8,7 @@ mod encoder;
 mod fields;
 mod formats;
 mod opcodes;
+mod operations;
 
 pub use decoder::decode;
 pub use encoder::encode;

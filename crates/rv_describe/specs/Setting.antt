@@ -2,6 +2,7 @@
 use Rattle.std.specs.Prelude.{ℕ, ℤ, pos, negsuc, Bool, List, Option, Some, None, unwrap_or, option_and_then, nat_lt, if◌then◌else◌, codes}
 use Rattle.std.specs.Str.{bytes_eq}
 use Rattle.toml.specs.Data.{Data, Members, as_integer, as_bool, as_str}
+use Rattle.rv_isa.specs.PerKind.{at_kind}
 use Rattle.rv_isa.specs.declared.keys.Key.{Key}
 use Rattle.rv_isa.specs.declared.keys.Key.TheVariants.{Number, Recovery, Pipelined, PredictorKind}
 use Rattle.rv_isa.specs.declared.keys.NumberKey.{NumberKey}
@@ -11,7 +12,6 @@ use Rattle.rv_isa.specs.declared.values.PredictorKind.TheVariants.{NotTaken, Bac
 use Rattle.rv_isa.specs.declared.values.Recovery.{Recovery as Mending}
 use Rattle.rv_isa.specs.declared.values.Recovery.TheVariants.{Commit, Early}
 use Rattle.rv_isa.specs.declared.values.Values.{Values}
-use Rattle.rv_isa.specs.Description.{kind_values}
 use Rattle.rv_isa.specs.Key.{number_of, key_place, values_with}
 use Rattle.rv_isa.specs.Standard.{standard_values}
 use Rattle.rv_describe.specs.Held.{held, value_in}
@@ -44,7 +44,7 @@ number members key =
 
 unfoldable pub is_pipelined : Members → Kind → Bool
 is_pipelined members kind =
-    unwrap_or (option_and_then as_bool (value_at members (Pipelined kind))) (kind_values standard_values kind).pipelined
+    unwrap_or (option_and_then as_bool (value_at members (Pipelined kind))) (at_kind kind standard_values.kinds).pipelined
 
 unfoldable pub recovery : Members → Mending
 recovery members =

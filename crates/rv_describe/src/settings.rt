@@ -6,8 +6,8 @@ ghost use Rattle.rv_describe.specs.Setting.{number, is_pipelined, recovery, pred
 use crate::held::value_at;
 use crate::words::{predictor_named, recovery_named, word_of};
 use rv_isa::{
-    CacheValues, Key, Kind, KindKey, KindValues, NumberKey, PredictorKind, PredictorValues,
-    Recovery, ReportValues, Values,
+    CacheValues, Key, Kind, KindKey, KindValues, NumberKey, PerKind, PredictorKind,
+    PredictorValues, Recovery, ReportValues, Values,
 };
 use toml::Table;
 
@@ -30,7 +30,7 @@ pub fn number(table: &Table, key: NumberKey) -> u32
 fn is_pipelined(table: &Table, kind: Kind) -> bool
     ensures { result ≡ is_pipelined (table_view table.now) kind }
 {
-    let default = Values::standard().of_kind(kind).pipelined;
+    let default = Values::standard().kinds.get(kind).pipelined;
     let Some(value) = value_at(table, Key::Pipelined(kind)) else {
         return default;
     };
@@ -108,10 +108,12 @@ pub fn values(table: &Table) -> Values
         store_queue: number(table, NumberKey::StoreQueue),
         forward: number(table, NumberKey::Forward),
         recovery: recovery(table),
-        alu: kind_values(table, Kind::Alu),
-        mul: kind_values(table, Kind::Mul),
-        div: kind_values(table, Kind::Div),
-        mem: kind_values(table, Kind::Mem),
+        kinds: PerKind {
+            alu: kind_values(table, Kind::Alu),
+            mul: kind_values(table, Kind::Mul),
+            div: kind_values(table, Kind::Div),
+            mem: kind_values(table, Kind::Mem),
+        },
         cache: cache(table),
         predictor: PredictorValues {
             kind: predictor(table),

@@ -1,5 +1,6 @@
 -- A run that is told is explained by its sentences.
-use Rattle.std.proofs.Common.{ℕ, List}
+use Rattle.std.proofs.Common.{ℕ, ◌≤◌, List, ap, arith}
+use Rattle.std.specs.Prelude.{sum}
 use Rattle.rv_isa.specs.declared.lines.Arrival.{Arrival}
 use Rattle.rv_isa.specs.declared.values.Values.{Values}
 use Rattle.rv_arch.specs.declared.outcome.Stop.{Stop}
@@ -7,7 +8,11 @@ use Rattle.rv_core.specs.declared.outcome.Progress.{Progress}
 use Rattle.rv_hardware.specs.Hardware.{Hardware}
 use Rattle.rv_source.specs.Listing.{Listed}
 use Rattle.rv_explain.specs.Explanation.{IsExplanation, IsTold, explanation}
+use Rattle.rv_explain.specs.Hotspot.{counts_of}
+use Rattle.rv_explain.specs.LastStore.{last_store_to, stores_of}
 use Rattle.rv_explain.specs.declared.tale.Tale.{Tale}
+use Rattle.rv_explain.proofs.HeadSum.{heads_within_cycles}
+use Rattle.rv_explain.proofs.Telling.{length-reports}
 
 pub explained : (arrivals : List Arrival) (limit : ℕ) (values : Values) (listing : Listed) (old new : Hardware) (stop : Stop) (progress : Progress) (tale : Tale)
     → IsTold arrivals limit values old new stop progress tale → IsExplanation arrivals limit values listing old stop (explanation listing stop new progress tale)
@@ -18,3 +23,10 @@ explained arrivals limit values listing old new stop progress tale told = record
   stops = told.stops;
   text_is = λ i. explanation listing stop new (told.counted i) (told.kept i);
 }
+
+-- no more cycles left the words of RAM at the head than there were
+pub heads_counted : (arrivals : List Arrival) (limit : ℕ) (values : Values) (old new : Hardware) (stop : Stop) (progress : Progress) (tale : Tale)
+    → IsTold arrivals limit values old new stop progress tale → sum (counts_of tale.words) ≤ progress.cycles
+heads_counted arrivals limit values old new stop progress tale told =
+    let heads = heads_within_cycles values (last_store_to (stores_of old told.moments)) told.moments in
+    omega (arith, heads, ap (λ (t : Tale). sum (counts_of t.words)) told.kept, ap (λ (p : Progress). p.cycles) told.counted, length-reports told.moments)

@@ -1,6 +1,10 @@
+mod DrainBegins
+mod DrainCounts
 mod Explained
+mod HeadSum
 mod Heads
 mod LastStores
+mod Joined
 mod Options
 mod Spots
 mod Tales

@@ -1,21 +1,24 @@
 -- What is kept of a run, with one cycle more.
-use Rattle.std.proofs.Common.{◌≡◌, ◌∙◌, ℕ, ◌+◌, ◌*◌, ◌^◌, ◌<◌, ◌≤◌, List, [], ◌∷◌, ◌++◌, length, count_by, cond, sym, ap, arith, append-nil, append_assoc}
+use Rattle.std.proofs.Common.{◌≡◌, ◌∙◌, ℕ, ◌+◌, ◌*◌, ◌^◌, ◌<◌, ◌≤◌, ◌==◌, List, [], ◌∷◌, ◌++◌, length, count_by, cond, sym, ap, arith, append-nil, append_assoc}
 use Rattle.std.specs.Prelude.{is_some}
-use Rattle.std.specs.Option.{option_or}
+use Rattle.std.specs.Option.{option_or, option_to_list}
 use Rattle.std.proofs.lemmas.List.Sums.{count_by-le-length, sum_by-append}
 use Rattle.rv_isa.specs.declared.lines.Arrival.{Arrival}
 use Rattle.rv_isa.specs.declared.values.Values.{Values}
 use Rattle.rv_hardware.specs.Hardware.{Hardware}
 use Rattle.rv_hardware.specs.Run.{steps_of}
 use Rattle.rv_hardware.specs.declared.step.Step.{Step}
+use Rattle.rv_explain.specs.Access.{both}
+use Rattle.rv_explain.specs.Drain.{drain_in, drains_by, drains_of}
 use Rattle.rv_explain.specs.Exception.{exception_in, first_exception}
 use Rattle.rv_explain.specs.Head.{head_cycles}
 use Rattle.rv_explain.specs.History.{History, Moment, reports_of}
 use Rattle.rv_explain.specs.LastStore.{last_store_to, stores_in, stores_of, with_stores}
-use Rattle.rv_explain.specs.Load.{both_loads, costs_of, is_quick, load_cost, loads_of}
+use Rattle.rv_explain.specs.Load.{costs_of, is_quick, load_cost, loads_of}
 use Rattle.rv_explain.specs.Tale.{HasRoom, is_retired, tale_after, tale_of}
 use Rattle.rv_explain.specs.WordNotes.{notes_of}
 use Rattle.rv_explain.specs.declared.loads.Costs.{Costs}
+use Rattle.rv_explain.proofs.DrainCounts.{drains_by-append, drains_of-le, drains_of-push}
 use Rattle.rv_explain.proofs.Heads.{head_cycles-le, with_head_of}
 use Rattle.rv_explain.proofs.LastStores.{stores_of-push, with_stores_of}
 use Rattle.rv_explain.proofs.Options.{option_or-assoc, option_or-none}
@@ -30,7 +33,7 @@ pub steps-push : (moments : List Moment) (moment : Moment) → steps_of (reports
 steps-push [] moment = append-nil _
 steps-push (first ∷ moments) moment = ap (λ steps. first.report.steps ++ steps) (steps-push moments moment) ∙ sym (append_assoc first.report.steps _ _)
 
-loads_of-append : (costs : Costs) (some more : List Step) → loads_of costs (some ++ more) ≡ both_loads (loads_of costs some) (loads_of costs more)
+loads_of-append : (costs : Costs) (some more : List Step) → loads_of costs (some ++ more) ≡ both (loads_of costs some) (loads_of costs more)
 loads_of-append costs some more = λ i. record {
   all = sum_by-append (λ (step : Step). cond (is_some (load_cost step)) 1 0) some more i;
   quick = sum_by-append (λ (step : Step). cond (is_quick costs (load_cost step)) 1 0) some more i;
@@ -39,8 +42,8 @@ loads_of-append costs some more = λ i. record {
 module _ (values : Values) where
   -- one more cycle
   pub tale-push : {arrivals : List Arrival} {old now : Hardware} {moments : List Moment} (moment : Moment) → History arrivals old moments now
-      → tale_after now.registers moment.report.steps moment.after (tale_of values old moments) ≡ tale_of values old (moments ++ moment ∷ [])
-  tale-push {old = old} {now = now} {moments = moments} moment passes =
+      → tale_after now.registers moment.report.steps (drain_in arrivals now) moment.after (tale_of values arrivals old moments) ≡ tale_of values arrivals old (moments ++ moment ∷ [])
+  tale-push {arrivals = arrivals} {old = old} {now = now} {moments = moments} moment passes =
       let steps = steps-push moments moment in
       let exception = sym (first_exception-push moments moment) in
       let heads = ap (with_stores (stores_in now.registers moment.report.steps)) (with_head_of values (last_store_to (stores_of old moments)) moments moment) in
@@ -48,20 +51,24 @@ module _ (values : Values) where
       let stored = sym (stores_of-push moment passes) in
       let retired = sym (ap (count_by is_retired) steps ∙ sum_by-append (λ (step : Step). cond (is_retired step) 1 0) (steps_of (reports_of moments)) moment.report.steps) in
       let loads = sym (ap (loads_of (costs_of values)) steps ∙ loads_of-append (costs_of values) (steps_of (reports_of moments)) moment.report.steps) in
+      let drains = sym (ap (drains_by values.cache.hit) (drains_of-push moment passes) ∙ drains_by-append values.cache.hit (drains_of arrivals old moments) (option_to_list (drain_in arrivals now))) in
       let words = heads ∙ stores ∙ (λ i. notes_of values (λ word. record { last_store = last_store_to (stored i) word; head_cycles = head_cycles (moments ++ moment ∷ []) word })) in
       λ i. record {
         retired = retired i;
         exception = exception i;
         costs = costs_of values;
         loads = loads i;
+        drains = drains i;
         words = words i;
       }
 
   -- the steps of one more cycle can be counted
-  pub has_room : (h : Hardware) (moments : List Moment) (more : ℕ) → length (steps_of (reports_of moments)) ≤ 8 * 2 ^ 40 → length moments ≤ 2 ^ 40 → more ≤ 8 → HasRoom (tale_of values h moments) more
-  has_room h moments more few within little = record {
+  pub has_room : (arrivals : List Arrival) (h : Hardware) (moments : List Moment) (more : ℕ) → length (steps_of (reports_of moments)) ≤ 8 * 2 ^ 40 → length moments ≤ 2 ^ 40 → more ≤ 8 → HasRoom (tale_of values arrivals h moments) more
+  has_room arrivals h moments more few within little = record {
     retired = omega (arith, count_by-le-length is_retired (steps_of (reports_of moments)), few, little);
     loads = omega (arith, count_by-le-length (λ step. is_some (load_cost step)) (steps_of (reports_of moments)), few, little);
     quick = omega (arith, count_by-le-length (λ step. is_quick (costs_of values) (load_cost step)) (steps_of (reports_of moments)), few, little);
+    drains = omega (arith, drains_of-le arrivals h moments, within);
+    hits = omega (arith, drains_of-le arrivals h moments, count_by-le-length (λ (cost : ℕ). cost == values.cache.hit) (drains_of arrivals h moments), within);
     heads = note_of values (λ word. record { last_store = last_store_to (stores_of h moments) word; head_cycles = head_cycles moments word }) (λ note. note.head_cycles + 1 < 2 ^ 64) (λ word. omega (arith, head_cycles-le moments word, within));
   }

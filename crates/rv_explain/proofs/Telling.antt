@@ -15,13 +15,14 @@ use Rattle.rv_hardware.specs.Report.{Report}
 use Rattle.rv_hardware.specs.Run.{IsStop, NoneStops, steps_of, ended as no_cycle}
 use Rattle.rv_hardware.specs.declared.step.Step.{Step}
 use Rattle.rv_hardware.proofs.HeadlineReached.{cycles_counted}
+use Rattle.rv_explain.specs.Drain.{drain_in}
 use Rattle.rv_explain.specs.Explanation.{IsTold}
 use Rattle.rv_explain.specs.History.{History, Moment, ended, cycled, reports_of}
 use Rattle.rv_explain.specs.Tale.{HasRoom, tale_after, tale_of}
 use Rattle.rv_explain.specs.declared.tale.Tale.{Tale}
 use Rattle.rv_explain.proofs.Tales.{has_room, tale-push}
 
-length-reports : (moments : List Moment) → length moments ≡ length (reports_of moments)
+pub length-reports : (moments : List Moment) → length moments ≡ length (reports_of moments)
 length-reports [] = refl
 length-reports (moment ∷ moments) = ap suc (length-reports moments)
 
@@ -46,9 +47,9 @@ module _ (values : Values) (arrivals : List Arrival) where
     pub moments : List Moment
     pub passes : History arrivals old moments now
     pub same : reports_of moments ≡ way.reports
-    pub kept : tale ≡ tale_of values old moments
+    pub kept : tale ≡ tale_of values arrivals old moments
 
-  pub told_nothing : (h : Hardware) (progress : Progress) (tale : Tale) → progress ≡ progress_of [] → tale ≡ tale_of values h [] → IsUnder h h progress tale
+  pub told_nothing : (h : Hardware) (progress : Progress) (tale : Tale) → progress ≡ progress_of [] → tale ≡ tale_of values arrivals h [] → IsUnder h h progress tale
   told_nothing h progress tale none untold = record {
     steps = [];
     way = record { reports = []; goes = no_cycle; none_stops = tt; counted = none; listed = refl };
@@ -72,7 +73,7 @@ module _ (values : Values) (arrivals : List Arrival) where
         let steps : steps_of (reports_of told.moments) ≡ told.steps = ap steps_of told.same ∙ sym told.way.listed in
         let counted = cycles_counted told.way.goes in
         subst (λ (t : Tale). HasRoom t more) (sym told.kept)
-        (has_room values old told.moments more (omega (arith, ap length steps, told.few, cycles, counted, within)) (omega (arith, moments, counted, within)) few)
+        (has_room values arrivals old told.moments more (omega (arith, ap length steps, told.few, cycles, counted, within)) (omega (arith, moments, counted, within)) few)
 
     -- the run ended
     pub told_to_the_end : (reason : Stop) (limit : ℕ) → IsStop limit told.way.reports now reason → IsTold arrivals limit values old now reason progress tale
@@ -87,7 +88,7 @@ module _ (values : Values) (arrivals : List Arrival) where
     -- one more cycle
     module _ (new : Hardware) (cleared list done : List Step) (progress' : Progress) (tale' : Tale) (stop : Option Stop)
         (none : cleared ≡ []) (next : IsNextCycle arrivals now new cleared list progress progress' stop) (listed : done ≡ list)
-        (registers : List ℕ) (before : registers ≡ now.registers) (added : tale' ≡ tale_after registers done new tale) where
+        (registers : List ℕ) (before : registers ≡ now.registers) (drain : Option ℕ) (begun_now : drain ≡ drain_in arrivals now) (added : tale' ≡ tale_after registers done drain new tale) where
       steps_are : done ≡ next.report.steps
       steps_are = listed ∙ next.steps_are ∙ ap (λ l. l ++ next.report.steps) none
 
@@ -105,9 +106,9 @@ module _ (values : Values) (arrivals : List Arrival) where
       unfolding moment
       same_now = reports_of-push told.moments moment ∙ ap (λ reports. reports ++ next.report ∷ []) told.same
 
-      kept_now : tale' ≡ tale_of values old moments_now
+      kept_now : tale' ≡ tale_of values arrivals old moments_now
       unfolding moment
-      kept_now = added ∙ (λ i. tale_after (before i) (steps_are i) new (told.kept i)) ∙ tale-push values moment told.passes
+      kept_now = added ∙ (λ i. tale_after (before i) (steps_are i) (begun_now i) new (told.kept i)) ∙ tale-push values moment told.passes
 
       pub told_on : stop ≡ None → IsUnder old new progress' tale'
       told_on goes = record {

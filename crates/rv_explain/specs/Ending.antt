@@ -13,7 +13,7 @@ use Rattle.rv_explain.specs.declared.word_note.WordNote.{WordNote}
 -- why a run ended
 unfoldable pub reason_text : Stop → List ℕ
 reason_text Breakpoint = codes "The run ended at a breakpoint, at "
-reason_text (Stale pc) = codes "The run ended at a word that was stored to, and fetched with no FENCE.I behind the store, at "
+reason_text (Stale pc) = codes "The run ended at a word that was stored to and then fetched without a FENCE.I in between, at "
 reason_text Limit = codes "The run was cut off at its limit of cycles, and the program stood at "
 reason_text Exhausted = codes "The core has done all the cycles that it counts, and the program stood at "
 

@@ -1,5 +1,5 @@
 -- The first trap of a run, but for the breakpoint that ends it.
-use Rattle.std.specs.Prelude.{ℕ, ◌==◌, if◌then◌else◌, List, [], ◌∷◌, ◌++◌, codes, decimal, Option, Some, None}
+use Rattle.std.specs.Prelude.{ℕ, ◌/◌, ◌==◌, if◌then◌else◌, List, [], ◌∷◌, ◌++◌, codes, decimal, Option, Some, None}
 use Rattle.std.specs.Option.{option_or}
 use Rattle.rv_isa.specs.declared.causes.Cause.{Cause}
 use Rattle.rv_isa.specs.declared.causes.Cause.TheVariants.{InstructionAddressMisaligned, InstructionAccessFault, IllegalInstruction, Breakpoint, LoadAddressMisaligned, LoadAccessFault, StoreAddressMisaligned, StoreAccessFault, EnvironmentCall}
@@ -49,10 +49,10 @@ cause_text e =
     codes "The first exception came in cycle " ++ (decimal e.cycle ++ (codes ": " ++ (cause_name e.cause ++
     (codes ", mtval " ++ (word_text e.value ++ codes ", at ")))))
 
--- how the program went on, by what mtvec held
+-- how the program went on, by the address in mtvec, whose last two bits are its mode (Privileged Architecture 20211203, 3.1.7)
 unfoldable pub went_on : ℕ → List ℕ
 went_on mtvec =
-    if mtvec == 0 then codes "No handler was set (mtvec was 0), and the program went on at "
+    if mtvec / 4 == 0 then codes "No handler was set (the address in mtvec was 0), and the program went on at "
     else codes "The program went on at its handler, at "
 
 unfoldable pub handler_text : Exception → List ℕ

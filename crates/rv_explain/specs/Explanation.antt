@@ -1,6 +1,5 @@
 -- What a run came to, in sentences.
-use Rattle.std.specs.Prelude.{◌≡◌, ℕ, List, ◌++◌, codes, Option, Result, Ok, Err}
-use Rattle.std.specs.Io.KnownBytes.{Appends}
+use Rattle.std.specs.Prelude.{◌≡◌, ℕ, List, ◌++◌, codes}
 use Rattle.rv_isa.specs.declared.lines.Arrival.{Arrival}
 use Rattle.rv_isa.specs.declared.values.Values.{Values}
 use Rattle.rv_arch.specs.declared.outcome.Stop.{Stop}
@@ -10,7 +9,7 @@ use Rattle.rv_hardware.specs.Hardware.{Hardware}
 use Rattle.rv_hardware.specs.Run.{IsStop}
 use Rattle.rv_source.specs.Listing.{Listed}
 use Rattle.rv_text.specs.Line.{line_of, ratio_text}
-use Rattle.rv_text.specs.Written.{AppendsBeginning}
+use Rattle.rv_explain.specs.Drain.{drain_text}
 use Rattle.rv_explain.specs.Ending.{ending_text}
 use Rattle.rv_explain.specs.Exception.{exception_text}
 use Rattle.rv_explain.specs.History.{History, Moment, reports_of}
@@ -18,8 +17,6 @@ use Rattle.rv_explain.specs.Hotspot.{hotspots_text}
 use Rattle.rv_explain.specs.Load.{load_text}
 use Rattle.rv_explain.specs.Stack.{count_text, stall_text}
 use Rattle.rv_explain.specs.Tale.{tale_of}
-use Rattle.rv_explain.specs.declared.explanation.ExplanationError.{ExplanationError}
-use Rattle.rv_explain.specs.declared.explanation.ExplanationError.TheVariants.{Memory, WriteFailed}
 use Rattle.rv_explain.specs.declared.tale.Tale.{Tale}
 
 -- cycles, with the hardware that each left, up to the end of a run, and what was kept of them
@@ -28,7 +25,7 @@ pub record IsTold (arrivals : List Arrival) (limit : ℕ) (values : Values) (old
   pub passes : History arrivals old moments new
   pub stops : IsStop limit (reports_of moments) new stop
   pub counted : progress ≡ progress_of (reports_of moments)
-  pub kept : tale ≡ tale_of values old moments
+  pub kept : tale ≡ tale_of values arrivals old moments
 
 -- the cycles, and those to each instruction
 unfoldable pub cycle_text : Progress → ℕ → List ℕ
@@ -39,7 +36,7 @@ cycle_text progress retired =
 -- where the cycles went
 unfoldable pub cost_text : Listed → Progress → Tale → List ℕ
 cost_text listing progress tale =
-    cycle_text progress tale.retired ++ (load_text tale.loads ++ hotspots_text listing progress.cycles tale.words)
+    cycle_text progress tale.retired ++ (load_text tale.loads ++ (drain_text tale.drains ++ hotspots_text listing progress.cycles tale.words))
 
 -- the sentences
 unfoldable pub explanation : Listed → Stop → Hardware → Progress → Tale → List ℕ
@@ -52,12 +49,4 @@ pub record IsExplanation (arrivals : List Arrival) (limit : ℕ) (values : Value
   pub new : Hardware
   pub passes : History arrivals old moments new
   pub stops : IsStop limit (reports_of moments) new stop
-  pub text_is : text ≡ explanation listing stop new (progress_of (reports_of moments)) (tale_of values old moments)
-
--- the sentences are written, or a beginning of them where a write failed, or nothing for want of memory
-abbrev pub IsExplained : List Arrival → ℕ → Values → Listed → Hardware → Result Stop ExplanationError → Option (List ℕ) → Option (List ℕ) → Type 0
-IsExplained arrivals limit values listing old (Ok stop) before after =
-    (text : List ℕ) × IsExplanation arrivals limit values listing old stop text × Appends before after text
-IsExplained arrivals limit values listing old (Err WriteFailed) before after =
-    (stop : Stop) × (text : List ℕ) × IsExplanation arrivals limit values listing old stop text × AppendsBeginning before after text
-IsExplained arrivals limit values listing old (Err Memory) before after = after ≡ before
+  pub text_is : text ≡ explanation listing stop new (progress_of (reports_of moments)) (tale_of values arrivals old moments)

@@ -3,7 +3,9 @@ pub mod Place
 pub mod WordNotes
 pub mod LastStore
 pub mod Head
+pub mod Access
 pub mod Load
+pub mod Drain
 pub mod Stack
 pub mod Hotspot
 pub mod Ending

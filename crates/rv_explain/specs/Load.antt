@@ -1,5 +1,5 @@
 -- The loads of a run by what they cost.
-use Rattle.std.specs.Prelude.{ℕ, ◌+◌, ◌-◌, ◌==◌, ◌||◌, Bool, false, if◌then◌else◌, List, ◌++◌, codes, decimal, Option, Some, None, count_by, is_some}
+use Rattle.std.specs.Prelude.{ℕ, ◌==◌, ◌||◌, Bool, false, if◌then◌else◌, List, codes, Option, Some, None, count_by, is_some}
 use Rattle.std.specs.Option.{option_map}
 use Rattle.rv_isa.specs.declared.values.Values.{Values}
 use Rattle.rv_decode.specs.Decodes.{instruction_of}
@@ -8,8 +8,9 @@ use Rattle.rv_hardware.specs.declared.step.Execution.{Execution}
 use Rattle.rv_hardware.specs.declared.step.Row.{Row}
 use Rattle.rv_hardware.specs.declared.step.Step.{Step}
 use Rattle.rv_hardware.specs.declared.step.Step.TheVariants.{Retired, Trap, Interrupt}
+use Rattle.rv_explain.specs.Access.{access_text}
+use Rattle.rv_explain.specs.declared.accesses.Accesses.{Accesses}
 use Rattle.rv_explain.specs.declared.loads.Costs.{Costs}
-use Rattle.rv_explain.specs.declared.loads.Loads.{Loads}
 
 -- the cycles from a load's issue until its result could be broadcast
 abbrev pub load_cost_of : Row → Option ℕ
@@ -32,18 +33,11 @@ is_quick costs None = false
 is_quick costs (Some cost) = (cost == costs.hit) || (cost == costs.forward)
 
 -- the loads among some steps
-abbrev pub loads_of : Costs → List Step → Loads
+abbrev pub loads_of : Costs → List Step → Accesses
 loads_of costs steps = record {
   all = count_by (λ step. is_some (load_cost step)) steps;
   quick = count_by (λ step. is_quick costs (load_cost step)) steps;
 }
 
--- some loads and others
-abbrev pub both_loads : Loads → Loads → Loads
-both_loads some others = record { all = some.all + others.all; quick = some.quick + others.quick }
-
--- the loads; what costs neither is a miss
-unfoldable pub load_text : Loads → List ℕ
-load_text loads =
-    codes "loads: " ++ (decimal loads.all ++ (codes ", of them " ++ (decimal loads.quick ++
-    (codes " at the cost of a hit or of forwarding, " ++ (decimal (loads.all - loads.quick) ++ codes " at that of a miss\n")))))
+unfoldable pub load_text : Accesses → List ℕ
+load_text loads = access_text (codes "loads: ") (codes " at the cost of a hit or of forwarding, ") loads

@@ -28,7 +28,7 @@ share_line name count all = row_text name (decimal count) (parts_of 1000 count a
 
 -- cycles, and retired instructions
 unfoldable pub count_text : ℕ → ℕ → List ℕ
-count_text cycles retired = decimal cycles ++ (codes " cycles, " ++ (decimal retired ++ codes " instructions retired\n"))
+count_text cycles retired = codes "cycles " ++ (decimal cycles ++ (codes ", retired instructions " ++ (decimal retired ++ codes "\n")))
 
 -- the cycles that dispatched something, and those that did not, by the reason
 unfoldable pub stall_text : ℕ → ℕ → StallCounts → List ℕ

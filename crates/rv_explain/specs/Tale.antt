@@ -1,16 +1,19 @@
 -- What is kept of a run, cycle by cycle.
-use Rattle.std.specs.Prelude.{ℕ, ◌+◌, ◌^◌, ◌<◌, Bool, true, false, List, count_by, IfSome}
-use Rattle.std.specs.Option.{option_or}
+use Rattle.std.specs.Prelude.{ℕ, ◌+◌, ◌^◌, ◌<◌, Bool, true, false, List, count_by, Option, IfSome}
+use Rattle.std.specs.Option.{option_or, option_to_list}
+use Rattle.rv_isa.specs.declared.lines.Arrival.{Arrival}
 use Rattle.rv_isa.specs.declared.values.Values.{Values}
 use Rattle.rv_hardware.specs.Hardware.{Hardware}
 use Rattle.rv_hardware.specs.Run.{steps_of}
 use Rattle.rv_hardware.specs.declared.step.Step.{Step}
 use Rattle.rv_hardware.specs.declared.step.Step.TheVariants.{Retired}
+use Rattle.rv_explain.specs.Access.{both}
+use Rattle.rv_explain.specs.Drain.{drains_by, drains_of}
 use Rattle.rv_explain.specs.Exception.{exception_in, first_exception}
 use Rattle.rv_explain.specs.Head.{head_cycles, head_word, with_head}
 use Rattle.rv_explain.specs.History.{Moment, reports_of}
 use Rattle.rv_explain.specs.LastStore.{last_store_to, stores_in, stores_of, with_stores}
-use Rattle.rv_explain.specs.Load.{both_loads, costs_of, loads_of}
+use Rattle.rv_explain.specs.Load.{costs_of, loads_of}
 use Rattle.rv_explain.specs.WordNotes.{note_at, notes_of}
 use Rattle.rv_explain.specs.declared.tale.Tale.{Tale}
 
@@ -18,23 +21,26 @@ abbrev pub is_retired : Step → Bool
 is_retired (Retired row) = true
 is_retired _ = false
 
--- what is kept of some cycles that began with such hardware
-abbrev pub tale_of : Values → Hardware → List Moment → Tale
-tale_of values h moments = record {
+-- what is kept of some cycles that began with such hardware, by the arrivals at the interrupt lines
+abbrev pub tale_of : Values → List Arrival → Hardware → List Moment → Tale
+tale_of values arrivals h moments = record {
   retired = count_by is_retired (steps_of (reports_of moments));
   exception = first_exception moments;
   costs = costs_of values;
   loads = loads_of (costs_of values) (steps_of (reports_of moments));
+  drains = drains_by values.cache.hit (drains_of arrivals h moments);
   words = notes_of values (λ word. record { last_store = last_store_to (stores_of h moments) word; head_cycles = head_cycles moments word });
 }
 
--- what is kept with one more cycle: its steps, by the registers before them, and the hardware that it left
-abbrev pub tale_after : List ℕ → List Step → Hardware → Tale → Tale
-tale_after registers steps after tale = record {
+-- what is kept with one more cycle: its steps, by the registers before them, the drain that began in it, and the hardware
+-- that it left
+abbrev pub tale_after : List ℕ → List Step → Option ℕ → Hardware → Tale → Tale
+tale_after registers steps drain after tale = record {
   retired = tale.retired + count_by is_retired steps;
   exception = option_or tale.exception (exception_in after steps);
   costs = tale.costs;
-  loads = both_loads tale.loads (loads_of tale.costs steps);
+  loads = both tale.loads (loads_of tale.costs steps);
+  drains = both tale.drains (drains_by tale.costs.hit (option_to_list drain));
   words = with_stores (stores_in registers steps) (with_head (head_word after) tale.words);
 }
 
@@ -43,4 +49,6 @@ pub record HasRoom (tale : Tale) (more : ℕ) : Type 0 where
   pub retired : tale.retired + more < 2 ^ 64
   pub loads : tale.loads.all + more < 2 ^ 64
   pub quick : tale.loads.quick + more < 2 ^ 64
+  pub drains : tale.drains.all + 1 < 2 ^ 64
+  pub hits : tale.drains.quick + 1 < 2 ^ 64
   pub heads : (word : ℕ) → IfSome (note_at tale.words word) (λ note. note.head_cycles + 1 < 2 ^ 64)

@@ -27,7 +27,7 @@ fn reason(stop: Stop) -> &'static [u8]
     match stop {
         Stop::Breakpoint => b"The run ended at a breakpoint, at ",
         Stop::Stale(_) => {
-            b"The run ended at a word that was stored to, and fetched with no FENCE.I behind the store, at "
+            b"The run ended at a word that was stored to and then fetched without a FENCE.I in between, at "
         }
         Stop::Limit => b"The run was cut off at its limit of cycles, and the program stood at ",
         Stop::Exhausted => {

@@ -94,8 +94,8 @@ fn write_cause<W: Write>(writer: &mut W, exception: &Exception) -> Result<(), Re
 fn went_on(mtvec: u32) -> &'static [u8]
     ensures { result.now ≡ went_on mtvec }
 {
-    if mtvec == 0 {
-        b"No handler was set (mtvec was 0), and the program went on at "
+    if mtvec / 4 == 0 {
+        b"No handler was set (the address in mtvec was 0), and the program went on at "
     } else {
         b"The program went on at its handler, at "
     }

@@ -1,9 +1,13 @@
-ghost use Rattle.std.specs.Prelude.{◌≡◌, ◌≤◌, [], vec_capacity, IfOk};
-ghost use Rattle.rv_explain.specs.Explanation.{IsExplained, cost_text, cycle_text, explanation};
+ghost use Rattle.std.specs.Prelude.{◌≡◌, ◌≤◌, List, [], sum, vec_capacity, IfOk};
+ghost use Rattle.rv_explain.specs.Explanation.{IsExplanation, cost_text, cycle_text, explanation};
+ghost use Rattle.rv_explain.specs.Hotspot.{counts_of};
 ghost use Rattle.rv_hardware.specs.Hardware.{Hardware};
+ghost use Rattle.rv_isa.specs.declared.lines.Arrival.{Arrival};
 ghost use Rattle.rv_explain.specs.Tale.{tale_of};
+ghost use Rattle.rv_text.specs.IsText.{IsText};
 ghost use Rattle.rv_text.specs.Written.{IsWritten};
 
+use crate::drains::write_drains;
 use crate::ending::write_ending;
 use crate::exceptions::write_exception;
 use crate::hotspots::write_hotspots;
@@ -16,18 +20,9 @@ use rv_core::{Core, Progress};
 use rv_hardware::Step;
 use rv_isa::{Arrivals, Description};
 use rv_source::Listing;
-use rv_text::{Field, ReportError, Value, write_fields};
+use rv_text::{Field, ReportError, TextError, Value, write_fields};
 use std::alloc::{AllocError, Global};
 use std::io::Write;
-
-/// Why a run was not explained whole.
-#[derive(Clone, Copy, Debug, PartialEq, Eq)]
-pub enum ExplanationError {
-    /// There was no memory, and nothing was written.
-    Memory,
-    /// A write answered an error, or took nothing: what was written is a beginning of the sentences.
-    WriteFailed,
-}
 
 // What a run of the core begins with.
 #[derive(Drop)]
@@ -39,7 +34,7 @@ struct Beginning {
 // Room for the steps of a cycle, and a tale of no cycle.
 fn begin(alloc: Global, description: &Description) -> Result<Beginning, AllocError>
     ensures room { IfOk result (λ beginning. 8 ≤ vec_capacity beginning.steps) }
-    ensures untold { IfOk result (λ beginning. (h : Hardware) → beginning.tale ≡ tale_of description.now h []) }
+    ensures untold { IfOk result (λ beginning. (arrivals : List Arrival) (h : Hardware) → beginning.tale ≡ tale_of description.now arrivals h []) }
 {
     let steps = Vec::with_capacity(alloc, 8)?;
     let tale = Tale::new(alloc, description)?;
@@ -75,10 +70,12 @@ fn write_costs<W: Write>(
     progress: &Progress,
     tale: &mut Tale,
 ) -> Result<(), ReportError>
+    requires heads { sum (counts_of tale.old.words) ≤ progress.now.cycles }
     ensures { IsWritten result (W.contents writer.old) (W.contents writer.new) (cost_text listing.now progress.now tale.old) }
 {
     write_cycles(writer, progress, tale.retired)?;
     write_loads(writer, &tale.loads)?;
+    write_drains(writer, &tale.drains)?;
     write_hotspots(writer, listing, progress.cycles, &mut tale.words)
 }
 
@@ -91,6 +88,7 @@ fn write_told<W: Write>(
     progress: &Progress,
     tale: &mut Tale,
 ) -> Result<(), ReportError>
+    requires heads { sum (counts_of tale.old.words) ≤ progress.now.cycles }
     ensures { IsWritten result (W.contents writer.old) (W.contents writer.new) (explanation listing.now stop core.now progress.now tale.old) }
 {
     write_ending(writer, listing, stop, core, &tale.words)?;
@@ -100,9 +98,10 @@ fn write_told<W: Write>(
 
 /// Runs a core, each cycle with the lines of its number, up to a breakpoint, a stale word, exhaustion or so many cycles,
 /// and then writes what the run came to, in plain sentences: how it ended, where and why, and for a stale word the last
-/// store to it; the first trap that is no breakpoint; where the cycles went; what its loads cost; and the five instructions
-/// that most cycles left at the head of the reorder buffer. The description tells where RAM lies, whose words are counted,
-/// and what loads cost. The listing is that of the program, whose lines are shown. Answers why the run ended.
+/// store to it; the first trap that is no breakpoint; where the cycles went; what its loads and the drains of its stores
+/// cost; and the five lines that most cycles left at the head of the reorder buffer. The description tells where RAM lies,
+/// whose words are counted, and what loads and drains cost. The listing is that of the program, whose lines are shown.
+/// Answers why the run ended.
 ///
 /// # Errors
 ///
@@ -116,11 +115,11 @@ pub fn write_explanation<W: Write>(
     limit: u64,
     listing: &Listing,
     writer: &mut W,
-) -> Result<Stop, ExplanationError>
-    ensures { IsExplained arrivals.now limit description.now listing.now core.old result (W.contents writer.old) (W.contents writer.new) }
+) -> Result<Stop, TextError>
+    ensures { IsText (IsExplanation arrivals.now limit description.now listing.now core.old) result (W.contents writer.old) (W.contents writer.new) }
 {
     let Ok(beginning) = begin(alloc, description) else {
-        return Err(ExplanationError::Memory);
+        return Err(TextError::Memory);
     };
     let told = run_told(
         core,
@@ -133,6 +132,6 @@ pub fn write_explanation<W: Write>(
     let mut tale = told.tale;
     match write_told(writer, listing, told.stop, core, &told.progress, &mut tale) {
         Ok(()) => Ok(told.stop),
-        Err(ReportError::WriteFailed) => Err(ExplanationError::WriteFailed),
+        Err(ReportError::WriteFailed) => Err(TextError::WriteFailed),
     }
 }

@@ -1,8 +1,7 @@
-ghost use Rattle.std.specs.Prelude.{◌≡◌};
+ghost use Rattle.std.specs.Prelude.{◌≡◌, ◌+◌, ◌≤◌, ◌<◌, ◌^◌, ℕ, IfSome, sum};
 ghost use Rattle.std.specs.List.{flat_map};
 ghost use Rattle.rv_explain.specs.Head.{head_word, with_head};
 ghost use Rattle.rv_explain.specs.Hotspot.{counts_of, hotspot_text, hotspots, hotspots_text};
-ghost use Rattle.std.specs.Prelude.{◌+◌, ◌<◌, ◌^◌, ℕ, IfSome};
 ghost use Rattle.rv_explain.specs.WordNotes.{note_at};
 ghost use Rattle.rv_text.specs.Written.{IsWritten};
 
@@ -45,7 +44,7 @@ fn write_hotspot<W: Write>(
     write_share(writer, "       ", hotspot.cycles, all)
 }
 
-// Writes at most so many of the words with the most cycles.
+// Writes at most so many of the places with the most cycles.
 fn write_most<W: Write>(
     writer: &mut W,
     listing: &Listing,
@@ -66,18 +65,21 @@ fn write_most<W: Write>(
     write_most(writer, listing, all, words, most - 1)
 }
 
-/// Writes the five places at which most cycles passed, and takes their cycles from what is kept.
+/// Writes the five lines that stood longest at the head, and leaves no count of theirs. No more cycles left a word at the head
+/// than there were.
 pub(crate) fn write_hotspots<W: Write>(
     writer: &mut W,
     listing: &Listing,
     all: u64,
     words: &mut WordNotes,
 ) -> Result<(), ReportError>
+    requires heads { sum (counts_of words.old) ≤ all }
     ensures { IsWritten result (W.contents writer.old) (W.contents writer.new) (hotspots_text listing.now all words.old) }
 {
     put(
         writer,
-        b"Most cycles passed at the head of the reorder buffer:\n",
+        b"The lines that stood longest at the head of the reorder buffer, in cycles:\n",
     )?;
+    words.join_lines(listing);
     write_most(writer, listing, all, words, 5)
 }

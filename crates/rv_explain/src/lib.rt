@@ -1,13 +1,17 @@
-//! What a run of the core came to, in plain sentences: how it ended and why, the first trap, where its cycles went, and what
-//! its loads cost. The text is a function of the run and of the listing of its program.
+//! What a run of the core came to, in plain sentences: how it ended and why, the first trap, where its cycles went, what its
+//! loads and the drains of its stores cost, and the lines that stood longest at the head of the reorder buffer. The text is a
+//! function of the run and of the listing of its program.
 #![tactic(auto)]
 
+mod accesses;
+mod drains;
 mod ending;
 mod exception;
 mod exceptions;
 mod explanation;
 mod hotspot;
 mod hotspots;
+mod lines;
 mod loads;
 mod place;
 mod running;
@@ -20,4 +24,4 @@ mod tests;
 mod word_note;
 mod word_notes;
 
-pub use explanation::{ExplanationError, write_explanation};
+pub use explanation::write_explanation;

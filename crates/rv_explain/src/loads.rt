@@ -1,12 +1,13 @@
 ghost use Rattle.std.specs.Prelude.{◌≡◌, ◌+◌, ◌<◌, ◌^◌, count_by, is_some, length};
-ghost use Rattle.rv_explain.specs.Load.{both_loads, costs_of, is_quick, load_cost, load_text, loads_of};
+ghost use Rattle.rv_explain.specs.Access.{both};
+ghost use Rattle.rv_explain.specs.Load.{costs_of, is_quick, load_cost, load_text, loads_of};
 ghost use Rattle.rv_text.specs.Written.{IsWritten};
 
-use itoa::Buffer;
+use crate::accesses::{Accesses, write_accesses};
 use rv_decode::decode;
 use rv_hardware::Step;
 use rv_isa::{Instr, Values};
-use rv_text::{ReportError, put_all};
+use rv_text::ReportError;
 use std::io::Write;
 
 /// What a load costs that need not go to memory, in cycles.
@@ -15,14 +16,6 @@ pub(crate) struct Costs {
     pub(crate) hit: u32,
     /// Of a load whose bytes all come from the store queue.
     pub(crate) forward: u32,
-}
-
-/// How many loads retired.
-#[derive(Clone, Copy, Debug, PartialEq, Eq)]
-pub(crate) struct Loads {
-    pub(crate) all: u64,
-    /// Those that cost as much as a hit, or as bytes from the store queue.
-    pub(crate) quick: u64,
 }
 
 // What a load cost that retired in a step.
@@ -79,41 +72,25 @@ impl Costs {
     }
 }
 
-impl Loads {
-    /// Counts the loads among more steps.
-    pub(crate) fn add(&mut self, costs: &Costs, steps: &[Step])
-        requires all { self.old.all + length steps.now < 2 ^ 64 }
-        requires quick { self.old.quick + length steps.now < 2 ^ 64 }
-        ensures { self.new ≡ both_loads self.old (loads_of costs.now steps.now) }
-    {
-        self.all += count_loads(steps) as u64;
-        self.quick += costs.count_quick(steps) as u64;
-    }
+/// Counts the loads among more steps.
+pub(crate) fn add_loads(loads: &mut Accesses, costs: &Costs, steps: &[Step])
+    requires all { loads.old.all + length steps.now < 2 ^ 64 }
+    requires quick { loads.old.quick + length steps.now < 2 ^ 64 }
+    ensures { loads.new ≡ both loads.old (loads_of costs.now steps.now) }
+{
+    loads.all += count_loads(steps) as u64;
+    loads.quick += costs.count_quick(steps) as u64;
 }
 
 /// Writes how many loads retired, by what they cost.
 #[tactic(auto, unfolding(crate::specs::Load::load_text))]
-pub(crate) fn write_loads<W: Write>(writer: &mut W, loads: &Loads) -> Result<(), ReportError>
+pub(crate) fn write_loads<W: Write>(writer: &mut W, loads: &Accesses) -> Result<(), ReportError>
     ensures { IsWritten result (W.contents writer.old) (W.contents writer.new) (load_text loads.now) }
 {
-    let mut all_buffer = Buffer::new();
-    let all = all_buffer.format(loads.all).as_bytes();
-    let mut quick_buffer = Buffer::new();
-    let quick = quick_buffer.format(loads.quick).as_bytes();
-    let mut missed_buffer = Buffer::new();
-    let missed = missed_buffer
-        .format(loads.all.saturating_sub(loads.quick))
-        .as_bytes();
-    put_all(
+    write_accesses(
         writer,
-        &[
-            b"loads: ",
-            all,
-            b", of them ",
-            quick,
-            b" at the cost of a hit or of forwarding, ",
-            missed,
-            b" at that of a miss\n",
-        ],
+        b"loads: ",
+        b" at the cost of a hit or of forwarding, ",
+        loads,
     )
 }

@@ -3,6 +3,7 @@ ghost use Rattle.rv_explain.specs.Explanation.{IsTold};
 ghost use Rattle.rv_explain.specs.Tale.{tale_of};
 ghost use Rattle.rv_isa.specs.declared.values.Values.{Values};
 
+use crate::drains::begun;
 use crate::tale::Tale;
 use rv_arch::Stop;
 use rv_core::{Core, Progress};
@@ -27,7 +28,7 @@ pub(crate) fn run_told(
     tale: Tale,
 ) -> Told
     requires room { 8 ≤ vec_capacity steps }
-    requires untold { tale ≡ tale_of description.now core.old [] }
+    requires untold { tale ≡ tale_of description.now arrivals.now core.old [] }
     ensures { IsTold arrivals.now limit description.now core.old core.new result.stop result.progress result.tale }
 {
     let mut steps = steps;
@@ -37,10 +38,13 @@ pub(crate) fn run_told(
         if core.is_exhausted() {
             return finished(Stop::Exhausted, progress, tale);
         }
+        let cycle = core.cycles_done();
+        let draining = core.drain_end();
         let mut registers = core.observe().regs;
         steps.clear();
         let stop = progress.run_cycle(core, arrivals, &mut steps);
-        tale.add(&mut registers, steps.as_slice(), core);
+        let drain = begun(cycle, draining, core.drain_end());
+        tale.add(&mut registers, steps.as_slice(), drain, core);
         if let Some(stop) = stop {
             return finished(stop, progress, tale);
         }

@@ -96,7 +96,13 @@ pub(crate) fn write_counts<W: Write>(
     let retired = retired_buffer.format(retired).as_bytes();
     put_all(
         writer,
-        &[cycles, b" cycles, ", retired, b" instructions retired\n"],
+        &[
+            b"cycles ",
+            cycles,
+            b", retired instructions ",
+            retired,
+            b"\n",
+        ],
     )
 }
 

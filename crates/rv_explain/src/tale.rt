@@ -1,11 +1,14 @@
-ghost use Rattle.std.specs.Prelude.{◌≡◌, [], count_by, length, IfOk};
+ghost use Rattle.std.specs.Prelude.{◌≡◌, List, [], count_by, length, IfOk};
 ghost use Rattle.rv_hardware.specs.Hardware.{Hardware};
+ghost use Rattle.rv_isa.specs.declared.lines.Arrival.{Arrival};
 ghost use Rattle.rv_explain.specs.Tale.{HasRoom, is_retired, tale_after, tale_of};
 
+use crate::accesses::Accesses;
+use crate::drains::add_drain;
 use crate::exception::Exception;
 use crate::exceptions::exception_in;
 use crate::hotspots::note_head;
-use crate::loads::{Costs, Loads};
+use crate::loads::{Costs, add_loads};
 use crate::stores::note_stores;
 use crate::word_notes::WordNotes;
 use rv_core::Core;
@@ -19,7 +22,8 @@ pub(crate) struct Tale {
     pub(crate) retired: u64,
     pub(crate) exception: Option<Exception>,
     pub(crate) costs: Costs,
-    pub(crate) loads: Loads,
+    pub(crate) loads: Accesses,
+    pub(crate) drains: Accesses,
     pub(crate) words: WordNotes,
 }
 
@@ -35,25 +39,34 @@ fn count_retired(steps: &[Step]) -> usize
 impl Tale {
     /// What is kept of no cycle. The only error is want of memory.
     pub(crate) fn new(alloc: Global, description: &Description) -> Result<Tale, AllocError>
-        ensures { IfOk result (λ tale. (h : Hardware) → tale ≡ tale_of description.now h []) }
+        ensures { IfOk result (λ tale. (arrivals : List Arrival) (h : Hardware) → tale ≡ tale_of description.now arrivals h []) }
     {
         Ok(Tale {
             retired: 0,
             exception: None,
             costs: Costs::new(&description.values()),
-            loads: Loads { all: 0, quick: 0 },
+            loads: Accesses { all: 0, quick: 0 },
+            drains: Accesses { all: 0, quick: 0 },
             words: WordNotes::new(alloc, description)?,
         })
     }
 
-    /// Keeps what the core's last cycle tells, by its steps and the registers before them.
-    pub(crate) fn add(&mut self, registers: &mut [u32; 32], steps: &[Step], core: &Core)
+    /// Keeps what the core's last cycle tells, by its steps, the registers before them, and what the drain costs that began
+    /// in it.
+    pub(crate) fn add(
+        &mut self,
+        registers: &mut [u32; 32],
+        steps: &[Step],
+        drain: Option<u64>,
+        core: &Core,
+    )
         requires room { HasRoom self.old (length steps.now) }
-        ensures { self.new ≡ tale_after registers.old steps.now core.now self.old }
+        ensures { self.new ≡ tale_after registers.old steps.now drain core.now self.old }
     {
         self.retired += count_retired(steps) as u64;
         self.exception = self.exception.or(exception_in(steps, core));
-        self.loads.add(&self.costs, steps);
+        add_loads(&mut self.loads, &self.costs, steps);
+        add_drain(&mut self.drains, self.costs.hit, drain);
         note_head(&mut self.words, core);
         note_stores(&mut self.words, registers, steps);
     }

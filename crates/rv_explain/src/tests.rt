@@ -12,8 +12,8 @@ const BYTES: [u8; 8] = [0x93, 0x00, 0x50, 0x00, 0x73, 0x00, 0x00, 0x00];
 const SENTENCES: &[u8] = b"\
 The run was cut off at its limit of cycles, and the program stood at 00000000, which no line of the program fills
 The first exception came in cycle 4: Environment call from M-mode, mtval 00000000, at 80000004, line 2: ecall
-No handler was set (mtvec was 0), and the program went on at 00000000
-20 cycles, 1 instructions retired
+No handler was set (the address in mtvec was 0), and the program went on at 00000000
+cycles 20, retired instructions 1
 cycles per instruction 20.000
 busy           11   55.0%  ############################
 fetch           9   45.0%  #######################
@@ -22,7 +22,8 @@ rob             0    0.0% \x20
 station         0    0.0% \x20
 store           0    0.0% \x20
 loads: 0, of them 0 at the cost of a hit or of forwarding, 0 at that of a miss
-Most cycles passed at the head of the reorder buffer:
+drains: 0, of them 0 at the cost of a hit, 0 at that of a miss
+The lines that stood longest at the head of the reorder buffer, in cycles:
 80000000, line 1: addi x1,x0,5
                 3   15.0%  ########
 ";

@@ -1,11 +1,13 @@
-ghost use Rattle.std.specs.Prelude.{◌≡◌, ◌+◌, ◌<◌, ◌^◌, None, IfOk, IfSome, length, map, slice_set};
+ghost use Rattle.std.specs.Prelude.{◌≡◌, ◌+◌, ◌<◌, ◌^◌, None, IfOk, IfSome, length, map, slice_set, sum};
 ghost use Rattle.std.specs.Option.{option_and_then};
-ghost use Rattle.rv_explain.specs.Hotspot.{counts_of, first_greatest, hotspot_at};
+ghost use Rattle.rv_explain.specs.Hotspot.{by_line, counts_of, first_greatest, hotspot_at};
 ghost use Rattle.rv_explain.specs.WordNotes.{note_at, notes_of, once_more_at_head, stored_by, with_change, with_note};
 
 use crate::hotspot::{Greatest, Hotspot};
+use crate::lines::join_lines;
 use crate::word_note::WordNote;
 use rv_isa::Description;
+use rv_source::Listing;
 use std::alloc::{AllocError, Global};
 use std::marker::Model;
 
@@ -133,6 +135,15 @@ impl WordNotes {
                 },
             );
         }
+    }
+
+    /// Gives the cycles at the head of all words of a line to its first word.
+    pub(crate) fn join_lines(&mut self, listing: &Listing)
+        requires room { sum (counts_of self.old) < 2 ^ 64 }
+        ensures first { self.new.first ≡ self.old.first }
+        ensures counts { counts_of self.new ≡ by_line listing.now self.old.first (counts_of self.old) }
+    {
+        join_lines(self.words.as_mut_slice(), self.first, listing);
     }
 
     /// Takes the cycles of the first word that has the most, and answers it; with no cycle left, it is any word.

@@ -2,6 +2,7 @@
 use Rattle.std.proofs.Common.{◌≡◌, ℕ, zero, suc, ◌+◌, ◌*◌, ◌≤◌, ◌<◌, Bool, true, false, cond, List, [], ◌∷◌, length, Option, Some, None, refl, ap, subst, arith}
 use Rattle.std.proofs.Math.Nat.{mul-le-mul_right}
 use Rattle.rv_isa.specs.Description.{gap_bound_of, greatest_access, greatest_latency}
+use Rattle.rv_isa.specs.PerKind.{at_kind}
 use Rattle.rv_isa.specs.declared.instructions.Instr.{Instr}
 use Rattle.rv_isa.specs.declared.instructions.Instr.TheVariants.{FenceI}
 use Rattle.rv_isa.specs.declared.issues.Issue.{Issue}
@@ -14,7 +15,6 @@ use Rattle.rv_rob.specs.declared.entry.Stage.TheVariants.{Waiting, Running, Fini
 use Rattle.rv_front.specs.declared.fetched.Fetched.{Fetched}
 use Rattle.rv_stores.specs.Store.{is_draining}
 use Rattle.rv_stores.specs.declared.store.Store.{Store}
-use Rattle.rv_units.specs.Units.{pool_of}
 use Rattle.rv_hardware.specs.Hardware.{Hardware}
 use Rattle.rv_hardware.specs.Issue.{is_load, kind_of_word}
 use Rattle.rv_hardware.proofs.GapForms.{longest_access, longest_execution, longest_write_back}
@@ -62,8 +62,8 @@ module _ (h : Hardware) (sound : IsSound h) where
   waiting_most : (load : Bool) (kind : Option Kind) → waiting_time h load kind ≤ port_time h + 2 * longest_execution h + 2
   waiting_most load None = omega arith
   waiting_most load (Some k) =
-      let held = unit_time-most h.cycle (longest_execution h) (pool_of k h.units).starts (sound.held k) in
-      let free = free_time-most (cond load (port_time h) 0) (unit_time h.cycle (pool_of k h.units).starts) (longest_execution h) held in
+      let held = unit_time-most h.cycle (longest_execution h) (at_kind k h.units).starts (sound.held k) in
+      let free = free_time-most (cond load (port_time h) 0) (unit_time h.cycle (at_kind k h.units).starts) (longest_execution h) held in
       omega (arith, free, no_more load (port_time h))
 
   stage_most : (instruction : Option Instr) (stage : Stage) → EndsBy (h.cycle + longest_execution h) stage → stage_time h instruction stage ≤ port_time h + 2 * longest_execution h + 2

@@ -1,6 +1,7 @@
 -- What an execution costs at most.
 use Rattle.std.proofs.Common.{ℕ, ◌≤◌, Bool, true, false, cond, Option, Some, None, arith}
-use Rattle.rv_isa.specs.Description.{kind_values, greatest_access, greatest_latency}
+use Rattle.rv_isa.specs.Description.{greatest_access, greatest_latency}
+use Rattle.rv_isa.specs.PerKind.{at_kind}
 use Rattle.rv_isa.specs.declared.operations.Kind.{Kind}
 use Rattle.rv_isa.specs.declared.operations.Kind.TheVariants as kind
 use Rattle.rv_isa.specs.declared.values.CacheValues.{CacheValues}
@@ -35,7 +36,7 @@ access_cost-most cache address = cost_at_most cache.values (is_held (line_of cac
 pub access_cost-least : (cache : Contents Memory) (address : ℕ) → cache.values.hit ≤ access_cost cache address
 access_cost-least cache address = cost_at_least cache.values (is_held (line_of cache address) (set_of cache (line_of cache address))) (evicted cache address)
 
-latency_at_most : (values : Values) (k : Kind) → (kind_values values k).latency ≤ greatest_latency values
+latency_at_most : (values : Values) (k : Kind) → (at_kind k values.kinds).latency ≤ greatest_latency values
 latency_at_most values kind.Alu = omega arith
 latency_at_most values kind.Mul = omega arith
 latency_at_most values kind.Div = omega arith

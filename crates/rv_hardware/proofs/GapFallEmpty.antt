@@ -2,9 +2,8 @@
 use Rattle.std.proofs.Common.{◌≡◌, ℕ, zero, suc, ◌+◌, ◌-◌, ◌*◌, ◌≤◌, Bool, true, false, cond, ◌&&◌, nat_le, List, [], ◌∷◌, ◌++◌, length, filter, Option, Some, None, refl, sym, ap, subst, ◌∙◌, arith, length-append}
 use Rattle.std.proofs.lemmas.Bool.{and_parts}
 use Rattle.std.proofs.lemmas.Bool.Decides.{nat_tests}
-use Rattle.rv_isa.specs.Description.{kind_values}
+use Rattle.rv_isa.specs.PerKind.{at_kind}
 use Rattle.rv_isa.specs.declared.operations.Kind.{Kind}
-use Rattle.rv_isa.specs.declared.operations.Kind.TheVariants as kind
 use Rattle.rv_isa.specs.declared.values.CacheValues.{CacheValues}
 use Rattle.rv_isa.specs.declared.values.Values.{Values}
 use Rattle.rv_memory.specs.Memory.{Memory}
@@ -89,16 +88,13 @@ last_reason false reason is = absurd (cc)
 le_from : (a b : ℕ) → nat_le a b ≡ true → a ≤ b
 le_from a b is = grind (arith, nat_tests)
 
-some_stations : (h : Hardware) (k : Kind) → HasSizes h → 1 ≤ (kind_values h.values k).stations
-some_stations h kind.Alu sizes = sizes.legal.kinds.alu.stations.0
-some_stations h kind.Mul sizes = sizes.legal.kinds.mul.stations.0
-some_stations h kind.Div sizes = sizes.legal.kinds.div.stations.0
-some_stations h kind.Mem sizes = sizes.legal.kinds.mem.stations.0
+some_stations : (h : Hardware) (k : Kind) → HasSizes h → 1 ≤ (at_kind k h.values.kinds).stations
+some_stations h k sizes = (sizes.legal.kinds k).stations.0
 
 free_stations : (h : Hardware) (kind : Option Kind) → HasSizes h → h.rob.entries ≡ [] → has_full_stations h kind ≡ false
 free_stations h None sizes none = refl
 free_stations h (Some k) sizes none =
-    ap (λ (l : List Entry). nat_le (kind_values h.values k).stations (length (filter (is_stationed k) l))) none ∙ le_none (kind_values h.values k).stations (some_stations h k sizes)
+    ap (λ (l : List Entry). nat_le (at_kind k h.values.kinds).stations (length (filter (is_stationed k) l))) none ∙ le_none (at_kind k h.values.kinds).stations (some_stations h k sizes)
 
 waits_for_stores : (h : Hardware) (fetched : Fetched) (reason : Stall) → HasSizes h → h.rob.entries ≡ [] → reason_of h fetched ≡ Some reason → h.values.store_queue ≤ length h.committed
 waits_for_stores h fetched reason sizes none is =

@@ -1,13 +1,12 @@
 -- Where FENCE.I is the oldest instruction, a cycle brings the port, the retired stores and the dirty lines nearer to their end.
-use Rattle.std.proofs.Common.{◌≡◌, ℕ, ◌+◌, ◌*◌, ◌≤◌, ◌<◌, true, false, ◌==◌, nat_le, List, [], ◌∷◌, ◌++◌, Option, Some, None, refl, sym, ap, subst, ◌∙◌, arith}
-use Rattle.std.proofs.lemmas.Bool.{eqb-false}
+use Rattle.std.proofs.Common.{◌≡◌, ℕ, ◌+◌, ◌*◌, ◌≤◌, ◌<◌, true, false, ◌==◌, nat_le, List, [], ◌∷◌, ◌++◌, Option, Some, refl, sym, ap, subst, ◌∙◌, arith}
+use Rattle.std.proofs.lemmas.Bool.{eqb-false, false≢true}
 use Rattle.std.proofs.lemmas.Bool.Decides.{nat_tests}
 use Rattle.rv_isa.specs.declared.broadcast.Message.{Message}
 use Rattle.rv_isa.specs.declared.instructions.Instr.{Instr}
 use Rattle.rv_isa.specs.declared.instructions.Instr.TheVariants.{FenceI}
 use Rattle.rv_isa.specs.declared.issues.Issue.{Issue}
 use Rattle.rv_isa.specs.declared.operations.Kind.{Kind}
-use Rattle.rv_isa.specs.declared.operations.Kind.TheVariants as kind
 use Rattle.rv_isa.specs.declared.values.CacheValues.{CacheValues}
 use Rattle.rv_isa.specs.declared.values.Values.{Values}
 use Rattle.rv_cache.specs.WriteBack.{Each}
@@ -46,16 +45,10 @@ IsFence e = e.instruction ≡ fence
 abbrev IsAnywhere : Stage → Type 0
 IsAnywhere stage = Unit {0}
 
-no_kind : (k : Kind) → is_of_kind k None ≡ true → ⊥
-no_kind kind.Alu is = cc
-no_kind kind.Mul is = cc
-no_kind kind.Div is = cc
-no_kind kind.Mem is = cc
-
 never_issued : (k : Kind) (older younger : List Entry) (e : Entry) (entries : List Entry) → Each IsFence entries → entries ≡ older ++ e ∷ younger → is_of_kind k (kind_of_word e.instruction) ≡ true → ⊥
 never_issued k older younger e entries each split of_kind =
     let own = (Each-back IsFence older (e ∷ younger) (subst (Each IsFence) split each)).0 in
-    no_kind k (sym (ap (λ i. is_of_kind k (kind_of_word i)) own) ∙ of_kind)
+    false≢true (sym (ap (λ i. is_of_kind k (kind_of_word i)) own) ∙ of_kind)
 
 -- ---- the phases behind drain
 module _ (h : Hardware) (front : FetchBuffer) (e : Entry) (split : h.rob.entries ≡ e ∷ []) (is : IsFence e) where

@@ -1,19 +1,17 @@
 -- Where the oldest instruction waits for a unit or the port, a cycle brings them nearer, or it leaves.
 use Rattle.std.proofs.Common.{◌≡◌, ℕ, zero, suc, ◌+◌, ◌-◌, ◌*◌, ◌≤◌, ◌<◌, Bool, true, false, cond, nat_le, [], Option, Some, inl, inr, ◌⊎◌, refl, sym, ap, subst, ◌∙◌, arith}
 use Rattle.std.proofs.lemmas.Bool.Decides.{nat_tests}
-use Rattle.rv_isa.specs.Description.{IsLegalKind, IsLegalKinds, kind_values}
+use Rattle.rv_isa.specs.PerKind.{at_kind}
 use Rattle.rv_isa.specs.declared.broadcast.Message.{Message}
 use Rattle.rv_isa.specs.declared.instructions.Instr.{Instr}
 use Rattle.rv_isa.specs.declared.issues.Issue.{Issue}
 use Rattle.rv_isa.specs.declared.operations.Kind.{Kind}
-use Rattle.rv_isa.specs.declared.operations.Kind.TheVariants as kind
 use Rattle.rv_isa.specs.declared.values.Values.{Values}
 use Rattle.rv_front.specs.FetchBuffer.{FetchBuffer}
 use Rattle.rv_rob.specs.Entry.{started}
 use Rattle.rv_rob.specs.declared.entry.Stage.{Stage}
 use Rattle.rv_rob.specs.declared.entry.Stage.TheVariants.{Waiting, Running, Finished}
 use Rattle.rv_units.specs.Pool.{Pool, is_free}
-use Rattle.rv_units.specs.Units.{pool_of}
 use Rattle.rv_hardware.specs.Broadcast.{broadcast, result_at}
 use Rattle.rv_hardware.specs.Cycle.{execute}
 use Rattle.rv_hardware.specs.Drain.{drain}
@@ -37,14 +35,8 @@ use Rattle.rv_hardware.proofs.GapUnits.{AreHeld}
 use Rattle.rv_hardware.proofs.GapWaiting.{CanStart, IsAfterIssue, after_issue}
 
 -- ---- there is a unit of each kind
-legal_kind : (values : Values) (k : Kind) → IsLegalKinds values → IsLegalKind (kind_values values k)
-legal_kind values kind.Alu legal = legal.alu
-legal_kind values kind.Mul legal = legal.mul
-legal_kind values kind.Div legal = legal.div
-legal_kind values kind.Mem legal = legal.mem
-
-some_units : (h : Hardware) (k : Kind) → HasSizes h → 1 ≤ (kind_values h.values k).units
-some_units h k sizes = (legal_kind h.values k sizes.legal.kinds).units.0
+some_units : (h : Hardware) (k : Kind) → HasSizes h → 1 ≤ (at_kind k h.values.kinds).units
+some_units h k sizes = (sizes.legal.kinds k).units.0
 
 -- ---- times
 no_port : (load : Bool) (port : ℕ) → (load ≡ true → port ≡ 0) → cond load port 0 ≡ 0
@@ -89,10 +81,10 @@ module _ (h : Hardware) (front : FetchBuffer) (instruction : Option Instr) (k : 
 
   -- ---- it waits for a unit
   abbrev pool : Pool
-  pool = pool_of k h.units
+  pool = at_kind k h.units
 
   abbrev Keeps : Hardware → Type 0
-  Keeps g = (pool_of k g.units ≡ pool) × (is_load instruction ≡ true → next_port_time g ≡ 0)
+  Keeps g = (at_kind k g.units ≡ pool) × (is_load instruction ≡ true → next_port_time g ≡ 0)
 
   keeps_broadcast : IsKeptByBroadcast Keeps
   keeps_broadcast = record {
@@ -107,16 +99,16 @@ module _ (h : Hardware) (front : FetchBuffer) (instruction : Option Instr) (k : 
   port_when g (inl other) load = absurd (cc (other, load))
   port_when g (inr (none, idle)) load = idle_time g none idle
 
-  waiting_is : (g : Hardware) → waiting_time g (is_load instruction) (kind_of_word instruction) ≡ free_time (cond (is_load instruction) (port_time g) 0) (unit_time g.cycle (pool_of k g.units).starts) (longest_execution g) + longest_execution g + 2
+  waiting_is : (g : Hardware) → waiting_time g (is_load instruction) (kind_of_word instruction) ≡ free_time (cond (is_load instruction) (port_time g) 0) (unit_time g.cycle (at_kind k g.units).starts) (longest_execution g) + longest_execution g + 2
   waiting_is g = ap (waiting_time g (is_load instruction)) of_kind
 
   still_waits : (stage : Stage) → Waits stage → Keeps (execute h).hardware → stage_time new instruction stage ≤ unit_time (h.cycle + 1) pool.starts + longest_execution h + 2
   still_waits Waiting waits keeps =
       let port : cond (is_load instruction) (port_time new) 0 ≡ 0 = no_port (is_load instruction) (port_time new) keeps.1 in
-      let free : free_time (cond (is_load instruction) (port_time new) 0) (unit_time new.cycle (pool_of k new.units).starts) (longest_execution new) ≡ unit_time new.cycle (pool_of k new.units).starts =
-      ap (λ n. free_time n (unit_time new.cycle (pool_of k new.units).starts) (longest_execution new)) port in
-      let units : unit_time new.cycle (pool_of k new.units).starts ≡ unit_time (h.cycle + 1) pool.starts =
-      ap (λ c. unit_time (c + 1) (pool_of k new.units).starts) (execute-same h).2 ∙ ap (λ (p : Pool). unit_time (h.cycle + 1) p.starts) keeps.0 in
+      let free : free_time (cond (is_load instruction) (port_time new) 0) (unit_time new.cycle (at_kind k new.units).starts) (longest_execution new) ≡ unit_time new.cycle (at_kind k new.units).starts =
+      ap (λ n. free_time n (unit_time new.cycle (at_kind k new.units).starts) (longest_execution new)) port in
+      let units : unit_time new.cycle (at_kind k new.units).starts ≡ unit_time (h.cycle + 1) pool.starts =
+      ap (λ c. unit_time (c + 1) (at_kind k new.units).starts) (execute-same h).2 ∙ ap (λ (p : Pool). unit_time (h.cycle + 1) p.starts) keeps.0 in
       omega (arith, waiting_is new, free, units, same-longest h front)
   still_waits (Running issue message) waits keeps = absurd (cc)
   still_waits (Finished issue cycle message) waits keeps = absurd (cc)
@@ -170,8 +162,8 @@ module _ (h : Hardware) (front : FetchBuffer) (instruction : Option Instr) (k : 
 
   still_busy : (stage : Stage) → EndsBy (new.cycle + longest_execution new) stage → AreHeld new → stage_time new instruction stage ≤ port_time new + 2 * longest_execution new + 2
   still_busy Waiting ends held =
-      let units = unit_time-most new.cycle (longest_execution new) (pool_of k new.units).starts (held k) in
-      let free = free_time-most (cond (is_load instruction) (port_time new) 0) (unit_time new.cycle (pool_of k new.units).starts) (longest_execution new) units in
+      let units = unit_time-most new.cycle (longest_execution new) (at_kind k new.units).starts (held k) in
+      let free = free_time-most (cond (is_load instruction) (port_time new) 0) (unit_time new.cycle (at_kind k new.units).starts) (longest_execution new) units in
       omega (arith, waiting_is new, free, no_more (is_load instruction) (port_time new))
   still_busy (Running issue message) ends held = omega (arith, begun_stage new instruction (Running issue message) refl ends)
   still_busy (Finished issue cycle message) ends held = omega arith
@@ -209,10 +201,10 @@ module _ (h : Hardware) (front : FetchBuffer) (instruction : Option Instr) (k : 
       let same = drain-same h in
       let start : CanStart instruction k of_kind pool h.cycle (drain h) = (
         subst (λ r. HeadIs instruction Waits r.entries) (sym same.rob) head,
-        ap (pool_of k) same.units,
+        ap (at_kind k) same.units,
         same.cycle,
         can,
-        subst (λ (v : Values). 1 ≤ (kind_values v k).units) (sym same.values) (some_units h k sizes),
+        subst (λ (v : Values). 1 ≤ (at_kind k v.kinds).units) (sym same.values) (some_units h k sizes),
       ) in
       by_start ending held is (after_issue instruction k of_kind pool h.cycle (drain h) start)
 

@@ -1,6 +1,7 @@
 -- The forms that the hardware takes from turn to turn, and what is known of each start of an execution.
 use Rattle.std.proofs.Common.{◌≡◌, ℕ, ◌+◌, ◌*◌, List, [], ◌∷◌, ◌++◌, Option}
 use Rattle.rv_isa.specs.Description.{greatest_access, greatest_latency}
+use Rattle.rv_isa.specs.PerKind.{at_kind, with_kind}
 use Rattle.rv_isa.specs.declared.broadcast.Message.{Message}
 use Rattle.rv_isa.specs.declared.broadcast.StoreAccess.{StoreAccess}
 use Rattle.rv_isa.specs.declared.instructions.Instr.{Instr}
@@ -11,7 +12,6 @@ use Rattle.rv_memory.specs.Memory.{Layout}
 use Rattle.rv_rob.specs.Entry.{started}
 use Rattle.rv_rob.specs.declared.entry.Entry.{Entry}
 use Rattle.rv_units.specs.Pool.{started as started_unit}
-use Rattle.rv_units.specs.Units.{pool_of, with_pool}
 use Rattle.rv_hardware.specs.Hardware.{Hardware}
 use Rattle.rv_hardware.specs.Result.{result_of_word}
 use Rattle.rv_hardware.specs.Retirement.{committed_store}
@@ -44,7 +44,7 @@ without_head s access es h = record h {
 
 -- an execution holds a unit
 abbrev pub with_unit : Kind → ℕ → Hardware → Hardware
-with_unit kind cost h = record h { units = with_pool kind (started_unit cost h.cycle (pool_of kind h.units)) h.units }
+with_unit kind cost h = record h { units = with_kind kind (started_unit cost h.cycle (at_kind kind h.units)) h.units }
 
 -- an instruction among the others begins its execution
 abbrev pub with_started : Kind → ℕ → Message → List Entry → Entry → List Entry → Hardware → Hardware

@@ -1,7 +1,7 @@
 -- What the issue phase keeps: what a load's access to the cache and the start of an execution keep.
 use Rattle.std.proofs.Common.{◌≡◌, ℕ, ◌+◌, ◌≤◌, true, ◌&&◌, List, ◌∷◌, ◌++◌, length, Option, Some, None, refl, sym, ap, subst, ◌∙◌}
 use Rattle.std.proofs.lemmas.Bool.{and_parts}
-use Rattle.rv_isa.specs.Description.{kind_values}
+use Rattle.rv_isa.specs.PerKind.{at_kind}
 use Rattle.rv_isa.specs.declared.broadcast.Message.{Message}
 use Rattle.rv_isa.specs.declared.operations.Kind.{Kind}
 use Rattle.rv_isa.specs.declared.operations.Kind.TheVariants as kind
@@ -9,7 +9,6 @@ use Rattle.rv_rob.specs.Entry.{started}
 use Rattle.rv_rob.specs.ReorderBuffer.{with_entry}
 use Rattle.rv_rob.specs.declared.entry.Entry.{Entry}
 use Rattle.rv_units.specs.Pool.{is_free}
-use Rattle.rv_units.specs.Units.{pool_of}
 use Rattle.rv_hardware.specs.Hardware.{Hardware}
 use Rattle.rv_hardware.specs.InFlight.{is_waiting}
 use Rattle.rv_hardware.specs.Issue.{Path, Without, FromStores, FromCache, cost_of, has_operands, is_of_kind, is_ready, issue, issue_kind, issue_oldest, issue_turn, issued, kind_of_word, may_load, oldest, path, sources_of_word, with_access, with_start}
@@ -83,11 +82,11 @@ module _ {P : Hardware → Type 0} {k : Kind} (kept : IsKeptByIssue P k) where
 
   pub issue_turn-keeps : (h : Hardware) → P h → Leaves P (issue_turn k h)
   issue_turn-keeps h holds =
-      by_test (Leaves P) (is_free h.cycle (pool_of k h.units)) (issue_oldest k h (oldest (is_ready h k) h.rob.entries)) (Ends h)
+      by_test (Leaves P) (is_free h.cycle (at_kind k h.units)) (issue_oldest k h (oldest (is_ready h k) h.rob.entries)) (Ends h)
       (λ free. after_oldest h (oldest (is_ready h k) h.rob.entries) refl holds) (λ held. holds)
 
   pub issue_kind-keeps : (h : Hardware) → P h → P (issue_kind k h)
-  issue_kind-keeps h holds = kept_by_turns P (issue_turn k) issue_turn-keeps (kind_values h.values k).units h holds
+  issue_kind-keeps h holds = kept_by_turns P (issue_turn k) issue_turn-keeps (at_kind k h.values.kinds).units h holds
 
 -- the four kinds, one after another
 pub issue-keeps : (P : Hardware → Type 0) → ((k : Kind) → IsKeptByIssue P k) → (h : Hardware) → P h → P (issue h)

@@ -1,5 +1,6 @@
 -- How many cycles without a step the hardware can still have: what the oldest instruction waits for, counted with slack.
 use Rattle.std.proofs.Common.{ℕ, zero, suc, ◌+◌, ◌-◌, ◌*◌, max, Bool, cond, List, [], ◌∷◌, length, Option, Some, None}
+use Rattle.rv_isa.specs.PerKind.{at_kind}
 use Rattle.rv_isa.specs.declared.instructions.Instr.{Instr}
 use Rattle.rv_isa.specs.declared.instructions.Instr.TheVariants.{FenceI}
 use Rattle.rv_isa.specs.declared.issues.Issue.{Issue}
@@ -10,7 +11,6 @@ use Rattle.rv_rob.specs.declared.entry.Stage.TheVariants.{Waiting, Running, Fini
 use Rattle.rv_front.specs.declared.fetched.Fetched.{Fetched}
 use Rattle.rv_stores.specs.Store.{is_draining}
 use Rattle.rv_stores.specs.declared.store.Store.{Store}
-use Rattle.rv_units.specs.Units.{pool_of}
 use Rattle.rv_hardware.specs.Commit.{write_back_time}
 use Rattle.rv_hardware.specs.Hardware.{Hardware}
 use Rattle.rv_hardware.specs.Issue.{is_load, kind_of_word}
@@ -43,7 +43,7 @@ free_time (suc port) unit longest = suc port + longest
 abbrev pub waiting_time : Hardware → Bool → Option Kind → ℕ
 waiting_time h load None = 0
 waiting_time h load (Some k) =
-    free_time (cond load (port_time h) 0) (unit_time h.cycle (pool_of k h.units).starts) (longest_execution h) + longest_execution h + 2
+    free_time (cond load (port_time h) 0) (unit_time h.cycle (at_kind k h.units).starts) (longest_execution h) + longest_execution h + 2
 
 abbrev pub stage_time : Hardware → Option Instr → Stage → ℕ
 stage_time h instruction Waiting = waiting_time h (is_load instruction) (kind_of_word instruction)

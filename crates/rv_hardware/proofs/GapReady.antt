@@ -3,6 +3,7 @@ use Rattle.std.proofs.Common.{◌≡◌, ℕ, ◌≤◌, Bool, true, false, not,
 use Rattle.std.proofs.lemmas.Bool.{and_from, or_right}
 use Rattle.std.proofs.lemmas.Bool.Decides.{nat_tests}
 use Rattle.std.specs.List.{list_all}
+use Rattle.rv_isa.proofs.WithKind.{is_same-own, is_same-true}
 use Rattle.rv_isa.specs.declared.instructions.Instr.{Instr}
 use Rattle.rv_isa.specs.declared.instructions.Instr.TheVariants.{Load}
 use Rattle.rv_isa.specs.declared.operations.Kind.{Kind}
@@ -16,20 +17,6 @@ use Rattle.rv_hardware.specs.InFlight.{is_waiting, stores_of}
 use Rattle.rv_hardware.specs.Issue.{Path, Without, FromStores, FromCache, has_operands, has_port, is_load, is_of_kind, is_ready, kind_of_word, may_load, path, path_of, sources_of_word}
 use Rattle.rv_hardware.specs.Seen.{seen_behind, stores_behind}
 use Rattle.rv_hardware.proofs.GapIssue.{ready-parts}
-
--- ---- kinds
-pub same_kind : (j k : Kind) → is_of_kind j (Some k) ≡ true → j ≡ k
-same_kind kind.Alu kind.Alu is = refl
-same_kind kind.Mul kind.Mul is = refl
-same_kind kind.Div kind.Div is = refl
-same_kind kind.Mem kind.Mem is = refl
-same_kind j k is = absurd (cc)
-
-own_kind : (k : Kind) → is_of_kind k (Some k) ≡ true
-own_kind kind.Alu = refl
-own_kind kind.Mul = refl
-own_kind kind.Div = refl
-own_kind kind.Mem = refl
 
 pub loads_of_mem : (instruction : Option Instr) → is_load instruction ≡ true → kind_of_word instruction ≡ Some kind.Mem
 loads_of_mem (Some (Load form rd rs1 offset)) is = refl
@@ -57,7 +44,7 @@ cache_access h k older e address ready by =
     let port = port_of_load (is_load e.instruction) (list_all is_known_store (stores_behind h older)) (has_port h (path h older e)) parts.loads load in
     record {
       load = load;
-      of_mem = same_kind k kind.Mem (sym (ap (is_of_kind k) (loads_of_mem e.instruction load)) ∙ parts.of_kind);
+      of_mem = is_same-true k kind.Mem (sym (ap (is_of_kind k) (loads_of_mem e.instruction load)) ∙ parts.of_kind);
       idle = sym (ap (has_port h) by) ∙ port;
     }
 
@@ -88,7 +75,7 @@ may_go h e (inr (none, idle)) =
 
 pub ready_head : (h : Hardware) (k : Kind) (e : Entry) → is_waiting e.stage ≡ true → kind_of_word e.instruction ≡ Some k → CanGo e.instruction h → is_ready h k [] e ≡ true
 ready_head h k e waits of_kind can =
-    let of : is_of_kind k (kind_of_word e.instruction) ≡ true = ap (is_of_kind k) of_kind ∙ own_kind k in
+    let of : is_of_kind k (kind_of_word e.instruction) ≡ true = ap (is_of_kind k) of_kind ∙ is_same-own k in
     and_from (is_waiting e.stage && is_of_kind k (kind_of_word e.instruction) && has_operands [] (sources_of_word e.instruction)) (may_load h [] e)
     (and_from (is_waiting e.stage && is_of_kind k (kind_of_word e.instruction)) (has_operands [] (sources_of_word e.instruction))
     (and_from (is_waiting e.stage) (is_of_kind k (kind_of_word e.instruction)) waits of) (known_operands (sources_of_word e.instruction)))

@@ -1,22 +1,23 @@
 -- The sizes of the hardware stay as they are described.
-use Rattle.std.proofs.Common.{◌≡◌, ℕ, List, refl, ◌∙◌}
-use Rattle.rv_isa.specs.Description.{IsLegal, kind_values}
+use Rattle.std.proofs.Common.{◌≡◌, ℕ, List, refl, ◌∙◌, ap}
+use Rattle.rv_isa.proofs.WithKind.{at_kind-for_each, with_kind-each}
+use Rattle.rv_isa.specs.Description.{IsLegal}
+use Rattle.rv_isa.specs.PerKind.{at_kind, with_kind}
 use Rattle.rv_isa.specs.declared.operations.Kind.{Kind}
-use Rattle.rv_isa.specs.declared.operations.Kind.TheVariants as kind
+use Rattle.rv_isa.specs.declared.per_kind.PerKind.{PerKind}
 use Rattle.rv_isa.specs.declared.values.CacheValues.{CacheValues}
 use Rattle.rv_isa.specs.declared.values.Values.{Values}
-use Rattle.rv_units.specs.Pool.{Pool, started as started_unit}
-use Rattle.rv_units.specs.Units.{Pools, pool_of, with_pool, free_pools}
+use Rattle.rv_units.specs.Pool.{Pool, started as started_unit, free_pool}
 use Rattle.rv_hardware.specs.Cycle.{any_prediction}
 use Rattle.rv_hardware.specs.Hardware.{Hardware}
 use Rattle.rv_hardware.specs.Reset.{reset_hardware}
 use Rattle.rv_hardware.proofs.GapCycle.{IsKept}
 use Rattle.rv_hardware.proofs.GapFetch.{fetch-same}
 
-abbrev AreDescribed : Values → Pools → Type 0
-AreDescribed values units = (k : Kind) → (pool_of k units).units ≡ (kind_values values k).units
+abbrev AreDescribed : Values → PerKind Pool → Type 0
+AreDescribed values units = (k : Kind) → (at_kind k units).units ≡ (at_kind k values.kinds).units
 
-pub record AreSizes (values : Values) (cache : CacheValues) (rob buffer width : ℕ) (units : Pools) : Type 0 where
+pub record AreSizes (values : Values) (cache : CacheValues) (rob buffer width : ℕ) (units : PerKind Pool) : Type 0 where
   pub legal : IsLegal values
   pub cache_is : cache ≡ values.cache
   pub rob_is : rob ≡ values.rob
@@ -27,28 +28,9 @@ pub record AreSizes (values : Values) (cache : CacheValues) (rob buffer width : 
 abbrev pub HasSizes : Hardware → Type 0
 HasSizes h = AreSizes h.values h.cache.values h.rob.capacity h.front.capacity h.front.width h.units
 
--- the pools with one of them changed
-pub with_pool-kept : (Q : Kind → Pool → Type 0) (k : Kind) (pool : Pool) (units : Pools) → Q k pool → ((other : Kind) → Q other (pool_of other units)) → (other : Kind) → Q other (pool_of other (with_pool k pool units))
-with_pool-kept Q kind.Alu pool units new all kind.Alu = new
-with_pool-kept Q kind.Alu pool units new all kind.Mul = all kind.Mul
-with_pool-kept Q kind.Alu pool units new all kind.Div = all kind.Div
-with_pool-kept Q kind.Alu pool units new all kind.Mem = all kind.Mem
-with_pool-kept Q kind.Mul pool units new all kind.Alu = all kind.Alu
-with_pool-kept Q kind.Mul pool units new all kind.Mul = new
-with_pool-kept Q kind.Mul pool units new all kind.Div = all kind.Div
-with_pool-kept Q kind.Mul pool units new all kind.Mem = all kind.Mem
-with_pool-kept Q kind.Div pool units new all kind.Alu = all kind.Alu
-with_pool-kept Q kind.Div pool units new all kind.Mul = all kind.Mul
-with_pool-kept Q kind.Div pool units new all kind.Div = new
-with_pool-kept Q kind.Div pool units new all kind.Mem = all kind.Mem
-with_pool-kept Q kind.Mem pool units new all kind.Alu = all kind.Alu
-with_pool-kept Q kind.Mem pool units new all kind.Mul = all kind.Mul
-with_pool-kept Q kind.Mem pool units new all kind.Div = all kind.Div
-with_pool-kept Q kind.Mem pool units new all kind.Mem = new
-
-units_stay : (h : Hardware) (k : Kind) (cost : ℕ) → HasSizes h → AreDescribed h.values (with_pool k (started_unit cost h.cycle (pool_of k h.units)) h.units)
+units_stay : (h : Hardware) (k : Kind) (cost : ℕ) → HasSizes h → AreDescribed h.values (with_kind k (started_unit cost h.cycle (at_kind k h.units)) h.units)
 units_stay h k cost sizes =
-    with_pool-kept (λ other pool. pool.units ≡ (kind_values h.values other).units) k (started_unit cost h.cycle (pool_of k h.units)) h.units (sizes.units_are k) sizes.units_are
+    with_kind-each k (started_unit cost h.cycle (at_kind k h.units)) h.units (λ other pool. pool.units ≡ (at_kind other h.values.kinds).units) (sizes.units_are k) (λ other differs. sizes.units_are other)
 
 pub sizes-kept : IsKept HasSizes
 sizes-kept = record {
@@ -91,12 +73,6 @@ sizes-kept = record {
   };
 }
 
-described_at_reset : (values : Values) (k : Kind) → (pool_of k (free_pools values)).units ≡ (kind_values values k).units
-described_at_reset values kind.Alu = refl
-described_at_reset values kind.Mul = refl
-described_at_reset values kind.Div = refl
-described_at_reset values kind.Mem = refl
-
 pub sizes-at_reset : (values : Values) (image : List ℕ) (start : ℕ) → IsLegal values → HasSizes (reset_hardware values image start)
 sizes-at_reset values image start legal = record {
   legal = legal;
@@ -104,5 +80,5 @@ sizes-at_reset values image start legal = record {
   rob_is = refl;
   buffer_is = refl;
   width_is = refl;
-  units_are = described_at_reset values;
+  units_are = λ k. ap (λ (p : Pool). p.units) (at_kind-for_each free_pool values.kinds k);
 }

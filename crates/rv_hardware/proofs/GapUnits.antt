@@ -1,24 +1,24 @@
 -- A unit is held no longer than for the longest execution.
 use Rattle.std.proofs.Common.{ℕ, ◌+◌, ◌≤◌, Bool, true, false, List, arith}
+use Rattle.rv_isa.proofs.WithKind.{at_kind-for_each, with_kind-each}
+use Rattle.rv_isa.specs.PerKind.{at_kind, with_kind}
 use Rattle.rv_isa.specs.declared.issues.Issue.{Issue}
 use Rattle.rv_isa.specs.declared.operations.Kind.{Kind}
-use Rattle.rv_isa.specs.declared.operations.Kind.TheVariants as kind
+use Rattle.rv_isa.specs.declared.per_kind.PerKind.{PerKind}
 use Rattle.rv_isa.specs.declared.values.Values.{Values}
 use Rattle.rv_cache.specs.WriteBack.{Each}
-use Rattle.rv_units.specs.Pool.{Pool, held_for, holding, holds_unit, started as started_unit}
-use Rattle.rv_units.specs.Units.{Pools, pool_of, with_pool}
+use Rattle.rv_units.specs.Pool.{Pool, held_for, holding, holds_unit, started as started_unit, free_pool}
 use Rattle.rv_hardware.specs.Hardware.{Hardware}
 use Rattle.rv_hardware.specs.Reset.{reset_hardware}
 use Rattle.rv_hardware.proofs.GapCycle.{IsKept}
 use Rattle.rv_hardware.proofs.GapEach.{Each-filter, Each-push, Each-weaken}
 use Rattle.rv_hardware.proofs.GapForms.{longest_execution}
-use Rattle.rv_hardware.proofs.GapSizes.{with_pool-kept}
 
 abbrev pub HoldsUntil : ℕ → Issue → Type 0
 HoldsUntil limit start = start.cycle + start.cost ≤ limit
 
-abbrev pub HoldUntil : ℕ → Pools → Type 0
-HoldUntil limit units = (k : Kind) → Each (HoldsUntil limit) (pool_of k units).starts
+abbrev pub HoldUntil : ℕ → PerKind Pool → Type 0
+HoldUntil limit units = (k : Kind) → Each (HoldsUntil limit) (at_kind k units).starts
 
 abbrev pub AreHeld : Hardware → Type 0
 AreHeld h = HoldUntil (h.cycle + longest_execution h) h.units
@@ -28,15 +28,15 @@ held_at_most true cost longest one most = one
 held_at_most false cost longest one most = most
 
 held_by_start : (h : Hardware) (k : Kind) (cost : ℕ) → cost ≤ longest_execution h → AreHeld h →
-    HoldUntil (h.cycle + longest_execution h) (with_pool k (started_unit cost h.cycle (pool_of k h.units)) h.units)
+    HoldUntil (h.cycle + longest_execution h) (with_kind k (started_unit cost h.cycle (at_kind k h.units)) h.units)
 held_by_start h k cost costs held =
     let limit : ℕ = h.cycle + longest_execution h in
-    let pool : Pool = pool_of k h.units in
+    let pool : Pool = at_kind k h.units in
     let start : Issue = record { cycle = h.cycle; cost = held_for pool.is_pipelined cost } in
     let most = held_at_most pool.is_pipelined cost (longest_execution h) (omega arith) costs in
     let ends : h.cycle + held_for pool.is_pipelined cost ≤ limit = omega arith in
-    with_pool-kept (λ other p. Each (HoldsUntil limit) p.starts) k (started_unit cost h.cycle pool) h.units
-    (Each-push (HoldsUntil limit) (holding h.cycle pool.starts) start ends (Each-filter (HoldsUntil limit) (holds_unit h.cycle) pool.starts (held k))) held
+    with_kind-each k (started_unit cost h.cycle pool) h.units (λ other p. Each (HoldsUntil limit) p.starts)
+    (Each-push (HoldsUntil limit) (holding h.cycle pool.starts) start ends (Each-filter (HoldsUntil limit) (holds_unit h.cycle) pool.starts (held k))) (λ other differs. held other)
 
 pub held-kept : IsKept AreHeld
 held-kept = record {
@@ -63,14 +63,11 @@ held-kept = record {
         let limit : ℕ = h.cycle + longest_execution h in
         let more : ℕ = h.cycle + 1 + longest_execution h in
         let past : limit ≤ more = omega arith in
-        λ k. Each-weaken (HoldsUntil limit) (HoldsUntil more) (λ start before. later start before past) (pool_of k h.units).starts (held k);
+        λ k. Each-weaken (HoldsUntil limit) (HoldsUntil more) (λ start before. later start before past) (at_kind k h.units).starts (held k);
   };
 } where
   later : {limit more : ℕ} (start : Issue) → start.cycle + start.cost ≤ limit → limit ≤ more → start.cycle + start.cost ≤ more
   later start before past = omega arith
 
 pub held-at_reset : (values : Values) (image : List ℕ) (start : ℕ) → AreHeld (reset_hardware values image start)
-held-at_reset values image start kind.Alu = tt
-held-at_reset values image start kind.Mul = tt
-held-at_reset values image start kind.Div = tt
-held-at_reset values image start kind.Mem = tt
+held-at_reset values image start k = rw (at_kind-for_each free_pool values.kinds k) tt

@@ -1,7 +1,8 @@
 -- The oldest instruction that waits and can go leaves for a unit in the issue phase, or no unit of its kind is free.
 use Rattle.std.proofs.Common.{◌≡◌, ℕ, suc, ◌+◌, ◌-◌, ◌≤◌, true, false, List, [], ◌∷◌, Option, Some, inl, inr, ◌⊎◌, refl, sym, ap, subst, ◌∙◌, arith}
-use Rattle.std.proofs.lemmas.Bool.{cases_Bool}
-use Rattle.rv_isa.specs.Description.{kind_values}
+use Rattle.std.proofs.lemmas.Bool.{cases_Bool, false≢true}
+use Rattle.rv_isa.proofs.WithKind.{is_same-own, is_same-true, with_kind-other}
+use Rattle.rv_isa.specs.PerKind.{at_kind, is_same}
 use Rattle.rv_isa.specs.declared.broadcast.Message.{Message}
 use Rattle.rv_isa.specs.declared.instructions.Instr.{Instr}
 use Rattle.rv_isa.specs.declared.operations.Kind.{Kind}
@@ -10,33 +11,14 @@ use Rattle.rv_rob.specs.Entry.{started}
 use Rattle.rv_rob.specs.ReorderBuffer.{with_entry}
 use Rattle.rv_rob.specs.declared.entry.Entry.{Entry}
 use Rattle.rv_units.specs.Pool.{Pool, is_free}
-use Rattle.rv_units.specs.Units.{Pools, pool_of, with_pool}
 use Rattle.rv_hardware.specs.Hardware.{Hardware}
 use Rattle.rv_hardware.specs.Issue.{Path, Without, FromStores, FromCache, is_load, is_of_kind, is_ready, issue, issue_kind, issue_oldest, issue_turn, issued, kind_of_word, oldest, oldest_from, path, with_access, with_start}
 use Rattle.rv_hardware.specs.Repeated.{Turn, GoesOn, Ends, followed_by, repeated}
 use Rattle.rv_hardware.proofs.GapHead.{HasBegun, HeadIs, Waits, head-change}
 use Rattle.rv_hardware.proofs.GapIssue.{IsKeptByIssue, issue_kind-keeps, issue_turn-keeps}
 use Rattle.rv_hardware.proofs.GapLists.{answer, by_test, with_entry-found}
-use Rattle.rv_hardware.proofs.GapReady.{CanGo, cache_access, loads_of_mem, ready_head, same_kind}
+use Rattle.rv_hardware.proofs.GapReady.{CanGo, cache_access, loads_of_mem, ready_head}
 use Rattle.rv_hardware.proofs.Repeated.{Leaves, kept_by_turns}
-
-other_pool : (j k : Kind) (pool : Pool) (units : Pools) → (j ≡ k → ⊥) → pool_of k (with_pool j pool units) ≡ pool_of k units
-other_pool kind.Alu kind.Alu pool units other = absurd (other refl)
-other_pool kind.Mul kind.Mul pool units other = absurd (other refl)
-other_pool kind.Div kind.Div pool units other = absurd (other refl)
-other_pool kind.Mem kind.Mem pool units other = absurd (other refl)
-other_pool kind.Alu kind.Mul pool units other = refl
-other_pool kind.Alu kind.Div pool units other = refl
-other_pool kind.Alu kind.Mem pool units other = refl
-other_pool kind.Mul kind.Alu pool units other = refl
-other_pool kind.Mul kind.Div pool units other = refl
-other_pool kind.Mul kind.Mem pool units other = refl
-other_pool kind.Div kind.Alu pool units other = refl
-other_pool kind.Div kind.Mul pool units other = refl
-other_pool kind.Div kind.Mem pool units other = refl
-other_pool kind.Mem kind.Alu pool units other = refl
-other_pool kind.Mem kind.Mul pool units other = refl
-other_pool kind.Mem kind.Div pool units other = refl
 
 -- ---- once it has begun, it has
 begun_by_issue : (instruction : Option Instr) (j : Kind) → IsKeptByIssue (λ h. HeadIs instruction HasBegun h.rob.entries) j
@@ -53,40 +35,40 @@ begun-issue_kind instruction j h head = issue_kind-keeps (begun_by_issue instruc
 module _ (instruction : Option Instr) (k : Kind) (of_kind : kind_of_word instruction ≡ Some k) (pool : Pool) (cycle : ℕ) where
   -- it waits, and can go
   abbrev pub CanStart : Hardware → Type 0
-  CanStart h = HeadIs instruction Waits h.rob.entries × (pool_of k h.units ≡ pool) × (h.cycle ≡ cycle) × CanGo instruction h × (1 ≤ (kind_values h.values k).units)
+  CanStart h = HeadIs instruction Waits h.rob.entries × (at_kind k h.units ≡ pool) × (h.cycle ≡ cycle) × CanGo instruction h × (1 ≤ (at_kind k h.values.kinds).units)
 
   abbrev pub IsAfterIssue : Hardware → Type 0
   IsAfterIssue h = (CanStart h × (is_free cycle pool ≡ false)) ⊎ HeadIs instruction HasBegun h.rob.entries
 
   -- ---- the turns of another kind
-  still_can : (j : Kind) (h after : Hardware) → (j ≡ k → ⊥) → j ≡ kind.Mem → CanGo instruction h → CanGo instruction after
+  still_can : (j : Kind) (h after : Hardware) → is_same k j ≡ false → j ≡ kind.Mem → CanGo instruction h → CanGo instruction after
   still_can j h after other mem can = elim (cases_Bool (is_load instruction)) [
     | inl load ↦
         let own : Some k ≡ Some kind.Mem = sym of_kind ∙ loads_of_mem instruction load in
         let same : k ≡ kind.Mem = cc in
-        absurd (other (mem ∙ sym same))
+        absurd (false≢true (sym other ∙ ap (is_same k) (mem ∙ sym same) ∙ is_same-own k))
     | inr no_load ↦ inl no_load
   ]
 
-  others_keep : (j : Kind) → (j ≡ k → ⊥) → IsKeptByIssue CanStart j
+  others_keep : (j : Kind) → is_same k j ≡ false → IsKeptByIssue CanStart j
   others_keep j other = record {
     accesses = λ h older younger e address can split ready by.
         (can.0, can.1, can.2, still_can j h (with_access (FromCache address) h) other (cache_access h j older e address ready by).of_mem can.3, can.4);
     starts = λ h older younger e cost message can split waits is_kind result costs. (
       head-change instruction Waits older younger e (started (record { cycle = h.cycle; cost = cost }) message e) refl
-          (λ same before. absurd (other (same_kind j k (sym (ap (λ i. is_of_kind j (kind_of_word i)) same ∙ ap (is_of_kind j) of_kind) ∙ is_kind))))
+          (λ same before. absurd (false≢true (sym other ∙ ap (is_same k) (is_same-true j k (sym (ap (λ i. is_of_kind j (kind_of_word i)) same ∙ ap (is_of_kind j) of_kind) ∙ is_kind)) ∙ is_same-own k)))
           (subst (HeadIs instruction Waits) split can.0),
-      other_pool j k _ h.units other ∙ can.1,
+      with_kind-other j _ h.units k other ∙ can.1,
       can.2,
       can.3,
       can.4,
     );
   }
 
-  others_turn : (j : Kind) → (j ≡ k → ⊥) → (h : Hardware) → CanStart h → CanStart (issue_kind j h)
+  others_turn : (j : Kind) → is_same k j ≡ false → (h : Hardware) → CanStart h → CanStart (issue_kind j h)
   others_turn j other h can = issue_kind-keeps (others_keep j other) h can
 
-  after_others : (j : Kind) → (j ≡ k → ⊥) → (h : Hardware) → IsAfterIssue h → IsAfterIssue (issue_kind j h)
+  after_others : (j : Kind) → is_same k j ≡ false → (h : Hardware) → IsAfterIssue h → IsAfterIssue (issue_kind j h)
   after_others j other h (inl (can, held)) = inl (others_turn j other h can, held)
   after_others j other h (inr begun) = inr (begun-issue_kind instruction j h begun)
 
@@ -120,48 +102,36 @@ module _ (instruction : Option Instr) (k : Kind) (of_kind : kind_of_word instruc
 
   own_turns : (units : ℕ) (h : Hardware) → CanStart h → IsAfterIssue (repeated (issue_turn k) (suc units) h)
   own_turns units h can =
-      let free : is_free h.cycle (pool_of k h.units) ≡ is_free cycle pool = ap (λ c. is_free c (pool_of k h.units)) can.2 ∙ ap (is_free cycle) can.1 in
-      by_test (λ t. IsAfterIssue (followed_by (repeated (issue_turn k) units) t)) (is_free h.cycle (pool_of k h.units)) (issue_oldest k h (oldest (is_ready h k) h.rob.entries)) (Ends h)
+      let free : is_free h.cycle (at_kind k h.units) ≡ is_free cycle pool = ap (λ c. is_free c (at_kind k h.units)) can.2 ∙ ap (is_free cycle) can.1 in
+      by_test (λ t. IsAfterIssue (followed_by (repeated (issue_turn k) units) t)) (is_free h.cycle (at_kind k h.units)) (issue_oldest k h (oldest (is_ready h k) h.rob.entries)) (Ends h)
       (λ passes. inr (begun_after units (issue_oldest k h (oldest (is_ready h k) h.rob.entries)) (first_turn h h.rob.entries refl can (sym free ∙ passes))))
       (λ held. inl (can, sym free ∙ held))
 
-  own_kind : (h : Hardware) → CanStart h → IsAfterIssue (issue_kind k h)
-  own_kind h can =
-      let some : (kind_values h.values k).units ≡ suc ((kind_values h.values k).units - 1) = omega (arith, can.4) in
-      subst (λ units. IsAfterIssue (repeated (issue_turn k) units h)) (sym some) (own_turns ((kind_values h.values k).units - 1) h can)
+  own_turn : (h : Hardware) → CanStart h → IsAfterIssue (issue_kind k h)
+  own_turn h can =
+      let some : (at_kind k h.values.kinds).units ≡ suc ((at_kind k h.values.kinds).units - 1) = omega (arith, can.4) in
+      subst (λ units. IsAfterIssue (repeated (issue_turn k) units h)) (sym some) (own_turns ((at_kind k h.values.kinds).units - 1) h can)
 
 -- the four kinds, one after another
 pub after_issue : (instruction : Option Instr) (k : Kind) (of_kind : kind_of_word instruction ≡ Some k) (pool : Pool) (cycle : ℕ) (h : Hardware) →
     CanStart instruction k of_kind pool cycle h → IsAfterIssue instruction k of_kind pool cycle (issue h)
-after_issue instruction kind.Alu of_kind pool cycle h can =
-    let alu : Hardware = issue_kind kind.Alu h in
-    let mul : Hardware = issue_kind kind.Mul alu in
-    let div : Hardware = issue_kind kind.Div mul in
-    let first = own_kind instruction kind.Alu of_kind pool cycle h can in
-    let second = after_others instruction kind.Alu of_kind pool cycle kind.Mul (λ same. cc) alu first in
-    let third = after_others instruction kind.Alu of_kind pool cycle kind.Div (λ same. cc) mul second in
-    after_others instruction kind.Alu of_kind pool cycle kind.Mem (λ same. cc) div third
-after_issue instruction kind.Mul of_kind pool cycle h can =
-    let alu : Hardware = issue_kind kind.Alu h in
-    let mul : Hardware = issue_kind kind.Mul alu in
-    let div : Hardware = issue_kind kind.Div mul in
-    let first = others_turn instruction kind.Mul of_kind pool cycle kind.Alu (λ same. cc) h can in
-    let second = own_kind instruction kind.Mul of_kind pool cycle alu first in
-    let third = after_others instruction kind.Mul of_kind pool cycle kind.Div (λ same. cc) mul second in
-    after_others instruction kind.Mul of_kind pool cycle kind.Mem (λ same. cc) div third
-after_issue instruction kind.Div of_kind pool cycle h can =
-    let alu : Hardware = issue_kind kind.Alu h in
-    let mul : Hardware = issue_kind kind.Mul alu in
-    let div : Hardware = issue_kind kind.Div mul in
-    let first = others_turn instruction kind.Div of_kind pool cycle kind.Alu (λ same. cc) h can in
-    let second = others_turn instruction kind.Div of_kind pool cycle kind.Mul (λ same. cc) alu first in
-    let third = own_kind instruction kind.Div of_kind pool cycle mul second in
-    after_others instruction kind.Div of_kind pool cycle kind.Mem (λ same. cc) div third
-after_issue instruction kind.Mem of_kind pool cycle h can =
-    let alu : Hardware = issue_kind kind.Alu h in
-    let mul : Hardware = issue_kind kind.Mul alu in
-    let div : Hardware = issue_kind kind.Div mul in
-    let first = others_turn instruction kind.Mem of_kind pool cycle kind.Alu (λ same. cc) h can in
-    let second = others_turn instruction kind.Mem of_kind pool cycle kind.Mul (λ same. cc) alu first in
-    let third = others_turn instruction kind.Mem of_kind pool cycle kind.Div (λ same. cc) mul second in
-    own_kind instruction kind.Mem of_kind pool cycle div third
+after_issue instruction kind.Alu is pool cycle h can =
+    let a : Hardware = issue_kind kind.Alu h in
+    let m : Hardware = issue_kind kind.Mul a in
+    let behind = after_others instruction kind.Alu is pool cycle in
+    behind kind.Mem refl (issue_kind kind.Div m) (behind kind.Div refl m (behind kind.Mul refl a (own_turn instruction kind.Alu is pool cycle h can)))
+after_issue instruction kind.Mul is pool cycle h can =
+    let a : Hardware = issue_kind kind.Alu h in
+    let m : Hardware = issue_kind kind.Mul a in
+    let behind = after_others instruction kind.Mul is pool cycle in
+    behind kind.Mem refl (issue_kind kind.Div m) (behind kind.Div refl m (own_turn instruction kind.Mul is pool cycle a (others_turn instruction kind.Mul is pool cycle kind.Alu refl h can)))
+after_issue instruction kind.Div is pool cycle h can =
+    let a : Hardware = issue_kind kind.Alu h in
+    let m : Hardware = issue_kind kind.Mul a in
+    let before = others_turn instruction kind.Div is pool cycle in
+    after_others instruction kind.Div is pool cycle kind.Mem refl (issue_kind kind.Div m) (own_turn instruction kind.Div is pool cycle m (before kind.Mul refl a (before kind.Alu refl h can)))
+after_issue instruction kind.Mem is pool cycle h can =
+    let a : Hardware = issue_kind kind.Alu h in
+    let m : Hardware = issue_kind kind.Mul a in
+    let before = others_turn instruction kind.Mem is pool cycle in
+    own_turn instruction kind.Mem is pool cycle (issue_kind kind.Div m) (before kind.Div refl m (before kind.Mul refl a (before kind.Alu refl h can)))

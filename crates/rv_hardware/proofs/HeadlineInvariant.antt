@@ -2,15 +2,16 @@
 use Rattle.std.proofs.Common.{◌≡◌, ℕ, ◌+◌, ◌*◌, ◌%◌, true, false, List, [], ◌∷◌, length, get_or}
 use Rattle.std.specs.Ordering.{nat_cmp}
 use Rattle.std.specs.FinSet as set
+use Rattle.rv_isa.specs.declared.per_kind.PerKind.{PerKind}
 use Rattle.rv_isa.specs.declared.values.Values.{Values}
 use Rattle.rv_arch.specs.State.{State}
 use Rattle.rv_memory.specs.Memory.{Layout, Memory, is_in_ram, word_of}
 use Rattle.rv_cache.specs.Cache.{Contents}
 use Rattle.rv_cache.specs.WriteBack.{Each}
+use Rattle.rv_units.specs.Pool.{Pool}
 use Rattle.rv_front.specs.FetchBuffer.{FetchBuffer}
 use Rattle.rv_rob.specs.ReorderBuffer.{ReorderBuffer}
 use Rattle.rv_rob.specs.declared.entry.Entry.{Entry}
-use Rattle.rv_units.specs.Units.{Pools}
 use Rattle.rv_stores.specs.Store.{is_draining}
 use Rattle.rv_stores.specs.declared.store.Store.{Store as QueuedStore}
 use Rattle.rv_hardware.specs.Hardware.{Hardware}
@@ -61,7 +62,7 @@ pub record IsSoundAt (values : Values) (cycle : ℕ) (s : State) (h : Hardware) 
   pub sound : IsSound h
 
 -- the hardware with other instructions in flight
-pub with_other_program : (values : Values) (cycle : ℕ) (s : State) (h : Hardware) → IsSoundAt values cycle s h → (units : Pools) (rob : ReorderBuffer) (front : FetchBuffer) →
+pub with_other_program : (values : Values) (cycle : ℕ) (s : State) (h : Hardware) → IsSoundAt values cycle s h → (units : PerKind Pool) (rob : ReorderBuffer) (front : FetchBuffer) →
     FollowsProgram (layout_of h.values) (seen h) rob.entries front → IsSoundAt values cycle s (record h { units = units; rob = rob; front = front })
 with_other_program values cycle s h is units rob front program = record {
   values_are = is.values_are;

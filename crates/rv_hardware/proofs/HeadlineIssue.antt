@@ -3,7 +3,7 @@ use Rattle.std.proofs.Common.{◌≡◌, ℕ, ◌+◌, ◌&&◌, ◌||◌, not, 
 use Rattle.std.specs.Prelude.{if◌then◌else◌}
 use Rattle.std.specs.List.{list_all}
 use Rattle.std.proofs.lemmas.Bool.{and_parts, false≢true}
-use Rattle.rv_isa.specs.Description.{kind_values}
+use Rattle.rv_isa.specs.PerKind.{at_kind, with_kind}
 use Rattle.rv_isa.specs.declared.Issue.{Issue}
 use Rattle.rv_isa.specs.declared.broadcast.Message.{Message}
 use Rattle.rv_isa.specs.declared.instructions.Instr.{Instr}
@@ -18,7 +18,6 @@ use Rattle.rv_rob.specs.declared.entry.Entry.{Entry}
 use Rattle.rv_rob.specs.declared.entry.Stage.TheVariants.{Running}
 use Rattle.rv_stores.specs.Store.{is_known as is_known_store}
 use Rattle.rv_units.specs.Pool.{is_free, started as started_unit}
-use Rattle.rv_units.specs.Units.{pool_of, with_pool}
 use Rattle.rv_hardware.specs.Hardware.{Hardware}
 use Rattle.rv_hardware.specs.InFlight.{is_serialising, is_waiting}
 use Rattle.rv_hardware.specs.Issue.{Path, Without, FromStores, FromCache, path, cost_of, has_port, is_load, is_of_kind, kind_of_word, sources_of_word, has_operands, may_load, is_ready, oldest, with_access, with_start, issued, issue_oldest, issue_turn, issue_kind, issue}
@@ -35,16 +34,10 @@ use Rattle.rv_hardware.proofs.HeadlineWords.{memory_behind-fresh}
 use Rattle.rv_hardware.proofs.Repeated.{Leaves, kept_by_turns}
 
 -- an instruction with a unit is not serialising
-no_kind : (k : Kind) → is_of_kind k None ≡ false
-no_kind kind.Alu = refl
-no_kind kind.Mul = refl
-no_kind kind.Div = refl
-no_kind kind.Mem = refl
-
 pub plain_by_kind : (k : Kind) (i : Option Instr) → is_of_kind k (kind_of_word i) ≡ true → is_serialising i ≡ false
-plain_by_kind k (Some FenceI) of = absurd (false≢true (sym (no_kind k) ∙ of))
-plain_by_kind k (Some (Csr op rd csr source)) of = absurd (false≢true (sym (no_kind k) ∙ of))
-plain_by_kind k (Some Mret) of = absurd (false≢true (sym (no_kind k) ∙ of))
+plain_by_kind k (Some FenceI) of = absurd (false≢true of)
+plain_by_kind k (Some (Csr op rd csr source)) of = absurd (false≢true of)
+plain_by_kind k (Some Mret) of = absurd (false≢true of)
 plain_by_kind k _ of = refl
 
 loads_known : (load known port : Bool) → (not load || (known && port)) ≡ true → load ≡ true → known ≡ true
@@ -81,7 +74,7 @@ module _ (values : Values) (cycle : ℕ) (state : State) where
       IsSoundAt values cycle state (with_start k seq cost message h)
   start_kept k cost seq message older e younger h is entries at result =
       let issue : Issue = record { cycle = h.cycle; cost = cost } in
-      with_other_program values cycle state h is (with_pool k (started_unit cost h.cycle (pool_of k h.units)) h.units) (changed (started issue message) seq h.rob) h.front
+      with_other_program values cycle state h is (with_kind k (started_unit cost h.cycle (at_kind k h.units)) h.units) (changed (started issue message) seq h.rob) h.front
       (FollowsProgram-staged (layout_of h.values) (seen h) older e younger (Running issue message) h.front h.rob.entries _ entries
       (ap (λ (es : List Entry). (changed (started issue message) seq (record h.rob { entries = es })).entries) entries ∙ with_entry-here (started issue message) seq h.rob.retired older e younger at)
       result is.sound.program)
@@ -117,7 +110,7 @@ module _ (values : Values) (cycle : ℕ) (state : State) where
 
   kind_kept : (k : Kind) (h : Hardware) → IsSoundAt values cycle state h → IsSoundAt values cycle state (issue_kind k h)
   kind_kept k h is =
-      kept_by_turns (IsSoundAt values cycle state) (issue_turn k) (λ now. turn_by (is_free now.cycle (pool_of k now.units)) k now) (kind_values h.values k).units h is
+      kept_by_turns (IsSoundAt values cycle state) (issue_turn k) (λ now. turn_by (is_free now.cycle (at_kind k now.units)) k now) (at_kind k h.values.kinds).units h is
 
   pub issue_kept : (h : Hardware) → IsSoundAt values cycle state h → IsSoundAt values cycle state (issue h)
   issue_kept h is = kind_kept kind.Mem _ (kind_kept kind.Div _ (kind_kept kind.Mul _ (kind_kept kind.Alu h is)))

@@ -1,6 +1,6 @@
 -- How a mark goes on in a cycle, behind the marks of what is older.
 use Rattle.std.proofs.Common.{◌≡◌, ℕ, ◌+◌, ◌≤◌, ◌<◌, ◌&&◌, Bool, true, is_some, is_none, List, ◌∷◌, ◌++◌, Option, Some, None, IfSome, refl, sym, ap, ◌∙◌, arith}
-use Rattle.rv_isa.specs.Description.{kind_values}
+use Rattle.rv_isa.specs.PerKind.{at_kind}
 use Rattle.rv_isa.specs.declared.operations.Kind.{Kind}
 use Rattle.rv_isa.specs.declared.values.Values.{Values}
 use Rattle.rv_hardware.specs.InFlight.{is_store, is_target, target_of_word}
@@ -84,7 +84,7 @@ pub record Enters (v : Values) (now : ℕ) (xs : List Mark) (m n : Mark) : Type 
   pub before : m.fetched < now
   pub in_order : Every (λ x. is_some x.dispatched ≡ true) xs
   pub room : count is_in_flight_mark xs < v.rob
-  pub stations : (k : Kind) → is_of_kind k (kind_of_word m.instruction) ≡ true → count (is_stationed_mark k) xs < (kind_values v k).stations
+  pub stations : (k : Kind) → is_of_kind k (kind_of_word m.instruction) ≡ true → count (is_stationed_mark k) xs < (at_kind k v.kinds).stations
 
 pub data Advances (v : Values) (now : ℕ) (xs : List Mark) (m n : Mark) : Type 0 where
   retires : Retires now m n → Advances v now xs m n

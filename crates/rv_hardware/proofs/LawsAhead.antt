@@ -4,10 +4,10 @@ use Rattle.std.proofs.lemmas.Bool.{leb-true}
 use Rattle.std.specs.List.{list_any}
 use Rattle.std.specs.Ordering.{nat_cmp}
 use Rattle.std.specs.FinSet as set
-use Rattle.rv_isa.specs.Description.{IsLegal, kind_values}
+use Rattle.rv_isa.specs.Description.{IsLegal}
+use Rattle.rv_isa.specs.PerKind.{at_kind}
 use Rattle.rv_isa.specs.declared.lines.Lines.{Lines}
 use Rattle.rv_isa.specs.declared.operations.Kind.{Kind}
-use Rattle.rv_isa.specs.declared.operations.Kind.TheVariants as kind
 use Rattle.rv_isa.specs.declared.values.Values.{Values}
 use Rattle.rv_arch.specs.Due.{due}
 use Rattle.rv_front.specs.FetchBuffer.{FetchBuffer}
@@ -54,21 +54,18 @@ use Rattle.rv_hardware.proofs.LawsTurns.{Leads, turns_keep}
 
 -- ---- the end of a cycle
 
-some_station : (v : Values) → IsLegal v → (k : Kind) → 0 < (kind_values v k).stations
-some_station v legal kind.Alu = omega (arith, legal.kinds.alu.stations)
-some_station v legal kind.Mul = omega (arith, legal.kinds.mul.stations)
-some_station v legal kind.Div = omega (arith, legal.kinds.div.stations)
-some_station v legal kind.Mem = omega (arith, legal.kinds.mem.stations)
+some_station : (v : Values) → IsLegal v → (k : Kind) → 0 < (at_kind k v.kinds).stations
+some_station v legal k = omega (arith, (legal.kinds k).stations)
 
 module _ (v : Values) (legal : IsLegal v) where
   -- with nothing in flight only a store waits
   station_free : (h : Hardware) → HasShape v h → h.rob.entries ≡ [] → (o : Option Kind) → has_full_stations h o ≡ true → ⊥
   station_free h shape none None full = absurd (cc)
   station_free h shape none (Some k) full =
-      let held = leb-true (kind_values h.values k).stations (length (filter (is_stationed k) h.rob.entries)) full in
+      let held = leb-true (at_kind k h.values.kinds).stations (length (filter (is_stationed k) h.rob.entries)) full in
       let empty = ap (λ es. length (filter (is_stationed k) es)) none in
       let some = some_station v legal k in
-      let same = ap (λ (w : Values). (kind_values w k).stations) shape.values in
+      let same = ap (λ (w : Values). (at_kind k w.kinds).stations) shape.values in
       omega (arith, held, empty, some, same)
 
   -- with no store that has retired, it does not either

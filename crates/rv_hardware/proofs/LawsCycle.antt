@@ -1,13 +1,13 @@
 -- A cycle passes through its phases, and a history is all cycles since the reset with all their steps.
 use Rattle.std.proofs.Common.{◌≡◌, ℕ, suc, ◌+◌, ◌≤◌, ◌<◌, ◌-◌, Bool, is_none, List, [], ◌∷◌, ◌++◌, map, length, refl, sym, subst, ap, ◌∙◌, arith, append-nil}
 use Rattle.std.specs.FinSet as set
-use Rattle.rv_isa.specs.Description.{IsLegal, kind_values}
-use Rattle.rv_isa.specs.declared.operations.Kind.{Kind}
+use Rattle.rv_isa.proofs.WithKind.{at_kind-for_each}
+use Rattle.rv_isa.specs.Description.{IsLegal}
+use Rattle.rv_isa.specs.PerKind.{at_kind}
 use Rattle.rv_isa.specs.declared.lines.Lines.{Lines}
-use Rattle.rv_isa.specs.declared.operations.Kind.TheVariants as kind
 use Rattle.rv_isa.specs.declared.values.Values.{Values}
+use Rattle.rv_units.specs.Pool.{free_pool, Pool}
 use Rattle.rv_front.specs.declared.fetched.Fetched.{Fetched}
-use Rattle.rv_units.specs.Units.{pool_of, free_pools}
 use Rattle.rv_hardware.specs.Broadcast.{broadcast}
 use Rattle.rv_hardware.specs.Commit.{Committing}
 use Rattle.rv_hardware.specs.Cycle.{IsCycle, any_prediction, commit_with, execute, with_lines}
@@ -95,8 +95,8 @@ module _ (v : Values) (legal : IsLegal v) (R : List Mark → Type 0) (earlier : 
         buffer = ap (λ (h : Hardware). h.rob.capacity) others_stay;
         room = fetches.capacity;
         width = fetches.width;
-        units = λ k. ap (λ (h : Hardware). (pool_of k h.units).units) others_stay;
-        pipelined = λ k. ap (λ (h : Hardware). (pool_of k h.units).is_pipelined) others_stay;
+        units = λ k. ap (λ (h : Hardware). (at_kind k h.units).units) others_stay;
+        pipelined = λ k. ap (λ (h : Hardware). (at_kind k h.units).is_pipelined) others_stay;
       }) dispatched.basics.shape;
       rows = dispatched.basics.rows;
       entries = subst (Every (SoundEntry v (old.cycle + 1) (old.cycle + 1) (old.cycle + 1))) (sym (ap (λ (h : Hardware). h.rob.entries) others_stay)) dispatched.basics.entries;
@@ -158,23 +158,12 @@ history_is_legal v (went_on before is) = history_is_legal v before
 sound_at_reset : (v : Values) (image : List ℕ) (start : ℕ) → Sound v [] (reset_hardware v image start)
 sound_at_reset v image start = record {
   cycle = refl;
-  shape = record { values = refl; cache = refl; buffer = refl; room = refl; width = refl; units = units_at_reset v; pipelined = pipelined_at_reset v };
+  shape = record { values = refl; cache = refl; buffer = refl; room = refl; width = refl; units = λ k. ap (λ (p : Pool). p.units) (at_kind-for_each free_pool v.kinds k); pipelined = λ k. ap (λ (p : Pool). p.is_pipelined) (at_kind-for_each free_pool v.kinds k) };
   rows = tt;
   entries = tt;
   fetched = tt;
   serial = tt;
-} where
-  units_at_reset : (v : Values) (k : Kind) → (pool_of k (free_pools v)).units ≡ (kind_values v k).units
-  units_at_reset v kind.Alu = refl
-  units_at_reset v kind.Mul = refl
-  units_at_reset v kind.Div = refl
-  units_at_reset v kind.Mem = refl
-
-  pipelined_at_reset : (v : Values) (k : Kind) → (pool_of k (free_pools v)).is_pipelined ≡ (kind_values v k).pipelined
-  pipelined_at_reset v kind.Alu = refl
-  pipelined_at_reset v kind.Mul = refl
-  pipelined_at_reset v kind.Div = refl
-  pipelined_at_reset v kind.Mem = refl
+}
 
 abbrev pub Anything : List Mark → Type 0
 Anything ms = Unit {0}

@@ -4,7 +4,8 @@ use Rattle.std.proofs.lemmas.Bool.{leb-true, leb-false, lt-ltb}
 use Rattle.std.proofs.lemmas.List.Elements.{All-head, All-tail}
 use Rattle.std.proofs.lemmas.List.Sums.{length-filter}
 use Rattle.std.specs.List.{list_any}
-use Rattle.rv_isa.specs.Description.{kind_values}
+use Rattle.rv_isa.proofs.WithKind.{is_same-own}
+use Rattle.rv_isa.specs.PerKind.{at_kind}
 use Rattle.rv_isa.specs.declared.operations.Kind.{Kind}
 use Rattle.rv_isa.specs.declared.values.Values.{Values}
 use Rattle.rv_front.specs.declared.fetched.Fetched.{Fetched}
@@ -32,7 +33,7 @@ use Rattle.rv_hardware.proofs.LawsPairs.{Older, rows_are_older}
 use Rattle.rv_hardware.proofs.LawsPast.{rows_obey}
 use Rattle.rv_hardware.proofs.LawsRow.{SoundRow}
 use Rattle.rv_hardware.proofs.LawsShape.{HasShape}
-use Rattle.rv_hardware.proofs.LawsSound.{is_of_kind_is, kind_is_asked}
+use Rattle.rv_hardware.proofs.LawsSound.{is_of_kind_is}
 use Rattle.rv_hardware.proofs.LawsTurns.{Leads, turns_within}
 use Rattle.rv_hardware.proofs.LawsWidths.{is_at}
 
@@ -48,7 +49,7 @@ pub record MayEnter (c : ℕ) (before : List Mark) (m : Mark) : Type 0 where
 abbrev pub NoRoom : Values → ℕ → List Mark → Mark → Type 0
 NoRoom v c before m =
     (v.dispatch_width ≤ count (λ x. is_at c x.dispatched) before) ⊎ (v.rob ≤ count is_in_flight_mark before) ⊎
-    ((k : Kind) × (is_of_kind k (kind_of_word m.instruction) ≡ true) × ((kind_values v k).stations ≤ count (is_stationed_mark k) before))
+    ((k : Kind) × (is_of_kind k (kind_of_word m.instruction) ≡ true) × ((at_kind k v.kinds).stations ≤ count (is_stationed_mark k) before))
 
 abbrev pub EntersSoon : Values → ℕ → List Mark → Mark → Type 0
 EntersSoon v c before m = MayEnter c before m → NoRoom v c before m
@@ -116,11 +117,11 @@ module _ (v : Values) (now : ℕ) (rows : List Row) (h : Hardware) (shape : HasS
   by_station : (o : Option Kind) → kind_of_word f.instruction ≡ o → has_full_stations h o ≡ true → NoRoom v now olders_of (mark_of_fetched f)
   by_station None is full = absurd (cc)
   by_station (Some k) is full =
-      let held = leb-true (kind_values h.values k).stations (length (filter (is_stationed k) h.rob.entries)) full in
-      let same = ap (λ (w : Values). (kind_values w k).stations) shape.values in
+      let held = leb-true (at_kind k h.values.kinds).stations (length (filter (is_stationed k) h.rob.entries)) full in
+      let same = ap (λ (w : Values). (at_kind k w.kinds).stations) shape.values in
       let some = stationed_entries k h.rob.entries in
       let all = at_least (is_stationed_mark k) in
-      inr (inr (k, ap (is_of_kind k) is ∙ kind_is_asked k, omega (arith, held, same, some, all)))
+      inr (inr (k, ap (is_of_kind k) is ∙ is_same-own k, omega (arith, held, same, some, all)))
 
   by_reason : MayEnter now olders_of (mark_of_fetched f) → WaitsFor h f → NoRoom v now olders_of (mark_of_fetched f)
   by_reason may (for_serial is) = absurd (no_serial h.rob.entries (Every-right (λ x. is_serialising x.instruction ≡ true → is_some x.retired ≡ true) (map mark_of_row rows) (map mark_of_entry h.rob.entries) may.serial) is)
@@ -243,7 +244,7 @@ module _ (v : Values) (bound c : ℕ) (before : List Row) (row : Row) (older : E
   fewer p q f = behind_count p q c before (Every-weaker (Older v bound row) (λ a. (was_fetched c (mark_of_row a) && p (at_end c (mark_of_row a))) ≡ true → q a ≡ true) (λ a o h. f a o.sound (and_second (was_fetched c (mark_of_row a)) (p (at_end c (mark_of_row a))) h)) before older)
 
   room_of_rows : NoRoom v c (as_of c (map mark_of_row before)) (at_end c (mark_of_row row)) →
-      (v.dispatch_width ≤ count_by (is_dispatched_in c) before) ⊎ (v.rob ≤ count_by (is_in_flight_in c) before) ⊎ ((kind : Kind) × (is_row_of_kind kind row ≡ true) × ((kind_values v kind).stations ≤ count_by (is_stationed_in kind c) before))
+      (v.dispatch_width ≤ count_by (is_dispatched_in c) before) ⊎ (v.rob ≤ count_by (is_in_flight_in c) before) ⊎ ((kind : Kind) × (is_row_of_kind kind row ≡ true) × ((at_kind kind v.kinds).stations ≤ count_by (is_stationed_in kind c) before))
   room_of_rows (inl wide) = let less = fewer (λ x. is_at c x.dispatched) (is_dispatched_in c) (λ a s h. dispatched_row c a.dispatched (nat_le a.dispatched c) refl h) in inl (omega (arith, wide, less))
   room_of_rows (inr (inl full)) = let less = fewer is_in_flight_mark (is_in_flight_in c) (λ a s h. flight_row c a h) in inr (inl (omega (arith, full, less)))
   room_of_rows (inr (inr full)) = let less = fewer (is_stationed_mark full.0) (is_stationed_in full.0 c) (λ a s h. station_row v bound c full.0 a s h) in inr (inr (full.0, full.1, omega (arith, full.2, less)))
@@ -259,7 +260,7 @@ module _ (v : Values) (bound c : ℕ) (before : List Row) (row : Row) (older : E
   }
 
 pub law_of_no_idle_dispatch : (v : Values) {steps : List Step} {h : Hardware} → History v steps h →
-    EachBehind (λ before row. is_store_row row ≡ false → (c : ℕ) → 0 ≤ c → row.fetched < c → c < row.dispatched → All (λ earlier. earlier.dispatched ≤ c) before → (v.dispatch_width ≤ count_by (is_dispatched_in c) before) ⊎ (v.rob ≤ count_by (is_in_flight_in c) before) ⊎ ((kind : Kind) × (is_row_of_kind kind row ≡ true) × ((kind_values v kind).stations ≤ count_by (is_stationed_in kind c) before))) (rows_of steps)
+    EachBehind (λ before row. is_store_row row ≡ false → (c : ℕ) → 0 ≤ c → row.fetched < c → c < row.dispatched → All (λ earlier. earlier.dispatched ≤ c) before → (v.dispatch_width ≤ count_by (is_dispatched_in c) before) ⊎ (v.rob ≤ count_by (is_in_flight_in c) before) ⊎ ((kind : Kind) × (is_row_of_kind kind row ≡ true) × ((at_kind kind v.kinds).stations ≤ count_by (is_stationed_in kind c) before))) (rows_of steps)
 law_of_no_idle_dispatch v {steps} {h} history before after row at plain c from fetched later all =
     let sound : SoundRow v h.cycle row = Every-place (SoundRow v h.cycle) before after row (subst (Every (SoundRow v h.cycle)) at (history_is_sound v history).rows) in
     let older = EachBehind-EveryBehind (λ b r. Every (Older v h.cycle r) b) (rows_of steps) (rows_are_older v history) before after row at in

@@ -3,17 +3,19 @@ use Rattle.std.proofs.Common.{◌≡◌, ℕ, suc, ◌+◌, ◌≤◌, ◌<◌, 
 use Rattle.std.proofs.lemmas.Bool.{ltb-false, le-ltb, and_right}
 use Rattle.std.specs.Ordering.{nat_cmp}
 use Rattle.std.specs.FinSet as set
-use Rattle.rv_isa.specs.Description.{IsLegal, kind_values}
+use Rattle.rv_isa.proofs.WithKind.{at_kind-for_each, with_kind-each, with_kind-other, with_kind-own}
+use Rattle.rv_isa.specs.Description.{IsLegal}
+use Rattle.rv_isa.specs.PerKind.{at_kind, for_each, with_kind}
 use Rattle.rv_isa.specs.declared.issues.Issue.{Issue}
 use Rattle.rv_isa.specs.declared.lines.Lines.{Lines}
 use Rattle.rv_isa.specs.declared.operations.Kind.{Kind}
 use Rattle.rv_isa.specs.declared.operations.Kind.TheVariants as kind
+use Rattle.rv_isa.specs.declared.per_kind.PerKind.{PerKind}
 use Rattle.rv_isa.specs.declared.values.Values.{Values}
 use Rattle.rv_arch.specs.Due.{due}
 use Rattle.rv_rob.specs.Entry.{started}
 use Rattle.rv_rob.specs.declared.entry.Entry.{Entry}
-use Rattle.rv_units.specs.Pool.{Pool, held_for, holds_unit, holding, is_free, started as started_unit}
-use Rattle.rv_units.specs.Units.{Pools, free_pools, pool_of, with_pool}
+use Rattle.rv_units.specs.Pool.{Pool, held_for, holds_unit, holding, is_free, started as started_unit, free_pool}
 use Rattle.rv_hardware.specs.Broadcast.{broadcast_turn}
 use Rattle.rv_hardware.specs.Commit.{Committing, commit_unless, commit_turn}
 use Rattle.rv_hardware.specs.Cycle.{with_lines}
@@ -35,10 +37,10 @@ use Rattle.rv_hardware.proofs.LawsIssue.{IssueTurn, no_unit, none_ready, starts,
 use Rattle.rv_hardware.proofs.LawsLists.{Every, Every-all, Every-append, Every-filter, Every-left, Every-weaker, EveryBehind, EveryBehind-all, EveryBehind-append, EveryBehind-moved, EveryBehind-right, EveryBehind-weaker, count, count-set-one_more}
 use Rattle.rv_hardware.proofs.LawsMarks.{Mark, mark_of_row, mark_of_entry, mark_of_fetched, marks, marks_in, marks_at_entry}
 use Rattle.rv_hardware.proofs.LawsPhases.{Issues, issue_turn_keeps, issue_kind_keeps, start_is, with_marks, goes_later, broadcast_keeps, dispatch_keeps}
-use Rattle.rv_hardware.proofs.LawsSound.{SoundEntry, is_of_kind_is}
+use Rattle.rv_hardware.proofs.LawsSound.{SoundEntry}
 use Rattle.rv_hardware.proofs.LawsTurns.{Leads, turns_keep, turns_within}
 use Rattle.rv_hardware.proofs.LawsUnitRows.{starts_at, begins_mark}
-use Rattle.rv_hardware.proofs.LawsUnits.{issued_units, other_pool, same_pool, drain_units}
+use Rattle.rv_hardware.proofs.LawsUnits.{issued_units, drain_units}
 
 -- every start of a pipelined kind was over by a cycle
 abbrev pub Over : ℕ → Pool → Type 0
@@ -77,10 +79,10 @@ filter-append_length now (x ∷ xs) s = by_test (holds_unit now x) (filter-appen
 
 module _ (v : Values) (legal : IsLegal v) (now : ℕ) (steps : List Step) (k : Kind) where
   abbrev units_here : ℕ
-  units_here = (kind_values v k).units
+  units_here = (at_kind k v.kinds).units
 
   abbrev Busy : ℕ → Hardware → Type 0
-  Busy j h = Issues v legal now Anything (anything_is_kept v now) steps h × EveryBehind (BusyUnits k j now) [] (marks_in steps h) × (length (holding now (pool_of k h.units).starts) ≤ j)
+  Busy j h = Issues v legal now Anything (anything_is_kept v now) steps h × EveryBehind (BusyUnits k j now) [] (marks_in steps h) × (length (holding now (at_kind k h.units).starts) ≤ j)
 
   never_busy : (j : ℕ) (before xs : List Mark) → EveryBehind (λ b m. MayStart k now b m → ⊥) before xs → EveryBehind (BusyUnits k j now) before xs
   never_busy j before xs h = EveryBehind-weaker (λ b m. MayStart k now b m → ⊥) (BusyUnits k j now) (λ b m never may. absurd (never may)) before xs h
@@ -132,11 +134,11 @@ module _ (v : Values) (legal : IsLegal v) (now : ℕ) (steps : List Step) (k : K
         has_begun : (mark_of_entry begun).start ≡ None → ⊥
         has_begun none' = absurd (cc)
 
-  held_after : (j : ℕ) (h : Hardware) (older : List Entry) (e : Entry) → h.cycle ≡ now → length (holding now (pool_of k h.units).starts) ≤ j → length (holding now (pool_of k (issued k h older e).units).starts) ≤ suc j
+  held_after : (j : ℕ) (h : Hardware) (older : List Entry) (e : Entry) → h.cycle ≡ now → length (holding now (at_kind k h.units).starts) ≤ j → length (holding now (at_kind k (issued k h older e).units).starts) ≤ suc j
   held_after j h older e cycle le =
       let cost : ℕ = cost_of h k (path h older e) in
-      let pool : Pool = pool_of k h.units in
-      let same = ap (pool_of k) (issued_units k h older e) ∙ same_pool k (started_unit cost h.cycle pool) h.units ∙ ap (λ n. started_unit cost n pool) cycle in
+      let pool : Pool = at_kind k h.units in
+      let same = ap (at_kind k) (issued_units k h older e) ∙ with_kind-own k (started_unit cost h.cycle pool) h.units ∙ ap (λ n. started_unit cost n pool) cycle in
       let more = filter-append_length now (holding now pool.starts) (record { cycle = now; cost = held_for pool.is_pipelined cost }) in
       let fewer = fewer_held now pool.starts in
       let all = ap (λ (q : Pool). length (holding now q.starts)) same in
@@ -145,25 +147,25 @@ module _ (v : Values) (legal : IsLegal v) (now : ℕ) (steps : List Step) (k : K
   busy_leads : (j : ℕ) (h : Hardware) (t : Turn Hardware) → j < units_here → IssueTurn k h t → Busy j h → Leads (Issues v legal now Anything (anything_is_kept v now) steps) (Issues v legal now Anything (anything_is_kept v now) steps) t →
       Leads (Busy (suc j)) (λ g. EveryBehind (BusyUnits k units_here now) [] (marks_in steps g)) t
   busy_leads j h _ lt (no_unit held) p goes =
-      let full = ltb-false (length (holding now (pool_of k h.units).starts)) (pool_of k h.units).units (subst (λ n. is_free n (pool_of k h.units) ≡ false) p.0.basics.cycle held) in
+      let full = ltb-false (length (holding now (at_kind k h.units).starts)) (at_kind k h.units).units (subst (λ n. is_free n (at_kind k h.units) ≡ false) p.0.basics.cycle held) in
       absurd (too_many full (p.0.basics.shape.units k) p.2)
     where
-      too_many : (pool_of k h.units).units ≤ length (holding now (pool_of k h.units).starts) → (pool_of k h.units).units ≡ units_here → length (holding now (pool_of k h.units).starts) ≤ j → ⊥
+      too_many : (at_kind k h.units).units ≤ length (holding now (at_kind k h.units).starts) → (at_kind k h.units).units ≡ units_here → length (holding now (at_kind k h.units).starts) ≤ j → ⊥
       too_many full same le = omega (arith, full, same, le, lt)
   busy_leads j h _ lt (none_ready none) p goes = none_started units_here h p.0 none
   busy_leads j h _ lt (starts older younger e at is none free) p goes = (goes, after_start j h older younger e at is none p, held_after j h older e p.0.basics.cycle p.2)
 
-  pub kind_is_busy : (h : Hardware) → Issues v legal now Anything (anything_is_kept v now) steps h → Over now (pool_of k h.units) → EveryBehind (BusyUnits k units_here now) [] (marks_in steps (issue_kind k h))
+  pub kind_is_busy : (h : Hardware) → Issues v legal now Anything (anything_is_kept v now) steps h → Over now (at_kind k h.units) → EveryBehind (BusyUnits k units_here now) [] (marks_in steps (issue_kind k h))
   kind_is_busy h p over =
-      let none = ap (λ l. length l) (none_holds now (pool_of k h.units).starts over) in
+      let none = ap (λ l. length l) (none_holds now (at_kind k h.units).starts over) in
       turns_within units_here Busy (λ g. EveryBehind (BusyUnits k units_here now) [] (marks_in steps g)) (issue_turn k)
       (λ j g lt q. busy_leads j g (issue_turn k g) lt (issue_turn_is k g) q (issue_turn_keeps v legal now Anything (anything_is_kept v now) steps k g (issue_turn k g) (issue_turn_is k g) q.0))
-      (λ g q. q.1) (kind_values h.values k).units 0 h (let same = ap (λ (w : Values). (kind_values w k).units) p.basics.shape.values in omega (arith, same))
+      (λ g q. q.1) (at_kind k h.values.kinds).units 0 h (let same = ap (λ (w : Values). (at_kind k w.kinds).units) p.basics.shape.values in omega (arith, same))
       (p, EveryBehind-all (λ m. Unit {0}) (BusyUnits k 0 now) (λ b m u may. omega arith) [] (marks_in steps h) (Every-all (λ m. Unit {0}) (λ m. tt) (marks_in steps h)), omega (arith, none))
 
 -- the other phases leave the units as they are
 
-commit_units : (is_stale : set.FinSet nat_cmp → ℕ → Bool) (u : Pools) (c : Committing) (t : Turn Committing) → CommitTurn is_stale c t → c.hardware.units ≡ u → Leads (λ d. d.hardware.units ≡ u) (λ d. d.hardware.units ≡ u) t
+commit_units : (is_stale : set.FinSet nat_cmp → ℕ → Bool) (u : PerKind Pool) (c : Committing) (t : Turn Committing) → CommitTurn is_stale c t → c.hardware.units ≡ u → Leads (λ d. d.hardware.units ≡ u) (λ d. d.hardware.units ≡ u) t
 commit_units is_stale u c _ (no_head none) h = h
 commit_units is_stale u c _ (stale_head e es at is) h = h
 commit_units is_stale u c _ (unfinished e es head plain none) h = h
@@ -181,12 +183,12 @@ commit_units_by (Some code) h = refl
 commit_units_by None h =
     turns_keep (λ c. c.hardware.units ≡ h.units) (commit_turn set.contains) (λ c q. commit_units set.contains h.units c (commit_turn set.contains c) (commit_turn_is set.contains c) q) h.values.commit_width (record { hardware = h; steps = []; stop = None }) refl
 
-broadcast_units : (u : Pools) (h : Hardware) (t : Turn Hardware) → BroadcastTurn h t → h.units ≡ u → Leads (λ g. g.units ≡ u) (λ g. g.units ≡ u) t
+broadcast_units : (u : PerKind Pool) (h : Hardware) (t : Turn Hardware) → BroadcastTurn h t → h.units ≡ u → Leads (λ g. g.units ≡ u) (λ g. g.units ≡ u) t
 broadcast_units u h _ (no_result none) p = p
 broadcast_units u h _ (sends older younger e issue message sent late) p = p
 broadcast_units u h _ (mends older younger e issue message sent early) p = p
 
-dispatch_units : (u : Pools) (d : Dispatching) (t : Turn Dispatching) → DispatchTurn d t → d.hardware.units ≡ u → Leads (λ x. x.hardware.units ≡ u) (λ x. x.hardware.units ≡ u) t
+dispatch_units : (u : PerKind Pool) (d : Dispatching) (t : Turn Dispatching) → DispatchTurn d t → d.hardware.units ≡ u → Leads (λ x. x.hardware.units ≡ u) (λ x. x.hardware.units ≡ u) t
 dispatch_units u d _ (buffer_empty none) p = p
 dispatch_units u d _ (waits f fs reason at why) p = p
 dispatch_units u d _ (dispatches f fs at nothing) p = p
@@ -205,20 +207,17 @@ end_units lines old =
 
 -- the starts of a pipelined kind are over in the next cycle
 
-module _ (v : Values) (legal : IsLegal v) (now : ℕ) (steps : List Step) (k : Kind) (pipelined : (kind_values v k).pipelined ≡ true) where
+module _ (v : Values) (legal : IsLegal v) (now : ℕ) (steps : List Step) (k : Kind) (pipelined : (at_kind k v.kinds).pipelined ≡ true) where
   abbrev Timely : Hardware → Type 0
-  Timely h = Issues v legal now Anything (anything_is_kept v now) steps h × Over (now + 1) (pool_of k h.units)
+  Timely h = Issues v legal now Anything (anything_is_kept v now) steps h × Over (now + 1) (at_kind k h.units)
 
   -- of a start of some kind
-  over_by : (j : Kind) (b : Bool) (cost : ℕ) (u : Pools) → is_of_kind k (Some j) ≡ b → (pool_of k u).is_pipelined ≡ true → Over (now + 1) (pool_of k u) → Over (now + 1) (pool_of k (with_pool j (started_unit cost now (pool_of j u)) u))
-  over_by j false cost u is line over = subst (Over (now + 1)) (sym (other_pool k j (started_unit cost now (pool_of j u)) u is)) over
-  over_by j true cost u is line over =
-      let some : Some j ≡ Some k = is_of_kind_is k (Some j) is in
-      let same : k ≡ j = cc in
-      subst (λ i. Over (now + 1) (pool_of k (with_pool i (started_unit cost now (pool_of i u)) u))) same
-      (subst (Over (now + 1)) (sym (same_pool k (started_unit cost now (pool_of k u)) u))
-      (Every-append (λ s. s.cycle + s.cost ≤ now + 1) (holding now (pool_of k u).starts) (record { cycle = now; cost = held_for (pool_of k u).is_pipelined cost } ∷ [])
-      (Every-filter (λ s. s.cycle + s.cost ≤ now + 1) (holds_unit now) (pool_of k u).starts over) (one_cycle (pool_of k u).is_pipelined line, tt)))
+  over_by : (j : Kind) (cost : ℕ) (u : PerKind Pool) → (at_kind k u).is_pipelined ≡ true → Over (now + 1) (at_kind k u) → Over (now + 1) (at_kind k (with_kind j (started_unit cost now (at_kind j u)) u))
+  over_by j cost u = with_kind-each j (started_unit cost now (at_kind j u)) u (λ i pool. (at_kind i u).is_pipelined ≡ true → Over (now + 1) (at_kind i u) → Over (now + 1) pool)
+      (λ line over.
+      Every-append (λ s. s.cycle + s.cost ≤ now + 1) (holding now (at_kind j u).starts) (record { cycle = now; cost = held_for (at_kind j u).is_pipelined cost } ∷ [])
+      (Every-filter (λ s. s.cycle + s.cost ≤ now + 1) (holds_unit now) (at_kind j u).starts over) (one_cycle (at_kind j u).is_pipelined line, tt))
+      (λ other differs line over. over) k
     where
       one_cycle : (b : Bool) → b ≡ true → now + held_for b cost ≤ now + 1
       one_cycle true e = omega arith
@@ -229,14 +228,14 @@ module _ (v : Values) (legal : IsLegal v) (now : ℕ) (steps : List Step) (k : K
   timely_turn j h _ (none_ready none) p goes = p
   timely_turn j h _ (starts older younger e at is none free) p goes = (
     goes,
-    subst (λ u. Over (now + 1) (pool_of k u)) (sym (issued_units j h older e))
-        (subst (λ n. Over (now + 1) (pool_of k (with_pool j (started_unit (cost_of h j (path h older e)) n (pool_of j h.units)) h.units))) (sym p.0.basics.cycle)
-        (over_by j (is_of_kind k (Some j)) (cost_of h j (path h older e)) h.units refl (p.0.basics.shape.pipelined k ∙ pipelined) p.1)),
+    subst (λ u. Over (now + 1) (at_kind k u)) (sym (issued_units j h older e))
+        (subst (λ n. Over (now + 1) (at_kind k (with_kind j (started_unit (cost_of h j (path h older e)) n (at_kind j h.units)) h.units))) (sym p.0.basics.cycle)
+        (over_by j (cost_of h j (path h older e)) h.units (p.0.basics.shape.pipelined k ∙ pipelined) p.1)),
   )
 
   timely_kind : (j : Kind) (h : Hardware) → Timely h → Timely (issue_kind j h)
   timely_kind j h p =
-      turns_keep Timely (issue_turn j) (λ g q. timely_turn j g (issue_turn j g) (issue_turn_is j g) q (issue_turn_keeps v legal now Anything (anything_is_kept v now) steps j g (issue_turn j g) (issue_turn_is j g) q.0)) (kind_values h.values j).units h p
+      turns_keep Timely (issue_turn j) (λ g q. timely_turn j g (issue_turn j g) (issue_turn_is j g) q (issue_turn_keeps v legal now Anything (anything_is_kept v now) steps j g (issue_turn j g) (issue_turn_is j g) q.0)) (at_kind j h.values.kinds).units h p
 
   timely_issue : (h : Hardware) → Timely h → Timely (issue h)
   timely_issue h p =
@@ -245,36 +244,36 @@ module _ (v : Values) (legal : IsLegal v) (now : ℕ) (steps : List Step) (k : K
 
   -- another kind's starts leave the pool
   abbrev Apart : Pool → Hardware → Type 0
-  Apart pool h = pool_of k h.units ≡ pool
+  Apart pool h = at_kind k h.units ≡ pool
 
   apart_turn : (pool : Pool) (j : Kind) (h : Hardware) (t : Turn Hardware) → is_of_kind k (Some j) ≡ false → IssueTurn j h t → Apart pool h → Leads (Apart pool) (Apart pool) t
   apart_turn pool j h _ other (no_unit held) p = p
   apart_turn pool j h _ other (none_ready none) p = p
   apart_turn pool j h _ other (starts older younger e at is none free) p =
-      ap (pool_of k) (issued_units j h older e) ∙ other_pool k j (started_unit (cost_of h j (path h older e)) h.cycle (pool_of j h.units)) h.units other ∙ p
+      ap (at_kind k) (issued_units j h older e) ∙ with_kind-other j (started_unit (cost_of h j (path h older e)) h.cycle (at_kind j h.units)) h.units k other ∙ p
 
   apart_kind : (pool : Pool) (j : Kind) (h : Hardware) → is_of_kind k (Some j) ≡ false → Apart pool h → Apart pool (issue_kind j h)
-  apart_kind pool j h other p = turns_keep (Apart pool) (issue_turn j) (λ g q. apart_turn pool j g (issue_turn j g) other (issue_turn_is j g) q) (kind_values h.values j).units h p
+  apart_kind pool j h other p = turns_keep (Apart pool) (issue_turn j) (λ g q. apart_turn pool j g (issue_turn j g) other (issue_turn_is j g) q) (at_kind j h.values.kinds).units h p
 
   -- what a kind's phase leaves is kept by the others
   abbrev BusyNow : List Mark → Type 0
-  BusyNow = EveryBehind (BusyUnits k (kind_values v k).units now) []
+  BusyNow = EveryBehind (BusyUnits k (at_kind k v.kinds).units now) []
 
   abbrev KeepsBusy : Hardware → Type 0
-  KeepsBusy h = Issues v legal now BusyNow (busy_units_are_kept k (kind_values v k).units v now) steps h
+  KeepsBusy h = Issues v legal now BusyNow (busy_units_are_kept k (at_kind k v.kinds).units v now) steps h
 
   plain : (h : Hardware) → Issues v legal now Anything (anything_is_kept v now) steps h → (j : Kind) → Issues v legal now Anything (anything_is_kept v now) steps (issue_kind j h)
   plain h p j = issue_kind_keeps v legal now Anything (anything_is_kept v now) steps j h p
 
   on : (h : Hardware) → KeepsBusy h → (j : Kind) → KeepsBusy (issue_kind j h)
-  on h p j = issue_kind_keeps v legal now BusyNow (busy_units_are_kept k (kind_values v k).units v now) steps j h p
+  on h p j = issue_kind_keeps v legal now BusyNow (busy_units_are_kept k (at_kind k v.kinds).units v now) steps j h p
 
-  here : (h : Hardware) → Issues v legal now Anything (anything_is_kept v now) steps h → Over now (pool_of k h.units) → KeepsBusy (issue_kind k h)
+  here : (h : Hardware) → Issues v legal now Anything (anything_is_kept v now) steps h → Over now (at_kind k h.units) → KeepsBusy (issue_kind k h)
   here h p over = with_marks v now now (now + 1) now now (now + 1) Anything BusyNow steps (issue_kind k h) (kind_is_busy v legal now steps k h p over) (plain h p k)
 
 -- the issue phase of all kinds
 module _ (v : Values) (legal : IsLegal v) (now : ℕ) (steps : List Step) (h : Hardware) (p : Issues v legal now Anything (anything_is_kept v now) steps h) where
-  pub issue_is_busy : (k : Kind) → (kind_values v k).pipelined ≡ true → Over now (pool_of k h.units) → EveryBehind (BusyUnits k (kind_values v k).units now) [] (marks_in steps (issue h))
+  pub issue_is_busy : (k : Kind) → (at_kind k v.kinds).pipelined ≡ true → Over now (at_kind k h.units) → EveryBehind (BusyUnits k (at_kind k v.kinds).units now) [] (marks_in steps (issue h))
   issue_is_busy kind.Alu line over =
       let a = issue_kind kind.Alu h in
       let m = issue_kind kind.Mul a in
@@ -283,13 +282,13 @@ module _ (v : Values) (legal : IsLegal v) (now : ℕ) (steps : List Step) (h : H
       let a = issue_kind kind.Alu h in
       let m = issue_kind kind.Mul a in
       let at_a = plain v legal now steps kind.Mul line h p kind.Alu in
-      let over_a = subst (Over now) (sym (apart_kind v legal now steps kind.Mul line (pool_of kind.Mul h.units) kind.Alu h refl refl)) over in
+      let over_a = subst (Over now) (sym (apart_kind v legal now steps kind.Mul line (at_kind kind.Mul h.units) kind.Alu h refl refl)) over in
       (on v legal now steps kind.Mul line (issue_kind kind.Div m) (on v legal now steps kind.Mul line m (here v legal now steps kind.Mul line a at_a over_a) kind.Div) kind.Mem).marks
   issue_is_busy kind.Div line over =
       let a = issue_kind kind.Alu h in
       let m = issue_kind kind.Mul a in
       let at_m = plain v legal now steps kind.Div line a (plain v legal now steps kind.Div line h p kind.Alu) kind.Mul in
-      let pool : Pool = pool_of kind.Div h.units in
+      let pool : Pool = at_kind kind.Div h.units in
       let over_m = subst (Over now) (sym (apart_kind v legal now steps kind.Div line pool kind.Mul a refl (apart_kind v legal now steps kind.Div line pool kind.Alu h refl refl))) over in
       (on v legal now steps kind.Div line (issue_kind kind.Div m) (here v legal now steps kind.Div line m at_m over_m) kind.Mem).marks
   issue_is_busy kind.Mem line over =
@@ -297,39 +296,36 @@ module _ (v : Values) (legal : IsLegal v) (now : ℕ) (steps : List Step) (h : H
       let m = issue_kind kind.Mul a in
       let d = issue_kind kind.Div m in
       let at_d = plain v legal now steps kind.Mem line m (plain v legal now steps kind.Mem line a (plain v legal now steps kind.Mem line h p kind.Alu) kind.Mul) kind.Div in
-      let pool : Pool = pool_of kind.Mem h.units in
+      let pool : Pool = at_kind kind.Mem h.units in
       let over_d = subst (Over now) (sym (apart_kind v legal now steps kind.Mem line pool kind.Div m refl (apart_kind v legal now steps kind.Mem line pool kind.Mul a refl (apart_kind v legal now steps kind.Mem line pool kind.Alu h refl refl)))) over in
       (here v legal now steps kind.Mem line d at_d over_d).marks
 
 -- in every history
 
-over_at_reset : (v : Values) (k : Kind) → Over 0 (pool_of k (free_pools v))
-over_at_reset v kind.Alu = tt
-over_at_reset v kind.Mul = tt
-over_at_reset v kind.Div = tt
-over_at_reset v kind.Mem = tt
+over_at_reset : (v : Values) (k : Kind) → Over 0 (at_kind k (for_each free_pool v.kinds))
+over_at_reset v k = rw (at_kind-for_each free_pool v.kinds k) tt
 
-pub over_of_history : (v : Values) (k : Kind) → (kind_values v k).pipelined ≡ true → {steps : List Step} {h : Hardware} → History v steps h → Over h.cycle (pool_of k h.units)
+pub over_of_history : (v : Values) (k : Kind) → (at_kind k v.kinds).pipelined ≡ true → {steps : List Step} {h : Hardware} → History v steps h → Over h.cycle (at_kind k h.units)
 over_of_history v k line (began image start legal) = over_at_reset v k
 over_of_history v k line (went_on {earlier} {old} {new} {lines} {report} before is) =
     let legal = history_is_legal v before in
     let passed = cycle_passes v legal Anything earlier lines old new report (anything_is_kept v old.cycle) (history_is_sound v before) tt is in
-    let begins = subst (λ u. Over old.cycle (pool_of k u)) (sym (begin_units lines old)) (over_of_history v k line before) in
-    let later = Every-weaker (λ s. s.cycle + s.cost ≤ old.cycle) (λ s. s.cycle + s.cost ≤ old.cycle + 1) (λ s le. omega (arith, le)) (pool_of k (drained lines old).units).starts begins in
+    let begins = subst (λ u. Over old.cycle (at_kind k u)) (sym (begin_units lines old)) (over_of_history v k line before) in
+    let later = Every-weaker (λ s. s.cycle + s.cost ≤ old.cycle) (λ s. s.cycle + s.cost ≤ old.cycle + 1) (λ s le. omega (arith, le)) (at_kind k (drained lines old).units).starts begins in
     let issues = timely_issue v legal old.cycle (earlier ++ report.steps) k line (drained lines old) (passed.drains, later) in
     let next : new.cycle ≡ old.cycle + 1 = ap (λ (h : Hardware). h.cycle) passed.others_stay in
     let units : new.units ≡ (issued_all lines old).units = ap (λ (h : Hardware). h.units) passed.others_stay ∙ end_units lines old in
-    rw next (subst (λ u. Over (old.cycle + 1) (pool_of k u)) (sym units) issues.1)
+    rw next (subst (λ u. Over (old.cycle + 1) (at_kind k u)) (sym units) issues.1)
 
 -- at the end of a cycle
-pub units_are_busy : (v : Values) (k : Kind) → (kind_values v k).pipelined ≡ true → (earlier : List Step) (lines : Lines) (old new : Hardware) (report : Report) (R : List Mark → Type 0) → History v earlier old → Passed v R earlier lines old report new →
-    EveryBehind (BusyUnits k (kind_values v k).units old.cycle) [] (marks_in (earlier ++ report.steps) new)
+pub units_are_busy : (v : Values) (k : Kind) → (at_kind k v.kinds).pipelined ≡ true → (earlier : List Step) (lines : Lines) (old new : Hardware) (report : Report) (R : List Mark → Type 0) → History v earlier old → Passed v R earlier lines old report new →
+    EveryBehind (BusyUnits k (at_kind k v.kinds).units old.cycle) [] (marks_in (earlier ++ report.steps) new)
 units_are_busy v k line earlier lines old new report R before passed =
     let legal = history_is_legal v before in
     let now : ℕ = old.cycle in
     let all : List Step = earlier ++ report.steps in
-    let n : ℕ = (kind_values v k).units in
-    let begins = subst (λ u. Over now (pool_of k u)) (sym (begin_units lines old)) (over_of_history v k line before) in
+    let n : ℕ = (at_kind k v.kinds).units in
+    let begins = subst (λ u. Over now (at_kind k u)) (sym (begin_units lines old)) (over_of_history v k line before) in
     let busy = issue_is_busy v legal now all (drained lines old) (with_marks v now now (now + 1) now now (now + 1) R Anything all (drained lines old) tt passed.drains) k line begins in
     let i : Hardware = issued_all lines old in
     let s : Hardware = sent_all lines old in

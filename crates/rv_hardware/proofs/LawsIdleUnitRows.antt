@@ -1,6 +1,6 @@
 -- The law that no pipelined unit is idle, of the rows.
 use Rattle.std.proofs.Common.{◌≡◌, ℕ, ◌+◌, ◌≤◌, ◌<◌, ◌&&◌, ◌==◌, Bool, true, false, cond, is_some, nat_le, List, [], ◌∷◌, map, count_by, Option, Some, None, IfSome, option_map, refl, sym, subst, ap, ◌∙◌, arith, le-leb}
-use Rattle.rv_isa.specs.Description.{kind_values}
+use Rattle.rv_isa.specs.PerKind.{at_kind}
 use Rattle.rv_isa.specs.declared.operations.Kind.{Kind}
 use Rattle.rv_isa.specs.declared.values.Values.{Values}
 use Rattle.rv_hardware.specs.Hardware.{Hardware}
@@ -27,9 +27,9 @@ use Rattle.rv_hardware.proofs.LawsRooms.{row_pairs}
 use Rattle.rv_hardware.proofs.LawsRow.{SoundRow}
 use Rattle.rv_hardware.proofs.LawsUnitRows.{starts_at, begins_mark}
 
-busy_rows : (v : Values) (k : Kind) → (kind_values v k).pipelined ≡ true → {steps : List Step} {h : Hardware} → History v steps h → (c : ℕ) → c < h.cycle → EveryBehind (BusyUnits k (kind_values v k).units c) [] (as_of c (map mark_of_row (rows_of steps)))
+busy_rows : (v : Values) (k : Kind) → (at_kind k v.kinds).pipelined ≡ true → {steps : List Step} {h : Hardware} → History v steps h → (c : ℕ) → c < h.cycle → EveryBehind (BusyUnits k (at_kind k v.kinds).units c) [] (as_of c (map mark_of_row (rows_of steps)))
 busy_rows v k line history =
-    rows_obey v (λ c ms. EveryBehind (BusyUnits k (kind_values v k).units c) [] ms) (λ c xs ys b h. Beginning-EveryBehind (BusyUnits k (kind_values v k).units c) xs ys b h)
+    rows_obey v (λ c ms. EveryBehind (BusyUnits k (at_kind k v.kinds).units c) [] ms) (λ c xs ys b h. Beginning-EveryBehind (BusyUnits k (at_kind k v.kinds).units c) xs ys b h)
     (λ earlier old new lines report before after passed. units_are_busy v k line earlier lines old new report _ before passed) history
 
 -- rows that were all fetched
@@ -86,8 +86,8 @@ begun_at c (Some x) h = by_stamp (nat_le x.issued c) h
     by_stamp true h' = h'
     by_stamp false h' = absurd (cc)
 
-pub law_of_no_idle_unit : (v : Values) {steps : List Step} {h : Hardware} → History v steps h → (kind : Kind) → (kind_values v kind).pipelined ≡ true →
-    EachBehind (λ before row. is_row_of_kind kind row ≡ true → is_load_row row ≡ false → IfSome row.execution (λ x. (c : ℕ) → 0 ≤ c → row.dispatched < c → c < x.issued → HasOperandsIn c before row → (kind_values v kind).units ≤ count_by (is_issued_in kind c) before)) (rows_of steps)
+pub law_of_no_idle_unit : (v : Values) {steps : List Step} {h : Hardware} → History v steps h → (kind : Kind) → (at_kind kind v.kinds).pipelined ≡ true →
+    EachBehind (λ before row. is_row_of_kind kind row ≡ true → is_load_row row ≡ false → IfSome row.execution (λ x. (c : ℕ) → 0 ≤ c → row.dispatched < c → c < x.issued → HasOperandsIn c before row → (at_kind kind v.kinds).units ≤ count_by (is_issued_in kind c) before)) (rows_of steps)
 law_of_no_idle_unit v {steps} {h} history k line before after row at kind plain = by_execution row.execution refl
   where
     sound : SoundRow v h.cycle row
@@ -99,7 +99,7 @@ law_of_no_idle_unit v {steps} {h} history k line before after row at kind plain 
     in_order : Every (λ a. a.fetched ≤ row.fetched) before
     in_order = EachBehind-EveryBehind (λ b r. Every (λ a. a.fetched ≤ r.fetched) b) (rows_of steps) (EveryBehind-EveryPair (λ a b. a.fetched ≤ b.fetched) [] (rows_of steps) tt (row_pairs (λ m n. m.fetched ≤ n.fetched) (λ a b. a.fetched ≤ b.fetched) (λ a b le. le) steps h (history_is_orderly v history).fetched)) before after row at
 
-    by_execution : (o : Option Execution) → row.execution ≡ o → IfSome o (λ x. (c : ℕ) → 0 ≤ c → row.dispatched < c → c < x.issued → HasOperandsIn c before row → (kind_values v k).units ≤ count_by (is_issued_in k c) before)
+    by_execution : (o : Option Execution) → row.execution ≡ o → IfSome o (λ x. (c : ℕ) → 0 ≤ c → row.dispatched < c → c < x.issued → HasOperandsIn c before row → (at_kind k v.kinds).units ≤ count_by (is_issued_in k c) before)
     by_execution None e = tt
     by_execution (Some x) e = λ c from dispatched later operands.
         let between = subst (λ o. IfSome o (λ x. (row.dispatched < x.issued) × (x.issued + x.cost ≤ x.broadcast) × (x.broadcast < row.retired))) e sound.stamps.executed_between in
@@ -113,7 +113,7 @@ law_of_no_idle_unit v {steps} {h} history k line before after row at kind plain 
           operands = rw (all_fetched c before all) (sources_known c v h.cycle before row older (sources_of_row row) (Every-All (λ source. IfSome (producer_among before source) (λ p. IfSome p.execution (λ y. y.broadcast < c))) (sources_of_row row) operands));
           serial = as_of_rows (λ m. is_serialising m.instruction ≡ true → IsBefore c m.retired) c before (Every-weaker (Older v h.cycle row) (λ a. is_serialising (instruction_of_row a) ≡ true → IsBefore c (until c (Some a.retired))) (λ a o is. retired_before c a row (o.serial is) dispatched) before older);
         } in
-        let busy = behind_law (BusyUnits k (kind_values v k).units c) c (rows_of steps) before after row (busy_rows v k line history c (omega (arith, later, between.1, between.2, sound.below))) at fetched may in
+        let busy = behind_law (BusyUnits k (at_kind k v.kinds).units c) c (rows_of steps) before after row (busy_rows v k line history c (omega (arith, later, between.1, between.2, sound.below))) at fetched may in
         let fewer = behind_count (begins_mark k c) (is_issued_in k c) c before (Every-weaker (Older v h.cycle row) (λ a. (was_fetched c (mark_of_row a) && begins_mark k c (at_end c (mark_of_row a))) ≡ true → is_issued_in k c a ≡ true)
         (λ a o g. let both = and_second (was_fetched c (mark_of_row a)) (begins_mark k c (at_end c (mark_of_row a))) g in and_both (is_row_of_kind k a) (passes (λ y. y.issued == c) a.execution) (and_first (is_row_of_kind k a) (starts_at c (start_until c (start_of_execution a.execution))) both) (begun_at c a.execution (and_second (is_row_of_kind k a) (starts_at c (start_until c (start_of_execution a.execution))) both))) before older) in
         omega (arith, busy, fewer)

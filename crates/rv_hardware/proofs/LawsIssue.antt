@@ -1,12 +1,12 @@
 -- What a turn of the issue phase does.
 use Rattle.std.proofs.Common.{◌≡◌, ℕ, ◌+◌, Bool, true, false, cond, List, [], ◌∷◌, ◌++◌, length, Option, Some, None, refl, ap, ◌∙◌}
+use Rattle.rv_isa.specs.PerKind.{at_kind}
 use Rattle.rv_isa.specs.declared.broadcast.Message.{Message}
 use Rattle.rv_isa.specs.declared.operations.Kind.{Kind}
 use Rattle.rv_rob.specs.Entry.{started}
 use Rattle.rv_rob.specs.ReorderBuffer.{with_entry}
 use Rattle.rv_rob.specs.declared.entry.Entry.{Entry}
 use Rattle.rv_units.specs.Pool.{is_free}
-use Rattle.rv_units.specs.Units.{pool_of}
 use Rattle.rv_hardware.specs.Hardware.{Hardware}
 use Rattle.rv_hardware.specs.Issue.{Path, Without, FromStores, FromCache, path, cost_of, with_access, is_ready, issued, issue_oldest, issue_turn, oldest}
 use Rattle.rv_hardware.specs.Repeated.{Turn, GoesOn, Ends}
@@ -17,24 +17,24 @@ use Rattle.rv_hardware.proofs.LawsOldest.{Finds, oldest_finds, with_entry-behind
 
 -- no unit is free, no instruction is ready, or the oldest ready one starts
 pub data IssueTurn (kind : Kind) (h : Hardware) : Turn Hardware → Type 0 where
-  no_unit : is_free h.cycle (pool_of kind h.units) ≡ false → IssueTurn kind h (Ends h)
+  no_unit : is_free h.cycle (at_kind kind h.units) ≡ false → IssueTurn kind h (Ends h)
   none_ready : EveryBehind (λ before e. is_ready h kind before e ≡ false) [] h.rob.entries → IssueTurn kind h (Ends h)
   starts : (older younger : List Entry) (e : Entry) → h.rob.entries ≡ older ++ e ∷ younger → is_ready h kind older e ≡ true →
-      EveryBehind (λ before x. is_ready h kind before x ≡ false) [] older → is_free h.cycle (pool_of kind h.units) ≡ true →
+      EveryBehind (λ before x. is_ready h kind before x ≡ false) [] older → is_free h.cycle (at_kind kind h.units) ≡ true →
       IssueTurn kind h (GoesOn (issued kind h older e))
 
 found_turn : (kind : Kind) (h : Hardware) (found : Option (List Entry × Entry)) → Finds (is_ready h kind) h.rob.entries found →
-    is_free h.cycle (pool_of kind h.units) ≡ true → IssueTurn kind h (issue_oldest kind h found)
+    is_free h.cycle (at_kind kind h.units) ≡ true → IssueTurn kind h (issue_oldest kind h found)
 found_turn kind h None finds free = none_ready finds
 found_turn kind h (Some found) finds free = starts found.0 finds.0 found.1 finds.1 finds.2 finds.3 free
 
-turn_by : (kind : Kind) (h : Hardware) (free : Bool) → is_free h.cycle (pool_of kind h.units) ≡ free →
+turn_by : (kind : Kind) (h : Hardware) (free : Bool) → is_free h.cycle (at_kind kind h.units) ≡ free →
     IssueTurn kind h (cond free (issue_oldest kind h (oldest (is_ready h kind) h.rob.entries)) (Ends h))
 turn_by kind h true is = found_turn kind h (oldest (is_ready h kind) h.rob.entries) (oldest_finds (is_ready h kind) h.rob.entries) is
 turn_by kind h false is = no_unit is
 
 pub issue_turn_is : (kind : Kind) (h : Hardware) → IssueTurn kind h (issue_turn kind h)
-issue_turn_is kind h = turn_by kind h (is_free h.cycle (pool_of kind h.units)) refl
+issue_turn_is kind h = turn_by kind h (is_free h.cycle (at_kind kind h.units)) refl
 
 -- an access to the cache leaves the rest
 pub record SameBesideCache (g h : Hardware) : Type 0 where

@@ -1,7 +1,7 @@
 -- The laws hold of every run of the hardware, on hardware that was just reset and on hardware that has run.
 use Rattle.std.proofs.Common.{◌≡◌, ℕ, suc, ◌+◌, ◌≤◌, ◌<◌, ◌⊎◌, ◌==◌, Bool, true, false, cond, List, [], ◌∷◌, ◌++◌, count_by, All, AllPairs, Option, Some, None, IfSome, inl, inr, refl, sym, subst, ap, ◌∙◌, arith, append_assoc, append-nil}
 use Rattle.std.proofs.lemmas.List.Elements.{All-tail, All-append, All-weaker}
-use Rattle.rv_isa.specs.Description.{kind_values}
+use Rattle.rv_isa.specs.PerKind.{at_kind}
 use Rattle.rv_isa.specs.declared.lines.Arrival.{Arrival}
 use Rattle.rv_isa.specs.declared.operations.Kind.{Kind}
 use Rattle.rv_isa.specs.declared.values.Values.{Values}
@@ -157,24 +157,24 @@ module _ (v : Values) (earlier steps : List Step) (old new : Hardware) (before_r
           (last_stays (λ p. IfSome p.execution (λ y. y.broadcast < c)) None (last_from None (writes_register register) (rows_of earlier)) (writes_register register) before
           (λ u. last_from-Every (λ p. IfSome p.execution (λ y. y.broadcast < c)) None (writes_register register) (rows_of earlier) tt all_sent) k)
 
-  units_of_run : (kind : Kind) → (kind_values v kind).pipelined ≡ true → EachBehind (λ before row. is_row_of_kind kind row ≡ true → is_load_row row ≡ false → IfSome row.execution (λ x. (c : ℕ) → old.cycle ≤ c → row.dispatched < c → c < x.issued → HasOperandsIn c before row → (kind_values v kind).units ≤ count_by (is_issued_in kind c) before)) (rows_of steps)
-  units_of_run kind line before after row at is plain = by_execution row.execution (rows_behind (λ b r. is_row_of_kind kind r ≡ true → is_load_row r ≡ false → IfSome r.execution (λ x. (c : ℕ) → 0 ≤ c → r.dispatched < c → c < x.issued → HasOperandsIn c b r → (kind_values v kind).units ≤ count_by (is_issued_in kind c) b)) (law_of_no_idle_unit v history kind line) before after row at is plain)
+  units_of_run : (kind : Kind) → (at_kind kind v.kinds).pipelined ≡ true → EachBehind (λ before row. is_row_of_kind kind row ≡ true → is_load_row row ≡ false → IfSome row.execution (λ x. (c : ℕ) → old.cycle ≤ c → row.dispatched < c → c < x.issued → HasOperandsIn c before row → (at_kind kind v.kinds).units ≤ count_by (is_issued_in kind c) before)) (rows_of steps)
+  units_of_run kind line before after row at is plain = by_execution row.execution (rows_behind (λ b r. is_row_of_kind kind r ≡ true → is_load_row r ≡ false → IfSome r.execution (λ x. (c : ℕ) → 0 ≤ c → r.dispatched < c → c < x.issued → HasOperandsIn c b r → (at_kind kind v.kinds).units ≤ count_by (is_issued_in kind c) b)) (law_of_no_idle_unit v history kind line) before after row at is plain)
     where
-      by_execution : (o : Option Execution) → IfSome o (λ x. (c : ℕ) → 0 ≤ c → row.dispatched < c → c < x.issued → HasOperandsIn c (rows_of earlier ++ before) row → (kind_values v kind).units ≤ count_by (is_issued_in kind c) (rows_of earlier ++ before)) →
-          IfSome o (λ x. (c : ℕ) → old.cycle ≤ c → row.dispatched < c → c < x.issued → HasOperandsIn c before row → (kind_values v kind).units ≤ count_by (is_issued_in kind c) before)
+      by_execution : (o : Option Execution) → IfSome o (λ x. (c : ℕ) → 0 ≤ c → row.dispatched < c → c < x.issued → HasOperandsIn c (rows_of earlier ++ before) row → (at_kind kind v.kinds).units ≤ count_by (is_issued_in kind c) (rows_of earlier ++ before)) →
+          IfSome o (λ x. (c : ℕ) → old.cycle ≤ c → row.dispatched < c → c < x.issued → HasOperandsIn c before row → (at_kind kind v.kinds).units ≤ count_by (is_issued_in kind c) before)
       by_execution None h = tt
       by_execution (Some x) h = λ c from dispatched later operands.
           let all = h c (omega arith) dispatched later (operands_of_all c from before row operands) in
           let same = none_earlier (is_issued_in kind) _ (begun_shows v kind) c from before in
           omega (arith, all, same)
 
-  dispatch_of_run : EachBehind (λ before row. is_store_row row ≡ false → (c : ℕ) → old.cycle ≤ c → row.fetched < c → c < row.dispatched → All (λ earlier. earlier.dispatched ≤ c) before → (v.dispatch_width ≤ count_by (is_dispatched_in c) before) ⊎ (v.rob ≤ count_by (is_in_flight_in c) before) ⊎ ((kind : Kind) × (is_row_of_kind kind row ≡ true) × ((kind_values v kind).stations ≤ count_by (is_stationed_in kind c) before))) (rows_of steps)
+  dispatch_of_run : EachBehind (λ before row. is_store_row row ≡ false → (c : ℕ) → old.cycle ≤ c → row.fetched < c → c < row.dispatched → All (λ earlier. earlier.dispatched ≤ c) before → (v.dispatch_width ≤ count_by (is_dispatched_in c) before) ⊎ (v.rob ≤ count_by (is_in_flight_in c) before) ⊎ ((kind : Kind) × (is_row_of_kind kind row ≡ true) × ((at_kind kind v.kinds).stations ≤ count_by (is_stationed_in kind c) before))) (rows_of steps)
   dispatch_of_run before after row at plain c from fetched later all =
-      by_cases (rows_behind (λ b r. is_store_row r ≡ false → (c : ℕ) → 0 ≤ c → r.fetched < c → c < r.dispatched → All (λ e. e.dispatched ≤ c) b → (v.dispatch_width ≤ count_by (is_dispatched_in c) b) ⊎ (v.rob ≤ count_by (is_in_flight_in c) b) ⊎ ((kind : Kind) × (is_row_of_kind kind r ≡ true) × ((kind_values v kind).stations ≤ count_by (is_stationed_in kind c) b))) (law_of_no_idle_dispatch v history) before after row at plain c (omega arith) fetched later
+      by_cases (rows_behind (λ b r. is_store_row r ≡ false → (c : ℕ) → 0 ≤ c → r.fetched < c → c < r.dispatched → All (λ e. e.dispatched ≤ c) b → (v.dispatch_width ≤ count_by (is_dispatched_in c) b) ⊎ (v.rob ≤ count_by (is_in_flight_in c) b) ⊎ ((kind : Kind) × (is_row_of_kind kind r ≡ true) × ((at_kind kind v.kinds).stations ≤ count_by (is_stationed_in kind c) b))) (law_of_no_idle_dispatch v history) before after row at plain c (omega arith) fetched later
       (All-append (λ e. e.dispatched ≤ c) (rows_of earlier) before (All-Every (λ e. e.dispatched ≤ c) (rows_of earlier) (Every-weaker (SoundRow v old.cycle) (λ e. e.dispatched ≤ c) (λ e s. omega (arith, s.stamps.retired_after_dispatch, s.below, from)) (rows_of earlier) (history_is_sound v before_run).rows)) all))
     where
-      by_cases : (v.dispatch_width ≤ count_by (is_dispatched_in c) (rows_of earlier ++ before)) ⊎ (v.rob ≤ count_by (is_in_flight_in c) (rows_of earlier ++ before)) ⊎ ((kind : Kind) × (is_row_of_kind kind row ≡ true) × ((kind_values v kind).stations ≤ count_by (is_stationed_in kind c) (rows_of earlier ++ before))) →
-          (v.dispatch_width ≤ count_by (is_dispatched_in c) before) ⊎ (v.rob ≤ count_by (is_in_flight_in c) before) ⊎ ((kind : Kind) × (is_row_of_kind kind row ≡ true) × ((kind_values v kind).stations ≤ count_by (is_stationed_in kind c) before))
+      by_cases : (v.dispatch_width ≤ count_by (is_dispatched_in c) (rows_of earlier ++ before)) ⊎ (v.rob ≤ count_by (is_in_flight_in c) (rows_of earlier ++ before)) ⊎ ((kind : Kind) × (is_row_of_kind kind row ≡ true) × ((at_kind kind v.kinds).stations ≤ count_by (is_stationed_in kind c) (rows_of earlier ++ before))) →
+          (v.dispatch_width ≤ count_by (is_dispatched_in c) before) ⊎ (v.rob ≤ count_by (is_in_flight_in c) before) ⊎ ((kind : Kind) × (is_row_of_kind kind row ≡ true) × ((at_kind kind v.kinds).stations ≤ count_by (is_stationed_in kind c) before))
       by_cases (inl wide) = let same = none_earlier is_dispatched_in _ (dispatched_shows v) c from before in inl (omega (arith, wide, same))
       by_cases (inr (inl full)) = let same = none_earlier is_in_flight_in _ (in_flight_shows v) c from before in inr (inl (omega (arith, full, same)))
       by_cases (inr (inr full)) = let same = none_earlier (is_stationed_in full.0) _ (stationed_shows v full.0) c from before in inr (inr (full.0, full.1, omega (arith, full.2, same)))
@@ -224,10 +224,10 @@ module _ (v : Values) (earlier steps : List Step) (old new : Hardware) (before_r
     no_idle_bus = bus_of_run;
     reorder_buffer = λ c. rows_count (is_in_flight_in c) v.rob (law_of_the_reorder_buffer v history c);
     fetch_buffer = λ c. rows_count (is_buffered_in c) v.fetch_buffer (law_of_the_fetch_buffer v history c);
-    stations = λ kind c. rows_count (is_stationed_in kind c) (kind_values v kind).stations (law_of_stations v history kind c);
+    stations = λ kind c. rows_count (is_stationed_in kind c) (at_kind kind v.kinds).stations (law_of_stations v history kind c);
     store_queue = λ c. rows_count (is_queued_in v.cache.hit c) v.store_queue (law_of_the_store_queue v history c);
-    pipelined_units = λ kind is c. rows_count (is_issued_in kind c) (kind_values v kind).units (law_of_pipelined_units v history kind is c);
-    other_units = λ kind is c. rows_count (is_executing_in kind c) (kind_values v kind).units (law_of_other_units v history kind is c);
+    pipelined_units = λ kind is c. rows_count (is_issued_in kind c) (at_kind kind v.kinds).units (law_of_pipelined_units v history kind is c);
+    other_units = λ kind is c. rows_count (is_executing_in kind c) (at_kind kind v.kinds).units (law_of_other_units v history kind is c);
     no_idle_unit = units_of_run;
     port = rows_pairs (λ a b. uses_port v.forward a ≡ true → uses_port v.forward b ≡ true → IfSome a.execution (λ x. IfSome b.execution (λ y. (x.issued + x.cost ≤ y.issued) ⊎ (y.issued + y.cost ≤ x.issued)))) (law_of_the_port v history);
     fetched_anew = AllPairs-last (λ a b. flushes a ≡ true → IsFetchedSince a b) earlier steps (law_of_fetching_anew v history);

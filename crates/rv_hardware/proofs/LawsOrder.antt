@@ -1,7 +1,7 @@
 -- Instructions are fetched and dispatched in order, and the reorder buffer and the stations hold no more than they have room for.
 use Rattle.std.proofs.Common.{◌≡◌, ℕ, ◌+◌, ◌≤◌, ◌<◌, ◌&&◌, Bool, true, false, is_some, is_none, List, [], ◌∷◌, ◌++◌, map, Option, Some, None, IfSome, refl, sym, subst, ap, ◌∙◌, arith}
 use Rattle.std.proofs.lemmas.Bool.{and_left, and_right}
-use Rattle.rv_isa.specs.Description.{kind_values}
+use Rattle.rv_isa.specs.PerKind.{at_kind}
 use Rattle.rv_isa.specs.declared.operations.Kind.{Kind}
 use Rattle.rv_isa.specs.declared.values.Values.{Values}
 use Rattle.rv_front.specs.declared.fetched.Fetched.{Fetched}
@@ -28,7 +28,7 @@ pub record Orderly (v : Values) (now : ℕ) (ms : List Mark) : Type 0 where
   pub by_now : Every (DispatchedBy now) ms
   pub buffer : count is_in_flight_mark ms ≤ v.rob
   pub words : count is_buffered_mark ms ≤ v.fetch_buffer
-  pub stations : (k : Kind) → count (is_stationed_mark k) ms ≤ (kind_values v k).stations
+  pub stations : (k : Kind) → count (is_stationed_mark k) ms ≤ (at_kind k v.kinds).stations
 
 -- what a mark that goes on keeps
 record Same (m n : Mark) : Type 0 where
@@ -51,7 +51,7 @@ module _ (v : Values) (now : ℕ) (xs ys : List Mark) (m n : Mark) where
     by_now = Every-set (DispatchedBy now) xs ys m n (subst (λ x. IfSome x (λ d. d ≤ now)) (sym dispatched) (Every-place (DispatchedBy now) xs ys m o.by_now)) o.by_now;
     buffer = fewer is_in_flight_mark flight v.rob o.buffer;
     words = fewer is_buffered_mark (λ h. rw (dispatched) at h) v.fetch_buffer o.words;
-    stations = λ k. fewer (is_stationed_mark k) (station k) (kind_values v k).stations (o.stations k);
+    stations = λ k. fewer (is_stationed_mark k) (station k) (at_kind k v.kinds).stations (o.stations k);
   } where
     by_test : (p : Mark → Bool) (b : Bool) → p n ≡ b → (p n ≡ true → p m ≡ true) → count p (xs ++ n ∷ ys) ≤ count p (xs ++ m ∷ ys)
     by_test p true is f = let same = count-set-same p xs ys m n (f is ∙ sym is) in omega (arith, same)
@@ -97,7 +97,7 @@ module _ (v : Values) (now : ℕ) (xs ys : List Mark) (m n : Mark) where
     not_stationed : (k : Kind) → count (is_stationed_mark k) ys ≡ 0
     not_stationed k = count-none (is_stationed_mark k) ys (Every-weaker (λ y. y.dispatched ≡ None) (λ y. is_stationed_mark k y ≡ false) (λ y none. rw none (and_right (is_of_kind k (kind_of_word y.instruction)) false refl)) ys younger)
 
-    station_by : (k : Kind) (b : Bool) → is_of_kind k (kind_of_word m.instruction) ≡ b → count (is_stationed_mark k) (xs ++ n ∷ ys) ≤ (kind_values v k).stations
+    station_by : (k : Kind) (b : Bool) → is_of_kind k (kind_of_word m.instruction) ≡ b → count (is_stationed_mark k) (xs ++ n ∷ ys) ≤ (at_kind k v.kinds).stations
     station_by k true is =
         let more = count-push-most (is_stationed_mark k) xs ys n in
         omega (arith, more, not_stationed k, a.stations k is)

@@ -4,18 +4,20 @@ use Rattle.std.proofs.lemmas.Bool.{leb-false}
 use Rattle.std.specs.List.{list_all}
 use Rattle.std.specs.Ordering.{nat_cmp}
 use Rattle.std.specs.FinSet as set
-use Rattle.rv_isa.specs.Description.{IsLegal, kind_values}
+use Rattle.rv_isa.specs.Description.{IsLegal}
+use Rattle.rv_isa.specs.PerKind.{at_kind}
 use Rattle.rv_isa.specs.declared.broadcast.Message.{Message}
 use Rattle.rv_isa.specs.declared.broadcast.StoreAccess.{StoreAccess}
 use Rattle.rv_isa.specs.declared.issues.Issue.{Issue}
 use Rattle.rv_isa.specs.declared.operations.Kind.{Kind}
 use Rattle.rv_isa.specs.declared.operations.Kind.TheVariants as kind
+use Rattle.rv_isa.specs.declared.per_kind.PerKind.{PerKind}
 use Rattle.rv_isa.specs.declared.values.Values.{Values}
 use Rattle.rv_arch.specs.Due.{due}
 use Rattle.rv_arch.specs.Trap.{interrupt_cause}
-use Rattle.rv_units.specs.Units.{pool_of}
 use Rattle.rv_stores.specs.Queue.{oldest_to_drain}
 use Rattle.rv_stores.specs.Store.{is_known as is_known_store}
+use Rattle.rv_units.specs.Pool.{Pool}
 use Rattle.rv_front.specs.declared.fetched.Fetched.{Fetched}
 use Rattle.rv_rob.specs.Entry.{started, finished, predicting}
 use Rattle.rv_rob.specs.declared.entry.Entry.{Entry}
@@ -112,7 +114,7 @@ module _ (v : Values) (now : ℕ) (R : List Mark → Type 0) (kept : Kept v now 
 
   flushed_shape : (c : Committing) (g : Hardware) → g.values ≡ c.hardware.values → g.cache.values ≡ c.hardware.cache.values → g.rob.capacity ≡ c.hardware.rob.capacity →
       g.front.capacity ≡ c.hardware.front.capacity → g.front.width ≡ c.hardware.front.width → g.units ≡ c.hardware.units → SameShape g c.hardware
-  flushed_shape c g values cache buffer room width units = record { values = values; cache = cache; buffer = buffer; room = room; width = width; units = λ k i. (pool_of k (units i)).units; pipelined = λ k i. (pool_of k (units i)).is_pipelined }
+  flushed_shape c g values cache buffer room width units = record { values = values; cache = cache; buffer = buffer; room = room; width = width; units = λ k i. (at_kind k (units i)).units; pipelined = λ k i. (at_kind k (units i)).is_pipelined }
 
   pub commit_turn_keeps : (c : Committing) (t : Turn Committing) → CommitTurn is_stale c t → Commits c → Leads Commits Commits t
   commit_turn_keeps c _ (no_head none) p = p
@@ -247,8 +249,8 @@ module _ (v : Values) (now bound : ℕ) (R : List Mark → Type 0) (kept : Kept 
         buffer = ap (λ r. r.capacity) keep.rob;
         room = ap (λ r. r.capacity) keep.front;
         width = ap (λ r. r.width) keep.front;
-        units = λ j. pool_units k j cost (with_access (path h older e) h).cycle (with_access (path h older e) h).units ∙ ap (λ u. (pool_of j u).units) keep.units;
-        pipelined = λ j. pool_pipelined k j cost (with_access (path h older e) h).cycle (with_access (path h older e) h).units ∙ ap (λ u. (pool_of j u).is_pipelined) keep.units;
+        units = λ j. pool_units k j cost (with_access (path h older e) h).cycle (with_access (path h older e) h).units ∙ ap (λ (u : PerKind Pool). (at_kind j u).units) keep.units;
+        pipelined = λ j. pool_pipelined k j cost (with_access (path h older e) h).cycle (with_access (path h older e) h).units ∙ ap (λ (u : PerKind Pool). (at_kind j u).is_pipelined) keep.units;
       }
 
 -- a load that leaves its station has all older stores known
@@ -311,7 +313,7 @@ module _ (v : Values) (legal : IsLegal v) (now : ℕ) (R : List Mark → Type 0)
       (a_starts (start_is k h older younger e at is p)) p
 
   pub issue_kind_keeps : (k : Kind) (h : Hardware) → Issues h → Issues (issue_kind k h)
-  issue_kind_keeps k h p = turns_keep Issues (issue_turn k) (λ g q. issue_turn_keeps k g (issue_turn k g) (issue_turn_is k g) q) (kind_values h.values k).units h p
+  issue_kind_keeps k h p = turns_keep Issues (issue_turn k) (λ g q. issue_turn_keeps k g (issue_turn k g) (issue_turn_is k g) q) (at_kind k h.values.kinds).units h p
 
   pub issue_keeps : (h : Hardware) → Issues h → Issues (issue h)
   issue_keeps h p =
@@ -327,7 +329,7 @@ module _ (v : Values) (now : ℕ) (R : List Mark → Type 0) (kept : Kept v now 
   Broadcasts h = Executes v now (now + 1) R kept steps h
 
   sent_shape : (h : Hardware) (g : Hardware) → g.values ≡ h.values → g.cache ≡ h.cache → g.rob.capacity ≡ h.rob.capacity → g.front.capacity ≡ h.front.capacity → g.front.width ≡ h.front.width → g.units ≡ h.units → SameShape g h
-  sent_shape h g values cache buffer room width units = record { values = values; cache = ap (λ c. c.values) cache; buffer = buffer; room = room; width = width; units = λ k i. (pool_of k (units i)).units; pipelined = λ k i. (pool_of k (units i)).is_pipelined }
+  sent_shape h g values cache buffer room width units = record { values = values; cache = ap (λ c. c.values) cache; buffer = buffer; room = room; width = width; units = λ k i. (at_kind k (units i)).units; pipelined = λ k i. (at_kind k (units i)).is_pipelined }
 
   -- what is younger is squashed
   squash : (r g : Hardware) (older younger : List Entry) (x y : Entry) → g.rob.entries ≡ older ++ x ∷ younger → r.rob.entries ≡ older ++ y ∷ [] → r.front.entries ≡ [] →
@@ -399,11 +401,11 @@ module _ (v : Values) (now : ℕ) (R : List Mark → Type 0) (kept : Kept v now 
   abbrev pub Dispatches : Dispatching → Type 0
   Dispatches d = Goes v now (now + 1) (now + 1) (now + 1) now (now + 1) R steps d.hardware
 
-  full_stations : (h : Hardware) (o : Option Kind) (k : Kind) → HasShape v h → has_full_stations h o ≡ false → is_of_kind k o ≡ true → length (filter (is_stationed k) h.rob.entries) < (kind_values v k).stations
+  full_stations : (h : Hardware) (o : Option Kind) (k : Kind) → HasShape v h → has_full_stations h o ≡ false → is_of_kind k o ≡ true → length (filter (is_stationed k) h.rob.entries) < (at_kind k v.kinds).stations
   full_stations h o k shape free is =
       let at : o ≡ Some k = is_of_kind_is k o is in
-      let room = leb-false (kind_values h.values k).stations (length (filter (is_stationed k) h.rob.entries)) (sym (ap (has_full_stations h) at) ∙ free) in
-      omega (arith, room, ap (λ (w : Values). (kind_values w k).stations) shape.values)
+      let room = leb-false (at_kind k h.values.kinds).stations (length (filter (is_stationed k) h.rob.entries)) (sym (ap (has_full_stations h) at) ∙ free) in
+      omega (arith, room, ap (λ (w : Values). (at_kind k w.kinds).stations) shape.values)
 
   pub dispatch_turn_keeps : (d : Dispatching) (t : Turn Dispatching) → DispatchTurn d t → Dispatches d → Leads Dispatches Dispatches t
   dispatch_turn_keeps d _ (buffer_empty none) p = p

@@ -3,7 +3,8 @@ use Rattle.std.proofs.Common.{◌≡◌, ℕ, ◌+◌, ◌≤◌, ◌<◌, ◌�
 use Rattle.std.proofs.lemmas.Bool.{leb-true}
 use Rattle.std.specs.Ordering.{nat_cmp}
 use Rattle.std.specs.FinSet as set
-use Rattle.rv_isa.specs.Description.{IsLegal, kind_values}
+use Rattle.rv_isa.specs.Description.{IsLegal}
+use Rattle.rv_isa.specs.PerKind.{at_kind}
 use Rattle.rv_isa.specs.declared.broadcast.StoreAccess.{StoreAccess}
 use Rattle.rv_isa.specs.declared.instructions.Instr.{Instr}
 use Rattle.rv_isa.specs.declared.lines.Lines.{Lines}
@@ -205,7 +206,7 @@ module _ (v : Values) (legal : IsLegal v) (now : ℕ) (steps : List Step) where
 
   kind_port : (k : Kind) (h : Hardware) → IssuingPort h → IssuingPort (issue_kind k h)
   kind_port k h p =
-      turns_keep IssuingPort (issue_turn k) (λ g q. issue_port k g (issue_turn k g) (issue_turn_is k g) q (issue_turn_keeps v legal now Anything (anything_is_kept v now) steps k g (issue_turn k g) (issue_turn_is k g) q.0)) (kind_values h.values k).units h p
+      turns_keep IssuingPort (issue_turn k) (λ g q. issue_port k g (issue_turn k g) (issue_turn_is k g) q (issue_turn_keeps v legal now Anything (anything_is_kept v now) steps k g (issue_turn k g) (issue_turn_is k g) q.0)) (at_kind k h.values.kinds).units h p
 
   pub issue_keeps_port : (h : Hardware) → IssuingPort h → IssuingPort (issue h)
   issue_keeps_port h p =

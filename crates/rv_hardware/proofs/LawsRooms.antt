@@ -1,7 +1,7 @@
 -- The laws of the reorder buffer and of the stations, and those of orders.
 use Rattle.std.proofs.Common.{◌≡◌, ℕ, ◌+◌, ◌≤◌, ◌<◌, ◌&&◌, true, is_some, is_none, nat_le, nat_lt, List, ◌++◌, map, count_by, All, AllPairs, Option, Some, None, IfSome, refl, ap, arith, le-leb}
 use Rattle.std.proofs.lemmas.Bool.{leb-true, ltb-true, lt-leb}
-use Rattle.rv_isa.specs.Description.{kind_values}
+use Rattle.rv_isa.specs.PerKind.{at_kind}
 use Rattle.rv_isa.specs.declared.lines.Lines.{Lines}
 use Rattle.rv_isa.specs.declared.operations.Kind.{Kind}
 use Rattle.rv_isa.specs.declared.values.Values.{Values}
@@ -83,6 +83,6 @@ stationed_shows v k = record {
   ends = λ c bound row sound h. retired_after c row.dispatched row.retired row.execution sound.stamps.executed_between (and_second (is_row_of_kind k row && nat_le row.dispatched c) (passes (λ x. nat_lt c x.issued) row.execution) h);
 }
 
-pub law_of_stations : (v : Values) {steps : List Step} {h : Hardware} → History v steps h → (kind : Kind) (c : ℕ) → count_by (is_stationed_in kind c) (rows_of steps) ≤ (kind_values v kind).stations
+pub law_of_stations : (v : Values) {steps : List Step} {h : Hardware} → History v steps h → (kind : Kind) (c : ℕ) → count_by (is_stationed_in kind c) (rows_of steps) ≤ (at_kind kind v.kinds).stations
 law_of_stations v history k =
-    counted_law v (is_stationed_in k) (λ c. is_stationed_mark k) (stationed_shows v k) (kind_values v k).stations (λ earlier old new lines report before after passed. (history_is_orderly v after).stations k) history
+    counted_law v (is_stationed_in k) (λ c. is_stationed_mark k) (stationed_shows v k) (at_kind k v.kinds).stations (λ earlier old new lines report before after passed. (history_is_orderly v after).stations k) history

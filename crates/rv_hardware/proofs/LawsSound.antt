@@ -3,13 +3,14 @@ use Rattle.std.proofs.Common.{◌≡◌, ℕ, ◌+◌, ◌≤◌, ◌<◌, ◌�
 use Rattle.std.specs.List.{list_all}
 use Rattle.std.specs.Option.{unwrap_or}
 use Rattle.rv_decode.specs.Decodes.{instruction_of}
-use Rattle.rv_isa.specs.Description.{IsLegal, kind_values}
+use Rattle.rv_isa.proofs.WithKind.{is_same-true}
+use Rattle.rv_isa.specs.Description.{IsLegal}
 use Rattle.rv_isa.specs.Operation.{bytes_of, width_of}
+use Rattle.rv_isa.specs.PerKind.{at_kind}
 use Rattle.rv_isa.specs.Word.{sum, modulo_word}
 use Rattle.rv_isa.specs.declared.instructions.Instr.{Instr}
 use Rattle.rv_isa.specs.declared.instructions.Instr.TheVariants.{Load, FenceI, Csr, Mret}
 use Rattle.rv_isa.specs.declared.operations.Kind.{Kind}
-use Rattle.rv_isa.specs.declared.operations.Kind.TheVariants as kind
 use Rattle.rv_isa.specs.declared.operations.LoadForm.{LoadForm}
 use Rattle.rv_isa.specs.declared.values.CacheValues.{CacheValues}
 use Rattle.rv_isa.specs.declared.values.Values.{Values}
@@ -86,17 +87,8 @@ serial_has_no_kind i h = absurd (cc)
 
 -- the kind that is asked for is the instruction's
 pub is_of_kind_is : (k : Kind) (o : Option Kind) → is_of_kind k o ≡ true → o ≡ Some k
-is_of_kind_is kind.Alu (Some kind.Alu) h = refl
-is_of_kind_is kind.Mul (Some kind.Mul) h = refl
-is_of_kind_is kind.Div (Some kind.Div) h = refl
-is_of_kind_is kind.Mem (Some kind.Mem) h = refl
-is_of_kind_is k o h = absurd (cc)
-
-pub kind_is_asked : (k : Kind) → is_of_kind k (Some k) ≡ true
-kind_is_asked kind.Alu = refl
-kind_is_asked kind.Mul = refl
-kind_is_asked kind.Div = refl
-kind_is_asked kind.Mem = refl
+is_of_kind_is k None h = absurd (cc)
+is_of_kind_is k (Some other) h = ap (λ (i : Kind). Some i) (sym (is_same-true k other h))
 
 -- the word of an instruction decodes to it
 decodes_by : (i : Option Instr) (word : Option ℕ) → i ≡ option_and_then instruction_of word → (i ≡ None → ⊥) → instruction_of (unwrap_or word 0) ≡ i
@@ -125,8 +117,8 @@ module _ (v : Values) (h : Hardware) (shape : HasShape v h) (older : List Entry)
   abbrev Costs : Kind → Option Instr → Type 0
   Costs k i = (is_some (result_of_word (layout_of h.values) s h.lines word i).fault ≡ true) ⊎ IfSome (kind_of_word i) (λ j. IsCost v (is_load i) j (cost_of h k (path_of h older s i)))
 
-  latency_of_kind : (k : Kind) (o : Option Kind) → is_of_kind k o ≡ true → IfSome o (λ j. (kind_values h.values k).latency ≡ (kind_values v j).latency)
-  latency_of_kind k o is = rw (is_of_kind_is k o is) (ap (λ w. (kind_values w k).latency) shape.values)
+  latency_of_kind : (k : Kind) (o : Option Kind) → is_of_kind k o ≡ true → IfSome o (λ j. (at_kind k h.values.kinds).latency ≡ (at_kind j v.kinds).latency)
+  latency_of_kind k o is = rw (is_of_kind_is k o is) (ap (λ (w : Values). (at_kind k w.kinds).latency) shape.values)
 
   module _ (k : Kind) (address count : ℕ) where
     from_stores_or_cache : (b : Bool) → IsLoadCost v.forward v.cache (cost_of h k (cond b FromStores (FromCache address)))
@@ -153,18 +145,15 @@ issued_cost v h shape older e k is = costs_of v h shape older (seen_behind h old
 
 -- every cost is at least one cycle
 
-positive_latency : (v : Values) → IsLegal v → (k : Kind) → 0 < (kind_values v k).latency
-positive_latency v legal kind.Alu = omega (arith, legal.kinds.alu.latency)
-positive_latency v legal kind.Mul = omega (arith, legal.kinds.mul.latency)
-positive_latency v legal kind.Div = omega (arith, legal.kinds.div.latency)
-positive_latency v legal kind.Mem = omega (arith, legal.kinds.mem.latency)
+positive_latency : (v : Values) → IsLegal v → (k : Kind) → 0 < (at_kind k v.kinds).latency
+positive_latency v legal k = omega (arith, (legal.kinds k).latency)
 
 positive_access : (c : CacheValues) (forward : ℕ) (hit : Bool) (dropped : Option CacheLine) → 1 ≤ c.hit → 0 < cost_of_access c hit dropped
 positive_access c forward true dropped le = le
 positive_access c forward false dropped le = omega (arith, le)
 
 pub positive_cost : (v : Values) → IsLegal v → (h : Hardware) → HasShape v h → (k : Kind) (p : Path) → 0 < cost_of h k p
-positive_cost v legal h shape k Without = let latency = positive_latency v legal k in let same = ap (λ (w : Values). (kind_values w k).latency) shape.values in omega (arith, latency, same)
+positive_cost v legal h shape k Without = let latency = positive_latency v legal k in let same = ap (λ (w : Values). (at_kind k w.kinds).latency) shape.values in omega (arith, latency, same)
 positive_cost v legal h shape k FromStores = let same = ap (λ (w : Values). w.forward) shape.values in omega (arith, same, legal.pipeline.forward)
 positive_cost v legal h shape k (FromCache address) =
     let same = ap (λ (c : CacheValues). c.hit) shape.cache in

@@ -1,7 +1,7 @@
 -- The laws of units, of the rows.
 use Rattle.std.proofs.Common.{◌≡◌, ℕ, ◌+◌, ◌≤◌, ◌<◌, ◌&&◌, ◌==◌, Bool, true, false, nat_le, nat_lt, List, ◌++◌, map, count_by, Option, Some, None, IfSome, refl, sym, subst, ap, ◌∙◌, arith, le-leb, eqb-true, ne_eqb}
 use Rattle.std.proofs.lemmas.Bool.{leb-true, ltb-true, lt-ltb, le-ltb, and_right}
-use Rattle.rv_isa.specs.Description.{kind_values}
+use Rattle.rv_isa.specs.PerKind.{at_kind}
 use Rattle.rv_isa.specs.declared.lines.Lines.{Lines}
 use Rattle.rv_isa.specs.declared.operations.Kind.{Kind}
 use Rattle.rv_isa.specs.declared.values.Values.{Values}
@@ -31,7 +31,7 @@ module _ (v : Values) (k : Kind) (test : ℕ → Mark → Bool)
     (gone : (now : ℕ) (row : Row) → SoundRow v (now + 1) row → test now (mark_of_row row) ≡ false)
     (no_word : (now : ℕ) (f : Fetched) → test now (mark_of_fetched f) ≡ false) where
   held_at_end : (earlier : List Step) (old new : Hardware) (lines : Lines) (report : Report) → History v earlier old → History v (earlier ++ report.steps) new →
-      Passed v (Extends old.cycle (marks_in earlier old)) earlier lines old report new → count (test old.cycle) (marks_in (earlier ++ report.steps) new) ≤ (kind_values v k).units
+      Passed v (Extends old.cycle (marks_in earlier old)) earlier lines old report new → count (test old.cycle) (marks_in (earlier ++ report.steps) new) ≤ (at_kind k v.kinds).units
   held_at_end earlier old new lines report before after passed =
       let p : Mark → Bool = test old.cycle in
       let d : Hardware = (dispatching lines old).hardware in
@@ -47,8 +47,8 @@ module _ (v : Values) (k : Kind) (test : ℕ → Mark → Bool)
       omega (arith, all, parts, rows, words, added, entries, tied, within)
 
   module _ (row_test : ℕ → Row → Bool) (shows : Shows v row_test test) where
-    units_law : {steps : List Step} {h : Hardware} → History v steps h → (c : ℕ) → count_by (row_test c) (rows_of steps) ≤ (kind_values v k).units
-    units_law history = counted_law v row_test test shows (kind_values v k).units held_at_end history
+    units_law : {steps : List Step} {h : Hardware} → History v steps h → (c : ℕ) → count_by (row_test c) (rows_of steps) ≤ (at_kind k v.kinds).units
+    units_law history = counted_law v row_test test shows (at_kind k v.kinds).units held_at_end history
 
 -- pipelined kinds: a start in the cycle
 
@@ -84,10 +84,10 @@ begun_shows v k = record {
   ends = λ c bound row sound h. (begun_row c row.dispatched row.retired row.execution sound.stamps.executed_between (and_second (is_row_of_kind k row) (passes (λ y. y.issued == c) row.execution) h)).2;
 }
 
-pub law_of_pipelined_units : (v : Values) {steps : List Step} {h : Hardware} → History v steps h → (kind : Kind) → (kind_values v kind).pipelined ≡ true → (c : ℕ) → count_by (is_issued_in kind c) (rows_of steps) ≤ (kind_values v kind).units
+pub law_of_pipelined_units : (v : Values) {steps : List Step} {h : Hardware} → History v steps h → (kind : Kind) → (at_kind kind v.kinds).pipelined ≡ true → (c : ℕ) → count_by (is_issued_in kind c) (rows_of steps) ≤ (at_kind kind v.kinds).units
 law_of_pipelined_units v history k pipelined =
     units_law v k (begins_mark k)
-    (λ c m h. and_both (is_of_kind k (kind_of_word m.instruction)) (start_holds (kind_values v k).pipelined c m.start) (and_first (is_of_kind k (kind_of_word m.instruction)) (starts_at c m.start) h)
+    (λ c m h. and_both (is_of_kind k (kind_of_word m.instruction)) (start_holds (at_kind k v.kinds).pipelined c m.start) (and_first (is_of_kind k (kind_of_word m.instruction)) (starts_at c m.start) h)
     (subst (λ b. start_holds b c m.start ≡ true) (sym pipelined) (begins_holds c m.start (and_second (is_of_kind k (kind_of_word m.instruction)) (starts_at c m.start) h))))
     (λ now row sound. and_right (is_row_of_kind k row) (starts_at now (start_of_execution row.execution)) (not_begun now row.dispatched row.retired row.execution (omega (arith, sound.below)) sound.stamps.executed_between))
     (λ now f. and_right (is_of_kind k (kind_of_word f.instruction)) false refl)
@@ -110,7 +110,7 @@ executing_row c D C (Some x) h is =
     let lt = ltb-true c (x.issued + x.cost) (and_second (nat_le x.issued c) (nat_lt c (x.issued + x.cost)) is) in
     (rw begun (is), omega (arith, le, h.0), omega (arith, lt, h.1, h.2))
 
-pub law_of_other_units : (v : Values) {steps : List Step} {h : Hardware} → History v steps h → (kind : Kind) → (kind_values v kind).pipelined ≡ false → (c : ℕ) → count_by (is_executing_in kind c) (rows_of steps) ≤ (kind_values v kind).units
+pub law_of_other_units : (v : Values) {steps : List Step} {h : Hardware} → History v steps h → (kind : Kind) → (at_kind kind v.kinds).pipelined ≡ false → (c : ℕ) → count_by (is_executing_in kind c) (rows_of steps) ≤ (at_kind kind v.kinds).units
 law_of_other_units v history k pipelined =
     units_law v k (executes_mark k)
     (λ c m h. subst (λ b. (is_of_kind k (kind_of_word m.instruction) && start_holds b c m.start) ≡ true) (sym pipelined) h)

@@ -3,7 +3,9 @@ use Rattle.std.proofs.Common.{◌≡◌, ℕ, suc, ◌+◌, ◌≤◌, ◌&&◌,
 use Rattle.std.proofs.lemmas.Bool.{ltb-true, lt-ltb, and_left, and_right}
 use Rattle.std.specs.Ordering.{nat_cmp}
 use Rattle.std.specs.FinSet as set
-use Rattle.rv_isa.specs.Description.{IsLegal, kind_values}
+use Rattle.rv_isa.proofs.WithKind.{at_kind-for_each, with_kind-each}
+use Rattle.rv_isa.specs.Description.{IsLegal}
+use Rattle.rv_isa.specs.PerKind.{at_kind, for_each, with_kind}
 use Rattle.rv_isa.specs.declared.broadcast.StoreAccess.{StoreAccess}
 use Rattle.rv_stores.specs.Queue.{oldest_to_drain}
 use Rattle.rv_rob.specs.Entry.{started, finished, predicting}
@@ -15,8 +17,7 @@ use Rattle.rv_isa.specs.declared.operations.Kind.{Kind}
 use Rattle.rv_isa.specs.declared.operations.Kind.TheVariants as kind
 use Rattle.rv_isa.specs.declared.values.Values.{Values}
 use Rattle.rv_rob.specs.declared.entry.Entry.{Entry}
-use Rattle.rv_units.specs.Pool.{Pool, held_for, holds_unit, holding, is_free, started as started_unit}
-use Rattle.rv_units.specs.Units.{Pools, free_pools, pool_of, with_pool}
+use Rattle.rv_units.specs.Pool.{Pool, held_for, holds_unit, holding, is_free, started as started_unit, free_pool}
 use Rattle.rv_hardware.specs.Hardware.{Hardware}
 use Rattle.rv_hardware.specs.Issue.{path, cost_of, is_of_kind, issue, issue_kind, issue_turn, issued, kind_of_word}
 use Rattle.rv_hardware.specs.Broadcast.{broadcast_turn, with_broadcast, with_recovery}
@@ -46,12 +47,12 @@ start_holds pipelined c None = false
 start_holds pipelined c (Some s) = nat_le s.cycle c && nat_lt c (s.cycle + held_for pipelined s.cost)
 
 abbrev pub holds_mark : Values → Kind → ℕ → Mark → Bool
-holds_mark v k c m = is_of_kind k (kind_of_word m.instruction) && start_holds (kind_values v k).pipelined c m.start
+holds_mark v k c m = is_of_kind k (kind_of_word m.instruction) && start_holds (at_kind k v.kinds).pipelined c m.start
 
 -- the starts of a pool that hold a unit are as many as those of some entries, and no more than there are units
 pub record Held (v : Values) (now : ℕ) (k : Kind) (pool : Pool) (es : List Entry) : Type 0 where
   pub tied : (c : ℕ) → now ≤ c → count (λ e. holds_mark v k c (mark_of_entry e)) es ≤ count (holds_unit c) pool.starts
-  pub within : (c : ℕ) → now ≤ c → count (holds_unit c) pool.starts ≤ (kind_values v k).units
+  pub within : (c : ℕ) → now ≤ c → count (holds_unit c) pool.starts ≤ (at_kind k v.kinds).units
   pub begun : Every (λ s. s.cycle ≤ now) pool.starts
 
 -- what held a unit and holds one later holds it now
@@ -93,7 +94,7 @@ module _ (v : Values) (now : ℕ) (k : Kind) (pool : Pool) where
   }
 
   -- one more start, on a free unit
-  pub held_started : (older younger : List Entry) (e x : Entry) (cost : ℕ) → pool.is_pipelined ≡ (kind_values v k).pipelined → pool.units ≡ (kind_values v k).units → is_free now pool ≡ true →
+  pub held_started : (older younger : List Entry) (e x : Entry) (cost : ℕ) → pool.is_pipelined ≡ (at_kind k v.kinds).pipelined → pool.units ≡ (at_kind k v.kinds).units → is_free now pool ≡ true →
       start_of_stage e.stage ≡ None → ((c : ℕ) → holds_mark v k c (mark_of_entry x) ≡ true → holds_unit c (record { cycle = now; cost = held_for pool.is_pipelined cost }) ≡ true) →
       Held v now k pool (older ++ e ∷ younger) → Held v now k (started_unit cost now pool) (older ++ x ∷ younger)
   held_started older younger e x cost pipelined units free none holds h =
@@ -132,10 +133,10 @@ module _ (v : Values) (now : ℕ) (k : Kind) (pool : Pool) where
 -- all kinds
 
 abbrev pub AllHeld : Values → ℕ → Hardware → Type 0
-AllHeld v now h = (k : Kind) → Held v now k (pool_of k h.units) h.rob.entries
+AllHeld v now h = (k : Kind) → Held v now k (at_kind k h.units) h.rob.entries
 
 pub all_fewer : (v : Values) (now : ℕ) (g h : Hardware) → g.units ≡ h.units → ((k : Kind) (c : ℕ) → now ≤ c → count (λ e. holds_mark v k c (mark_of_entry e)) g.rob.entries ≤ count (λ e. holds_mark v k c (mark_of_entry e)) h.rob.entries) → AllHeld v now h → AllHeld v now g
-all_fewer v now g h units less held k = subst (λ u. Held v now k (pool_of k u) g.rob.entries) (sym units) (held_fewer v now k (pool_of k h.units) h.rob.entries g.rob.entries (less k) (held k))
+all_fewer v now g h units less held k = subst (λ u. Held v now k (at_kind k u) g.rob.entries) (sym units) (held_fewer v now k (at_kind k h.units) h.rob.entries g.rob.entries (less k) (held k))
 
 -- commit
 
@@ -174,77 +175,43 @@ drain_units h = drain_units_by (nat_le h.port_free h.cycle) (oldest_to_drain (en
 
 -- issue
 
-pub other_pool : (j k : Kind) (p : Pool) (u : Pools) → is_of_kind j (Some k) ≡ false → pool_of j (with_pool k p u) ≡ pool_of j u
-other_pool kind.Alu kind.Alu p u h = absurd (cc)
-other_pool kind.Alu kind.Mul p u h = refl
-other_pool kind.Alu kind.Div p u h = refl
-other_pool kind.Alu kind.Mem p u h = refl
-other_pool kind.Mul kind.Alu p u h = refl
-other_pool kind.Mul kind.Mul p u h = absurd (cc)
-other_pool kind.Mul kind.Div p u h = refl
-other_pool kind.Mul kind.Mem p u h = refl
-other_pool kind.Div kind.Alu p u h = refl
-other_pool kind.Div kind.Mul p u h = refl
-other_pool kind.Div kind.Div p u h = absurd (cc)
-other_pool kind.Div kind.Mem p u h = refl
-other_pool kind.Mem kind.Alu p u h = refl
-other_pool kind.Mem kind.Mul p u h = refl
-other_pool kind.Mem kind.Div p u h = refl
-other_pool kind.Mem kind.Mem p u h = absurd (cc)
-
-pub same_pool : (k : Kind) (p : Pool) (u : Pools) → pool_of k (with_pool k p u) ≡ p
-same_pool kind.Alu p u = refl
-same_pool kind.Mul p u = refl
-same_pool kind.Div p u = refl
-same_pool kind.Mem p u = refl
-
-pub issued_units : (k : Kind) (h : Hardware) (older : List Entry) (e : Entry) → (issued k h older e).units ≡ with_pool k (started_unit (cost_of h k (path h older e)) h.cycle (pool_of k h.units)) h.units
+pub issued_units : (k : Kind) (h : Hardware) (older : List Entry) (e : Entry) → (issued k h older e).units ≡ with_kind k (started_unit (cost_of h k (path h older e)) h.cycle (at_kind k h.units)) h.units
 issued_units k h older e =
     let keep = access_keeps (path h older e) h in
-    λ i. with_pool k (started_unit (cost_of h k (path h older e)) (keep.cycle i) (pool_of k (keep.units i))) (keep.units i)
+    λ i. with_kind k (started_unit (cost_of h k (path h older e)) (keep.cycle i) (at_kind k (keep.units i))) (keep.units i)
 
 module _ (v : Values) (legal : IsLegal v) (now : ℕ) (steps : List Step) where
   abbrev Issuing : Hardware → Type 0
   Issuing h = Issues v legal now Anything (anything_is_kept v now) steps h × AllHeld v now h
 
-  module _ (k : Kind) (h : Hardware) (older younger : List Entry) (e : Entry) (at : h.rob.entries ≡ older ++ e ∷ younger) (ready : Ready h k older e) (free : is_free h.cycle (pool_of k h.units) ≡ true) (p : Issuing h) where
+  module _ (k : Kind) (h : Hardware) (older younger : List Entry) (e : Entry) (at : h.rob.entries ≡ older ++ e ∷ younger) (ready : Ready h k older e) (free : is_free h.cycle (at_kind k h.units) ≡ true) (p : Issuing h) where
     abbrev cost_here : ℕ
     cost_here = cost_of h k (path h older e)
 
     abbrev begun_here : Entry
     begun_here = started (record { cycle = h.cycle; cost = cost_of h k (path h older e) }) (message_at h older e) e
 
-    same_kind : Held v now k (started_unit (cost_of h k (path h older e)) h.cycle (pool_of k h.units)) (older ++ begun_here ∷ younger)
+    same_kind : Held v now k (started_unit (cost_of h k (path h older e)) h.cycle (at_kind k h.units)) (older ++ begun_here ∷ younger)
     same_kind =
-        subst (λ n. Held v now k (started_unit cost_here n (pool_of k h.units)) (older ++ begun_here ∷ younger)) (sym p.0.basics.cycle)
-        (held_started v now k (pool_of k h.units) older younger e begun_here cost_here (p.0.basics.shape.pipelined k) (p.0.basics.shape.units k) (subst (λ n. is_free n (pool_of k h.units) ≡ true) p.0.basics.cycle free) (ap start_of_stage ready.waits)
-        (λ c held. subst (λ n. holds_unit c (record { cycle = n; cost = held_for (pool_of k h.units).is_pipelined cost_here }) ≡ true) p.0.basics.cycle
+        subst (λ n. Held v now k (started_unit cost_here n (at_kind k h.units)) (older ++ begun_here ∷ younger)) (sym p.0.basics.cycle)
+        (held_started v now k (at_kind k h.units) older younger e begun_here cost_here (p.0.basics.shape.pipelined k) (p.0.basics.shape.units k) (subst (λ n. is_free n (at_kind k h.units) ≡ true) p.0.basics.cycle free) (ap start_of_stage ready.waits)
+        (λ c held. subst (λ n. holds_unit c (record { cycle = n; cost = held_for (at_kind k h.units).is_pipelined cost_here }) ≡ true) p.0.basics.cycle
         (subst (λ b. holds_unit c (record { cycle = h.cycle; cost = held_for b cost_here }) ≡ true) (sym (p.0.basics.shape.pipelined k))
-        (and_second (is_of_kind k (kind_of_word e.instruction)) (start_holds (kind_values v k).pipelined c (Some (start_of_issue (record { cycle = h.cycle; cost = cost_here }) (message_at h older e)))) held)))
-        (subst (Held v now k (pool_of k h.units)) at (p.1 k)))
+        (and_second (is_of_kind k (kind_of_word e.instruction)) (start_holds (at_kind k v.kinds).pipelined c (Some (start_of_issue (record { cycle = h.cycle; cost = cost_here }) (message_at h older e)))) held)))
+        (subst (Held v now k (at_kind k h.units)) at (p.1 k)))
 
-    other_kind : (j : Kind) → is_of_kind j (Some k) ≡ false → Held v now j (pool_of j h.units) (older ++ begun_here ∷ younger)
+    other_kind : (j : Kind) → is_of_kind j (Some k) ≡ false → Held v now j (at_kind j h.units) (older ++ begun_here ∷ younger)
     other_kind j other =
-        held_fewer v now j (pool_of j h.units) (older ++ e ∷ younger) (older ++ begun_here ∷ younger)
+        held_fewer v now j (at_kind j h.units) (older ++ e ∷ younger) (older ++ begun_here ∷ younger)
         (λ c le. count-set-less (λ z. holds_mark v j c (mark_of_entry z)) older younger e begun_here
-        (and_left (is_of_kind j (kind_of_word e.instruction)) (start_holds (kind_values v j).pipelined c (start_of_stage (begun_here).stage)) (ap (is_of_kind j) (is_of_kind_is k (kind_of_word e.instruction) ready.kind) ∙ other)))
-        (subst (Held v now j (pool_of j h.units)) at (p.1 j))
-
-    by_kind : (j : Kind) (b : Bool) → is_of_kind j (Some k) ≡ b → Held v now j (pool_of j (with_pool k (started_unit (cost_of h k (path h older e)) h.cycle (pool_of k h.units)) h.units)) (older ++ begun_here ∷ younger)
-    by_kind j true is =
-        let same : Some k ≡ Some j = is_of_kind_is j (Some k) is in
-        let at_k : k ≡ j = same_value k j same in
-        subst (λ i. Held v now i (pool_of i (with_pool k (started_unit cost_here h.cycle (pool_of k h.units)) h.units)) (older ++ begun_here ∷ younger)) at_k
-        (subst (λ q. Held v now k q (older ++ begun_here ∷ younger)) (sym (same_pool k (started_unit cost_here h.cycle (pool_of k h.units)) h.units)) same_kind)
-      where
-        same_value : (a b : Kind) → Some a ≡ Some b → a ≡ b
-        same_value a b same' = cc
-    by_kind j false is = subst (λ q. Held v now j q (older ++ begun_here ∷ younger)) (sym (other_pool j k (started_unit cost_here h.cycle (pool_of k h.units)) h.units is)) (other_kind j is)
+        (and_left (is_of_kind j (kind_of_word e.instruction)) (start_holds (at_kind j v.kinds).pipelined c (start_of_stage (begun_here).stage)) (ap (is_of_kind j) (is_of_kind_is k (kind_of_word e.instruction) ready.kind) ∙ other)))
+        (subst (Held v now j (at_kind j h.units)) at (p.1 j))
 
     pub started_units : AllHeld v now (issued k h older e)
     started_units j =
-        subst (λ es. Held v now j (pool_of j (issued k h older e).units) es) (sym (started_entries k h older younger e at))
-        (subst (λ u. Held v now j (pool_of j u) (older ++ begun_here ∷ younger)) (sym (issued_units k h older e)) (by_kind j (is_of_kind j (Some k)) refl))
+        subst (λ es. Held v now j (at_kind j (issued k h older e).units) es) (sym (started_entries k h older younger e at))
+        (subst (λ u. Held v now j (at_kind j u) (older ++ begun_here ∷ younger)) (sym (issued_units k h older e))
+        (with_kind-each k (started_unit cost_here h.cycle (at_kind k h.units)) h.units (λ i q. Held v now i q (older ++ begun_here ∷ younger)) same_kind other_kind j))
 
   issue_units : (k : Kind) (h : Hardware) (t : Turn Hardware) → IssueTurn k h t → Issuing h → Leads (Issues v legal now Anything (anything_is_kept v now) steps) (Issues v legal now Anything (anything_is_kept v now) steps) t → Leads Issuing Issuing t
   issue_units k h _ (no_unit held) p goes = p
@@ -253,7 +220,7 @@ module _ (v : Values) (legal : IsLegal v) (now : ℕ) (steps : List Step) where
 
   kind_units : (k : Kind) (h : Hardware) → Issuing h → Issuing (issue_kind k h)
   kind_units k h p =
-      turns_keep Issuing (issue_turn k) (λ g q. issue_units k g (issue_turn k g) (issue_turn_is k g) q (issue_turn_keeps v legal now Anything (anything_is_kept v now) steps k g (issue_turn k g) (issue_turn_is k g) q.0)) (kind_values h.values k).units h p
+      turns_keep Issuing (issue_turn k) (λ g q. issue_units k g (issue_turn k g) (issue_turn_is k g) q (issue_turn_keeps v legal now Anything (anything_is_kept v now) steps k g (issue_turn k g) (issue_turn_is k g) q.0)) (at_kind k h.values.kinds).units h p
 
   pub issue_keeps_units : (h : Hardware) → Issuing h → Issuing (issue h)
   issue_keeps_units h p =
@@ -311,11 +278,8 @@ units_in_cycle v legal earlier lines old new report R passed held =
     let sends = turns_keep (AllHeld v now) broadcast_turn (λ h q. broadcast_units v now h (broadcast_turn h) (broadcast_turn_is h) q) (issued_all lines old).values.bus_width (issued_all lines old) issues.1 in
     turns_keep (λ d. AllHeld v now d.hardware) dispatch_turn (λ d q. dispatch_units v now d (dispatch_turn d) (dispatch_turn_is d) q) (sent_all lines old).values.dispatch_width (record { hardware = sent_all lines old; dispatched = 0; waits_for = None }) sends
 
-units_at_reset : (v : Values) (k : Kind) → Held v 0 k (pool_of k (free_pools v)) []
-units_at_reset v kind.Alu = record { tied = λ c le. omega arith; within = λ c le. omega arith; begun = tt }
-units_at_reset v kind.Mul = record { tied = λ c le. omega arith; within = λ c le. omega arith; begun = tt }
-units_at_reset v kind.Div = record { tied = λ c le. omega arith; within = λ c le. omega arith; begun = tt }
-units_at_reset v kind.Mem = record { tied = λ c le. omega arith; within = λ c le. omega arith; begun = tt }
+units_at_reset : (v : Values) (k : Kind) → Held v 0 k (at_kind k (for_each free_pool v.kinds)) []
+units_at_reset v k = rw (at_kind-for_each free_pool v.kinds k) (record { tied = λ c le. omega arith; within = λ c le. omega arith; begun = tt })
 
 pub units_of_history : (v : Values) {steps : List Step} {h : Hardware} → History v steps h → AllHeld v h.cycle h
 units_of_history v (began image start legal) = units_at_reset v
@@ -325,5 +289,5 @@ units_of_history v (went_on {earlier} {old} {new} {lines} {report} before is) = 
     let held = units_in_cycle v legal earlier lines old new report Anything passed (units_of_history v before) in
     let d : Hardware = (dispatching lines old).hardware in
     let next : new.cycle ≡ old.cycle + 1 = ap (λ (h : Hardware). h.cycle) passed.others_stay in
-    subst (λ (g : Hardware). Held v new.cycle k (pool_of k g.units) g.rob.entries) (sym passed.others_stay)
-    (held_later v old.cycle k (pool_of k d.units) new.cycle d.rob.entries (omega (arith, next)) (held k))
+    subst (λ (g : Hardware). Held v new.cycle k (at_kind k g.units) g.rob.entries) (sym passed.others_stay)
+    (held_later v old.cycle k (at_kind k d.units) new.cycle d.rob.entries (omega (arith, next)) (held k))

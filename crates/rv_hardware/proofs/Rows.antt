@@ -95,7 +95,7 @@ serialised pc word written fetched dispatched retired = Retired (record {
 })
 
 -- addi x1,x0,5 on a machine of width 1
-one_instruction_on_a_narrow_machine : steps_of (record machine { fetch_width = 1; dispatch_width = 1; commit_width = 1; bus_width = 1; alu = record machine.alu { units = 1 } }) (0x00500093 ∷ ebreak ∷ []) 6 ≡
+one_instruction_on_a_narrow_machine : steps_of (record machine { fetch_width = 1; dispatch_width = 1; commit_width = 1; bus_width = 1; kinds = record machine.kinds { alu = record machine.kinds.alu { units = 1 } } }) (0x00500093 ∷ ebreak ∷ []) 6 ≡
     executed 0x80000000 0x00500093 (Some (1, 5)) 0 1 2 1 3 4 ∷
     breakpoint 0x80000004 5 ∷
     []
@@ -112,7 +112,7 @@ unfolding instruction_of table
 dependent_instruction_waits = refl
 
 -- a division of 8 cycles; what is younger is broadcast before it and retires behind it
-younger_result_comes_first : steps_of (record machine { div = record machine.div { latency = 8 } }) (0x020042b3 ∷ 0x00100313 ∷ ebreak ∷ []) 13 ≡
+younger_result_comes_first : steps_of (record machine { kinds = record machine.kinds { div = record machine.kinds.div { latency = 8 } } }) (0x020042b3 ∷ 0x00100313 ∷ ebreak ∷ []) 13 ≡
     executed 0x80000000 0x020042b3 (Some (5, 4294967295)) 0 1 2 8 10 11 ∷
     executed 0x80000004 0x00100313 (Some (6, 1)) 0 1 2 1 3 11 ∷
     breakpoint 0x80000008 12 ∷

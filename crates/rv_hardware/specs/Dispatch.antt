@@ -1,7 +1,7 @@
 -- The dispatch phase: fetched instructions enter the reorder buffer in order.
 use Rattle.std.specs.Prelude.{ℕ, ◌+◌, ◌==◌, ◌&&◌, nat_le, Bool, true, false, if◌then◌else◌, List, [], ◌∷◌, length, filter, Option, Some, None}
 use Rattle.std.specs.List.{list_any}
-use Rattle.rv_isa.specs.Description.{kind_values}
+use Rattle.rv_isa.specs.PerKind.{at_kind}
 use Rattle.rv_isa.specs.declared.operations.Kind.{Kind}
 use Rattle.rv_front.specs.declared.fetched.Fetched.{Fetched}
 use Rattle.rv_rob.specs.ReorderBuffer.{pushed}
@@ -31,7 +31,7 @@ is_stationed kind e = is_waiting e.stage && is_of_kind kind (kind_of_word e.inst
 abbrev pub has_full_stations : Hardware → Option Kind → Bool
 has_full_stations h None = false
 has_full_stations h (Some kind) =
-    nat_le (kind_values h.values kind).stations (length (filter (is_stationed kind) h.rob.entries))
+    nat_le (at_kind kind h.values.kinds).stations (length (filter (is_stationed kind) h.rob.entries))
 
 -- what an instruction waits for, of these the first
 abbrev pub reason_of : Hardware → Fetched → Option Stall

@@ -3,13 +3,14 @@ use Rattle.std.specs.Prelude.{ℕ, List}
 use Rattle.std.specs.Ordering.{nat_cmp}
 use Rattle.std.specs.FinSet as set
 use Rattle.rv_isa.specs.declared.lines.Lines.{Lines}
+use Rattle.rv_isa.specs.declared.per_kind.PerKind.{PerKind}
 use Rattle.rv_isa.specs.declared.values.Values.{Values}
 use Rattle.rv_arch.specs.Csr.{Kept}
 use Rattle.rv_memory.specs.Memory.{Memory}
 use Rattle.rv_cache.specs.Cache.{Contents}
 use Rattle.rv_stores.specs.declared.store.Store.{Store}
-use Rattle.rv_units.specs.Units.{Pools}
 use Rattle.rv_rob.specs.ReorderBuffer.{ReorderBuffer}
+use Rattle.rv_units.specs.Pool.{Pool}
 use Rattle.rv_front.specs.FetchBuffer.{FetchBuffer}
 
 -- all that the hardware remembers
@@ -27,7 +28,7 @@ pub record Hardware : Type 0 where
   -- the first cycle in which the cache's port is idle
   pub port_free : ℕ
   -- the executions that hold a unit
-  pub units : Pools
+  pub units : PerKind Pool
   -- the instructions in flight and the fetched words
   pub rob : ReorderBuffer
   pub front : FetchBuffer

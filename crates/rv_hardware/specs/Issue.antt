@@ -1,9 +1,9 @@
 -- The issue phase: for each kind of unit, the oldest instructions that are ready leave for the units that are free.
 use Rattle.std.specs.Prelude.{ℕ, ◌+◌, ◌&&◌, ◌||◌, not, nat_le, Bool, true, false, if◌then◌else◌, List, [], ◌∷◌, ◌++◌, length, take, Option, Some, None, is_some}
 use Rattle.std.specs.List.{list_all}
-use Rattle.rv_isa.specs.Description.{kind_values}
 use Rattle.rv_isa.specs.Operands.{sources_of, kind_of}
 use Rattle.rv_isa.specs.Operation.{bytes_of, width_of}
+use Rattle.rv_isa.specs.PerKind.{at_kind, is_same, with_kind}
 use Rattle.rv_isa.specs.Word.{sum, modulo_word}
 use Rattle.rv_isa.specs.declared.broadcast.Message.{Message}
 use Rattle.rv_isa.specs.declared.instructions.Instr.{Instr}
@@ -19,7 +19,6 @@ use Rattle.rv_rob.specs.declared.entry.Entry.{Entry}
 use Rattle.rv_stores.specs.Queue.{forwarded}
 use Rattle.rv_stores.specs.Store.{is_known as is_known_store}
 use Rattle.rv_units.specs.Pool.{is_free, started as started_unit}
-use Rattle.rv_units.specs.Units.{pool_of, with_pool}
 use Rattle.rv_hardware.specs.Hardware.{Hardware}
 use Rattle.rv_hardware.specs.InFlight.{is_waiting, is_known}
 use Rattle.rv_hardware.specs.Repeated.{Turn, GoesOn, Ends, repeated}
@@ -52,7 +51,7 @@ path h older e = path_of h older (seen_behind h older e.pc) e.instruction
 
 -- the cycles from issue until the result can be broadcast
 abbrev pub cost_of : Hardware → Kind → Path → ℕ
-cost_of h kind Without = (kind_values h.values kind).latency
+cost_of h kind Without = (at_kind kind h.values.kinds).latency
 cost_of h kind FromStores = h.values.forward
 cost_of h kind (FromCache address) = access_cost h.cache address
 
@@ -67,11 +66,8 @@ is_load (Some (Load form rd rs1 offset)) = true
 is_load _ = false
 
 abbrev pub is_of_kind : Kind → Option Kind → Bool
-is_of_kind kind.Alu (Some kind.Alu) = true
-is_of_kind kind.Mul (Some kind.Mul) = true
-is_of_kind kind.Div (Some kind.Div) = true
-is_of_kind kind.Mem (Some kind.Mem) = true
-is_of_kind _ _ = false
+is_of_kind kind None = false
+is_of_kind kind (Some other) = is_same kind other
 
 abbrev pub kind_of_word : Option Instr → Option Kind
 kind_of_word None = None
@@ -121,7 +117,7 @@ with_access (FromCache address) h = record h {
 -- an instruction begins its execution, which holds a unit; what it gives is known from now on
 abbrev pub with_start : Kind → ℕ → ℕ → Message → Hardware → Hardware
 with_start kind seq cost message h = record h {
-  units = with_pool kind (started_unit cost h.cycle (pool_of kind h.units)) h.units;
+  units = with_kind kind (started_unit cost h.cycle (at_kind kind h.units)) h.units;
   rob = changed (started (record { cycle = h.cycle; cost = cost }) message) seq h.rob;
 }
 
@@ -137,12 +133,12 @@ issue_oldest kind h (Some found) = GoesOn (issued kind h found.0 found.1)
 -- one turn: a free unit takes the oldest ready instruction of its kind
 abbrev pub issue_turn : Kind → Hardware → Turn Hardware
 issue_turn kind h =
-    if is_free h.cycle (pool_of kind h.units)
+    if is_free h.cycle (at_kind kind h.units)
     then issue_oldest kind h (oldest (is_ready h kind) h.rob.entries)
     else Ends h
 
 abbrev pub issue_kind : Kind → Hardware → Hardware
-issue_kind kind h = repeated (issue_turn kind) (kind_values h.values kind).units h
+issue_kind kind h = repeated (issue_turn kind) (at_kind kind h.values.kinds).units h
 
 -- the issue phase: kind by kind
 abbrev pub issue : Hardware → Hardware

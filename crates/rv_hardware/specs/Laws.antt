@@ -2,7 +2,7 @@
 use Rattle.std.specs.Prelude.{◌≡◌, ℕ, ◌+◌, ◌-◌, ◌<◌, ◌≤◌, ◌==◌, ◌⊎◌, max, Bool, true, false, List, [], ◌∷◌, map, Some, is_some, IfSome, MatchOption, All, AllPairs, count_by}
 use Rattle.std.specs.List.{list_any, range_with_len}
 use Rattle.rv_isa.specs.Arrivals.{lines_at}
-use Rattle.rv_isa.specs.Description.{kind_values}
+use Rattle.rv_isa.specs.PerKind.{at_kind}
 use Rattle.rv_isa.specs.declared.lines.Arrival.{Arrival}
 use Rattle.rv_isa.specs.declared.operations.Kind.{Kind}
 use Rattle.rv_isa.specs.declared.values.CacheValues.{CacheValues}
@@ -38,7 +38,7 @@ IsLoadCost forward cache cost =
 -- the latency of its kind, but for a load
 abbrev pub IsCost : Values → Bool → Kind → ℕ → Type 0
 IsCost values true kind cost = IsLoadCost values.forward values.cache cost
-IsCost values false kind cost = cost ≡ (kind_values values kind).latency
+IsCost values false kind cost = cost ≡ (at_kind kind values.kinds).latency
 
 -- a row that used a unit took one of the described costs
 abbrev pub HasCost : Values → Row → Type 0
@@ -146,18 +146,18 @@ pub record Laws (values : Values) (from to : ℕ) (steps : List Step) : Type 0 w
   -- the reorder buffer, the fetch buffer and the stations hold no more than they have room for
   pub reorder_buffer : (c : ℕ) → count_by (is_in_flight_in c) (rows_of steps) ≤ values.rob
   pub fetch_buffer : (c : ℕ) → count_by (is_buffered_in c) (rows_of steps) ≤ values.fetch_buffer
-  pub stations : (kind : Kind) (c : ℕ) → count_by (is_stationed_in kind c) (rows_of steps) ≤ (kind_values values kind).stations
+  pub stations : (kind : Kind) (c : ℕ) → count_by (is_stationed_in kind c) (rows_of steps) ≤ (at_kind kind values.kinds).stations
   -- nor does the store queue, which a store leaves at the earliest `hit` cycles behind its retirement
   pub store_queue : (c : ℕ) → count_by (is_queued_in values.cache.hit c) (rows_of steps) ≤ values.store_queue
   -- a unit executes one instruction at a time, or begins one a cycle where it is pipelined, and the port serves one load
-  pub pipelined_units : (kind : Kind) → (kind_values values kind).pipelined ≡ true → (c : ℕ) → count_by (is_issued_in kind c) (rows_of steps) ≤ (kind_values values kind).units
-  pub other_units : (kind : Kind) → (kind_values values kind).pipelined ≡ false → (c : ℕ) → count_by (is_executing_in kind c) (rows_of steps) ≤ (kind_values values kind).units
+  pub pipelined_units : (kind : Kind) → (at_kind kind values.kinds).pipelined ≡ true → (c : ℕ) → count_by (is_issued_in kind c) (rows_of steps) ≤ (at_kind kind values.kinds).units
+  pub other_units : (kind : Kind) → (at_kind kind values.kinds).pipelined ≡ false → (c : ℕ) → count_by (is_executing_in kind c) (rows_of steps) ≤ (at_kind kind values.kinds).units
   pub port : AllPairs (λ a b. uses_port values.forward a ≡ true → uses_port values.forward b ≡ true → IfSome a.execution (λ x. IfSome b.execution (λ y. (x.issued + x.cost ≤ y.issued) ⊎ (y.issued + y.cost ≤ x.issued)))) (rows_of steps)
   -- no pipelined unit is idle while an instruction that is no load has its operands
-  pub no_idle_unit : (kind : Kind) → (kind_values values kind).pipelined ≡ true → EachBehind (λ before row. is_row_of_kind kind row ≡ true → is_load_row row ≡ false → IfSome row.execution (λ x. (c : ℕ) → from ≤ c → row.dispatched < c → c < x.issued → HasOperandsIn c before row → (kind_values values kind).units ≤ count_by (is_issued_in kind c) before)) (rows_of steps)
+  pub no_idle_unit : (kind : Kind) → (at_kind kind values.kinds).pipelined ≡ true → EachBehind (λ before row. is_row_of_kind kind row ≡ true → is_load_row row ≡ false → IfSome row.execution (λ x. (c : ℕ) → from ≤ c → row.dispatched < c → c < x.issued → HasOperandsIn c before row → (at_kind kind values.kinds).units ≤ count_by (is_issued_in kind c) before)) (rows_of steps)
   -- behind a trap, an interrupt or a serialising instruction everything is fetched anew
   pub fetched_anew : AllPairs (λ a b. flushes a ≡ true → IsFetchedSince a b) steps
   -- fetch waits for nothing but room
   pub no_idle_fetch : EachNext (IsFetchedBehind values from (rows_of steps)) steps
   -- dispatch waits for nothing but room
-  pub no_idle_dispatch : EachBehind (λ before row. is_store_row row ≡ false → (c : ℕ) → from ≤ c → row.fetched < c → c < row.dispatched → All (λ earlier. earlier.dispatched ≤ c) before → (values.dispatch_width ≤ count_by (is_dispatched_in c) before) ⊎ (values.rob ≤ count_by (is_in_flight_in c) before) ⊎ ((kind : Kind) × (is_row_of_kind kind row ≡ true) × ((kind_values values kind).stations ≤ count_by (is_stationed_in kind c) before))) (rows_of steps)
+  pub no_idle_dispatch : EachBehind (λ before row. is_store_row row ≡ false → (c : ℕ) → from ≤ c → row.fetched < c → c < row.dispatched → All (λ earlier. earlier.dispatched ≤ c) before → (values.dispatch_width ≤ count_by (is_dispatched_in c) before) ⊎ (values.rob ≤ count_by (is_in_flight_in c) before) ⊎ ((kind : Kind) × (is_row_of_kind kind row ≡ true) × ((at_kind kind values.kinds).stations ≤ count_by (is_stationed_in kind c) before))) (rows_of steps)

@@ -1,11 +1,12 @@
 -- The hardware at reset.
 use Rattle.std.specs.Prelude.{◌≡◌, ℕ, ◌-◌, ◌%◌, ◌≤◌, false, List, [], ◌++◌, length, replicate}
 use Rattle.std.specs.FinSet as set
+use Rattle.rv_isa.specs.PerKind.{for_each}
 use Rattle.rv_isa.specs.declared.values.Values.{Values}
 use Rattle.rv_arch.specs.Reset.{reset_csrs, no_lines}
+use Rattle.rv_units.specs.Pool.{free_pool}
 use Rattle.rv_front.specs.FetchBuffer.{FetchBuffer}
 use Rattle.rv_rob.specs.ReorderBuffer.{empty}
-use Rattle.rv_units.specs.Units.{free_pools}
 use Rattle.rv_hardware.specs.Hardware.{Hardware}
 use Rattle.rv_hardware.specs.Seen.{layout_of}
 
@@ -35,7 +36,7 @@ reset_hardware values image start = record {
   };
   committed = [];
   port_free = 0;
-  units = free_pools values;
+  units = for_each free_pool values.kinds;
   rob = empty values.rob;
   front = empty_front values start;
   cycle = 0;

@@ -20,9 +20,11 @@ use Rattle.rv_isa.specs.declared.values.Recovery.{Recovery as Mending}
 use Rattle.rv_isa.specs.declared.values.Values.{Values}
 use Rattle.rv_isa.specs.declared.bounds.Bounds.TheVariants.{Whole, Pages, Powers, Words, Front}
 use Rattle.rv_isa.specs.Bounds.{lies, takes}
-use Rattle.rv_isa.specs.Description.{IsLegal, IsLegalMemory, IsLegalPipeline, IsLegalKind, IsLegalCache, Within, kind_values}
+use Rattle.rv_isa.specs.Description.{IsLegal, IsLegalMemory, IsLegalPipeline, IsLegalKind, IsLegalCache, Within}
 use Rattle.rv_isa.specs.Key.{ObeysEachKey, kind_number, kind_row, kind_with, number_of, obeys, order, row_of, values_with}
+use Rattle.rv_isa.specs.PerKind.{at_kind}
 use Rattle.rv_isa.specs.Standard.{standard_values}
+use Rattle.rv_isa.proofs.WithKind.{at_kind-by_kind}
 
 -- every key stands in the order
 pub in_order : (key : Key) → (index : ℕ) × (slice_get order index ≡ Some key)
@@ -119,7 +121,7 @@ in_front size n taken =
     let (below, whole) = and_parts (nat_le n size) (n % 4096 == 0) (and_parts (nat_le n size && (n % 4096 == 0)) true taken).0 in
     (grind (arith, nat_tests), eqb-true (n % 4096) 0 whole)
 
-in_kind : (v : Values) → ObeysEachKey v → (kind : Kind) → IsLegalKind (kind_values v kind)
+in_kind : (v : Values) → ObeysEachKey v → (kind : Kind) → IsLegalKind (at_kind kind v.kinds)
 in_kind v each kind =
     record {
       stations = in_whole v each (OfKind kind Stations) 1 64 refl;
@@ -160,7 +162,7 @@ legal v each =
     record {
       memory = in_memory v each;
       pipeline = in_pipeline v each;
-      kinds = record { alu = in_kind v each Alu; mul = in_kind v each Mul; div = in_kind v each Div; mem = in_kind v each Mem };
+      kinds = in_kind v each;
       cache = in_cache v each;
       predictor = in_whole v each PredictorEntries 1 4096 refl;
       report = record { dump_aligned = in_words v.ram_size v.report.dump_address (each (Number ReportDumpAddress)); dump_words = (in_whole v each ReportDumpWords 0 256 refl).1 };
@@ -190,12 +192,6 @@ takes_kind size k kind Stations legal = takes_whole 1 64 size k.stations legal.s
 takes_kind size k kind Units legal = takes_whole 1 8 size k.units legal.units
 takes_kind size k kind Latency legal = takes_whole 1 64 size k.latency legal.latency
 
-kind_legal : (v : Values) → IsLegal v → (kind : Kind) → IsLegalKind (kind_values v kind)
-kind_legal v legal Alu = legal.kinds.alu
-kind_legal v legal Mul = legal.kinds.mul
-kind_legal v legal Div = legal.kinds.div
-kind_legal v legal Mem = legal.kinds.mem
-
 takes_number : (v : Values) → IsLegal v → (key : NumberKey) → takes (row_of key).bounds v.ram_size (number_of v key) ≡ true
 takes_number v legal RamBase = takes_pages 0 0xff00_0000 v.ram_size v.ram_base (omega arith, legal.memory.base.0) legal.memory.base.1
 takes_number v legal RamSize = takes_pages 4096 16777216 v.ram_size v.ram_size (legal.memory.size.0, legal.memory.size.1) legal.memory.size.2
@@ -208,7 +204,7 @@ takes_number v legal FetchBuffer = takes_whole 1 32 v.ram_size v.fetch_buffer le
 takes_number v legal Rob = takes_whole 1 256 v.ram_size v.rob legal.pipeline.rob
 takes_number v legal StoreQueue = takes_whole 1 64 v.ram_size v.store_queue legal.pipeline.store_queue
 takes_number v legal Forward = takes_whole 1 64 v.ram_size v.forward legal.pipeline.forward
-takes_number v legal (OfKind kind key) = takes_kind v.ram_size (kind_values v kind) kind key (kind_legal v legal kind)
+takes_number v legal (OfKind kind key) = takes_kind v.ram_size (at_kind kind v.kinds) kind key (legal.kinds kind)
 takes_number v legal CacheSets = takes_powers 1 256 v.ram_size v.cache.sets legal.cache.0.sets legal.cache.0.sets_power
 takes_number v legal CacheWays = takes_whole 1 16 v.ram_size v.cache.ways legal.cache.0.ways
 takes_number v legal CacheLine = takes_powers 4 128 v.ram_size v.cache.line legal.cache.0.line legal.cache.0.line_power
@@ -246,10 +242,8 @@ number_of-values_with number is_pipelined recovery predictor FetchBuffer = refl
 number_of-values_with number is_pipelined recovery predictor Rob = refl
 number_of-values_with number is_pipelined recovery predictor StoreQueue = refl
 number_of-values_with number is_pipelined recovery predictor Forward = refl
-number_of-values_with number is_pipelined recovery predictor (OfKind Alu key) = kind_number-kind_with number is_pipelined Alu key
-number_of-values_with number is_pipelined recovery predictor (OfKind Mul key) = kind_number-kind_with number is_pipelined Mul key
-number_of-values_with number is_pipelined recovery predictor (OfKind Div key) = kind_number-kind_with number is_pipelined Div key
-number_of-values_with number is_pipelined recovery predictor (OfKind Mem key) = kind_number-kind_with number is_pipelined Mem key
+number_of-values_with number is_pipelined recovery predictor (OfKind kind key) =
+    rw (at_kind-by_kind (kind_with number is_pipelined) kind) (kind_number-kind_with number is_pipelined kind key)
 number_of-values_with number is_pipelined recovery predictor CacheSets = refl
 number_of-values_with number is_pipelined recovery predictor CacheWays = refl
 number_of-values_with number is_pipelined recovery predictor CacheLine = refl
@@ -265,7 +259,7 @@ power_16 : IsTrue (is_power_of_two 16)
 unfolding ones
 power_16 = refl
 
-standard_kind : (size : ℕ) (kind : Kind) (key : KindKey) → takes (kind_row kind key).bounds size (kind_number (kind_values standard_values kind) key) ≡ true
+standard_kind : (size : ℕ) (kind : Kind) (key : KindKey) → takes (kind_row kind key).bounds size (kind_number (at_kind kind standard_values.kinds) key) ≡ true
 standard_kind size Alu Stations = refl
 standard_kind size Alu Units = refl
 standard_kind size Alu Latency = refl

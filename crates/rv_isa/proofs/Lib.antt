@@ -3,4 +3,5 @@ pub mod LastLevels
 pub mod Levels
 pub mod Numbered
 pub mod Padded
+pub mod WithKind
 pub mod TwoRegisters

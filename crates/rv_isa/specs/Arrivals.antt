@@ -1,6 +1,4 @@
-use Rattle.std.specs.Prelude.{ℕ, ◌≤◌, ◌<◌, ◌≡◌, Option, IfSome, nat_lt, Bool, true, false, ◌&&◌, List, [], ◌∷◌, length, filter, nat_le, All}
-use Rattle.std.specs.List.{find}
-use Rattle.std.specs.Option.{option_map}
+use Rattle.std.specs.Prelude.{ℕ, ◌≤◌, Bool, true, false, ◌&&◌, List, [], ◌∷◌, length, filter, nat_le, All}
 use Rattle.std.specs.List.Sorted.{IsNonDecreasingBy}
 use Rattle.rv_isa.specs.declared.lines.Line.{Line}
 use Rattle.rv_isa.specs.declared.lines.Line.TheVariants.{Software, Timer, External}
@@ -38,11 +36,3 @@ lines_at arrivals cycle =
       timer = level_at Timer arrivals cycle;
       external = level_at External arrivals cycle;
     }
-
--- the cycle of the first arrival after a cycle, if there is one
-abbrev pub next_arrival : List Arrival → ℕ → Option ℕ
-next_arrival arrivals cycle = option_map (λ a. a.cycle) (find (λ a. nat_lt cycle a.cycle) arrivals)
-
--- the lines stay as they are in a cycle until before the next one, or for ever where there is none
-abbrev pub AreSteady : List Arrival → ℕ → Option ℕ → Type 0
-AreSteady arrivals cycle next = (c : ℕ) → cycle ≤ c → IfSome next (λ n. c < n) → lines_at arrivals c ≡ lines_at arrivals cycle

@@ -1,12 +1,12 @@
 use Rattle.std.specs.Prelude.{◌≡◌, ℕ, ◌+◌, ◌*◌, ◌%◌, ◌≤◌, max, IsTrue}
 use Rattle.std.specs.Int.{is_power_of_two}
 use Rattle.rv_isa.specs.declared.operations.Kind.{Kind}
-use Rattle.rv_isa.specs.declared.operations.Kind.TheVariants.{Alu, Mul, Div, Mem}
 use Rattle.rv_isa.specs.declared.values.Values.{Values}
 use Rattle.rv_isa.specs.declared.values.KindValues.{KindValues}
 use Rattle.rv_isa.specs.declared.values.CacheValues.{CacheValues}
 use Rattle.rv_isa.specs.declared.values.PredictorValues.{PredictorValues}
 use Rattle.rv_isa.specs.declared.values.ReportValues.{ReportValues}
+use Rattle.rv_isa.specs.PerKind.{at_kind}
 
 -- n lies from low to high
 abbrev pub Within : ℕ → ℕ → ℕ → Type 0
@@ -68,32 +68,19 @@ pub record IsLegalReport (r : ReportValues) : Type 0 where
   pub dump_aligned : r.dump_address % 4 ≡ 0
   pub dump_words : r.dump_words ≤ 256
 
--- the four kinds
-pub record IsLegalKinds (v : Values) : Type 0 where
-  pub alu : IsLegalKind v.alu
-  pub mul : IsLegalKind v.mul
-  pub div : IsLegalKind v.div
-  pub mem : IsLegalKind v.mem
-
 -- every value is in its range
 pub record IsLegal (v : Values) : Type 0 where
   pub memory : IsLegalMemory v
   pub pipeline : IsLegalPipeline v
-  pub kinds : IsLegalKinds v
+  pub kinds : (kind : Kind) → IsLegalKind (at_kind kind v.kinds)
   pub cache : IsLegalCache v.cache
   pub predictor : IsLegalPredictor v.predictor
   pub report : IsLegalReport v.report
 
--- the stations and units of a kind
-abbrev pub kind_values : Values → Kind → KindValues
-kind_values v Alu = v.alu
-kind_values v Mul = v.mul
-kind_values v Div = v.div
-kind_values v Mem = v.mem
-
 -- the greatest of the four latencies and the cost of a forwarded load
 abbrev pub greatest_latency : Values → ℕ
-greatest_latency v = max v.forward (max (max v.alu.latency v.mul.latency) (max v.div.latency v.mem.latency))
+greatest_latency v =
+    max v.forward (max (max v.kinds.alu.latency v.kinds.mul.latency) (max v.kinds.div.latency v.kinds.mem.latency))
 
 -- what an access to the cache costs at most
 abbrev pub greatest_access : CacheValues → ℕ

@@ -19,7 +19,7 @@ use Rattle.rv_isa.specs.declared.values.PredictorKind.{PredictorKind as Predicti
 use Rattle.rv_isa.specs.declared.values.Recovery.{Recovery as Mending}
 use Rattle.rv_isa.specs.declared.values.Values.{Values}
 use Rattle.rv_isa.specs.Bounds.{takes}
-use Rattle.rv_isa.specs.Description.{kind_values}
+use Rattle.rv_isa.specs.PerKind.{by_kind, at_kind}
 
 -- where a key stands: in a table, unless it stands at top level, and under which name
 pub record Place : Type 0 where
@@ -131,7 +131,7 @@ number_of v FetchBuffer = v.fetch_buffer
 number_of v Rob = v.rob
 number_of v StoreQueue = v.store_queue
 number_of v Forward = v.forward
-number_of v (OfKind kind key) = kind_number (kind_values v kind) key
+number_of v (OfKind kind key) = kind_number (at_kind kind v.kinds) key
 number_of v CacheSets = v.cache.sets
 number_of v CacheWays = v.cache.ways
 number_of v CacheLine = v.cache.line
@@ -168,10 +168,7 @@ values_with number is_pipelined recovery predictor =
       store_queue = number StoreQueue;
       forward = number Forward;
       recovery = recovery;
-      alu = kind_with number is_pipelined Alu;
-      mul = kind_with number is_pipelined Mul;
-      div = kind_with number is_pipelined Div;
-      mem = kind_with number is_pipelined Mem;
+      kinds = by_kind (kind_with number is_pipelined);
       cache =
           record {
             sets = number CacheSets;

@@ -12,5 +12,6 @@ pub mod Levels
 pub mod Numbered
 pub mod Operands
 pub mod Operation
+pub mod PerKind
 pub mod Standard
 pub mod Word

@@ -19,10 +19,13 @@ standard_values =
       store_queue = 8;
       forward = 1;
       recovery = Commit;
-      alu = record { stations = 4; units = 2; latency = 1; pipelined = true };
-      mul = record { stations = 2; units = 1; latency = 3; pipelined = true };
-      div = record { stations = 2; units = 1; latency = 16; pipelined = false };
-      mem = record { stations = 4; units = 1; latency = 1; pipelined = true };
+      kinds =
+          record {
+            alu = record { stations = 4; units = 2; latency = 1; pipelined = true };
+            mul = record { stations = 2; units = 1; latency = 3; pipelined = true };
+            div = record { stations = 2; units = 1; latency = 16; pipelined = false };
+            mem = record { stations = 4; units = 1; latency = 1; pipelined = true };
+          };
       cache = record { sets = 16; ways = 2; line = 16; hit = 1; miss = 10; write_back = 10 };
       predictor = record { kind = Bimodal; entries = 64 };
       report = record { dump_address = 0; dump_words = 0 };

@@ -1,4 +1,4 @@
-ghost use Rattle.std.specs.Prelude.{◌≡◌, ◌↔◌, IsSome, IfSome, IsTrue, ◌<◌};
+ghost use Rattle.std.specs.Prelude.{◌≡◌, ◌↔◌, IsSome, IfSome, IsTrue};
 ghost use Rattle.std.specs.List.Sorted.{IsNonDecreasingBy};
 ghost use Rattle.rv_isa.specs.Arrivals.{IsLegalArrivals};
 ghost use Rattle.rv_isa.specs.Levels.{IsSplit};
@@ -36,7 +36,7 @@ impl Model for Arrivals {
 }
 
 impl Arrivals {
-    ghost use Rattle.rv_isa.specs.Arrivals.{lines_at, next_arrival, AreSteady};
+    ghost use Rattle.rv_isa.specs.Arrivals.{lines_at};
 
     /// The list of these changes, or `None` where there are more than 100,000, a cycle is above
     /// 1,000,000, or a cycle is below the one before.
@@ -62,18 +62,6 @@ impl Arrivals {
         let count = count_until(items, cycle);
         let block = count / BLOCK;
         lines_after(self.levels[block], &items[block * BLOCK..count])
-    }
-
-    /// The first cycle after this one at which an arrival stands, or `None` where there is none. The
-    /// lines stay as they are in this cycle until then. Takes a binary search.
-    pub fn next_change(&self, cycle: u64) -> Option<u64>
-        ensures next { result ≡ next_arrival self.now cycle }
-        ensures later { IfSome result (λ next. cycle < next) }
-        ensures steady { AreSteady self.now cycle result }
-    {
-        let items = self.items.as_slice();
-        let next = items.get(count_until(items, cycle))?;
-        Some(next.cycle)
     }
 }
 
@@ -125,16 +113,6 @@ mod tests {
         let arrivals = Arrivals::new(items).ok_or("these arrivals are legal")?;
         assert!(rt; !arrivals.at(2).timer && arrivals.at(3).timer && arrivals.at(9).timer);
         assert!(rt; !arrivals.at(5).external && arrivals.at(5).software);
-        let changes = [
-            (0, Some(3)),
-            (2, Some(3)),
-            (3, Some(5)),
-            (4, Some(5)),
-            (5, None),
-        ];
-        for (cycle, next) in changes {
-            assert_eq!(rt; arrivals.next_change(cycle), next);
-        }
         Ok(())
     }
 

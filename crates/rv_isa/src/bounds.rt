@@ -4,12 +4,12 @@ ghost use Rattle.rv_isa.specs.Bounds.{is_in_range, is_power, lies, takes};
 /// Which numbers a key takes.
 #[derive(Clone, Copy)]
 pub enum Bounds {
-    /// Every number from `low` to `high`.
-    Whole { low: u32, high: u32 },
+    /// Every number from the first to the second.
+    Whole(u32, u32),
     /// The multiples of 4096 among them.
-    Pages { low: u32, high: u32 },
+    Pages(u32, u32),
     /// The powers of two among them.
-    Powers { low: u32, high: u32 },
+    Powers(u32, u32),
     /// The multiples of 4.
     Words,
     /// The multiples of 4096 up to the bytes of RAM.
@@ -29,8 +29,8 @@ impl Bounds {
         ensures { result ≡ is_in_range self ram_size number }
     {
         match self {
-            Bounds::Whole { low, high } | Bounds::Powers { low, high } => lies(low, high, number),
-            Bounds::Pages { low, high } => lies(low, high, number) && number % 4096 == 0,
+            Bounds::Whole(low, high) | Bounds::Powers(low, high) => lies(low, high, number),
+            Bounds::Pages(low, high) => lies(low, high, number) && number % 4096 == 0,
             Bounds::Words => number % 4 == 0,
             Bounds::Front => number <= ram_size && number % 4096 == 0,
         }
@@ -41,7 +41,7 @@ impl Bounds {
         ensures { result ≡ is_power self number }
     {
         match self {
-            Bounds::Powers { .. } => number.is_power_of_two(),
+            Bounds::Powers(_, _) => number.is_power_of_two(),
             _ => true,
         }
     }

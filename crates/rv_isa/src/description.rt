@@ -65,8 +65,9 @@ impl Description {
 fn longest_latency(values: &Values) -> u32
     ensures { result ≡ greatest_latency values.now }
 {
-    let registers = values.alu.latency.max(values.mul.latency);
-    let others = values.div.latency.max(values.mem.latency);
+    let kinds = values.kinds;
+    let registers = kinds.alu.latency.max(kinds.mul.latency);
+    let others = kinds.div.latency.max(kinds.mem.latency);
     values.forward.max(registers.max(others))
 }
 
@@ -101,15 +102,17 @@ fn is_legal(values: &Values) -> bool
 #[cfg(test)]
 mod tests {
     use super::*;
+    use crate::operations::Kind;
+    use crate::per_kind::PerKind;
     use crate::values::{CacheValues, KindValues, Recovery};
 
     #[test]
     fn the_gap_bound_of_three_machines(rt: HostRuntime) {
         let standard = Values::standard();
-        let kind = KindValues {
+        let one = |kind| KindValues {
             stations: 1,
             units: 1,
-            ..standard.alu
+            ..*standard.kinds.get(kind)
         };
         let cache = CacheValues {
             sets: 1,
@@ -126,36 +129,28 @@ mod tests {
             rob: 1,
             store_queue: 1,
             recovery: Recovery::Early,
-            alu: kind,
-            mul: KindValues {
-                stations: 1,
-                units: 1,
-                ..standard.mul
-            },
-            div: KindValues {
-                stations: 1,
-                units: 1,
-                ..standard.div
-            },
-            mem: KindValues {
-                stations: 1,
-                units: 1,
-                ..standard.mem
+            kinds: PerKind {
+                alu: one(Kind::Alu),
+                mul: one(Kind::Mul),
+                div: one(Kind::Div),
+                mem: one(Kind::Mem),
             },
             cache,
             ..standard
         };
         let slow = KindValues {
             latency: 64,
-            ..standard.alu
+            ..standard.kinds.alu
         };
         let greatest = Values {
             store_queue: 64,
             forward: 64,
-            alu: slow,
-            mul: slow,
-            div: slow,
-            mem: slow,
+            kinds: PerKind {
+                alu: slow,
+                mul: slow,
+                div: slow,
+                mem: slow,
+            },
             cache: CacheValues {
                 sets: 256,
                 ways: 16,

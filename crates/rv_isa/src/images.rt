@@ -23,14 +23,6 @@ impl Bytes {
         Bytes { items }
     }
 
-    /// The vector that holds the list, in the same memory.
-    pub fn into_vec(self) -> Vec<u8>
-        ensures { result.items ≡ self }
-    {
-        let Bytes { items: bytes } = self;
-        bytes
-    }
-
     /// The bytes in order.
     pub fn as_slice(&self) -> &[u8]
         ensures { result.now ≡ self.now }

@@ -3,7 +3,7 @@ ghost use Rattle.std.specs.List.{slice_get};
 ghost use Rattle.std.specs.Option.{option_map_or};
 ghost use Rattle.rv_isa.specs.Key.{inside, joined, kind_name, kind_row, order, key_place, row, row_of, shown, shown_row, text_at, text_of, top};
 
-use crate::bounds::Bounds;
+use crate::bounds::Bounds::{self, Front, Pages, Powers, Whole, Words};
 use crate::operations::Kind;
 
 /// The numbers of a kind's units and stations.
@@ -98,24 +98,6 @@ fn row(place: Place, bounds: Bounds) -> NumberRow
     NumberRow { place, bounds }
 }
 
-fn whole(low: u32, high: u32) -> Bounds
-    ensures { result ≡ Bounds.Whole low high }
-{
-    Bounds::Whole { low, high }
-}
-
-fn pages(low: u32, high: u32) -> Bounds
-    ensures { result ≡ Bounds.Pages low high }
-{
-    Bounds::Pages { low, high }
-}
-
-fn powers(low: u32, high: u32) -> Bounds
-    ensures { result ≡ Bounds.Powers low high }
-{
-    Bounds::Powers { low, high }
-}
-
 // The table with the keys of a kind.
 fn kind_name(kind: Kind) -> &'static str
     ensures { result.now ≡ kind_name kind }
@@ -128,36 +110,23 @@ fn kind_name(kind: Kind) -> &'static str
     }
 }
 
-fn stations_text(kind: Kind) -> &'static str
-    ensures { result.now ≡ joined (Some (kind_name kind)) (codes "stations") }
+// The text of a number's key.
+fn number_text(kind: Kind, key: KindKey) -> &'static str
+    ensures { result.now ≡ joined (Some (kind_name kind)) (kind_row kind key).place.name }
 {
-    match kind {
-        Kind::Alu => "alu.stations",
-        Kind::Mul => "mul.stations",
-        Kind::Div => "div.stations",
-        Kind::Mem => "mem.stations",
-    }
-}
-
-fn units_text(kind: Kind) -> &'static str
-    ensures { result.now ≡ joined (Some (kind_name kind)) (codes "units") }
-{
-    match kind {
-        Kind::Alu => "alu.units",
-        Kind::Mul => "mul.units",
-        Kind::Div => "div.units",
-        Kind::Mem => "mem.units",
-    }
-}
-
-fn latency_text(kind: Kind) -> &'static str
-    ensures { result.now ≡ joined (Some (kind_name kind)) (codes "latency") }
-{
-    match kind {
-        Kind::Alu => "alu.latency",
-        Kind::Mul => "mul.latency",
-        Kind::Div => "div.latency",
-        Kind::Mem => "mem.latency",
+    match (kind, key) {
+        (Kind::Alu, KindKey::Stations) => "alu.stations",
+        (Kind::Alu, KindKey::Units) => "alu.units",
+        (Kind::Alu, KindKey::Latency) => "alu.latency",
+        (Kind::Mul, KindKey::Stations) => "mul.stations",
+        (Kind::Mul, KindKey::Units) => "mul.units",
+        (Kind::Mul, KindKey::Latency) => "mul.latency",
+        (Kind::Div, KindKey::Stations) => "div.stations",
+        (Kind::Div, KindKey::Units) => "div.units",
+        (Kind::Div, KindKey::Latency) => "div.latency",
+        (Kind::Mem, KindKey::Stations) => "mem.stations",
+        (Kind::Mem, KindKey::Units) => "mem.units",
+        (Kind::Mem, KindKey::Latency) => "mem.latency",
     }
 }
 
@@ -177,10 +146,11 @@ fn kind_row(kind: Kind, key: KindKey) -> NumberRow
     ensures text { result.place.text.now ≡ joined (kind_row kind key).place.table (kind_row kind key).place.name }
 {
     let table = kind_name(kind);
+    let text = number_text(kind, key);
     match key {
-        KindKey::Stations => row(inside(table, "stations", stations_text(kind)), whole(1, 64)),
-        KindKey::Units => row(inside(table, "units", units_text(kind)), whole(1, 8)),
-        KindKey::Latency => row(inside(table, "latency", latency_text(kind)), whole(1, 64)),
+        KindKey::Stations => row(inside(table, "stations", text), Whole(1, 64)),
+        KindKey::Units => row(inside(table, "units", text), Whole(1, 8)),
+        KindKey::Latency => row(inside(table, "latency", text), Whole(1, 64)),
     }
 }
 
@@ -191,38 +161,38 @@ impl NumberKey {
         ensures text { result.place.text.now ≡ text_of (Key.Number self) }
     {
         match self {
-            NumberKey::RamBase => row(top("ram_base"), pages(0, 0xff00_0000)),
-            NumberKey::RamSize => row(top("ram_size"), pages(4096, 16_777_216)),
-            NumberKey::RomBytes => row(top("rom_bytes"), Bounds::Front),
-            NumberKey::FetchWidth => row(top("fetch_width"), whole(1, 8)),
-            NumberKey::DispatchWidth => row(top("dispatch_width"), whole(1, 8)),
-            NumberKey::CommitWidth => row(top("commit_width"), whole(1, 8)),
-            NumberKey::BusWidth => row(top("bus_width"), whole(1, 8)),
-            NumberKey::FetchBuffer => row(top("fetch_buffer"), whole(1, 32)),
-            NumberKey::Rob => row(top("rob"), whole(1, 256)),
-            NumberKey::StoreQueue => row(top("store_queue"), whole(1, 64)),
-            NumberKey::Forward => row(top("forward"), whole(1, 64)),
+            NumberKey::RamBase => row(top("ram_base"), Pages(0, 0xff00_0000)),
+            NumberKey::RamSize => row(top("ram_size"), Pages(4096, 16_777_216)),
+            NumberKey::RomBytes => row(top("rom_bytes"), Front),
+            NumberKey::FetchWidth => row(top("fetch_width"), Whole(1, 8)),
+            NumberKey::DispatchWidth => row(top("dispatch_width"), Whole(1, 8)),
+            NumberKey::CommitWidth => row(top("commit_width"), Whole(1, 8)),
+            NumberKey::BusWidth => row(top("bus_width"), Whole(1, 8)),
+            NumberKey::FetchBuffer => row(top("fetch_buffer"), Whole(1, 32)),
+            NumberKey::Rob => row(top("rob"), Whole(1, 256)),
+            NumberKey::StoreQueue => row(top("store_queue"), Whole(1, 64)),
+            NumberKey::Forward => row(top("forward"), Whole(1, 64)),
             NumberKey::OfKind(kind, key) => kind_row(kind, key),
-            NumberKey::CacheSets => row(inside("cache", "sets", "cache.sets"), powers(1, 256)),
-            NumberKey::CacheWays => row(inside("cache", "ways", "cache.ways"), whole(1, 16)),
-            NumberKey::CacheLine => row(inside("cache", "line", "cache.line"), powers(4, 128)),
-            NumberKey::CacheHit => row(inside("cache", "hit", "cache.hit"), whole(1, 16)),
-            NumberKey::CacheMiss => row(inside("cache", "miss", "cache.miss"), whole(0, 1000)),
+            NumberKey::CacheSets => row(inside("cache", "sets", "cache.sets"), Powers(1, 256)),
+            NumberKey::CacheWays => row(inside("cache", "ways", "cache.ways"), Whole(1, 16)),
+            NumberKey::CacheLine => row(inside("cache", "line", "cache.line"), Powers(4, 128)),
+            NumberKey::CacheHit => row(inside("cache", "hit", "cache.hit"), Whole(1, 16)),
+            NumberKey::CacheMiss => row(inside("cache", "miss", "cache.miss"), Whole(0, 1000)),
             NumberKey::CacheWriteBack => row(
                 inside("cache", "write_back", "cache.write_back"),
-                whole(0, 1000),
+                Whole(0, 1000),
             ),
             NumberKey::PredictorEntries => row(
                 inside("predictor", "entries", "predictor.entries"),
-                whole(1, 4096),
+                Whole(1, 4096),
             ),
             NumberKey::ReportDumpAddress => row(
                 inside("report", "dump_address", "report.dump_address"),
-                Bounds::Words,
+                Words,
             ),
             NumberKey::ReportDumpWords => row(
                 inside("report", "dump_words", "report.dump_words"),
-                whole(0, 256),
+                Whole(0, 256),
             ),
         }
     }

@@ -20,6 +20,7 @@ mod line_levels;
 mod lines;
 mod operands;
 mod operations;
+mod per_kind;
 mod registers;
 mod store_bytes;
 mod values;
@@ -43,6 +44,7 @@ pub use keys::{Key, KindKey, NumberKey, NumberRow, Place, all_keys, key_name};
 pub use lines::{Arrival, Line, Lines};
 pub use operands::{kind, sources, target};
 pub use operations::{AluOp, Condition, CsrOp, ImmediateOp, Kind, LoadForm, ShiftOp, Width};
+pub use per_kind::PerKind;
 pub use registers::Reg;
 pub use store_bytes::StoreBytes;
 pub use values::{

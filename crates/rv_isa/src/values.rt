@@ -1,5 +1,5 @@
 use crate::keys::{KindKey, NumberKey};
-use crate::operations::Kind;
+use crate::per_kind::PerKind;
 
 /// When a wrong prediction of a branch or a jump is mended.
 #[derive(Clone, Copy, Debug, PartialEq, Eq)]
@@ -97,10 +97,8 @@ pub struct Values {
     pub forward: u32,
     /// When wrong predictions are mended.
     pub recovery: Recovery,
-    pub alu: KindValues,
-    pub mul: KindValues,
-    pub div: KindValues,
-    pub mem: KindValues,
+    /// The units and stations of each kind.
+    pub kinds: PerKind<KindValues>,
     pub cache: CacheValues,
     pub predictor: PredictorValues,
     pub report: ReportValues,
@@ -125,7 +123,6 @@ impl KindValues {
 impl Values {
     ghost use Rattle.std.specs.Prelude.{◌≡◌};
     ghost use Rattle.rv_isa.specs.Standard.{standard_values};
-    ghost use Rattle.rv_isa.specs.Description.{kind_values};
     ghost use Rattle.rv_isa.specs.Key.{number_of};
 
     /// The values of a description that names no key.
@@ -145,29 +142,31 @@ impl Values {
             store_queue: 8,
             forward: 1,
             recovery: Recovery::Commit,
-            alu: KindValues {
-                stations: 4,
-                units: 2,
-                latency: 1,
-                pipelined: true,
-            },
-            mul: KindValues {
-                stations: 2,
-                units: 1,
-                latency: 3,
-                pipelined: true,
-            },
-            div: KindValues {
-                stations: 2,
-                units: 1,
-                latency: 16,
-                pipelined: false,
-            },
-            mem: KindValues {
-                stations: 4,
-                units: 1,
-                latency: 1,
-                pipelined: true,
+            kinds: PerKind {
+                alu: KindValues {
+                    stations: 4,
+                    units: 2,
+                    latency: 1,
+                    pipelined: true,
+                },
+                mul: KindValues {
+                    stations: 2,
+                    units: 1,
+                    latency: 3,
+                    pipelined: true,
+                },
+                div: KindValues {
+                    stations: 2,
+                    units: 1,
+                    latency: 16,
+                    pipelined: false,
+                },
+                mem: KindValues {
+                    stations: 4,
+                    units: 1,
+                    latency: 1,
+                    pipelined: true,
+                },
             },
             cache: CacheValues {
                 sets: 16,
@@ -204,7 +203,7 @@ impl Values {
             NumberKey::Rob => self.rob,
             NumberKey::StoreQueue => self.store_queue,
             NumberKey::Forward => self.forward,
-            NumberKey::OfKind(kind, key) => self.of_kind(kind).number(key),
+            NumberKey::OfKind(kind, key) => self.kinds.get(kind).number(key),
             NumberKey::CacheSets => self.cache.sets,
             NumberKey::CacheWays => self.cache.ways,
             NumberKey::CacheLine => self.cache.line,
@@ -216,30 +215,19 @@ impl Values {
             NumberKey::ReportDumpWords => self.report.dump_words,
         }
     }
-
-    /// The units and stations of a kind.
-    pub fn of_kind(&self, kind: Kind) -> KindValues
-        ensures { result ≡ kind_values self.now kind }
-    {
-        match kind {
-            Kind::Alu => self.alu,
-            Kind::Mul => self.mul,
-            Kind::Div => self.div,
-            Kind::Mem => self.mem,
-        }
-    }
 }
 
 #[cfg(test)]
 mod tests {
     use super::*;
+    use crate::operations::Kind;
 
     #[test]
     fn each_kind_has_its_own_values(rt: HostRuntime) {
         let values = Values::standard();
         let cases = [(2, 1, true), (1, 3, true), (1, 16, false), (1, 1, true)];
         for (kind, (units, latency, pipelined)) in Kind::ALL.into_iter().zip(cases) {
-            let found = values.of_kind(kind);
+            let found = values.kinds.get(kind);
             assert_eq!(rt;
                 (found.units, found.latency, found.pipelined),
                 (units, latency, pipelined)

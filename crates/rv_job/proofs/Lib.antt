@@ -4,3 +4,4 @@ pub mod HandedOn
 mod JobParts
 mod Places
 mod Reading
+mod SeparatorCount

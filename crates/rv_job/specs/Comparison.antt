@@ -1,16 +1,25 @@
 -- What a text says as a comparison: descriptions, each with a separator behind it, and a program; and why it is refused.
-use Rattle.std.specs.Prelude.{◌≡◌, ◌<◌, ℕ, ◌+◌, List, [], ◌∷◌, ◌++◌, length, ⊤, Some, None, Ok, Err}
+use Rattle.std.specs.Prelude.{◌≡◌, ◌≤◌, ◌<◌, count_by, ℕ, ◌+◌, List, [], ◌∷◌, ◌++◌, length, ⊤, Some, None, Ok, Err}
+use Rattle.std.specs.List.{slice_split}
 use Rattle.rv_isa.specs.declared.images.Image.{Image}
 use Rattle.rv_isa.specs.declared.values.Values.{Values}
 use Rattle.rv_describe.specs.Description.{description_of}
 use Rattle.rv_job.specs.Input.{most_bytes}
 use Rattle.rv_job.specs.JobText.{HasLegalLength, RefusesAssembly}
-use Rattle.rv_job.specs.Parts.{Halves, halves_of}
+use Rattle.rv_job.specs.Parts.{Halves, halves_of, is_line_feed, is_separator}
 use Rattle.rv_job.specs.TextImage.{Fits, IsImageOf}
 use Rattle.rv_job.specs.declared.comparison.Comparison.{Comparison}
 use Rattle.rv_job.specs.declared.errors.SimError.{SimError}
-use Rattle.rv_job.specs.declared.errors.SimError.TheVariants.{TooLong, Described, DoesNotFit, Memory}
+use Rattle.rv_job.specs.declared.errors.SimError.TheVariants.{TooLong, TooManyDescriptions, Described, DoesNotFit, Memory}
 use Rattle.rv_job.specs.declared.job.Job.{Job}
+
+-- the most machines that are compared
+abbrev pub most_machines : ℕ
+most_machines = 64
+
+-- how many lines of a text are separators: as many descriptions stand in front of a program
+abbrev pub separator_count : List ℕ → ℕ
+separator_count text = count_by is_separator (slice_split is_line_feed text)
 
 -- the front of a text describes machines, with a separator behind each description, and the rest stands behind the last of them
 pub data IsBehind (text : List ℕ) : List Values → List ℕ → Type 0 where
@@ -39,6 +48,7 @@ pub data AreLoaded (program : List ℕ) : List Values → List Job → Type 0 wh
 -- a comparison is what a text says
 pub record IsComparisonOf (text : List ℕ) (comparison : Comparison) : Type 0 where
   pub length : HasLegalLength text
+  pub number : separator_count text ≤ most_machines
   pub machines : List Values
   pub program : List ℕ
   pub compares : Compares text machines program
@@ -74,6 +84,9 @@ pub data RefusesLoading (program : List ℕ) : List Values → SimError → Type
 -- Why a text is refused as a comparison: what is tested earlier is without fault.
 pub data RefusesComparison (text : List ℕ) : SimError → Type 0 where
   too_long : most_bytes < length text → RefusesComparison text TooLong
-  descriptions : {error : SimError} → HasLegalLength text → RefusesDescriptions text error → RefusesComparison text error
-  program : {machines : List Values} {program : List ℕ} {error : SimError} → HasLegalLength text → Compares text machines program →
-      RefusesLoading program machines error → RefusesComparison text error
+  too_many : HasLegalLength text → most_machines < separator_count text → RefusesComparison text TooManyDescriptions
+  descriptions : {error : SimError} → HasLegalLength text → separator_count text ≤ most_machines →
+      RefusesDescriptions text error → RefusesComparison text error
+  program : {machines : List Values} {program : List ℕ} {error : SimError} → HasLegalLength text →
+      separator_count text ≤ most_machines → Compares text machines program → RefusesLoading program machines error →
+      RefusesComparison text error

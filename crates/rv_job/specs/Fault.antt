@@ -10,7 +10,7 @@ use Rattle.rv_describe.specs.declared.arrivals_error.ArrivalsError.TheVariants a
 use Rattle.rv_describe.specs.declared.description_error.DescriptionError.{DescriptionError}
 use Rattle.rv_describe.specs.declared.description_error.DescriptionError.TheVariants as described
 use Rattle.rv_job.specs.declared.errors.SimError.{SimError}
-use Rattle.rv_job.specs.declared.errors.SimError.TheVariants.{TooLong, Description, Described, Arrivals, Assembly, ImageDoesNotFit, DoesNotFit, Memory, WriteFailed}
+use Rattle.rv_job.specs.declared.errors.SimError.TheVariants.{TooLong, TooManyDescriptions, Description, Described, Arrivals, Assembly, ImageDoesNotFit, DoesNotFit, Memory, WriteFailed}
 use Rattle.rv_job.specs.declared.input.InputError.{InputError}
 use Rattle.rv_job.specs.declared.input.InputError.TheVariants as unread
 
@@ -69,6 +69,7 @@ unfit_line number = codes "error: image does not fit description " ++ (decimal n
 -- the line that tells a fault
 unfoldable pub fault_line : SimError → List ℕ
 fault_line TooLong = codes "error: job too long\n"
+fault_line TooManyDescriptions = codes "error: too many descriptions\n"
 fault_line (Description error) = description_line error
 fault_line (Described number error) = described_line number error
 fault_line (Arrivals error) = arrivals_line error
@@ -81,6 +82,7 @@ fault_line WriteFailed = codes "error: output\n"
 -- the exit status of a fault: 1 for a job that is refused, 4 where output failed, 5 for want of memory
 unfoldable pub fault_status : SimError → ℕ
 fault_status TooLong = 1
+fault_status TooManyDescriptions = 1
 fault_status (Description error) = 1
 fault_status (Described number error) = 1
 fault_status (Arrivals error) = 1

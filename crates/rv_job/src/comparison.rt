@@ -1,6 +1,6 @@
-ghost use Rattle.std.specs.Prelude.{◌≡◌, List, [], IfOk, IfErr, None, Ok};
+ghost use Rattle.std.specs.Prelude.{◌≡◌, ◌≤◌, List, [], IfOk, IfErr, None, Ok, length, nat_lt};
 ghost use Rattle.rv_describe.specs.Description.{description_of};
-ghost use Rattle.rv_job.specs.Comparison.{AreLoaded, Compares, IsBehind, IsComparisonOf, IsLoaded, RefusesComparison, RefusesDescribed, RefusesDescriptions, RefusesLoading, RefusesProgram};
+ghost use Rattle.rv_job.specs.Comparison.{AreLoaded, Compares, IsBehind, IsComparisonOf, IsLoaded, RefusesComparison, RefusesDescribed, RefusesDescriptions, RefusesLoading, RefusesProgram, most_machines, separator_count};
 ghost use Rattle.rv_job.specs.Parts.{halves_of};
 
 use crate::errors::SimError;
@@ -11,11 +11,29 @@ use rv_describe::{DescriptionError, read_description};
 use rv_isa::{Arrivals, Description};
 use std::alloc::Global;
 
-/// A program on each of some machines, without interrupt arrivals.
+/// The most machines that are compared.
+const MOST_MACHINES: usize = 64;
+
+/// A program on each of at most 64 machines, without interrupt arrivals.
 #[derive(Drop)]
 pub struct Comparison {
     /// One for each description, in their order.
     pub jobs: Vec<Job>,
+}
+
+// Whether a text has more separators than there may be descriptions.
+#[tactic(auto, using(crate::proofs::SeparatorCount::none_more))]
+fn has_too_many(text: &[u8]) -> bool
+    ensures { result ≡ nat_lt most_machines (separator_count text.entry.now) }
+{
+    let mut rest = text;
+    for _ in 0..MOST_MACHINES {
+        match cut_at_separator(rest) {
+            Some(halves) => rest = halves.behind,
+            None => return false,
+        }
+    }
+    cut_at_separator(rest).is_some()
 }
 
 // The machine that the description with a number describes. Fails by `Described` with its fault, and by `Memory`.
@@ -119,16 +137,21 @@ fn load_each(
 /// Reads a comparison: descriptions, with a line `%%` behind each one, and a program, which is assembled for each machine.
 /// A text without such a line is a program on the standard machine.
 ///
-/// Fails by `TooLong` for more than 33,554,432 bytes, by `Described` with the number, from 1, and the first fault of the
-/// first description that has one, and then for the first machine on which the program can't be run: by `Assembly` with
-/// the program's first fault there, or by `DoesNotFit` with the number of its description, where the image is longer than
-/// the RAM or its start is no multiple of 4; and by `Memory`. A line of assembly is counted from the program's first.
+/// Fails by `TooLong` for more than 33,554,432 bytes, by `TooManyDescriptions` for more than 64 lines `%%`, by `Described`
+/// with the number, from 1, and the first fault of the first description that has one, and then for the first machine on
+/// which the program can't be run: by `Assembly` with the program's first fault there, or by `DoesNotFit` with the number
+/// of its description, where the image is longer than the RAM or its start is no multiple of 4; and by `Memory`. A line of
+/// assembly is counted from the program's first.
 pub fn read_comparison(alloc: Global, text: &[u8]) -> Result<Comparison, SimError>
     ensures comparison { IfOk result (IsComparisonOf text.now) }
+    ensures few { IfOk result (λ comparison. length comparison.jobs.items ≤ most_machines) }
     ensures refused { IfErr result (RefusesComparison text.now) }
 {
     if text.len() > MOST_BYTES {
         return Err(SimError::TooLong);
+    }
+    if has_too_many(text) {
+        return Err(SimError::TooManyDescriptions);
     }
     let (descriptions, program) = read_machines(alloc, text)?;
     let jobs = load_each(alloc, program, descriptions.as_slice())?;

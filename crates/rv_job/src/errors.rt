@@ -6,12 +6,15 @@ use rv_text::ReportError;
 use std::alloc::AllocError;
 use thiserror::Error;
 
-/// Why a job was refused, or its report not written.
+/// Why a job or a comparison was refused, or what was asked of it was not done.
 #[derive(Clone, Copy, Debug, PartialEq, Eq, Error)]
 pub enum SimError {
-    /// The job has more than 33,554,432 bytes.
+    /// The text has more than 33,554,432 bytes.
     #[error("job too long")]
     TooLong,
+    /// More than 64 descriptions are to be compared.
+    #[error("too many descriptions")]
+    TooManyDescriptions,
     /// The fault of the description.
     #[error("description")]
     Description(DescriptionError),
@@ -38,7 +41,7 @@ pub enum SimError {
     /// Memory was refused.
     #[error("memory")]
     Memory,
-    /// A write of the report answered an error, or took nothing.
+    /// A write answered an error, or took nothing.
     #[error("output")]
     WriteFailed,
 }

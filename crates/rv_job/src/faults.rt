@@ -122,6 +122,7 @@ pub(crate) fn write_fault<W: Write>(writer: &mut W, error: SimError) -> Result<(
 {
     match error {
         SimError::TooLong => put(writer, b"error: job too long\n"),
+        SimError::TooManyDescriptions => put(writer, b"error: too many descriptions\n"),
         SimError::Description(error) => write_description_fault(writer, error),
         SimError::Described { number, error } => write_described_fault(writer, number, error),
         SimError::Arrivals(error) => write_arrivals_fault(writer, error),
@@ -149,6 +150,7 @@ pub(crate) fn fault_status(error: SimError) -> u8
 {
     match error {
         SimError::TooLong
+        | SimError::TooManyDescriptions
         | SimError::Description(_)
         | SimError::Described { .. }
         | SimError::Arrivals(_)

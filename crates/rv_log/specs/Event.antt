@@ -21,30 +21,36 @@ fetched_text listing passage = appearance_text listing passage ++ stage_line pas
 unfoldable pub fetch_at : Listed → ℕ → Passage → List ℕ
 fetch_at listing cycle passage = if passage.fetched == cycle then fetched_text listing passage else []
 
--- its last stage is the retirement
-unfoldable pub retired_text : ℕ → ℕ → List ℕ
-retired_text number order = stage_line number stage.Retirement ++ retirement_line number order
+-- the cycle of its retirement
+abbrev pub retired_in : Ending → Option ℕ
+retired_in (Retired order cycle written) = Some cycle
+retired_in InFlight = None
+retired_in (Trapped cycle cause) = None
+retired_in (Squashed cycle) = None
 
--- that in the cycle of its retirement
-unfoldable pub retirement_at : ℕ → ℕ → ℕ → ℕ → List ℕ
-retirement_at cycle number order retired = if retired == cycle then retired_text number order else []
-
--- it is flushed in one cycle
-unfoldable pub flush_at : ℕ → ℕ → ℕ → List ℕ
-flush_at cycle number flushed = if flushed == cycle then flush_line number else []
-
--- it leaves the hardware: what trapped is flushed as what was squashed is
-unfoldable pub end_at : ℕ → ℕ → Ending → List ℕ
-end_at cycle number InFlight = []
-end_at cycle number (Retired order retired written) = retirement_at cycle number order retired
-end_at cycle number (Trapped trapped cause) = flush_at cycle number trapped
-end_at cycle number (Squashed squashed) = flush_at cycle number squashed
-
--- all that became of an instruction in a cycle
+-- all that became of an instruction in a cycle; its last stage is the retirement
 unfoldable pub events_at : Listed → ℕ → Passage → List ℕ
 events_at listing cycle passage =
     fetch_at listing cycle passage ++
     (stage_at cycle passage.number stage.Dispatch passage.dispatched ++
     (stage_at cycle passage.number stage.Issue passage.issued ++
     (stage_at cycle passage.number stage.Broadcast passage.broadcast ++
-    end_at cycle passage.number passage.ending)))
+    stage_at cycle passage.number stage.Retirement (retired_in passage.ending))))
+
+-- it retired in one cycle, so many before it
+unfoldable pub retirement_at : ℕ → ℕ → ℕ → ℕ → List ℕ
+retirement_at cycle number order retired = if retired == cycle then retirement_line number order else []
+
+-- it was flushed in one cycle
+unfoldable pub flush_at : ℕ → ℕ → ℕ → List ℕ
+flush_at cycle number flushed = if flushed == cycle then flush_line number else []
+
+-- how it left the hardware in a cycle: what trapped is flushed as what was squashed is
+unfoldable pub end_at : ℕ → ℕ → Ending → List ℕ
+end_at cycle number InFlight = []
+end_at cycle number (Retired order retired written) = retirement_at cycle number order retired
+end_at cycle number (Trapped trapped cause) = flush_at cycle number trapped
+end_at cycle number (Squashed squashed) = flush_at cycle number squashed
+
+unfoldable pub left_at : ℕ → Passage → List ℕ
+left_at cycle passage = end_at cycle passage.number passage.ending

@@ -1,6 +1,5 @@
 -- The log of a run in Konata's format, version 0004.
-use Rattle.std.specs.Prelude.{◌≡◌, ℕ, List, [], ◌∷◌, ◌++◌, codes, decimal, Option, Result, Ok, Err}
-use Rattle.std.specs.Io.KnownBytes.{Appends}
+use Rattle.std.specs.Prelude.{◌≡◌, ℕ, List, [], ◌∷◌, ◌++◌, codes, decimal, Option, Result}
 use Rattle.std.specs.List.{flat_map}
 use Rattle.rv_isa.specs.Arrivals.{lines_at}
 use Rattle.rv_isa.specs.declared.lines.Arrival.{Arrival}
@@ -12,11 +11,9 @@ use Rattle.rv_hardware.specs.Run.{Cycles, IsStop}
 use Rattle.rv_passage.specs.Table.{Passages, after_cycle, still_open, table_at}
 use Rattle.rv_passage.specs.declared.passage.Passage.{Passage}
 use Rattle.rv_source.specs.Listing.{Listed}
-use Rattle.rv_text.specs.Written.{AppendsBeginning, IsWritten}
+use Rattle.rv_text.specs.Written.{IsWritten}
 use Rattle.rv_log.specs.Command.{appearance_text}
-use Rattle.rv_log.specs.Event.{events_at}
-use Rattle.rv_log.specs.declared.error.LogError.{LogError}
-use Rattle.rv_log.specs.declared.error.LogError.TheVariants.{Memory, WriteFailed}
+use Rattle.rv_log.specs.Event.{events_at, left_at}
 
 -- the format, and the number of the first cycle
 unfoldable pub head_text : ℕ → List ℕ
@@ -26,9 +23,11 @@ head_text cycle = codes "Kanata\t0004\nC=\t" ++ (decimal cycle ++ codes "\n")
 unfoldable pub begin_text : Listed → ℕ → List Passage → List ℕ
 begin_text listing cycle rows = head_text cycle ++ flat_map (appearance_text listing) rows
 
--- a cycle: what became of each instruction in it, and then it passes
+-- a cycle: what became of each instruction in it, that it passes, and then what left the hardware in it, whose last stage lasts to its
+-- end
 unfoldable pub cycle_text : Listed → ℕ → List Passage → List ℕ
-cycle_text listing cycle rows = flat_map (events_at listing cycle) rows ++ codes "C\t1\n"
+cycle_text listing cycle rows =
+    flat_map (events_at listing cycle) rows ++ (codes "C\t1\n" ++ flat_map (left_at cycle) rows)
 
 -- the number of a cycle, and the instructions at its end, those that left the hardware in it among them
 pub record Moment : Type 0 where
@@ -66,11 +65,3 @@ pub record IsLog (arrivals : List Arrival) (limit : ℕ) (listing : Listed) (old
 abbrev pub WritesLog : {T E : Type 0} → List Arrival → ℕ → Listed → Hardware → Hardware → Stop → Result T E → Option (List ℕ) → Option (List ℕ) → Type 0
 WritesLog arrivals limit listing old new stop written before after =
     (text : List ℕ) × IsLog arrivals limit listing old new stop text × IsWritten written before after text
-
--- the log is written, or a beginning of it where a write failed, or nothing is done for want of memory
-abbrev pub IsLogged : List Arrival → ℕ → Listed → Hardware → Hardware → Result Stop LogError → Option (List ℕ) → Option (List ℕ) → Type 0
-IsLogged arrivals limit listing old new (Ok stop) before after =
-    (text : List ℕ) × IsLog arrivals limit listing old new stop text × Appends before after text
-IsLogged arrivals limit listing old new (Err WriteFailed) before after =
-    (stop : Stop) × (text : List ℕ) × IsLog arrivals limit listing old new stop text × AppendsBeginning before after text
-IsLogged arrivals limit listing old new (Err Memory) before after = (new ≡ old) × (after ≡ before)

@@ -1,10 +1,10 @@
 -- The statement of an instruction, as a log shows it.
-use Rattle.std.specs.Prelude.{ℕ, List}
+use Rattle.std.specs.Prelude.{ℕ, List, take}
 use Rattle.rv_passage.specs.declared.passage.Passage.{Passage}
 use Rattle.rv_source.specs.Listing.{Listed}
 use Rattle.rv_source.specs.Statement.{statement_at}
 use Rattle.rv_text.specs.Plain.{plain_text}
 
--- the text of the line that it comes from, or the word that was fetched, in printing characters
+-- the text of the line that it comes from, or the word that was fetched, at most 64 bytes of it, in printing characters
 abbrev pub statement_text : Listed → Passage → List ℕ
-statement_text listing passage = plain_text (statement_at listing passage.pc passage.word)
+statement_text listing passage = plain_text (take 64 (statement_at listing passage.pc passage.word))

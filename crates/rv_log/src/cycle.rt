@@ -1,11 +1,11 @@
 ghost use Rattle.std.specs.List.{flat_map};
 ghost use Rattle.rv_log.specs.Command.{appearance_text};
-ghost use Rattle.rv_log.specs.Event.{events_at};
+ghost use Rattle.rv_log.specs.Event.{events_at, left_at};
 ghost use Rattle.rv_log.specs.Log.{head_text, begin_text, cycle_text};
 ghost use Rattle.rv_text.specs.Written.{IsWritten};
 
 use crate::command::write_appearance;
-use crate::event::write_events;
+use crate::event::{write_events, write_left};
 use itoa::Buffer;
 use rv_passage::Passage;
 use rv_source::Listing;
@@ -61,6 +61,15 @@ fn write_rows<W: Write>(
     Ok(())
 }
 
+fn write_leaving<W: Write>(writer: &mut W, cycle: u64, rows: &[Passage]) -> Result<(), ReportError>
+    ensures { IsWritten result (W.contents writer.old) (W.contents writer.new) (flat_map (left_at cycle) rows.now) }
+{
+    for row in rows {
+        write_left(writer, cycle, row)?;
+    }
+    Ok(())
+}
+
 /// Writes what a cycle did, where these are the instructions at its end, those that left the hardware in it among them.
 pub(crate) fn write_cycle<W: Write>(
     writer: &mut W,
@@ -71,5 +80,6 @@ pub(crate) fn write_cycle<W: Write>(
     ensures { IsWritten result (W.contents writer.old) (W.contents writer.new) (cycle_text listing.now cycle rows.now) }
 {
     write_rows(writer, listing, cycle, rows)?;
-    put(writer, b"C\t1\n")
+    put(writer, b"C\t1\n")?;
+    write_leaving(writer, cycle, rows)
 }

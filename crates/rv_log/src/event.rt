@@ -1,4 +1,5 @@
-ghost use Rattle.rv_log.specs.Event.{stage_at, fetched_text, fetch_at, retired_text, retirement_at, flush_at, end_at, events_at};
+ghost use Rattle.std.specs.Prelude.{◌≡◌};
+ghost use Rattle.rv_log.specs.Event.{stage_at, fetched_text, fetch_at, retired_in, retirement_at, flush_at, end_at, left_at, events_at};
 ghost use Rattle.rv_text.specs.Written.{IsWritten};
 
 use crate::command::{write_appearance, write_flush, write_retirement, write_stage};
@@ -59,11 +60,14 @@ fn write_fetch_at<W: Write>(
     }
 }
 
-fn write_retired<W: Write>(writer: &mut W, number: u64, order: u64) -> Result<(), ReportError>
-    ensures { IsWritten result (W.contents writer.old) (W.contents writer.new) (retired_text number order) }
+// The cycle in which an instruction retired.
+fn retired(ending: Ending) -> Option<u64>
+    ensures { result ≡ retired_in ending }
 {
-    write_stage(writer, number, Stage::Retirement)?;
-    write_retirement(writer, number, order)
+    match ending {
+        Ending::Retired { cycle, .. } => Some(cycle),
+        Ending::InFlight | Ending::Trapped { .. } | Ending::Squashed { .. } => None,
+    }
 }
 
 // Writes the retirement of an instruction, where it came in this cycle.
@@ -78,7 +82,7 @@ fn write_retirement_at<W: Write>(
     ensures { IsWritten result (W.contents writer.old) (W.contents writer.new) (retirement_at cycle number order retired) }
 {
     if retired == cycle {
-        write_retired(writer, number, order)
+        write_retirement(writer, number, order)
     } else {
         Ok(())
     }
@@ -136,5 +140,23 @@ pub(crate) fn write_events<W: Write>(
     write_stage_at(writer, cycle, row.number, Stage::Dispatch, row.dispatched)?;
     write_stage_at(writer, cycle, row.number, Stage::Issue, row.issued)?;
     write_stage_at(writer, cycle, row.number, Stage::Broadcast, row.broadcast)?;
+    write_stage_at(
+        writer,
+        cycle,
+        row.number,
+        Stage::Retirement,
+        retired(row.ending),
+    )
+}
+
+/// Writes how an instruction left the hardware, where it did in a cycle.
+#[tactic(auto, unfolding(crate::specs::Event::left_at))]
+pub(crate) fn write_left<W: Write>(
+    writer: &mut W,
+    cycle: u64,
+    row: &Passage,
+) -> Result<(), ReportError>
+    ensures { IsWritten result (W.contents writer.old) (W.contents writer.new) (left_at cycle row.now) }
+{
     write_end_at(writer, cycle, row.number, row.ending)
 }

@@ -4,7 +4,6 @@
 
 mod command;
 mod cycle;
-mod error;
 mod event;
 mod running;
 mod stage;
@@ -13,5 +12,4 @@ mod statement;
 mod tests;
 mod written;
 
-pub use error::LogError;
 pub use written::write_log;

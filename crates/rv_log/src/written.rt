@@ -1,13 +1,14 @@
-ghost use Rattle.rv_log.specs.Log.{IsLogged};
+ghost use Rattle.std.specs.Prelude.{◌≡◌, Err};
+ghost use Rattle.rv_log.specs.Log.{IsLog};
+ghost use Rattle.rv_text.specs.IsText.{IsText};
 
-use crate::error::LogError;
 use crate::running::run_logged;
 use rv_arch::Stop;
 use rv_core::Core;
 use rv_isa::Arrivals;
 use rv_passage::Table;
 use rv_source::Listing;
-use rv_text::ReportError;
+use rv_text::{ReportError, TextError};
 use std::alloc::Global;
 use std::io::Write;
 
@@ -28,18 +29,19 @@ pub fn write_log<W: Write>(
     limit: u64,
     listing: &Listing,
     writer: &mut W,
-) -> Result<Stop, LogError>
-    ensures { IsLogged arrivals.now limit listing.now core.old core.new result (W.contents writer.old) (W.contents writer.new) }
+) -> Result<Stop, TextError>
+    ensures written { IsText (IsLog arrivals.now limit listing.now core.old core.new) result (W.contents writer.old) (W.contents writer.new) }
+    ensures not_run { result ≡ Err TextError.Memory → core.new ≡ core.old }
 {
     let Ok(table) = Table::begin(alloc, core) else {
-        return Err(LogError::Memory);
+        return Err(TextError::Memory);
     };
     let Ok(steps) = Vec::with_capacity(alloc, 8) else {
-        return Err(LogError::Memory);
+        return Err(TextError::Memory);
     };
     let ended = run_logged(core, arrivals, limit, listing, table, steps, writer);
     match ended.written {
         Ok(()) => Ok(ended.stop),
-        Err(ReportError::WriteFailed) => Err(LogError::WriteFailed),
+        Err(ReportError::WriteFailed) => Err(TextError::WriteFailed),
     }
 }

@@ -1,6 +1,6 @@
 -- A run under way whose instructions are followed: one more cycle of it, and its end.
 use Rattle.std.proofs.Common.{◌≡◌, ◌∙◌, ℕ, ◌+◌, ◌*◌, ◌^◌, ◌<◌, ◌≤◌, Bool, true, false, List, [], ◌∷◌, ◌++◌, length, Option, Some, None, refl, sym, ap, subst, arith, length-append}
-use Rattle.std.specs.Prelude.{IfOk, Result, Ok, Err}
+use Rattle.std.specs.Prelude.{IfOk, OnErr, Result, Ok, Err}
 use Rattle.rv_isa.specs.declared.lines.Arrival.{Arrival}
 use Rattle.rv_arch.specs.declared.outcome.Stop.{Stop}
 use Rattle.rv_arch.specs.declared.outcome.Stop.TheVariants as stop
@@ -10,7 +10,7 @@ use Rattle.rv_core.specs.declared.outcome.Progress.{Progress}
 use Rattle.rv_core.proofs.RunReports.{IsUnderWay, counted_now, goes_now, listed_now, progress-bounded, reports_now}
 use Rattle.rv_core.proofs.RunStops.{is_stop}
 use Rattle.rv_hardware.specs.Hardware.{Hardware}
-use Rattle.rv_hardware.specs.Run.{Cycles, ended, IsStop, NoneStops}
+use Rattle.rv_hardware.specs.Run.{Cycles, cycled, ended, IsStop, NoneStops}
 use Rattle.rv_hardware.specs.Report.{Report}
 use Rattle.rv_hardware.specs.declared.step.Step.{Step}
 use Rattle.rv_hardware.proofs.HeadlineReached.{cycles_counted}
@@ -18,7 +18,7 @@ use Rattle.rv_passage.specs.Follows.{Follows, begun, followed}
 use Rattle.rv_passage.specs.Passage.{in_flight}
 use Rattle.rv_passage.specs.Table.{CanCount, Passages, after_cycle, numbered_from, table_at}
 use Rattle.rv_passage.specs.declared.passage.Passage.{Passage}
-use Rattle.rv_picture.specs.Recording.{IsFollowed, IsShownIf}
+use Rattle.rv_picture.specs.Recording.{HasRun, IsFollowed, IsShownIf}
 use Rattle.rv_picture.specs.declared.window.Window.{Window}
 
 pub NoneStops-push : (reports : List Report) (last : Report) → NoneStops reports → last.stop ≡ None → NoneStops (reports ++ last ∷ [])
@@ -33,6 +33,29 @@ length-numbered_from number (p ∷ ps) = omega (arith, length-numbered_from (num
 pub if_ok_by : {T E : Type 0} {P Q : T → Type 0} (r : Result T E) → ((x : T) → P x → Q x) → IfOk r P → IfOk r Q
 if_ok_by (Ok value) then fact = then value fact
 if_ok_by (Err error) then fact = tt
+
+-- what holds of an error
+pub on_err : {T E P : Type 0} (r : Result T E) → P → OnErr r P
+on_err (Ok value) holds = tt
+on_err (Err error) holds = holds
+
+pub on_err_by : {T E P Q : Type 0} (r : Result T E) → (P → Q) → OnErr r P → OnErr r Q
+on_err_by (Ok value) then holds = tt
+on_err_by (Err error) then holds = then holds
+
+-- cycles, and more behind them
+cycles_on : {arrivals : List Arrival} {old middle new : Hardware} {reports more : List Report} → Cycles arrivals old reports middle → Cycles arrivals middle more new → Cycles arrivals old (reports ++ more) new
+cycles_on ended behind = behind
+cycles_on (cycled cycle rest) behind = cycled cycle (cycles_on rest behind)
+
+pub has_not_run : (arrivals : List Arrival) (h : Hardware) → HasRun arrivals h h
+has_not_run arrivals h = ([], ended)
+
+pub has_run : {arrivals : List Arrival} {old new : Hardware} {reports : List Report} → Cycles arrivals old reports new → HasRun arrivals old new
+has_run {reports = reports} goes = (reports, goes)
+
+pub has_run_on : {arrivals : List Arrival} {old middle new : Hardware} → HasRun arrivals old middle → HasRun arrivals middle new → HasRun arrivals old new
+has_run_on (reports, goes) (more, behind) = (reports ++ more, cycles_on goes behind)
 
 module _ (arrivals : List Arrival) where
   -- cycles under way, whatever their steps

@@ -1,6 +1,5 @@
 -- The picture of a window of a run.
-use Rattle.std.specs.Prelude.{◌≡◌, ℕ, List, Option, Result, Ok, Err}
-use Rattle.std.specs.Io.KnownBytes.{Appends}
+use Rattle.std.specs.Prelude.{◌≡◌, ℕ, List}
 use Rattle.rv_isa.specs.declared.lines.Arrival.{Arrival}
 use Rattle.rv_arch.specs.declared.outcome.Stop.{Stop}
 use Rattle.rv_hardware.specs.Hardware.{Hardware}
@@ -11,10 +10,7 @@ use Rattle.rv_picture.specs.SvgPicture.{svg_picture}
 use Rattle.rv_picture.specs.TextPicture.{text_picture}
 use Rattle.rv_picture.specs.declared.picture.Form.{Form}
 use Rattle.rv_picture.specs.declared.picture.Form.TheVariants.{Text, Svg}
-use Rattle.rv_picture.specs.declared.picture.PictureError.{PictureError}
-use Rattle.rv_picture.specs.declared.picture.PictureError.TheVariants.{Memory, WriteFailed}
 use Rattle.rv_picture.specs.declared.window.Window.{Window}
-use Rattle.rv_text.specs.Written.{AppendsBeginning}
 
 -- the picture of a table in a form
 abbrev pub picture_of : Form → Passages → Listed → Window → List ℕ
@@ -27,11 +23,3 @@ pub record IsPicture (arrivals : List Arrival) (from limit : ℕ) (form : Form) 
   pub window : Window
   pub recording : IsRecording arrivals from limit old new table window stop
   pub text_is : text ≡ picture_of form table listing window
-
--- the picture is written, or a beginning of it where a write failed, or nothing for want of memory
-abbrev pub IsPictured : List Arrival → ℕ → ℕ → Form → Listed → Hardware → Hardware → Result Stop PictureError → Option (List ℕ) → Option (List ℕ) → Type 0
-IsPictured arrivals from limit form listing old new (Ok stop) before after =
-    (text : List ℕ) × IsPicture arrivals from limit form listing old new stop text × Appends before after text
-IsPictured arrivals from limit form listing old new (Err WriteFailed) before after =
-    (stop : Stop) × (text : List ℕ) × IsPicture arrivals from limit form listing old new stop text × AppendsBeginning before after text
-IsPictured arrivals from limit form listing old new (Err Memory) before after = after ≡ before

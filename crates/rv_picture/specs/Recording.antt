@@ -10,6 +10,10 @@ use Rattle.rv_passage.specs.Follows.{Follows}
 use Rattle.rv_passage.specs.Table.{Passages, table_at}
 use Rattle.rv_picture.specs.declared.window.Window.{Window}
 
+-- some cycles, each with the lines of its number, and nothing else
+abbrev pub HasRun : List Arrival → Hardware → Hardware → Type 0
+HasRun arrivals old new = (reports : List Report) × Cycles arrivals old reports new
+
 -- cycles from some hardware on until they end for a reason, at most so many, and what became of the instructions in them
 pub record IsFollowed (arrivals : List Arrival) (limit : ℕ) (old new : Hardware) (table : Passages) (window : Window) (stop : Stop) : Type 0 where
   pub reports : List Report

@@ -6,7 +6,7 @@ use rv_passage::{Ending, Passage};
 
 /// What the hardware did with an instruction in a cycle.
 #[derive(Clone, Copy, Debug, PartialEq, Eq)]
-pub enum Cell {
+pub(crate) enum Cell {
     Fetch,
     Dispatch,
     Issue,

@@ -1,4 +1,4 @@
-ghost use Rattle.std.specs.Prelude.{◌≡◌, ◌-◌, take};
+ghost use Rattle.std.specs.Prelude.{◌≡◌, ◌-◌};
 ghost use Rattle.std.specs.List.{flat_map};
 ghost use Rattle.rv_picture.specs.Label.{blanks, markup_byte, statement_of, written_by, written_text, padded};
 ghost use Rattle.rv_text.specs.Written.{IsWritten};
@@ -7,7 +7,7 @@ use itoa::Buffer;
 use rv_isa::Reg;
 use rv_passage::{Ending, Passage};
 use rv_source::Listing;
-use rv_text::{ReportError, hexadecimal, put, put_all, write_plain_byte};
+use rv_text::{ReportError, front, hexadecimal, put, put_all, write_plain_byte};
 use std::io::Write;
 
 // So many blanks, at most 40.
@@ -42,17 +42,6 @@ pub(crate) fn write_padded<W: Write>(
     write_blanks(writer, width, text.len())
 }
 
-// The first 32 bytes of a text.
-fn cut(text: &[u8]) -> &[u8]
-    ensures { result.now ≡ take 32 text.now }
-{
-    if text.len() <= 32 {
-        return text;
-    }
-    let (front, _) = text.split_at(32);
-    front
-}
-
 /// The statement of an instruction, at most 32 bytes of it. A word that is shown in its place stands in the buffer.
 pub(crate) fn statement<'a>(
     buffer: &'a mut [u8; 8],
@@ -61,7 +50,7 @@ pub(crate) fn statement<'a>(
 ) -> &'a [u8]
     ensures { result.now ≡ statement_of listing.now row.now }
 {
-    cut(listing.statement(buffer, row.pc, row.word))
+    front(listing.statement(buffer, row.pc, row.word), 32)
 }
 
 #[tactic(auto, unfolding(crate::specs::Label::markup_byte))]

@@ -16,9 +16,5 @@ mod text;
 mod window;
 mod written;
 
-pub use picture::{Form, PictureError};
-pub use recording::{Recording, record_window};
-pub use svg::write_picture_svg;
-pub use text::write_picture_text;
-pub use window::Window;
+pub use picture::Form;
 pub use written::write_picture;

@@ -6,12 +6,3 @@ pub enum Form {
     /// One SVG.
     Svg,
 }
-
-/// Why a picture was not written whole.
-#[derive(Clone, Copy, Debug, PartialEq, Eq)]
-pub enum PictureError {
-    /// There was no memory, and nothing was written.
-    Memory,
-    /// A write answered an error, or took nothing: what was written is a beginning of the picture.
-    WriteFailed,
-}

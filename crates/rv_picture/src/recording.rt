@@ -1,8 +1,8 @@
-ghost use Rattle.std.specs.Prelude.{◌≡◌, List, IfOk};
+ghost use Rattle.std.specs.Prelude.{◌≡◌, List, IfOk, OnErr};
 ghost use Rattle.rv_hardware.specs.Report.{Report};
 ghost use Rattle.rv_hardware.specs.Run.{Cycles, IsStop};
 ghost use Rattle.rv_passage.specs.Table.{passages_of};
-ghost use Rattle.rv_picture.specs.Recording.{IsFollowed, IsOver, IsRecording, is_limit};
+ghost use Rattle.rv_picture.specs.Recording.{HasRun, IsFollowed, IsOver, IsRecording, is_limit};
 
 use crate::window::Window;
 use rv_arch::Stop;
@@ -13,13 +13,13 @@ use std::alloc::{AllocError, Global};
 
 /// What became of the instructions in some cycles of a run.
 #[derive(Debug, Drop)]
-pub struct Recording {
+pub(crate) struct Recording {
     /// The instructions, those that were in flight before the cycles too, and the interrupts.
-    pub table: Table,
+    pub(crate) table: Table,
     /// The cycles.
-    pub window: Window,
+    pub(crate) window: Window,
     /// Why the run ended.
-    pub stop: Stop,
+    pub(crate) stop: Stop,
 }
 
 // Runs a core up to so many cycles. Answers why the run ended.
@@ -29,7 +29,8 @@ fn run_on(
     arrivals: &Arrivals,
     limit: u64,
 ) -> Result<Stop, AllocError>
-    ensures { IfOk result (λ stop. (reports : List Report) × Cycles arrivals.now core.old reports core.new × IsStop limit reports core.new stop) }
+    ensures stop { IfOk result (λ stop. (reports : List Report) × Cycles arrivals.now core.old reports core.new × IsStop limit reports core.new stop) }
+    ensures run { OnErr result (HasRun arrivals.now core.old core.new) }
 {
     let mut steps = Vec::with_capacity(alloc, 8)?;
     let mut progress = Progress::new();
@@ -52,7 +53,8 @@ fn follow(
     arrivals: &Arrivals,
     limit: u64,
 ) -> Result<Recording, AllocError>
-    ensures { IfOk result (λ recording. IsFollowed arrivals.now limit core.old core.new (passages_of recording.table) recording.window recording.stop) }
+    ensures followed { IfOk result (λ recording. IsFollowed arrivals.now limit core.old core.new (passages_of recording.table) recording.window recording.stop) }
+    ensures run { OnErr result (HasRun arrivals.now core.old core.new) }
 {
     let first = core.cycles_done();
     let mut table = Table::begin(alloc, core)?;
@@ -103,14 +105,15 @@ fn nothing_shown(alloc: Global, core: &Core, stop: Stop) -> Result<Recording, Al
 /// cycle is recorded.
 ///
 /// Fails by want of memory alone; memory is asked for before each cycle, and the core stands at the end of a cycle then.
-pub fn record_window(
+pub(crate) fn record_window(
     alloc: Global,
     core: &mut Core,
     arrivals: &Arrivals,
     from: u64,
     limit: u64,
 ) -> Result<Recording, AllocError>
-    ensures { IfOk result (λ recording. IsRecording arrivals.now from limit core.old core.new (passages_of recording.table) recording.window recording.stop) }
+    ensures recording { IfOk result (λ recording. IsRecording arrivals.now from limit core.old core.new (passages_of recording.table) recording.window recording.stop) }
+    ensures run { OnErr result (HasRun arrivals.now core.old core.new) }
 {
     let stop = run_on(alloc, core, arrivals, from)?;
     if is_limit(stop) {

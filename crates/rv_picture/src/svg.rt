@@ -326,7 +326,7 @@ fn write_shown<W: Write>(
 /// box for each cell, a line for each interrupt, and a legend. Asks for no memory. Fails by `WriteFailed` alone, and what
 /// was written is then a beginning of the picture.
 #[tactic(auto, unfolding(crate::specs::SvgPicture::svg_picture))]
-pub fn write_picture_svg<W: Write>(
+pub(crate) fn write_picture_svg<W: Write>(
     rows: &[Passage],
     interrupts: &[u64],
     listing: &Listing,

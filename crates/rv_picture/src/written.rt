@@ -1,9 +1,11 @@
-ghost use Rattle.std.specs.Prelude.{◌+◌, ◌<◌, ◌^◌};
+ghost use Rattle.std.specs.Prelude.{◌≡◌, ◌+◌, ◌<◌, ◌^◌, Err};
 ghost use Rattle.rv_passage.specs.Table.{passages_of};
-ghost use Rattle.rv_picture.specs.Picture.{IsPictured, picture_of};
+ghost use Rattle.rv_picture.specs.Picture.{IsPicture, picture_of};
+ghost use Rattle.rv_picture.specs.Recording.{HasRun};
+ghost use Rattle.rv_text.specs.IsText.{IsText};
 ghost use Rattle.rv_text.specs.Written.{IsWritten};
 
-use crate::picture::{Form, PictureError};
+use crate::picture::Form;
 use crate::recording::{Recording, record_window};
 use crate::svg::write_picture_svg;
 use crate::text::write_picture_text;
@@ -11,7 +13,7 @@ use rv_arch::Stop;
 use rv_core::Core;
 use rv_isa::Arrivals;
 use rv_source::Listing;
-use rv_text::ReportError;
+use rv_text::{ReportError, TextError};
 use std::alloc::Global;
 use std::io::Write;
 
@@ -21,7 +23,7 @@ use std::io::Write;
 ///
 /// # Errors
 ///
-/// `Memory` for want of memory: then nothing was written. `WriteFailed` where a write fails: then what was written is a
+/// `Memory` for want of memory: then nothing was written, and the core stands behind some of the cycles. `WriteFailed` where a write fails: then what was written is a
 /// beginning of the picture.
 pub fn write_picture<W: Write>(
     alloc: Global,
@@ -32,17 +34,18 @@ pub fn write_picture<W: Write>(
     form: Form,
     listing: &Listing,
     writer: &mut W,
-) -> Result<Stop, PictureError>
-    ensures { IsPictured arrivals.now from limit form listing.now core.old core.new result (W.contents writer.old) (W.contents writer.new) }
+) -> Result<Stop, TextError>
+    ensures written { IsText (IsPicture arrivals.now from limit form listing.now core.old core.new) result (W.contents writer.old) (W.contents writer.new) }
+    ensures run { result ≡ Err TextError.Memory → HasRun arrivals.now core.old core.new }
 {
     let Ok(recording) = record_window(alloc, core, arrivals, from, limit) else {
-        return Err(PictureError::Memory);
+        return Err(TextError::Memory);
     };
     // No core counts more cycles than a window can number.
     let _ = core.is_exhausted();
     match write_recording(&recording, form, listing, writer) {
         Ok(()) => Ok(recording.stop),
-        Err(ReportError::WriteFailed) => Err(PictureError::WriteFailed),
+        Err(ReportError::WriteFailed) => Err(TextError::WriteFailed),
     }
 }
 

@@ -1,5 +1,6 @@
-//! The reports of a run, as text: what a run of the core or of the one-at-a-time machine did, and the state that it left.
-//! A report is a function of both; where a write fails, what was written is a beginning of it.
+//! The reports of a run, as text: what a run of the core or of the one-at-a-time machine did, and the state that it left;
+//! and the table that compares runs by what they came to. A report is a function of the run and the state, a table of the
+//! runs' totals; where a write fails, what was written is a beginning of it.
 #![tactic(auto)]
 
 mod comparison;

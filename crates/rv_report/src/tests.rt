@@ -1,2 +1,3 @@
 mod cut_short;
+mod reports;
 mod tables;

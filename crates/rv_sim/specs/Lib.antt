@@ -1,3 +1,4 @@
+pub mod Answer
 pub mod Program
 pub mod ReferenceReport
 pub mod SimulationReport

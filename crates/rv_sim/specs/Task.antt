@@ -14,7 +14,7 @@ use Rattle.rv_job.specs.JobRefusal.{RefusesJob}
 use Rattle.rv_job.specs.JobText.{IsJobOf}
 use Rattle.rv_job.specs.ListedJob.{IsListedJobOf}
 use Rattle.rv_job.specs.declared.errors.SimError.{SimError}
-use Rattle.rv_job.specs.declared.errors.SimError.TheVariants.{TooLong, Description, Described, Arrivals, Assembly, ImageDoesNotFit, DoesNotFit, Memory, WriteFailed}
+use Rattle.rv_job.specs.declared.errors.SimError.TheVariants.{TooLong, TooManyDescriptions, Description, Described, Arrivals, Assembly, ImageDoesNotFit, DoesNotFit, Memory, WriteFailed}
 use Rattle.rv_picture.specs.declared.picture.Form.{Form}
 use Rattle.rv_picture.specs.declared.picture.Form.TheVariants.{Text, Svg}
 use Rattle.rv_report.specs.declared.options.Options.{Options}
@@ -111,6 +111,7 @@ Ends task old new (Ok status) = (text : List ℕ) × Shows task text status × A
 Ends task old new (Err WriteFailed) = (text : List ℕ) × (status : ℕ) × Shows task text status × AppendsBeginning old new text
 Ends task old new (Err Memory) = AsksForMemory task × Keeps old new
 Ends task old new (Err TooLong) = ⊥
+Ends task old new (Err TooManyDescriptions) = ⊥
 Ends task old new (Err (Description error)) = ⊥
 Ends task old new (Err (Described number error)) = ⊥
 Ends task old new (Err (Arrivals error)) = ⊥

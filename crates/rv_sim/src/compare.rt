@@ -1,7 +1,6 @@
-ghost use Rattle.std.specs.Prelude.{◌≡◌, ◌⊎◌, ℕ, List, IfOk, IfErr};
-ghost use Rattle.std.specs.Io.KnownBytes.{Appends, Keeps};
+ghost use Rattle.std.specs.Prelude.{◌≡◌, IfOk, IfErr};
+ghost use Rattle.rv_sim.specs.Answer.{IsAnswer};
 ghost use Rattle.rv_sim.specs.Comparison.{AreRuns, IsComparisonTable, IsRun};
-ghost use Rattle.rv_text.specs.Written.{AppendsBeginning};
 
 use crate::boxed_predictor::BoxedPredictor;
 use rv_core::Core;
@@ -32,11 +31,9 @@ fn run_with(
     Ok(run_totals(core, &job.arrivals, limit, steps))
 }
 
-/// Runs a job on the core that it describes, with the predictor that it describes, up to a breakpoint, a stale word or a
-/// limit of cycles. Answers what the run came to.
-///
-/// Fails by `Memory` alone.
-pub fn run_one(alloc: Global, job: &Job, limit: u64) -> Result<Totals, SimError>
+// Runs a job on the core that it describes, with the predictor that it describes, up to a breakpoint, a stale word or a
+// limit of cycles.
+fn run_one(alloc: Global, job: &Job, limit: u64) -> Result<Totals, SimError>
     ensures totals { IfOk result (IsRun limit job.now) }
     ensures errors { IfErr result (λ e. e ≡ SimError.Memory) }
 {
@@ -94,14 +91,7 @@ pub fn compare<W: Write>(
     limit: u64,
     writer: &mut W,
 ) -> Result<(), SimError>
-    ensures table { IfOk result (λ _. (text : List ℕ)
-        × IsComparisonTable comparison.now limit text
-        × Appends (W.contents writer.old) (W.contents writer.new) text) }
-    ensures beginning { result ≡ Err SimError.WriteFailed → (text : List ℕ)
-        × IsComparisonTable comparison.now limit text
-        × AppendsBeginning (W.contents writer.old) (W.contents writer.new) text }
-    ensures nothing { result ≡ Err SimError.Memory → Keeps (W.contents writer.old) (W.contents writer.new) }
-    ensures errors { IfErr result (λ e. (e ≡ SimError.Memory) ⊎ (e ≡ SimError.WriteFailed)) }
+    ensures { IsAnswer (λ _ text. IsComparisonTable comparison.now limit text) result (W.contents writer.old) (W.contents writer.new) }
 {
     let jobs = comparison.jobs.as_slice();
     let Ok(runs) = run_each(alloc, jobs, limit) else {

@@ -2,6 +2,7 @@
 //! words and the streams on; what they come to stands in the other files.
 #![tactic(auto)]
 
+mod answer;
 mod boxed_predictor;
 mod compare;
 mod explain;

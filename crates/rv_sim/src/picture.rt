@@ -1,13 +1,12 @@
-ghost use Rattle.std.specs.Prelude.{◌≡◌, ◌⊎◌, ℕ, List, Ok, Err, IfOk, IfErr};
-ghost use Rattle.std.specs.Io.KnownBytes.{Appends, Keeps};
+ghost use Rattle.rv_sim.specs.Answer.{IsAnswer};
 ghost use Rattle.rv_sim.specs.PictureReport.{IsPictureOf};
-ghost use Rattle.rv_text.specs.Written.{AppendsBeginning};
 
+use crate::answer::answer;
 use crate::boxed_predictor::BoxedPredictor;
 use rv_arch::Stop;
 use rv_core::Core;
 use rv_job::{ListedJob, SimError};
-use rv_picture::{Form, PictureError, write_picture};
+use rv_picture::{Form, write_picture};
 use std::alloc::Global;
 use std::io::Write;
 
@@ -22,20 +21,6 @@ pub struct View {
     pub cycles: u64,
 }
 
-// What is answered behind a picture that was written, or was not.
-fn answer(drawn: Result<Stop, PictureError>) -> Result<Stop, SimError>
-    ensures done { (stop : Stop) → result ≡ Ok stop → drawn ≡ Ok stop }
-    ensures memory { result ≡ Err SimError.Memory → drawn ≡ Err PictureError.Memory }
-    ensures failed { result ≡ Err SimError.WriteFailed → drawn ≡ Err PictureError.WriteFailed }
-    ensures errors { IfErr result (λ e. (e ≡ SimError.Memory) ⊎ (e ≡ SimError.WriteFailed)) }
-{
-    match drawn {
-        Ok(stop) => Ok(stop),
-        Err(PictureError::Memory) => Err(SimError::Memory),
-        Err(PictureError::WriteFailed) => Err(SimError::WriteFailed),
-    }
-}
-
 /// Simulates a job on the core that it describes, with the job's arrivals at the numbers of the cycles, up to a breakpoint,
 /// a stale word or the end of the view, and writes the picture of the cycles of the view, with the lines of the job's
 /// program. Where the run ends before the view begins, no cycle is shown. Answers why the run ended.
@@ -48,21 +33,14 @@ pub fn picture<W: Write>(
     view: &View,
     writer: &mut W,
 ) -> Result<Stop, SimError>
-    ensures report { IfOk result (λ stop. (text : List ℕ)
-        × IsPictureOf listed view.now stop text
-        × Appends (W.contents writer.old) (W.contents writer.new) text) }
-    ensures beginning { result ≡ Err SimError.WriteFailed → (stop : Stop) × (text : List ℕ)
-        × IsPictureOf listed view.now stop text
-        × AppendsBeginning (W.contents writer.old) (W.contents writer.new) text }
-    ensures nothing { result ≡ Err SimError.Memory → Keeps (W.contents writer.old) (W.contents writer.new) }
-    ensures errors { IfErr result (λ e. (e ≡ SimError.Memory) ⊎ (e ≡ SimError.WriteFailed)) }
+    ensures { IsAnswer (IsPictureOf listed view.now) result (W.contents writer.old) (W.contents writer.new) }
 {
     let job = &listed.job;
     // The image of a job fits, so that memory alone can be wanting.
     let Ok(mut core) = Core::new(alloc, &job.description, &job.image, predictor.predictor) else {
         return Err(SimError::Memory);
     };
-    let drawn = write_picture(
+    let written = write_picture(
         alloc,
         &mut core,
         &job.arrivals,
@@ -72,5 +50,5 @@ pub fn picture<W: Write>(
         &listed.listing,
         writer,
     );
-    answer(drawn)
+    answer(written)
 }

@@ -1,7 +1,6 @@
-ghost use Rattle.std.specs.Prelude.{◌≡◌, ◌⊎◌, ℕ, List, IfOk, IfErr};
-ghost use Rattle.std.specs.Io.KnownBytes.{Appends, Keeps};
+ghost use Rattle.std.specs.Prelude.{◌≡◌};
+ghost use Rattle.rv_sim.specs.Answer.{IsAnswer};
 ghost use Rattle.rv_sim.specs.ReferenceReport.{IsReferenceReport, shown};
-ghost use Rattle.rv_text.specs.Written.{AppendsBeginning};
 
 use rv_arch::{Reference, Stop, run_reference};
 use rv_isa::ReportValues;
@@ -34,14 +33,7 @@ pub fn reference<W: Write>(
     options: &Options,
     writer: &mut W,
 ) -> Result<Stop, SimError>
-    ensures report { IfOk result (λ stop. (text : List ℕ)
-        × IsReferenceReport job options.now stop text
-        × Appends (W.contents writer.old) (W.contents writer.new) text) }
-    ensures beginning { result ≡ Err SimError.WriteFailed → (stop : Stop) × (text : List ℕ)
-        × IsReferenceReport job options.now stop text
-        × AppendsBeginning (W.contents writer.old) (W.contents writer.new) text }
-    ensures nothing { result ≡ Err SimError.Memory → Keeps (W.contents writer.old) (W.contents writer.new) }
-    ensures errors { IfErr result (λ e. (e ≡ SimError.Memory) ⊎ (e ≡ SimError.WriteFailed)) }
+    ensures { IsAnswer (IsReferenceReport job options.now) result (W.contents writer.old) (W.contents writer.new) }
 {
     let values = job.description.values();
     let options = with_dump(&values.report, options);

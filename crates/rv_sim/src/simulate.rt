@@ -1,7 +1,5 @@
-ghost use Rattle.std.specs.Prelude.{◌≡◌, ◌⊎◌, ℕ, List, IfOk, IfErr};
-ghost use Rattle.std.specs.Io.KnownBytes.{Appends, Keeps};
+ghost use Rattle.rv_sim.specs.Answer.{IsAnswer};
 ghost use Rattle.rv_sim.specs.CoreReport.{IsSimulation};
-ghost use Rattle.rv_text.specs.Written.{AppendsBeginning};
 
 use crate::boxed_predictor::BoxedPredictor;
 use crate::reference::with_dump;
@@ -26,14 +24,7 @@ pub fn simulate<W: Write>(
     options: &Options,
     writer: &mut W,
 ) -> Result<Stop, SimError>
-    ensures report { IfOk result (λ stop. (text : List ℕ)
-        × IsSimulation job options.now stop text
-        × Appends (W.contents writer.old) (W.contents writer.new) text) }
-    ensures beginning { result ≡ Err SimError.WriteFailed → (stop : Stop) × (text : List ℕ)
-        × IsSimulation job options.now stop text
-        × AppendsBeginning (W.contents writer.old) (W.contents writer.new) text }
-    ensures nothing { result ≡ Err SimError.Memory → Keeps (W.contents writer.old) (W.contents writer.new) }
-    ensures errors { IfErr result (λ e. (e ≡ SimError.Memory) ⊎ (e ≡ SimError.WriteFailed)) }
+    ensures { IsAnswer (IsSimulation job options.now) result (W.contents writer.old) (W.contents writer.new) }
 {
     let options = with_dump(&job.description.values().report, options);
     // The image of a job fits, so that memory alone can be wanting.

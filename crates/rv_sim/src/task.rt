@@ -200,9 +200,9 @@ fn perform<W: Write>(
     }
 }
 
-/// Does the task: writes its report, picture, log or sentences, or the line that says which image the
-/// job makes, to `output`, and answers the exit status. A fault is told on `errors`. Only a run of
-/// the core asks the predictor.
+/// Does the task: writes its report, picture, log, sentences or table, or the line that says which image
+/// the job makes, to `output`, and answers the exit status. A fault is told on `errors`. Only a run of one
+/// job on the core asks the predictor.
 pub fn finish<W: Write, E: Write>(
     alloc: Global,
     task: Task,

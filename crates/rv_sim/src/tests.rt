@@ -17,4 +17,5 @@ mod reading;
 mod references;
 mod reports;
 mod simulations;
+mod statements;
 mod words;

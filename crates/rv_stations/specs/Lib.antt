@@ -2,5 +2,4 @@ pub mod Column
 pub mod ColumnFields
 pub mod Pool
 pub mod PoolFields
-pub mod Stations
 pub mod Waiting

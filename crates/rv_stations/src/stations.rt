@@ -1,98 +1,82 @@
 ghost use Rattle.std.specs.Prelude.{◌≡◌, ◌<◌, ◌≤◌, ◌↔◌, Bool, length, nat_le, IsTrue, IfOk, option_and_then};
 ghost use Rattle.rv_isa.specs.Numbered.{AreBelow, IsInOrder};
 ghost use Rattle.rv_stations.specs.Waiting.{seq_of, IsOperand, ready_of, oldest_ready};
-ghost use Rattle.rv_stations.specs.Pool.{Answers, with_waiting, woken_pool, issued, squashed};
-ghost use Rattle.rv_stations.specs.Stations.{empty_pools, pool_of, with_pool, each_pool};
+ghost use Rattle.rv_isa.specs.PerKind.{at_kind, with_kind, for_each};
+ghost use Rattle.rv_stations.specs.Pool.{Answers, empty_pool, with_waiting, woken_pool, issued, squashed};
 
 use crate::pool::StationPool;
 use crate::waiting::{Ready, Waiting};
-use rv_isa::{Description, Kind};
+use rv_isa::{Description, Kind, PerKind};
 use std::alloc::{AllocError, Global};
 use std::marker::Model;
 
 /// The reservation stations of the four kinds.
 #[derive(Debug, Drop)]
 pub struct Stations {
-    alu: StationPool,
-    mul: StationPool,
-    div: StationPool,
-    mem: StationPool,
+    pools: PerKind<StationPool>,
 }
 
 impl Model for Stations {
-    ghost use Rattle.rv_stations.specs.Stations.{Pools};
+    ghost use Rattle.rv_isa.specs.declared.per_kind.PerKind.{PerKind as Pools};
+    ghost use Rattle.rv_stations.specs.Pool.{Pool};
 
-    ghost Value = { Pools };
+    ghost Value = { Pools Pool };
 
-    ghost view = { λ s. record { alu = s.alu; mul = s.mul; div = s.div; mem = s.mem } };
+    ghost view = { λ s. s.pools };
 }
 
 impl Stations {
     /// The stations that a description gives, with nothing in them. The only error is want of memory.
     pub fn new(alloc: Global, description: &Description) -> Result<Self, AllocError>
-        ensures { IfOk result (λ stations. stations ≡ empty_pools description.now) }
+        ensures { IfOk result (λ stations. stations ≡ for_each empty_pool description.now.kinds) }
     {
-        let values = description.values();
-        Ok(Stations {
-            alu: StationPool::new(alloc, values.alu)?,
-            mul: StationPool::new(alloc, values.mul)?,
-            div: StationPool::new(alloc, values.div)?,
-            mem: StationPool::new(alloc, values.mem)?,
-        })
+        let kinds = description.values().kinds;
+        let pools = PerKind {
+            alu: StationPool::new(alloc, kinds.alu)?,
+            mul: StationPool::new(alloc, kinds.mul)?,
+            div: StationPool::new(alloc, kinds.div)?,
+            mem: StationPool::new(alloc, kinds.mem)?,
+        };
+        Ok(Stations { pools })
     }
 
     /// Whether an instruction waits in each station of a kind.
     pub fn is_full(&self, kind: Kind) -> bool
-        ensures full { result ≡ nat_le (pool_of kind self.now).capacity (length (pool_of kind self.now).waiting) }
-        ensures within { length (pool_of kind self.now).waiting ≤ (pool_of kind self.now).capacity }
+        ensures full { result ≡ nat_le (at_kind kind self.now).capacity (length (at_kind kind self.now).waiting) }
+        ensures within { length (at_kind kind self.now).waiting ≤ (at_kind kind self.now).capacity }
     {
-        match kind {
-            Kind::Alu => self.alu.is_full(),
-            Kind::Mul => self.mul.is_full(),
-            Kind::Div => self.div.is_full(),
-            Kind::Mem => self.mem.is_full(),
-        }
+        self.pools.get(kind).is_full()
     }
 
     /// Whether a sequence number is above those of all instructions of a kind that wait.
     pub fn is_youngest(&self, kind: Kind, seq: u64) -> bool
-        ensures { IsTrue result ↔ AreBelow seq_of seq (pool_of kind self.now).waiting }
+        ensures { IsTrue result ↔ AreBelow seq_of seq (at_kind kind self.now).waiting }
     {
-        match kind {
-            Kind::Alu => self.alu.is_youngest(seq),
-            Kind::Mul => self.mul.is_youngest(seq),
-            Kind::Div => self.div.is_youngest(seq),
-            Kind::Mem => self.mem.is_youngest(seq),
-        }
+        self.pools.get(kind).is_youngest(seq)
     }
 
     /// Takes in an instruction of a kind that is younger than all of the kind that wait. Its tags are
     /// sequence numbers.
     pub fn insert(&mut self, kind: Kind, waiting: Waiting)
-        requires room { length (pool_of kind self.old).waiting < (pool_of kind self.old).capacity }
-        requires youngest { AreBelow seq_of waiting.seq (pool_of kind self.old).waiting }
+        requires room { length (at_kind kind self.old).waiting < (at_kind kind self.old).capacity }
+        requires youngest { AreBelow seq_of waiting.seq (at_kind kind self.old).waiting }
         requires first { IsOperand waiting.first }
         requires second { IsOperand waiting.second }
-        ensures { self.new ≡ with_pool kind (with_waiting waiting (pool_of kind self.old)) self.old }
+        ensures { self.new ≡ with_kind kind (with_waiting waiting (at_kind kind self.old)) self.old }
     {
-        match kind {
-            Kind::Alu => self.alu.insert(waiting),
-            Kind::Mul => self.mul.insert(waiting),
-            Kind::Div => self.div.insert(waiting),
-            Kind::Mem => self.mem.insert(waiting),
-        }
+        self.pools.get_mut(kind).insert(waiting)
     }
 
     /// Gives every operand whose tag is a sequence number the value of its producer, and changes no
     /// other.
     #[inline(always)]
     pub fn wake(&mut self, seq: u64, value: u32)
-        ensures { self.new ≡ each_pool (woken_pool seq value) self.old }
+        ensures { self.new ≡ for_each (woken_pool seq value) self.old }
     {
-        self.alu.wake(seq, value);
-        self.mul.wake(seq, value);
-        self.div.wake(seq, value);
-        self.mem.wake(seq, value);
+        self.pools.alu.wake(seq, value);
+        self.pools.mul.wake(seq, value);
+        self.pools.div.wake(seq, value);
+        self.pools.mem.wake(seq, value);
     }
 
     /// Takes out the oldest instruction of a kind that is ready, with both operands' values there, and
@@ -104,26 +88,21 @@ impl Stations {
         filter: F,
     ) -> Option<Ready>
         requires { F.IsAlwaysCallable filter }
-        ensures oldest { (test : Waiting → Bool) → Answers F.Fn filter test → result ≡ option_and_then ready_of (oldest_ready test (pool_of kind self.old).waiting) }
-        ensures others { (test : Waiting → Bool) → Answers F.Fn filter test → self.new ≡ with_pool kind (issued test (pool_of kind self.old)) self.old }
-        ensures in_order { IsInOrder seq_of (pool_of kind self.old).waiting }
+        ensures oldest { (test : Waiting → Bool) → Answers F.Fn filter test → result ≡ option_and_then ready_of (oldest_ready test (at_kind kind self.old).waiting) }
+        ensures others { (test : Waiting → Bool) → Answers F.Fn filter test → self.new ≡ with_kind kind (issued test (at_kind kind self.old)) self.old }
+        ensures in_order { IsInOrder seq_of (at_kind kind self.old).waiting }
     {
-        match kind {
-            Kind::Alu => self.alu.take_oldest_ready(filter),
-            Kind::Mul => self.mul.take_oldest_ready(filter),
-            Kind::Div => self.div.take_oldest_ready(filter),
-            Kind::Mem => self.mem.take_oldest_ready(filter),
-        }
+        self.pools.get_mut(kind).take_oldest_ready(filter)
     }
 
     /// Takes out the instructions of a sequence number and of all above it.
     pub fn squash(&mut self, from: u64)
-        ensures { self.new ≡ each_pool (squashed from) self.old }
+        ensures { self.new ≡ for_each (squashed from) self.old }
     {
-        self.alu.squash(from);
-        self.mul.squash(from);
-        self.div.squash(from);
-        self.mem.squash(from);
+        self.pools.alu.squash(from);
+        self.pools.mul.squash(from);
+        self.pools.div.squash(from);
+        self.pools.mem.squash(from);
     }
 }
 
@@ -138,9 +117,12 @@ mod tests {
     fn with_stations(rt: &impl Abort, stations: u32) -> Description {
         let standard = Values::standard();
         let values = Values {
-            alu: KindValues {
-                stations,
-                ..standard.alu
+            kinds: PerKind {
+                alu: KindValues {
+                    stations,
+                    ..standard.kinds.alu
+                },
+                ..standard.kinds
             },
             ..standard
         };

@@ -1,5 +1,5 @@
 -- The store queue as a list of stores, oldest first, and what the calls make and tell of it.
-use Rattle.std.specs.Prelude.{◌≡◌, ℕ, ◌+◌, ◌<◌, Bool, true, nat_lt, length, List, [], ◌∷◌, find, map, not, AllPairs, Option, None, if◌then◌else◌}
+use Rattle.std.specs.Prelude.{◌≡◌, ℕ, ◌+◌, ◌<◌, Bool, true, false, nat_lt, length, List, [], ◌∷◌, find, map, not, AllPairs, Option, None, if◌then◌else◌}
 use Rattle.std.specs.Option.{option_map, option_or}
 use Rattle.rv_isa.specs.declared.broadcast.StoreAccess.{StoreAccess}
 use Rattle.rv_isa.specs.Numbered.{below, AreBelow}
@@ -34,6 +34,11 @@ oldest_to_drain (s ∷ ss) = access_to_drain s
 abbrev pub with_oldest_draining : List Store → List Store
 with_oldest_draining [] = []
 with_oldest_draining (s ∷ ss) = record s { state = draining s.state } ∷ ss
+
+-- the oldest store drains
+abbrev pub is_oldest_draining : List Store → Bool
+is_oldest_draining [] = false
+is_oldest_draining (s ∷ ss) = is_draining s
 
 -- the stores, without the oldest one where that drains
 abbrev pub without_drained : List Store → List Store

@@ -1,7 +1,7 @@
 ghost use Rattle.std.specs.Prelude.{◌≡◌, ◌≤◌, ◌↔◌, ◌++◌, ◌∷◌, [], Some, length, map, filter, nat_lt, nat_le, IsTrue, IsSome, IfOk, false};
 ghost use Rattle.std.specs.List.{prefix_len};
 ghost use Rattle.rv_isa.specs.Numbered.{AreBelow};
-ghost use Rattle.rv_stores.specs.Queue.{CanEnter, first_unknown, forwarded, older_than, oldest_to_drain, with_oldest_draining, with_oldest_retired, without_drained, youngest_byte};
+ghost use Rattle.rv_stores.specs.Queue.{CanEnter, first_unknown, forwarded, is_oldest_draining, older_than, oldest_to_drain, with_oldest_draining, with_oldest_retired, without_drained, youngest_byte};
 ghost use Rattle.rv_stores.specs.Store.{answered, entered, filled_with, is_committed, is_committed_state};
 ghost use Rattle.rv_stores.specs.declared.store.StoreState.TheVariants.{Faulted};
 
@@ -83,6 +83,13 @@ impl StoreQueue {
         self.ring
             .front()
             .is_some_and(|store| store.access_to_drain().is_some())
+    }
+
+    /// Whether the oldest store's access to the cache is under way.
+    pub fn is_draining(&self) -> bool
+        ensures { result ≡ is_oldest_draining self.now.stores }
+    {
+        self.ring.front().is_some_and(|store| store.is_draining())
     }
 
     /// Enters a store at its dispatch, behind all others.

@@ -1,3 +1,4 @@
+pub mod IsText
 pub mod Line
 pub mod Plain
 pub mod ReadField

@@ -6,8 +6,10 @@ mod digits;
 mod fields;
 mod output;
 mod plain;
+#[cfg(test)]
+mod tests;
 
 pub use digits::hexadecimal;
 pub use fields::{Field, Value, write_cells, write_fields};
-pub use output::{ReportError, put, put_all};
-pub use plain::{write_plain, write_plain_byte};
+pub use output::{ReportError, TextError, put, put_all};
+pub use plain::{front, write_plain, write_plain_byte};

@@ -2,4 +2,3 @@ pub mod Bus
 pub mod BusFields
 pub mod Pool
 pub mod PoolFields
-pub mod Units

@@ -1,69 +1,58 @@
 ghost use Rattle.std.specs.Prelude.{◌≡◌, IsTrue, IfOk};
-ghost use Rattle.rv_units.specs.Pool.{is_free, started};
-ghost use Rattle.rv_units.specs.Units.{free_pools, pool_of, with_pool};
+ghost use Rattle.rv_isa.specs.PerKind.{for_each, at_kind, with_kind};
+ghost use Rattle.rv_units.specs.Pool.{free_pool, is_free, started};
 
 use crate::unit_pool::UnitPool;
-use rv_isa::{Description, Kind};
+use rv_isa::{Description, Kind, PerKind};
 use std::alloc::{AllocError, Global};
 use std::marker::Model;
 
 /// The functional units of the four kinds.
 #[derive(Debug, Drop)]
 pub struct Units {
-    alu: UnitPool,
-    mul: UnitPool,
-    div: UnitPool,
-    mem: UnitPool,
+    pools: PerKind<UnitPool>,
 }
 
 impl Model for Units {
-    ghost use Rattle.rv_units.specs.Units.{Pools};
+    ghost use Rattle.rv_isa.specs.declared.per_kind.PerKind.{PerKind as Pools};
+    ghost use Rattle.rv_units.specs.Pool.{Pool};
 
-    ghost Value = { Pools };
+    ghost Value = { Pools Pool };
 
-    ghost view = { λ s. record { alu = s.alu; mul = s.mul; div = s.div; mem = s.mem } };
+    ghost view = { λ s. s.pools };
 }
 
 impl Units {
     /// The units that a description gives, all of them free. The only error is want of memory.
     pub fn new(alloc: Global, description: &Description) -> Result<Self, AllocError>
-        ensures { IfOk result (λ units. units ≡ free_pools description.now) }
+        ensures { IfOk result (λ units. units ≡ for_each free_pool description.now.kinds) }
     {
-        let values = description.values();
-        Ok(Units {
-            alu: UnitPool::new(alloc, values.alu)?,
-            mul: UnitPool::new(alloc, values.mul)?,
-            div: UnitPool::new(alloc, values.div)?,
-            mem: UnitPool::new(alloc, values.mem)?,
-        })
+        let kinds = description.values().kinds;
+        let pools = PerKind {
+            alu: UnitPool::new(alloc, kinds.alu)?,
+            mul: UnitPool::new(alloc, kinds.mul)?,
+            div: UnitPool::new(alloc, kinds.div)?,
+            mem: UnitPool::new(alloc, kinds.mem)?,
+        };
+        Ok(Units { pools })
     }
 
     /// Whether a unit of a kind is free in a cycle.
     #[inline(always)]
     pub fn free(&self, kind: Kind, cycle: u64) -> bool
-        ensures { result ≡ is_free cycle (pool_of kind self.now) }
+        ensures { result ≡ is_free cycle (at_kind kind self.now) }
     {
-        match kind {
-            Kind::Alu => self.alu.free(cycle),
-            Kind::Mul => self.mul.free(cycle),
-            Kind::Div => self.div.free(cycle),
-            Kind::Mem => self.mem.free(cycle),
-        }
+        self.pools.get(kind).free(cycle)
     }
 
     /// Starts an execution of a cost on a unit of a kind that is free in a cycle. The cycles handed in
     /// never fall, so what holds no unit any more is forgotten.
     #[inline(always)]
     pub fn start(&mut self, kind: Kind, cost: u32, cycle: u64)
-        requires { IsTrue (is_free cycle (pool_of kind self.old)) }
-        ensures { self.new ≡ with_pool kind (started cost cycle (pool_of kind self.old)) self.old }
+        requires { IsTrue (is_free cycle (at_kind kind self.old)) }
+        ensures { self.new ≡ with_kind kind (started cost cycle (at_kind kind self.old)) self.old }
     {
-        match kind {
-            Kind::Alu => self.alu.start(cost, cycle),
-            Kind::Mul => self.mul.start(cost, cycle),
-            Kind::Div => self.div.start(cost, cycle),
-            Kind::Mem => self.mem.start(cost, cycle),
-        }
+        self.pools.get_mut(kind).start(cost, cycle)
     }
 }
 

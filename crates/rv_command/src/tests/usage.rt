@@ -95,8 +95,7 @@ Exit status:
   5  out of memory
 ";
 
-const HELP_OF_PICTURE: &str = help_of_run!(
-    "Draws some cycles of a run of the text on standard input
+const HELP_OF_PICTURE: &str = "Draws some cycles of a run of the text on standard input
 
 Usage: rv_sim picture [OPTIONS]
 
@@ -105,9 +104,20 @@ Options:
       --from <N>    The first cycle, 0 to 999999 [default: 0]
       --cycles <N>  How many cycles, 1 to 1000 [default: 60]
   -h, --help        Print help
-",
-    "rv_sim picture --from 100 --cycles 40 < FILE > FILE.svg"
-);
+
+Reads a job from standard input, runs it up to the last of those cycles, and draws a column for each
+of them and a row for each instruction that was in the core then, as in:
+  rv_sim picture --from 100 --cycles 40 < FILE > FILE.svg
+  rv_sim picture --text < FILE
+
+Exit status:
+  0  the run ended by a breakpoint or with the last of those cycles
+  1  the job was refused
+  2  wrong usage
+  3  the run stopped at a stale word
+  4  standard input or output failed
+  5  out of memory
+";
 
 const HELP_OF_LOG: &str = help_of_run!(
     "Writes a run of the text on standard input as a log for pipeline viewers (Konata)
@@ -141,8 +151,12 @@ Options:
       --limit <N>  The most cycles of each run, 1 to 1000000 [default: 100000]
   -h, --help       Print help
 
-Reads from standard input descriptions of machines, a line %% behind each, and a program, as in:
+Reads from standard input up to 64 descriptions of machines in TOML, a line %% behind each, and a program,
+as in:
   rv_sim compare < FILE
+
+Writes a line for each machine, in their order, its cells with a tab between two: its number, the
+counts of its run, and why the run ended.
 
 Exit status:
   0  the table was written; its last column says how each run ended
@@ -150,6 +164,18 @@ Exit status:
   2  wrong usage
   4  standard input or output failed
   5  out of memory
+";
+
+const FROM_TOO_LATE: &str =
+    "error: invalid value '1000000' for '--from <N>': 1000000 is not in 0..=999999
+
+For more information, try '--help'.
+";
+
+const CYCLES_TOO_MANY: &str =
+    "error: invalid value '1001' for '--cycles <N>': 1001 is not in 1..=1000
+
+For more information, try '--help'.
 ";
 
 const VERSION: &str = "rv_sim 0.1.0
@@ -246,8 +272,11 @@ fn mistakes_have_their_texts_with_a_hint_where_a_word_may_be_a_file(
     rt: HostRuntime,
 ) -> Result<(), Fail> {
     let alloc = rt.alloc();
-    let cases: [(&[&str], &str); 4] = [
+    let cases: [(&[&str], &str); 7] = [
         (&["rv_sim", "reference", "--limit", "0"], LIMIT_OF_ZERO),
+        (&["rv_sim", "compare", "--limit=0"], LIMIT_OF_ZERO),
+        (&["rv_sim", "picture", "--from", "1000000"], FROM_TOO_LATE),
+        (&["rv_sim", "picture", "--cycles", "1001"], CYCLES_TOO_MANY),
         (&["rv_sim"], NO_COMMAND),
         (&["rv_sim", "run", "FILE"], FILE_AS_ARGUMENT),
         (&["rv_sim", "FILE"], FILE_AS_COMMAND),

@@ -1,7 +1,8 @@
 use super::{is_read, is_refused};
 use crate::{DescriptionError, read_description};
 use rv_isa::{
-    CacheValues, KindValues, PredictorKind, PredictorValues, Recovery, ReportValues, Values,
+    CacheValues, KindValues, PerKind, PredictorKind, PredictorValues, Recovery, ReportValues,
+    Values,
 };
 use std::test::Fail;
 
@@ -37,29 +38,31 @@ fn each_key_has_its_value(rt: HostRuntime) {
         store_queue: 9,
         forward: 10,
         recovery: Recovery::Early,
-        alu: KindValues {
-            stations: 11,
-            units: 3,
-            latency: 12,
-            pipelined: false,
-        },
-        mul: KindValues {
-            stations: 13,
-            units: 4,
-            latency: 14,
-            pipelined: false,
-        },
-        div: KindValues {
-            stations: 15,
-            units: 5,
-            latency: 17,
-            pipelined: true,
-        },
-        mem: KindValues {
-            stations: 18,
-            units: 6,
-            latency: 19,
-            pipelined: false,
+        kinds: PerKind {
+            alu: KindValues {
+                stations: 11,
+                units: 3,
+                latency: 12,
+                pipelined: false,
+            },
+            mul: KindValues {
+                stations: 13,
+                units: 4,
+                latency: 14,
+                pipelined: false,
+            },
+            div: KindValues {
+                stations: 15,
+                units: 5,
+                latency: 17,
+                pipelined: true,
+            },
+            mem: KindValues {
+                stations: 18,
+                units: 6,
+                latency: 19,
+                pipelined: false,
+            },
         },
         cache: CacheValues {
             sets: 32,

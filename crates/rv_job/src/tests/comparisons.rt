@@ -1,5 +1,6 @@
 use crate::tests::helpers::check_comparison_faults;
 use crate::{Comparison, read_comparison};
+use std::alloc::Global;
 use std::test::Fail;
 
 // How many bytes RAM has in the machine of a job, and where its image starts.
@@ -26,6 +27,38 @@ fn a_text_without_separator_is_a_program_on_the_standard_machine(
     assert_eq!(rt; comparison.jobs.len(), 1);
     assert_eq!(rt; sizes(&comparison, 0), Some((65536, 0x8000_0000)));
     Ok(())
+}
+
+// So many empty descriptions, and a program.
+fn described(alloc: Global, count: usize, program: &[u8]) -> Result<Vec<u8>, Fail> {
+    let mut text = Vec::new(alloc);
+    for _ in 0..count {
+        text.extend_from_slice(b"%%\n")?;
+    }
+    text.extend_from_slice(program)?;
+    Ok(text)
+}
+
+#[test]
+fn sixty_four_machines_are_compared_and_not_one_more(rt: HostRuntime) -> Result<(), Fail> {
+    let alloc = rt.alloc();
+    let most = described(alloc, 64, b"ebreak\n")?;
+    let comparison = read_comparison(alloc, most.as_slice())?;
+    assert_eq!(rt; comparison.jobs.len(), 64);
+    // The descriptions are counted before one of them is read.
+    let more = described(alloc, 65, b"")?;
+    let late = described(alloc, 64, b"rob = 0\n%%")?;
+    let line = "error: too many descriptions\n";
+    let early: &[u8] = b"rob = 0\n";
+    let mut faulty = Vec::new(alloc);
+    faulty.extend_from_slice(early)?;
+    faulty.extend_from_slice(more.as_slice())?;
+    let cases = [
+        (more.as_slice(), line),
+        (late.as_slice(), line),
+        (faulty.as_slice(), line),
+    ];
+    check_comparison_faults(&rt, alloc, &cases)
 }
 
 #[test]

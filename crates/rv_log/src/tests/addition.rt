@@ -10,16 +10,17 @@ use std::test::Fail;
 const PROGRAM: &[u8] = &[0x93, 0x00, 0x50, 0x00, 0x73, 0x00, 0x10, 0x00];
 
 // The addition is fetched in cycle 0, dispatched in 1, issued in 2, broadcast in 3 and retired in 4; the breakpoint traps in 5,
-// which flushes what was fetched behind it, and fetches where mtvec points to, outside RAM.
+// which flushes what was fetched behind it, and fetches where mtvec points to, outside RAM. A viewer ends an instruction's last
+// stage where it reads the R, so that this stands behind the C of the cycle.
 const LOG: &[u8] = b"Kanata\t0004
 C=\t0
 I\t0\t0\t0
-L\t0\t0\t80000000: addi?x1
+L\t0\t0\t80000000: addi x1
 S\t0\t0\tF
 C\t1
 S\t0\t0\tD
 I\t1\t1\t0
-L\t1\t0\t80000004: 00100073
+L\t1\t0\t80000004: ebreak # a label has at most sixty-four bytes of a line of the s
 S\t1\t0\tF
 C\t1
 S\t0\t0\tI
@@ -35,20 +36,20 @@ L\t3\t0\t8000000c: 00000000
 S\t3\t0\tF
 C\t1
 S\t0\t0\tC
-R\t0\t0\t0
 S\t3\t0\tD
 I\t4\t4\t0
 L\t4\t0\t80000010: 00000000
 S\t4\t0\tF
 C\t1
-R\t1\t1\t1
-R\t2\t2\t1
-R\t3\t3\t1
-R\t4\t4\t1
+R\t0\t0\t0
 I\t5\t5\t0
 L\t5\t0\t00000000: -
 S\t5\t0\tF
 C\t1
+R\t1\t1\t1
+R\t2\t2\t1
+R\t3\t3\t1
+R\t4\t4\t1
 ";
 
 // A machine that does one thing a cycle.
@@ -58,7 +59,7 @@ fn narrow() -> Values {
     values.dispatch_width = 1;
     values.commit_width = 1;
     values.bus_width = 1;
-    values.alu.units = 1;
+    values.kinds.alu.units = 1;
     values
 }
 
@@ -68,13 +69,14 @@ fn an_addition_passes_through_each_stage(rt: HostRuntime) -> Result<(), Fail> {
     let description = Description::new(narrow()).expect(&rt, "a legal description");
     let image = Image::from_bytes(alloc, 0x8000_0000, PROGRAM, 0x8000_0000)?;
     let mut listing = Listing::new(alloc, 0x8000_0000);
-    listing.push_line(
-        SourceLine::new(
-            1,
-            vec![in alloc; b'a', b'd', b'd', b'i', b'\t', b'x', b'1']?,
-        ),
-        1,
-    )?;
+    let lines = [
+        "addi\tx1",
+        "ebreak # a label has at most sixty-four bytes of a line of the source text",
+    ];
+    for (number, line) in lines.iter().enumerate() {
+        let text = line.as_bytes().to_vec(alloc)?;
+        listing.push_line(SourceLine::new(number + 1, text), 1)?;
+    }
     let arrivals = Arrivals::new(Vec::new(alloc)).expect(&rt, "no arrivals");
     let mut text = Vec::new(alloc);
     let mut core = Core::new(alloc, &description, &image, Box::new(alloc, NotTaken)?).expect(

@@ -15,7 +15,7 @@ ebreak
 const SENTENCES: &[u8] = b"\
 The run ended at a breakpoint, at 80000004, line 2: ebreak
 No exception came before that.
-5 cycles, 1 instructions retired
+cycles 5, retired instructions 1
 cycles per instruction 5.000
 busy            3   60.0%  ##############################
 fetch           2   40.0%  ####################
@@ -24,7 +24,8 @@ rob             0    0.0% \x20
 station         0    0.0% \x20
 store           0    0.0% \x20
 loads: 0, of them 0 at the cost of a hit or of forwarding, 0 at that of a miss
-Most cycles passed at the head of the reorder buffer:
+drains: 0, of them 0 at the cost of a hit, 0 at that of a miss
+The lines that stood longest at the head of the reorder buffer, in cycles:
 80000000, line 1: addi x1,x0,5
                 3   60.0%  ##############################
 ";
@@ -40,7 +41,7 @@ fn a_run_is_explained_with_the_lines_of_its_program(rt: HostRuntime) {
 #[test]
 fn a_stale_word_that_is_explained_gives_status_3(rt: HostRuntime) {
     let ending =
-        "The run ended at a word that was stored to, and fetched with no FENCE.I behind the store, at 80000014, line 4: t: addi x7,x0,2";
+        "The run ended at a word that was stored to and then fetched without a FENCE.I in between, at 80000014, line 4: t: addi x7,x0,2";
     let store = "The last store to that word was the one at 80000010, line 3: sw x6,0(x5)";
     check_run(
         &rt,
@@ -50,4 +51,211 @@ fn a_stale_word_that_is_explained_gives_status_3(rt: HostRuntime) {
         3,
         &[ending, store],
     );
+}
+
+// A program, and a line of what is told of its run.
+#[derive(Clone, Copy, Debug)]
+struct Told {
+    program: &'static str,
+    line: &'static str,
+}
+
+// Each instruction that faults retires in cycle 4 where it has to be executed, and in 2 where it has not; the target of the
+// jump that retires in 4 is fetched then.
+const CAUSES: [Told; 8] = [
+    Told {
+        program: "jalr x0,2(x0)",
+        line: "The first exception came in cycle 4: Instruction address misaligned, mtval 00000002, at 80000000, line 1: jalr x0,2(x0)",
+    },
+    Told {
+        program: "jalr x0,0(x0)",
+        line: "The first exception came in cycle 6: Instruction access fault, mtval 00000000, at 00000000, which no line of the program fills",
+    },
+    Told {
+        program: ".word 0xffffffff",
+        line: "The first exception came in cycle 2: Illegal instruction, mtval ffffffff, at 80000000, line 1: .word 0xffffffff",
+    },
+    Told {
+        program: "lw x1,1(x0)",
+        line: "The first exception came in cycle 4: Load address misaligned, mtval 00000001, at 80000000, line 1: lw x1,1(x0)",
+    },
+    Told {
+        program: "lw x1,16(x0)",
+        line: "The first exception came in cycle 4: Load access fault, mtval 00000010, at 80000000, line 1: lw x1,16(x0)",
+    },
+    Told {
+        program: "sw x1,1(x0)",
+        line: "The first exception came in cycle 4: Store/AMO address misaligned, mtval 00000001, at 80000000, line 1: sw x1,1(x0)",
+    },
+    Told {
+        program: "sw x1,16(x0)",
+        line: "The first exception came in cycle 4: Store/AMO access fault, mtval 00000010, at 80000000, line 1: sw x1,16(x0)",
+    },
+    Told {
+        program: "ecall",
+        line: "The first exception came in cycle 2: Environment call from M-mode, mtval 00000000, at 80000000, line 1: ecall",
+    },
+];
+
+#[test]
+fn each_cause_has_its_name(rt: HostRuntime) {
+    for told in CAUSES {
+        check_run(&rt, rt.alloc(), EXPLAIN, told.program, 0, &[told.line]);
+    }
+}
+
+const NO_HANDLER: &str =
+    "No handler was set (the address in mtvec was 0), and the program went on at 00000000";
+
+#[test]
+fn a_mode_without_an_address_is_no_handler(rt: HostRuntime) {
+    let alloc = rt.alloc();
+    for program in ["ecall", "csrwi mtvec,1\necall"] {
+        check_run(&rt, alloc, EXPLAIN, program, 0, &[NO_HANDLER]);
+    }
+    let handled = "la x5,h\ncsrw mtvec,x5\necall\nh: ebreak";
+    let line = "The program went on at its handler, at 80000010";
+    check_run(&rt, alloc, EXPLAIN, handled, 0, &[line]);
+}
+
+// Two exceptions, with a handler that goes on behind each.
+const TWO_EXCEPTIONS: &str = "la x31,h
+csrw mtvec,x31
+lw x1,1(x0)
+ecall
+ebreak
+h: csrr x5,mepc
+addi x5,x5,4
+csrw mepc,x5
+mret
+";
+
+#[test]
+fn the_first_of_two_exceptions_is_told(rt: HostRuntime) {
+    let taken =
+        "The first exception came in cycle 10: Load address misaligned, mtval 00000001, at 8000000c, line 3: lw x1,1(x0)";
+    let handler = "The program went on at its handler, at 80000018";
+    check_run(
+        &rt,
+        rt.alloc(),
+        EXPLAIN,
+        TWO_EXCEPTIONS,
+        0,
+        &[taken, handler],
+    );
+}
+
+// Two stores to the word that is fetched then, and one to the word behind it.
+const STORES_INTO_CODE: &str = "la x5,t
+li x6,0x00100393
+sw x6,0(x5)
+sw x6,0(x5)
+sw x6,4(x5)
+t: addi x7,x0,2
+ebreak
+";
+
+#[test]
+fn the_last_store_to_the_stale_word_is_told(rt: HostRuntime) {
+    let store = "The last store to that word was the one at 80000014, line 4: sw x6,0(x5)";
+    check_run(&rt, rt.alloc(), EXPLAIN, STORES_INTO_CODE, 3, &[store]);
+}
+
+// Stores to the words of two lines of the cache, of which the first to each misses; FENCE.I waits for them all.
+const FIVE_DRAINS: &str = "lui x5,0x80001
+sw x0,0(x5)
+sw x0,4(x5)
+sw x0,16(x5)
+sw x0,8(x5)
+sw x0,12(x5)
+fence.i
+ebreak
+";
+
+// The run ends while the first store goes into the cache, and the second waits for it.
+const ONE_DRAIN: &str = "lui x5,0x80001
+sw x0,0(x5)
+sw x0,4(x5)
+ebreak
+";
+
+#[test]
+fn drains_are_counted_when_they_begin(rt: HostRuntime) {
+    let rows = [
+        Told {
+            program: FIVE_DRAINS,
+            line: "drains: 5, of them 3 at the cost of a hit, 2 at that of a miss",
+        },
+        Told {
+            program: ONE_DRAIN,
+            line: "drains: 1, of them 0 at the cost of a hit, 1 at that of a miss",
+        },
+    ];
+    for told in rows {
+        check_run(&rt, rt.alloc(), EXPLAIN, told.program, 0, &[told.line]);
+    }
+}
+
+// A loop of five rounds of 7 cycles, but for the first, which waits for the division. Each branch back is mispredicted.
+const LOOP: &[u8] = b"predictor.kind = \"not_taken\"
+%%
+li x1,5
+div x3,x1,x1
+l: li x2,0x12345678
+addi x1,x1,-1
+bnez x1,l
+ebreak
+";
+
+// The division stands at the head behind the cycles 4 to 20. The two words of `li` stand there for 3 and 2 cycles of each
+// later round, the second for 1 of the first round.
+const LINES_OF_LOOP: &[u8] = b"
+The lines that stood longest at the head of the reorder buffer, in cycles:
+80000008, line 3: l: li x2,0x12345678
+               21   40.4%  ####################
+80000004, line 2: div x3,x1,x1
+               17   32.7%  ################
+80000014, line 5: bnez x1,l
+                5    9.6%  #####
+80000000, line 1: li x1,5
+                3    5.8%  ###
+";
+
+#[test]
+fn the_words_of_a_line_are_told_together(rt: HostRuntime) {
+    let ended = run_text(rt.alloc(), EXPLAIN, LOOP);
+    assert_eq!(rt; ended.status, 0);
+    assert!(rt; ended.output.as_slice().ends_with(LINES_OF_LOOP));
+}
+
+// Each addition waits for the one before it.
+const CHAIN: &[u8] = b"li x1,5
+mul x2,x1,x1
+addi x3,x2,1
+addi x4,x3,1
+addi x5,x4,1
+addi x6,x5,1
+ebreak
+";
+
+// The multiplication stands at the head behind the cycles 4 to 7, each addition behind the next two.
+const LINES_OF_CHAIN: &[u8] = b"
+The lines that stood longest at the head of the reorder buffer, in cycles:
+80000004, line 2: mul x2,x1,x1
+                4   23.5%  ############
+80000000, line 1: li x1,5
+                3   17.6%  #########
+80000008, line 3: addi x3,x2,1
+                2   11.8%  ######
+8000000c, line 4: addi x4,x3,1
+                2   11.8%  ######
+80000010, line 5: addi x5,x4,1
+                2   11.8%  ######
+";
+
+#[test]
+fn of_equal_lines_the_first_are_told(rt: HostRuntime) {
+    let ended = run_text(rt.alloc(), EXPLAIN, CHAIN);
+    assert_eq!(rt; ended.status, 0);
+    assert!(rt; ended.output.as_slice().ends_with(LINES_OF_CHAIN));
 }

@@ -13,7 +13,14 @@ returns-in_err-write_loads g c =
     handed_on _ _ _ _ _ c.from_residual-in_err-write_loads.ensures.1
     (beginning-both _ _ _ _ _ c.in_ok-write_cycles.ensures (beginning-longer _ _ _ _ c.in_err-write_loads.ensures))
 
+pub returns-in_err-write_drains : goal.returns-in_err-write_drains
+unfolding cost_text
+returns-in_err-write_drains g c =
+    handed_on _ _ _ _ _ c.from_residual-in_err-write_drains.ensures.1
+    (beginning-both _ _ _ _ _ c.in_ok-write_cycles.ensures (beginning-both _ _ _ _ _ c.in_ok-write_loads.ensures (beginning-longer _ _ _ _ c.in_err-write_drains.ensures)))
+
 pub returns : goal.returns
 unfolding cost_text
 returns g c =
-    written_behind _ _ _ _ _ _ c.in_ok-write_cycles.ensures (written_behind _ _ _ _ _ _ c.in_ok-write_loads.ensures c.write_hotspots.ensures)
+    written_behind _ _ _ _ _ _ c.in_ok-write_cycles.ensures (written_behind _ _ _ _ _ _ c.in_ok-write_loads.ensures
+    (written_behind _ _ _ _ _ _ c.in_ok-write_drains.ensures c.write_hotspots.ensures))

@@ -1,5 +1,13 @@
-use Rattle.rv_explain.proofs.Explained.{explained}
+use Rattle.rv_explain.proofs.Explained.{explained, heads_counted}
 use Rattle.rv_explain.proofs.explanation.write_explanation.Goals as goal
+
+pub run_told-told-requires-clause-untold : goal.run_told-told-requires-clause-untold
+run_told-told-requires-clause-untold g c = c.in-Ok.ensures.untold c.args.arrivals.now c.args.core.now
+
+pub write_told-requires : goal.write_told-requires
+write_told-requires g c =
+    let told = c.run_told-told.result in
+    record { heads = heads_counted _ c.args.limit c.args.description.now _ c.run_told-told.new.core told.stop told.progress told.tale c.run_told-told.ensures }
 
 pub returns-in-Ok-write_told : goal.returns-in-Ok-write_told
 returns-in-Ok-write_told g c =

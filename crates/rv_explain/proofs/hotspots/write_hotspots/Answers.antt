@@ -1,5 +1,6 @@
-use Rattle.rv_explain.specs.Hotspot.{hotspots_text}
-use Rattle.rv_text.proofs.Writing.{handed_on, written_behind, beginning-longer}
+use Rattle.std.specs.List.{flat_map}
+use Rattle.rv_explain.specs.Hotspot.{hotspot_text, hotspots, hotspots_text}
+use Rattle.rv_text.proofs.Writing.{handed_on, written_behind, written_same, beginning-longer}
 use Rattle.rv_explain.proofs.hotspots.write_hotspots.Goals as goal
 
 pub returns-in_err-put : goal.returns-in_err-put
@@ -9,4 +10,7 @@ returns-in_err-put g c =
 
 pub returns : goal.returns
 unfolding hotspots_text
-returns g c = written_behind _ _ _ _ _ _ c.in_ok-put.ensures c.write_most.ensures
+returns g c =
+    let joined = c.join_lines.ensures in
+    written_behind _ _ _ _ _ _ c.in_ok-put.ensures
+    (written_same _ _ _ _ _ (λ i. flat_map (hotspot_text c.args.listing.now c.args.all) (hotspots 5 (joined.first i) (joined.counts i))) c.write_most.ensures)

@@ -4,6 +4,8 @@ use Rattle.rv_arch.specs.declared.outcome.Stop.TheVariants.{Exhausted, Limit}
 use Rattle.rv_core.specs.Progress.{IsBounded}
 use Rattle.rv_core.specs.declared.outcome.Progress.{Progress}
 use Rattle.rv_core.proofs.RunReports.{progress-bounded}
+use Rattle.rv_explain.specs.Drain.{begun}
+use Rattle.rv_explain.proofs.DrainBegins.{begun_in_cycle}
 use Rattle.rv_explain.proofs.Telling.{room, so_many, told_at_the_stop, told_by, told_nothing, told_on, told_to_the_end}
 use Rattle.rv_explain.proofs.running.run_told.Goals as goal
 
@@ -39,20 +41,22 @@ returns-in-Some g c =
     let told = c.loop.invariant.0 in
     let arrivals = c.args.arrivals.now in
     let next = c.run_cycle-stop.ensures.cycle in
+    let drain_is = c.begun-drain.ensures ∙ (λ i. begun (c.cycles_done-cycle.ensures.number i) (c.drain_end-draining.ensures i) (c.drain_end.ensures i)) ∙ begun_in_cycle c.cycles_done-cycle.ensures.reached next.cycle in
     let count = so_many c.args.description.now arrivals c.args.core.now c.loop.core c.loop.progress c.loop.tale told c.loop.counter c.loop.invariant.1 in
     let ends = c.finished-in-Some.ensures in
     told_by c.args.description.now arrivals c.args.limit c.args.core.now c.run_cycle-stop.new.core _ _ _ _ _ _ _ refl ends.stop ends.progress ends.tale
     (told_at_the_stop c.args.description.now arrivals c.args.core.now c.loop.core c.loop.progress c.loop.tale told
     c.run_cycle-stop.new.core c.clear.new.self.items c.run_cycle-stop.new.steps.items c.as_slice.result.now c.run_cycle-stop.new.self c.add.new.self c.run_cycle-stop.result
-    c.clear.ensures.items next c.as_slice.ensures.value c.observe.result.regs c.observe.ensures.registers c.add.ensures c.in-Some.stop c.args.limit c.in-Some.is (omega (arith, count, c.loop-test.true)))
+    c.clear.ensures.items next c.as_slice.ensures.value c.observe.result.regs c.observe.ensures.registers c.begun-drain.result drain_is c.add.ensures c.in-Some.stop c.args.limit c.in-Some.is (omega (arith, count, c.loop-test.true)))
 
 pub loop-preserved : goal.loop-preserved
 loop-preserved g c =
     let told = c.loop.invariant.0 in
-    let next = c.run_cycle-stop.ensures.cycle in (
+    let next = c.run_cycle-stop.ensures.cycle in
+    let drain_is = c.begun-drain.ensures ∙ (λ i. begun (c.cycles_done-cycle.ensures.number i) (c.drain_end-draining.ensures i) (c.drain_end.ensures i)) ∙ begun_in_cycle c.cycles_done-cycle.ensures.reached next.cycle in (
       told_on c.args.description.now c.args.arrivals.now c.args.core.now c.loop.core c.loop.progress c.loop.tale told
           c.run_cycle-stop.new.core c.clear.new.self.items c.run_cycle-stop.new.steps.items c.as_slice.result.now c.run_cycle-stop.new.self c.add.new.self c.run_cycle-stop.result
-          c.clear.ensures.items next c.as_slice.ensures.value c.observe.result.regs c.observe.ensures.registers c.add.ensures c.in_default.is,
+          c.clear.ensures.items next c.as_slice.ensures.value c.observe.result.regs c.observe.ensures.registers c.begun-drain.result drain_is c.add.ensures c.in_default.is,
       ap (λ (p : Progress). p.cycles) next.counted ∙ ap (λ n. n + 1) c.loop.invariant.1,
       omega (arith, c.run_cycle-stop.ensures.capacity, c.clear.ensures.capacity, c.loop.invariant.2),
     )

@@ -8,4 +8,4 @@ unfolding count_text
 returns g c =
     let cycles = c.as_bytes-cycles.ensures.value ∙ c.format.ensures.text in
     let retired = c.as_bytes-retired.ensures.value ∙ c.format-2.ensures.text in
-    written_same _ _ _ _ _ (λ i. cycles i ++ (codes " cycles, " ++ (retired i ++ codes " instructions retired\n"))) c.put_all.ensures
+    written_same _ _ _ _ _ (λ i. codes "cycles " ++ (cycles i ++ (codes ", retired instructions " ++ (retired i ++ codes "\n")))) c.put_all.ensures

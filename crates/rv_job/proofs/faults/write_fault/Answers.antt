@@ -6,6 +6,10 @@ pub returns-in-TooLong : goal.returns-in-TooLong
 unfolding fault_line
 returns-in-TooLong g c = rw c.in-TooLong.is c.put.ensures
 
+pub returns-in-TooManyDescriptions : goal.returns-in-TooManyDescriptions
+unfolding fault_line
+returns-in-TooManyDescriptions g c = rw c.in-TooManyDescriptions.is c.put-in-TooManyDescriptions.ensures
+
 pub returns-in-Assembly : goal.returns-in-Assembly
 unfolding fault_line
 returns-in-Assembly g c =

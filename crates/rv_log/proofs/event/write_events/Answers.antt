@@ -1,5 +1,7 @@
-use Rattle.rv_log.specs.Event.{events_at}
-use Rattle.rv_text.proofs.Writing.{beginning-both, beginning-longer, handed_on, written_behind}
+use Rattle.std.proofs.Common.{ap}
+use Rattle.rv_log.specs.Event.{events_at, stage_at}
+use Rattle.rv_log.specs.declared.stage.Stage.TheVariants.{Retirement}
+use Rattle.rv_text.proofs.Writing.{beginning-both, beginning-longer, handed_on, written_behind, written_same}
 use Rattle.rv_log.proofs.event.write_events.Goals as goal
 
 pub returns-in_err-write_fetch_at : goal.returns-in_err-write_fetch_at
@@ -25,4 +27,5 @@ returns-in_err-write_stage_at-3 g c =
 pub returns : goal.returns
 unfolding events_at
 returns g c =
-    written_behind _ _ _ _ _ _ c.in_ok-write_fetch_at.ensures (written_behind _ _ _ _ _ _ c.in_ok-write_stage_at.ensures (written_behind _ _ _ _ _ _ c.in_ok-write_stage_at-2.ensures (written_behind _ _ _ _ _ _ c.in_ok-write_stage_at-3.ensures c.write_end_at.ensures)))
+    let retired = written_same _ _ _ _ _ (ap (stage_at c.args.cycle c.args.row.now.number Retirement) c.retired.ensures) c.write_stage_at-4.ensures in
+    written_behind _ _ _ _ _ _ c.in_ok-write_fetch_at.ensures (written_behind _ _ _ _ _ _ c.in_ok-write_stage_at.ensures (written_behind _ _ _ _ _ _ c.in_ok-write_stage_at-2.ensures (written_behind _ _ _ _ _ _ c.in_ok-write_stage_at-3.ensures retired)))

@@ -2,4 +2,4 @@ use Rattle.std.proofs.Common.{◌∙◌, ap, take}
 use Rattle.rv_picture.proofs.label.statement.Goals as goal
 
 pub returns : goal.returns
-returns c = c.cut.ensures ∙ ap (take 32) c.statement.ensures
+returns c = c.front.ensures ∙ ap (take 32) c.statement.ensures

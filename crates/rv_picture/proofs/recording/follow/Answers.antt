@@ -5,15 +5,25 @@ use Rattle.rv_core.specs.declared.outcome.Progress.{Progress}
 use Rattle.rv_passage.specs.Table.{Passages, after_cycle, passages_of}
 use Rattle.rv_picture.specs.Recording.{IsFollowed}
 use Rattle.rv_picture.specs.declared.recording.Recording.{Recording}
-use Rattle.rv_picture.proofs.UnderWay.{IsFollowing, can_count, followed_to, followed_to_stop, following_nothing, following_on, going-bounded, ends_exhausted, ends_by_limit, one_more}
+use Rattle.rv_picture.proofs.UnderWay.{IsFollowing, has_not_run, has_run, on_err, can_count, followed_to, followed_to_stop, following_nothing, following_on, going-bounded, ends_exhausted, ends_by_limit, one_more}
 use Rattle.rv_picture.proofs.recording.follow.Goals as goal
+
+pub returns-in_err-table-clause-run : goal.returns-in_err-table-clause-run
+returns-in_err-table-clause-run g c = on_err _ (has_not_run c.args.arrivals.now c.args.core.now)
+
+pub returns-in_err-steps-clause-run : goal.returns-in_err-steps-clause-run
+returns-in_err-steps-clause-run g c = on_err _ (has_not_run c.args.arrivals.now c.args.core.now)
+
+pub returns-in_err-make_room-clause-run : goal.returns-in_err-make_room-clause-run
+returns-in_err-make_room-clause-run g c =
+    on_err _ (has_run c.loop.invariant.0.going.1.goes)
 
 pub loop-init : goal.loop-init
 loop-init g c =
     (following_nothing c.args.arrivals.now c.args.core.now c.new-progress.result (passages_of c.in_ok-table.table) c.new-progress.ensures c.in_ok-table.ensures.table c.in_ok-table.ensures.few, ap (λ (p : Progress). p.cycles) c.new-progress.ensures, omega (arith, c.in_ok-steps.ensures.exact))
 
-pub returns-then-is_exhausted : goal.returns-then-is_exhausted
-returns-then-is_exhausted g c =
+pub returns-then-is_exhausted-clause-followed : goal.returns-then-is_exhausted-clause-followed
+returns-then-is_exhausted-clause-followed g c =
     let arrivals = c.args.arrivals.now in
     let old = c.args.core.now in
     let now = c.loop.core in
@@ -34,8 +44,8 @@ follow-requires-clause-countable g c =
     let following = subst (λ (t : Passages). IsFollowing c.args.arrivals.now c.args.core.now c.loop.core c.loop.progress t) (sym c.make_room.ensures.same) c.loop.invariant.0 in
     can_count c.args.arrivals.now c.args.core.now c.loop.core c.loop.progress (passages_of c.make_room.new.self) following c.is_exhausted.ensures.within
 
-pub returns-in-Some : goal.returns-in-Some
-returns-in-Some g c =
+pub returns-in-Some-clause-followed : goal.returns-in-Some-clause-followed
+returns-in-Some-clause-followed g c =
     let arrivals = c.args.arrivals.now in
     let old = c.args.core.now in
     let now = c.loop.core in
@@ -64,8 +74,8 @@ loop-preserved g c =
       omega (arith, c.run_cycle-stop.ensures.capacity, c.clear.ensures.capacity, c.loop.invariant.2),
     )
 
-pub returns : goal.returns
-returns g c =
+pub returns-clause-followed : goal.returns-clause-followed
+returns-clause-followed g c =
     let arrivals = c.args.arrivals.now in
     let old = c.args.core.now in
     let now = c.loop.core in

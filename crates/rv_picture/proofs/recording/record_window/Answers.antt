@@ -1,12 +1,15 @@
 use Rattle.std.proofs.Common.{◌∙◌, sym, subst, Bool}
 use Rattle.rv_passage.specs.Table.{passages_of}
 use Rattle.rv_picture.specs.Recording.{IsShownIf}
-use Rattle.rv_picture.proofs.UnderWay.{if_ok_by}
+use Rattle.rv_picture.proofs.UnderWay.{has_run, has_run_on, if_ok_by, on_err, on_err_by}
 use Rattle.rv_picture.proofs.recording.record_window.Goals as goal
 
-pub returns-then-is_limit : goal.returns-then-is_limit
-returns-then-is_limit g c =
-    let way = c.in_ok-stop.ensures in
+pub returns-in_err-stop-clause-run : goal.returns-in_err-stop-clause-run
+returns-in_err-stop-clause-run g c = on_err _ c.in_err-stop.ensures.run
+
+pub returns-then-is_limit-clause-recording : goal.returns-then-is_limit-clause-recording
+returns-then-is_limit-clause-recording g c =
+    let way = c.in_ok-stop.ensures.stop in
     if_ok_by c.follow.result
     (λ r followed. record {
       reports = way.0;
@@ -16,11 +19,11 @@ returns-then-is_limit g c =
       stops = way.2;
       shown = subst (λ (b : Bool). IsShownIf b c.args.arrivals.now c.args.limit c.in_ok-stop.stop c.run_on.new.core c.follow.new.core (passages_of r.table) r.window r.stop) (sym (sym c.is_limit.ensures ∙ c.if-is_limit.true)) followed;
     })
-    c.follow.ensures
+    c.follow.ensures.followed
 
-pub returns-else-is_limit : goal.returns-else-is_limit
-returns-else-is_limit g c =
-    let way = c.in_ok-stop.ensures in
+pub returns-else-is_limit-clause-recording : goal.returns-else-is_limit-clause-recording
+returns-else-is_limit-clause-recording g c =
+    let way = c.in_ok-stop.ensures.stop in
     if_ok_by c.nothing_shown.result
     (λ r over. record {
       reports = way.0;
@@ -31,3 +34,9 @@ returns-else-is_limit g c =
       shown = subst (λ (b : Bool). IsShownIf b c.args.arrivals.now c.args.limit c.in_ok-stop.stop c.run_on.new.core c.run_on.new.core (passages_of r.table) r.window r.stop) (sym (sym c.is_limit.ensures ∙ c.if-is_limit.false)) over;
     })
     c.nothing_shown.ensures
+
+pub returns-then-is_limit-clause-run : goal.returns-then-is_limit-clause-run
+returns-then-is_limit-clause-run g c = on_err_by c.follow.result (λ more. has_run_on (has_run c.in_ok-stop.ensures.stop.1) more) c.follow.ensures.run
+
+pub returns-else-is_limit-clause-run : goal.returns-else-is_limit-clause-run
+returns-else-is_limit-clause-run g c = on_err _ (has_run c.in_ok-stop.ensures.stop.1)

@@ -1,15 +1,18 @@
 use Rattle.std.proofs.Common.{ap, ◌∙◌, sym, arith}
 use Rattle.std.proofs.lemmas.Bool.{leb-true}
 use Rattle.rv_core.specs.declared.outcome.Progress.{Progress}
-use Rattle.rv_picture.proofs.UnderWay.{going-bounded, going_nowhere, going_on, gone_to_exhaustion, gone_to_limit, gone_to_stop, one_more}
+use Rattle.rv_picture.proofs.UnderWay.{has_not_run, on_err, going-bounded, going_nowhere, going_on, gone_to_exhaustion, gone_to_limit, gone_to_stop, one_more}
 use Rattle.rv_picture.proofs.recording.run_on.Goals as goal
 
 pub loop-init : goal.loop-init
 loop-init g c =
     (going_nowhere c.args.arrivals.now c.args.core.now c.new-progress.result c.new-progress.ensures, ap (λ (p : Progress). p.cycles) c.new-progress.ensures, omega (arith, c.in_ok-steps.ensures.exact))
 
-pub returns-then-is_exhausted : goal.returns-then-is_exhausted
-returns-then-is_exhausted g c =
+pub returns-in_err-steps-clause-run : goal.returns-in_err-steps-clause-run
+returns-in_err-steps-clause-run g c = on_err _ (has_not_run c.args.arrivals.now c.args.core.now)
+
+pub returns-then-is_exhausted-clause-stop : goal.returns-then-is_exhausted-clause-stop
+returns-then-is_exhausted-clause-stop g c =
     let over = leb-true 1099511627776 c.loop.core.cycle (sym c.is_exhausted.ensures.exhausted ∙ c.if-is_exhausted.true) in
     gone_to_exhaustion c.args.arrivals.now c.args.core.now c.loop.core c.loop.progress c.loop.invariant.0 c.args.limit (omega (arith, c.loop.invariant.1, c.loop-test.true)) (omega (arith, over, c.is_exhausted.ensures.within))
 
@@ -19,8 +22,8 @@ run_cycle-requires-clause-bounded g c = going-bounded c.args.arrivals.now c.args
 pub run_cycle-requires-clause-countable : goal.run_cycle-requires-clause-countable
 run_cycle-requires-clause-countable g c = omega (arith, c.loop.invariant.1, c.loop-test.true, c.ranges.limit)
 
-pub returns-in-Some : goal.returns-in-Some
-returns-in-Some g c =
+pub returns-in-Some-clause-stop : goal.returns-in-Some-clause-stop
+returns-in-Some-clause-stop g c =
     gone_to_stop c.args.arrivals.now c.args.core.now c.loop.core c.loop.progress c.loop.invariant.0 c.run_cycle.new.core c.clear.new.self.items c.run_cycle.new.steps.items c.run_cycle.new.self c.run_cycle.result c.run_cycle.ensures.cycle
     c.args.limit c.in-Some.stop c.in-Some.is (omega (arith, c.loop.invariant.1, c.loop-test.true))
 
@@ -33,6 +36,6 @@ loop-preserved g c =
       omega (arith, c.run_cycle.ensures.capacity, c.clear.ensures.capacity, c.loop.invariant.2),
     )
 
-pub returns : goal.returns
-returns g c =
+pub returns-clause-stop : goal.returns-clause-stop
+returns-clause-stop g c =
     gone_to_limit c.args.arrivals.now c.args.core.now c.loop.core c.loop.progress c.loop.invariant.0 c.args.limit (omega (arith, c.loop.invariant.1, c.loop-test.false, c.loop.auto.counter-end))

@@ -7,6 +7,6 @@ use Rattle.rv_picture.proofs.written.write_picture.Goals as goal
 pub write_recording-requires : goal.write_recording-requires
 write_recording-requires g c =
     let recording = c.in-Ok.recording in
-    let way = c.in-Ok.ensures in
+    let way = c.in-Ok.ensures.recording in
     let end = shown_to_the_end c.args.arrivals.now (is_limit way.reason) c.args.limit way.reason way.start c.record_window.new.core (passages_of recording.table) recording.window recording.stop way.shown in
     omega (arith, end, c.is_exhausted.ensures.within)

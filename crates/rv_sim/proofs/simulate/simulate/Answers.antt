@@ -1,30 +1,26 @@
-use Rattle.std.proofs.Common.{◌≡◌, ◌∙◌, ap, ◌⊎◌, inl, inr, refl, subst}
+use Rattle.std.proofs.Common.{◌≡◌, ◌∙◌, ap, refl, subst}
 use Rattle.rv_isa.specs.Description.{IsLegal}
 use Rattle.rv_isa.specs.declared.values.Values.{Values}
+use Rattle.rv_sim.specs.CoreReport.{IsSimulation}
 use Rattle.rv_sim.specs.ReferenceReport.{shown}
-use Rattle.rv_job.specs.declared.errors.SimError.TheVariants.{Memory, WriteFailed}
-use Rattle.rv_job.proofs.HandedOn.{refused_on}
+use Rattle.rv_sim.proofs.Answered.{answered_on}
 use Rattle.rv_sim.proofs.Simulated.{run_simulated}
 use Rattle.rv_sim.proofs.simulate.simulate.Goals as goal
 
-pub returns-in_err-steps-clause-errors : goal.returns-in_err-steps-clause-errors
-returns-in_err-steps-clause-errors g c =
-    refused_on (λ e. (e ≡ Memory) ⊎ (e ≡ WriteFailed)) _ _ c.from_residual.ensures.1 (inl refl)
+pub returns-in_err-steps : goal.returns-in_err-steps
+returns-in_err-steps g c = answered_on (IsSimulation c.args.job c.args.options.now) _ _ _ _ c.from_residual.ensures.1 refl
 
-pub returns-in_err-write_run-clause-beginning : goal.returns-in_err-write_run-clause-beginning
-returns-in_err-write_run-clause-beginning g c failed =
+pub returns-in_err-write_run : goal.returns-in_err-write_run
+returns-in_err-write_run g c =
     let described : c.values.result ≡ c.args.job.description = c.values.ensures.values in
     let asked = c.with_dump-options.ensures ∙ ap (λ (values : Values). shown values.report c.args.options.now) described in
     let legal = subst IsLegal described c.values.ensures.legal in
     let (stop, text, run, written) = c.in_err-write_run.ensures in
+    answered_on (IsSimulation c.args.job c.args.options.now) _ _ _ _ c.from_residual-in_err-write_run.ensures.1
     (stop, text, run_simulated c.args.job c.args.options.now c.with_dump-options.result c.in-Ok.core stop text legal c.in-Ok.ensures.fits c.in-Ok.ensures.made asked run, written)
 
-pub returns-in_err-write_run-clause-errors : goal.returns-in_err-write_run-clause-errors
-returns-in_err-write_run-clause-errors g c =
-    refused_on (λ e. (e ≡ Memory) ⊎ (e ≡ WriteFailed)) _ _ c.from_residual-in_err-write_run.ensures.1 (inr refl)
-
-pub returns-clause-report : goal.returns-clause-report
-returns-clause-report g c =
+pub returns : goal.returns
+returns g c =
     let described : c.values.result ≡ c.args.job.description = c.values.ensures.values in
     let asked = c.with_dump-options.ensures ∙ ap (λ (values : Values). shown values.report c.args.options.now) described in
     let legal = subst IsLegal described c.values.ensures.legal in

@@ -37,7 +37,7 @@ invariant_of-self-2 c =
     let port = c.is_port_idle-port_idle.ensures ∙ ap (λ (h : Hardware). nat_le h.port_free h.cycle) (sym c.self.view_is) in
     let parts = c.self.inside in
     let path = load_path parts.cache.backing.layout (older_than c.in-Some.ready.seq parts.stores.stores) c.in-Some.ready.first c.in-Some.ready.instruction in
-    let costs = c.execute-executed.ensures.cost ∙ ap (λ (k : KindValues). path_cost k.latency parts.values.forward parts.cache path) c.of_kind.ensures in
+    let costs = c.execute-executed.ensures.cost ∙ ap (λ (k : KindValues). path_cost k.latency parts.values.forward parts.cache path) c.get.ensures in
     sound_after c.self.inside c.self.invariant c.args.kind c.is_port_idle-port_idle.result port c.take_ready.result c.take_ready.ensures.oldest
     c.in-Some.ready c.in-Some.is c.execute-executed.result.message c.execute-executed.result.cost c.execute-executed.result.port_free c.execute-executed.new.cache
     costs c.execute-executed.ensures.port c.execute-executed.ensures.cache c.execute-executed.ensures.message
@@ -49,7 +49,7 @@ returns c =
     let port = c.is_port_idle-port_idle.ensures ∙ ap (λ (h : Hardware). nat_le h.port_free h.cycle) (sym c.self.view_is) in
     let parts = c.self.inside in
     let path = load_path parts.cache.backing.layout (older_than c.in-Some.ready.seq parts.stores.stores) c.in-Some.ready.first c.in-Some.ready.instruction in
-    let costs = c.execute-executed.ensures.cost ∙ ap (λ (k : KindValues). path_cost k.latency parts.values.forward parts.cache path) c.of_kind.ensures in
+    let costs = c.execute-executed.ensures.cost ∙ ap (λ (k : KindValues). path_cost k.latency parts.values.forward parts.cache path) c.get.ensures in
     turn_after c.self.inside c.self.invariant c.args.kind c.is_port_idle-port_idle.result port c.take_ready.result c.take_ready.ensures.oldest
     c.in-Some.ready c.in-Some.is c.execute-executed.result.message c.execute-executed.result.cost c.execute-executed.result.port_free c.execute-executed.new.cache
     costs c.execute-executed.ensures.port c.execute-executed.ensures.cache c.execute-executed.ensures.message

@@ -1,34 +1,10 @@
-use Rattle.std.proofs.Common.{◌≡◌, true, false, refl, sym, ◌∙◌, arith, ◌==◌, ◌+◌}
-use Rattle.rv_isa.proofs.Numbered.{IsInOrder-below, below-map}
+use Rattle.std.proofs.Common.{◌≡◌, true, false, refl, sym, ◌∙◌, ◌==◌, ◌+◌}
+use Rattle.rv_isa.proofs.Numbered.{below-map}
 use Rattle.rv_rename.specs.Kept.{checkpoint_of}
-use Rattle.rv_rename.proofs.Prefixes.{seq_of}
 use Rattle.rv_rename.proofs.CheckpointLists.{checkpoint_seq, checkpoints-restore, producers_at-held, producers_at-none}
 use Rattle.std.specs.List.{list_any}
 use Rattle.rv_rename.proofs.rename_map.RenameMap.restore.Goals.{then-contains, else-contains}
 use Rattle.rv_rename.proofs.rename_map.RenameMap.restore.Goals as goal
-
-pub invariant_of-self : goal.invariant_of-self
-invariant_of-self c =
-    elim c.if-contains.branch [
-      | then-contains w ↦
-          let shorter = rw w.self-inside-is at c.keep_up_to.ensures.shorter in
-          let capacity = rw w.self-inside-is at c.keep_up_to.ensures.capacity in
-          rw (w.self-inside-is, w.truncate_back.ensures, w.table_up_to-kept.ensures.kept) (record {
-            in_order = IsInOrder-below seq_of (c.args.seq + 1) c.self.inside.producers.items c.self.invariant.in_order;
-            table_ok = w.table_up_to-kept.ensures.table;
-            numbers_fit = omega (arith, shorter, c.self.invariant.numbers_fit);
-            room_ok = omega (arith, capacity, c.self.invariant.room_ok);
-          })
-      | else-contains w ↦
-          let shorter = rw w.self-inside-is at c.keep_up_to.ensures.shorter in
-          let capacity = rw w.self-inside-is at c.keep_up_to.ensures.capacity in
-          rw w.self-inside-is (record {
-            in_order = c.self.invariant.in_order;
-            table_ok = c.self.invariant.table_ok;
-            numbers_fit = omega (arith, shorter, c.self.invariant.numbers_fit);
-            room_ok = omega (arith, capacity, c.self.invariant.room_ok);
-          })
-    ]
 
 pub returns : goal.returns
 returns c =
@@ -56,6 +32,3 @@ returns c =
             below-map (λ m. m) checkpoint_seq (checkpoint_of c.self.inside.producers.items) (λ m. refl) (c.args.seq + 1) c.self.inside.checkpoints.items,
           )
     ]
-
-pub table_up_to-kept-requires : goal.table_up_to-kept-requires
-table_up_to-kept-requires c = c.self.invariant.in_order

@@ -1,4 +1,4 @@
-use Rattle.std.proofs.Common.{◌≡◌, true, false, sym, ◌∙◌, arith}
+use Rattle.std.proofs.Common.{sym, ◌∙◌, arith}
 use Rattle.rv_rename.proofs.Youngest.{IsTable-retire, IsTable-keep, option_eq-true, option_eq-false}
 use Rattle.rv_isa.proofs.Numbered.{IsInOrder-drop}
 use Rattle.rv_rename.proofs.Prefixes.{seq_of}
@@ -39,9 +39,3 @@ pub returns-else-is_oldest-clause-oldest : goal.returns-else-is_oldest-clause-ol
 returns-else-is_oldest-clause-oldest c =
     let other = rw (← c.self.view_is) at (sym c.is_oldest.ensures ∙ c.if-is_oldest.false) in
     rw (← c.self.view_is, other, checkpoints-retire c.args.reg c.args.seq c.self.inside.checkpoints.items c.self.inside.producers.items c.self.invariant.in_order, other)
-
-pub returns-then-eq-clause-other : goal.returns-then-eq-clause-other
-returns-then-eq-clause-other c = λ other. absurd (let no : true ≡ false = sym (sym c.is_oldest.ensures ∙ c.if-is_oldest.true) ∙ other in cc)
-
-pub returns-else-eq-clause-other : goal.returns-else-eq-clause-other
-returns-else-eq-clause-other c = λ other. absurd (let no : true ≡ false = sym (sym c.is_oldest.ensures ∙ c.if-is_oldest.true) ∙ other in cc)

@@ -1,0 +1,42 @@
+ghost use Rattle.std.specs.Prelude.{◌≡◌};
+ghost use Rattle.std.specs.Borrow.{sem};
+
+use crate::operations::Kind;
+
+/// What there is for each of the four kinds of unit.
+#[derive(Clone, Copy, Debug, PartialEq, Eq, Drop)]
+pub struct PerKind<T> {
+    pub alu: T,
+    pub mul: T,
+    pub div: T,
+    pub mem: T,
+}
+
+impl<T> PerKind<T> {
+    ghost use Rattle.rv_isa.specs.PerKind.{at_kind, LendsKind};
+
+    /// The part of a kind.
+    pub fn get(&self, kind: Kind) -> &T
+        ensures { result.now ≡ at_kind kind self.now }
+    {
+        match kind {
+            Kind::Alu => &self.alu,
+            Kind::Mul => &self.mul,
+            Kind::Div => &self.div,
+            Kind::Mem => &self.mem,
+        }
+    }
+
+    /// The part of a kind, to write to.
+    pub fn get_mut(&mut self, kind: Kind) -> &mut T
+        ensures* writes_back { sem 𝓛 (LendsKind T.row self.entry kind result) }
+        ensures value { result.now ≡ at_kind kind self.old }
+    {
+        match kind {
+            Kind::Alu => &mut self.alu,
+            Kind::Mul => &mut self.mul,
+            Kind::Div => &mut self.div,
+            Kind::Mem => &mut self.mem,
+        }
+    }
+}

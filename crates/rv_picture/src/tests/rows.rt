@@ -1,0 +1,157 @@
+use crate::svg::write_picture_svg;
+use crate::text::write_picture_text;
+use crate::window::Window;
+use rv_isa::{Cause, Reg};
+use rv_passage::{Ending, Passage};
+use rv_source::{Listing, SourceLine};
+use std::alloc::Global;
+use std::str;
+use std::test::Fail;
+
+// Ten cycles from cycle 10 on.
+const WINDOW: Window = Window {
+    first: 10,
+    cycles: 10,
+};
+
+const LINES: [&str; 2] = [
+    "addi\tx1,x0,5",
+    "ebreak # stops & \"waits\" <here> for good",
+];
+
+const TEXT: &str = "                                                       10        \n\
+80000000 addi x1,x0,5                     x1=00000005  FDI==B.C  \n\
+80000004 ebreak # stops & \"waits\" <here>  -             FD.....T \n\
+80000008 0000006f                         -              F.x     \n\
+8000000c 00000013                         -               FDI====\n\
+00000000 -                                -                     F\n\
+interrupts                                                !      \n\
+F fetch  D dispatch  I issue  = execution  B broadcast  C retirement  T trap  x squash  . wait  ! interrupt\n";
+
+fn fetched(number: u64, pc: u32, word: Option<u32>, cycle: u64) -> Passage {
+    Passage {
+        number,
+        pc,
+        word,
+        fetched: cycle,
+        dispatched: None,
+        issued: None,
+        broadcast: None,
+        ending: Ending::InFlight,
+    }
+}
+
+// One that left before the window, one for each ending, two in flight, and one that is fetched behind the window.
+fn passages() -> [Passage; 7] {
+    let register = Reg::new(1);
+    [
+        Passage {
+            ending: Ending::Squashed { cycle: 9 },
+            ..fetched(0, 0x7fff_fffc, Some(0x13), 8)
+        },
+        Passage {
+            dispatched: Some(11),
+            issued: Some(12),
+            broadcast: Some(15),
+            ending: Ending::Retired {
+                order: 0,
+                cycle: 17,
+                written: register.map(|register| (register, 5)),
+            },
+            ..fetched(1, 0x8000_0000, Some(0x0050_0093), 10)
+        },
+        Passage {
+            dispatched: Some(12),
+            ending: Ending::Trapped {
+                cycle: 18,
+                cause: Cause::Breakpoint,
+            },
+            ..fetched(2, 0x8000_0004, Some(0x0010_0073), 11)
+        },
+        Passage {
+            ending: Ending::Squashed { cycle: 14 },
+            ..fetched(3, 0x8000_0008, Some(0x6f), 12)
+        },
+        Passage {
+            dispatched: Some(14),
+            issued: Some(15),
+            ..fetched(4, 0x8000_000c, Some(0x13), 13)
+        },
+        fetched(5, 0, None, 19),
+        fetched(6, 4, None, 20),
+    ]
+}
+
+fn listing(alloc: Global) -> Result<Listing, Fail> {
+    let mut listing = Listing::new(alloc, 0x8000_0000);
+    for (place, line) in LINES.iter().enumerate() {
+        let text = line.as_bytes().to_vec(alloc)?;
+        listing.push_line(SourceLine::new(place + 1, text), 1)?;
+    }
+    Ok(listing)
+}
+
+#[test]
+fn each_ending_has_its_letter_and_each_phase_its_own(rt: HostRuntime) -> Result<(), Fail> {
+    let alloc = rt.alloc();
+    let listing = listing(alloc)?;
+    let mut text = Vec::new(alloc);
+    let written = write_picture_text(&passages(), &[13], &listing, WINDOW, &mut text);
+    assert_eq!(&rt; written, Ok(()));
+    assert_eq!(&rt; text.as_slice(), TEXT.as_bytes());
+    Ok(())
+}
+
+// A class, a column, a name, a cycle and a letter.
+const BOXES: [(&str, u32, &str, u32, &str); 9] = [
+    ("f", 448, "fetch", 10, "F"),
+    ("d", 462, "dispatch", 11, "D"),
+    ("i", 476, "issue", 12, "I"),
+    ("e", 490, "execution", 13, "="),
+    ("b", 518, "broadcast", 15, "B"),
+    ("w", 532, "wait", 16, "."),
+    ("c", 546, "retirement", 17, "C"),
+    ("t", 560, "trap", 18, "T"),
+    ("x", 504, "squash", 14, "x"),
+];
+
+// How the rows begin.
+const ROWS: [&str; 5] = [
+    "<g class='done' transform='translate(0 44)'><text x='8' y='13'>80000000</text><text x='84' y='13'>addi x1,x0,5</text>",
+    "<g class='trap' transform='translate(0 62)'><text x='8' y='13'>80000004</text><text x='84' y='13'>ebreak # stops &amp; &quot;waits&quot; &lt;here&gt; </text>",
+    "<g class='out' transform='translate(0 80)'><text x='8' y='13'>80000008</text><text x='84' y='13'>0000006f</text>",
+    "<g class='open' transform='translate(0 98)'><text x='8' y='13'>8000000c</text><text x='84' y='13'>00000013</text>",
+    "<g class='open' transform='translate(0 116)'><text x='8' y='13'>00000000</text><text x='84' y='13'>-</text>",
+];
+
+#[test]
+fn each_kind_of_cell_has_a_box_and_a_colour_of_its_own(rt: HostRuntime) -> Result<(), Fail> {
+    let alloc = rt.alloc();
+    let listing = listing(alloc)?;
+    let mut text = Vec::new(alloc);
+    let written = write_picture_svg(&passages(), &[13], &listing, WINDOW, &mut text);
+    assert_eq!(&rt; written, Ok(()));
+    let svg = str::from_utf8(text.as_slice()).expect(&rt, "ASCII");
+    for row in ROWS {
+        assert!(&rt; svg.contains(row));
+    }
+    assert!(&rt; !svg.contains("7ffffffc") && !svg.contains("00000004"));
+    assert!(&rt;
+        svg.contains("<g class='v' transform='translate(490 0)'><title>cycle 13, interrupt</title>")
+    );
+    let mut colours = Vec::new(alloc);
+    for (class, column, name, cycle, letter) in BOXES {
+        let shown = format!(in alloc;
+            "<g class='p {class}' transform='translate({column} 0)'><title>{name} in cycle {cycle}</title><rect width='14' height='18'/><text x='7' y='13'>{letter}</text></g>\n"
+        )?;
+        assert!(&rt; svg.contains(shown.as_str()));
+        let rule = format!(in alloc; "\n.{class} rect{{fill:")?;
+        let (_, behind) = svg
+            .split_once(rule.as_str())
+            .expect(&rt, "a rule for the class");
+        let (colour, _) = behind.split_once("}").expect(&rt, "the end of the rule");
+        assert!(&rt; !colours.contains(&colour));
+        colours.push(colour)?;
+    }
+    Ok(())
+}
