@@ -1,5 +1,5 @@
 -- What is appended, one part after another.
-use Rattle.std.proofs.Common.{◌≡◌, ◌∙◌, ◌+◌, ◌-◌, ℕ, suc, zero, List, [], ◌∷◌, ◌++◌, map, take, length, Bool, true, false, cond, Option, Result, Ok, Err, sym, refl, ap, arith, append_assoc, drop, if◌then◌else◌}
+use Rattle.std.proofs.Common.{◌≡◌, ◌∙◌, ◌+◌, ◌-◌, ℕ, List, [], ◌∷◌, ◌++◌, map, take, length, Bool, true, false, cond, Option, Result, Ok, Err, sym, refl, ap, arith, append_assoc, drop, if◌then◌else◌}
 use Rattle.std.specs.Prelude.{replicate, ℤ}
 use Rattle.std.proofs.lemmas.List.{append-nil, take_all, drop-drop}
 use Rattle.rv_asm.specs.ReadOperand.{operand_of}
@@ -34,13 +34,6 @@ spells_bytes (b ∷ bytes) = byte (spells_bytes bytes)
 
 pub appends_bytes : (bytes old new : List ℕ) → new ≡ old ++ bytes → Appends (map Byte' bytes) old new
 appends_bytes bytes old new e = record { bytes = bytes; spells = spells_bytes bytes; appended = e }
-
-spells_zeros : (n : ℕ) → Spells (replicate n (Byte' 0)) (replicate n 0)
-spells_zeros zero = nothing
-spells_zeros (suc n) = byte (spells_zeros n)
-
-pub appends_zeros : (n : ℕ) (old new : List ℕ) → new ≡ old ++ replicate n 0 → Appends (replicate n (Byte' 0)) old new
-appends_zeros n old new e = record { bytes = replicate n 0; spells = spells_zeros n; appended = e }
 
 pub zeros_after : (old new : List ℕ) (size count len : ℕ) → new ≡ take size old ++ replicate (size - len) 0 → size ≡ len + count → len ≡ length old → new ≡ old ++ replicate count 0
 zeros_after old new size count len e size_is len_is =
@@ -80,7 +73,7 @@ module _ (value : List ℕ → Option ℤ) (width : Width) (all rest behind : Li
 pub rest_at : (ops : List read.Operand) (i : ℕ) (o : read.Operand) (others : List read.Operand) → drop i ops ≡ o ∷ others → map operand_of (drop i ops) ≡ operand_of o ∷ map operand_of (drop (i + 1) ops)
 rest_at ops i o others e = ap (map operand_of) e ∙ ap (λ l. operand_of o ∷ map operand_of l) (ap (drop 1) (sym e) ∙ drop-drop 1 i ops)
 
-pub joined_spells : (text_parts data_parts : List Cell) (count wanted : ℕ) (old middle more new : List ℕ) (empty : Bool) → empty ≡ false → count ≡ wanted → Spells text_parts old → Spells data_parts more → Appends (replicate count (Byte' 0)) old middle → new ≡ middle ++ more → Spells (text_parts ++ (if empty then [] else (replicate wanted (Byte' 0) ++ data_parts))) new
+pub joined_spells : (text_parts data_parts : List Cell) (count wanted : ℕ) (old middle more new : List ℕ) (empty : Bool) → empty ≡ false → count ≡ wanted → Spells text_parts old → Spells data_parts more → Appends (map Byte' (replicate count 0)) old middle → new ≡ middle ++ more → Spells (text_parts ++ (if empty then [] else (map Byte' (replicate wanted 0) ++ data_parts))) new
 joined_spells text_parts data_parts count wanted old middle more new empty is_false same t d r e =
     let appended : new ≡ old ++ (r.bytes ++ more) = e ∙ ap (λ l. l ++ more) r.appended ∙ append_assoc old r.bytes more in
     rw (is_false, ← same, appended) (spells_append t (spells_append r.spells d))

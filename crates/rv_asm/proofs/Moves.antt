@@ -4,7 +4,7 @@ use Rattle.rv_asm.specs.Kept.{is_idle}
 use Rattle.rv_asm.proofs.Kept.{idle_says_nothing}
 use Rattle.rv_asm.specs.Layout.{Line, Unreadable, Readable, Layout, Meanings, advance, behind, extended, grow_in, laid, labelled, label_at, offset, offset_in, size, statement_in}
 use Rattle.rv_asm.specs.Placed.{place}
-use Rattle.rv_asm.specs.Statement.{Statement, Nothing, Choice, Constant, Instruction, Values, Zeros, Align, Characters}
+use Rattle.rv_asm.specs.Statement.{Statement, Nothing, Choice, Constant, Instruction, Values, Bytes}
 use Rattle.rv_asm.specs.declared.fault.AsmFault.{AsmFault}
 use Rattle.rv_asm.specs.declared.operation.Section.{Section}
 use Rattle.rv_asm.specs.declared.operation.Section.TheVariants.{Text, Data}
@@ -28,9 +28,7 @@ advances m Nothing reach = grow reach.section 0 reach
 advances m (Constant name number) reach = grow reach.section 0 reach
 advances m (Instruction operation fields value) reach = grow reach.section (size m (offset reach) (Instruction operation fields value)) reach
 advances m (Values width operands) reach = grow reach.section (size m (offset reach) (Values width operands)) reach
-advances m (Zeros count) reach = grow reach.section count reach
-advances m (Align multiple) reach = grow reach.section (size m (offset reach) (Align multiple)) reach
-advances m (Characters bytes terminated) reach = grow reach.section (size m (offset reach) (Characters bytes terminated)) reach
+advances m (Bytes directive operand) reach = grow reach.section (size m (offset reach) (Bytes directive operand)) reach
 
 behind_grows : (m : Meanings) (reach : Reach) (said : Result Statement AsmFault) → Grows reach (behind m reach said).reach
 behind_grows m reach (Ok said) = advances m said reach

@@ -1,5 +1,5 @@
 -- Where the statements of a text stand, and what its symbols are.
-use Rattle.std.specs.Prelude.{ℕ, ℤ, pos, negsuc, ◌+◌, ◌-◌, ◌*◌, ◌%◌, ◌+ℤ◌, ◌-ℤ◌, List, [], ◌∷◌, length, map, Bool, if◌then◌else◌, ◌==◌, nat_lt, Option, Some, None, Result, Ok, Err, unwrap_or, unsigned_abs}
+use Rattle.std.specs.Prelude.{ℕ, ℤ, pos, negsuc, ◌+◌, ◌*◌, ◌+ℤ◌, ◌-ℤ◌, List, [], ◌∷◌, length, map, Bool, if◌then◌else◌, ◌==◌, nat_lt, Option, Some, None, Result, Ok, Err, unwrap_or, unsigned_abs}
 use Rattle.std.specs.List.{slice_split}
 use Rattle.std.specs.Option.{option_or}
 use Rattle.std.specs.Str.{bytes_eq}
@@ -9,8 +9,9 @@ use Rattle.rv_isa.specs.Word.{signed, modulo_word}
 use Rattle.rv_isa.specs.declared.instructions.Instr.{Instr}
 use Rattle.rv_isa.specs.declared.instructions.Instr.TheVariants.{Lui, Auipc, OpImmediate}
 use Rattle.rv_isa.specs.declared.operations.ImmediateOp.TheVariants.{Addi}
+use Rattle.rv_asm.specs.Directive.{laid_by}
 use Rattle.rv_asm.specs.Operand.{Expression, Number, Symbol, Sum}
-use Rattle.rv_asm.specs.Statement.{Statement, Choice, Constant, Instruction, Values, Zeros, Align, Characters, and_then, reading, statement, is_between}
+use Rattle.rv_asm.specs.Statement.{Statement, Choice, Constant, Instruction, Values, Bytes, and_then, reading, statement, is_between}
 use Rattle.rv_asm.specs.Token.{Token, tokens_of}
 use Rattle.rv_asm.specs.Token as token
 use Rattle.rv_asm.specs.declared.fault.AsmFault.{AsmFault}
@@ -105,10 +106,6 @@ known definition (Number number) = number
 known definition (Symbol name) = unwrap_or (number_of (definition name)) (pos 0)
 known definition (Sum name number) = pos 0
 
--- the least number of bytes that leads from an offset to a multiple
-abbrev pub padding : ℕ → ℕ → ℕ
-padding multiple offset = (multiple - offset % multiple) % multiple
-
 -- the bytes of an instruction
 abbrev pub instruction_size : (List ℕ → Option Definition) → Operation → Fields → Expression → ℕ
 instruction_size definition operation.LoadNumber fields value = 4 * length (load_number fields.rd (signed_word (known definition value)))
@@ -119,9 +116,7 @@ instruction_size definition _ fields value = 4
 abbrev pub size : (List ℕ → Option Definition) → ℕ → Statement → ℕ
 size definition offset (Instruction operation fields value) = instruction_size definition operation fields value
 size definition offset (Values width operands) = bytes_of width * length operands
-size definition offset (Zeros count) = count
-size definition offset (Align multiple) = padding multiple offset
-size definition offset (Characters bytes terminated) = length bytes + (if terminated then 1 else 0)
+size definition offset (Bytes directive operand) = length (laid_by directive offset operand)
 size definition offset _ = 0
 
 -- how far the text has come behind a statement

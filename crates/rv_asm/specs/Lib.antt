@@ -1,4 +1,5 @@
 pub mod Answer
+pub mod Directive
 pub mod Emitted
 pub mod Faults
 pub mod FirstPass

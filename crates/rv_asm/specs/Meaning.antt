@@ -11,10 +11,11 @@ use Rattle.rv_isa.specs.declared.instructions.Instr.{Instr}
 use Rattle.rv_isa.specs.declared.instructions.Instr.TheVariants as instr
 use Rattle.rv_isa.specs.declared.operations.Width.{Width}
 use Rattle.rv_isa.specs.declared.operations.Width.TheVariants.{Byte, Half, Word}
-use Rattle.rv_asm.specs.Layout.{Line, Layout, Meanings, layout, unlaid, signed_word, load_number, load_address, padding, offset}
+use Rattle.rv_asm.specs.Directive.{laid_by}
+use Rattle.rv_asm.specs.Layout.{Line, Layout, Meanings, layout, unlaid, signed_word, load_number, load_address, offset}
 use Rattle.rv_asm.specs.Operand.{Expression, Number, Symbol, Sum, Operand}
 use Rattle.rv_asm.specs.Placed.{Placed, placed}
-use Rattle.rv_asm.specs.Statement.{Statement, Instruction, Values, Zeros, Align, Characters, and_then, is_between, expression_in}
+use Rattle.rv_asm.specs.Statement.{Statement, Instruction, Values, Bytes, and_then, is_between, expression_in}
 use Rattle.rv_asm.specs.declared.fault.AsmFault.{AsmFault}
 use Rattle.rv_asm.specs.declared.fault.AsmFault.TheVariants.{UnknownSymbol, OutOfRange, Misaligned}
 use Rattle.rv_asm.specs.declared.reach.Reach.{Reach}
@@ -131,9 +132,7 @@ cells value start offset (Instruction operation fields expression) =
     (λ v. and_then (instructions operation fields (start + offset) v) (aligned (start + offset)))
 cells value start offset (Values width operands) =
     if list_all (λ operand. is_some (evaluate value (expression_in operand))) operands then data_of value width operands else Err UnknownSymbol
-cells value start offset (Zeros count) = Ok (replicate count (Byte' 0))
-cells value start offset (Align multiple) = Ok (replicate (padding multiple offset) (Byte' 0))
-cells value start offset (Characters bytes terminated) = Ok (map Byte' bytes ++ (if terminated then Byte' 0 ∷ [] else []))
+cells value start offset (Bytes directive operand) = Ok (map Byte' (laid_by directive offset operand))
 cells value start offset _ = Ok []
 
 -- what a statement means where the text has come so far
@@ -162,7 +161,7 @@ section_parts base section lines = contents base (layout lines) section (placed 
 -- what stands behind the text: the data behind zero bytes, if there are any
 abbrev pub behind_text : ℕ → ℕ → List Cell → List Cell
 behind_text text_size data_size parts =
-    if data_size == 0 then [] else (replicate (round_up text_size - text_size) (Byte' 0) ++ parts)
+    if data_size == 0 then [] else (map Byte' (replicate (round_up text_size - text_size) 0) ++ parts)
 
 -- the parts of the image: the text, and the data behind it
 abbrev pub image_parts : ℕ → List Line → List Cell

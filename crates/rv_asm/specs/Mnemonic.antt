@@ -1,5 +1,5 @@
 -- The mnemonics and directives.
-use Rattle.std.specs.Prelude.{ℕ, List, [], ◌∷◌, Option, true, false, codes}
+use Rattle.std.specs.Prelude.{ℕ, List, [], ◌∷◌, Option, codes}
 use Rattle.rv_isa.specs.declared.operations.AluOp.TheVariants as alu
 use Rattle.rv_isa.specs.declared.operations.Condition.TheVariants as condition
 use Rattle.rv_isa.specs.declared.operations.CsrOp.TheVariants as csr
@@ -8,11 +8,12 @@ use Rattle.rv_isa.specs.declared.operations.LoadForm.TheVariants as load
 use Rattle.rv_isa.specs.declared.operations.ShiftOp.TheVariants as shift
 use Rattle.rv_isa.specs.declared.operations.Width.TheVariants as width
 use Rattle.rv_asm.specs.Names.{named}
+use Rattle.rv_asm.specs.declared.directive.Directive.TheVariants.{Zeros, Align, Characters}
 use Rattle.rv_asm.specs.declared.operation.Form.{Form}
 use Rattle.rv_asm.specs.declared.operation.Form.TheVariants as form
-use Rattle.rv_asm.specs.declared.operation.Form.TheVariants.{Instruction, Choice, Values, Characters}
+use Rattle.rv_asm.specs.declared.operation.Form.TheVariants.{Instruction, Choice, Values, Bytes}
 use Rattle.rv_asm.specs.declared.operation.Operation.TheVariants.{Lui, Auipc, Jal, Jalr, Branch, Load, Store, OpImmediate, Shift, Op, Fence, FenceI, Csr, CsrImmediate, Ecall, Ebreak, Mret, Wfi, LoadNumber, LoadAddress}
-use Rattle.rv_asm.specs.declared.operation.Place.TheVariants.{Rd, Rs1, Rs2, Value, Known, Target, Address, Csr as Csr', Link, Return, One, MinusOne, Empty}
+use Rattle.rv_asm.specs.declared.operation.Place.TheVariants.{Rd, Rs1, Rs2, Value, Known, Target, Address, Csr as Csr', UpTo, Multiple, Text, Link, Return, One, MinusOne, Empty}
 use Rattle.rv_asm.specs.declared.operation.Section.TheVariants as section
 
 -- what each mnemonic and directive names, and the places that its operands fill
@@ -125,13 +126,13 @@ mnemonics =
     (codes ".word", Values width.Word) ∷
     (codes ".half", Values width.Half) ∷
     (codes ".byte", Values width.Byte) ∷
-    (codes ".zero", form.Zeros) ∷
-    (codes ".space", form.Zeros) ∷
-    (codes ".skip", form.Zeros) ∷
-    (codes ".balign", form.Align) ∷
-    (codes ".asciz", Characters true) ∷
-    (codes ".string", Characters true) ∷
-    (codes ".ascii", Characters false) ∷
+    (codes ".zero", Bytes Zeros (UpTo 16777216)) ∷
+    (codes ".space", Bytes Zeros (UpTo 16777216)) ∷
+    (codes ".skip", Bytes Zeros (UpTo 16777216)) ∷
+    (codes ".balign", Bytes Align Multiple) ∷
+    (codes ".asciz", Bytes (Characters 1) Text) ∷
+    (codes ".string", Bytes (Characters 1) Text) ∷
+    (codes ".ascii", Bytes (Characters 0) Text) ∷
     []
 
 -- what a name names

@@ -3,12 +3,11 @@ use Rattle.std.specs.Prelude.{◌≡◌, Result, List}
 use Rattle.std.specs.Result.{result_map_both}
 use Rattle.rv_asm.specs.Statement as spec
 use Rattle.rv_asm.specs.Operand.{Operand}
-use Rattle.rv_asm.specs.ReadOperand.{expression_of, operands_in}
-use Rattle.rv_asm.specs.Token.{unescaped}
+use Rattle.rv_asm.specs.ReadOperand.{expression_of, operand_of, operands_in}
 use Rattle.rv_asm.specs.declared.fault.AsmFault.{AsmFault}
 use Rattle.rv_asm.specs.declared.operand.Operand as shown
 use Rattle.rv_asm.specs.declared.statement.Statement as read
-use Rattle.rv_asm.specs.declared.statement.Statement.TheVariants.{Nothing, Choice, Constant, Instruction, Values, Zeros, Align, Characters}
+use Rattle.rv_asm.specs.declared.statement.Statement.TheVariants.{Nothing, Choice, Constant, Instruction, Values, Bytes}
 
 -- what a statement of the program stands for, with these operands
 abbrev pub statement_of : List Operand → read.Statement → spec.Statement
@@ -17,9 +16,7 @@ statement_of operands (Choice section) = spec.Choice section
 statement_of operands (Constant name number) = spec.Constant name.now number
 statement_of operands (Instruction operation fields value) = spec.Instruction operation fields (expression_of value)
 statement_of operands (Values width) = spec.Values width operands
-statement_of operands (Zeros count) = spec.Zeros count
-statement_of operands (Align multiple) = spec.Align multiple
-statement_of operands (Characters raw terminated) = spec.Characters (unescaped raw.now) terminated
+statement_of operands (Bytes directive operand) = spec.Bytes directive (operand_of operand)
 
 -- the statement that was made of these operands, or the fault, is what the definition says
 abbrev pub Makes : List shown.Operand → Result read.Statement AsmFault → Result spec.Statement AsmFault → Type 0

@@ -1,5 +1,5 @@
 -- What a line says behind its labels.
-use Rattle.std.specs.Prelude.{ℕ, ℤ, pos, negsuc, List, [], ◌∷◌, Bool, true, false, ◌&&◌, ◌||◌, if◌then◌else◌, Option, Some, None, Result, Ok, Err, int_le, unsigned_abs, is_some, ok_or, unwrap_or, ◌==◌}
+use Rattle.std.specs.Prelude.{ℕ, ℤ, pos, negsuc, List, [], ◌∷◌, Bool, true, false, ◌&&◌, ◌||◌, if◌then◌else◌, Option, Some, None, Result, Ok, Err, int_le, is_some, ok_or, unwrap_or, ◌==◌}
 use Rattle.std.specs.List.{list_all}
 use Rattle.std.specs.Option.{option_map}
 use Rattle.rv_isa.specs.declared.operations.Width.{Width}
@@ -8,6 +8,7 @@ use Rattle.rv_asm.specs.Names.{register_named, csr_named}
 use Rattle.rv_asm.specs.Operand.{Expression, Number, Symbol, Sum, Operand, Value, Indirect, Text, operands_of}
 use Rattle.rv_asm.specs.Token.{Token}
 use Rattle.rv_asm.specs.Token as token
+use Rattle.rv_asm.specs.declared.directive.Directive.{Directive}
 use Rattle.rv_asm.specs.declared.fault.AsmFault.{AsmFault}
 use Rattle.rv_asm.specs.declared.fault.AsmFault.TheVariants.{UnknownMnemonic, BadOperands, BadRegister}
 use Rattle.rv_asm.specs.declared.operation.Fields.{Fields}
@@ -31,12 +32,8 @@ pub data Statement : Type 0 where
   Instruction : Operation → Fields → Expression → Statement
   -- numbers of this width
   Values : Width → List Operand → Statement
-  -- zero bytes
-  Zeros : ℕ → Statement
-  -- zero bytes up to a multiple
-  Align : ℕ → Statement
-  -- the bytes of a string, and whether a zero follows
-  Characters : List ℕ → Bool → Statement
+  -- what a directive lays down by its operand
+  Bytes : Directive → Operand → Statement
 
 -- what is made of a value that is there
 abbrev pub and_then : {T U E : Type 0} → Result T E → (T → Result U E) → Result U E
@@ -56,59 +53,29 @@ is_implied place.MinusOne = true
 is_implied place.Empty = true
 is_implied _ = false
 
--- the shapes of operands
-abbrev pub is_name : Operand → Bool
-is_name (Value (Symbol name)) = true
-is_name _ = false
-
-abbrev pub is_value : Operand → Bool
-is_value (Value expression) = true
-is_value _ = false
-
-abbrev pub is_known : Operand → Bool
-is_known (Value (Number number)) = true
-is_known (Value (Symbol name)) = true
-is_known _ = false
-
-abbrev pub is_target : Operand → Bool
-is_target (Value (Symbol name)) = true
-is_target (Value (Sum name number)) = true
-is_target _ = false
-
-abbrev pub is_address : Operand → Bool
-is_address (Indirect offset name) = true
-is_address _ = false
-
-abbrev pub is_base : Operand → Bool
-is_base (Indirect (Some offset) name) = true
-is_base _ = false
-
-abbrev pub is_csr : Operand → Bool
-is_csr (Value (Number number)) = true
-is_csr (Value (Symbol name)) = is_some (csr_named name)
-is_csr _ = false
+-- the multiples that .balign takes
+abbrev pub is_alignment : ℤ → Bool
+is_alignment (pos n) = (n == 1) || (n == 2) || (n == 4) || (n == 8) || (n == 16)
+is_alignment (negsuc n) = false
 
 -- the operand has the shape of the place; a register may be any name
 abbrev pub takes : Place → Operand → Bool
-takes place.Rd operand = is_name operand
-takes place.Rs1 operand = is_name operand
-takes place.Rs2 operand = is_name operand
-takes place.Value operand = is_value operand
-takes place.Known operand = is_known operand
-takes place.Target operand = is_target operand
-takes place.Address operand = is_address operand
-takes place.Base operand = is_base operand
-takes place.Csr operand = is_csr operand
+takes place.Rd (Value (Symbol name)) = true
+takes place.Rs1 (Value (Symbol name)) = true
+takes place.Rs2 (Value (Symbol name)) = true
+takes place.Value (Value expression) = true
+takes place.Known (Value (Number number)) = true
+takes place.Known (Value (Symbol name)) = true
+takes place.Target (Value (Symbol name)) = true
+takes place.Target (Value (Sum name number)) = true
+takes place.Address (Indirect offset name) = true
+takes place.Base (Indirect (Some offset) name) = true
+takes place.Csr (Value (Number number)) = true
+takes place.Csr (Value (Symbol name)) = is_some (csr_named name)
+takes (place.UpTo greatest) (Value (Number number)) = is_between (pos 0) (pos greatest) number
+takes place.Multiple (Value (Number number)) = is_alignment number
+takes place.Text (Text bytes) = true
 takes _ operand = false
-
--- the operands have the shapes of the places, one each
-abbrev pub fits : List Place → List Operand → Bool
-fits [] [] = true
-fits [] (operand ∷ operands) = false
-fits (place ∷ places) [] = is_implied place && fits places []
-fits (place ∷ places) (operand ∷ operands) =
-    if is_implied place then fits places (operand ∷ operands)
-    else (takes place operand && fits places operands)
 
 -- the register that an operand names
 abbrev pub register_in : Operand → Result ℕ AsmFault
@@ -148,14 +115,6 @@ imply place.Link fields = record fields { rd = 1 }
 imply place.Return fields = record fields { rs1 = 1 }
 imply _ fields = fields
 
--- the fields that the operands fill at their places
-abbrev pub fill : List Place → List Operand → Fields → Result Fields AsmFault
-fill [] operands fields = Ok fields
-fill (place ∷ places) [] fields = fill places [] (imply place fields)
-fill (place ∷ places) (operand ∷ operands) fields =
-    if is_implied place then fill places (operand ∷ operands) (imply place fields)
-    else and_then (put place operand fields) (λ filled. fill places operands filled)
-
 -- the expression that stands at a place, if one does
 abbrev pub value_at : Place → Operand → Option Expression
 value_at place.Value operand = Some (expression_in operand)
@@ -171,30 +130,19 @@ implied_value place.One = Some (Number (pos 1))
 implied_value place.MinusOne = Some (Number (negsuc 0))
 implied_value _ = None
 
--- the expression of an instruction: the first that its places have, or 0
-abbrev pub value : List Place → List Operand → Expression
-value [] operands = Number (pos 0)
-value (place ∷ places) [] = unwrap_or (implied_value place) (value places [])
-value (place ∷ places) (operand ∷ operands) =
-    if is_implied place then unwrap_or (implied_value place) (value places (operand ∷ operands))
-    else unwrap_or (value_at place operand) (value places operands)
+-- what the operands fill at their places, if they have their shapes, one each: fields, and the first expression, or 0
+abbrev pub fill : List Place → List Operand → Fields → Result (Fields × Expression) AsmFault
+fill [] [] fields = Ok (fields, Number (pos 0))
+fill [] (operand ∷ operands) fields = Err BadOperands
+fill (place ∷ places) [] fields = if is_implied place then and_then (fill places [] fields) (λ filled. Ok (imply place filled.0, unwrap_or (implied_value place) filled.1)) else Err BadOperands
+fill (place ∷ places) (operand ∷ operands) fields =
+    if is_implied place then and_then (fill places (operand ∷ operands) fields) (λ filled. Ok (imply place filled.0, unwrap_or (implied_value place) filled.1))
+    else (if takes place operand then and_then (fill places operands fields) (λ filled. and_then (put place operand filled.0) (λ fields. Ok (fields, unwrap_or (value_at place operand) filled.1)))
+    else Err BadOperands)
 
--- the instruction with its operands, where their shapes are those of the places
+-- the instruction with its operands
 abbrev pub instruction : Operation → List Place → List Operand → Result Statement AsmFault
-instruction operation places operands =
-    if fits places operands
-    then and_then (fill places operands unfilled) (λ fields. Ok (Instruction operation fields (value places operands)))
-    else Err BadOperands
-
--- the multiples that .balign takes
-abbrev pub is_alignment : ℤ → Bool
-is_alignment (pos n) = (n == 1) || (n == 2) || (n == 4) || (n == 8) || (n == 16)
-is_alignment (negsuc n) = false
-
--- the number of .zero and .balign, where it is one that they take
-abbrev pub count : (ℤ → Bool) → (ℕ → Statement) → List Operand → Result Statement AsmFault
-count is_taken make (Value (Number number) ∷ []) = if is_taken number then Ok (make (unsigned_abs number)) else Err BadOperands
-count is_taken make _ = Err BadOperands
+instruction operation places operands = and_then (fill places operands unfilled) (λ filled. Ok (Instruction operation filled.0 filled.1))
 
 -- the statement of a form with its operands
 abbrev pub statement : Form → List Operand → Result Statement AsmFault
@@ -208,10 +156,8 @@ statement form.Jalr operands = instruction operation.Jalr (place.Rd ∷ place.Rs
 statement (form.Choice section) [] = Ok (Choice section)
 statement form.Global (Value (Symbol name) ∷ []) = Ok Nothing
 statement form.Constant (Value (Symbol name) ∷ Value (Number number) ∷ []) = Ok (Constant name number)
-statement (form.Values width) (first ∷ others) = if list_all is_value (first ∷ others) then Ok (Values width (first ∷ others)) else Err BadOperands
-statement form.Zeros operands = count (is_between (pos 0) (pos 16777216)) Zeros operands
-statement form.Align operands = count is_alignment Align operands
-statement (form.Characters terminated) (Text bytes ∷ []) = Ok (Characters bytes terminated)
+statement (form.Values width) (first ∷ others) = if list_all (takes place.Value) (first ∷ others) then Ok (Values width (first ∷ others)) else Err BadOperands
+statement (form.Bytes directive place) (operand ∷ []) = if takes place operand then Ok (Bytes directive operand) else Err BadOperands
 statement _ operands = Err BadOperands
 
 -- the symbol that li takes, which an earlier .equ has to define

@@ -4,7 +4,7 @@ ghost use Rattle.rv_asm.specs.Faults.{fault_of};
 ghost use Rattle.rv_asm.specs.Layout.{layout, lines_of};
 ghost use Rattle.rv_asm.specs.Meaning.{Cell, Spells, image_parts, round_up, start_address, behind_text};
 
-use crate::emit::push_zeros;
+use crate::directive::push_zeros;
 use crate::fault::{AsmError, AsmFault};
 use crate::layout::Layout;
 use crate::program::Program;

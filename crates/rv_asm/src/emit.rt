@@ -1,16 +1,14 @@
-ghost use Rattle.std.specs.Prelude.{◌≡◌, ◌≢◌, ◌<◌, ◌∷◌, ◌++◌, ◌^◌, [], Err, if◌then◌else◌, map, take};
-ghost use Rattle.std.specs.Prelude.{replicate, option_to_list, IfOk, IfErr, OnOk, is_some, true, false};
+ghost use Rattle.std.specs.Prelude.{◌≡◌, ◌≢◌, ◌<◌, ◌∷◌, ◌^◌, [], Err, map, take};
+ghost use Rattle.std.specs.Prelude.{option_to_list, IfOk, IfErr, OnOk, is_some, true, false};
 ghost use Rattle.std.specs.List.{list_all};
 ghost use Rattle.std.specs.Int.{to_le_bytes, w32};
 ghost use Rattle.rv_asm.specs.Emitted.{Appends, AppendsIfRoom, EmitsOrRefuses};
-ghost use Rattle.rv_asm.specs.Layout.{padding};
 ghost use Rattle.rv_asm.specs.Meaning.{Byte', Word', bytes_at, data_of, data_value, evaluate};
 ghost use Rattle.rv_asm.specs.Meaning.{fits_width, instructions};
 ghost use Rattle.rv_asm.specs.ReadOperand.{expression_of, operand_of, operands_in};
 ghost use Rattle.rv_asm.specs.ReadStatement.{statement_of};
 ghost use Rattle.rv_asm.specs.Statement.{Instruction, expression_in};
 ghost use Rattle.rv_asm.specs.Symbols.{means, value_in};
-ghost use Rattle.rv_asm.specs.Token.{unescaped};
 ghost use Rattle.rv_isa.specs.Operation.{bytes_of};
 
 use crate::fault::AsmFault;
@@ -19,9 +17,8 @@ use crate::instructions::instructions;
 use crate::operand::{Expression, Operand};
 use crate::operation::{Fields, Operation};
 use crate::program::Program;
-use crate::reach::{Reach, modulo_word, padding};
+use crate::reach::{Reach, modulo_word};
 use crate::statement::Statement;
-use crate::token::push_text;
 use rv_decode::encode;
 use rv_isa::{Instr, Width};
 
@@ -74,38 +71,6 @@ fn emit_instruction<'a>(
         }
         Err(fault) => Err(fault),
     }
-}
-
-/// Appends zero bytes.
-pub fn push_zeros(out: &mut Vec<u8>, count: usize) -> Result<(), AsmFault>
-    ensures { AppendsIfRoom (replicate count (Byte' 0)) out.old.items out.new.items result }
-{
-    let Some(size) = out.len().checked_add(count) else {
-        return Err(AsmFault::Memory);
-    };
-    out.resize(size, 0)?;
-    Ok(())
-}
-
-/// Appends the bytes of a string, and a zero where it is terminated.
-fn push_characters(out: &mut Vec<u8>, raw: &[u8], terminated: bool) -> Result<(), AsmFault>
-    ensures { AppendsIfRoom (map Byte' (unescaped raw.now)
-        ++ (if terminated then Byte' 0 ∷ [] else [])) out.old.items out.new.items result }
-{
-    push_string(out, raw)?;
-    if terminated {
-        push_zeros(out, 1)?;
-        return Ok(());
-    }
-    Ok(())
-}
-
-/// Appends the bytes of a string.
-fn push_string(out: &mut Vec<u8>, raw: &[u8]) -> Result<(), AsmFault>
-    ensures { AppendsIfRoom (map Byte' (unescaped raw.now)) out.old.items out.new.items result }
-{
-    push_text(out, raw)?;
-    Ok(())
 }
 
 /// Whether data of a width may hold a number.
@@ -204,17 +169,6 @@ fn emit_values<'a>(
     }
 }
 
-/// The zero bytes of `.balign`.
-fn alignment(multiple: usize, offset: usize) -> usize
-    ensures { result ≡ padding multiple offset }
-{
-    if multiple > 0 {
-        padding(multiple, offset)
-    } else {
-        0
-    }
-}
-
 /// Appends what a statement means.
 pub fn emit<'a>(
     program: &Program<'_, 'a>,
@@ -237,9 +191,7 @@ pub fn emit<'a>(
                 Err(AsmFault::UnknownSymbol)
             }
         }
-        Statement::Zeros(count) => push_zeros(out, *count),
-        Statement::Align(multiple) => push_zeros(out, alignment(*multiple, reach.offset())),
-        Statement::Characters(raw, terminated) => push_characters(out, raw, *terminated),
+        Statement::Bytes(directive, operand) => directive.push(reach.offset(), *operand, out),
         Statement::Nothing => Ok(()),
         Statement::Choice(_) => Ok(()),
         Statement::Constant(_, _) => Ok(()),

@@ -1,8 +1,8 @@
 ghost use Rattle.std.specs.Prelude.{◌≡◌};
 ghost use Rattle.std.specs.Option.{option_map};
-ghost use Rattle.rv_asm.specs.Operand.{Number};
+ghost use Rattle.std.specs.Result.{result_map_both};
 ghost use Rattle.rv_asm.specs.ReadOperand.{operand_of, expression_of, operands_in};
-ghost use Rattle.rv_asm.specs.Statement.{implied_value, value};
+ghost use Rattle.rv_asm.specs.Statement.{implied_value};
 ghost use Rattle.rv_asm.specs.Statement.{register_in, expression_in, csr_in, put, imply, fill, value_at};
 
 use crate::fault::AsmFault;
@@ -49,29 +49,18 @@ fn csr_in(operand: Operand<'_>) -> Result<i64, AsmFault>
     }
 }
 
-/// The field that an operand fills at its place, if it fills one.
-fn put(place: Place, operand: Operand<'_>, fields: Fields) -> Result<Fields, AsmFault>
-    ensures { result ≡ put place (operand_of operand.entry) fields }
+/// Fills the field of an operand at its place, if it has one.
+fn put(place: Place, operand: Operand<'_>, fields: &mut Fields) -> Result<(), AsmFault>
+    ensures { result_map_both (λ _. fields.new) (λ fault. fault) result ≡ put place (operand_of operand.entry) fields.old }
 {
     match place {
-        Place::Rd => {
-            let rd = register_in(operand)?;
-            Ok(Fields { rd, ..fields })
-        }
-        Place::Rs1 | Place::Address | Place::Base => {
-            let rs1 = register_in(operand)?;
-            Ok(Fields { rs1, ..fields })
-        }
-        Place::Rs2 => {
-            let rs2 = register_in(operand)?;
-            Ok(Fields { rs2, ..fields })
-        }
-        Place::Csr => {
-            let csr = csr_in(operand)?;
-            Ok(Fields { csr, ..fields })
-        }
-        _ => Ok(fields),
+        Place::Rd => fields.rd = register_in(operand)?,
+        Place::Rs1 | Place::Address | Place::Base => fields.rs1 = register_in(operand)?,
+        Place::Rs2 => fields.rs2 = register_in(operand)?,
+        Place::Csr => fields.csr = csr_in(operand)?,
+        _ => {}
     }
+    Ok(())
 }
 
 /// x1, which holds return addresses.
@@ -81,39 +70,14 @@ fn link_register() -> Reg
     Reg::new(1).unwrap()
 }
 
-/// The field that a place without an operand fills.
-fn imply(place: Place, fields: Fields) -> Fields
-    ensures { result ≡ imply place fields }
+/// Fills the field of a place without an operand, if it has one.
+fn imply(place: Place, fields: &mut Fields)
+    ensures { fields.new ≡ imply place fields.old }
 {
     match place {
-        Place::Link => Fields {
-            rd: link_register(),
-            ..fields
-        },
-        Place::Return => Fields {
-            rs1: link_register(),
-            ..fields
-        },
-        _ => fields,
-    }
-}
-
-/// The fields that the operands fill at their places.
-pub fn fill(places: &[Place], operands: &[Operand<'_>], fields: Fields) -> Result<Fields, AsmFault>
-    ensures { result ≡ fill places.now (operands_in operands.now) fields }
-{
-    let Some((place, others)) = places.split_first() else {
-        return Ok(fields);
-    };
-    if place.is_implied() {
-        return fill(others, operands, imply(*place, fields));
-    }
-    match operands.split_first() {
-        None => fill(others, operands, imply(*place, fields)),
-        Some((operand, rest)) => {
-            let filled = put(*place, *operand, fields)?;
-            fill(others, rest, filled)
-        }
+        Place::Link => fields.rd = link_register(),
+        Place::Return => fields.rs1 = link_register(),
+        _ => {}
     }
 }
 
@@ -129,35 +93,44 @@ fn value_at<'a>(place: Place, operand: Operand<'a>) -> Option<Expression<'a>>
     }
 }
 
-/// The number that a place without an operand means, if it means one.
-fn implied_number(place: Place) -> Option<i64>
-    ensures { option_map Number result ≡ implied_value place }
+/// The expression that a place without an operand means, if it means one.
+fn implied_value<'a>(place: Place) -> Option<Expression<'a>>
+    ensures { option_map expression_of result ≡ implied_value place }
 {
     match place {
-        Place::One => Some(1),
-        Place::MinusOne => Some(-1),
+        Place::One => Some(Expression::Number(1)),
+        Place::MinusOne => Some(Expression::Number(-1)),
         _ => None,
     }
 }
 
-/// The expression of an instruction: the first that its places have, or 0.
-pub fn value<'a>(places: &[Place], operands: &[Operand<'a>]) -> Expression<'a>
-    ensures { expression_of result ≡ value places.now (operands_in operands.now) }
+/// Fills the fields of the operands at their places, if they have their shapes, one each. The answer
+/// is their expression, or 0.
+pub fn fill<'a>(
+    places: &[Place],
+    operands: &[Operand<'a>],
+    fields: &mut Fields,
+) -> Result<Expression<'a>, AsmFault>
+    ensures { result_map_both (λ value. (fields.new, expression_of value)) (λ fault. fault) result
+        ≡ fill places.now (operands_in operands.now) fields.old }
 {
     let Some((place, others)) = places.split_first() else {
-        return Expression::Number(0);
+        if operands.is_empty() {
+            return Ok(Expression::Number(0));
+        }
+        return Err(AsmFault::BadOperands);
     };
     if place.is_implied() {
-        return match implied_number(*place) {
-            Some(number) => Expression::Number(number),
-            None => value(others, operands),
-        };
+        let value = fill(others, operands, fields)?;
+        imply(*place, fields);
+        return Ok(implied_value(*place).unwrap_or(value));
     }
     match operands.split_first() {
-        None => value(others, operands),
-        Some((operand, rest)) => match value_at(*place, *operand) {
-            Some(expression) => expression,
-            None => value(others, rest),
-        },
+        Some((operand, rest)) if place.takes(*operand) => {
+            let value = fill(others, rest, fields)?;
+            put(*place, *operand, fields)?;
+            Ok(value_at(*place, *operand).unwrap_or(value))
+        }
+        _ => Err(AsmFault::BadOperands),
     }
 }

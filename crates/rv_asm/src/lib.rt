@@ -2,6 +2,7 @@
 #![tactic(auto)]
 
 mod assembler;
+mod directive;
 mod emit;
 mod fault;
 mod filling;

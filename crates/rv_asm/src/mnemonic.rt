@@ -1,14 +1,16 @@
 ghost use Rattle.std.specs.Prelude.{◌≡◌};
 ghost use Rattle.rv_asm.specs.Mnemonic.{form_named};
 
+use crate::directive::Directive::{Align, Characters, Zeros};
 use crate::names::lookup;
-use crate::operation::Form::{self, Instruction};
+use crate::operation::Form::{self, Bytes, Instruction};
 use crate::operation::Operation::{
     Auipc, Branch, Csr, CsrImmediate, Ebreak, Ecall, Fence, FenceI, Jal, Jalr, Load, LoadAddress,
     LoadNumber, Lui, Mret, Op, OpImmediate, Shift, Store, Wfi,
 };
 use crate::operation::Place::{
-    Address, Csr as CsrName, Empty, Known, Link, MinusOne, One, Rd, Return, Rs1, Rs2, Target, Value,
+    Address, Csr as CsrName, Empty, Known, Link, MinusOne, Multiple, One, Rd, Return, Rs1, Rs2,
+    Target, Text, UpTo, Value,
 };
 use crate::operation::Section;
 use rv_isa::Condition::{
@@ -175,13 +177,13 @@ static MNEMONICS: [(&[u8], Form); 106] = [
     (b".word", Form::Values(Width::Word)),
     (b".half", Form::Values(Width::Half)),
     (b".byte", Form::Values(Width::Byte)),
-    (b".zero", Form::Zeros),
-    (b".space", Form::Zeros),
-    (b".skip", Form::Zeros),
-    (b".balign", Form::Align),
-    (b".asciz", Form::Characters(true)),
-    (b".string", Form::Characters(true)),
-    (b".ascii", Form::Characters(false)),
+    (b".zero", Bytes(Zeros, UpTo(16_777_216))),
+    (b".space", Bytes(Zeros, UpTo(16_777_216))),
+    (b".skip", Bytes(Zeros, UpTo(16_777_216))),
+    (b".balign", Bytes(Align, Multiple)),
+    (b".asciz", Bytes(Characters(1), Text)),
+    (b".string", Bytes(Characters(1), Text)),
+    (b".ascii", Bytes(Characters(0), Text)),
 ];
 
 /// What a mnemonic or a directive names.

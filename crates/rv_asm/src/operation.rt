@@ -1,3 +1,4 @@
+use crate::directive::Directive;
 use rv_isa::{AluOp, Condition, CsrOp, ImmediateOp, LoadForm, Reg, ShiftOp, Width};
 
 /// The section that a statement stands in.
@@ -54,6 +55,12 @@ pub enum Place {
     Base,
     /// A CSR by name or by number.
     Csr,
+    /// A number from 0 to this.
+    UpTo(u32),
+    /// 1, 2, 4, 8 or 16.
+    Multiple,
+    /// A string.
+    Text,
     /// No operand: rd is the return address ra.
     Link,
     /// No operand: rs1 is the return address ra.
@@ -82,12 +89,8 @@ pub enum Form {
     Constant,
     /// `.word`, `.half`, `.byte`
     Values(Width),
-    /// `.zero`
-    Zeros,
-    /// `.balign`
-    Align,
-    /// `.asciz`, or `.ascii` where no zero ends the string.
-    Characters(bool),
+    /// What a directive lays down by its one operand.
+    Bytes(Directive, Place),
 }
 
 /// The registers and the CSR that operands have filled in; x0 and 0 where none has.

@@ -1,6 +1,6 @@
 ghost use Rattle.std.specs.Prelude.{◌≡◌, ◌+◌, ◌-◌, ◌*◌, ◌<◌, ◌≤◌, ◌^◌, ◌∷◌, [], Ok, Err, Some, None};
 ghost use Rattle.std.specs.Prelude.{unsigned_abs, option_to_list};
-ghost use Rattle.rv_asm.specs.Layout.{offset, offset_in, grow_in, known, padding, size, instruction_size, advance};
+ghost use Rattle.rv_asm.specs.Layout.{offset, offset_in, grow_in, known, size, instruction_size, advance};
 ghost use Rattle.rv_asm.specs.Layout.{upper, lower, signed_word, load_number, load_address, unless_too_large};
 ghost use Rattle.rv_asm.specs.ReadOperand.{expression_of, operands_in};
 ghost use Rattle.rv_asm.specs.ReadStatement.{statement_of};
@@ -12,7 +12,6 @@ use crate::operand::{Expression, Operand};
 use crate::operation::{Fields, Operation, Section};
 use crate::statement::Statement;
 use crate::symbols::{Definition, Symbols};
-use crate::token::text_len;
 use rv_isa::{Immediate, ImmediateOp, Instr, Reg, UpperImmediate};
 
 /// The most bytes that text and data may have together.
@@ -192,15 +191,6 @@ fn instruction_size<'a>(
     }
 }
 
-/// The least number of bytes that leads from an offset to a multiple.
-pub fn padding(multiple: usize, offset: usize) -> usize
-    requires { 0 < multiple }
-    ensures padding { result ≡ padding multiple offset }
-    ensures small { result < multiple }
-{
-    (multiple - offset % multiple) % multiple
-}
-
 /// The bytes of a statement at an offset.
 fn size<'a>(
     symbols: &Symbols<'a>,
@@ -216,9 +206,7 @@ fn size<'a>(
             instruction_size(symbols, *operation, *fields, value) as u128
         }
         Statement::Values(width) => u128::from(width.bytes()) * operands.len() as u128,
-        Statement::Zeros(count) => *count as u128,
-        Statement::Align(multiple) if *multiple > 0 => padding(*multiple, offset) as u128,
-        Statement::Characters(raw, terminated) => text_len(raw) as u128 + u128::from(*terminated),
+        Statement::Bytes(directive, operand) => directive.size(offset, *operand),
         _ => 0,
     }
 }

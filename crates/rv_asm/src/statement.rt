@@ -1,20 +1,19 @@
-ghost use Rattle.std.specs.Prelude.{◌≡◌, pos, Result};
+ghost use Rattle.std.specs.Prelude.{◌≡◌, Result};
 ghost use Rattle.std.specs.List.{list_all};
 ghost use Rattle.std.specs.Option.{option_copied};
 ghost use Rattle.rv_asm.specs.Answer.{Follows};
 ghost use Rattle.rv_asm.specs.ReadOperand.{operands_in};
 ghost use Rattle.rv_asm.specs.ReadStatement.{Makes};
 ghost use Rattle.rv_asm.specs.ReadToken.{tokens_in};
-ghost use Rattle.rv_asm.specs.Statement.{is_value, instruction, is_alignment, is_between, count, statement};
-ghost use Rattle.rv_asm.specs.Statement.{needed, reading, Zeros, Align};
+ghost use Rattle.rv_asm.specs.Statement.{instruction, needed, reading, statement, takes};
 
+use crate::directive::Directive;
 use crate::fault::AsmFault;
-use crate::filling::{fill, value};
+use crate::filling::fill;
 use crate::mnemonic::form_named;
 use crate::operand::{Expression, Operand, read_operands};
 use crate::operation::Place::{self, Base, Link, Rd, Rs1, Target, Value};
 use crate::operation::{Fields, Form, Operation, Section};
-use crate::shapes::fits;
 use crate::token::Token;
 use rv_isa::{Reg, Width};
 use std::alloc::Global;
@@ -28,12 +27,11 @@ pub enum Statement<'a> {
     Instruction(Operation, Fields, Expression<'a>),
     /// Numbers of a width, one for each operand.
     Values(Width),
-    Zeros(usize),
-    Align(usize),
-    Characters(&'a [u8], bool),
+    /// What a directive lays down by its operand.
+    Bytes(Directive, Operand<'a>),
 }
 
-/// The instruction with its operands, where their shapes are those of the places.
+/// The instruction with its operands.
 fn instruction<'a>(
     operation: Operation,
     places: &[Place],
@@ -41,46 +39,26 @@ fn instruction<'a>(
 ) -> Result<Statement<'a>, AsmFault>
     ensures { Makes operands.now result (instruction operation places.now (operands_in operands.now)) }
 {
-    if !fits(places, operands) {
-        return Err(AsmFault::BadOperands);
-    }
-    let unfilled = Fields {
+    let mut fields = Fields {
         rd: Reg::ZERO,
         rs1: Reg::ZERO,
         rs2: Reg::ZERO,
         csr: 0,
     };
-    let fields = fill(places, operands, unfilled)?;
-    Ok(Statement::Instruction(operation, fields, value(places, operands)))
+    let value = fill(places, operands, &mut fields)?;
+    Ok(Statement::Instruction(operation, fields, value))
 }
 
-/// The multiples that `.balign` takes.
-fn is_alignment(number: i64) -> bool
-    ensures { result ≡ is_alignment number }
-{
-    matches!(number, 1 | 2 | 4 | 8 | 16)
-}
-
-/// The count of `.zero`, where it is one that it takes.
-fn zeros<'a>(operands: &[Operand<'a>]) -> Result<Statement<'a>, AsmFault>
-    ensures { Makes operands.now result (count (is_between (pos 0) (pos 16777216)) Zeros (operands_in operands.now)) }
+/// What a directive lays down by its one operand.
+fn bytes<'a>(
+    directive: Directive,
+    place: Place,
+    operands: &[Operand<'a>],
+) -> Result<Statement<'a>, AsmFault>
+    ensures { Makes operands.now result (statement (Form.Bytes directive place) (operands_in operands.now)) }
 {
     match operands {
-        [Operand::Value(Expression::Number(number @ 0..=16777216))] => {
-            Ok(Statement::Zeros(*number as usize))
-        }
-        _ => Err(AsmFault::BadOperands),
-    }
-}
-
-/// The multiple of `.balign`, where it is one that it takes.
-fn align<'a>(operands: &[Operand<'a>]) -> Result<Statement<'a>, AsmFault>
-    ensures { Makes operands.now result (count is_alignment Align (operands_in operands.now)) }
-{
-    match operands {
-        [Operand::Value(Expression::Number(number))] if is_alignment(*number) => {
-            Ok(Statement::Align(*number as usize))
-        }
+        [operand] if place.takes(*operand) => Ok(Statement::Bytes(directive, *operand)),
         _ => Err(AsmFault::BadOperands),
     }
 }
@@ -98,32 +76,22 @@ fn constant<'a>(operands: &[Operand<'a>]) -> Result<Statement<'a>, AsmFault>
     }
 }
 
-/// The string of `.asciz` or `.ascii`.
-fn characters<'a>(operands: &[Operand<'a>], terminated: bool) -> Result<Statement<'a>, AsmFault>
-    ensures { Makes operands.now result (statement (Form.Characters terminated) (operands_in operands.now)) }
-{
-    match operands {
-        [Operand::Text(raw)] => Ok(Statement::Characters(raw, terminated)),
-        _ => Err(AsmFault::BadOperands),
-    }
-}
-
 /// `.globl` of a name, which does nothing.
 fn global<'a>(operands: &[Operand<'a>]) -> Result<Statement<'a>, AsmFault>
     ensures { Makes operands.now result (statement Form.Global (operands_in operands.now)) }
 {
     match operands {
-        [operand] if operand.is_name() => Ok(Statement::Nothing),
+        [Operand::Value(Expression::Symbol(_))] => Ok(Statement::Nothing),
         _ => Err(AsmFault::BadOperands),
     }
 }
 
 /// Whether each operand is an expression.
 fn are_values(operands: &[Operand<'_>]) -> bool
-    ensures { result ≡ list_all is_value (operands_in operands.now) }
+    ensures { result ≡ list_all (takes Place.Value) (operands_in operands.now) }
 {
     for operand in operands {
-        if !operand.is_value() {
+        if !Value.takes(*operand) {
             return false;
         }
     }
@@ -168,9 +136,7 @@ pub fn make_statement<'a>(form: Form, operands: &[Operand<'a>]) -> Result<Statem
         Form::Values(width) if !operands.is_empty() && are_values(operands) => {
             Ok(Statement::Values(width))
         }
-        Form::Zeros => zeros(operands),
-        Form::Align => align(operands),
-        Form::Characters(terminated) => characters(operands, terminated),
+        Form::Bytes(directive, place) => bytes(directive, place, operands),
         _ => Err(AsmFault::BadOperands),
     }
 }

@@ -1,6 +1,0 @@
-use Rattle.std.proofs.Common.{◌∙◌, ◌+◌, ap, vec_len}
-use Rattle.rv_asm.proofs.Emitted.{appends_zeros, zeros_after}
-use Rattle.rv_asm.proofs.emit.push_zeros.Goals as goal
-
-pub returns : goal.returns
-returns c = appends_zeros c.args.count c.args.out.now.items c.resize.new.self.items (zeros_after c.args.out.now.items c.resize.new.self.items c.in-Some.size c.args.count (vec_len c.args.out.now) c.in_ok-resize.ensures.items (c.in-Some.ensures.1 ∙ ap (λ n. n + c.args.count) c.len.ensures) c.args.out.now.ok.0)
