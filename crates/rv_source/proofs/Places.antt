@@ -24,11 +24,11 @@ line_in-append lines more None within = refl
 line_in-append lines more (Some at) within = slice_get-append lines more at within
 
 -- a line more leaves the words that there are as they were
-pub lines_at-append : (lines : List Line) (more : Line) (places : List (Option ℕ)) → AreWithin lines places → lines_at (lines ++ more ∷ []) places ≡ lines_at lines places
-lines_at-append lines more [] within = refl
-lines_at-append lines more (place ∷ places) within =
+pub lines_at_append : (lines : List Line) (more : Line) (places : List (Option ℕ)) → AreWithin lines places → lines_at (lines ++ more ∷ []) places ≡ lines_at lines places
+lines_at_append lines more [] within = refl
+lines_at_append lines more (place ∷ places) within =
     let first = line_in-append lines more place (within 0 None (omega arith)) in
-    let others = lines_at-append lines more places (λ k d below. within (suc k) d (omega arith)) in
+    let others = lines_at_append lines more places (λ k d below. within (suc k) d (omega arith)) in
     cc
 
 -- words more at one place
@@ -39,5 +39,5 @@ lines_at-replicate lines places count place =
 -- words more of a line more
 pub lines_at-pushed : (lines : List Line) (more : Line) (places : List (Option ℕ)) (count : ℕ) → AreWithin lines places → lines_at (lines ++ more ∷ []) (places ++ replicate count (Some (length lines))) ≡ lines_at lines places ++ replicate count (Some more)
 lines_at-pushed lines more places count within =
-    lines_at-replicate (lines ++ more ∷ []) places count (Some (length lines)) ∙ ap (λ old. old ++ replicate count (slice_get (lines ++ more ∷ []) (length lines))) (lines_at-append lines more places within)
+    lines_at-replicate (lines ++ more ∷ []) places count (Some (length lines)) ∙ ap (λ old. old ++ replicate count (slice_get (lines ++ more ∷ []) (length lines))) (lines_at_append lines more places within)
     ∙ ap (λ last. lines_at lines places ++ replicate count last) (slice_get-last lines more)

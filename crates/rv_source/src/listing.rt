@@ -57,9 +57,11 @@ impl Listing {
         }
     }
 
-    /// Appends words that come from a line. The only error is want of memory.
+    /// Appends words that come from a line. The only error is want of memory, and changes nothing.
+    #[tactic(auto, using(crate::proofs::Places::lines_at_append))]
     pub fn push_line(&mut self, line: SourceLine, words: usize) -> Result<(), AllocError>
-        ensures { IfOk result (λ _. self.new ≡ record self.old { words = self.old.words ++ replicate words (Some line) }) }
+        ensures pushed { IfOk result (λ _. self.new ≡ record self.old { words = self.old.words ++ replicate words (Some line) }) }
+        ensures kept { OnErr result (self.new ≡ self.old) }
     {
         let place = self.lines.len();
         self.lines.push(line)?;
@@ -67,9 +69,10 @@ impl Listing {
         Ok(())
     }
 
-    /// Appends words that come from no line. The only error is want of memory.
+    /// Appends words that come from no line. The only error is want of memory, and changes nothing.
     pub fn push_gap(&mut self, words: usize) -> Result<(), AllocError>
-        ensures { IfOk result (λ _. self.new ≡ record self.old { words = self.old.words ++ replicate words None }) }
+        ensures pushed { IfOk result (λ _. self.new ≡ record self.old { words = self.old.words ++ replicate words None }) }
+        ensures kept { OnErr result (self.new ≡ self.old) }
     {
         push_places(&mut self.words, words, None)?;
         Ok(())
