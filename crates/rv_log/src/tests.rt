@@ -1,1 +1,2 @@
 mod addition;
+mod branch;

@@ -4,7 +4,8 @@ use rv_core::Core;
 use rv_front::NotTaken;
 use rv_isa::{Arrivals, Description, Image, Values};
 use rv_source::Listing;
-use std::test::Fail;
+use std::alloc::Global;
+use std::process::Abort;
 
 const EXPECTED: &str = "                                                       0         \n\
 80000000 00500093                         x1=00000005  FDIBC\n\
@@ -17,29 +18,55 @@ F fetch  D dispatch  I issue  = execution  B broadcast  C retirement  T trap  x 
 // addi x1,x0,5 and ebreak.
 const PROGRAM: [u8; 8] = [0x93, 0x00, 0x50, 0x00, 0x73, 0x00, 0x10, 0x00];
 
-#[test]
-fn two_words_in_characters(rt: HostRuntime) -> Result<(), Fail> {
-    let alloc = rt.alloc();
+// The last cycle, in which each instruction but the one that was fetched leaves the hardware.
+const LAST_CYCLE: &str = "                                                        \n\
+80000000 00500093                         x1=00000005  C\n\
+80000004 00100073                         -            T\n\
+80000008 00000000                         -            x\n\
+8000000c 00000000                         -            x\n\
+00000000 -                                -            F\n\
+F fetch  D dispatch  I issue  = execution  B broadcast  C retirement  T trap  x squash  . wait  ! interrupt\n";
+
+const NOTHING: &str = "                                                       \n\
+F fetch  D dispatch  I issue  = execution  B broadcast  C retirement  T trap  x squash  . wait  ! interrupt\n";
+
+// The picture of at most sixty cycles from one on, and why the run ended.
+fn picture_from(rt: &impl Abort, alloc: Global, from: u64) -> (Stop, Vec<u8>) {
     let mut values = Values::standard();
     values.fetch_width = 1;
-    let description = Description::new(values).expect(&rt, "a legal description");
-    let image = Image::from_bytes(alloc, 0x8000_0000, &PROGRAM, 0x8000_0000)?;
-    let arrivals = Arrivals::new(Vec::new(alloc)).expect(&rt, "no arrivals");
+    let description = Description::new(values).expect(rt, "a legal description");
+    let image = Image::from_bytes(alloc, 0x8000_0000, &PROGRAM, 0x8000_0000).expect(rt, "an image");
+    let arrivals = Arrivals::new(Vec::new(alloc)).expect(rt, "no arrivals");
     let listing = Listing::new(alloc, 0x8000_0000);
-    let predictor = Box::new(alloc, NotTaken)?;
-    let mut core = Core::new(alloc, &description, &image, predictor)?;
+    let predictor = Box::new(alloc, NotTaken).expect(rt, "a predictor");
+    let mut core = Core::new(alloc, &description, &image, predictor).expect(rt, "a core");
     let mut text = Vec::new(alloc);
     let stop = write_picture(
         alloc,
         &mut core,
         &arrivals,
-        0,
+        from,
         60,
         Form::Text,
         &listing,
         &mut text,
     );
-    assert_eq!(&rt; stop, Ok(Stop::Breakpoint));
-    assert_eq!(&rt; text.as_slice(), EXPECTED.as_bytes());
-    Ok(())
+    (stop.expect(rt, "a picture"), text)
+}
+
+#[test]
+fn two_words_in_characters(rt: HostRuntime) {
+    let (stop, text) = picture_from(&rt, rt.alloc(), 0);
+    assert_eq!(rt; stop, Stop::Breakpoint);
+    assert_eq!(rt; text.as_slice(), EXPECTED.as_bytes());
+}
+
+// The breakpoint is taken in cycle 4.
+#[test]
+fn behind_the_end_of_a_run_nothing_is_shown(rt: HostRuntime) {
+    for (from, shown) in [(4, LAST_CYCLE), (5, NOTHING), (6, NOTHING)] {
+        let (stop, text) = picture_from(&rt, rt.alloc(), from);
+        assert_eq!(rt; stop, Stop::Breakpoint);
+        assert_eq!(rt; text.as_slice(), shown.as_bytes());
+    }
 }
