@@ -15,10 +15,9 @@ use Rattle.rv_explain.proofs.HeadSum.{heads_within_cycles}
 use Rattle.rv_explain.proofs.Telling.{length-reports}
 
 pub explained : (arrivals : List Arrival) (limit : ℕ) (values : Values) (listing : Listed) (old new : Hardware) (stop : Stop) (progress : Progress) (tale : Tale)
-    → IsTold arrivals limit values old new stop progress tale → IsExplanation arrivals limit values listing old stop (explanation listing stop new progress tale)
+    → IsTold arrivals limit values old new stop progress tale → IsExplanation arrivals limit values listing old new stop (explanation listing stop new progress tale)
 explained arrivals limit values listing old new stop progress tale told = record {
   moments = told.moments;
-  new = new;
   passes = told.passes;
   stops = told.stops;
   text_is = λ i. explanation listing stop new (told.counted i) (told.kept i);

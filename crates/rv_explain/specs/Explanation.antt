@@ -44,9 +44,8 @@ explanation listing stop h progress tale =
     ending_text listing stop h tale.words ++ (exception_text listing tale.exception ++ cost_text listing progress tale)
 
 -- A text explains a run that ended for a reason.
-pub record IsExplanation (arrivals : List Arrival) (limit : ℕ) (values : Values) (listing : Listed) (old : Hardware) (stop : Stop) (text : List ℕ) : Type 0 where
+pub record IsExplanation (arrivals : List Arrival) (limit : ℕ) (values : Values) (listing : Listed) (old new : Hardware) (stop : Stop) (text : List ℕ) : Type 0 where
   pub moments : List Moment
-  pub new : Hardware
   pub passes : History arrivals old moments new
   pub stops : IsStop limit (reports_of moments) new stop
   pub text_is : text ≡ explanation listing stop new (progress_of (reports_of moments)) (tale_of values arrivals old moments)

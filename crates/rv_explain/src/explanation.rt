@@ -1,4 +1,4 @@
-ghost use Rattle.std.specs.Prelude.{◌≡◌, ◌≤◌, List, [], sum, vec_capacity, IfOk};
+ghost use Rattle.std.specs.Prelude.{◌≡◌, ◌≤◌, Err, List, [], sum, vec_capacity, IfOk};
 ghost use Rattle.rv_explain.specs.Explanation.{IsExplanation, cost_text, cycle_text, explanation};
 ghost use Rattle.rv_explain.specs.Hotspot.{counts_of};
 ghost use Rattle.rv_hardware.specs.Hardware.{Hardware};
@@ -105,8 +105,8 @@ fn write_told<W: Write>(
 ///
 /// # Errors
 ///
-/// `Memory` for want of memory, before the run: then nothing was written. `WriteFailed` where a write fails: then what was
-/// written is a beginning of the sentences.
+/// `Memory` for want of memory: then nothing was run and nothing was written. `WriteFailed` where a write fails: then what was
+/// written is a beginning of the sentences, and the run is done to its end.
 pub fn write_explanation<W: Write>(
     alloc: Global,
     core: &mut Core,
@@ -116,7 +116,8 @@ pub fn write_explanation<W: Write>(
     listing: &Listing,
     writer: &mut W,
 ) -> Result<Stop, TextError>
-    ensures { IsText (IsExplanation arrivals.now limit description.now listing.now core.old) result (W.contents writer.old) (W.contents writer.new) }
+    ensures written { IsText (IsExplanation arrivals.now limit description.now listing.now core.old core.new) result (W.contents writer.old) (W.contents writer.new) }
+    ensures not_run { result ≡ Err TextError.Memory → core.new ≡ core.old }
 {
     let Ok(beginning) = begin(alloc, description) else {
         return Err(TextError::Memory);

@@ -1,4 +1,4 @@
-ghost use Rattle.std.specs.Prelude.{◌≡◌, ℕ, Some, slice_index};
+ghost use Rattle.std.specs.Prelude.{◌≡◌, ℕ, None, Some, slice_index};
 ghost use Rattle.std.specs.List.{slice_get};
 ghost use Rattle.rv_isa.specs.Operands.{sources_of};
 ghost use Rattle.std.specs.Option.{option_to_list};
@@ -10,9 +10,10 @@ use rv_decode::decode;
 use rv_hardware::Step;
 use rv_isa::{Instr, Reg, sources};
 
-// The value of the first register that an instruction reads.
+// The value of the first register that an instruction reads, or 0 where its first operand is none.
 fn first_value(registers: &[u32; 32], instruction: &Instr) -> u32
-    ensures { (register : ℕ) → slice_get (sources_of instruction.now) 0 ≡ Some (Some register) → result ≡ slice_index registers.now register }
+    ensures read { (register : ℕ) → slice_get (sources_of instruction.now) 0 ≡ Some (Some register) → result ≡ slice_index registers.now register }
+    ensures none { slice_get (sources_of instruction.now) 0 ≡ Some None → result ≡ 0 }
 {
     match sources(instruction)[0] {
         Some(register) => registers[register.index()],

@@ -65,3 +65,43 @@ fn a_trap_without_a_handler_is_explained(rt: HostRuntime) -> Result<(), Fail> {
     assert!(&rt; output.as_slice() == SENTENCES);
     Ok(())
 }
+
+// addi x1,x0,5; addi x2,x1,1; addi x3,x2,1; ebreak
+const CHAIN: [u8; 16] = [
+    0x93, 0x00, 0x50, 0x00, 0x13, 0x81, 0x10, 0x00, 0x93, 0x01, 0x11, 0x00, 0x73, 0x00, 0x10, 0x00,
+];
+
+// The first addition stands at the head behind the cycles 1 to 3, the others, which no line fills, each behind two of the nine.
+const LINES_OF_CHAIN: &[u8] = b"
+The lines that stood longest at the head of the reorder buffer, in cycles:
+80000000, line 1: addi x1,x0,5
+                3   33.3%  #################
+80000004, which no line of the program fills
+                2   22.2%  ###########
+80000008, which no line of the program fills
+                2   22.2%  ###########
+";
+
+#[test]
+fn words_of_no_line_are_told_each_by_itself(rt: HostRuntime) -> Result<(), Fail> {
+    let alloc = rt.alloc();
+    let listing = listed(alloc, &["addi x1,x0,5"])?;
+    let arrivals = Arrivals::new(Vec::new(alloc)).expect(&rt, "no arrivals");
+    let mut output = Vec::new(alloc);
+    let description = Description::new(Values::standard()).expect(&rt, "a legal description");
+    let image = Image::from_bytes(alloc, 0x8000_0000, &CHAIN, 0x8000_0000)?;
+    let predictor = Box::new(alloc, NotTaken)?;
+    let mut core = Core::new(alloc, &description, &image, predictor).expect(&rt, "a core");
+    write_explanation(
+        alloc,
+        &mut core,
+        &description,
+        &arrivals,
+        20,
+        &listing,
+        &mut output,
+    )
+    .expect(&rt, "room");
+    assert!(&rt; output.as_slice().ends_with(LINES_OF_CHAIN));
+    Ok(())
+}

@@ -53,6 +53,25 @@ fn a_stale_word_that_is_explained_gives_status_3(rt: HostRuntime) {
     );
 }
 
+const CUT_OFF: &str =
+    "The run was cut off at its limit of cycles, and the program stood at 80000000, line 1: addi x1,x0,5";
+
+#[test]
+fn a_run_that_is_cut_off_stands_at_the_first_that_has_not_retired(rt: HostRuntime) {
+    let command = Command::Explain { limit: 4 };
+    let counts = "cycles 4, retired instructions 0";
+    let ratio = "cycles per instruction -";
+    let program = "addi x1,x0,5\nebreak";
+    check_run(
+        &rt,
+        rt.alloc(),
+        command,
+        program,
+        0,
+        &[CUT_OFF, counts, ratio],
+    );
+}
+
 // A program, and a line of what is told of its run.
 #[derive(Clone, Copy, Debug)]
 struct Told {
@@ -155,10 +174,94 @@ t: addi x7,x0,2
 ebreak
 ";
 
+// The store retires in the cycle in which the register of its address is written, and puts the last byte of the word.
+const STORE_OF_A_BYTE: &str = "la x5,t
+li x6,0
+div x7,x6,x6
+nop
+addi x5,x5,4
+sb x6,-1(x5)
+t: addi x7,x0,2
+ebreak
+";
+
 #[test]
 fn the_last_store_to_the_stale_word_is_told(rt: HostRuntime) {
-    let store = "The last store to that word was the one at 80000014, line 4: sw x6,0(x5)";
-    check_run(&rt, rt.alloc(), EXPLAIN, STORES_INTO_CODE, 3, &[store]);
+    let rows = [
+        Told {
+            program: STORES_INTO_CODE,
+            line: "The last store to that word was the one at 80000014, line 4: sw x6,0(x5)",
+        },
+        Told {
+            program: STORE_OF_A_BYTE,
+            line: "The last store to that word was the one at 80000018, line 6: sb x6,-1(x5)",
+        },
+    ];
+    for told in rows {
+        check_run(&rt, rt.alloc(), EXPLAIN, told.program, 3, &[told.line]);
+    }
+}
+
+// What each first waits for behind the second cycle: the division, a place in the reorder buffer, the one station, in which an
+// instruction waits for the division, and the end of the first store's drain.
+const WAITS: [Told; 4] = [
+    Told {
+        program: "div x6,x0,x0\ncsrrs x5,mip,x0\nebreak",
+        line: "serial         17   77.3%  #######################################",
+    },
+    Told {
+        program: "rob = 1\n%%\naddi x1,x0,1\nebreak",
+        line: "rob             2   33.3%  #################",
+    },
+    Told {
+        program: "div.stations = 1\nrob = 3\n%%\ndiv x3,x1,x1\ndiv x4,x3,x1\ndiv x5,x1,x1\nebreak",
+        line: "station        16   30.2%  ###############",
+    },
+    Told {
+        program: "store_queue = 1\n%%\nlui x5,0x80001\nsw x0,0(x5)\nsw x0,4(x5)\nebreak",
+        line: "store          15   71.4%  ####################################",
+    },
+];
+
+#[test]
+fn each_reason_to_wait_has_its_cycles(rt: HostRuntime) {
+    for told in WAITS {
+        check_run(&rt, rt.alloc(), EXPLAIN, told.program, 0, &[told.line]);
+    }
+}
+
+// A load that misses, one that hits, and one whose bytes come from the store before it. The last one is squashed.
+const LOADS: &str = "forward = 3
+%%
+lui x5,0x80001
+lw x6,0(x5)
+lw x7,4(x5)
+sw x0,8(x5)
+lw x8,8(x5)
+ebreak
+lw x9,12(x5)
+";
+
+#[test]
+fn loads_are_counted_when_they_retire(rt: HostRuntime) {
+    let line = "loads: 3, of them 2 at the cost of a hit or of forwarding, 1 at that of a miss";
+    check_run(&rt, rt.alloc(), EXPLAIN, LOADS, 0, &[line]);
+}
+
+// The breakpoint in the last word stands at the head behind the cycle in which the jump retires.
+const LAST_WORD: &str = "ram_size = 4096
+commit_width = 1
+%%
+j e
+.zero 4088
+e: ebreak
+";
+
+#[test]
+fn the_last_word_of_memory_is_counted(rt: HostRuntime) {
+    let place = "80000ffc, line 3: e: ebreak";
+    let share = "                1   16.7%  ########";
+    check_run(&rt, rt.alloc(), EXPLAIN, LAST_WORD, 0, &[place, share]);
 }
 
 // Stores to the words of two lines of the cache, of which the first to each misses; FENCE.I waits for them all.

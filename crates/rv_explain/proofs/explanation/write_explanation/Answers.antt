@@ -9,12 +9,12 @@ write_told-requires g c =
     let told = c.run_told-told.result in
     record { heads = heads_counted _ c.args.limit c.args.description.now _ c.run_told-told.new.core told.stop told.progress told.tale c.run_told-told.ensures }
 
-pub returns-in-Ok-write_told : goal.returns-in-Ok-write_told
-returns-in-Ok-write_told g c =
+pub returns-in-Ok-write_told-clause-written : goal.returns-in-Ok-write_told-clause-written
+returns-in-Ok-write_told-clause-written g c =
     let told = c.run_told-told.result in
     (_, explained _ c.args.limit c.args.description.now c.args.listing.now _ c.run_told-told.new.core told.stop told.progress told.tale c.run_told-told.ensures, c.in-Ok-write_told.ensures)
 
-pub returns : goal.returns
-returns g c =
+pub returns-clause-written : goal.returns-clause-written
+returns-clause-written g c =
     let told = c.run_told-told.result in
     (told.stop, _, explained _ c.args.limit c.args.description.now c.args.listing.now _ c.run_told-told.new.core told.stop told.progress told.tale c.run_told-told.ensures, c.in-Err-WriteFailed.ensures)
