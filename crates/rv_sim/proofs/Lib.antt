@@ -1,6 +1,7 @@
 mod Answered
 mod Compared
 mod Ending
+mod Flushed
 mod LinesAfter
 mod Running
 mod Simulated

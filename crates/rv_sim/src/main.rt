@@ -16,9 +16,9 @@ mod task;
 mod tests;
 
 use program::run;
-use rv_command::{parse_words, show_usage};
+use rv_command::{Command, parse_words, show_usage};
 use rv_job::{FaultLines, SimError};
-use std::io::Eprint;
+use std::io::{BufWriter, Eprint, Write};
 use std::process::ExitCode;
 use std::{env, io};
 
@@ -28,6 +28,17 @@ fn words(rt: &HostRuntime) -> io::Result<Vec<String>> {
         words.push(word)?;
     }
     Ok(words)
+}
+
+// Does what a command asks, with the output written in blocks, and answers the exit status.
+fn run_command<E: Write>(rt: &HostRuntime, command: &Command, errors: &mut FaultLines<E>) -> u8 {
+    let Ok(mut output) = BufWriter::new(rt.alloc(), rt.stdout()) else {
+        return errors.tell(SimError::Memory);
+    };
+    let status = run(rt.alloc(), command, &mut rt.reader(), &mut output, errors);
+    // What a failed write left there is not to follow behind the line that tells it.
+    let _ = output.into_parts();
+    status
 }
 
 // What the program does, and its exit status.
@@ -44,13 +55,7 @@ fn status(rt: &HostRuntime) -> u8 {
         }
     };
     match parse_words(rt.alloc(), words.as_slice()) {
-        Ok(command) => run(
-            rt.alloc(),
-            &command,
-            &mut rt.reader(),
-            &mut rt.stdout(),
-            &mut errors,
-        ),
+        Ok(command) => run_command(rt, &command, &mut errors),
         Err(error) => show_usage(rt.alloc(), &error, &mut rt.stdout(), &mut errors),
     }
 }

@@ -200,9 +200,25 @@ fn perform<W: Write>(
     }
 }
 
+// Does the task, and then has the output pass on what it still holds back.
+fn complete<W: Write>(
+    alloc: Global,
+    task: Task,
+    predictor: BoxedPredictor,
+    output: &mut W,
+) -> Result<u8, SimError>
+    ensures { Ends task (W.contents output.old) (W.contents output.new) result }
+{
+    let status = perform(alloc, task, predictor, output)?;
+    match output.flush() {
+        Ok(()) => Ok(status),
+        Err(_) => Err(SimError::WriteFailed),
+    }
+}
+
 /// Does the task: writes its report, picture, log, sentences or table, or the line that says which image
-/// the job makes, to `output`, and answers the exit status. A fault is told on `errors`. Only a run of one
-/// job on the core asks the predictor.
+/// the job makes, to `output`, which is flushed then, and answers the exit status. A fault is told on
+/// `errors`. Only a run of one job on the core asks the predictor.
 pub fn finish<W: Write, E: Write>(
     alloc: Global,
     task: Task,
@@ -215,7 +231,7 @@ pub fn finish<W: Write, E: Write>(
         × TellsOf errors.old errors.new outcome
         × (result ≡ exit_status outcome) }
 {
-    match perform(alloc, task, predictor, output) {
+    match complete(alloc, task, predictor, output) {
         Ok(status) => status,
         Err(error) => errors.tell(error),
     }
