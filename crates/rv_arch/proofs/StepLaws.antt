@@ -10,7 +10,7 @@ use Rattle.rv_isa.specs.Operation.{bytes_of, width_of}
 use Rattle.rv_isa.specs.Word.{modulo_word, sum}
 use Rattle.rv_isa.specs.declared.causes.Cause.{Cause}
 use Rattle.rv_isa.specs.declared.instructions.Instr.{Instr}
-use Rattle.rv_isa.specs.declared.instructions.Instr.TheVariants.{Lui, Auipc, Jal, Jalr, Branch, Load, Store, OpImmediate, Shift, Op, Fence, FenceI, Csr, Ecall, Ebreak, Mret, Wfi}
+use Rattle.rv_isa.specs.declared.instructions.Instr.TheVariants.{Load, Store}
 use Rattle.rv_isa.specs.declared.lines.Lines.{Lines}
 use Rattle.rv_arch.specs.declared.outcome.RefStep.{RefStep}
 use Rattle.rv_arch.specs.declared.outcome.RefStep.TheVariants.{Retired, Trap, Interrupt}
@@ -38,21 +38,7 @@ effect_in_ram layout s lines word (Load form rd rs1 offset) written next retires
     chosen (is_aligned (sum (register_of s rs1) (modulo_word offset)) (bytes_of (width_of form))) _ _ _ _ _ written next retires
 effect_in_ram layout s lines word (Store width rs1 rs2 offset) written next retires =
     writable_in_ram layout _ _ (chosen (is_aligned (sum (register_of s rs1) (modulo_word offset)) (bytes_of width)) _ _ _ _ _ written next retires)
-effect_in_ram layout s lines word (Lui rd immediate) written next retires = tt
-effect_in_ram layout s lines word (Auipc rd immediate) written next retires = tt
-effect_in_ram layout s lines word (Jal rd offset) written next retires = tt
-effect_in_ram layout s lines word (Jalr rd rs1 offset) written next retires = tt
-effect_in_ram layout s lines word (Branch condition rs1 rs2 offset) written next retires = tt
-effect_in_ram layout s lines word (OpImmediate op rd rs1 immediate) written next retires = tt
-effect_in_ram layout s lines word (Shift op rd rs1 amount) written next retires = tt
-effect_in_ram layout s lines word (Op op rd rs1 rs2) written next retires = tt
-effect_in_ram layout s lines word Fence written next retires = tt
-effect_in_ram layout s lines word FenceI written next retires = tt
-effect_in_ram layout s lines word (Csr op rd csr source) written next retires = tt
-effect_in_ram layout s lines word Ecall written next retires = tt
-effect_in_ram layout s lines word Ebreak written next retires = tt
-effect_in_ram layout s lines word Mret written next retires = tt
-effect_in_ram layout s lines word Wfi written next retires = tt
+effect_in_ram layout s lines word _ written next retires = tt
 
 -- the word at pc is one instruction at most, or it is none
 pub record IsOneAtMost (layout : Layout) (s : State) (lines : Lines) : Type 0 where

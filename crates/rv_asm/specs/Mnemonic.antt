@@ -1,6 +1,6 @@
 -- The mnemonics and directives.
 use Rattle.std.specs.Prelude.{ℕ, List, [], ◌∷◌, Option, codes}
-use Rattle.rv_isa.specs.declared.operations.AluOp.TheVariants as alu
+use Rattle.rv_isa.specs.declared.arithmetic.AluOp.TheVariants as alu
 use Rattle.rv_isa.specs.declared.operations.Condition.TheVariants as condition
 use Rattle.rv_isa.specs.declared.operations.CsrOp.TheVariants as csr
 use Rattle.rv_isa.specs.declared.operations.ImmediateOp.TheVariants as immediate

@@ -1,9 +1,9 @@
 -- The turn of a head, by its role.
-use Rattle.std.proofs.Common.{◌≡◌, false, List, [], ◌∷◌, slice_get, Option, None, Some, refl, ap, ◌∙◌}
+use Rattle.std.proofs.Common.{◌≡◌, false, List, [], ◌∷◌, slice_get, Option, Some, refl, ap, ◌∙◌}
 use Rattle.std.specs.Ordering.{nat_cmp}
 use Rattle.std.specs.FinSet as set
 use Rattle.rv_isa.specs.declared.instructions.Instr.{Instr}
-use Rattle.rv_isa.specs.declared.instructions.Instr.TheVariants.{Lui, Auipc, Jal, Jalr, Branch, Load, Store, OpImmediate, Shift, Op, Fence, FenceI, Csr, Ecall, Ebreak, Mret, Wfi}
+use Rattle.rv_isa.specs.declared.instructions.Instr.TheVariants.{FenceI, Csr, Mret}
 use Rattle.rv_memory.specs.Memory.{word_of}
 use Rattle.rv_rob.specs.declared.entry.Entry.{Entry}
 use Rattle.rv_hardware.specs.Commit.{Committing, commit_turn, commit_turn_of, execute_head, finish_broadcast, head_turn}
@@ -31,44 +31,14 @@ turn_of_head h e steps head fresh =
 
 pub turn_waits : (e : Entry) (instruction : Option Instr) (c : Committing) → role_of instruction ≡ WaitsForResult →
     head_turn e instruction c ≡ finish_broadcast e (broadcast_of e.stage) c
-turn_waits e None c is = refl
-turn_waits e (Some (Lui rd immediate)) c is = refl
-turn_waits e (Some (Auipc rd immediate)) c is = refl
-turn_waits e (Some (Jal rd offset)) c is = refl
-turn_waits e (Some (Jalr rd rs1 offset)) c is = refl
-turn_waits e (Some (Branch condition rs1 rs2 offset)) c is = refl
-turn_waits e (Some (Load form rd rs1 offset)) c is = refl
-turn_waits e (Some (Store width rs1 rs2 offset)) c is = refl
-turn_waits e (Some (OpImmediate op rd rs1 immediate)) c is = refl
-turn_waits e (Some (Shift op rd rs1 amount)) c is = refl
-turn_waits e (Some (Op op rd rs1 rs2)) c is = refl
-turn_waits e (Some Fence) c is = refl
 turn_waits e (Some FenceI) c is = absurd (cc)
 turn_waits e (Some (Csr op rd csr source)) c is = absurd (cc)
-turn_waits e (Some Ecall) c is = refl
-turn_waits e (Some Ebreak) c is = refl
 turn_waits e (Some Mret) c is = absurd (cc)
-turn_waits e (Some Wfi) c is = refl
+turn_waits e _ c is = refl
 
 pub turn_accesses : (e : Entry) (instruction : Option Instr) (access : Access) (c : Committing) → role_of instruction ≡ CsrAccess access →
     head_turn e instruction c ≡ Ends (execute_head e (instruction_of_access access) c)
-turn_accesses e None access c is = absurd (cc)
-turn_accesses e (Some (Lui rd immediate)) access c is = absurd (cc)
-turn_accesses e (Some (Auipc rd immediate)) access c is = absurd (cc)
-turn_accesses e (Some (Jal rd offset)) access c is = absurd (cc)
-turn_accesses e (Some (Jalr rd rs1 offset)) access c is = absurd (cc)
-turn_accesses e (Some (Branch condition rs1 rs2 offset)) access c is = absurd (cc)
-turn_accesses e (Some (Load form rd rs1 offset)) access c is = absurd (cc)
-turn_accesses e (Some (Store width rs1 rs2 offset)) access c is = absurd (cc)
-turn_accesses e (Some (OpImmediate op rd rs1 immediate)) access c is = absurd (cc)
-turn_accesses e (Some (Shift op rd rs1 amount)) access c is = absurd (cc)
-turn_accesses e (Some (Op op rd rs1 rs2)) access c is = absurd (cc)
-turn_accesses e (Some Fence) access c is = absurd (cc)
-turn_accesses e (Some FenceI) access c is = absurd (cc)
 turn_accesses e (Some (Csr op rd csr source)) access c is =
     let same : record { op = op; rd = rd; csr = csr; source = source } ≡ access = cc in
     ap (λ (a : Access). Ends (execute_head e (instruction_of_access a) c)) same
-turn_accesses e (Some Ecall) access c is = absurd (cc)
-turn_accesses e (Some Ebreak) access c is = absurd (cc)
-turn_accesses e (Some Mret) access c is = absurd (cc)
-turn_accesses e (Some Wfi) access c is = absurd (cc)
+turn_accesses e _ access c is = absurd (cc)

@@ -118,17 +118,10 @@ unwritten values message none = rw none tt
 
 first-legal : (values : Values) (layout : Layout) (s : State) (lines : Lines) (cycle : ℕ) (word : Option ℕ) (o : Option Instr)
     → IfSome (message_of (stage_by (kind_of_word o) (is_serialising o) (Finished None cycle (result_of_word layout s lines word o)))) (λ message. IsLegalWrite values (is_store o) message.fault message.store)
-first-legal values layout s lines cycle None None = tt
-first-legal values layout s lines cycle (Some word) None = tt
 first-legal values layout s lines cycle None (Some instruction.Fence) = tt
 first-legal values layout s lines cycle (Some word) (Some instruction.Fence) = tt
-first-legal values layout s lines cycle None (Some instruction.Ecall) = tt
-first-legal values layout s lines cycle (Some word) (Some instruction.Ecall) = tt
-first-legal values layout s lines cycle None (Some instruction.Ebreak) = tt
-first-legal values layout s lines cycle (Some word) (Some instruction.Ebreak) = tt
-first-legal values layout s lines cycle None (Some instruction.Wfi) = tt
-first-legal values layout s lines cycle (Some word) (Some instruction.Wfi) = tt
-first-legal values layout s lines cycle word _ = tt
+first-legal values layout s lines cycle None _ = tt
+first-legal values layout s lines cycle (Some word) _ = tt
 
 module _ (h : Hardware) (fetched : Fetched) where
   abbrev new_entry : Entry

@@ -3,8 +3,8 @@ use Rattle.std.specs.Prelude.{ℕ, ◌+◌, ◌*◌, ◌^◌, List, [], ◌∷�
 use Rattle.rv_isa.specs.declared.instructions.CsrSource.TheVariants.{Register, Immediate}
 use Rattle.rv_isa.specs.declared.instructions.Instr.{Instr}
 use Rattle.rv_isa.specs.declared.instructions.Instr.TheVariants.{Lui, Auipc, Jal, Jalr, Branch, Load, Store, OpImmediate, Shift, Op, Fence, FenceI, Csr, Ecall, Ebreak, Mret, Wfi}
-use Rattle.rv_isa.specs.declared.operations.AluOp.{AluOp}
-use Rattle.rv_isa.specs.declared.operations.AluOp.TheVariants.{Add, Sub, Sll, Slt, Sltu, Xor, Srl, Sra, Or, And, Mul, Mulh, Mulhsu, Mulhu, Div, Divu, Rem, Remu, Sh1add, Sh2add, Sh3add}
+use Rattle.rv_isa.specs.declared.arithmetic.AluOp.{AluOp}
+use Rattle.rv_isa.specs.declared.arithmetic.AluOp.TheVariants.{Add, Sub, Sll, Slt, Sltu, Xor, Srl, Sra, Or, And, Mul, Mulh, Mulhsu, Mulhu, Div, Divu, Rem, Remu, Sh1add, Sh2add, Sh3add}
 use Rattle.rv_isa.specs.declared.operations.Condition.{Condition}
 use Rattle.rv_isa.specs.declared.operations.Condition.TheVariants.{Equal, NotEqual, LessThan, GreaterOrEqual, LessThanUnsigned, GreaterOrEqualUnsigned}
 use Rattle.rv_isa.specs.declared.operations.CsrOp.{CsrOp}

@@ -3,15 +3,13 @@
 //! instruction words stands on it.
 #![tactic(auto)]
 
-mod decoder;
-mod encoder;
+mod codec;
 mod fields;
 mod formats;
 mod opcodes;
 mod operations;
 
-pub use decoder::decode;
-pub use encoder::encode;
+pub use codec::{decode, encode};
 
 #[cfg(test)]
 mod tests;

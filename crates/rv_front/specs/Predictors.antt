@@ -7,19 +7,20 @@ use Rattle.rv_front.specs.Lesson.{Lesson}
 use Rattle.rv_front.specs.declared.flow.Flow.{Flow}
 use Rattle.rv_front.specs.declared.flow.Flow.TheVariants.{Sequential, Jump, Branch, Indirect}
 
+-- the next pc, where a branch is taken by what a test says of its offset's sign, and a register leads where it is known to
+abbrev pub predicted : (Bool → Bool) → Option ℕ → ℕ → Flow → ℕ
+predicted is_taken known pc Sequential = pc_plus_4 pc
+predicted is_taken known pc (Jump target) = target
+predicted is_taken known pc (Branch target backward) = if is_taken backward then target else pc_plus_4 pc
+predicted is_taken known pc Indirect = unwrap_or known (pc_plus_4 pc)
+
 -- no branch is taken, and a register's target is unknown
 abbrev pub not_taken : ℕ → Flow → ℕ
-not_taken pc Sequential = pc_plus_4 pc
-not_taken pc (Jump target) = target
-not_taken pc (Branch target backward) = pc_plus_4 pc
-not_taken pc Indirect = pc_plus_4 pc
+not_taken pc flow = predicted (λ backward. false) None pc flow
 
 -- a branch with a negative offset is taken
 abbrev pub backward_taken : ℕ → Flow → ℕ
-backward_taken pc Sequential = pc_plus_4 pc
-backward_taken pc (Jump target) = target
-backward_taken pc (Branch target backward) = if backward then target else pc_plus_4 pc
-backward_taken pc Indirect = pc_plus_4 pc
+backward_taken pc flow = predicted (λ backward. backward) None pc flow
 
 -- a counter from 0 to 3 for each place, and the last target that a register led to from there
 pub record Tables : Type 0 where
@@ -38,10 +39,7 @@ target_at tables pc = slice_index_or tables.targets (place_of tables pc) None
 
 -- a branch is taken where its counter is 2 or 3, and a register leads where it last did
 abbrev pub bimodal : Tables → ℕ → Flow → ℕ
-bimodal tables pc Sequential = pc_plus_4 pc
-bimodal tables pc (Jump target) = target
-bimodal tables pc (Branch target backward) = if nat_le 2 (counter_at tables pc) then target else pc_plus_4 pc
-bimodal tables pc Indirect = unwrap_or (target_at tables pc) (pc_plus_4 pc)
+bimodal tables pc flow = predicted (λ backward. nat_le 2 (counter_at tables pc)) (target_at tables pc) pc flow
 
 -- a counter after a branch, which goes up to 3 where the branch was taken, else down to 0
 abbrev pub counted : Bool → ℕ → ℕ

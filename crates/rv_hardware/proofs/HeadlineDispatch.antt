@@ -1,7 +1,7 @@
 -- The dispatch phase changes nothing that programs see.
 use Rattle.std.proofs.Common.{◌≡◌, ℕ, Bool, true, false, List, [], ◌∷◌, ◌++◌, Option, Some, None, refl, sym, subst, ◌∙◌, true≢false}
 use Rattle.rv_isa.specs.declared.instructions.Instr.{Instr}
-use Rattle.rv_isa.specs.declared.instructions.Instr.TheVariants.{Lui, Auipc, Jal, Jalr, Branch, Load, Store, OpImmediate, Shift, Op, Fence, FenceI, Csr, Ecall, Ebreak, Mret, Wfi}
+use Rattle.rv_isa.specs.declared.instructions.Instr.TheVariants.{Jalr, Branch, Load, Store, OpImmediate, Shift, Op, Csr}
 use Rattle.rv_isa.specs.declared.operations.Kind.{Kind}
 use Rattle.rv_isa.specs.declared.values.Values.{Values}
 use Rattle.rv_arch.specs.Reset.{no_lines}
@@ -30,10 +30,6 @@ record ReadsNothing (s t : State) (i : Option Instr) : Type 0 where
   pub no_load : is_load i ≡ false
 
 reads_nothing : (s t : State) (i : Option Instr) → kind_of_word i ≡ None → is_serialising i ≡ false → ReadsNothing s t i
-reads_nothing s t None none plain = record { reads = tt; no_load = refl }
-reads_nothing s t (Some (Lui rd immediate)) none plain = absurd (cc)
-reads_nothing s t (Some (Auipc rd immediate)) none plain = absurd (cc)
-reads_nothing s t (Some (Jal rd offset)) none plain = absurd (cc)
 reads_nothing s t (Some (Jalr rd rs1 offset)) none plain = absurd (cc)
 reads_nothing s t (Some (Branch condition rs1 rs2 offset)) none plain = absurd (cc)
 reads_nothing s t (Some (Load form rd rs1 offset)) none plain = absurd (cc)
@@ -41,13 +37,8 @@ reads_nothing s t (Some (Store width rs1 rs2 offset)) none plain = absurd (cc)
 reads_nothing s t (Some (OpImmediate op rd rs1 immediate)) none plain = absurd (cc)
 reads_nothing s t (Some (Shift op rd rs1 amount)) none plain = absurd (cc)
 reads_nothing s t (Some (Op op rd rs1 rs2)) none plain = absurd (cc)
-reads_nothing s t (Some Fence) none plain = record { reads = tt; no_load = refl }
-reads_nothing s t (Some FenceI) none plain = absurd (true≢false plain)
 reads_nothing s t (Some (Csr op rd csr source)) none plain = absurd (true≢false plain)
-reads_nothing s t (Some Ecall) none plain = record { reads = tt; no_load = refl }
-reads_nothing s t (Some Ebreak) none plain = record { reads = tt; no_load = refl }
-reads_nothing s t (Some Mret) none plain = absurd (true≢false plain)
-reads_nothing s t (Some Wfi) none plain = record { reads = tt; no_load = refl }
+reads_nothing s t _ none plain = record { reads = tt; no_load = refl }
 
 module _ (h : Hardware) (fetched : Fetched) where
   abbrev layout : Layout

@@ -9,7 +9,7 @@ use Rattle.rv_isa.specs.Operands.{target_of}
 use Rattle.rv_isa.specs.declared.broadcast.Message.{Message}
 use Rattle.rv_isa.specs.declared.broadcast.StoreAccess.{StoreAccess}
 use Rattle.rv_isa.specs.declared.instructions.Instr.{Instr}
-use Rattle.rv_isa.specs.declared.instructions.Instr.TheVariants.{Lui, Auipc, Jal, Jalr, Branch, Load, Store, OpImmediate, Shift, Op, Fence, FenceI, Csr, Ecall, Ebreak, Mret, Wfi}
+use Rattle.rv_isa.specs.declared.instructions.Instr.TheVariants.{Lui, Auipc, Jal, Jalr, Load, Store, OpImmediate, Shift, Op, Csr}
 use Rattle.rv_isa.specs.declared.lines.Lines.{Lines}
 use Rattle.rv_arch.specs.Effect.{Effect, Retires, Faults, effect}
 use Rattle.rv_arch.specs.Reset.{no_lines}
@@ -41,19 +41,12 @@ target_of_not_zero (Lui rd immediate) = written_not_zero _ rd refl
 target_of_not_zero (Auipc rd immediate) = written_not_zero _ rd refl
 target_of_not_zero (Jal rd offset) = written_not_zero _ rd refl
 target_of_not_zero (Jalr rd rs1 offset) = written_not_zero _ rd refl
-target_of_not_zero (Branch condition rs1 rs2 offset) = tt
 target_of_not_zero (Load form rd rs1 offset) = written_not_zero _ rd refl
-target_of_not_zero (Store width rs1 rs2 offset) = tt
 target_of_not_zero (OpImmediate op rd rs1 immediate) = written_not_zero _ rd refl
 target_of_not_zero (Shift op rd rs1 amount) = written_not_zero _ rd refl
 target_of_not_zero (Op op rd rs1 rs2) = written_not_zero _ rd refl
-target_of_not_zero Fence = tt
-target_of_not_zero FenceI = tt
 target_of_not_zero (Csr op rd csr source) = written_not_zero _ rd refl
-target_of_not_zero Ecall = tt
-target_of_not_zero Ebreak = tt
-target_of_not_zero Mret = tt
-target_of_not_zero Wfi = tt
+target_of_not_zero _ = tt
 
 target_not_zero : (i : Option Instr) → IsNotZero (target_of_word i)
 target_not_zero None = tt
@@ -146,23 +139,8 @@ no_store_of_effect (Retires written next) = refl
 no_store_of_effect (Faults cause value) = refl
 
 no_access : (s : State) (i : Instr) → is_store (Some i) ≡ false → access_of s i ≡ None
-no_access s (Lui rd immediate) other = refl
-no_access s (Auipc rd immediate) other = refl
-no_access s (Jal rd offset) other = refl
-no_access s (Jalr rd rs1 offset) other = refl
-no_access s (Branch condition rs1 rs2 offset) other = refl
-no_access s (Load form rd rs1 offset) other = refl
 no_access s (Store width rs1 rs2 offset) other = absurd (true≢false other)
-no_access s (OpImmediate op rd rs1 immediate) other = refl
-no_access s (Shift op rd rs1 amount) other = refl
-no_access s (Op op rd rs1 rs2) other = refl
-no_access s Fence other = refl
-no_access s FenceI other = refl
-no_access s (Csr op rd csr source) other = refl
-no_access s Ecall other = refl
-no_access s Ebreak other = refl
-no_access s Mret other = refl
-no_access s Wfi other = refl
+no_access s _ other = refl
 
 -- only stores write to memory
 pub no_store : (layout : Layout) (s : State) (lines : Lines) (word : Option ℕ) (i : Option Instr) → is_store i ≡ false → (result_of_word layout s lines word i).store ≡ None

@@ -11,7 +11,7 @@ use Rattle.rv_isa.specs.declared.broadcast.Message.{Message}
 use Rattle.rv_isa.specs.declared.broadcast.StoreAccess.{StoreAccess}
 use Rattle.rv_isa.specs.declared.causes.Cause.{Cause}
 use Rattle.rv_isa.specs.declared.instructions.Instr.{Instr}
-use Rattle.rv_isa.specs.declared.instructions.Instr.TheVariants.{Lui, Auipc, Jal, Jalr, Branch, Load, Store, OpImmediate, Shift, Op, Fence, FenceI, Csr, Ecall, Ebreak, Mret, Wfi}
+use Rattle.rv_isa.specs.declared.instructions.Instr.TheVariants.{Lui, Auipc, Jal, Jalr, Branch, Load, Store, OpImmediate, Shift, Op, FenceI, Csr, Ecall, Ebreak, Mret}
 use Rattle.rv_isa.specs.declared.lines.Lines.{Lines}
 use Rattle.rv_isa.specs.declared.operations.LoadForm.{LoadForm}
 use Rattle.rv_isa.specs.declared.operations.Width.{Width}
@@ -114,13 +114,12 @@ module _ (s t : State) where
         writes_same rd _ _ _ _ (ap (λ n. value_of (shift_operation op) n amount) reads.0) (ap pc_plus_4 here)
     same_result_in word word' (Op op rd rs1 rs2) plain reads memory =
         writes_same rd _ _ _ _ (ap₂ (value_of op) reads.0 reads.1.0) (ap pc_plus_4 here)
-    same_result_in word word' Fence plain reads memory = goes_same _ _ (ap pc_plus_4 here)
     same_result_in word word' FenceI plain reads memory = absurd (true≢false plain)
     same_result_in word word' (Csr op rd csr source) plain reads memory = absurd (true≢false plain)
     same_result_in word word' Ecall plain reads memory = refl
     same_result_in word word' Ebreak plain reads memory = refl
     same_result_in word word' Mret plain reads memory = absurd (true≢false plain)
-    same_result_in word word' Wfi plain reads memory = goes_same _ _ (ap pc_plus_4 here)
+    same_result_in word word' _ plain reads memory = goes_same _ _ (ap pc_plus_4 here)
 
     pub same_result : (word : Option ℕ) (instruction : Option Instr) → is_serialising instruction ≡ false → ReadsSame s t (sources_of_word instruction) → (is_load instruction ≡ true → s.ram ≡ t.ram) →
         result_of_word layout s lines word instruction ≡ result_of_word layout t lines' word instruction

@@ -14,7 +14,7 @@ use Rattle.rv_isa.specs.declared.broadcast.StoreAccess.{StoreAccess}
 use Rattle.rv_isa.specs.declared.causes.Cause.{Cause}
 use Rattle.rv_isa.specs.declared.causes.Cause.TheVariants.{InstructionAddressMisaligned, LoadAddressMisaligned, LoadAccessFault}
 use Rattle.rv_isa.specs.declared.instructions.Instr.{Instr}
-use Rattle.rv_isa.specs.declared.instructions.Instr.TheVariants.{Lui, Auipc, Jal, Jalr, Branch, Load, Store, OpImmediate, Shift, Op, Fence, FenceI, Csr, Ecall, Ebreak, Mret, Wfi}
+use Rattle.rv_isa.specs.declared.instructions.Instr.TheVariants.{Lui, Auipc, Jal, Jalr, Branch, Load, Store, OpImmediate, Shift, Op, FenceI, Csr, Ecall, Ebreak, Mret}
 use Rattle.rv_isa.specs.declared.lines.Lines.{Lines}
 use Rattle.rv_isa.specs.declared.operations.LoadForm.{LoadForm}
 use Rattle.rv_isa.specs.declared.operations.Width.{Width}
@@ -171,10 +171,9 @@ module _ (layout : Layout) (s : State) (here : s.pc % 4 ≡ 0) where
   effect_told lines word (OpImmediate op rd rs1 immediate) plain = writes_told rd _ _ (aligned_next s.pc here)
   effect_told lines word (Shift op rd rs1 amount) plain = writes_told rd _ _ (aligned_next s.pc here)
   effect_told lines word (Op op rd rs1 rs2) plain = writes_told rd _ _ (aligned_next s.pc here)
-  effect_told lines word Fence plain = goes_told _ (aligned_next s.pc here)
   effect_told lines word FenceI plain = absurd (true≢false plain)
   effect_told lines word (Csr op rd csr source) plain = absurd (true≢false plain)
   effect_told lines word Ecall plain = tt
   effect_told lines word Ebreak plain = tt
   effect_told lines word Mret plain = absurd (true≢false plain)
-  effect_told lines word Wfi plain = goes_told _ (aligned_next s.pc here)
+  effect_told lines word _ plain = goes_told _ (aligned_next s.pc here)

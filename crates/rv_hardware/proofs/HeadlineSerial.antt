@@ -38,21 +38,8 @@ IsSerialEffect h (Faults cause value) = Unit {0}
 
 -- mepc is a multiple of 4, whatever is written
 mepc_written : (kept : Kept) (register : Register) (word : ℕ) → kept.mepc % 4 ≡ 0 → (written kept register word).mepc % 4 ≡ 0
-mepc_written kept csr.Mstatus word aligned = aligned
-mepc_written kept csr.Misa word aligned = aligned
-mepc_written kept csr.Mie word aligned = aligned
-mepc_written kept csr.Mtvec word aligned = aligned
-mepc_written kept csr.Mstatush word aligned = aligned
-mepc_written kept csr.Mscratch word aligned = aligned
 mepc_written kept csr.Mepc word aligned = omega arith
-mepc_written kept csr.Mcause word aligned = aligned
-mepc_written kept csr.Mtval word aligned = aligned
-mepc_written kept csr.Mip word aligned = aligned
-mepc_written kept csr.Mvendorid word aligned = aligned
-mepc_written kept csr.Marchid word aligned = aligned
-mepc_written kept csr.Mimpid word aligned = aligned
-mepc_written kept csr.Mhartid word aligned = aligned
-mepc_written kept csr.Mconfigptr word aligned = aligned
+mepc_written kept _ word aligned = aligned
 
 mepc_by : (writes : Bool) (kept new : Kept) → kept.mepc % 4 ≡ 0 → new.mepc % 4 ≡ 0 → (if writes then new else kept).mepc % 4 ≡ 0
 mepc_by true kept new aligned after = after

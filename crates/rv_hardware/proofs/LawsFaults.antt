@@ -9,7 +9,7 @@ use Rattle.rv_isa.specs.declared.broadcast.StoreAccess.{StoreAccess}
 use Rattle.rv_isa.specs.declared.causes.Cause.TheVariants.{InstructionAddressMisaligned, LoadAddressMisaligned, LoadAccessFault, StoreAddressMisaligned, StoreAccessFault}
 use Rattle.rv_isa.specs.declared.causes.Fault.{Fault}
 use Rattle.rv_isa.specs.declared.instructions.Instr.{Instr}
-use Rattle.rv_isa.specs.declared.instructions.Instr.TheVariants.{Lui, Auipc, Jal, Jalr, Branch, Load, Store, OpImmediate, Shift, Op, Fence, FenceI, Csr, Ecall, Ebreak, Mret, Wfi}
+use Rattle.rv_isa.specs.declared.instructions.Instr.TheVariants.{Jal, Jalr, Branch, Load, Store, Csr, Ecall, Ebreak}
 use Rattle.rv_isa.specs.declared.lines.Lines.{Lines}
 use Rattle.rv_isa.specs.declared.operations.Kind.{Kind}
 use Rattle.rv_isa.specs.declared.operations.LoadForm.{LoadForm}
@@ -65,23 +65,15 @@ by_store layout s width address word =
     (λ is. by_test FindsFault (not (is_writable layout address (bytes_of width))) (Faults StoreAccessFault address) _ (λ outside. refl) (λ inside. tt))
 
 by_unit : (layout : Layout) (s : State) (lines : Lines) (word : ℕ) (instruction : Instr) → is_some (kind_of_word (Some instruction)) ≡ true → FindsFault (effect layout s lines word instruction)
-by_unit layout s lines word (Lui rd immediate) unit = tt
-by_unit layout s lines word (Auipc rd immediate) unit = tt
 by_unit layout s lines word (Jal rd offset) unit = by_jump s rd _
 by_unit layout s lines word (Jalr rd rs1 offset) unit = by_jump s rd _
 by_unit layout s lines word (Branch condition rs1 rs2 offset) unit = by_branch s (holds condition (register_of s rs1) (register_of s rs2)) (pc_plus s.pc offset)
 by_unit layout s lines word (Load form rd rs1 offset) unit = by_load layout s form rd _
 by_unit layout s lines word (Store width rs1 rs2 offset) unit = by_store layout s width _ _
-by_unit layout s lines word (OpImmediate op rd rs1 immediate) unit = tt
-by_unit layout s lines word (Shift op rd rs1 amount) unit = tt
-by_unit layout s lines word (Op op rd rs1 rs2) unit = tt
-by_unit layout s lines word Fence unit = absurd (cc)
-by_unit layout s lines word FenceI unit = absurd (cc)
 by_unit layout s lines word (Csr op rd csr source) unit = absurd (cc)
 by_unit layout s lines word Ecall unit = absurd (cc)
 by_unit layout s lines word Ebreak unit = absurd (cc)
-by_unit layout s lines word Mret unit = absurd (cc)
-by_unit layout s lines word Wfi unit = absurd (cc)
+by_unit layout s lines word _ unit = tt
 
 in_message : (access : Option StoreAccess) (e : Effect) → FindsFault e → IsFound (effect_message access e).fault
 in_message access (Retires written next) finds = tt

@@ -1,7 +1,7 @@
 -- The laws of operands, of loads and of the order of results, of the rows.
 use Rattle.std.proofs.Common.{◌≡◌, ℕ, ◌+◌, ◌≤◌, ◌<◌, Bool, true, false, cond, is_some, List, [], ◌∷◌, ◌++◌, map, All, AllPairs, Option, Some, None, IfSome, MatchOption, option_map, refl, sym, subst, ap, ◌∙◌, arith, true≢false}
 use Rattle.rv_isa.specs.declared.instructions.Instr.{Instr}
-use Rattle.rv_isa.specs.declared.instructions.Instr.TheVariants.{Csr, FenceI, Mret, Fence, Wfi, Ecall, Ebreak}
+use Rattle.rv_isa.specs.declared.instructions.Instr.TheVariants.{Csr, FenceI, Mret}
 use Rattle.rv_isa.specs.declared.values.Values.{Values}
 use Rattle.rv_hardware.specs.Hardware.{Hardware}
 use Rattle.rv_hardware.specs.InFlight.{is_serialising, is_target, target_of_word}
@@ -116,10 +116,6 @@ writer_serialises register None kind writes = absurd (cc)
 writer_serialises register (Some FenceI) kind writes = refl
 writer_serialises register (Some (Csr op rd csr source)) kind writes = refl
 writer_serialises register (Some Mret) kind writes = refl
-writer_serialises register (Some Fence) kind writes = absurd (cc)
-writer_serialises register (Some Wfi) kind writes = absurd (cc)
-writer_serialises register (Some Ecall) kind writes = absurd (cc)
-writer_serialises register (Some Ebreak) kind writes = absurd (cc)
 writer_serialises register i kind writes = absurd (cc)
 
 -- what is known of a row that is older than another

@@ -1,8 +1,10 @@
 use Rattle.std.specs.Prelude.{ℕ, ◌+◌, ◌*◌, ◌/◌, ◌%◌, ◌^◌, ◌-◌, pos, ◌-ℤ◌, ◌*ℤ◌, ◌==◌, cond, nat_lt, int_lt, int_div, int_rem, bit_and, bit_or, bit_xor}
 use Rattle.std.specs.Int.{from_bool, int_div_euclid}
 use Rattle.rv_isa.specs.Word.{signed, modulo_word, upper_word}
-use Rattle.rv_isa.specs.declared.operations.AluOp.{AluOp}
-use Rattle.rv_isa.specs.declared.operations.AluOp.TheVariants.{Add, Sub, Sll, Slt, Sltu, Xor, Srl, Sra, Or, And, Mul, Mulh, Mulhsu, Mulhu, Div, Divu, Rem, Remu, Sh1add, Sh2add, Sh3add}
+use Rattle.rv_isa.specs.declared.arithmetic.AluOp.{AluOp}
+use Rattle.rv_isa.specs.declared.arithmetic.AluOp.TheVariants.{Add, Sub, Sll, Slt, Sltu, Xor, Srl, Sra, Or, And, Mul, Mulh, Mulhsu, Mulhu, Div, Divu, Rem, Remu, Sh1add, Sh2add, Sh3add}
+use Rattle.rv_isa.specs.declared.operations.Kind.{Kind}
+use Rattle.rv_isa.specs.declared.operations.Kind.TheVariants as kind
 
 -- the word of all ones
 abbrev pub all_ones : ℕ
@@ -35,3 +37,27 @@ value_of Remu a b = cond (b == 0) a (a % b)
 value_of Sh1add a b = (b + a * 2) % 2 ^ 32
 value_of Sh2add a b = (b + a * 4) % 2 ^ 32
 value_of Sh3add a b = (b + a * 8) % 2 ^ 32
+
+-- the kind of unit for a register operation
+abbrev pub operation_kind_of : AluOp → Kind
+operation_kind_of Add = kind.Alu
+operation_kind_of Sub = kind.Alu
+operation_kind_of Sll = kind.Alu
+operation_kind_of Slt = kind.Alu
+operation_kind_of Sltu = kind.Alu
+operation_kind_of Xor = kind.Alu
+operation_kind_of Srl = kind.Alu
+operation_kind_of Sra = kind.Alu
+operation_kind_of Or = kind.Alu
+operation_kind_of And = kind.Alu
+operation_kind_of Mul = kind.Mul
+operation_kind_of Mulh = kind.Mul
+operation_kind_of Mulhsu = kind.Mul
+operation_kind_of Mulhu = kind.Mul
+operation_kind_of Div = kind.Div
+operation_kind_of Divu = kind.Div
+operation_kind_of Rem = kind.Div
+operation_kind_of Remu = kind.Div
+operation_kind_of Sh1add = kind.Alu
+operation_kind_of Sh2add = kind.Alu
+operation_kind_of Sh3add = kind.Alu

@@ -1,6 +1,5 @@
 use Rattle.std.specs.Prelude.{ℕ, List, [], ◌∷◌, ◌==◌, cond, Option, None, Some}
-use Rattle.rv_isa.specs.declared.operations.AluOp.{AluOp}
-use Rattle.rv_isa.specs.declared.operations.AluOp.TheVariants.{Add, Sub, Sll, Slt, Sltu, Xor, Srl, Sra, Or, And, Mul, Mulh, Mulhsu, Mulhu, Div, Divu, Rem, Remu, Sh1add, Sh2add, Sh3add}
+use Rattle.rv_isa.specs.Arithmetic.{operation_kind_of}
 use Rattle.rv_isa.specs.declared.operations.Kind.{Kind}
 use Rattle.rv_isa.specs.declared.operations.Kind.TheVariants as kind
 use Rattle.rv_isa.specs.declared.instructions.CsrSource.TheVariants as source
@@ -51,30 +50,6 @@ target_of Ecall = None
 target_of Ebreak = None
 target_of Mret = None
 target_of Wfi = None
-
--- the kind of unit for a register operation
-abbrev pub operation_kind_of : AluOp → Kind
-operation_kind_of Add = kind.Alu
-operation_kind_of Sub = kind.Alu
-operation_kind_of Sll = kind.Alu
-operation_kind_of Slt = kind.Alu
-operation_kind_of Sltu = kind.Alu
-operation_kind_of Xor = kind.Alu
-operation_kind_of Srl = kind.Alu
-operation_kind_of Sra = kind.Alu
-operation_kind_of Or = kind.Alu
-operation_kind_of And = kind.Alu
-operation_kind_of Mul = kind.Mul
-operation_kind_of Mulh = kind.Mul
-operation_kind_of Mulhsu = kind.Mul
-operation_kind_of Mulhu = kind.Mul
-operation_kind_of Div = kind.Div
-operation_kind_of Divu = kind.Div
-operation_kind_of Rem = kind.Div
-operation_kind_of Remu = kind.Div
-operation_kind_of Sh1add = kind.Alu
-operation_kind_of Sh2add = kind.Alu
-operation_kind_of Sh3add = kind.Alu
 
 -- the kind of unit for an instruction: none where it needs nothing to be computed, or waits to be the oldest
 abbrev pub kind_of : Instr → Option Kind

@@ -1,6 +1,6 @@
 use Rattle.std.specs.Prelude.{ℕ, Bool, true, false}
-use Rattle.rv_isa.specs.declared.operations.AluOp.{AluOp}
-use Rattle.rv_isa.specs.declared.operations.AluOp.TheVariants as alu
+use Rattle.rv_isa.specs.declared.arithmetic.AluOp.{AluOp}
+use Rattle.rv_isa.specs.declared.arithmetic.AluOp.TheVariants as alu
 use Rattle.rv_isa.specs.declared.operations.ImmediateOp.{ImmediateOp}
 use Rattle.rv_isa.specs.declared.operations.ImmediateOp.TheVariants.{Addi, Slti, Sltiu, Xori, Ori, Andi}
 use Rattle.rv_isa.specs.declared.operations.ShiftOp.{ShiftOp}

@@ -1,9 +1,36 @@
 ghost use Rattle.std.specs.Prelude.{◌≡◌, ℤ, pos, ◌≢◌, ◌*ℤ◌, int_div, int_rem, cond};
-ghost use Rattle.rv_isa.specs.Arithmetic.{value_of, all_ones};
+ghost use Rattle.rv_isa.specs.Arithmetic.{value_of, operation_kind_of, all_ones};
 ghost use Rattle.rv_isa.specs.Word.{modulo_word, upper_word};
 ghost use Rattle.std.specs.Int.{cast_unsigned, w32};
 
-use crate::operations::AluOp;
+use crate::operations::Kind;
+
+/// A register operation: RV32I (Unprivileged ISA 20191213, 2.4), M (7.1, 7.2) and Zba's shifted
+/// additions.
+#[derive(Clone, Copy, Debug, PartialEq, Eq)]
+pub enum AluOp {
+    Add,
+    Sub,
+    Sll,
+    Slt,
+    Sltu,
+    Xor,
+    Srl,
+    Sra,
+    Or,
+    And,
+    Mul,
+    Mulh,
+    Mulhsu,
+    Mulhu,
+    Div,
+    Divu,
+    Rem,
+    Remu,
+    Sh1add,
+    Sh2add,
+    Sh3add,
+}
 
 /// The value of a register operation on two words (Unprivileged ISA 20191213, 2.4, 7.1 and 7.2).
 /// Every operation has a value for every two words; no division traps.
@@ -32,6 +59,29 @@ pub fn alu(op: AluOp, a: u32, b: u32) -> u32
         AluOp::Sh1add => (a << 1).wrapping_add(b),
         AluOp::Sh2add => (a << 2).wrapping_add(b),
         AluOp::Sh3add => (a << 3).wrapping_add(b),
+    }
+}
+
+/// The kind of unit that computes a register operation.
+pub(crate) fn operation_kind(op: AluOp) -> Kind
+    ensures { result ≡ operation_kind_of op }
+{
+    match op {
+        AluOp::Mul | AluOp::Mulh | AluOp::Mulhsu | AluOp::Mulhu => Kind::Mul,
+        AluOp::Div | AluOp::Divu | AluOp::Rem | AluOp::Remu => Kind::Div,
+        AluOp::Add
+        | AluOp::Sub
+        | AluOp::Sll
+        | AluOp::Slt
+        | AluOp::Sltu
+        | AluOp::Xor
+        | AluOp::Srl
+        | AluOp::Sra
+        | AluOp::Or
+        | AluOp::And
+        | AluOp::Sh1add
+        | AluOp::Sh2add
+        | AluOp::Sh3add => Kind::Alu,
     }
 }
 
@@ -154,6 +204,36 @@ mod tests {
         ];
         for (op, a, b, value) in cases {
             assert_eq!(rt; alu(op, a, b), value);
+        }
+    }
+
+    #[test]
+    fn multiplications_and_divisions_have_kinds_of_their_own(rt: HostRuntime) {
+        let cases = [
+            (AluOp::Add, Kind::Alu),
+            (AluOp::Sub, Kind::Alu),
+            (AluOp::Sll, Kind::Alu),
+            (AluOp::Slt, Kind::Alu),
+            (AluOp::Sltu, Kind::Alu),
+            (AluOp::Xor, Kind::Alu),
+            (AluOp::Srl, Kind::Alu),
+            (AluOp::Sra, Kind::Alu),
+            (AluOp::Or, Kind::Alu),
+            (AluOp::And, Kind::Alu),
+            (AluOp::Mul, Kind::Mul),
+            (AluOp::Mulh, Kind::Mul),
+            (AluOp::Mulhsu, Kind::Mul),
+            (AluOp::Mulhu, Kind::Mul),
+            (AluOp::Div, Kind::Div),
+            (AluOp::Divu, Kind::Div),
+            (AluOp::Rem, Kind::Div),
+            (AluOp::Remu, Kind::Div),
+            (AluOp::Sh1add, Kind::Alu),
+            (AluOp::Sh2add, Kind::Alu),
+            (AluOp::Sh3add, Kind::Alu),
+        ];
+        for (op, unit) in cases {
+            assert_eq!(rt; operation_kind(op), unit);
         }
     }
 }

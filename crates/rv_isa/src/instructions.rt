@@ -1,7 +1,12 @@
+ghost use Rattle.std.specs.Prelude.{◌≡◌, ◌≢◌, ◌<◌, IfSome};
+ghost use Rattle.std.specs.List.{All};
+ghost use Rattle.rv_isa.specs.Operands.{sources_of, target_of, kind_of};
+
+use crate::arithmetic::{AluOp, operation_kind};
 use crate::fields::{
     BranchOffset, CsrAddress, CsrImmediate, Immediate, JumpOffset, ShiftAmount, UpperImmediate,
 };
-use crate::operations::{AluOp, Condition, CsrOp, ImmediateOp, LoadForm, ShiftOp, Width};
+use crate::operations::{Condition, CsrOp, ImmediateOp, Kind, LoadForm, ShiftOp, Width};
 use crate::registers::Reg;
 
 /// The source of a CSR instruction, in bits 19 to 15 of its word (Unprivileged ISA 20191213, 9.1).
@@ -99,4 +104,81 @@ pub enum Instr {
     Mret,
     /// Waits for an interrupt, which this machine takes as no operation.
     Wfi,
+}
+
+/// The registers that an instruction reads, first `rs1` and then `rs2`; `None` where it has no such
+/// operand. Register x0 is named like any other.
+#[tactic(auto, using(crate::proofs::TwoRegisters::two_registers))]
+pub fn sources(instruction: &Instr) -> [Option<Reg>; 2]
+    ensures sources { result ≡ sources_of instruction.now }
+    ensures in_range { All (λ source. IfSome source (λ register. register < 32)) result }
+{
+    match *instruction {
+        Instr::Lui { .. } | Instr::Auipc { .. } | Instr::Jal { .. } => [None, None],
+        Instr::Jalr { rs1, .. }
+        | Instr::Load { rs1, .. }
+        | Instr::OpImmediate { rs1, .. }
+        | Instr::Shift { rs1, .. } => [rs1.operand(), None],
+        Instr::Branch { rs1, rs2, .. }
+        | Instr::Store { rs1, rs2, .. }
+        | Instr::Op { rs1, rs2, .. } => [rs1.operand(), rs2.operand()],
+        Instr::Csr { source, .. } => match source {
+            CsrSource::Register(rs1) => [rs1.operand(), None],
+            CsrSource::Immediate(_) => [None, None],
+        },
+        Instr::Fence | Instr::FenceI | Instr::Ecall | Instr::Ebreak | Instr::Mret | Instr::Wfi => [
+            None, None,
+        ],
+    }
+}
+
+/// The register that an instruction writes, or `None` where it writes none or x0.
+pub fn target(instruction: &Instr) -> Option<Reg>
+    ensures target { result ≡ target_of instruction.now }
+    ensures in_range { IfSome result (λ register. (register ≢ 0) × (register < 32)) }
+{
+    let rd = match *instruction {
+        Instr::Lui { rd, .. }
+        | Instr::Auipc { rd, .. }
+        | Instr::Jal { rd, .. }
+        | Instr::Jalr { rd, .. }
+        | Instr::Load { rd, .. }
+        | Instr::OpImmediate { rd, .. }
+        | Instr::Shift { rd, .. }
+        | Instr::Op { rd, .. }
+        | Instr::Csr { rd, .. } => rd,
+        Instr::Branch { .. }
+        | Instr::Store { .. }
+        | Instr::Fence
+        | Instr::FenceI
+        | Instr::Ecall
+        | Instr::Ebreak
+        | Instr::Mret
+        | Instr::Wfi => Reg::ZERO,
+    };
+    if rd.number() == 0 { None } else { Some(rd) }
+}
+
+/// The kind of unit that executes an instruction, or `None` where it uses none.
+pub fn kind(instruction: &Instr) -> Option<Kind>
+    ensures { result ≡ kind_of instruction.now }
+{
+    match *instruction {
+        Instr::Load { .. } | Instr::Store { .. } => Some(Kind::Mem),
+        Instr::Op { op, .. } => Some(operation_kind(op)),
+        Instr::Lui { .. }
+        | Instr::Auipc { .. }
+        | Instr::Jal { .. }
+        | Instr::Jalr { .. }
+        | Instr::Branch { .. }
+        | Instr::OpImmediate { .. }
+        | Instr::Shift { .. } => Some(Kind::Alu),
+        Instr::Fence
+        | Instr::FenceI
+        | Instr::Csr { .. }
+        | Instr::Ecall
+        | Instr::Ebreak
+        | Instr::Mret
+        | Instr::Wfi => None,
+    }
 }

@@ -18,14 +18,15 @@ mod issues;
 mod keys;
 mod line_levels;
 mod lines;
-mod operands;
 mod operations;
 mod per_kind;
 mod registers;
 mod store_bytes;
+#[cfg(test)]
+mod tests;
 mod values;
 
-pub use arithmetic::alu;
+pub use arithmetic::{AluOp, alu};
 pub use arrivals::{Arrivals, LAST_CYCLE, MOST_ARRIVALS};
 pub use bounds::Bounds;
 pub use broadcast::{Message, StoreAccess};
@@ -38,12 +39,11 @@ pub use fields::{
     UpperImmediate,
 };
 pub use images::{Bytes, Image};
-pub use instructions::{CsrSource, Instr};
+pub use instructions::{CsrSource, Instr, kind, sources, target};
 pub use issues::Issue;
 pub use keys::{Key, KindKey, NumberKey, NumberRow, Place, all_keys, key_name};
 pub use lines::{Arrival, Line, Lines};
-pub use operands::{kind, sources, target};
-pub use operations::{AluOp, Condition, CsrOp, ImmediateOp, Kind, LoadForm, ShiftOp, Width};
+pub use operations::{Condition, CsrOp, ImmediateOp, Kind, LoadForm, ShiftOp, Width};
 pub use per_kind::PerKind;
 pub use registers::Reg;
 pub use store_bytes::StoreBytes;

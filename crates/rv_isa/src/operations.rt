@@ -1,31 +1,6 @@
 ghost use Rattle.std.specs.Prelude.{◌≡◌, ◌↔◌, IsTrue};
 
-/// A register operation: RV32I (Unprivileged ISA 20191213, 2.4), M (7.1, 7.2) and Zba's shifted
-/// additions.
-#[derive(Clone, Copy, Debug, PartialEq, Eq)]
-pub enum AluOp {
-    Add,
-    Sub,
-    Sll,
-    Slt,
-    Sltu,
-    Xor,
-    Srl,
-    Sra,
-    Or,
-    And,
-    Mul,
-    Mulh,
-    Mulhsu,
-    Mulhu,
-    Div,
-    Divu,
-    Rem,
-    Remu,
-    Sh1add,
-    Sh2add,
-    Sh3add,
-}
+use crate::arithmetic::AluOp;
 
 /// A register and immediate operation other than a shift (Unprivileged ISA 20191213, 2.4).
 #[derive(Clone, Copy, Debug, PartialEq, Eq)]

@@ -2,7 +2,7 @@ use Rattle.std.proofs.Common.{◌≡◌, ℕ, false, Option, None, Some, refl, s
 use Rattle.rv_isa.specs.Word.{pc_plus_4}
 use Rattle.rv_isa.specs.declared.broadcast.Message.{Message}
 use Rattle.rv_isa.specs.declared.instructions.Instr.{Instr}
-use Rattle.rv_isa.specs.declared.instructions.Instr.TheVariants.{Fence, Wfi, Ecall, Ebreak}
+use Rattle.rv_isa.specs.declared.instructions.Instr.TheVariants.{Ecall, Ebreak}
 use Rattle.rv_isa.specs.declared.lines.Lines.{Lines}
 use Rattle.rv_arch.specs.Effect.{goes_to}
 use Rattle.rv_arch.specs.State.{State}
@@ -14,11 +14,9 @@ use Rattle.rv_core.proofs.execute.finishes.Goals as goal
 
 -- an instruction without a unit that neither serialises nor faults only goes on
 passed : (instruction : Instr) → (instruction ≡ Ecall → ⊥) → (instruction ≡ Ebreak → ⊥) → kind_of_word (Some instruction) ≡ None → is_serialising (Some instruction) ≡ false → (layout : Layout) (s : State) (lines : Lines) (word : ℕ) → effect_message None (goes_to s (pc_plus_4 s.pc)) ≡ result_in layout s lines word instruction
-passed Fence call break none serial layout s lines word = refl
-passed Wfi call break none serial layout s lines word = refl
 passed Ecall call break none serial layout s lines word = absurd (call refl)
 passed Ebreak call break none serial layout s lines word = absurd (break refl)
-passed _ call break none serial layout s lines word = absurd (cc)
+passed _ call break none serial layout s lines word = cc
 
 of_word : (layout : Layout) (s : State) (lines : Lines) (word : Option ℕ) (decoded : Option Instr) (n : ℕ) (instruction : Instr) (m : Message) → word ≡ Some n → decoded ≡ Some instruction → m ≡ result_in layout s lines n instruction → m ≡ result_of_word layout s lines word decoded
 of_word layout s lines word decoded n instruction m is known given = rw (is, known) given

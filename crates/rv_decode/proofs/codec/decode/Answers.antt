@@ -1,6 +1,6 @@
 use Rattle.std.proofs.Common.{◌∙◌}
 use Rattle.rv_decode.proofs.Relation.{instruction_of-Decodes, IfSome-instruction_of, IsNone-instruction_of, FitsOneRowAtMost-table}
-use Rattle.rv_decode.proofs.decoder.decode.Goals as goal
+use Rattle.rv_decode.proofs.codec.decode.Goals as goal
 
 pub returns-clause-decoded : goal.returns-clause-decoded
 returns-clause-decoded c = IfSome-instruction_of c.args.word c.by_opcode.result c.by_opcode.ensures
