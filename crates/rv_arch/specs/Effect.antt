@@ -4,15 +4,10 @@ use Rattle.rv_isa.specs.Arithmetic.{value_of}
 use Rattle.rv_isa.specs.Comparison.{holds}
 use Rattle.rv_isa.specs.Operation.{bytes_of, width_of, is_sign_extended, immediate_operation, shift_operation}
 use Rattle.rv_isa.specs.Word.{modulo_word, sum, pc_plus, pc_plus_4}
-use Rattle.rv_isa.specs.declared.causes.Cause.{Cause}
+use Rattle.rv_isa.specs.declared.{causes.Cause.Cause, instructions.Instr.Instr, instructions.CsrSource.CsrSource, operations.LoadForm.LoadForm, operations.Width.Width, lines.Lines.Lines}
 use Rattle.rv_isa.specs.declared.causes.Cause.TheVariants.{InstructionAddressMisaligned, IllegalInstruction, Breakpoint, LoadAddressMisaligned, LoadAccessFault, StoreAddressMisaligned, StoreAccessFault, EnvironmentCall}
-use Rattle.rv_isa.specs.declared.instructions.Instr.{Instr}
 use Rattle.rv_isa.specs.declared.instructions.Instr.TheVariants.{Lui, Auipc, Jal, Jalr, Branch, Load, Store, OpImmediate, Shift, Op, Fence, FenceI, Csr, Ecall, Ebreak, Mret, Wfi}
-use Rattle.rv_isa.specs.declared.instructions.CsrSource.{CsrSource}
 use Rattle.rv_isa.specs.declared.instructions.CsrSource.TheVariants.{Register, Immediate}
-use Rattle.rv_isa.specs.declared.operations.LoadForm.{LoadForm}
-use Rattle.rv_isa.specs.declared.operations.Width.{Width}
-use Rattle.rv_isa.specs.declared.lines.Lines.{Lines}
 use Rattle.rv_arch.specs.declared.csr.CsrOperand.{CsrOperand}
 use Rattle.rv_arch.specs.Csr.{Kept, access}
 use Rattle.rv_arch.specs.Trap.{returned}

@@ -1,7 +1,6 @@
 -- How machines are told apart, as the tuples of their fields; no public clause names these.
 use Rattle.std.specs.Prelude.{ℕ, Bool, List, refl}
-use Rattle.std.specs.Coded.{Coded, code_by, coded×, coded_ℕ, coded_bool, coded_list}
-use Rattle.std.specs.Ordering.{nat_cmp}
+use Rattle.std.specs.{Coded.Coded, Coded.code_by, Coded.coded×, Coded.coded_ℕ, Coded.coded_bool, Coded.coded_list, Ordering.nat_cmp}
 use Rattle.std.specs.FinSet as set
 use Rattle.rv_isa.specs.declared.lines.Lines.{Lines}
 use Rattle.rv_memory.specs.Memory.{Layout}
@@ -21,16 +20,7 @@ abbrev pub kept_code : Coded Kept
 kept_code =
     code_by (Bool × (Bool × (Lines × (ℕ × (ℕ × (ℕ × (ℕ × ℕ))))))) (coded× coded_bool (coded× coded_bool (coded× lines_code (coded× coded_ℕ (coded× coded_ℕ (coded× coded_ℕ (coded× coded_ℕ coded_ℕ)))))))
     (λ k. (k.mstatus_mie, (k.mstatus_mpie, (k.mie, (k.mtvec, (k.mscratch, (k.mepc, (k.mcause, k.mtval))))))))
-    (λ p. record {
-      mstatus_mie = p.0;
-      mstatus_mpie = p.1.0;
-      mie = p.1.1.0;
-      mtvec = p.1.1.1.0;
-      mscratch = p.1.1.1.1.0;
-      mepc = p.1.1.1.1.1.0;
-      mcause = p.1.1.1.1.1.1.0;
-      mtval = p.1.1.1.1.1.1.1;
-    })
+    (λ p. record { mstatus_mie = p.0; mstatus_mpie = p.1.0; mie = p.1.1.0; mtvec = p.1.1.1.0; mscratch = p.1.1.1.1.0; mepc = p.1.1.1.1.1.0; mcause = p.1.1.1.1.1.1.0; mtval = p.1.1.1.1.1.1.1 })
     (λ _. refl)
 
 abbrev pub state_code : Coded State

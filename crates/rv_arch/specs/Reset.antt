@@ -1,6 +1,6 @@
 use Rattle.std.specs.Prelude.{ℕ, false, ◌-◌, List, ◌++◌, length, replicate}
 use Rattle.std.specs.FinSet as set
-use Rattle.rv_isa.specs.declared.lines.Lines.{Lines}
+use Rattle.rv_isa.specs.Arrivals.{no_lines}
 use Rattle.rv_arch.specs.Csr.{Kept}
 use Rattle.rv_memory.specs.Memory.{Layout}
 use Rattle.rv_arch.specs.State.{State}
@@ -10,7 +10,7 @@ abbrev pub reset_csrs : Kept
 reset_csrs = record {
   mstatus_mie = false;
   mstatus_mpie = false;
-  mie = record { software = false; timer = false; external = false };
+  mie = no_lines;
   mtvec = 0;
   mscratch = 0;
   mepc = 0;
@@ -28,7 +28,3 @@ reset layout image start = record {
   ram = image ++ replicate (layout.size - length image) 0;
   stale = set.empty;
 }
-
--- all three interrupt lines are low
-abbrev pub no_lines : Lines
-no_lines = record { software = false; timer = false; external = false }

@@ -2,11 +2,9 @@ use Rattle.std.specs.Prelude.{◌≡◌, ℕ, ◌+◌, ◌<◌, ◌≤◌, true,
 use Rattle.std.specs.List.{list_any, range_with_len}
 use Rattle.rv_isa.specs.declared.lines.Arrival.{Arrival}
 use Rattle.rv_isa.specs.Arrivals.{lines_at}
-use Rattle.rv_arch.specs.declared.outcome.RefStep.{RefStep}
+use Rattle.rv_arch.specs.declared.outcome.{RefStep.RefStep, Stop.Stop, RefOutcome.RefOutcome}
 use Rattle.rv_arch.specs.declared.outcome.RefStep.TheVariants as step
-use Rattle.rv_arch.specs.declared.outcome.Stop.{Stop}
 use Rattle.rv_arch.specs.declared.outcome.Stop.TheVariants as stop
-use Rattle.rv_arch.specs.declared.outcome.RefOutcome.{RefOutcome}
 use Rattle.rv_arch.specs.Machine.{Machine}
 use Rattle.rv_memory.specs.Memory.{Layout}
 use Rattle.rv_arch.specs.Run.{Run, is_retired, is_trap, is_interrupt, is_breakpoint, count_of, lines_through}

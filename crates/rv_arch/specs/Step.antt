@@ -1,10 +1,8 @@
 use Rattle.std.specs.Prelude.{◌≡◌, ℕ, Bool, true, false, Option, Some, None}
 use Rattle.std.specs.FinSet as set
 use Rattle.rv_isa.specs.Cause.{code_of}
-use Rattle.rv_isa.specs.declared.causes.Cause.{Cause}
+use Rattle.rv_isa.specs.declared.{causes.Cause.Cause, instructions.Instr.Instr, lines.Lines.Lines}
 use Rattle.rv_isa.specs.declared.causes.Cause.TheVariants.{InstructionAccessFault, IllegalInstruction}
-use Rattle.rv_isa.specs.declared.instructions.Instr.{Instr}
-use Rattle.rv_isa.specs.declared.lines.Lines.{Lines}
 use Rattle.rv_decode.specs.Decodes.{Decodes, IsIllegal}
 use Rattle.rv_arch.specs.declared.outcome.RefStep.{RefStep}
 use Rattle.rv_arch.specs.declared.outcome.RefStep.TheVariants.{Retired, Trap, Interrupt, Stale}

@@ -1,7 +1,6 @@
 -- What the answers of the assembler say, where memory may be refused at any time.
 use Rattle.std.specs.Prelude.{◌≡◌, ◌≢◌, ℕ, Option, Some, Result, Ok, Err, IfErr}
-use Rattle.rv_asm.specs.declared.fault.AsmError.{AsmError}
-use Rattle.rv_asm.specs.declared.fault.AsmFault.{AsmFault}
+use Rattle.rv_asm.specs.declared.fault.{AsmError.AsmError, AsmFault.AsmFault}
 use Rattle.rv_asm.specs.declared.fault.AsmFault.TheVariants.{Memory}
 
 -- the outcome is what the definition says

@@ -1,7 +1,6 @@
 -- The fault of a text.
 use Rattle.std.specs.Prelude.{ℕ, ◌+◌, ◌%◌, ◌==◌, List, [], ◌∷◌, map, if◌then◌else◌, Option, Some, None}
-use Rattle.std.specs.Option.{option_or}
-use Rattle.std.specs.Result.{result_err}
+use Rattle.std.specs.{Option.option_or, Result.result_err}
 use Rattle.rv_asm.specs.FirstPass.{first_fault}
 use Rattle.rv_asm.specs.Layout.{Line, Layout, extended, layout, unlaid}
 use Rattle.rv_asm.specs.Meaning.{line_cells, start_address}

@@ -6,11 +6,8 @@ use Rattle.rv_asm.specs.Operand.{Operand}
 use Rattle.rv_asm.specs.Statement.{Statement, statement, needed, reading}
 use Rattle.rv_asm.specs.Token.{Token}
 use Rattle.rv_asm.specs.Token as token
-use Rattle.rv_asm.specs.declared.fault.AsmFault.{AsmFault}
+use Rattle.rv_asm.specs.declared.{fault.AsmFault.AsmFault, reach.Reach.Reach, operation.Form.Form, symbols.Definition.Definition}
 use Rattle.rv_asm.specs.declared.fault.AsmFault.TheVariants.{BadToken, BadOperands, DuplicateSymbol, TooLarge}
-use Rattle.rv_asm.specs.declared.reach.Reach.{Reach}
-use Rattle.rv_asm.specs.declared.operation.Form.{Form}
-use Rattle.rv_asm.specs.declared.symbols.Definition.{Definition}
 
 -- one of the labels was defined before, or stands twice
 abbrev pub repeats : Meanings → Definition → List (List ℕ) → Bool

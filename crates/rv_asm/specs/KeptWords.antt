@@ -4,8 +4,7 @@ use Rattle.rv_source.specs.Listing as source
 use Rattle.rv_asm.specs.Kept.{Kept}
 use Rattle.rv_asm.specs.Layout.{offset_in}
 use Rattle.rv_asm.specs.Listing.{shown, word_count}
-use Rattle.rv_asm.specs.declared.operation.Section.{Section}
-use Rattle.rv_asm.specs.declared.reach.Reach.{Reach}
+use Rattle.rv_asm.specs.declared.{operation.Section.Section, reach.Reach.Reach}
 
 -- how many words of a section begin between two points of a text
 abbrev pub words_between : Section → Reach → Reach → ℕ

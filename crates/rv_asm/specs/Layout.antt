@@ -1,9 +1,6 @@
 -- Where the statements of a text stand, and what its symbols are.
 use Rattle.std.specs.Prelude.{ℕ, ℤ, pos, negsuc, ◌+◌, ◌*◌, ◌+ℤ◌, ◌-ℤ◌, List, [], ◌∷◌, length, map, Bool, if◌then◌else◌, ◌==◌, nat_lt, Option, Some, None, Result, Ok, Err, unwrap_or, unsigned_abs}
-use Rattle.std.specs.List.{slice_split}
-use Rattle.std.specs.Option.{option_or}
-use Rattle.std.specs.Str.{bytes_eq}
-use Rattle.std.specs.Int.{int_div_euclid, int_rem_euclid}
+use Rattle.std.specs.{List.slice_split, Option.option_or, Str.bytes_eq, Int.int_div_euclid, Int.int_rem_euclid}
 use Rattle.rv_isa.specs.Operation.{bytes_of}
 use Rattle.rv_isa.specs.Word.{signed, modulo_word}
 use Rattle.rv_isa.specs.declared.instructions.Instr.{Instr}
@@ -14,15 +11,10 @@ use Rattle.rv_asm.specs.Operand.{Expression, Number, Symbol, Sum}
 use Rattle.rv_asm.specs.Statement.{Statement, Choice, Constant, Instruction, Values, Bytes, and_then, reading, statement, is_between}
 use Rattle.rv_asm.specs.Token.{Token, tokens_of}
 use Rattle.rv_asm.specs.Token as token
-use Rattle.rv_asm.specs.declared.fault.AsmFault.{AsmFault}
+use Rattle.rv_asm.specs.declared.{fault.AsmFault.AsmFault, operation.Fields.Fields, operation.Operation.Operation, operation.Section.Section, reach.Reach.Reach, symbols.Definition.Definition}
 use Rattle.rv_asm.specs.declared.fault.AsmFault.TheVariants.{TooLarge}
-use Rattle.rv_asm.specs.declared.operation.Fields.{Fields}
-use Rattle.rv_asm.specs.declared.operation.Operation.{Operation}
 use Rattle.rv_asm.specs.declared.operation.Operation.TheVariants as operation
-use Rattle.rv_asm.specs.declared.operation.Section.{Section}
 use Rattle.rv_asm.specs.declared.operation.Section.TheVariants.{Text, Data}
-use Rattle.rv_asm.specs.declared.reach.Reach.{Reach}
-use Rattle.rv_asm.specs.declared.symbols.Definition.{Definition}
 use Rattle.rv_asm.specs.declared.symbols.Definition.TheVariants as symbol
 
 -- a line: bytes that are no tokens, or labels and the tokens behind them

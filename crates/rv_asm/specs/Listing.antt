@@ -1,14 +1,12 @@
 -- Which line of a text each word of its image comes from.
 use Rattle.std.specs.Prelude.{ℕ, ◌+◌, ◌-◌, ◌*◌, ◌/◌, List, [], ◌∷◌, ◌++◌, map, length, take, drop, replicate, Bool, ◌&&◌, ◌==◌, nat_le, nat_lt, if◌then◌else◌, Option, Some, None}
-use Rattle.std.specs.Char.{is_ascii_whitespace}
-use Rattle.std.specs.List.{before_first, prefix_len, suffix_len, range_with_len, slice_split}
+use Rattle.std.specs.{Char.is_ascii_whitespace, List.before_first, List.prefix_len, List.suffix_len, List.range_with_len, List.slice_split}
 use Rattle.rv_source.specs.Listing as source
 use Rattle.rv_source.specs.Listing.{Listed}
 use Rattle.rv_asm.specs.Layout.{Layout, extended, laid, line_in, offset_in, unlaid}
 use Rattle.rv_asm.specs.Meaning.{round_up}
-use Rattle.rv_asm.specs.declared.operation.Section.{Section}
+use Rattle.rv_asm.specs.declared.{operation.Section.Section, reach.Reach.Reach}
 use Rattle.rv_asm.specs.declared.operation.Section.TheVariants.{Text, Data}
-use Rattle.rv_asm.specs.declared.reach.Reach.{Reach}
 
 -- bytes from the first on that is no white space
 abbrev pub behind_space : List ℕ → List ℕ
@@ -18,13 +16,9 @@ behind_space bytes = drop (prefix_len is_ascii_whitespace bytes) bytes
 abbrev pub before_space : List ℕ → List ℕ
 before_space bytes = take (length bytes - suffix_len is_ascii_whitespace bytes) bytes
 
--- a number sign begins a comment
-abbrev pub is_number_sign : ℕ → Bool
-is_number_sign byte = byte == 35
-
--- the bytes of a line before the first one
+-- the bytes of a line before a comment, which a number sign begins
 abbrev pub before_comment : List ℕ → List ℕ
-before_comment bytes = before_first is_number_sign bytes
+before_comment bytes = before_first (λ byte. byte == 35) bytes
 
 -- a line that a listing shows: its number, and its statement without white space at its ends
 abbrev pub shown : ℕ → List ℕ → source.Line

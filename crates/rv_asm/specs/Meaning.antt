@@ -1,30 +1,22 @@
 -- What a text without a fault means: its bytes, and where execution starts.
 use Rattle.std.specs.Prelude.{◌≡◌, ℕ, ℤ, pos, negsuc, ◌+◌, ◌-◌, ◌*◌, ◌/◌, ◌%◌, ◌+ℤ◌, ◌-ℤ◌, List, [], ◌∷◌, ◌++◌, map, take, replicate, Bool, if◌then◌else◌, ◌==◌, Option, Some, Result, Ok, Err, ok_or, unwrap_or, is_some, unsigned_abs, codes}
-use Rattle.std.specs.List.{list_all}
-use Rattle.std.specs.Option.{option_map}
-use Rattle.std.specs.Int.{to_le_bytes, w32}
+use Rattle.std.specs.{List.list_all, Option.option_map, Int.to_le_bytes, Int.w32}
 use Rattle.rv_decode.specs.Decodes.{Decodes}
 use Rattle.rv_isa.specs.Operation.{bytes_of}
 use Rattle.rv_isa.specs.Word.{modulo_word}
 use Rattle.rv_isa.specs.declared.instructions.CsrSource.TheVariants.{Register, Immediate}
-use Rattle.rv_isa.specs.declared.instructions.Instr.{Instr}
+use Rattle.rv_isa.specs.declared.{instructions.Instr.Instr, operations.Width.Width}
 use Rattle.rv_isa.specs.declared.instructions.Instr.TheVariants as instr
-use Rattle.rv_isa.specs.declared.operations.Width.{Width}
 use Rattle.rv_isa.specs.declared.operations.Width.TheVariants.{Byte, Half, Word}
 use Rattle.rv_asm.specs.Directive.{laid_by}
 use Rattle.rv_asm.specs.Layout.{Line, Layout, Meanings, layout, unlaid, signed_word, load_number, load_address, offset}
 use Rattle.rv_asm.specs.Operand.{Expression, Number, Symbol, Sum, Operand}
 use Rattle.rv_asm.specs.Placed.{Placed, placed}
 use Rattle.rv_asm.specs.Statement.{Statement, Instruction, Values, Bytes, and_then, is_between, expression_in}
-use Rattle.rv_asm.specs.declared.fault.AsmFault.{AsmFault}
+use Rattle.rv_asm.specs.declared.{fault.AsmFault.AsmFault, reach.Reach.Reach, operation.Fields.Fields, operation.Operation.Operation, operation.Section.Section, symbols.Definition.Definition}
 use Rattle.rv_asm.specs.declared.fault.AsmFault.TheVariants.{UnknownSymbol, OutOfRange, Misaligned}
-use Rattle.rv_asm.specs.declared.reach.Reach.{Reach}
-use Rattle.rv_asm.specs.declared.operation.Fields.{Fields}
-use Rattle.rv_asm.specs.declared.operation.Operation.{Operation}
 use Rattle.rv_asm.specs.declared.operation.Operation.TheVariants as operation
-use Rattle.rv_asm.specs.declared.operation.Section.{Section}
 use Rattle.rv_asm.specs.declared.operation.Section.TheVariants.{Text, Data}
-use Rattle.rv_asm.specs.declared.symbols.Definition.{Definition}
 use Rattle.rv_asm.specs.declared.symbols.Definition.TheVariants as symbol
 
 -- a part of the image: a byte, or the word of an instruction

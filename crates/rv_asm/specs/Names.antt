@@ -1,7 +1,6 @@
 -- The names of registers and CSRs.
 use Rattle.std.specs.Prelude.{ℕ, List, [], ◌∷◌, Option, Some, None, if◌then◌else◌, codes}
-use Rattle.std.specs.Option.{option_map}
-use Rattle.std.specs.Str.{bytes_eq}
+use Rattle.std.specs.{Option.option_map, Str.bytes_eq}
 use Rattle.rv_isa.specs.Csr as csr
 use Rattle.rv_isa.specs.Csr.{row_of}
 

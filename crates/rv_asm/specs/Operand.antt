@@ -1,7 +1,6 @@
 -- The operands of a statement.
 use Rattle.std.specs.Prelude.{ℕ, ℤ, pos, ◌-ℤ◌, List, [], ◌∷◌, Option, Some, None, Bool, true, false, option_and_then}
-use Rattle.std.specs.List.{slice_split}
-use Rattle.std.specs.Option.{option_map, option_or}
+use Rattle.std.specs.{List.slice_split, Option.option_map, Option.option_or}
 use Rattle.rv_asm.specs.Token.{Token}
 use Rattle.rv_asm.specs.Token as token
 

@@ -1,12 +1,10 @@
 -- The lines of a text in their places.
 use Rattle.std.specs.Prelude.{ℕ, List, [], ◌∷◌, Bool, false, ◌||◌, Result, Ok, Err, codes}
-use Rattle.std.specs.List.{list_any}
-use Rattle.std.specs.Str.{bytes_eq}
+use Rattle.std.specs.{List.list_any, Str.bytes_eq}
 use Rattle.rv_asm.specs.Layout.{Line, Unreadable, Readable, Layout, extended, statement_in}
 use Rattle.rv_asm.specs.Statement.{Statement, Constant}
-use Rattle.rv_asm.specs.declared.fault.AsmFault.{AsmFault}
+use Rattle.rv_asm.specs.declared.{fault.AsmFault.AsmFault, reach.Reach.Reach}
 use Rattle.rv_asm.specs.declared.fault.AsmFault.TheVariants.{BadToken}
-use Rattle.rv_asm.specs.declared.reach.Reach.{Reach}
 
 -- the name of the symbol where execution starts
 abbrev pub is_start : List ℕ → Bool

@@ -3,9 +3,8 @@ use Rattle.std.specs.Prelude.{List, map}
 use Rattle.std.specs.Option.{option_map}
 use Rattle.rv_asm.specs.Token as text
 use Rattle.rv_asm.specs.Token.{unescaped}
-use Rattle.rv_asm.specs.declared.token.Token.{Token}
+use Rattle.rv_asm.specs.declared.token.{Token.Token, Lexeme.Lexeme}
 use Rattle.rv_asm.specs.declared.token.Token.TheVariants.{Name, Number, Comma, Colon, LeftParenthesis, RightParenthesis, Plus, Minus, Text}
-use Rattle.rv_asm.specs.declared.token.Lexeme.{Lexeme}
 
 abbrev pub token_of : Token → text.Token
 token_of (Name bytes) = text.Name bytes.now

@@ -1,24 +1,17 @@
 -- What a line says behind its labels.
 use Rattle.std.specs.Prelude.{ℕ, ℤ, pos, negsuc, List, [], ◌∷◌, Bool, true, false, ◌&&◌, ◌||◌, if◌then◌else◌, Option, Some, None, Result, Ok, Err, int_le, is_some, ok_or, unwrap_or, ◌==◌}
-use Rattle.std.specs.List.{list_all}
-use Rattle.std.specs.Option.{option_map}
+use Rattle.std.specs.{List.list_all, Option.option_map}
 use Rattle.rv_isa.specs.declared.operations.Width.{Width}
 use Rattle.rv_asm.specs.Mnemonic.{form_named}
 use Rattle.rv_asm.specs.Names.{register_named, csr_named}
 use Rattle.rv_asm.specs.Operand.{Expression, Number, Symbol, Sum, Operand, Value, Indirect, Text, operands_of}
 use Rattle.rv_asm.specs.Token.{Token}
 use Rattle.rv_asm.specs.Token as token
-use Rattle.rv_asm.specs.declared.directive.Directive.{Directive}
-use Rattle.rv_asm.specs.declared.fault.AsmFault.{AsmFault}
+use Rattle.rv_asm.specs.declared.{directive.Directive.Directive, fault.AsmFault.AsmFault, operation.Fields.Fields, operation.Form.Form, operation.Operation.Operation, operation.Place.Place, operation.Section.Section}
 use Rattle.rv_asm.specs.declared.fault.AsmFault.TheVariants.{UnknownMnemonic, BadOperands, BadRegister}
-use Rattle.rv_asm.specs.declared.operation.Fields.{Fields}
-use Rattle.rv_asm.specs.declared.operation.Form.{Form}
 use Rattle.rv_asm.specs.declared.operation.Form.TheVariants as form
-use Rattle.rv_asm.specs.declared.operation.Operation.{Operation}
 use Rattle.rv_asm.specs.declared.operation.Operation.TheVariants as operation
-use Rattle.rv_asm.specs.declared.operation.Place.{Place}
 use Rattle.rv_asm.specs.declared.operation.Place.TheVariants as place
-use Rattle.rv_asm.specs.declared.operation.Section.{Section}
 
 -- a statement whose symbols have no values yet
 pub data Statement : Type 0 where

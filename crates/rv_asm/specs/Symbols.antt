@@ -1,21 +1,14 @@
 -- The symbols of the program, and its layout.
 use Rattle.std.specs.Prelude.{ℕ, ℤ, List, Option, Result, map}
-use Rattle.std.specs.BTreeMap.{get_by}
-use Rattle.std.specs.Cmp.Lexicographic.{slice_cmp}
-use Rattle.std.specs.Ordering.{nat_cmp}
+use Rattle.std.specs.{BTreeMap.get_by, Cmp.Lexicographic.slice_cmp, Ordering.nat_cmp}
 use Rattle.rv_asm.specs.Kept.{Kept, places}
 use Rattle.rv_asm.specs.Layout.{Layout}
 use Rattle.rv_asm.specs.Meaning.{Cell, cells_at, value_of}
 use Rattle.rv_asm.specs.Placed.{Placed, place_body}
 use Rattle.rv_asm.specs.ReadOperand.{operands_in}
 use Rattle.rv_asm.specs.Statement.{Statement, statement}
-use Rattle.rv_asm.specs.declared.fault.AsmFault.{AsmFault}
+use Rattle.rv_asm.specs.declared.{fault.AsmFault.AsmFault, record.Record.Record, program.Program.Program, reach.Reach.Reach, symbols.Definition.Definition, symbols.Symbols.Symbols}
 use Rattle.rv_asm.specs.declared.layout.Layout as read
-use Rattle.rv_asm.specs.declared.record.Record.{Record}
-use Rattle.rv_asm.specs.declared.program.Program.{Program}
-use Rattle.rv_asm.specs.declared.reach.Reach.{Reach}
-use Rattle.rv_asm.specs.declared.symbols.Definition.{Definition}
-use Rattle.rv_asm.specs.declared.symbols.Symbols.{Symbols}
 
 -- what the program holds of a name
 abbrev pub found : Symbols → List ℕ → Option Definition

@@ -1,10 +1,10 @@
-ghost use Rattle.std.specs.Prelude.{◌≡◌, ◌-◌, ◌++◌, Some, None, IfOk, IfErr, replicate};
+ghost use Rattle.std.specs.Prelude.{◌≡◌, ◌-◌, ◌++◌, nat_eq, Some, None, IfOk, IfErr, replicate};
 ghost use Rattle.std.specs.List.{position};
 ghost use Rattle.rv_asm.specs.Answer.{RefusedAt};
 ghost use Rattle.rv_asm.specs.Faults.{first_fault_of};
 ghost use Rattle.rv_asm.specs.KeptWords.{reach_before, words_between, words_in};
 ghost use Rattle.rv_asm.specs.Layout.{lines_of};
-ghost use Rattle.rv_asm.specs.Listing.{before_comment, is_number_sign, listing_of, lines_behind_text, shown, word_count};
+ghost use Rattle.rv_asm.specs.Listing.{before_comment, listing_of, lines_behind_text, shown, word_count};
 ghost use Rattle.rv_asm.specs.Meaning.{round_up};
 ghost use Rattle.rv_asm.specs.Symbols.{kept_in};
 
@@ -40,7 +40,7 @@ fn words_of_gap(text_size: usize) -> usize
 
 /// The place of the first `#` of a line.
 fn place_of_comment(line: &[u8]) -> Option<usize>
-    ensures { result ≡ position is_number_sign line.now }
+    ensures { result ≡ position (λ byte. nat_eq byte 35) line.now }
 {
     line.iter().position(|byte| *byte == b'#')
 }

@@ -8,8 +8,7 @@ use Rattle.rv_isa.specs.declared.instructions.Instr.TheVariants.{Load}
 use Rattle.rv_arch.specs.State.{State}
 use Rattle.rv_cache.specs.Cache.{Contents, access_cost, accessed_sets, memory_after}
 use Rattle.rv_memory.specs.Memory.{Layout, Memory}
-use Rattle.rv_stores.specs.declared.store.Store.{Store}
-use Rattle.rv_stores.specs.declared.store.StoreState.{StoreState}
+use Rattle.rv_stores.specs.declared.store.{Store.Store, StoreState.StoreState}
 use Rattle.rv_stores.specs.declared.store.StoreState.TheVariants.{Waiting, Faulted, Filled}
 use Rattle.rv_hardware.specs.InFlight.{memory_behind}
 use Rattle.rv_hardware.specs.Issue.{Path as DefinedPath, Without as DefinedWithout, FromStores as DefinedFromStores, FromCache as DefinedFromCache}

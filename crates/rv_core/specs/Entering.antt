@@ -2,9 +2,7 @@
 use Rattle.std.specs.Prelude.{ℕ, Bool, true, false, nat_le, length, ◌++◌, ◌∷◌, [], Option, Some, None}
 use Rattle.rv_isa.specs.Operands.{kind_of}
 use Rattle.rv_isa.specs.PerKind.{at_kind, with_kind}
-use Rattle.rv_isa.specs.declared.instructions.Instr.{Instr}
-use Rattle.rv_isa.specs.declared.operations.Kind.{Kind}
-use Rattle.rv_isa.specs.declared.per_kind.PerKind.{PerKind}
+use Rattle.rv_isa.specs.declared.{instructions.Instr.Instr, operations.Kind.Kind, per_kind.PerKind.PerKind}
 use Rattle.rv_rename.specs.Renaming.{Renaming, checkpointed, defined}
 use Rattle.rv_stations.specs.Pool.{with_waiting, Pool}
 use Rattle.rv_stations.specs.declared.waiting.Waiting.{Waiting}

@@ -1,8 +1,7 @@
 -- What an instruction that leaves its station reads.
 use Rattle.std.specs.Prelude.{◌≡◌, ℕ, Bool, true, false, [], ◌∷◌, map, Option, Some, None}
 use Rattle.rv_isa.specs.Operands.{sources_of}
-use Rattle.rv_isa.specs.declared.instructions.Instr.{Instr}
-use Rattle.rv_isa.specs.declared.operations.Kind.{Kind}
+use Rattle.rv_isa.specs.declared.{instructions.Instr.Instr, operations.Kind.Kind}
 use Rattle.rv_isa.specs.declared.operations.Kind.TheVariants.{Alu, Mul, Div, Mem}
 use Rattle.rv_arch.specs.State.{State, register_of}
 

@@ -10,10 +10,8 @@ use Rattle.rv_hardware.specs.Hardware.{Hardware}
 use Rattle.rv_hardware.specs.Repeated as turn
 use Rattle.rv_hardware.specs.Step.{is_breakpoint}
 use Rattle.rv_hardware.specs.declared.step.Step.{Step}
-use Rattle.rv_core.specs.declared.head.CsrAccess.{CsrAccess}
-use Rattle.rv_core.specs.declared.head.HeadTurn.{HeadTurn}
+use Rattle.rv_core.specs.declared.head.{CsrAccess.CsrAccess, HeadTurn.HeadTurn, Role.Role}
 use Rattle.rv_core.specs.declared.head.HeadTurn.TheVariants.{Waits, GoesOn, Ends, Stale}
-use Rattle.rv_core.specs.declared.head.Role.{Role}
 use Rattle.rv_core.specs.declared.head.Role.TheVariants as role
 
 -- the phase so far, where nothing has stopped the run

@@ -1,21 +1,17 @@
 -- Where a load takes its bytes from: the older stores or the cache.
 use Rattle.std.specs.Prelude.{ℕ, ◌&&◌, ◌||◌, not, nat_lt, Bool, true, false, if◌then◌else◌, List, [], ◌∷◌, map, take, slice_index, slice_index_or, Option, Some, None, is_some}
-use Rattle.std.specs.List.{list_all}
-use Rattle.std.specs.Option.{unwrap_or}
+use Rattle.std.specs.{List.list_all, Option.unwrap_or}
 use Rattle.rv_isa.specs.Operation.{bytes_of, width_of}
 use Rattle.rv_isa.specs.Word.{modulo_word, sum}
-use Rattle.rv_isa.specs.declared.causes.Cause.{Cause}
+use Rattle.rv_isa.specs.declared.{causes.Cause.Cause, instructions.Instr.Instr, operations.Kind.Kind}
 use Rattle.rv_isa.specs.declared.causes.Cause.TheVariants.{LoadAddressMisaligned, LoadAccessFault, StoreAddressMisaligned, StoreAccessFault}
-use Rattle.rv_isa.specs.declared.instructions.Instr.{Instr}
 use Rattle.rv_isa.specs.declared.instructions.Instr.TheVariants.{Load}
-use Rattle.rv_isa.specs.declared.operations.Kind.{Kind}
 use Rattle.rv_isa.specs.declared.operations.Kind.TheVariants.{Alu, Mul, Div, Mem}
 use Rattle.rv_memory.specs.Memory.{Layout, is_aligned, is_in_ram, is_writable}
 use Rattle.rv_stores.specs.Queue.{first_unknown, forwarded, older_than}
 use Rattle.rv_stores.specs.declared.store.Store.{Store}
-use Rattle.rv_stations.specs.declared.waiting.Operand.{Operand}
+use Rattle.rv_stations.specs.declared.waiting.{Operand.Operand, Waiting.Waiting}
 use Rattle.rv_stations.specs.declared.waiting.Operand.TheVariants.{Value}
-use Rattle.rv_stations.specs.declared.waiting.Waiting.{Waiting}
 use Rattle.rv_core.specs.declared.load.Path.{Path}
 use Rattle.rv_core.specs.declared.load.Path.TheVariants.{Without, FromStores, FromCache}
 

@@ -4,10 +4,8 @@ use Rattle.rv_isa.specs.declared.lines.Arrival.{Arrival}
 use Rattle.rv_hardware.specs.Hardware.{Hardware}
 use Rattle.rv_hardware.specs.Report.{Report}
 use Rattle.rv_hardware.specs.Run.{Cycles, IsStop, NoneStops, busy_of, longest_gap_of, stalls_of, steps_of}
-use Rattle.rv_hardware.specs.declared.report.StallCounts.{StallCounts}
-use Rattle.rv_hardware.specs.declared.step.Step.{Step}
-use Rattle.rv_core.specs.declared.errors.OutOfMemory.{OutOfMemory}
-use Rattle.rv_core.specs.declared.outcome.Outcome.{Outcome}
+use Rattle.rv_hardware.specs.declared.{report.StallCounts.StallCounts, step.Step.Step}
+use Rattle.rv_core.specs.declared.{errors.OutOfMemory.OutOfMemory, outcome.Outcome.Outcome}
 
 -- cycles one after another, with all their steps and counts
 pub record IsRun (arrivals : List Arrival) (old new : Hardware) (reports : List Report) (steps : List Step) (stalls : StallCounts) (busy cycles longest_gap : ℕ) : Type 0 where

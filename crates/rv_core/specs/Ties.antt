@@ -2,21 +2,15 @@
 use Rattle.std.specs.Prelude.{◌≡◌, ℕ, ◌+◌, if◌then◌else◌, List, [], ◌∷◌, ◌++◌, slice_index, slice_index_or, Option, Some, None}
 use Rattle.rv_isa.specs.Operands.{sources_of}
 use Rattle.rv_isa.specs.PerKind.{at_kind, by_kind}
-use Rattle.rv_isa.specs.declared.broadcast.Message.{Message}
-use Rattle.rv_isa.specs.declared.instructions.Instr.{Instr}
-use Rattle.rv_isa.specs.declared.operations.Kind.{Kind}
-use Rattle.rv_isa.specs.declared.per_kind.PerKind.{PerKind}
-use Rattle.rv_isa.specs.declared.values.Values.{Values}
+use Rattle.rv_isa.specs.declared.{broadcast.Message.Message, instructions.Instr.Instr, operations.Kind.Kind, per_kind.PerKind.PerKind, values.Values.Values}
 use Rattle.rv_rename.specs.Renaming.{Checkpoint, Renaming}
 use Rattle.rv_rename.specs.declared.producer.Producer.{Producer}
 use Rattle.rv_rob.specs.ReorderBuffer.{ReorderBuffer}
-use Rattle.rv_rob.specs.declared.entry.Entry.{Entry}
-use Rattle.rv_rob.specs.declared.entry.Stage.{Stage}
+use Rattle.rv_rob.specs.declared.entry.{Entry.Entry, Stage.Stage}
 use Rattle.rv_rob.specs.declared.entry.Stage.TheVariants as stage
 use Rattle.rv_stations.specs.Pool.{Pool}
-use Rattle.rv_stations.specs.declared.waiting.Operand.{Operand}
+use Rattle.rv_stations.specs.declared.waiting.{Operand.Operand, Waiting.Waiting}
 use Rattle.rv_stations.specs.declared.waiting.Operand.TheVariants.{Value, Tag}
-use Rattle.rv_stations.specs.declared.waiting.Waiting.{Waiting}
 use Rattle.rv_stores.specs.Queue.{Queue}
 use Rattle.rv_units.specs.Bus.{Pending}
 use Rattle.rv_units.specs.declared.bus.PendingResult.{PendingResult}

@@ -10,11 +10,9 @@ use Rattle.rv_hardware.specs.Dispatch.{Dispatching}
 use Rattle.rv_hardware.specs.Hardware.{Hardware}
 use Rattle.rv_hardware.specs.Repeated.{Turn, GoesOn, Ends}
 use Rattle.rv_hardware.specs.Report.{Report}
-use Rattle.rv_hardware.specs.declared.report.Stall.{Stall}
-use Rattle.rv_hardware.specs.declared.step.Step.{Step}
+use Rattle.rv_hardware.specs.declared.{report.Stall.Stall, step.Step.Step}
 use Rattle.rv_hardware.specs.declared.step.Step.TheVariants.{Interrupt}
-use Rattle.rv_core.specs.declared.outcome.CycleEnd.{CycleEnd}
-use Rattle.rv_core.specs.declared.outcome.CycleReport.{CycleReport}
+use Rattle.rv_core.specs.declared.outcome.{CycleEnd.CycleEnd, CycleReport.CycleReport}
 
 -- the dispatch phase once so many instructions were dispatched
 abbrev pub dispatching : Hardware → ℕ → Dispatching

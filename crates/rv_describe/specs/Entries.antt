@@ -1,7 +1,6 @@
 -- The entries of a list of arrivals, and their faults.
 use Rattle.std.specs.Prelude.{ℕ, ◌+◌, nat_lt, List, [], ◌∷◌, length, take, Option, Some, None, is_some, option_map, Result, Ok, Err, if◌then◌else◌}
-use Rattle.std.specs.List.{filter_map, list_any}
-use Rattle.std.specs.Option.{option_or, option_map_or}
+use Rattle.std.specs.{List.filter_map, List.list_any, Option.option_or, Option.option_map_or}
 use Rattle.toml.specs.Data.{Data}
 use Rattle.rv_isa.specs.declared.lines.Arrival.{Arrival}
 use Rattle.rv_describe.specs.Entry.{has_unknown_field, fields_of, arrival_of}

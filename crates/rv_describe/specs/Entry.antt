@@ -1,11 +1,9 @@
 -- An entry of a list of arrivals: an element of the array of tables `arrival`.
 use Rattle.std.specs.Prelude.{ℕ, ℤ, pos, negsuc, nat_le, ◌==◌, Bool, true, false, List, [], ◌∷◌, Option, Some, None, option_map, option_and_then, unwrap_or, if◌then◌else◌, codes}
-use Rattle.std.specs.Option.{option_map_or}
-use Rattle.std.specs.Str.{bytes_eq}
+use Rattle.std.specs.{Option.option_map_or, Str.bytes_eq}
 use Rattle.toml.specs.Data.{Data, Members, get_member, as_integer, as_str, as_table}
-use Rattle.rv_isa.specs.declared.lines.Line.{Line}
+use Rattle.rv_isa.specs.declared.lines.{Line.Line, Arrival.Arrival}
 use Rattle.rv_isa.specs.declared.lines.Line.TheVariants.{Software, Timer, External}
-use Rattle.rv_isa.specs.declared.lines.Arrival.{Arrival}
 use Rattle.rv_describe.specs.Names.{has_other_name}
 use Rattle.rv_describe.specs.declared.entry.Fields.{Fields}
 

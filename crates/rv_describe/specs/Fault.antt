@@ -1,17 +1,14 @@
 -- What is wrong with the values of a table of TOML.
 use Rattle.std.specs.Prelude.{ℕ, ℤ, Bool, true, false, is_some, List, Option, Some, None, if◌then◌else◌}
-use Rattle.std.specs.List.{position_from}
-use Rattle.std.specs.Option.{option_map_or}
+use Rattle.std.specs.{List.position_from, Option.option_map_or}
 use Rattle.toml.specs.Data.{Data, Members, as_integer, as_bool, as_str}
-use Rattle.rv_isa.specs.declared.bounds.Bounds.{Bounds}
-use Rattle.rv_isa.specs.declared.keys.Key.{Key}
+use Rattle.rv_isa.specs.declared.{bounds.Bounds.Bounds, keys.Key.Key}
 use Rattle.rv_isa.specs.declared.keys.Key.TheVariants.{Number, Recovery, Pipelined, PredictorKind}
 use Rattle.rv_isa.specs.declared.keys.NumberKey.TheVariants.{RamSize}
 use Rattle.rv_isa.specs.Bounds.{is_in_range, is_power}
 use Rattle.rv_isa.specs.Key.{key_place, row_of, order}
-use Rattle.rv_describe.specs.declared.description_error.DescriptionError.{DescriptionError}
+use Rattle.rv_describe.specs.declared.{description_error.DescriptionError.DescriptionError, faults.ValueFault.ValueFault}
 use Rattle.rv_describe.specs.declared.description_error.DescriptionError.TheVariants as error
-use Rattle.rv_describe.specs.declared.faults.ValueFault.{ValueFault}
 use Rattle.rv_describe.specs.declared.faults.ValueFault.TheVariants.{WrongKind, OutOfRange, NotPowerOfTwo}
 use Rattle.rv_describe.specs.Held.{Held, absent, misplaced, present, held}
 use Rattle.rv_describe.specs.Setting.{word_of, recovery_named, predictor_named, number}

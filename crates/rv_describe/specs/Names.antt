@@ -1,13 +1,12 @@
 -- The names in a table.
-use Rattle.std.specs.Prelude.{ℕ, Bool, not, List, [], ◌∷◌}
-use Rattle.std.specs.List.{list_any}
-use Rattle.std.specs.Str.{bytes_eq}
-use Rattle.toml.specs.Data.{Members, no_members, member}
+use Rattle.std.specs.Prelude.{ℕ, Bool, false, not, ◌||◌, List}
+use Rattle.std.specs.{List.list_any, Str.bytes_eq}
+use Rattle.toml.specs.Data.{Data, Members, no_members, member}
 
--- the names of a table
-abbrev pub names_of : Members → List (List ℕ)
-names_of no_members = []
-names_of (member name value later) = name ∷ names_of later
+-- some name of a table passes a test, with its value
+abbrev pub any_member : (List ℕ → Data → Bool) → Members → Bool
+any_member test no_members = false
+any_member test (member name value later) = test name value || any_member test later
 
 -- the name is one of these
 abbrev pub is_among : List (List ℕ) → List ℕ → Bool
@@ -15,4 +14,4 @@ is_among names name = list_any (bytes_eq name) names
 
 -- some name of the table is none of these
 abbrev pub has_other_name : List (List ℕ) → Members → Bool
-has_other_name names table = list_any (λ name. not (is_among names name)) (names_of table)
+has_other_name names table = any_member (λ name value. not (is_among names name)) table

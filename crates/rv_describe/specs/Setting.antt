@@ -3,15 +3,10 @@ use Rattle.std.specs.Prelude.{ℕ, ℤ, pos, negsuc, Bool, List, Option, Some, N
 use Rattle.std.specs.Str.{bytes_eq}
 use Rattle.toml.specs.Data.{Data, Members, as_integer, as_bool, as_str}
 use Rattle.rv_isa.specs.PerKind.{at_kind}
-use Rattle.rv_isa.specs.declared.keys.Key.{Key}
+use Rattle.rv_isa.specs.declared.{keys.Key.Key, keys.NumberKey.NumberKey, operations.Kind.Kind, values.PredictorKind.PredictorKind as Prediction, values.Recovery.Recovery as Mending, values.Values.Values}
 use Rattle.rv_isa.specs.declared.keys.Key.TheVariants.{Number, Recovery, Pipelined, PredictorKind}
-use Rattle.rv_isa.specs.declared.keys.NumberKey.{NumberKey}
-use Rattle.rv_isa.specs.declared.operations.Kind.{Kind}
-use Rattle.rv_isa.specs.declared.values.PredictorKind.{PredictorKind as Prediction}
 use Rattle.rv_isa.specs.declared.values.PredictorKind.TheVariants.{NotTaken, BackwardTaken, Bimodal}
-use Rattle.rv_isa.specs.declared.values.Recovery.{Recovery as Mending}
 use Rattle.rv_isa.specs.declared.values.Recovery.TheVariants.{Commit, Early}
-use Rattle.rv_isa.specs.declared.values.Values.{Values}
 use Rattle.rv_isa.specs.Key.{number_of, key_place, values_with}
 use Rattle.rv_isa.specs.Standard.{standard_values}
 use Rattle.rv_describe.specs.Held.{held, value_in}

@@ -1,9 +1,9 @@
 -- The names of a table of TOML that a description does not know.
 use Rattle.std.specs.Prelude.{ℕ, Bool, true, false, not, ◌&&◌, ◌||◌, List, Option, Some, None}
-use Rattle.std.specs.List.{list_any}
-use Rattle.std.specs.Str.{bytes_eq}
-use Rattle.toml.specs.Data.{Data, table, Members, no_members, member}
+use Rattle.std.specs.{List.list_any, Str.bytes_eq}
+use Rattle.toml.specs.Data.{Data, table, Members}
 use Rattle.rv_isa.specs.Key.{key_place, order}
+use Rattle.rv_describe.specs.Names.{any_member}
 
 -- the same place of keys: the top level, or the table of a name
 abbrev pub same_table : Option (List ℕ) → Option (List ℕ) → Bool
@@ -18,11 +18,6 @@ is_key outer name = list_any (λ key. same_table (key_place key).table outer && 
 -- some key is in this table
 unfoldable pub is_table : List ℕ → Bool
 is_table name = list_any (λ key. same_table (key_place key).table (Some name)) order
-
--- some name of the members is unknown
-abbrev pub any_member : (List ℕ → Data → Bool) → Members → Bool
-any_member is_unknown no_members = false
-any_member is_unknown (member name value rest) = is_unknown name value || any_member is_unknown rest
 
 -- some name in a table of keys is none of its keys; what is no table has no names
 abbrev pub unknown_within : List ℕ → Data → Bool

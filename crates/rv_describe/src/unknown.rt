@@ -3,7 +3,8 @@ ghost use Rattle.std.specs.List.{list_any};
 ghost use Rattle.std.specs.Str.{bytes_eq};
 ghost use Rattle.toml.specs.View.{view, table_view};
 ghost use Rattle.rv_isa.specs.Key.{key_place};
-ghost use Rattle.rv_describe.specs.Unknown.{same_table, is_key, is_table, any_member, unknown_within, unknown_at_top, has_unknown};
+ghost use Rattle.rv_describe.specs.Names.{any_member};
+ghost use Rattle.rv_describe.specs.Unknown.{same_table, is_key, is_table, unknown_within, unknown_at_top, has_unknown};
 
 use rv_isa::{Key, all_keys};
 use toml::{Table, Value};

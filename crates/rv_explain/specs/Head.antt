@@ -1,7 +1,6 @@
 -- The instruction at the head of the reorder buffer, cycle by cycle.
 use Rattle.std.specs.Prelude.{ℕ, ◌==◌, Bool, false, List, Option, Some, None, count_by}
-use Rattle.std.specs.List.{slice_get}
-use Rattle.std.specs.Option.{option_map}
+use Rattle.std.specs.{List.slice_get, Option.option_map}
 use Rattle.rv_memory.specs.Memory.{word_of}
 use Rattle.rv_rob.specs.declared.entry.Entry.{Entry}
 use Rattle.rv_hardware.specs.Hardware.{Hardware}

@@ -4,13 +4,10 @@ use Rattle.std.specs.Option.{option_map}
 use Rattle.rv_isa.specs.declared.values.Values.{Values}
 use Rattle.rv_decode.specs.Decodes.{instruction_of}
 use Rattle.rv_hardware.specs.Issue.{is_load}
-use Rattle.rv_hardware.specs.declared.step.Execution.{Execution}
-use Rattle.rv_hardware.specs.declared.step.Row.{Row}
-use Rattle.rv_hardware.specs.declared.step.Step.{Step}
+use Rattle.rv_hardware.specs.declared.step.{Execution.Execution, Row.Row, Step.Step}
 use Rattle.rv_hardware.specs.declared.step.Step.TheVariants.{Retired, Trap, Interrupt}
 use Rattle.rv_explain.specs.Access.{access_text}
-use Rattle.rv_explain.specs.declared.accesses.Accesses.{Accesses}
-use Rattle.rv_explain.specs.declared.loads.Costs.{Costs}
+use Rattle.rv_explain.specs.declared.{accesses.Accesses.Accesses, loads.Costs.Costs}
 
 -- the cycles from a load's issue until its result could be broadcast
 abbrev pub load_cost_of : Row → Option ℕ

@@ -1,8 +1,7 @@
 -- What is kept of a run, cycle by cycle.
 use Rattle.std.specs.Prelude.{ℕ, ◌+◌, ◌^◌, ◌<◌, Bool, true, false, List, count_by, Option, IfSome}
 use Rattle.std.specs.Option.{option_or, option_to_list}
-use Rattle.rv_isa.specs.declared.lines.Arrival.{Arrival}
-use Rattle.rv_isa.specs.declared.values.Values.{Values}
+use Rattle.rv_isa.specs.declared.{lines.Arrival.Arrival, values.Values.Values}
 use Rattle.rv_hardware.specs.Hardware.{Hardware}
 use Rattle.rv_hardware.specs.Run.{steps_of}
 use Rattle.rv_hardware.specs.declared.step.Step.{Step}

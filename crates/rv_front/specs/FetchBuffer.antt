@@ -3,8 +3,7 @@ use Rattle.std.specs.Prelude.{◌≡◌, ℕ, zero, suc, ◌-◌, ◌*◌, ◌/�
 use Rattle.rv_isa.specs.Word.{pc_plus_4}
 use Rattle.rv_decode.specs.Decodes.{instruction_of}
 use Rattle.rv_memory.specs.Memory.{Memory, fetched_word}
-use Rattle.rv_front.specs.declared.fetched.Fetched.{Fetched}
-use Rattle.rv_front.specs.declared.fetched.FetchStop.{FetchStop}
+use Rattle.rv_front.specs.declared.fetched.{Fetched.Fetched, FetchStop.FetchStop}
 use Rattle.rv_front.specs.declared.fetched.FetchStop.TheVariants.{Width, Room, Prediction, Halted}
 
 -- the fetched words, oldest first, how many there may be, how many a cycle fetches, and the pc to fetch next

@@ -8,7 +8,7 @@ use Rattle.rv_isa.specs.declared.instructions.Instr.TheVariants.{FenceI, Csr, Mr
 use Rattle.rv_isa.specs.declared.lines.Lines.{Lines}
 use Rattle.rv_isa.specs.declared.values.Values.{Values}
 use Rattle.rv_arch.specs.Effect.{Effect, Retires, Faults, effect}
-use Rattle.rv_arch.specs.Reset.{no_lines}
+use Rattle.rv_isa.specs.Arrivals.{no_lines}
 use Rattle.rv_arch.specs.State.{State}
 use Rattle.rv_memory.specs.Memory.{Layout}
 use Rattle.rv_rob.specs.Entry.{finished, predicting, issue_of}

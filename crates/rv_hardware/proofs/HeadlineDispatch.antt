@@ -4,7 +4,7 @@ use Rattle.rv_isa.specs.declared.instructions.Instr.{Instr}
 use Rattle.rv_isa.specs.declared.instructions.Instr.TheVariants.{Jalr, Branch, Load, Store, OpImmediate, Shift, Op, Csr}
 use Rattle.rv_isa.specs.declared.operations.Kind.{Kind}
 use Rattle.rv_isa.specs.declared.values.Values.{Values}
-use Rattle.rv_arch.specs.Reset.{no_lines}
+use Rattle.rv_isa.specs.Arrivals.{no_lines}
 use Rattle.rv_arch.specs.State.{State}
 use Rattle.rv_memory.specs.Memory.{Layout}
 use Rattle.rv_front.specs.declared.fetched.Fetched.{Fetched}

@@ -12,7 +12,7 @@ use Rattle.rv_isa.specs.declared.lines.Lines.{Lines}
 use Rattle.rv_arch.proofs.Steps.{illegal_at, faulted_at, retired_at}
 use Rattle.rv_arch.specs.Due.{due}
 use Rattle.rv_arch.specs.Effect.{Effect, Retires, Faults, effect}
-use Rattle.rv_arch.specs.Reset.{no_lines}
+use Rattle.rv_isa.specs.Arrivals.{no_lines}
 use Rattle.rv_arch.specs.State.{State}
 use Rattle.rv_arch.specs.Step.{Step, IsFetched, trap_taken, unfetched, word_at_pc}
 use Rattle.rv_arch.specs.declared.outcome.RefStep.TheVariants.{Retired, Trap}

@@ -12,7 +12,7 @@ use Rattle.rv_isa.specs.declared.instructions.Instr.{Instr}
 use Rattle.rv_isa.specs.declared.instructions.Instr.TheVariants.{Lui, Auipc, Jal, Jalr, Load, Store, OpImmediate, Shift, Op, Csr}
 use Rattle.rv_isa.specs.declared.lines.Lines.{Lines}
 use Rattle.rv_arch.specs.Effect.{Effect, Retires, Faults, effect}
-use Rattle.rv_arch.specs.Reset.{no_lines}
+use Rattle.rv_isa.specs.Arrivals.{no_lines}
 use Rattle.rv_arch.specs.State.{State, register_of, with_register}
 use Rattle.rv_memory.specs.Memory.{Layout}
 use Rattle.rv_rob.specs.declared.entry.Entry.{Entry}

@@ -9,7 +9,7 @@ use Rattle.rv_isa.specs.declared.instructions.Instr.{Instr}
 use Rattle.rv_isa.specs.declared.instructions.Instr.TheVariants.{Store}
 use Rattle.rv_isa.specs.declared.lines.Lines.{Lines}
 use Rattle.rv_arch.specs.Effect.{Effect, Retires, Faults, effect}
-use Rattle.rv_arch.specs.Reset.{no_lines}
+use Rattle.rv_isa.specs.Arrivals.{no_lines}
 use Rattle.rv_arch.specs.State.{State}
 use Rattle.rv_memory.specs.Memory.{Layout}
 use Rattle.rv_cache.specs.WriteBack.{Each}

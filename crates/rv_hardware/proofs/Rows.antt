@@ -7,7 +7,7 @@ use Rattle.rv_isa.specs.Word.{pc_plus_4}
 use Rattle.rv_isa.specs.declared.causes.Cause.TheVariants.{InstructionAccessFault, IllegalInstruction, Breakpoint}
 use Rattle.rv_isa.specs.declared.values.Recovery.TheVariants.{Early}
 use Rattle.rv_isa.specs.declared.values.Values.{Values}
-use Rattle.rv_arch.specs.Reset.{no_lines}
+use Rattle.rv_isa.specs.Arrivals.{no_lines}
 use Rattle.rv_decode.specs.Decodes.{instruction_of}
 use Rattle.rv_decode.specs.InstructionTable.{table}
 use Rattle.rv_memory.specs.Memory.{Memory, fetched_word}

@@ -1,12 +1,10 @@
 -- The broadcast phase: the oldest results go on the common data bus.
 use Rattle.std.specs.Prelude.{ℕ, ◌+◌, ◌==◌, ◌&&◌, not, nat_le, Bool, true, false, if◌then◌else◌, List, length, Option, Some, None, is_none}
-use Rattle.rv_isa.specs.declared.broadcast.Message.{Message}
-use Rattle.rv_isa.specs.declared.values.Recovery.{Recovery}
+use Rattle.rv_isa.specs.declared.{broadcast.Message.Message, values.Recovery.Recovery}
 use Rattle.rv_isa.specs.declared.values.Recovery.TheVariants.{Commit, Early}
 use Rattle.rv_rob.specs.Entry.{finished, predicting}
 use Rattle.rv_rob.specs.ReorderBuffer.{changed, cut_from}
-use Rattle.rv_rob.specs.declared.entry.Entry.{Entry}
-use Rattle.rv_rob.specs.declared.entry.Stage.{Stage}
+use Rattle.rv_rob.specs.declared.entry.{Entry.Entry, Stage.Stage}
 use Rattle.rv_rob.specs.declared.entry.Stage.TheVariants.{Waiting, Running, Finished}
 use Rattle.rv_hardware.specs.Hardware.{Hardware}
 use Rattle.rv_hardware.specs.InFlight.{is_branch_or_jump}

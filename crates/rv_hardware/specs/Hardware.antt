@@ -2,9 +2,7 @@
 use Rattle.std.specs.Prelude.{ℕ, List}
 use Rattle.std.specs.Ordering.{nat_cmp}
 use Rattle.std.specs.FinSet as set
-use Rattle.rv_isa.specs.declared.lines.Lines.{Lines}
-use Rattle.rv_isa.specs.declared.per_kind.PerKind.{PerKind}
-use Rattle.rv_isa.specs.declared.values.Values.{Values}
+use Rattle.rv_isa.specs.declared.{lines.Lines.Lines, per_kind.PerKind.PerKind, values.Values.Values}
 use Rattle.rv_arch.specs.Csr.{Kept}
 use Rattle.rv_memory.specs.Memory.{Memory}
 use Rattle.rv_cache.specs.Cache.{Contents}

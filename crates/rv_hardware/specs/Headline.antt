@@ -2,14 +2,12 @@
 use Rattle.std.specs.Prelude.{◌≡◌, ℕ, ◌+◌, ◌^◌, ◌<◌, ◌≤◌, ◌↔◌, Bool, true, false, List, [], ◌∷◌, map, Option, Some}
 use Rattle.std.specs.List.{All, AllPairs, list_any}
 use Rattle.rv_isa.specs.Arrivals.{lines_at}
-use Rattle.rv_isa.specs.declared.lines.Arrival.{Arrival}
-use Rattle.rv_isa.specs.declared.lines.Lines.{Lines}
+use Rattle.rv_isa.specs.declared.lines.{Arrival.Arrival, Lines.Lines}
 use Rattle.rv_arch.specs.Run.{Run}
 use Rattle.rv_arch.specs.State.{State}
 use Rattle.rv_arch.specs.Step.{Step as MachineStep}
-use Rattle.rv_arch.specs.declared.outcome.RefStep.{RefStep}
+use Rattle.rv_arch.specs.declared.outcome.{RefStep.RefStep, Stop.Stop}
 use Rattle.rv_arch.specs.declared.outcome.RefStep.TheVariants as machine
-use Rattle.rv_arch.specs.declared.outcome.Stop.{Stop}
 use Rattle.rv_arch.specs.declared.outcome.Stop.TheVariants as stop
 use Rattle.rv_memory.specs.Memory.{Layout}
 use Rattle.rv_hardware.specs.Step.{stamp_of, is_breakpoint}

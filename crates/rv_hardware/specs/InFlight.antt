@@ -1,17 +1,13 @@
 -- What the instructions in flight have done so far, oldest first.
 use Rattle.std.specs.Prelude.{ℕ, ◌+◌, ◌-◌, ◌==◌, Bool, true, false, if◌then◌else◌, List, [], ◌∷◌, Option, Some, None, is_some}
 use Rattle.rv_isa.specs.Operands.{target_of}
-use Rattle.rv_isa.specs.declared.broadcast.Message.{Message}
-use Rattle.rv_isa.specs.declared.broadcast.StoreAccess.{StoreAccess}
-use Rattle.rv_isa.specs.declared.instructions.Instr.{Instr}
+use Rattle.rv_isa.specs.declared.{broadcast.Message.Message, broadcast.StoreAccess.StoreAccess, instructions.Instr.Instr}
 use Rattle.rv_isa.specs.declared.instructions.Instr.TheVariants.{FenceI, Csr, Mret, Store, Jal, Jalr, Branch}
 use Rattle.rv_arch.specs.State.{with_register}
 use Rattle.rv_memory.specs.Bytes.{overwritten}
-use Rattle.rv_rob.specs.declared.entry.Entry.{Entry}
-use Rattle.rv_rob.specs.declared.entry.Stage.{Stage}
+use Rattle.rv_rob.specs.declared.entry.{Entry.Entry, Stage.Stage}
 use Rattle.rv_rob.specs.declared.entry.Stage.TheVariants.{Waiting, Running, Finished}
-use Rattle.rv_stores.specs.declared.store.Store.{Store as QueuedStore}
-use Rattle.rv_stores.specs.declared.store.StoreState.{StoreState}
+use Rattle.rv_stores.specs.declared.store.{Store.Store as QueuedStore, StoreState.StoreState}
 use Rattle.rv_stores.specs.declared.store.StoreState.TheVariants as store
 use Rattle.rv_stores.specs.declared.store.StorePhase.TheVariants.{Speculative}
 

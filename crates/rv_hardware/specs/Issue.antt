@@ -5,10 +5,8 @@ use Rattle.rv_isa.specs.Operands.{sources_of, kind_of}
 use Rattle.rv_isa.specs.Operation.{bytes_of, width_of}
 use Rattle.rv_isa.specs.PerKind.{at_kind, is_same, with_kind}
 use Rattle.rv_isa.specs.Word.{sum, modulo_word}
-use Rattle.rv_isa.specs.declared.broadcast.Message.{Message}
-use Rattle.rv_isa.specs.declared.instructions.Instr.{Instr}
+use Rattle.rv_isa.specs.declared.{broadcast.Message.Message, instructions.Instr.Instr, operations.Kind.Kind}
 use Rattle.rv_isa.specs.declared.instructions.Instr.TheVariants.{Load}
-use Rattle.rv_isa.specs.declared.operations.Kind.{Kind}
 use Rattle.rv_isa.specs.declared.operations.Kind.TheVariants as kind
 use Rattle.rv_arch.specs.State.{State, register_of}
 use Rattle.rv_memory.specs.Memory.{is_aligned, is_in_ram}

@@ -1,10 +1,8 @@
 -- What a cycle reports.
 use Rattle.std.specs.Prelude.{ℕ, ◌+◌, List, Option}
 use Rattle.rv_arch.specs.declared.outcome.Stop.{Stop}
-use Rattle.rv_hardware.specs.declared.step.Step.{Step}
-use Rattle.rv_hardware.specs.declared.report.Stall.{Stall}
+use Rattle.rv_hardware.specs.declared.{step.Step.Step, report.Stall.Stall, report.StallCounts.StallCounts}
 use Rattle.rv_hardware.specs.declared.report.Stall.TheVariants.{Fetch, Serial, Rob, Station, Store}
-use Rattle.rv_hardware.specs.declared.report.StallCounts.{StallCounts}
 
 -- the steps in program order, how many instructions were dispatched, why none was, and why the run stops, if it does
 pub record Report : Type 0 where

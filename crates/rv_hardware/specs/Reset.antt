@@ -3,7 +3,8 @@ use Rattle.std.specs.Prelude.{◌≡◌, ℕ, ◌-◌, ◌%◌, ◌≤◌, false
 use Rattle.std.specs.FinSet as set
 use Rattle.rv_isa.specs.PerKind.{for_each}
 use Rattle.rv_isa.specs.declared.values.Values.{Values}
-use Rattle.rv_arch.specs.Reset.{reset_csrs, no_lines}
+use Rattle.rv_arch.specs.Reset.{reset_csrs}
+use Rattle.rv_isa.specs.Arrivals.{no_lines}
 use Rattle.rv_units.specs.Pool.{free_pool}
 use Rattle.rv_front.specs.FetchBuffer.{FetchBuffer}
 use Rattle.rv_rob.specs.ReorderBuffer.{empty}

@@ -1,22 +1,18 @@
 -- What the retirement of the oldest instruction leaves and reports.
 use Rattle.std.specs.Prelude.{ℕ, List, [], ◌∷◌, ◌++◌, Option, Some, None}
-use Rattle.std.specs.Option.{option_map, unwrap_or}
-use Rattle.std.specs.Ordering.{nat_cmp}
+use Rattle.std.specs.{Option.option_map, Option.unwrap_or, Ordering.nat_cmp}
 use Rattle.std.specs.FinSet as set
-use Rattle.rv_isa.specs.declared.broadcast.Message.{Message}
-use Rattle.rv_isa.specs.declared.broadcast.StoreAccess.{StoreAccess}
+use Rattle.rv_isa.specs.declared.broadcast.{Message.Message, StoreAccess.StoreAccess}
 use Rattle.rv_memory.specs.Memory.{word_of}
 use Rattle.rv_rob.specs.ReorderBuffer.{head_retired}
-use Rattle.rv_rob.specs.declared.entry.Entry.{Entry}
-use Rattle.rv_rob.specs.declared.entry.Stage.{Stage}
+use Rattle.rv_rob.specs.declared.entry.{Entry.Entry, Stage.Stage}
 use Rattle.rv_rob.specs.declared.entry.Stage.TheVariants.{Waiting, Running, Finished}
 use Rattle.rv_stores.specs.declared.store.Store.{Store as QueuedStore}
 use Rattle.rv_stores.specs.declared.store.StorePhase.TheVariants.{Committed}
 use Rattle.rv_stores.specs.declared.store.StoreState.TheVariants.{Filled}
 use Rattle.rv_hardware.specs.Hardware.{Hardware}
 use Rattle.rv_hardware.specs.InFlight.{target_of_word, with_value}
-use Rattle.rv_hardware.specs.declared.step.Execution.{Execution}
-use Rattle.rv_hardware.specs.declared.step.Step.{Step}
+use Rattle.rv_hardware.specs.declared.step.{Execution.Execution, Step.Step}
 use Rattle.rv_hardware.specs.declared.step.Step.TheVariants as step
 
 -- when an instruction was executed; one that uses no unit was not

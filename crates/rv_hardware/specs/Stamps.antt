@@ -2,17 +2,13 @@
 use Rattle.std.specs.Prelude.{◌≡◌, ℕ, ◌+◌, ◌==◌, ◌&&◌, not, nat_le, nat_lt, Bool, true, false, if◌then◌else◌, List, [], ◌∷◌, ◌++◌, filter, Option, Some, None}
 use Rattle.std.specs.Option.{option_map, unwrap_or}
 use Rattle.rv_decode.specs.Decodes.{instruction_of}
-use Rattle.rv_isa.specs.declared.causes.Cause.{Cause}
+use Rattle.rv_isa.specs.declared.{causes.Cause.Cause, instructions.Instr.Instr, operations.Kind.Kind}
 use Rattle.rv_isa.specs.declared.causes.Cause.TheVariants.{InstructionAccessFault, IllegalInstruction, Breakpoint, EnvironmentCall}
-use Rattle.rv_isa.specs.declared.instructions.Instr.{Instr}
 use Rattle.rv_isa.specs.declared.instructions.Instr.TheVariants.{FenceI}
-use Rattle.rv_isa.specs.declared.operations.Kind.{Kind}
 use Rattle.rv_hardware.specs.InFlight.{is_serialising, is_store, is_target, target_of_word}
 use Rattle.rv_hardware.specs.Issue.{is_load, is_of_kind, kind_of_word, sources_of_word}
 use Rattle.rv_hardware.specs.Step.{stamp_of}
-use Rattle.rv_hardware.specs.declared.step.Execution.{Execution}
-use Rattle.rv_hardware.specs.declared.step.Row.{Row}
-use Rattle.rv_hardware.specs.declared.step.Step.{Step}
+use Rattle.rv_hardware.specs.declared.step.{Execution.Execution, Row.Row, Step.Step}
 use Rattle.rv_hardware.specs.declared.step.Step.TheVariants.{Retired, Trap, Interrupt}
 
 -- the retirements among some steps

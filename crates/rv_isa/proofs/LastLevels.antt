@@ -3,8 +3,8 @@ use Rattle.rv_isa.specs.declared.lines.Line.{Line}
 use Rattle.rv_isa.specs.declared.lines.Line.TheVariants.{Software, Timer, External}
 use Rattle.rv_isa.specs.declared.lines.Lines.{Lines}
 use Rattle.rv_isa.specs.declared.lines.Arrival.{Arrival}
-use Rattle.rv_isa.specs.Arrivals.{is_line, last_level, level_at, lines_at}
-use Rattle.rv_isa.specs.Levels.{lines_after, line_set, low}
+use Rattle.rv_isa.specs.Arrivals.{is_line, last_level, level_at, lines_at, no_lines}
+use Rattle.rv_isa.specs.Levels.{lines_after, line_set}
 
 -- the level of the last of some arrivals, and another where there is none
 abbrev last_or : Bool → List Arrival → Bool
@@ -49,11 +49,11 @@ level_at-last_or line arrivals cycle =
     last_level-last_or (filter (λ a. is_line line a.line && nat_le a.cycle cycle) arrivals) ∙ ap (last_or false) (sym (filter-both (λ a. is_line line a.line) (λ a. nat_le a.cycle cycle) arrivals))
 
 -- the levels in a cycle, by going over the arrivals that are not later
-pub lines_at-lines_after : (arrivals : List Arrival) (cycle : ℕ) → lines_at arrivals cycle ≡ lines_after low (filter (λ a. nat_le a.cycle cycle) arrivals)
+pub lines_at-lines_after : (arrivals : List Arrival) (cycle : ℕ) → lines_at arrivals cycle ≡ lines_after no_lines (filter (λ a. nat_le a.cycle cycle) arrivals)
 lines_at-lines_after arrivals cycle =
     let up_to = filter (λ a. nat_le a.cycle cycle) arrivals in
     λ i. record {
-      software = (level_at-last_or Software arrivals cycle ∙ sym (line_after Software (λ lines. lines.software) (λ lines a. refl) low up_to)) i;
-      timer = (level_at-last_or Timer arrivals cycle ∙ sym (line_after Timer (λ lines. lines.timer) (λ lines a. refl) low up_to)) i;
-      external = (level_at-last_or External arrivals cycle ∙ sym (line_after External (λ lines. lines.external) (λ lines a. refl) low up_to)) i;
+      software = (level_at-last_or Software arrivals cycle ∙ sym (line_after Software (λ lines. lines.software) (λ lines a. refl) no_lines up_to)) i;
+      timer = (level_at-last_or Timer arrivals cycle ∙ sym (line_after Timer (λ lines. lines.timer) (λ lines a. refl) no_lines up_to)) i;
+      external = (level_at-last_or External arrivals cycle ∙ sym (line_after External (λ lines. lines.external) (λ lines a. refl) no_lines up_to)) i;
     }

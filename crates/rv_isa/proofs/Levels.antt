@@ -5,8 +5,8 @@ use Rattle.std.proofs.Math.Seq.{take-add}
 use Rattle.std.proofs.lemmas.List.{take_min}
 use Rattle.rv_isa.specs.declared.lines.Lines.{Lines}
 use Rattle.rv_isa.specs.declared.lines.Arrival.{Arrival}
-use Rattle.rv_isa.specs.Levels.{lines_after, line_set, low}
-use Rattle.rv_isa.specs.Arrivals.{lines_at}
+use Rattle.rv_isa.specs.Levels.{lines_after, line_set}
+use Rattle.rv_isa.specs.Arrivals.{lines_at, no_lines}
 use Rattle.rv_isa.proofs.LastLevels.{lines_at-lines_after}
 
 -- the levels after two lists, one after the other
@@ -41,12 +41,12 @@ lines_after-more before lines xs rest m n w count from here =
     rw (same, from, here, take-add m n xs) (sym (lines_after-append before (take m xs) (take n (drop m xs))))
 
 -- the levels in a cycle, from those after a first part of the arrivals that are not later
-pub lines_at-from : (arrivals : List Arrival) (cycle count from : ℕ) (lines : Lines) → count ≤ length arrivals → from ≤ count → ((k : ℕ) (d : Arrival) → k < count → nat_le (slice_index_or arrivals k d).cycle cycle ≡ true) → ((k : ℕ) (d : Arrival) → count ≤ k → k < length arrivals → nat_le (slice_index_or arrivals k d).cycle cycle ≡ false) → lines ≡ lines_after low (take from arrivals) → lines_after lines (take (count - from) (drop from arrivals)) ≡ lines_at arrivals cycle
+pub lines_at-from : (arrivals : List Arrival) (cycle count from : ℕ) (lines : Lines) → count ≤ length arrivals → from ≤ count → ((k : ℕ) (d : Arrival) → k < count → nat_le (slice_index_or arrivals k d).cycle cycle ≡ true) → ((k : ℕ) (d : Arrival) → count ≤ k → k < length arrivals → nat_le (slice_index_or arrivals k d).cycle cycle ≡ false) → lines ≡ lines_after no_lines (take from arrivals) → lines_after lines (take (count - from) (drop from arrivals)) ≡ lines_at arrivals cycle
 lines_at-from arrivals cycle count from lines within before on off here =
     let sum : from + (count - from) ≡ count = omega arith in
     let passed : filter (λ a. nat_le a.cycle cycle) arrivals ≡ take count arrivals = filter_prefix (λ a. nat_le a.cycle cycle) arrivals count within on off in
     let split : take count arrivals ≡ take from arrivals ++ take (count - from) (drop from arrivals) = ap (λ n. take n arrivals) (sym sum) ∙ take-add from (count - from) arrivals in
-    rw (here, lines_at-lines_after arrivals cycle, passed, split) (sym (lines_after-append low (take from arrivals) (take (count - from) (drop from arrivals))))
+    rw (here, lines_at-lines_after arrivals cycle, passed, split) (sym (lines_after-append no_lines (take from arrivals) (take (count - from) (drop from arrivals))))
 
 -- one more place of a table
 pub table_more : {X : Type 0} (f : ℕ → X) (xs : List X) (n : ℕ) (x : X) → n < length xs → x ≡ f n → ((k : ℕ) (d : X) → k < n → slice_index_or xs k d ≡ f k) → (k : ℕ) (d : X) → k < n + 1 → slice_index_or (slice_set xs n x) k d ≡ f k

@@ -1,9 +1,7 @@
 use Rattle.std.specs.Prelude.{ℕ, ◌≤◌, Bool, true, false, ◌&&◌, List, [], ◌∷◌, length, filter, nat_le, All}
 use Rattle.std.specs.List.Sorted.{IsNonDecreasingBy}
-use Rattle.rv_isa.specs.declared.lines.Line.{Line}
+use Rattle.rv_isa.specs.declared.lines.{Line.Line, Lines.Lines, Arrival.Arrival}
 use Rattle.rv_isa.specs.declared.lines.Line.TheVariants.{Software, Timer, External}
-use Rattle.rv_isa.specs.declared.lines.Lines.{Lines}
-use Rattle.rv_isa.specs.declared.lines.Arrival.{Arrival}
 
 -- at most 100,000 arrivals, none after cycle 1,000,000, in the order of their cycles
 pub record IsLegalArrivals (arrivals : List Arrival) : Type 0 where
@@ -36,3 +34,7 @@ lines_at arrivals cycle =
       timer = level_at Timer arrivals cycle;
       external = level_at External arrivals cycle;
     }
+
+-- all three interrupt lines are low
+abbrev pub no_lines : Lines
+no_lines = record { software = false; timer = false; external = false }

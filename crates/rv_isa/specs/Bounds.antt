@@ -18,11 +18,8 @@ is_in_range Front size n = nat_le n size && (n % 4096 == 0)
 
 -- a number is a power of two, where one is asked for
 abbrev pub is_power : Bounds → ℕ → Bool
-is_power (Whole low high) n = true
-is_power (Pages low high) n = true
 is_power (Powers low high) n = is_power_of_two n
-is_power Words n = true
-is_power Front n = true
+is_power _ n = true
 
 -- a key with these bounds takes a number
 abbrev pub takes : Bounds → ℕ → ℕ → Bool

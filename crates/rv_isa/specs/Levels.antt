@@ -1,14 +1,8 @@
 use Rattle.std.specs.Prelude.{◌≡◌, ℕ, ◌*◌, ◌<◌, ◌≤◌, true, false, cond, nat_le, List, [], ◌∷◌, length, take, slice_index_or}
 use Rattle.std.specs.List.Sorted.{IsNonDecreasingBy}
 use Rattle.rv_isa.specs.declared.lines.Line.TheVariants.{Software, Timer, External}
-use Rattle.rv_isa.specs.declared.lines.Lines.{Lines}
-use Rattle.rv_isa.specs.declared.lines.Arrival.{Arrival}
-use Rattle.rv_isa.specs.declared.line_levels.TheConstants.{BLOCK, BLOCKS}
-use Rattle.rv_isa.specs.Arrivals.{is_line}
-
--- no line is high
-abbrev pub low : Lines
-low = record { software = false; timer = false; external = false }
+use Rattle.rv_isa.specs.declared.{lines.Lines.Lines, lines.Arrival.Arrival, line_levels.TheConstants.BLOCK, line_levels.TheConstants.BLOCKS}
+use Rattle.rv_isa.specs.Arrivals.{is_line, no_lines}
 
 -- an arrival gives its line its level
 abbrev pub line_set : Lines → Arrival → Lines
@@ -26,7 +20,7 @@ lines_after lines (a ∷ later) = lines_after (line_set lines a) later
 
 -- place k holds the levels after the first k blocks
 abbrev pub HoldsLevels : List Arrival → List Lines → Type 0
-HoldsLevels arrivals levels = (k : ℕ) (d : Lines) → k < BLOCKS → slice_index_or levels k d ≡ lines_after low (take (k * BLOCK) arrivals)
+HoldsLevels arrivals levels = (k : ℕ) (d : Lines) → k < BLOCKS → slice_index_or levels k d ≡ lines_after no_lines (take (k * BLOCK) arrivals)
 
 -- exactly the first n of the arrivals, which are in order, are not later than a cycle
 pub record IsSplit (cycle : ℕ) (arrivals : List Arrival) (n : ℕ) : Type 0 where

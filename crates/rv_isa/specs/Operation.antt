@@ -1,13 +1,9 @@
 use Rattle.std.specs.Prelude.{ℕ, Bool, true, false}
-use Rattle.rv_isa.specs.declared.arithmetic.AluOp.{AluOp}
+use Rattle.rv_isa.specs.declared.{arithmetic.AluOp.AluOp, operations.ImmediateOp.ImmediateOp, operations.ShiftOp.ShiftOp, operations.Width.Width, operations.LoadForm.LoadForm}
 use Rattle.rv_isa.specs.declared.arithmetic.AluOp.TheVariants as alu
-use Rattle.rv_isa.specs.declared.operations.ImmediateOp.{ImmediateOp}
 use Rattle.rv_isa.specs.declared.operations.ImmediateOp.TheVariants.{Addi, Slti, Sltiu, Xori, Ori, Andi}
-use Rattle.rv_isa.specs.declared.operations.ShiftOp.{ShiftOp}
 use Rattle.rv_isa.specs.declared.operations.ShiftOp.TheVariants.{Slli, Srli, Srai}
-use Rattle.rv_isa.specs.declared.operations.Width.{Width}
 use Rattle.rv_isa.specs.declared.operations.Width.TheVariants as width
-use Rattle.rv_isa.specs.declared.operations.LoadForm.{LoadForm}
 use Rattle.rv_isa.specs.declared.operations.LoadForm.TheVariants.{Byte, Half, Word, ByteUnsigned, HalfUnsigned}
 
 -- Unprivileged ISA 20191213, 2.6: the bytes that a load or a store moves

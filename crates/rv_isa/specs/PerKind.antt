@@ -2,9 +2,8 @@
 use Rattle.std.specs.Prelude.{Bool, true, false, if◌then◌else◌}
 use Rattle.std.specs.Borrow.{Fml, Lends, MutBor, RattleType}
 use Rattle.rv_isa.specs.contracts.per_kind.PerKind.{the_row}
-use Rattle.rv_isa.specs.declared.operations.Kind.{Kind}
+use Rattle.rv_isa.specs.declared.{operations.Kind.Kind, per_kind.PerKind.PerKind}
 use Rattle.rv_isa.specs.declared.operations.Kind.TheVariants.{Alu, Mul, Div, Mem}
-use Rattle.rv_isa.specs.declared.per_kind.PerKind.{PerKind}
 
 -- whether two kinds are the same
 abbrev pub is_same : Kind → Kind → Bool

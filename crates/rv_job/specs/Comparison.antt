@@ -1,17 +1,14 @@
 -- What a text says as a comparison: descriptions, each with a separator behind it, and a program; and why it is refused.
 use Rattle.std.specs.Prelude.{◌≡◌, ◌≤◌, ◌<◌, count_by, ℕ, ◌+◌, List, [], ◌∷◌, ◌++◌, length, ⊤, Some, None, Ok, Err}
 use Rattle.std.specs.List.{slice_split}
-use Rattle.rv_isa.specs.declared.images.Image.{Image}
-use Rattle.rv_isa.specs.declared.values.Values.{Values}
+use Rattle.rv_isa.specs.declared.{images.Image.Image, values.Values.Values}
 use Rattle.rv_describe.specs.Description.{description_of}
 use Rattle.rv_job.specs.Input.{most_bytes}
 use Rattle.rv_job.specs.JobText.{HasLegalLength, RefusesAssembly}
 use Rattle.rv_job.specs.Parts.{Halves, halves_of, is_line_feed, is_separator}
 use Rattle.rv_job.specs.TextImage.{Fits, IsImageOf}
-use Rattle.rv_job.specs.declared.comparison.Comparison.{Comparison}
-use Rattle.rv_job.specs.declared.errors.SimError.{SimError}
+use Rattle.rv_job.specs.declared.{comparison.Comparison.Comparison, errors.SimError.SimError, job.Job.Job}
 use Rattle.rv_job.specs.declared.errors.SimError.TheVariants.{TooLong, TooManyDescriptions, Described, DoesNotFit, Memory}
-use Rattle.rv_job.specs.declared.job.Job.{Job}
 
 -- the most machines that are compared
 abbrev pub most_machines : ℕ

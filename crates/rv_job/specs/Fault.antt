@@ -5,13 +5,11 @@ use Rattle.rv_asm.specs.declared.fault.AsmFault.TheVariants as asm
 use Rattle.rv_describe.specs.Entries.{entry_of}
 use Rattle.rv_describe.specs.Fault.{place_of}
 use Rattle.rv_isa.specs.Key.{text_at}
-use Rattle.rv_describe.specs.declared.arrivals_error.ArrivalsError.{ArrivalsError}
+use Rattle.rv_describe.specs.declared.{arrivals_error.ArrivalsError.ArrivalsError, description_error.DescriptionError.DescriptionError}
 use Rattle.rv_describe.specs.declared.arrivals_error.ArrivalsError.TheVariants as listed
-use Rattle.rv_describe.specs.declared.description_error.DescriptionError.{DescriptionError}
 use Rattle.rv_describe.specs.declared.description_error.DescriptionError.TheVariants as described
-use Rattle.rv_job.specs.declared.errors.SimError.{SimError}
+use Rattle.rv_job.specs.declared.{errors.SimError.SimError, input.InputError.InputError}
 use Rattle.rv_job.specs.declared.errors.SimError.TheVariants.{TooLong, TooManyDescriptions, Description, Described, Arrivals, Assembly, ImageDoesNotFit, DoesNotFit, Memory, WriteFailed}
-use Rattle.rv_job.specs.declared.input.InputError.{InputError}
 use Rattle.rv_job.specs.declared.input.InputError.TheVariants as unread
 
 -- the name of a fault of a text

@@ -1,7 +1,5 @@
 use Rattle.std.specs.Prelude.{◌<◌, ℕ, List, length}
-use Rattle.rv_isa.specs.declared.images.Image.{Image}
-use Rattle.rv_isa.specs.declared.lines.Arrival.{Arrival}
-use Rattle.rv_isa.specs.declared.values.Values.{Values}
+use Rattle.rv_isa.specs.declared.{images.Image.Image, lines.Arrival.Arrival, values.Values.Values}
 use Rattle.rv_job.specs.Input.{most_bytes}
 use Rattle.rv_job.specs.JobText.{Assembles, Describes, HasLegalLength, Lists, RefusesArrivals, RefusesAssembly, RefusesDescription}
 use Rattle.rv_job.specs.Parts.{parts_of}

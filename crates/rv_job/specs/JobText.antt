@@ -1,16 +1,13 @@
 -- What a text says as a job, and why a part of it is refused.
 use Rattle.std.specs.Prelude.{◌≡◌, ◌≤◌, ℕ, List, length, ⊤, Some, Ok, Err}
-use Rattle.rv_isa.specs.declared.images.Image.{Image}
-use Rattle.rv_isa.specs.declared.lines.Arrival.{Arrival}
-use Rattle.rv_isa.specs.declared.values.Values.{Values}
+use Rattle.rv_isa.specs.declared.{images.Image.Image, lines.Arrival.Arrival, values.Values.Values}
 use Rattle.rv_describe.specs.ArrivalList.{listed_arrivals}
 use Rattle.rv_describe.specs.Description.{description_of}
 use Rattle.rv_job.specs.Input.{most_bytes}
 use Rattle.rv_job.specs.Parts.{parts_of}
 use Rattle.rv_job.specs.TextImage.{IsImageOf, text_fault}
-use Rattle.rv_job.specs.declared.errors.SimError.{SimError}
+use Rattle.rv_job.specs.declared.{errors.SimError.SimError, job.Job.Job}
 use Rattle.rv_job.specs.declared.errors.SimError.TheVariants.{Description, Arrivals, Assembly, Memory}
-use Rattle.rv_job.specs.declared.job.Job.{Job}
 
 -- a text is not too long
 abbrev pub HasLegalLength : List ℕ → Type 0

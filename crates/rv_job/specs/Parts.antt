@@ -1,8 +1,6 @@
 -- The parts of a job: description, arrivals and assembly, with a separator between two.
 use Rattle.std.specs.Prelude.{ℕ, List, [], ◌∷◌, ◌++◌, Bool, ◌==◌, ◌||◌, if◌then◌else◌, Option, Some, None, codes}
-use Rattle.std.specs.List.{before_first, after_first}
-use Rattle.std.specs.Option.{option_map, option_map_or, option_or}
-use Rattle.std.specs.Str.{bytes_eq}
+use Rattle.std.specs.{List.before_first, List.after_first, Option.option_map, Option.option_map_or, Option.option_or, Str.bytes_eq}
 
 abbrev pub is_line_feed : ℕ → Bool
 is_line_feed byte = byte == 10

@@ -1,7 +1,6 @@
 -- What the pieces of a text that the program holds are.
 use Rattle.rv_job.specs.Parts as text
-use Rattle.rv_job.specs.declared.parts.Halves.{Halves}
-use Rattle.rv_job.specs.declared.parts.Parts.{Parts}
+use Rattle.rv_job.specs.declared.parts.{Halves.Halves, Parts.Parts}
 
 abbrev pub halves_in : Halves → text.Halves
 halves_in halves = record { before = halves.before.now; behind = halves.behind.now }

@@ -1,7 +1,6 @@
 -- What an assembly text means, with RAM from an address on.
 use Rattle.std.specs.Prelude.{◌≡◌, ℕ, ◌%◌, ◌≤◌, List, length, Option, None}
-use Rattle.rv_isa.specs.declared.images.Image.{Image}
-use Rattle.rv_isa.specs.declared.values.Values.{Values}
+use Rattle.rv_isa.specs.declared.{images.Image.Image, values.Values.Values}
 use Rattle.rv_asm.specs.Faults.{fault_of}
 use Rattle.rv_asm.specs.Layout.{layout, lines_of}
 use Rattle.rv_asm.specs.Meaning.{Spells, image_parts, start_address}

@@ -1,8 +1,7 @@
 -- What a log tells of an instruction in a cycle.
 use Rattle.std.specs.Prelude.{ℕ, ◌==◌, if◌then◌else◌, List, [], ◌++◌, Option, Some, None}
-use Rattle.rv_passage.specs.declared.passage.Ending.{Ending}
+use Rattle.rv_passage.specs.declared.passage.{Ending.Ending, Passage.Passage}
 use Rattle.rv_passage.specs.declared.passage.Ending.TheVariants.{InFlight, Retired, Trapped, Squashed}
-use Rattle.rv_passage.specs.declared.passage.Passage.{Passage}
 use Rattle.rv_source.specs.Listing.{Listed}
 use Rattle.rv_log.specs.Command.{appearance_text, flush_line, retirement_line, stage_line}
 use Rattle.rv_log.specs.declared.stage.Stage.{Stage}

@@ -1,7 +1,6 @@
 -- How a stale map keeps its words, and how they are told apart; no public clause names these.
 use Rattle.std.specs.Prelude.{ℕ, ◌+◌, ◌==◌, Bool, true, false, List, [], ◌∷◌, map, refl}
-use Rattle.std.specs.Coded.{Coded, code_by, coded×, coded_ℕ}
-use Rattle.std.specs.Ordering.{nat_cmp}
+use Rattle.std.specs.{Coded.Coded, Coded.code_by, Coded.coded×, Coded.coded_ℕ, Ordering.nat_cmp}
 use Rattle.std.specs.FinSet as set
 use Rattle.rv_memory.specs.Stale.{StaleWords}
 

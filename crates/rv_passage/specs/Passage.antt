@@ -1,19 +1,15 @@
 -- The passages of the instructions in flight, and how one ends.
 use Rattle.std.specs.Prelude.{ℕ, Bool, true, false, List, ◌++◌, map, Option, Some, None}
 use Rattle.std.specs.Option.{option_map}
-use Rattle.rv_isa.specs.declared.causes.Cause.{Cause}
-use Rattle.rv_isa.specs.declared.issues.Issue.{Issue}
+use Rattle.rv_isa.specs.declared.{causes.Cause.Cause, issues.Issue.Issue}
 use Rattle.rv_front.specs.declared.fetched.Fetched.{Fetched}
 use Rattle.rv_rob.specs.Entry.{issue_of}
-use Rattle.rv_rob.specs.declared.entry.Entry.{Entry}
-use Rattle.rv_rob.specs.declared.entry.Stage.{Stage}
+use Rattle.rv_rob.specs.declared.entry.{Entry.Entry, Stage.Stage}
 use Rattle.rv_hardware.specs.Hardware.{Hardware}
 use Rattle.rv_hardware.specs.Retirement.{execution_of}
-use Rattle.rv_hardware.specs.declared.step.Execution.{Execution}
-use Rattle.rv_hardware.specs.declared.step.Row.{Row}
-use Rattle.rv_passage.specs.declared.passage.Ending.{Ending}
+use Rattle.rv_hardware.specs.declared.step.{Execution.Execution, Row.Row}
+use Rattle.rv_passage.specs.declared.passage.{Ending.Ending, Passage.Passage}
 use Rattle.rv_passage.specs.declared.passage.Ending.TheVariants as ending
-use Rattle.rv_passage.specs.declared.passage.Passage.{Passage}
 
 abbrev pub is_running : Ending → Bool
 is_running ending.InFlight = true

@@ -4,8 +4,7 @@ use Rattle.rv_hardware.specs.Hardware.{Hardware}
 use Rattle.rv_hardware.specs.declared.step.Step.{Step}
 use Rattle.rv_hardware.specs.declared.step.Step.TheVariants as step
 use Rattle.rv_passage.specs.Passage.{in_flight, is_in_flight, numbered, retired_by, squashed_in, standing_at, trapped_by}
-use Rattle.rv_passage.specs.declared.passage.Passage.{Passage}
-use Rattle.rv_passage.specs.declared.table.Table.{Table}
+use Rattle.rv_passage.specs.declared.{passage.Passage.Passage, table.Table.Table}
 
 -- the passages, the cycles of the interrupts, and how many instructions were fetched and how many retired
 pub record Passages : Type 0 where

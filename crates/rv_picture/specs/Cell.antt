@@ -1,11 +1,9 @@
 -- What a picture shows of an instruction in a cycle.
 use Rattle.std.specs.Prelude.{ℕ, ◌+◌, ◌==◌, ◌&&◌, ◌||◌, Bool, false, not, if◌then◌else◌, nat_lt, List, codes, Option, Some, None}
-use Rattle.rv_passage.specs.declared.passage.Ending.{Ending}
+use Rattle.rv_passage.specs.declared.passage.{Ending.Ending, Passage.Passage}
 use Rattle.rv_passage.specs.declared.passage.Ending.TheVariants.{InFlight, Retired, Trapped, Squashed}
-use Rattle.rv_passage.specs.declared.passage.Passage.{Passage}
-use Rattle.rv_picture.specs.declared.cell.Cell.{Cell}
+use Rattle.rv_picture.specs.declared.{cell.Cell.Cell, window.Window.Window}
 use Rattle.rv_picture.specs.declared.cell.Cell.TheVariants as cell
-use Rattle.rv_picture.specs.declared.window.Window.{Window}
 
 -- a phase came in this cycle, or before it
 abbrev pub is_at : ℕ → Option ℕ → Bool

@@ -2,9 +2,8 @@
 use Rattle.std.specs.Prelude.{ℕ, List}
 use Rattle.rv_picture.specs.SvgPicture.{box_at, tenth_at}
 use Rattle.rv_picture.specs.TextPicture.{cell_at, interrupt_at, scale_at}
-use Rattle.rv_picture.specs.declared.columns.Columns.{Columns}
+use Rattle.rv_picture.specs.declared.{columns.Columns.Columns, window.Window.Window}
 use Rattle.rv_picture.specs.declared.columns.Columns.TheVariants.{Scale, Letters, Marks, Tenths, Boxes}
-use Rattle.rv_picture.specs.declared.window.Window.{Window}
 
 abbrev pub column_text : Columns → Window → ℕ → List ℕ
 column_text Scale window = scale_at window

@@ -1,8 +1,7 @@
 -- What stands at the left of a row: the instruction's address, its statement, and the register that it wrote.
 use Rattle.std.specs.Prelude.{ℕ, ◌-◌, ◌==◌, if◌then◌else◌, List, ◌++◌, length, take, codes, decimal, Option, Some, None}
-use Rattle.rv_passage.specs.declared.passage.Ending.{Ending}
+use Rattle.rv_passage.specs.declared.passage.{Ending.Ending, Passage.Passage}
 use Rattle.rv_passage.specs.declared.passage.Ending.TheVariants.{InFlight, Retired, Trapped, Squashed}
-use Rattle.rv_passage.specs.declared.passage.Passage.{Passage}
 use Rattle.rv_source.specs.Listing.{Listed}
 use Rattle.rv_source.specs.Statement.{statement_at}
 use Rattle.rv_text.specs.Line.{word_text}

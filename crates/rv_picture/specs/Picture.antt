@@ -8,9 +8,8 @@ use Rattle.rv_source.specs.Listing.{Listed}
 use Rattle.rv_picture.specs.Recording.{IsRecording}
 use Rattle.rv_picture.specs.SvgPicture.{svg_picture}
 use Rattle.rv_picture.specs.TextPicture.{text_picture}
-use Rattle.rv_picture.specs.declared.picture.Form.{Form}
+use Rattle.rv_picture.specs.declared.{picture.Form.Form, window.Window.Window}
 use Rattle.rv_picture.specs.declared.picture.Form.TheVariants.{Text, Svg}
-use Rattle.rv_picture.specs.declared.window.Window.{Window}
 
 -- the picture of a table in a form
 abbrev pub picture_of : Form → Passages → Listed → Window → List ℕ

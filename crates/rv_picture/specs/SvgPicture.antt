@@ -2,17 +2,15 @@
 -- and a legend.
 use Rattle.std.specs.Prelude.{ℕ, ◌+◌, ◌-◌, ◌%◌, ◌==◌, ◌&&◌, if◌then◌else◌, nat_le, nat_lt, List, [], ◌∷◌, ◌++◌, codes, decimal, Option, Some, None, count_by}
 use Rattle.std.specs.List.{flat_map}
-use Rattle.rv_passage.specs.declared.passage.Ending.{Ending}
+use Rattle.rv_passage.specs.declared.passage.{Ending.Ending, Passage.Passage}
 use Rattle.rv_passage.specs.declared.passage.Ending.TheVariants.{InFlight, Retired, Trapped, Squashed}
-use Rattle.rv_passage.specs.declared.passage.Passage.{Passage}
 use Rattle.rv_source.specs.Listing.{Listed}
 use Rattle.rv_picture.specs.Cell.{cell_of, class_of, has_cell, letter_of, name_of}
 use Rattle.rv_picture.specs.Columns.{columns}
 use Rattle.rv_picture.specs.Label.{markup_byte, statement_of, written_by, written_text}
 use Rattle.rv_picture.specs.Places.{column_x, row_y}
 use Rattle.rv_picture.specs.SvgFrame.{svg_begin, svg_style, svg_legend}
-use Rattle.rv_picture.specs.declared.cell.Cell.{Cell}
-use Rattle.rv_picture.specs.declared.window.Window.{Window}
+use Rattle.rv_picture.specs.declared.{cell.Cell.Cell, window.Window.Window}
 use Rattle.rv_text.specs.Line.{word_text}
 
 -- a line in front of a column, down to the last row, with its cycle as a tip

@@ -6,8 +6,7 @@ use Rattle.rv_source.specs.Listing.{Listed}
 use Rattle.rv_picture.specs.Columns.{columns}
 use Rattle.rv_picture.specs.Cell.{cell_of, has_cell, letter_of}
 use Rattle.rv_picture.specs.Label.{blanks, padded, statement_of, written_by, written_text}
-use Rattle.rv_picture.specs.declared.cell.Cell.{Cell}
-use Rattle.rv_picture.specs.declared.window.Window.{Window}
+use Rattle.rv_picture.specs.declared.{cell.Cell.Cell, window.Window.Window}
 use Rattle.rv_text.specs.Line.{word_text}
 use Rattle.rv_text.specs.Plain.{plain_text}
 

@@ -10,8 +10,7 @@ use Rattle.rv_hardware.specs.Seen.{layout_of, seen}
 use Rattle.rv_report.specs.RunReport.{run_report, trace_of}
 use Rattle.rv_report.specs.Totals.{totals_at}
 use Rattle.rv_text.specs.Written.{AppendsBeginning, IsWritten}
-use Rattle.rv_report.specs.declared.options.Options.{Options}
-use Rattle.rv_report.specs.declared.totals.Totals.{Totals}
+use Rattle.rv_report.specs.declared.{options.Options.Options, totals.Totals.Totals}
 
 -- cycles that ended, with what they came to, and with their trace, where it is asked for, written
 pub record IsTraced {T E : Type 0} (arrivals : List Arrival) (options : Options) (old new : Hardware) (totals : Totals) (written : Result T E) (before after : Option (List ℕ)) : Type 0 where

@@ -1,7 +1,6 @@
 -- The lines of a report that show words of memory.
 use Rattle.std.specs.Prelude.{ℕ, ◌+◌, ◌*◌, ◌%◌, ◌^◌, List, ◌++◌, codes, Option, Some, None, option_and_then}
-use Rattle.std.specs.List.{flat_map, range_with_len}
-use Rattle.std.specs.Option.{option_map}
+use Rattle.std.specs.{List.flat_map, List.range_with_len, Option.option_map}
 use Rattle.rv_memory.specs.Memory.{Layout, byte_seen}
 use Rattle.rv_text.specs.Line.{word_text, line_of}
 

@@ -11,8 +11,7 @@ use Rattle.rv_report.specs.Memory.{seen_memory_lines}
 use Rattle.rv_report.specs.Rows.{trace_lines}
 use Rattle.rv_report.specs.State.{stop_line, state_lines}
 use Rattle.rv_report.specs.Totals.{total_lines, totals_of}
-use Rattle.rv_report.specs.declared.options.Options.{Options}
-use Rattle.rv_report.specs.declared.totals.Totals.{Totals}
+use Rattle.rv_report.specs.declared.{options.Options.Options, totals.Totals.Totals}
 
 -- why a run ended, its counts, and the pc, the registers and the CSRs that programs see then
 unfoldable pub end_lines : Totals → State → Lines → List ℕ

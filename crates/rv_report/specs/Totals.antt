@@ -1,16 +1,13 @@
 -- What a run came to.
 use Rattle.std.specs.Prelude.{Bool, true, false, List, ◌++◌, codes, count_by, length, ℕ, ◌+◌, ◌^◌, ◌<◌}
 use Rattle.rv_arch.specs.declared.outcome.Stop.{Stop}
-use Rattle.rv_core.specs.declared.outcome.Outcome.{Outcome}
-use Rattle.rv_core.specs.declared.outcome.Progress.{Progress}
+use Rattle.rv_core.specs.declared.outcome.{Outcome.Outcome, Progress.Progress}
 use Rattle.rv_hardware.specs.Report.{Report}
 use Rattle.rv_hardware.specs.Run.{busy_of, longest_gap_of, stalls_of, steps_of}
-use Rattle.rv_hardware.specs.declared.report.StallCounts.{StallCounts}
-use Rattle.rv_hardware.specs.declared.step.Step.{Step}
+use Rattle.rv_hardware.specs.declared.{report.StallCounts.StallCounts, step.Step.Step}
 use Rattle.rv_hardware.specs.declared.step.Step.TheVariants.{Retired, Trap, Interrupt}
 use Rattle.rv_text.specs.Line.{line_of, count_line, ratio_text}
-use Rattle.rv_report.specs.declared.totals.StepCounts.{StepCounts}
-use Rattle.rv_report.specs.declared.totals.Totals.{Totals}
+use Rattle.rv_report.specs.declared.totals.{StepCounts.StepCounts, Totals.Totals}
 
 abbrev pub is_retired : Step → Bool
 is_retired (Retired row) = true

@@ -1,8 +1,6 @@
 use Rattle.std.specs.Prelude.{ℕ, Option, None, Some}
-use Rattle.rv_isa.specs.declared.Issue.{Issue}
-use Rattle.rv_isa.specs.declared.Message.{Message}
-use Rattle.rv_rob.specs.declared.entry.Entry.{Entry}
-use Rattle.rv_rob.specs.declared.entry.Stage.{Stage}
+use Rattle.rv_isa.specs.declared.{Issue.Issue, Message.Message}
+use Rattle.rv_rob.specs.declared.entry.{Entry.Entry, Stage.Stage}
 use Rattle.rv_rob.specs.declared.entry.Stage.TheVariants.{Waiting, Running, Finished}
 
 -- the start of an execution, where there was one

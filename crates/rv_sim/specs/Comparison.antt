@@ -1,7 +1,6 @@
 -- What the table of a comparison says.
 use Rattle.std.specs.Prelude.{◌≡◌, ℕ, List, [], ◌∷◌, ◌++◌}
-use Rattle.rv_job.specs.declared.comparison.Comparison.{Comparison}
-use Rattle.rv_job.specs.declared.job.Job.{Job}
+use Rattle.rv_job.specs.declared.{comparison.Comparison.Comparison, job.Job.Job}
 use Rattle.rv_report.specs.Comparison.{RunsTo, table_of}
 use Rattle.rv_report.specs.declared.totals.Totals.{Totals}
 use Rattle.rv_sim.specs.CoreReport.{hardware_of}

@@ -5,8 +5,7 @@ use Rattle.rv_job.specs.FaultStream.{FaultStream, Tells, TellsOf, TellsWantOfMem
 use Rattle.rv_job.specs.Input.{IsInputOf}
 use Rattle.rv_sim.specs.Task.{Asks, Ends, Refuses}
 use Rattle.rv_command.specs.declared.command.Command.{Command}
-use Rattle.rv_job.specs.declared.errors.SimError.{SimError}
-use Rattle.rv_job.specs.declared.input.InputError.{InputError}
+use Rattle.rv_job.specs.declared.{errors.SimError.SimError, input.InputError.InputError}
 use Rattle.rv_sim.specs.declared.task.Task.{Task}
 
 -- the input could not be read, which is told

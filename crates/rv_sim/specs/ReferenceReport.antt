@@ -1,12 +1,11 @@
 use Rattle.std.specs.Prelude.{◌≡◌, ℕ, List}
-use Rattle.rv_isa.specs.declared.values.ReportValues.{ReportValues}
-use Rattle.rv_isa.specs.declared.values.Values.{Values}
+use Rattle.rv_isa.specs.declared.values.{ReportValues.ReportValues, Values.Values}
 use Rattle.rv_arch.specs.Machine.{Machine}
 use Rattle.rv_memory.specs.Memory.{Layout}
-use Rattle.rv_arch.specs.Reset.{reset, no_lines}
+use Rattle.rv_isa.specs.Arrivals.{no_lines}
+use Rattle.rv_arch.specs.Reset.{reset}
 use Rattle.rv_arch.specs.RunOutcome.{IsRunTo}
-use Rattle.rv_arch.specs.declared.outcome.RefOutcome.{RefOutcome}
-use Rattle.rv_arch.specs.declared.outcome.Stop.{Stop}
+use Rattle.rv_arch.specs.declared.outcome.{RefOutcome.RefOutcome, Stop.Stop}
 use Rattle.rv_report.specs.ReferenceReport.{reference_report}
 use Rattle.rv_job.specs.declared.job.Job.{Job}
 use Rattle.rv_report.specs.declared.options.Options.{Options}

@@ -2,9 +2,9 @@
 use Rattle.std.specs.Prelude.{◌≡◌, ℕ, ◌-◌, ◌<◌, ◌==◌, if◌then◌else◌, List}
 use Rattle.rv_isa.specs.Arrivals.{lines_at}
 use Rattle.rv_isa.specs.Description.{gap_bound_of}
-use Rattle.rv_isa.specs.declared.lines.Arrival.{Arrival}
-use Rattle.rv_isa.specs.declared.lines.Lines.{Lines}
-use Rattle.rv_arch.specs.Reset.{reset, no_lines}
+use Rattle.rv_isa.specs.declared.lines.{Arrival.Arrival, Lines.Lines}
+use Rattle.rv_isa.specs.Arrivals.{no_lines}
+use Rattle.rv_arch.specs.Reset.{reset}
 use Rattle.rv_arch.specs.State.{State}
 use Rattle.rv_arch.specs.declared.outcome.Stop.{Stop}
 use Rattle.rv_hardware.specs.Headline.{IsTrueRun, IsTrueStop}
@@ -13,8 +13,7 @@ use Rattle.rv_hardware.specs.LongestGap.{IsLongestGap}
 use Rattle.rv_hardware.specs.declared.step.Step.{Step}
 use Rattle.rv_report.specs.RunReport.{run_report}
 use Rattle.rv_report.specs.Totals.{counts_of}
-use Rattle.rv_report.specs.declared.options.Options.{Options}
-use Rattle.rv_report.specs.declared.totals.Totals.{Totals}
+use Rattle.rv_report.specs.declared.{options.Options.Options, totals.Totals.Totals}
 use Rattle.rv_sim.specs.ReferenceReport.{layout_of, shown}
 use Rattle.rv_job.specs.declared.job.Job.{Job}
 

@@ -25,8 +25,7 @@ use Rattle.rv_sim.specs.ExplanationReport.{IsExplanationOf}
 use Rattle.rv_sim.specs.LogReport.{IsLogOf}
 use Rattle.rv_sim.specs.PictureReport.{IsPictureOf}
 use Rattle.rv_sim.specs.ReferenceReport.{IsReferenceReport}
-use Rattle.rv_sim.specs.declared.picture.View.{View}
-use Rattle.rv_sim.specs.declared.task.Task.{Task}
+use Rattle.rv_sim.specs.declared.{picture.View.View, task.Task.Task}
 use Rattle.rv_sim.specs.declared.task.Task.TheVariants.{Run, Reference, Check, Picture, Log, Explain, Compare}
 
 -- the options of a command; which words of memory a report shows is the job's to say

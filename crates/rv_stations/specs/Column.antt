@@ -1,7 +1,6 @@
 -- The operands in a column, and how the lists of tags and of values change when a producer is broadcast.
 use Rattle.std.specs.Prelude.{ℕ, ◌%◌, Bool, not, length, filter, List, [], ◌∷◌, ◌++◌, ◌==◌, if◌then◌else◌}
-use Rattle.rv_stations.specs.declared.lanes.TheConstants.{NO_PRODUCER}
-use Rattle.rv_stations.specs.declared.waiting.Operand.{Operand}
+use Rattle.rv_stations.specs.declared.{lanes.TheConstants.NO_PRODUCER, waiting.Operand.Operand}
 use Rattle.rv_stations.specs.declared.waiting.Operand.TheVariants.{Value, Tag}
 
 -- the operands in order of their instructions' numbers, and how many there may be

@@ -1,13 +1,10 @@
 -- The fields of the stations of a kind: what they stand for, and what is true of them.
 use Rattle.std.specs.Prelude.{◌≡◌, ℕ, ◌≤◌, List, length, vec_len, vec_capacity}
 use Rattle.std.specs.Simd.Lanes.{zip2}
-use Rattle.rv_stations.specs.declared.waiting.Operand.{Operand}
-use Rattle.rv_stations.specs.declared.waiting.Waiting.{Waiting}
-use Rattle.rv_stations.specs.declared.pool.Dispatched.{Dispatched}
+use Rattle.rv_stations.specs.declared.{waiting.Operand.Operand, waiting.Waiting.Waiting, pool.Dispatched.Dispatched, pool.StationPool.TheInside.Inside}
 use Rattle.rv_isa.specs.Numbered.{IsInOrder}
 use Rattle.rv_stations.specs.Waiting.{seq_of}
 use Rattle.rv_stations.specs.Pool.{Pool}
-use Rattle.rv_stations.specs.declared.pool.StationPool.TheInside.{Inside}
 
 -- the parts of an instruction side by side
 abbrev pub with_dispatched : ℕ → Dispatched → ℕ × Dispatched

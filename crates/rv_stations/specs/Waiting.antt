@@ -1,9 +1,7 @@
 -- Instructions that wait for their operands, in order of their sequence numbers.
 use Rattle.std.specs.Prelude.{ℕ, ◌^◌, ◌<◌, Bool, true, false, ◌&&◌, ◌==◌, List, [], ◌∷◌, Option, Some, None, if◌then◌else◌}
-use Rattle.rv_stations.specs.declared.waiting.Operand.{Operand}
+use Rattle.rv_stations.specs.declared.waiting.{Operand.Operand, Ready.Ready, Waiting.Waiting}
 use Rattle.rv_stations.specs.declared.waiting.Operand.TheVariants.{Value, Tag}
-use Rattle.rv_stations.specs.declared.waiting.Ready.{Ready}
-use Rattle.rv_stations.specs.declared.waiting.Waiting.{Waiting}
 
 -- the sequence number of an instruction
 abbrev pub seq_of : Waiting → ℕ

@@ -3,9 +3,8 @@ use Rattle.std.specs.Prelude.{ℕ, ◌+◌, ◌-◌, Bool, true, false, nat_lt, 
 use Rattle.std.specs.Option.{option_or}
 use Rattle.rv_isa.specs.declared.broadcast.StoreAccess.{StoreAccess}
 use Rattle.rv_stores.specs.declared.store.StorePhase.TheVariants.{Speculative, Committed, Draining}
-use Rattle.rv_stores.specs.declared.store.StoreState.{StoreState}
+use Rattle.rv_stores.specs.declared.store.{StoreState.StoreState, Store.Store}
 use Rattle.rv_stores.specs.declared.store.StoreState.TheVariants.{Waiting, Filled}
-use Rattle.rv_stores.specs.declared.store.Store.{Store}
 
 -- the byte that an access writes at a place of memory, where it covers the place
 abbrev pub written_at : ℕ → StoreAccess → Option ℕ

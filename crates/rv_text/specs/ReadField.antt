@@ -1,7 +1,6 @@
 use Rattle.std.specs.Prelude.{ℕ, List, ◌++◌, codes, decimal}
 use Rattle.rv_text.specs.Line.{word_text, ratio_text, line_of}
-use Rattle.rv_text.specs.declared.fields.Field.{Field}
-use Rattle.rv_text.specs.declared.fields.Value.{Value}
+use Rattle.rv_text.specs.declared.fields.{Field.Field, Value.Value}
 use Rattle.rv_text.specs.declared.fields.Value.TheVariants.{Count, Word, Ratio}
 
 -- the text of a value, a cell of a table, behind which a tab stands, and the line of a field

@@ -1,7 +1,6 @@
 -- The units of one kind: the starts that hold one, and when one is free.
 use Rattle.std.specs.Prelude.{ℕ, ◌+◌, Bool, ◌&&◌, List, [], ◌∷◌, ◌++◌, length, filter, nat_le, nat_lt, if◌then◌else◌}
-use Rattle.rv_isa.specs.declared.issues.Issue.{Issue}
-use Rattle.rv_isa.specs.declared.values.KindValues.{KindValues}
+use Rattle.rv_isa.specs.declared.{issues.Issue.Issue, values.KindValues.KindValues}
 
 -- how many units of a kind there are, whether they are pipelined, and the starts: the cycle of each, and
 -- for how many cycles it holds its unit

@@ -1,7 +1,8 @@
 use Rattle.std.proofs.Common.{arith, ◌≡◌, ◌+◌, ◌*◌, take}
 use Rattle.std.proofs.lemmas.Grind.{common_steps}
 use Rattle.std.proofs.lemmas.List.{drop-drop, drop_min}
-use Rattle.rv_isa.specs.Levels.{low, lines_after}
+use Rattle.rv_isa.specs.Arrivals.{no_lines}
+use Rattle.rv_isa.specs.Levels.{lines_after}
 use Rattle.rv_isa.specs.declared.line_levels.TheConstants.{BLOCK}
 use Rattle.rv_isa.proofs.Levels.{lines_after-more, table_more}
 use Rattle.rv_isa.proofs.line_levels.levels_of.Goals as goal
@@ -12,6 +13,6 @@ loop-block-preserved c =
     let here = c.loop-block.invariant.2 in (
       grind (arith, common_steps),
       grind (arith, common_steps, drop-drop, drop_min, next, c.split_at.ensures.back),
-      rw (c.lines_after-lines.ensures, c.split_at.ensures.front, next) (lines_after-more low c.loop-block.lines c.args.items.now c.loop-block.rest.now (c.loop-block.block * BLOCK) BLOCK c.min.result c.min.ensures c.loop-block.invariant.1 here),
-      table_more (λ k. lines_after low (take (k * BLOCK) c.args.items.now)) c.loop-block.levels _ _ (omega (arith, c.loop-block.invariant.0, c.loop-block-test.true)) here c.loop-block.invariant.3,
+      rw (c.lines_after-lines.ensures, c.split_at.ensures.front, next) (lines_after-more no_lines c.loop-block.lines c.args.items.now c.loop-block.rest.now (c.loop-block.block * BLOCK) BLOCK c.min.result c.min.ensures c.loop-block.invariant.1 here),
+      table_more (λ k. lines_after no_lines (take (k * BLOCK) c.args.items.now)) c.loop-block.levels _ _ (omega (arith, c.loop-block.invariant.0, c.loop-block-test.true)) here c.loop-block.invariant.3,
     )
