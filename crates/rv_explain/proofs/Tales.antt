@@ -7,6 +7,7 @@ use Rattle.rv_isa.specs.declared.lines.Arrival.{Arrival}
 use Rattle.rv_isa.specs.declared.values.Values.{Values}
 use Rattle.rv_hardware.specs.Hardware.{Hardware}
 use Rattle.rv_hardware.specs.Run.{steps_of}
+use Rattle.rv_hardware.specs.Step.{is_retirement}
 use Rattle.rv_hardware.specs.declared.step.Step.{Step}
 use Rattle.rv_explain.specs.Access.{both}
 use Rattle.rv_explain.specs.Drain.{drain_in, drains_by, drains_of}
@@ -15,7 +16,7 @@ use Rattle.rv_explain.specs.Head.{head_cycles}
 use Rattle.rv_explain.specs.History.{History, Moment, reports_of}
 use Rattle.rv_explain.specs.LastStore.{last_store_to, stores_in, stores_of, with_stores}
 use Rattle.rv_explain.specs.Load.{costs_of, is_quick, load_cost, loads_of}
-use Rattle.rv_explain.specs.Tale.{HasRoom, is_retired, tale_after, tale_of}
+use Rattle.rv_explain.specs.Tale.{HasRoom, tale_after, tale_of}
 use Rattle.rv_explain.specs.WordNotes.{notes_of}
 use Rattle.rv_explain.specs.declared.loads.Costs.{Costs}
 use Rattle.rv_explain.proofs.DrainCounts.{drains_by-append, drains_of-le, drains_of-push}
@@ -49,7 +50,7 @@ module _ (values : Values) where
       let heads = ap (with_stores (stores_in now.registers moment.report.steps)) (with_head_of values (last_store_to (stores_of old moments)) moments moment) in
       let stores = with_stores_of values (head_cycles (moments ++ moment ∷ [])) (stores_in now.registers moment.report.steps) (stores_of old moments) in
       let stored = sym (stores_of-push moment passes) in
-      let retired = sym (ap (count_by is_retired) steps ∙ sum_by-append (λ (step : Step). cond (is_retired step) 1 0) (steps_of (reports_of moments)) moment.report.steps) in
+      let retired = sym (ap (count_by is_retirement) steps ∙ sum_by-append (λ (step : Step). cond (is_retirement step) 1 0) (steps_of (reports_of moments)) moment.report.steps) in
       let loads = sym (ap (loads_of (costs_of values)) steps ∙ loads_of-append (costs_of values) (steps_of (reports_of moments)) moment.report.steps) in
       let drains = sym (ap (drains_by values.cache.hit) (drains_of-push moment passes) ∙ drains_by-append values.cache.hit (drains_of arrivals old moments) (option_to_list (drain_in arrivals now))) in
       let words = heads ∙ stores ∙ (λ i. notes_of values (λ word. record { last_store = last_store_to (stored i) word; head_cycles = head_cycles (moments ++ moment ∷ []) word })) in
@@ -65,7 +66,7 @@ module _ (values : Values) where
   -- the steps of one more cycle can be counted
   pub has_room : (arrivals : List Arrival) (h : Hardware) (moments : List Moment) (more : ℕ) → length (steps_of (reports_of moments)) ≤ 8 * 2 ^ 40 → length moments ≤ 2 ^ 40 → more ≤ 8 → HasRoom (tale_of values arrivals h moments) more
   has_room arrivals h moments more few within little = record {
-    retired = omega (arith, count_by-le-length is_retired (steps_of (reports_of moments)), few, little);
+    retired = omega (arith, count_by-le-length is_retirement (steps_of (reports_of moments)), few, little);
     loads = omega (arith, count_by-le-length (λ step. is_some (load_cost step)) (steps_of (reports_of moments)), few, little);
     quick = omega (arith, count_by-le-length (λ step. is_quick (costs_of values) (load_cost step)) (steps_of (reports_of moments)), few, little);
     drains = omega (arith, drains_of-le arrivals h moments, within);

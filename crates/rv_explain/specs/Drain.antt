@@ -34,5 +34,6 @@ begun cycle before (Some end) = if ends_at end before then None else Some (end -
 abbrev pub drains_by : ℕ → List ℕ → Accesses
 drains_by hit costs = record { all = length costs; quick = count_by (λ cost. cost == hit) costs }
 
+-- the line on the drains of a run
 unfoldable pub drain_text : Accesses → List ℕ
 drain_text drains = access_text (codes "drains: ") (codes " at the cost of a hit, ") drains

@@ -38,5 +38,6 @@ stale_text listing Breakpoint notes = []
 stale_text listing Limit notes = []
 stale_text listing Exhausted notes = []
 
+-- how a run ended, and where
 unfoldable pub ending_text : Listed → Stop → Hardware → Notes → List ℕ
 ending_text listing stop h notes = reason_text stop ++ (place_text listing (place_of stop h) ++ stale_text listing stop notes)

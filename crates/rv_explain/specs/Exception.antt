@@ -55,12 +55,15 @@ went_on mtvec =
     if mtvec / 4 == 0 then codes "No handler was set (the address in mtvec was 0), and the program went on at "
     else codes "The program went on at its handler, at "
 
+-- where the program went on
 unfoldable pub handler_text : Exception → List ℕ
 handler_text e = went_on e.mtvec ++ (word_text e.next_pc ++ codes "\n")
 
+-- what was taken, at which line, and where the program went on
 unfoldable pub taken_text : Listed → Exception → List ℕ
 taken_text listing e = cause_text e ++ (place_text listing e.pc ++ handler_text e)
 
+-- the first exception of a run, if there was one
 unfoldable pub exception_text : Listed → Option Exception → List ℕ
 exception_text listing None = codes "No exception came before that.\n"
 exception_text listing (Some e) = taken_text listing e

@@ -11,6 +11,7 @@ pub record Moment : Type 0 where
   pub report : Report
   pub after : Hardware
 
+-- what the cycles reported
 abbrev pub reports_of : List Moment → List Report
 reports_of [] = []
 reports_of (moment ∷ moments) = moment.report ∷ reports_of moments

@@ -36,5 +36,6 @@ loads_of costs steps = record {
   quick = count_by (λ step. is_quick costs (load_cost step)) steps;
 }
 
+-- the line on the loads of a run
 unfoldable pub load_text : Accesses → List ℕ
 load_text loads = access_text (codes "loads: ") (codes " at the cost of a hit or of forwarding, ") loads

@@ -1,11 +1,11 @@
 -- What is kept of a run, cycle by cycle.
-use Rattle.std.specs.Prelude.{ℕ, ◌+◌, ◌^◌, ◌<◌, Bool, true, false, List, count_by, Option, IfSome}
+use Rattle.std.specs.Prelude.{ℕ, ◌+◌, ◌^◌, ◌<◌, List, count_by, Option, IfSome}
 use Rattle.std.specs.Option.{option_or, option_to_list}
 use Rattle.rv_isa.specs.declared.{lines.Arrival.Arrival, values.Values.Values}
 use Rattle.rv_hardware.specs.Hardware.{Hardware}
 use Rattle.rv_hardware.specs.Run.{steps_of}
+use Rattle.rv_hardware.specs.Step.{is_retirement}
 use Rattle.rv_hardware.specs.declared.step.Step.{Step}
-use Rattle.rv_hardware.specs.declared.step.Step.TheVariants.{Retired}
 use Rattle.rv_explain.specs.Access.{both}
 use Rattle.rv_explain.specs.Drain.{drains_by, drains_of}
 use Rattle.rv_explain.specs.Exception.{exception_in, first_exception}
@@ -16,14 +16,10 @@ use Rattle.rv_explain.specs.Load.{costs_of, loads_of}
 use Rattle.rv_explain.specs.WordNotes.{note_at, notes_of}
 use Rattle.rv_explain.specs.declared.tale.Tale.{Tale}
 
-abbrev pub is_retired : Step → Bool
-is_retired (Retired row) = true
-is_retired _ = false
-
 -- what is kept of some cycles that began with such hardware, by the arrivals at the interrupt lines
 abbrev pub tale_of : Values → List Arrival → Hardware → List Moment → Tale
 tale_of values arrivals h moments = record {
-  retired = count_by is_retired (steps_of (reports_of moments));
+  retired = count_by is_retirement (steps_of (reports_of moments));
   exception = first_exception moments;
   costs = costs_of values;
   loads = loads_of (costs_of values) (steps_of (reports_of moments));
@@ -35,7 +31,7 @@ tale_of values arrivals h moments = record {
 -- that it left
 abbrev pub tale_after : List ℕ → List Step → Option ℕ → Hardware → Tale → Tale
 tale_after registers steps drain after tale = record {
-  retired = tale.retired + count_by is_retired steps;
+  retired = tale.retired + count_by is_retirement steps;
   exception = option_or tale.exception (exception_in after steps);
   costs = tale.costs;
   loads = both tale.loads (loads_of tale.costs steps);

@@ -1,7 +1,8 @@
 ghost use Rattle.std.specs.Prelude.{◌≡◌, List, [], count_by, length, IfOk};
 ghost use Rattle.rv_hardware.specs.Hardware.{Hardware};
+ghost use Rattle.rv_hardware.specs.Step.{is_retirement};
 ghost use Rattle.rv_isa.specs.declared.lines.Arrival.{Arrival};
-ghost use Rattle.rv_explain.specs.Tale.{HasRoom, is_retired, tale_after, tale_of};
+ghost use Rattle.rv_explain.specs.Tale.{HasRoom, tale_after, tale_of};
 
 use crate::accesses::Accesses;
 use crate::drains::add_drain;
@@ -28,7 +29,7 @@ pub(crate) struct Tale {
 }
 
 fn count_retired(steps: &[Step]) -> usize
-    ensures { result ≡ count_by is_retired steps.now }
+    ensures { result ≡ count_by is_retirement steps.now }
 {
     steps
         .iter()

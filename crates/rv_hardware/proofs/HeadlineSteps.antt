@@ -12,9 +12,9 @@ use Rattle.rv_arch.specs.declared.outcome.RefStep.TheVariants as machine
 use Rattle.rv_arch.specs.declared.outcome.Stop.{Stop}
 use Rattle.rv_arch.specs.declared.outcome.Stop.TheVariants as stop
 use Rattle.rv_memory.specs.Memory.{Layout}
-use Rattle.rv_hardware.specs.Headline.{told, is_retirement, Lead, nowhere, onwards, EndAtTraps, IsTrueCycle}
+use Rattle.rv_hardware.specs.Headline.{told, Lead, nowhere, onwards, EndAtTraps, IsTrueCycle}
 use Rattle.rv_hardware.specs.Repeated.{Turn, GoesOn, Ends, followed_by, repeated}
-use Rattle.rv_hardware.specs.Step.{stamp_of, is_breakpoint}
+use Rattle.rv_hardware.specs.Step.{stamp_of, is_breakpoint, is_retirement}
 use Rattle.rv_hardware.specs.declared.step.Step.{Step}
 use Rattle.rv_hardware.specs.declared.step.Step.TheVariants as step
 

@@ -11,11 +11,11 @@ use Rattle.rv_arch.specs.declared.outcome.Stop.{Stop}
 use Rattle.rv_arch.specs.declared.outcome.Stop.TheVariants as stop
 use Rattle.rv_memory.specs.Memory.{Layout}
 use Rattle.rv_hardware.specs.Hardware.{Hardware}
-use Rattle.rv_hardware.specs.Headline.{is_retirement, EndAtTraps, IsTrueCycle, EndAtBreakpoints, IsTrueStop}
+use Rattle.rv_hardware.specs.Headline.{EndAtTraps, IsTrueCycle, EndAtBreakpoints, IsTrueStop}
 use Rattle.rv_hardware.specs.Report.{Report}
 use Rattle.rv_hardware.specs.Run.{Cycles, Reachable, steps_of, NoneStops, IsStop}
 use Rattle.rv_hardware.specs.Seen.{layout_of, seen}
-use Rattle.rv_hardware.specs.Step.{stamp_of, is_breakpoint}
+use Rattle.rv_hardware.specs.Step.{stamp_of, is_breakpoint, is_retirement}
 use Rattle.rv_hardware.specs.declared.step.Step.{Step}
 use Rattle.rv_hardware.specs.declared.step.Step.TheVariants as step
 use Rattle.rv_hardware.proofs.HeadlineCycle.{always_sound}

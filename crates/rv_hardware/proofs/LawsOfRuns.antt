@@ -9,8 +9,8 @@ use Rattle.rv_hardware.specs.Hardware.{Hardware}
 use Rattle.rv_hardware.specs.Laws.{Laws, DoesNotWait, IsFetchedAhead, IsTrappedSoon, HasOperandsIn, HasOrderedStamps, HasCost, IsKnownBefore, IsFetchedBehind, IsFetchedSince}
 use Rattle.rv_hardware.specs.Report.{Report}
 use Rattle.rv_hardware.specs.Run.{Reachable, Cycles, ended, cycled, steps_of}
-use Rattle.rv_hardware.specs.Stamps.{rows_of, EachBehind, EachNext, last_from, sources_of_row, writes_register, producer_among, flushes, is_interrupt, is_store_row, is_load_row, is_row_of_kind, is_fetched_in, is_dispatched_in, is_issued_in, is_broadcast_in, is_buffered_in, is_in_flight_in, is_stationed_in, is_executing_in, is_queued_in, uses_port}
-use Rattle.rv_hardware.specs.Step.{stamp_of}
+use Rattle.rv_hardware.specs.Stamps.{rows_of, EachBehind, EachNext, last_from, sources_of_row, writes_register, producer_among, flushes, is_store_row, is_load_row, is_row_of_kind, is_fetched_in, is_dispatched_in, is_issued_in, is_broadcast_in, is_buffered_in, is_in_flight_in, is_stationed_in, is_executing_in, is_queued_in, uses_port}
+use Rattle.rv_hardware.specs.Step.{stamp_of, is_interrupt}
 use Rattle.rv_hardware.specs.declared.step.Execution.{Execution}
 use Rattle.rv_hardware.specs.declared.step.Row.{Row}
 use Rattle.rv_hardware.specs.declared.step.Step.{Step}

@@ -21,8 +21,8 @@ use Rattle.rv_hardware.specs.Laws.{IsFetchedSince}
 use Rattle.rv_hardware.specs.Report.{Report}
 use Rattle.rv_hardware.specs.Repeated.{Turn, GoesOn, Ends}
 use Rattle.rv_hardware.specs.Retirement.{written_of}
-use Rattle.rv_hardware.specs.Stamps.{flushes, is_interrupt, rows_of}
-use Rattle.rv_hardware.specs.Step.{stamp_of}
+use Rattle.rv_hardware.specs.Stamps.{flushes, rows_of}
+use Rattle.rv_hardware.specs.Step.{stamp_of, is_interrupt}
 use Rattle.rv_hardware.specs.declared.step.Row.{Row}
 use Rattle.rv_hardware.specs.declared.step.Step.{Step}
 use Rattle.rv_hardware.specs.declared.step.Step.TheVariants.{Retired, Trap, Interrupt}

@@ -10,7 +10,7 @@ use Rattle.rv_arch.specs.declared.outcome.{RefStep.RefStep, Stop.Stop}
 use Rattle.rv_arch.specs.declared.outcome.RefStep.TheVariants as machine
 use Rattle.rv_arch.specs.declared.outcome.Stop.TheVariants as stop
 use Rattle.rv_memory.specs.Memory.{Layout}
-use Rattle.rv_hardware.specs.Step.{stamp_of, is_breakpoint}
+use Rattle.rv_hardware.specs.Step.{stamp_of, is_breakpoint, is_retirement}
 use Rattle.rv_hardware.specs.declared.step.Step.{Step}
 use Rattle.rv_hardware.specs.declared.step.Step.TheVariants as step
 
@@ -20,12 +20,6 @@ abbrev pub told : Step → RefStep
 told (step.Retired row) = machine.Retired row.pc row.word row.written
 told (step.Trap pc cause value cycle) = machine.Trap pc cause value
 told (step.Interrupt pc cause cycle) = machine.Interrupt pc cause
-
--- the step is a retirement
-abbrev pub is_retirement : Step → Bool
-is_retirement (step.Retired row) = true
-is_retirement (step.Trap pc cause value cycle) = false
-is_retirement (step.Interrupt pc cause cycle) = false
 
 -- The machine, with the same lines at each step, takes the steps one after another, and they lead it from a state to another.
 pub data Lead (layout : Layout) (lines : Lines) : State → List Step → State → Type 0 where

@@ -39,11 +39,13 @@ path_of_load h older address count =
     else (if list_all is_some (take count (forwarded (stores_behind h older) address count)) then FromStores
     else FromCache address)
 
+-- the way of an instruction that executes in a state
 abbrev pub path_of : Hardware → List Entry → State → Option Instr → Path
 path_of h older s (Some (Load form rd rs1 offset)) =
     path_of_load h older (sum (register_of s rs1) (modulo_word offset)) (bytes_of (width_of form))
 path_of h older s _ = Without
 
+-- the way of an entry behind the older ones
 abbrev pub path : Hardware → List Entry → Entry → Path
 path h older e = path_of h older (seen_behind h older e.pc) e.instruction
 
@@ -59,18 +61,22 @@ has_port h Without = true
 has_port h FromStores = true
 has_port h (FromCache address) = nat_le h.port_free h.cycle
 
+-- the word is a load
 abbrev pub is_load : Option Instr → Bool
 is_load (Some (Load form rd rs1 offset)) = true
 is_load _ = false
 
+-- the kind, if there is one, is this one
 abbrev pub is_of_kind : Kind → Option Kind → Bool
 is_of_kind kind None = false
 is_of_kind kind (Some other) = is_same kind other
 
+-- the kind of unit that a word uses, if it uses one
 abbrev pub kind_of_word : Option Instr → Option Kind
 kind_of_word None = None
 kind_of_word (Some instruction) = kind_of instruction
 
+-- the registers that a word reads
 abbrev pub sources_of_word : Option Instr → List (Option ℕ)
 sources_of_word None = []
 sources_of_word (Some instruction) = sources_of instruction
@@ -119,11 +125,13 @@ with_start kind seq cost message h = record h {
   rob = changed (started (record { cycle = h.cycle; cost = cost }) message) seq h.rob;
 }
 
+-- an entry behind these older ones leaves its station for a unit
 abbrev pub issued : Kind → Hardware → List Entry → Entry → Hardware
 issued kind h older e =
     with_start kind (h.rob.retired + length older) (cost_of h kind (path h older e))
     (result_of_word (layout_of h.values) (seen_behind h older e.pc) h.lines e.word e.instruction) (with_access (path h older e) h)
 
+-- the entry that was found leaves; where none was, the turns of the kind end
 abbrev pub issue_oldest : Kind → Hardware → Option (List Entry × Entry) → Turn Hardware
 issue_oldest kind h None = Ends h
 issue_oldest kind h (Some found) = GoesOn (issued kind h found.0 found.1)
@@ -135,6 +143,7 @@ issue_turn kind h =
     then issue_oldest kind h (oldest (is_ready h kind) h.rob.entries)
     else Ends h
 
+-- as many turns of a kind as it has units
 abbrev pub issue_kind : Kind → Hardware → Hardware
 issue_kind kind h = repeated (issue_turn kind) (at_kind kind h.values.kinds).units h
 

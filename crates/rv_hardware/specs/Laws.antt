@@ -12,8 +12,8 @@ use Rattle.rv_arch.specs.Trap.{interrupt_cause}
 use Rattle.rv_memory.specs.Memory.{Layout}
 use Rattle.rv_hardware.specs.Headline.{told}
 use Rattle.rv_hardware.specs.Issue.{kind_of_word}
-use Rattle.rv_hardware.specs.Stamps.{rows_of, steps_below, steps_in, EachBehind, EachNext, instruction_of_row, is_store_row, is_load_row, is_fence_i_row, known_in, needs_no_unit, is_row_of_kind, sources_of_row, producer_among, flushes, is_interrupt, is_fetched_in, is_dispatched_in, is_issued_in, is_broadcast_in, is_buffered_in, is_in_flight_in, is_stationed_in, is_executing_in, is_queued_in, uses_port}
-use Rattle.rv_hardware.specs.Step.{stamp_of}
+use Rattle.rv_hardware.specs.Stamps.{rows_of, steps_below, steps_in, EachBehind, EachNext, instruction_of_row, is_store_row, is_load_row, is_fence_i_row, known_in, needs_no_unit, is_row_of_kind, sources_of_row, producer_among, flushes, is_fetched_in, is_dispatched_in, is_issued_in, is_broadcast_in, is_buffered_in, is_in_flight_in, is_stationed_in, is_executing_in, is_queued_in, uses_port}
+use Rattle.rv_hardware.specs.Step.{stamp_of, is_interrupt}
 use Rattle.rv_hardware.specs.declared.{report.StallCounts.StallCounts, step.Execution.Execution, step.Row.Row, step.Step.Step}
 use Rattle.rv_hardware.specs.declared.step.Step.TheVariants.{Retired, Trap, Interrupt}
 

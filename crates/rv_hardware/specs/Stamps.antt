@@ -47,9 +47,11 @@ last_that test xs = last_from None test xs
 abbrev pub instruction_of_row : Row → Option Instr
 instruction_of_row row = instruction_of row.word
 
+-- the row is a store
 abbrev pub is_store_row : Row → Bool
 is_store_row row = is_store (instruction_of_row row)
 
+-- the row is a load
 abbrev pub is_load_row : Row → Bool
 is_load_row row = is_load (instruction_of_row row)
 
@@ -58,6 +60,7 @@ abbrev pub is_fence_i : Option Instr → Bool
 is_fence_i (Some FenceI) = true
 is_fence_i _ = false
 
+-- the row is FENCE.I
 abbrev pub is_fence_i_row : Row → Bool
 is_fence_i_row row = is_fence_i (instruction_of_row row)
 
@@ -81,6 +84,7 @@ is_row_of_kind kind row = is_of_kind kind (kind_of_word (instruction_of_row row)
 abbrev pub sources_of_row : Row → List (Option ℕ)
 sources_of_row row = sources_of_word (instruction_of_row row)
 
+-- the row writes a register
 abbrev pub writes_register : ℕ → Row → Bool
 writes_register register row = is_target register (target_of_word (instruction_of_row row))
 
@@ -95,26 +99,24 @@ flushes (Retired row) = is_serialising (instruction_of_row row)
 flushes (Trap pc cause value cycle) = true
 flushes (Interrupt pc cause cycle) = true
 
--- the step is an interrupt
-abbrev pub is_interrupt : Step → Bool
-is_interrupt (Retired row) = false
-is_interrupt (Trap pc cause value cycle) = false
-is_interrupt (Interrupt pc cause cycle) = true
-
 -- the execution of a row passes a test, where it has one
 abbrev pub passes : (Execution → Bool) → Option Execution → Bool
 passes test None = false
 passes test (Some execution) = test execution
 
+-- its word was fetched in a cycle
 abbrev pub is_fetched_in : ℕ → Row → Bool
 is_fetched_in cycle row = row.fetched == cycle
 
+-- it was dispatched in a cycle
 abbrev pub is_dispatched_in : ℕ → Row → Bool
 is_dispatched_in cycle row = row.dispatched == cycle
 
+-- it left for a unit of a kind in a cycle
 abbrev pub is_issued_in : Kind → ℕ → Row → Bool
 is_issued_in kind cycle row = is_row_of_kind kind row && passes (λ execution. execution.issued == cycle) row.execution
 
+-- its result was broadcast in a cycle
 abbrev pub is_broadcast_in : ℕ → Row → Bool
 is_broadcast_in cycle row = passes (λ execution. execution.broadcast == cycle) row.execution
 

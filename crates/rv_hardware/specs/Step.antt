@@ -27,3 +27,21 @@ abbrev pub pc_of : Step → ℕ
 pc_of (Retired row) = row.pc
 pc_of (Trap pc cause value cycle) = pc
 pc_of (Interrupt pc cause cycle) = pc
+
+-- the step is a retirement
+abbrev pub is_retirement : Step → Bool
+is_retirement (Retired row) = true
+is_retirement (Trap pc cause value cycle) = false
+is_retirement (Interrupt pc cause cycle) = false
+
+-- the step is a trap
+abbrev pub is_trap : Step → Bool
+is_trap (Retired row) = false
+is_trap (Trap pc cause value cycle) = true
+is_trap (Interrupt pc cause cycle) = false
+
+-- the step is an interrupt
+abbrev pub is_interrupt : Step → Bool
+is_interrupt (Retired row) = false
+is_interrupt (Trap pc cause value cycle) = false
+is_interrupt (Interrupt pc cause cycle) = true

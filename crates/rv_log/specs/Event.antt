@@ -51,5 +51,6 @@ end_at cycle number (Retired order retired written) = retirement_at cycle number
 end_at cycle number (Trapped trapped cause) = flush_at cycle number trapped
 end_at cycle number (Squashed squashed) = flush_at cycle number squashed
 
+-- how an instruction left the hardware in a cycle
 unfoldable pub left_at : ℕ → Passage → List ℕ
 left_at cycle passage = end_at cycle passage.number passage.ending

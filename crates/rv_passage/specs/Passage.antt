@@ -11,6 +11,7 @@ use Rattle.rv_hardware.specs.declared.step.{Execution.Execution, Row.Row}
 use Rattle.rv_passage.specs.declared.passage.{Ending.Ending, Passage.Passage}
 use Rattle.rv_passage.specs.declared.passage.Ending.TheVariants as ending
 
+-- the instruction is in flight
 abbrev pub is_running : Ending → Bool
 is_running ending.InFlight = true
 is_running (ending.Retired order cycle written) = false
@@ -72,12 +73,15 @@ retired_by row order p = record {
   ending = ending.Retired order row.retired row.written;
 }
 
+-- it trapped in a cycle
 abbrev pub trapped_by : Cause → ℕ → Passage → Passage
 trapped_by cause cycle p = record p { ending = ending.Trapped cycle cause }
 
+-- it was squashed in a cycle
 abbrev pub squashed_in : ℕ → Passage → Passage
 squashed_in cycle p = record p { ending = ending.Squashed cycle }
 
+-- the same passage under a number
 abbrev pub numbered : ℕ → Passage → Passage
 numbered number p = record p { number = number }
 

@@ -13,6 +13,7 @@ pub record Passages : Type 0 where
   pub fetched : ℕ
   pub retired : ℕ
 
+-- what a table holds
 abbrev pub passages_of : Table → Passages
 passages_of t = record { rows = t.rows.items; interrupts = t.interrupts.items; fetched = t.fetched; retired = t.retired }
 
@@ -36,6 +37,7 @@ with_step (step.Retired row) t = record t { rows = with_oldest (retired_by row t
 with_step (step.Trap pc cause value cycle) t = record t { rows = with_oldest (trapped_by cause cycle) t.rows }
 with_step (step.Interrupt pc cause cycle) t = record t { interrupts = t.interrupts ++ cycle ∷ [] }
 
+-- steps one after another
 abbrev pub with_steps : List Step → Passages → Passages
 with_steps [] t = t
 with_steps (s ∷ ss) t = with_steps ss (with_step s t)

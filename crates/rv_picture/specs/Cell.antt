@@ -5,11 +5,12 @@ use Rattle.rv_passage.specs.declared.passage.Ending.TheVariants.{InFlight, Retir
 use Rattle.rv_picture.specs.declared.{cell.Cell.Cell, window.Window.Window}
 use Rattle.rv_picture.specs.declared.cell.Cell.TheVariants as cell
 
--- a phase came in this cycle, or before it
+-- a phase came in this cycle
 abbrev pub is_at : ℕ → Option ℕ → Bool
 is_at cycle None = false
 is_at cycle (Some stamp) = stamp == cycle
 
+-- a phase came before this cycle
 abbrev pub is_past : ℕ → Option ℕ → Bool
 is_past cycle None = false
 is_past cycle (Some stamp) = nat_lt stamp cycle
@@ -50,7 +51,7 @@ unfoldable pub has_cell : Window → Passage → Bool
 has_cell window passage =
     nat_lt 0 window.cycles && nat_lt passage.fetched (window.first + window.cycles) && not (is_past window.first (left_in passage.ending))
 
--- the letter of a cell, what it is called, and its class in the style of an SVG
+-- the letter of a cell
 unfoldable pub letter_of : Cell → List ℕ
 letter_of cell.Fetch = codes "F"
 letter_of cell.Dispatch = codes "D"
@@ -62,6 +63,7 @@ letter_of cell.Trap = codes "T"
 letter_of cell.Squash = codes "x"
 letter_of cell.Wait = codes "."
 
+-- what a cell is called
 unfoldable pub name_of : Cell → List ℕ
 name_of cell.Fetch = codes "fetch"
 name_of cell.Dispatch = codes "dispatch"
@@ -73,6 +75,7 @@ name_of cell.Trap = codes "trap"
 name_of cell.Squash = codes "squash"
 name_of cell.Wait = codes "wait"
 
+-- the class of a cell in the style of an SVG
 unfoldable pub class_of : Cell → List ℕ
 class_of cell.Fetch = codes "f"
 class_of cell.Dispatch = codes "d"

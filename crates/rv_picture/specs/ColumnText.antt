@@ -5,6 +5,7 @@ use Rattle.rv_picture.specs.TextPicture.{cell_at, interrupt_at, scale_at}
 use Rattle.rv_picture.specs.declared.{columns.Columns.Columns, window.Window.Window}
 use Rattle.rv_picture.specs.declared.columns.Columns.TheVariants.{Scale, Letters, Marks, Tenths, Boxes}
 
+-- what stands in a column of a line of this sort
 abbrev pub column_text : Columns → Window → ℕ → List ℕ
 column_text Scale window = scale_at window
 column_text (Letters passage) window = cell_at window passage.now

@@ -2,6 +2,7 @@
 use Rattle.std.specs.Prelude.{ℕ, List, ◌++◌, codes, decimal}
 use Rattle.rv_picture.specs.Places.{height_of, legend_y, width_of}
 
+-- the first line of an SVG of a width and a height
 unfoldable pub svg_sized : List ℕ → List ℕ → List ℕ
 svg_sized width height =
     codes "<svg xmlns='http://www.w3.org/2000/svg' width='" ++ (width ++ (codes "' height='" ++ (height ++
@@ -54,6 +55,7 @@ legend_entries =
     codes "</g>\n" ++ (
     codes "</svg>\n")))))))))))
 
+-- the legend begins so far from the top
 unfoldable pub legend_begin : List ℕ → List ℕ
 legend_begin y = codes "<g transform='translate(8 " ++ (y ++ codes ")'>\n")
 

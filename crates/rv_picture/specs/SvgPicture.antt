@@ -50,10 +50,12 @@ cell_box class x name cycle letter =
     (codes " 0)'><title>" ++ (name ++ (codes " in cycle " ++ (cycle ++
     (codes "</title><rect width='14' height='18'/><text x='7' y='13'>" ++ (letter ++ codes "</text></g>\n")))))))))
 
+-- the box of a cell in a column, and nothing where there is none
 unfoldable pub box_of : Option Cell → ℕ → ℕ → List ℕ
 box_of None column cycle = []
 box_of (Some cell) column cycle = cell_box (class_of cell) (decimal (column_x column)) (name_of cell) (decimal cycle) (letter_of cell)
 
+-- the box of an instruction in a column of a window
 unfoldable pub box_at : Window → Passage → ℕ → List ℕ
 box_at window passage column = box_of (cell_of passage (window.first + column)) column (window.first + column)
 
@@ -64,6 +66,7 @@ row_class (Retired order cycle written) = codes "done"
 row_class (Trapped cycle cause) = codes "trap"
 row_class (Squashed cycle) = codes "out"
 
+-- a row with its class, so far from the top, and its address
 unfoldable pub row_begin : List ℕ → List ℕ → List ℕ → List ℕ
 row_begin class y pc =
     codes "<g class='" ++ (class ++ (codes "' transform='translate(0 " ++ (y ++
@@ -81,6 +84,7 @@ svg_row listing window place passage =
 unfoldable pub placed_row : Listed → Window → ℕ → Passage → List ℕ
 placed_row listing window place passage = if has_cell window passage then svg_row listing window place passage else []
 
+-- how many rows an instruction takes
 abbrev pub rows_of : Window → Passage → ℕ
 rows_of window passage = if has_cell window passage then 1 else 0
 

@@ -31,6 +31,7 @@ unfoldable pub room_behind : Option (ℕ × ℕ) → List ℕ
 room_behind None = blanks 12
 room_behind (Some written) = blanks (3 - length (decimal written.0))
 
+-- what was written, and blanks behind it
 unfoldable pub written_field : Option (ℕ × ℕ) → List ℕ
 written_field written = written_text written ++ room_behind written
 
@@ -39,6 +40,7 @@ unfoldable pub cell_text : Option Cell → List ℕ
 cell_text None = codes " "
 cell_text (Some cell) = letter_of cell
 
+-- what an instruction shows in a column of a window
 unfoldable pub cell_at : Window → Passage → ℕ → List ℕ
 cell_at window passage column = cell_text (cell_of passage (window.first + column))
 
@@ -59,6 +61,7 @@ unfoldable pub interrupt_at : Window → List ℕ → ℕ → List ℕ
 interrupt_at window interrupts column =
     if list_any (λ cycle. cycle == window.first + column) interrupts then codes "!" else codes " "
 
+-- the line of the interrupts
 unfoldable pub mark_line : Window → List ℕ → List ℕ
 mark_line window interrupts =
     codes "interrupts                                             " ++ (columns window (interrupt_at window interrupts) ++ codes "\n")
@@ -67,6 +70,7 @@ mark_line window interrupts =
 unfoldable pub interrupt_line : Window → List ℕ → List ℕ
 interrupt_line window interrupts = if length interrupts == 0 then [] else mark_line window interrupts
 
+-- what the letters mean
 unfoldable pub legend_line : List ℕ
 legend_line = codes "F fetch  D dispatch  I issue  = execution  B broadcast  C retirement  T trap  x squash  . wait  ! interrupt\n"
 

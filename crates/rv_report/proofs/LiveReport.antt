@@ -15,12 +15,13 @@ use Rattle.rv_core.proofs.RunReports.{IsUnderWay, begins, counted_now, goes_now,
 use Rattle.rv_core.proofs.RunStops.{is_stop}
 use Rattle.rv_hardware.specs.Hardware.{Hardware}
 use Rattle.rv_hardware.specs.Run.{IsStop, steps_of}
+use Rattle.rv_hardware.specs.Step.{is_interrupt, is_retirement, is_trap}
 use Rattle.rv_hardware.specs.declared.step.Step.{Step}
 use Rattle.rv_hardware.proofs.HeadlineReached.{cycles_counted}
 use Rattle.rv_report.specs.LiveReport.{IsRunReport, IsTraced, Reports}
 use Rattle.rv_report.specs.Rows.{step_line, trace_lines}
 use Rattle.rv_report.specs.RunReport.{end_of, run_report, trace_of}
-use Rattle.rv_report.specs.Totals.{HasRoom, both_counts, counts_of, is_interrupt, is_retired, is_trap, totals_with}
+use Rattle.rv_report.specs.Totals.{HasRoom, both_counts, counts_of, totals_with}
 use Rattle.rv_text.specs.Written.{AppendsBeginning, IsWritten}
 use Rattle.rv_report.specs.declared.options.Options.{Options}
 use Rattle.rv_report.specs.declared.totals.StepCounts.{StepCounts}
@@ -47,7 +48,7 @@ count_by-append p xs ys = sum_by-append _ xs ys
 
 counts_of-append : (xs ys : List Step) → counts_of (xs ++ ys) ≡ both_counts (counts_of xs) (counts_of ys)
 counts_of-append xs ys = λ i. record {
-  retired = count_by-append is_retired xs ys i;
+  retired = count_by-append is_retirement xs ys i;
   traps = count_by-append is_trap xs ys i;
   interrupts = count_by-append is_interrupt xs ys i;
 }
@@ -124,7 +125,7 @@ module _ (arrivals : List Arrival) (options : Options) where
         let cycles : progress.cycles ≡ length told.way.reports = ap (λ (p : Progress). p.cycles) told.way.counted in
         let steps : length told.steps ≤ 8 * 2 ^ 40 = omega (arith, told.few, cycles, cycles_counted told.way.goes, within) in
         rw told.counted (record {
-          retired = omega (arith, count_by-le-length is_retired told.steps, steps, few);
+          retired = omega (arith, count_by-le-length is_retirement told.steps, steps, few);
           traps = omega (arith, count_by-le-length is_trap told.steps, steps, few);
           interrupts = omega (arith, count_by-le-length is_interrupt told.steps, steps, few);
         })

@@ -1,30 +1,18 @@
 -- What a run came to.
-use Rattle.std.specs.Prelude.{Bool, true, false, List, ◌++◌, codes, count_by, length, ℕ, ◌+◌, ◌^◌, ◌<◌}
+use Rattle.std.specs.Prelude.{List, ◌++◌, codes, count_by, length, ℕ, ◌+◌, ◌^◌, ◌<◌}
 use Rattle.rv_arch.specs.declared.outcome.Stop.{Stop}
 use Rattle.rv_core.specs.declared.outcome.{Outcome.Outcome, Progress.Progress}
 use Rattle.rv_hardware.specs.Report.{Report}
 use Rattle.rv_hardware.specs.Run.{busy_of, longest_gap_of, stalls_of, steps_of}
+use Rattle.rv_hardware.specs.Step.{is_interrupt, is_retirement, is_trap}
 use Rattle.rv_hardware.specs.declared.{report.StallCounts.StallCounts, step.Step.Step}
-use Rattle.rv_hardware.specs.declared.step.Step.TheVariants.{Retired, Trap, Interrupt}
 use Rattle.rv_text.specs.Line.{line_of, count_line, ratio_text}
 use Rattle.rv_report.specs.declared.totals.{StepCounts.StepCounts, Totals.Totals}
-
-abbrev pub is_retired : Step → Bool
-is_retired (Retired row) = true
-is_retired _ = false
-
-abbrev pub is_trap : Step → Bool
-is_trap (Trap pc cause value cycle) = true
-is_trap _ = false
-
-abbrev pub is_interrupt : Step → Bool
-is_interrupt (Interrupt pc cause cycle) = true
-is_interrupt _ = false
 
 -- how many steps there are of each sort
 abbrev pub counts_of : List Step → StepCounts
 counts_of steps = record {
-  retired = count_by is_retired steps;
+  retired = count_by is_retirement steps;
   traps = count_by is_trap steps;
   interrupts = count_by is_interrupt steps;
 }

@@ -1,5 +1,6 @@
 ghost use Rattle.std.specs.Prelude.{◌≡◌, ◌+◌, ◌<◌, ◌^◌, if◌then◌else◌, length};
-ghost use Rattle.rv_report.specs.Totals.{HasRoom, is_retired, is_trap, is_interrupt, both_counts, counts_of, totals_of, totals_with};
+ghost use Rattle.rv_hardware.specs.Step.{is_interrupt, is_retirement, is_trap};
+ghost use Rattle.rv_report.specs.Totals.{HasRoom, both_counts, counts_of, totals_of, totals_with};
 
 use rv_arch::Stop;
 use rv_core::{Outcome, Progress};
@@ -20,7 +21,7 @@ impl StepCounts {
         requires retired { self.old.retired + 1 < 2 ^ 64 }
         requires traps { self.old.traps + 1 < 2 ^ 64 }
         requires interrupts { self.old.interrupts + 1 < 2 ^ 64 }
-        ensures retired { self.new.retired ≡ self.old.retired + (if is_retired step.now then 1 else 0) }
+        ensures retired { self.new.retired ≡ self.old.retired + (if is_retirement step.now then 1 else 0) }
         ensures traps { self.new.traps ≡ self.old.traps + (if is_trap step.now then 1 else 0) }
         ensures interrupts { self.new.interrupts ≡ self.old.interrupts + (if is_interrupt step.now then 1 else 0) }
     {

@@ -1,8 +1,9 @@
 use Rattle.std.proofs.Common.{◌≡◌, ◌∙◌, ℕ, ◌+◌, Bool, List, length, take, get_or, ◌<◌, count_by, ap, arith, sym}
 use Rattle.std.specs.Prelude.{if◌then◌else◌}
 use Rattle.std.proofs.lemmas.List.{take_all}
+use Rattle.rv_hardware.specs.Step.{is_interrupt, is_retirement, is_trap}
 use Rattle.rv_hardware.specs.declared.step.Step.{Step}
-use Rattle.rv_report.specs.Totals.{counts_of, is_retired, is_trap, is_interrupt}
+use Rattle.rv_report.specs.Totals.{counts_of}
 use Rattle.rv_report.proofs.Counts.{count_by-few, count_by-more}
 use Rattle.rv_report.proofs.totals.count_steps.Goals as goal
 
@@ -13,7 +14,7 @@ loop-step-init c =
 
 pub count-requires-clause-retired : goal.count-requires-clause-retired
 count-requires-clause-retired c =
-    let few = count_by-few is_retired c.args.steps.now c.loop-step.step-index _ (omega (arith, c.loop-step-test.true)) (ap (λ counts. counts.retired) c.loop-step.invariant) in
+    let few = count_by-few is_retirement c.args.steps.now c.loop-step.step-index _ (omega (arith, c.loop-step-test.true)) (ap (λ counts. counts.retired) c.loop-step.invariant) in
     omega (arith, few, c.loop-step-test.true)
 
 pub count-requires-clause-traps : goal.count-requires-clause-traps
@@ -38,7 +39,7 @@ loop-step-preserved c =
     let step = c.step-item.result in
     let before = c.loop-step.invariant in
     let here = c.loop-step-test.true in
-    let retired = counted_more is_retired steps place step step _ _ here c.step-item.is (ap (λ counts. counts.retired) before) c.count.ensures.retired in
+    let retired = counted_more is_retirement steps place step step _ _ here c.step-item.is (ap (λ counts. counts.retired) before) c.count.ensures.retired in
     let traps = counted_more is_trap steps place step step _ _ here c.step-item.is (ap (λ counts. counts.traps) before) c.count.ensures.traps in
     let interrupts = counted_more is_interrupt steps place step step _ _ here c.step-item.is (ap (λ counts. counts.interrupts) before) c.count.ensures.interrupts in
     λ i. record { retired = retired i; traps = traps i; interrupts = interrupts i }
