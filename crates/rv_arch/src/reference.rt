@@ -12,9 +12,13 @@ ghost use Rattle.rv_arch.specs.State.{IsState, register_of, with_register, write
 ghost use Rattle.rv_arch.specs.Step.{trap_taken};
 ghost use Rattle.rv_arch.specs.Trap.{returned};
 
+mod execution;
+mod step;
+
 use crate::csr::{CsrOperand, Illegal};
 use crate::csrs::Csrs;
 use crate::observed::Observed;
+pub use execution::extended;
 use rv_isa::{CsrAddress, CsrOp, CsrSource, Lines, Reg, Width};
 use rv_memory::{Ram, StaleMap};
 use std::alloc::{AllocError, Global};
