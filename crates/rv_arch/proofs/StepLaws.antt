@@ -119,11 +119,7 @@ module _ {layout : Layout} {s : State} {lines : Lines} (once : IsOneAtMost layou
 
   -- what retires stays in RAM
   pub retired_stays : {o : RefStep} {t : State} → Step layout s lines o t → is_retired o ≡ true → StaysInRam layout s
-  retired_stays (interrupted code due) found = absurd (cc)
-  retired_stays (unfetched due out) found = absurd (cc)
-  retired_stays (stale due inside marked) found = absurd (cc)
-  retired_stays (illegal fetched none) found = absurd (cc)
-  retired_stays (faulted fetched i decoded cause value faults) found = absurd (cc)
   retired_stays (retired fetched i decoded written next retires) found = λ j decodes.
       let same = once.one j i fetched decodes decoded in
       rw same (effect_in_ram layout s lines (word_at_pc layout s) i written next retires)
+  retired_stays _ found = absurd (cc)

@@ -8,12 +8,12 @@ use Rattle.rv_isa.specs.declared.causes.Cause.TheVariants.{IllegalInstruction}
 use Rattle.rv_isa.specs.declared.instructions.Instr.{Instr}
 use Rattle.rv_isa.specs.declared.lines.Lines.{Lines}
 use Rattle.rv_arch.specs.declared.outcome.RefStep.{RefStep}
-use Rattle.rv_arch.specs.declared.outcome.RefStep.TheVariants.{Retired, Trap, Interrupt, Stale}
+use Rattle.rv_arch.specs.declared.outcome.RefStep.TheVariants.{Retired, Trap, Stale}
 use Rattle.rv_arch.specs.Effect.{effect, Retires, Faults}
 use Rattle.rv_memory.specs.Memory.{Layout}
 use Rattle.rv_arch.specs.Run.{is_stale}
 use Rattle.rv_arch.specs.State.{State}
-use Rattle.rv_arch.specs.Step.{Step, IsFetched, trap_taken, word_at_pc, interrupted, unfetched, stale, illegal, faulted, retired}
+use Rattle.rv_arch.specs.Step.{Step, IsFetched, trap_taken, word_at_pc, stale, illegal, faulted, retired}
 
 module _ (layout : Layout) (s : State) (lines : Lines) where
   pub same_step : {o o' : RefStep} {t t' : State} → o' ≡ o → t' ≡ t → Step layout s lines o t → Step layout s lines o' t'
@@ -37,26 +37,16 @@ module _ (layout : Layout) (s : State) (lines : Lines) where
 
 -- a step that finds a stale word changes nothing, and finds it again
 pub stale_keeps : {layout : Layout} {s t : State} {lines : Lines} {o : RefStep} → Step layout s lines o t → is_stale o ≡ true → t ≡ s
-stale_keeps (interrupted code due) found = cc
-stale_keeps (unfetched due out) found = cc
 stale_keeps (stale due inside marked) found = refl
-stale_keeps (illegal fetched none) found = cc
-stale_keeps (faulted fetched i decoded cause value faults) found = cc
-stale_keeps (retired fetched i decoded written next retires) found = cc
+stale_keeps _ found = cc
 
 pub stale_once : {layout : Layout} {s t : State} {lines : Lines} {o : RefStep} → Step layout s lines o t → is_stale o ≡ true → Step layout t lines o t
 stale_once {layout} {s} {t} {lines} {o} step found = subst (λ u. Step layout u lines o t) (sym (stale_keeps step found)) step
 
 pub stale_again : {layout : Layout} {s t : State} {lines : Lines} {o : RefStep} → Step layout s lines o t → is_stale o ≡ true → Step layout t lines (Stale t.pc) t
-stale_again (interrupted code due) found = cc
-stale_again (unfetched due out) found = cc
 stale_again (stale due inside marked) found = stale due inside marked
-stale_again (illegal fetched none) found = cc
-stale_again (faulted fetched i decoded cause value faults) found = cc
-stale_again (retired fetched i decoded written next retires) found = cc
+stale_again _ found = cc
 
 pub not_stale : (o : RefStep) → ((pc : ℕ) → o ≡ Stale pc → ⊥) → is_stale o ≡ false
-not_stale (Retired pc word written) other = refl
-not_stale (Trap pc cause value) other = refl
-not_stale (Interrupt pc cause) other = refl
 not_stale (Stale pc) other = absurd (other pc refl)
+not_stale _ other = refl

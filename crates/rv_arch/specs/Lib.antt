@@ -4,7 +4,6 @@ pub mod Due
 pub mod Effect
 pub mod Machine
 pub mod MachineCode
-pub mod Performed
 pub mod Reset
 pub mod Run
 pub mod RunOutcome

@@ -6,19 +6,16 @@
 mod csr;
 mod csr_fields;
 mod csrs;
-mod execution;
 mod observed;
 mod outcome;
 mod reference;
 mod run;
-mod step;
 #[cfg(test)]
 mod tests;
 
 pub use csr::{CsrOperand, Illegal};
 pub use csrs::Csrs;
-pub use execution::extended;
 pub use observed::Observed;
 pub use outcome::{RefOutcome, RefStep, Stop};
-pub use reference::Reference;
+pub use reference::{Reference, extended};
 pub use run::run_reference;

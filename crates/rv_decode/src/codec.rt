@@ -1,5 +1,7 @@
 //! The rows of the table as instructions, both ways.
 
+#![tactic(auto, using(crate::proofs::Rows::rows), unfolding(crate::specs::InstructionTable::table))]
+
 ghost use Rattle.std.specs.Prelude.{◌≡◌, ◌↔◌, IfSome, IsNone, Some};
 ghost use Rattle.rv_isa.specs.declared.instructions.Instr.{Instr};
 ghost use Rattle.rv_decode.specs.Decodes.{Decodes, IsIllegal, FitsOneRowAtMost, instruction_of};
@@ -28,7 +30,6 @@ pub fn decode(word: u32) -> Option<Instr>
     by_opcode(word)
 }
 
-#[tactic(auto, using(crate::proofs::Rows::rows))]
 fn by_opcode(word: u32) -> Option<Instr>
     ensures { result ≡ instruction_of word }
 {
@@ -88,7 +89,6 @@ fn by_opcode(word: u32) -> Option<Instr>
     }
 }
 
-#[tactic(auto, using(crate::proofs::Rows::rows))]
 fn op_imm(word: u32) -> Option<Instr>
     requires { opcode word ≡ OP_IMM }
     ensures { result ≡ instruction_of word }
@@ -109,7 +109,6 @@ fn op_imm(word: u32) -> Option<Instr>
     }
 }
 
-#[tactic(auto, using(crate::proofs::Rows::rows))]
 fn system(word: u32) -> Option<Instr>
     requires { opcode word ≡ SYSTEM }
     ensures { result ≡ instruction_of word }
@@ -149,7 +148,6 @@ pub fn encode(instruction: &Instr) -> u32
     word_of(instruction)
 }
 
-#[tactic(auto, using(crate::proofs::Rows::rows))]
 fn word_of(instruction: &Instr) -> u32
     ensures function { instruction_of result ≡ Some instruction.now }
     ensures fence { instruction.now ≡ Instr.Fence → result ≡ 0x0ff0000f }

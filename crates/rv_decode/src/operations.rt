@@ -4,13 +4,14 @@
 
 ghost use Rattle.std.specs.Prelude.{◌≡◌, ℕ, ◌+◌, ◌<◌, ◌⊎◌, IfSome, IsNone, Some, option_map};
 ghost use Rattle.rv_decode.specs.Decodes.{by_rows};
+ghost use Rattle.rv_decode.specs.Operand.{funct7};
 ghost use Rattle.rv_decode.specs.InstructionTable.{table, branch, load, store, op_immediate, shift, op, csr, csr_with_immediate};
 
 use crate::opcodes::{BRANCH, LOAD, OP, OP_IMM, STORE, SYSTEM};
 use rv_isa::{AluOp, Condition, CsrOp, ImmediateOp, LoadForm, ShiftOp, Width};
 
 pub fn condition(funct3: u32) -> Option<Condition>
-    ensures { (word seventh : ℕ) → by_rows table word BRANCH funct3 seventh ≡ option_map (λ condition. branch condition word) result }
+    ensures { (word : ℕ) → by_rows table word BRANCH funct3 (funct7 word) ≡ option_map (λ condition. branch condition word) result }
 {
     match funct3 {
         0b000 => Some(Condition::Equal),
@@ -25,7 +26,7 @@ pub fn condition(funct3: u32) -> Option<Condition>
 
 pub fn branch_funct3(condition: Condition) -> u32
     ensures fits { result < 8 }
-    ensures listed { (word seventh : ℕ) → by_rows table word BRANCH result seventh ≡ Some (branch condition word) }
+    ensures listed { (word : ℕ) → by_rows table word BRANCH result (funct7 word) ≡ Some (branch condition word) }
 {
     match condition {
         Condition::Equal => 0b000,
@@ -38,7 +39,7 @@ pub fn branch_funct3(condition: Condition) -> u32
 }
 
 pub fn load_form(funct3: u32) -> Option<LoadForm>
-    ensures { (word seventh : ℕ) → by_rows table word LOAD funct3 seventh ≡ option_map (λ form. load form word) result }
+    ensures { (word : ℕ) → by_rows table word LOAD funct3 (funct7 word) ≡ option_map (λ form. load form word) result }
 {
     match funct3 {
         0b000 => Some(LoadForm::Byte),
@@ -52,7 +53,7 @@ pub fn load_form(funct3: u32) -> Option<LoadForm>
 
 pub fn load_funct3(form: LoadForm) -> u32
     ensures fits { result < 8 }
-    ensures listed { (word seventh : ℕ) → by_rows table word LOAD result seventh ≡ Some (load form word) }
+    ensures listed { (word : ℕ) → by_rows table word LOAD result (funct7 word) ≡ Some (load form word) }
 {
     match form {
         LoadForm::Byte => 0b000,
@@ -64,7 +65,7 @@ pub fn load_funct3(form: LoadForm) -> u32
 }
 
 pub fn width(funct3: u32) -> Option<Width>
-    ensures { (word seventh : ℕ) → by_rows table word STORE funct3 seventh ≡ option_map (λ width. store width word) result }
+    ensures { (word : ℕ) → by_rows table word STORE funct3 (funct7 word) ≡ option_map (λ width. store width word) result }
 {
     match funct3 {
         0b000 => Some(Width::Byte),
@@ -76,7 +77,7 @@ pub fn width(funct3: u32) -> Option<Width>
 
 pub fn store_funct3(width: Width) -> u32
     ensures fits { result < 8 }
-    ensures listed { (word seventh : ℕ) → by_rows table word STORE result seventh ≡ Some (store width word) }
+    ensures listed { (word : ℕ) → by_rows table word STORE result (funct7 word) ≡ Some (store width word) }
 {
     match width {
         Width::Byte => 0b000,
@@ -87,7 +88,7 @@ pub fn store_funct3(width: Width) -> u32
 
 pub fn immediate_op(funct3: u32) -> Option<ImmediateOp>
     requires { funct3 < 8 }
-    ensures found { IfSome result (λ op. (word seventh : ℕ) → by_rows table word OP_IMM funct3 seventh ≡ Some (op_immediate op word)) }
+    ensures found { IfSome result (λ op. (word : ℕ) → by_rows table word OP_IMM funct3 (funct7 word) ≡ Some (op_immediate op word)) }
     ensures shift { IsNone result → (funct3 ≡ 1) ⊎ (funct3 ≡ 5) }
 {
     match funct3 {
@@ -103,7 +104,7 @@ pub fn immediate_op(funct3: u32) -> Option<ImmediateOp>
 
 pub fn op_immediate_funct3(operation: ImmediateOp) -> u32
     ensures fits { result < 8 }
-    ensures listed { (word seventh : ℕ) → by_rows table word OP_IMM result seventh ≡ Some (op_immediate operation word) }
+    ensures listed { (word : ℕ) → by_rows table word OP_IMM result (funct7 word) ≡ Some (op_immediate operation word) }
 {
     match operation {
         ImmediateOp::Addi => 0b000,
@@ -201,8 +202,8 @@ pub fn op_funct(operation: AluOp) -> (u32, u32)
 /// The operation on a CSR; 4 more is the same with an immediate.
 pub fn csr_op(funct3: u32) -> Option<CsrOp>
     requires { funct3 < 4 }
-    ensures register { (word seventh : ℕ) → 0 < funct3 → by_rows table word SYSTEM funct3 seventh ≡ option_map (λ op. csr op word) result }
-    ensures immediate { (word third seventh : ℕ) → third ≡ funct3 + 4 → by_rows table word SYSTEM third seventh ≡ option_map (λ op. csr_with_immediate op word) result }
+    ensures register { (word : ℕ) → 0 < funct3 → by_rows table word SYSTEM funct3 (funct7 word) ≡ option_map (λ op. csr op word) result }
+    ensures immediate { (word : ℕ) → by_rows table word SYSTEM (funct3 + 4) (funct7 word) ≡ option_map (λ op. csr_with_immediate op word) result }
 {
     match funct3 {
         0b001 => Some(CsrOp::Write),
@@ -215,8 +216,8 @@ pub fn csr_op(funct3: u32) -> Option<CsrOp>
 /// The selector of an operation with a register; 4 more is that of the same with an immediate.
 pub fn csr_funct3(operation: CsrOp) -> u32
     ensures fits { result < 4 }
-    ensures register { (word seventh : ℕ) → by_rows table word SYSTEM result seventh ≡ Some (csr operation word) }
-    ensures immediate { (word seventh : ℕ) → by_rows table word SYSTEM (result + 4) seventh ≡ Some (csr_with_immediate operation word) }
+    ensures register { (word : ℕ) → by_rows table word SYSTEM result (funct7 word) ≡ Some (csr operation word) }
+    ensures immediate { (word : ℕ) → by_rows table word SYSTEM (result + 4) (funct7 word) ≡ Some (csr_with_immediate operation word) }
 {
     match operation {
         CsrOp::Write => 0b001,

@@ -5,7 +5,7 @@ use Rattle.rv_arch.proofs.reference.Reference.retire_or_fault.Goals as goal
 
 pub returns-in-Ok-clause-step : goal.returns-in-Ok-clause-step
 returns-in-Ok-clause-step c =
-    retired_at _ _ _ c.requires.fetched _ c.pc-pc.ensures.pc _ c.requires.word c.args.instruction c.requires.decoded _ _ c.in-Ok.ensures.0
+    retired_at _ _ _ c.requires.fetched _ (ap (λ (m : Machine). m.state.pc) c.self.view_is) _ c.requires.word c.args.instruction c.requires.decoded _ _ c.in-Ok.ensures.0
 
 pub returns-in-Err-clause-step : goal.returns-in-Err-clause-step
 returns-in-Err-clause-step c =

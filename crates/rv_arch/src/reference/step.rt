@@ -8,8 +8,8 @@ ghost use Rattle.rv_arch.specs.State.{IsState};
 ghost use Rattle.rv_arch.specs.Step.{Step, IsFetched, IsOnlyStep, trap_taken, word_at_pc};
 ghost use Rattle.rv_arch.specs.Trap.{interrupt_cause};
 
+use super::Reference;
 use crate::outcome::RefStep;
-use crate::reference::Reference;
 use rv_decode::decode;
 use rv_isa::{Cause, Instr, Lines, Width};
 
@@ -19,8 +19,8 @@ impl Reference {
         ensures outcome { result ≡ RefStep.Trap self.old.state.pc cause value }
         ensures state { self.new ≡ record self.old { state = trap_taken self.old.state (code_of cause) value } }
     {
-        let pc = self.pc();
-        self.take_trap(cause.code(), value);
+        let pc = self.pc;
+        self.pc = self.csrs.enter_trap(pc, cause.code(), value);
         RefStep::Trap { pc, cause, value }
     }
 
@@ -30,9 +30,9 @@ impl Reference {
         ensures outcome { result ≡ RefStep.Interrupt self.old.state.pc (interrupt_cause code) }
         ensures state { self.new ≡ record self.old { state = trap_taken self.old.state (interrupt_cause code) 0 } }
     {
-        let pc = self.pc();
+        let pc = self.pc;
         let cause = 0x8000_0000 + code;
-        self.take_trap(cause, 0);
+        self.pc = self.csrs.enter_trap(pc, cause, 0);
         RefStep::Interrupt { pc, cause }
     }
 
@@ -44,7 +44,7 @@ impl Reference {
         ensures step { Step self.old.layout self.old.state lines result self.new.state }
         ensures layout { self.new.layout ≡ self.old.layout }
     {
-        let pc = self.pc();
+        let pc = self.pc;
         match self.execute(word, instruction, lines) {
             Ok(written) => RefStep::Retired { pc, word, written },
             Err(fault) => self.trap(fault.cause, fault.value),
@@ -59,14 +59,14 @@ impl Reference {
         ensures in_ram { is_retired result ≡ true → StaysInRam self.old.layout self.old.state }
         ensures layout { self.new.layout ≡ self.old.layout }
     {
-        let pc = self.pc();
-        if !self.is_in_ram(pc, 4) {
+        let pc = self.pc;
+        if !self.ram.in_range(pc, 4) {
             return self.trap(Cause::InstructionAccessFault, pc);
         }
         if self.is_stale(pc) {
             return RefStep::Stale { pc };
         }
-        let word = self.number(pc, Width::Word);
+        let word = self.ram.number(pc, Width::Word);
         match decode(word) {
             None => self.trap(Cause::IllegalInstruction, word),
             Some(instruction) => self.retire_or_fault(word, instruction, lines),
@@ -80,7 +80,7 @@ impl Reference {
         ensures in_ram { is_retired result ≡ true → StaysInRam self.old.layout self.old.state }
         ensures layout { self.new.layout ≡ self.old.layout }
     {
-        match self.due_interrupt(lines) {
+        match self.csrs.due_interrupt(lines) {
             Some(code) => self.interrupt(code),
             None => self.fetch_and_execute(lines),
         }
@@ -104,7 +104,7 @@ impl Reference {
         ensures state { IsState self.new.layout self.new.state }
     {
         let outcome = self.advance(lines);
-        self.set_lines(lines);
+        self.lines = lines;
         outcome
     }
 }

@@ -3,11 +3,11 @@ ghost use Rattle.rv_isa.specs.Operation.{bytes_of, width_of, is_sign_extended};
 ghost use Rattle.rv_isa.specs.Word.{modulo_word, sum, pc_plus_4};
 ghost use Rattle.rv_arch.specs.Csr.{access};
 ghost use Rattle.rv_arch.specs.Effect.{effect, extended, writes, goes_to, jumps, branches, loads, stores, refreshes, accesses, returns_from_trap};
-ghost use Rattle.rv_arch.specs.Performed.{IsPerformed};
+ghost use Rattle.rv_arch.specs.Machine.{IsPerformed};
 ghost use Rattle.rv_arch.specs.State.{register_of};
 
+use super::Reference;
 use crate::csr::CsrOperand;
-use crate::reference::Reference;
 use rv_isa::{
     Cause, CsrAddress, CsrOp, Fault, Immediate, Instr, Lines, LoadForm, Reg, Width, alu,
     branch_taken,
@@ -36,22 +36,47 @@ fn fault(cause: Cause, value: u32) -> Performed
 }
 
 impl Reference {
+    /// The address of the next instruction in memory.
+    fn pc_plus_4(&self) -> u32
+        ensures next { result ≡ pc_plus_4 self.now.state.pc }
+        ensures aligned { result % 4 ≡ 0 }
+    {
+        self.pc.wrapping_add(4)
+    }
+
+    /// The value of a register.
+    fn register(&self, register: Reg) -> u32
+        ensures { result ≡ register_of self.now.state register }
+    {
+        self.registers[register.index()]
+    }
+
+    /// Writes a register, where x0 drops what is written, and goes on at an address.
+    fn write(&mut self, rd: Reg, value: u32, next: u32) -> Performed
+        requires { next % 4 ≡ 0 }
+        ensures { IsPerformed (writes self.old.state rd value next) result self.old self.new }
+    {
+        self.pc = next;
+        if rd == Reg::ZERO {
+            return Ok(None);
+        }
+        self.registers[rd.index()] = value;
+        Ok(Some((rd, value)))
+    }
+
     /// Writes a register and goes on behind the instruction.
     fn compute(&mut self, rd: Reg, value: u32) -> Performed
         ensures { IsPerformed (writes self.old.state rd value (pc_plus_4 self.old.state.pc)) result self.old self.new }
     {
         let next = self.pc_plus_4();
-        let written = self.write(rd, value);
-        self.go_to(next);
-        Ok(written)
+        self.write(rd, value, next)
     }
 
     /// Goes on behind the instruction.
     fn pass(&mut self) -> Performed
         ensures { IsPerformed (goes_to self.old.state (pc_plus_4 self.old.state.pc)) result self.old self.new }
     {
-        let next = self.pc_plus_4();
-        self.go_to(next);
+        self.pc = self.pc_plus_4();
         Ok(None)
     }
 
@@ -63,9 +88,7 @@ impl Reference {
             return fault(Cause::InstructionAddressMisaligned, target);
         }
         let link = self.pc_plus_4();
-        let written = self.write(rd, link);
-        self.go_to(target);
-        Ok(written)
+        self.write(rd, link, target)
     }
 
     /// Branches where the branch is taken.
@@ -75,7 +98,7 @@ impl Reference {
         if !is_taken {
             self.pass()
         } else if target % 4 == 0 {
-            self.go_to(target);
+            self.pc = target;
             Ok(None)
         } else {
             fault(Cause::InstructionAddressMisaligned, target)
@@ -90,10 +113,10 @@ impl Reference {
         if address % width.bytes() != 0 {
             return fault(Cause::LoadAddressMisaligned, address);
         }
-        if !self.is_in_ram(address, width.bytes()) {
+        if !self.ram.in_range(address, width.bytes()) {
             return fault(Cause::LoadAccessFault, address);
         }
-        let number = self.number(address, width);
+        let number = self.ram.number(address, width);
         self.compute(rd, extended(form, number))
     }
 
@@ -104,10 +127,11 @@ impl Reference {
         if address % width.bytes() != 0 {
             return fault(Cause::StoreAddressMisaligned, address);
         }
-        if !self.is_writable(address, width.bytes()) {
+        if !self.ram.writable(address, width.bytes()) {
             return fault(Cause::StoreAccessFault, address);
         }
-        self.store_bytes(address, width, word);
+        self.ram.store(address, width, word);
+        self.stale.mark(address);
         self.pass()
     }
 
@@ -115,7 +139,7 @@ impl Reference {
     fn fence_instructions(&mut self) -> Performed
         ensures { IsPerformed (refreshes self.old.state) result self.old self.new }
     {
-        self.make_fresh();
+        self.stale.clear();
         self.pass()
     }
 
@@ -131,17 +155,17 @@ impl Reference {
     ) -> Performed
         ensures { IsPerformed (accesses self.old.state word rd (access self.old.state.csrs lines op csr operand)) result self.old self.new }
     {
-        match self.access(op, csr, operand, lines) {
+        match self.csrs.csr_access(op, csr, operand, lines) {
             Ok(old) => self.compute(rd, old),
             Err(_) => fault(Cause::IllegalInstruction, word),
         }
     }
 
     /// Returns from a trap.
-    fn return_to_trapped(&mut self) -> Performed
+    fn return_from_trap(&mut self) -> Performed
         ensures { IsPerformed (returns_from_trap self.old.state) result self.old self.new }
     {
-        self.return_from_trap();
+        self.pc = self.csrs.mret();
         Ok(None)
     }
 
@@ -152,11 +176,11 @@ impl Reference {
         match instruction {
             Instr::Lui { rd, immediate } => self.compute(rd, immediate.value() * 4096),
             Instr::Auipc { rd, immediate } => {
-                let value = self.pc_plus(immediate.value() * 4096);
+                let value = self.pc.wrapping_add(immediate.value() * 4096);
                 self.compute(rd, value)
             }
             Instr::Jal { rd, offset } => {
-                let target = self.pc_plus(offset.word());
+                let target = self.pc.wrapping_add(offset.word());
                 self.jump(rd, target)
             }
             Instr::Jalr { rd, rs1, offset } => {
@@ -170,7 +194,7 @@ impl Reference {
                 offset,
             } => {
                 let is_taken = branch_taken(condition, self.register(rs1), self.register(rs2));
-                let target = self.pc_plus(offset.word());
+                let target = self.pc.wrapping_add(offset.word());
                 self.branch(is_taken, target)
             }
             Instr::Load {
@@ -222,12 +246,12 @@ impl Reference {
                 csr,
                 source,
             } => {
-                let operand = self.operand(source);
+                let operand = CsrOperand::new(source, &self.registers);
                 self.access_csr(word, op, rd, csr, operand, lines)
             }
             Instr::Ecall => fault(Cause::EnvironmentCall, 0),
             Instr::Ebreak => fault(Cause::Breakpoint, 0),
-            Instr::Mret => self.return_to_trapped(),
+            Instr::Mret => self.return_from_trap(),
         }
     }
 
