@@ -6,12 +6,13 @@ use Rattle.rv_isa.specs.declared.{bounds.Bounds.Bounds, keys.Key.Key}
 use Rattle.rv_isa.specs.declared.keys.Key.TheVariants.{Number, Recovery, Pipelined, PredictorKind}
 use Rattle.rv_isa.specs.declared.keys.NumberKey.TheVariants.{RamSize}
 use Rattle.rv_isa.specs.Bounds.{is_in_range, is_power}
+use Rattle.rv_isa.specs.Choice.{recovery_named, predictor_named}
 use Rattle.rv_isa.specs.Key.{key_place, row_of, order}
 use Rattle.rv_describe.specs.declared.{description_error.DescriptionError.DescriptionError, faults.ValueFault.ValueFault}
 use Rattle.rv_describe.specs.declared.description_error.DescriptionError.TheVariants as error
 use Rattle.rv_describe.specs.declared.faults.ValueFault.TheVariants.{WrongKind, OutOfRange, NotPowerOfTwo}
 use Rattle.rv_describe.specs.Held.{Held, absent, misplaced, present, held}
-use Rattle.rv_describe.specs.Setting.{word_of, recovery_named, predictor_named, number}
+use Rattle.rv_describe.specs.Setting.{word_of, number}
 
 -- a fault where a test fails
 abbrev pub unless : Bool → ValueFault → Option ValueFault

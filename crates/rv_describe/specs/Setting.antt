@@ -1,12 +1,10 @@
 -- The values that a table of TOML gives a machine.
-use Rattle.std.specs.Prelude.{ℕ, ℤ, pos, negsuc, Bool, List, Option, Some, None, unwrap_or, option_and_then, nat_lt, if◌then◌else◌, codes}
-use Rattle.std.specs.Str.{bytes_eq}
+use Rattle.std.specs.Prelude.{ℕ, ℤ, pos, negsuc, Bool, Option, Some, None, unwrap_or, option_and_then, nat_lt, if◌then◌else◌}
 use Rattle.toml.specs.Data.{Data, Members, as_integer, as_bool, as_str}
 use Rattle.rv_isa.specs.PerKind.{at_kind}
 use Rattle.rv_isa.specs.declared.{keys.Key.Key, keys.NumberKey.NumberKey, operations.Kind.Kind, values.PredictorKind.PredictorKind as Prediction, values.Recovery.Recovery as Mending, values.Values.Values}
 use Rattle.rv_isa.specs.declared.keys.Key.TheVariants.{Number, Recovery, Pipelined, PredictorKind}
-use Rattle.rv_isa.specs.declared.values.PredictorKind.TheVariants.{NotTaken, BackwardTaken, Bimodal}
-use Rattle.rv_isa.specs.declared.values.Recovery.TheVariants.{Commit, Early}
+use Rattle.rv_isa.specs.Choice.{recovery_named, predictor_named}
 use Rattle.rv_isa.specs.Key.{number_of, key_place, values_with}
 use Rattle.rv_isa.specs.Standard.{standard_values}
 use Rattle.rv_describe.specs.Held.{held, value_in}
@@ -15,18 +13,6 @@ use Rattle.rv_describe.specs.Held.{held, value_in}
 abbrev pub word_of : ℤ → Option ℕ
 word_of (pos number) = if nat_lt number 4294967296 then Some number else None
 word_of (negsuc number) = None
-
--- the ways to mend wrong predictions, by their names
-abbrev pub recovery_named : List ℕ → Option Mending
-recovery_named name =
-    if bytes_eq name (codes "commit") then Some Commit else if bytes_eq name (codes "early") then Some Early else None
-
--- the predictors, by their names
-abbrev pub predictor_named : List ℕ → Option Prediction
-predictor_named name =
-    if bytes_eq name (codes "not_taken") then Some NotTaken else
-    if bytes_eq name (codes "backward_taken") then Some BackwardTaken else
-    if bytes_eq name (codes "bimodal") then Some Bimodal else None
 
 -- the value at a key
 abbrev pub value_at : Members → Key → Option Data

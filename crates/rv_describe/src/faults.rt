@@ -1,13 +1,13 @@
 ghost use Rattle.std.specs.Prelude.{◌≡◌, Some};
 ghost use Rattle.std.specs.List.{position_from};
 ghost use Rattle.toml.specs.View.{view, table_view};
+ghost use Rattle.rv_isa.specs.Choice.{recovery_named, predictor_named};
 ghost use Rattle.rv_describe.specs.Fault.{unless, bounds_fault, integer_fault, number_fault, choice_fault, value_fault, key_fault, is_fault, first_place, ram_size_of};
-ghost use Rattle.rv_describe.specs.Setting.{recovery_named, predictor_named};
 
 use crate::held::{Held, look_up};
 use crate::settings::number;
-use crate::words::{predictor_named, recovery_named, word_of};
-use rv_isa::{Bounds, Key, NumberKey, all_keys};
+use crate::words::word_of;
+use rv_isa::{Bounds, Key, NumberKey, PredictorKind, Recovery, all_keys};
 use toml::{Table, Value};
 
 /// What is wrong with a value.
@@ -57,7 +57,7 @@ fn recovery_fault(value: &Value) -> Option<ValueFault>
     ensures { result ≡ choice_fault recovery_named (view value.now) }
 {
     match value.as_str() {
-        Some(name) => unless(recovery_named(name).is_some(), ValueFault::OutOfRange),
+        Some(name) => unless(Recovery::named(name).is_some(), ValueFault::OutOfRange),
         None => Some(ValueFault::WrongKind),
     }
 }
@@ -66,7 +66,7 @@ fn predictor_fault(value: &Value) -> Option<ValueFault>
     ensures { result ≡ choice_fault predictor_named (view value.now) }
 {
     match value.as_str() {
-        Some(name) => unless(predictor_named(name).is_some(), ValueFault::OutOfRange),
+        Some(name) => unless(PredictorKind::named(name).is_some(), ValueFault::OutOfRange),
         None => Some(ValueFault::WrongKind),
     }
 }

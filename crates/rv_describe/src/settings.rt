@@ -4,7 +4,7 @@ ghost use Rattle.rv_isa.specs.Key.{kind_with};
 ghost use Rattle.rv_describe.specs.Setting.{number, is_pipelined, recovery, predictor, values_of};
 
 use crate::held::value_at;
-use crate::words::{predictor_named, recovery_named, word_of};
+use crate::words::word_of;
 use rv_isa::{
     CacheValues, Key, Kind, KindKey, KindValues, NumberKey, PerKind, PredictorKind,
     PredictorValues, Recovery, ReportValues, Values,
@@ -48,7 +48,7 @@ fn recovery(table: &Table) -> Recovery
     let Some(name) = value.as_str() else {
         return default;
     };
-    recovery_named(name).unwrap_or(default)
+    Recovery::named(name).unwrap_or(default)
 }
 
 #[tactic(auto, unfolding(crate::specs::Setting::predictor))]
@@ -62,7 +62,7 @@ fn predictor(table: &Table) -> PredictorKind
     let Some(name) = value.as_str() else {
         return default;
     };
-    predictor_named(name).unwrap_or(default)
+    PredictorKind::named(name).unwrap_or(default)
 }
 
 // The values of the execution units of a kind.

@@ -1,11 +1,16 @@
 -- What the three predictors answer, and what the bimodal one learns.
-use Rattle.std.specs.Prelude.{◌≡◌, ℕ, ◌+◌, ◌-◌, ◌/◌, ◌%◌, min, Bool, true, false, not, ◌==◌, nat_le, List, length, replicate, slice_index, slice_set, Option, Some, None, unwrap_or, if◌then◌else◌}
+use Rattle.std.specs.Prelude.{◌≡◌, ℕ, ◌+◌, ◌-◌, ◌/◌, ◌%◌, min, Bool, true, false, not, ◌==◌, nat_le, List, length, slice_index, slice_set, Option, Some, None, unwrap_or, if◌then◌else◌, ⊤}
 use Rattle.std.specs.List.{fold, slice_index_or}
 use Rattle.rv_isa.specs.Word.{pc_plus_4}
+use Rattle.rv_isa.specs.declared.values.PredictorKind.{PredictorKind}
+use Rattle.rv_isa.specs.declared.values.PredictorKind.TheVariants as kind
 use Rattle.rv_front.specs.Flow.{flow_at}
 use Rattle.rv_front.specs.Lesson.{Lesson}
+use Rattle.rv_front.specs.Tables.{Tables, untaught}
 use Rattle.rv_front.specs.declared.flow.Flow.{Flow}
 use Rattle.rv_front.specs.declared.flow.Flow.TheVariants.{Sequential, Jump, Branch, Indirect}
+use Rattle.rv_front.specs.declared.predictors.DescribedPredictor.{DescribedPredictor}
+use Rattle.rv_front.specs.declared.predictors.DescribedPredictor.TheVariants.{NotTaken, BackwardTaken, Bimodal}
 
 -- the next pc, where a branch is taken by what a test says of its offset's sign, and a register leads where it is known to
 abbrev pub predicted : (Bool → Bool) → Option ℕ → ℕ → Flow → ℕ
@@ -21,11 +26,6 @@ not_taken pc flow = predicted (λ backward. false) None pc flow
 -- a branch with a negative offset is taken
 abbrev pub backward_taken : ℕ → Flow → ℕ
 backward_taken pc flow = predicted (λ backward. backward) None pc flow
-
--- a counter from 0 to 3 for each place, and the last target that a register led to from there
-pub record Tables : Type 0 where
-  pub counters : List ℕ
-  pub targets : List (Option ℕ)
 
 -- the place of a pc in the tables
 abbrev pub place_of : Tables → ℕ → ℕ
@@ -54,10 +54,6 @@ learned tables pc next (Branch target backward) =
     record tables { counters = slice_set tables.counters (place_of tables pc) (counted (not (next == pc_plus_4 pc)) (counter_at tables pc)) }
 learned tables pc next Indirect = record tables { targets = slice_set tables.targets (place_of tables pc) (Some next) }
 
--- new tables, in which each counter is 1 and no target is known
-abbrev pub untaught : ℕ → Tables
-untaught entries = record { counters = replicate entries 1; targets = replicate entries None }
-
 -- the tables after a lesson
 abbrev pub with_lesson : Tables → Lesson → Tables
 with_lesson tables lesson = learned tables lesson.pc lesson.next (flow_at lesson.pc lesson.word)
@@ -65,3 +61,25 @@ with_lesson tables lesson = learned tables lesson.pc lesson.next (flow_at lesson
 -- the lessons led to these tables from new ones of some size
 abbrev pub HaveLearned : Tables → List Lesson → Type 0
 HaveLearned tables lessons = (entries : ℕ) × (tables ≡ fold with_lesson (untaught entries) lessons)
+
+-- a predictor of a kind that was taught nothing
+abbrev pub described : PredictorKind → ℕ → DescribedPredictor
+described kind.NotTaken entries = NotTaken record {}
+described kind.BackwardTaken entries = BackwardTaken record {}
+described kind.Bimodal entries = Bimodal (untaught entries)
+
+-- each answers as its kind does
+abbrev pub answer : DescribedPredictor → ℕ → Flow → ℕ
+answer (NotTaken plain) pc flow = not_taken pc flow
+answer (BackwardTaken plain) pc flow = backward_taken pc flow
+answer (Bimodal tables) pc flow = bimodal tables pc flow
+
+-- each after a lesson, of which the bimodal one alone keeps anything
+abbrev pub taught : DescribedPredictor → Lesson → DescribedPredictor
+taught (Bimodal tables) lesson = Bimodal (with_lesson tables lesson)
+taught plain lesson = plain
+
+-- the lessons led to this predictor
+abbrev pub WasTaught : DescribedPredictor → List Lesson → Type 0
+WasTaught (Bimodal tables) lessons = HaveLearned tables lessons
+WasTaught plain lessons = ⊤

@@ -3,20 +3,16 @@
 //! fetches into it, dispatches from it and redirects it.
 #![tactic(auto)]
 
-mod backward_taken;
-mod bimodal;
 mod fetched;
 mod flow;
 mod front;
-mod not_taken;
 mod predictor;
+mod predictors;
 #[cfg(test)]
 mod tests;
 
-pub use backward_taken::BackwardTaken;
-pub use bimodal::Bimodal;
 pub use fetched::{FetchStop, Fetched};
 pub use flow::Flow;
 pub use front::Front;
-pub use not_taken::NotTaken;
 pub use predictor::Predictor;
+pub use predictors::{BackwardTaken, Bimodal, DescribedPredictor, NotTaken};

@@ -2,7 +2,7 @@ ghost use Rattle.std.specs.Prelude.{◌≡◌, ⊤};
 
 use super::*;
 use rv_decode::decode;
-use rv_isa::{Description, Instr, Values};
+use rv_isa::{Description, Instr, PredictorKind, Values};
 use rv_memory::Ram;
 use std::test::Fail;
 
@@ -70,6 +70,29 @@ fn plain_predictors_follow_jumps_and_backward_branches(rt: HostRuntime) {
             "{word:x}"
         );
     }
+}
+
+#[test]
+fn a_described_predictor_answers_and_learns_as_its_kind(rt: HostRuntime) -> Result<(), Fail> {
+    for (kind, backward, forward_since) in [
+        (PredictorKind::NotTaken, BASE + 4, BASE + 4),
+        (PredictorKind::BackwardTaken, BASE - 4, BASE + 4),
+        (PredictorKind::Bimodal, BASE + 4, BASE + 8),
+    ] {
+        let mut predictor = DescribedPredictor::new(rt.alloc(), kind, 64)?;
+        assert_eq!(rt;
+            predictor.predict(BASE, BRANCH_BACKWARD),
+            backward,
+            "{kind:?}"
+        );
+        predictor.learn(BASE, BRANCH_FORWARD, BASE + 8);
+        assert_eq!(rt;
+            predictor.predict(BASE, BRANCH_FORWARD),
+            forward_since,
+            "{kind:?}"
+        );
+    }
+    Ok(())
 }
 
 // RAM with some words at its front, and a front that begins there.

@@ -3,6 +3,7 @@ pub mod Arrivals
 pub mod Bounds
 pub mod Bytes
 pub mod Cause
+pub mod Choice
 pub mod Comparison
 pub mod Csr
 pub mod Description

@@ -10,6 +10,22 @@ pub enum Recovery {
     Early,
 }
 
+impl Recovery {
+    ghost use Rattle.std.specs.Prelude.{◌≡◌};
+    ghost use Rattle.rv_isa.specs.Choice.{recovery_named};
+
+    /// The way to mend wrong predictions that a description names so, or `None` where there is none.
+    pub fn named(name: &str) -> Option<Self>
+        ensures { result ≡ recovery_named name.now }
+    {
+        match name {
+            "commit" => Some(Recovery::Commit),
+            "early" => Some(Recovery::Early),
+            _ => None,
+        }
+    }
+}
+
 /// Which branch predictor guides the fetch.
 #[derive(Clone, Copy, Debug, PartialEq, Eq)]
 pub enum PredictorKind {
@@ -19,6 +35,23 @@ pub enum PredictorKind {
     BackwardTaken,
     /// Two-bit counters in a table, and a table of jump targets.
     Bimodal,
+}
+
+impl PredictorKind {
+    ghost use Rattle.std.specs.Prelude.{◌≡◌};
+    ghost use Rattle.rv_isa.specs.Choice.{predictor_named};
+
+    /// The predictor that a description names so, or `None` where there is none.
+    pub fn named(name: &str) -> Option<Self>
+        ensures { result ≡ predictor_named name.now }
+    {
+        match name {
+            "not_taken" => Some(PredictorKind::NotTaken),
+            "backward_taken" => Some(PredictorKind::BackwardTaken),
+            "bimodal" => Some(PredictorKind::Bimodal),
+            _ => None,
+        }
+    }
 }
 
 /// The execution units and reservation stations of one kind.

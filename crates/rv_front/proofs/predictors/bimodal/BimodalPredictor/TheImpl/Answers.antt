@@ -1,8 +1,9 @@
 use Rattle.std.proofs.Common.{sym, ap, ◌∙◌}
 use Rattle.std.proofs.lemmas.List.Sums.{fold_push}
 use Rattle.rv_front.specs.Lesson.{Lesson}
-use Rattle.rv_front.specs.Predictors.{Tables, untaught, with_lesson}
-use Rattle.rv_front.proofs.bimodal.BimodalPredictor.TheImpl.Goals as goal
+use Rattle.rv_front.specs.Predictors.{with_lesson}
+use Rattle.rv_front.specs.Tables.{Tables, untaught}
+use Rattle.rv_front.proofs.predictors.bimodal.BimodalPredictor.TheImpl.Goals as goal
 
 -- the tables after one more lesson
 pub learn-tells : goal.learn-tells

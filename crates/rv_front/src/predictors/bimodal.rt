@@ -1,7 +1,8 @@
 ghost use Rattle.std.specs.Prelude.{◌≡◌, ◌<◌, length, IfOk};
 ghost use Rattle.rv_isa.specs.Description.{Within};
 ghost use Rattle.rv_front.specs.Flow.{flow_at};
-ghost use Rattle.rv_front.specs.Predictors.{bimodal, counted, HaveLearned, learned, place_of, untaught};
+ghost use Rattle.rv_front.specs.Predictors.{bimodal, counted, HaveLearned, learned, place_of};
+ghost use Rattle.rv_front.specs.Tables.{untaught};
 
 use crate::flow::Flow;
 use crate::predictor::Predictor;
@@ -19,7 +20,7 @@ pub struct Bimodal {
 
 impl Model for Bimodal {
     ghost use Rattle.std.specs.Prelude.{◌≡◌, ◌<◌, length};
-    ghost use Rattle.rv_front.specs.Predictors.{Tables};
+    ghost use Rattle.rv_front.specs.Tables.{Tables};
 
     ghost Value = { Tables };
 
