@@ -49,9 +49,9 @@ module _ (ways number : ℕ) (lines : List CacheLine) where
     pub Each-accessed : (P : CacheLine → Type 0) → ((dirty : Bool) → P (record { number = number; dirty = dirty })) → Each P lines → Each P (accessed ways number writes lines)
     Each-accessed P own each = Each-take P ways _ (own (writes || is_dirty number lines), Each-filter P _ lines each)
 
-    -- a set holds no more lines than it may
-    pub length-accessed : length (accessed ways number writes lines) ≤ ways
-    length-accessed = omega (arith, length-take ways (record { number = number; dirty = writes || is_dirty number lines } ∷ without number lines))
+    -- a set still holds no more lines than it may
+    pub length-accessed : length lines ≤ ways → length (accessed ways number writes lines) ≤ ways
+    length-accessed room = omega (arith, length-take ways (record { number = number; dirty = writes || is_dirty number lines } ∷ without number lines))
 
     -- the line that is accessed is the first, and the others have the places that are left
     pub accessed-first : 1 ≤ ways → record { number = number; dirty = writes || is_dirty number lines } ∷ take (ways - 1) (without number lines) ≡ accessed ways number writes lines

@@ -71,7 +71,7 @@ module _ (base : ℕ) (values : CacheValues) (bytes memory : List ℕ) (sets : L
         let own = line_inside base (length bytes) values.line address positive was.divided.base_aligned was.divided.whole_lines above below in
         record {
           count = length-set sets place after ∙ was.filled.count;
-          room = Each-set (λ ls. length ls ≤ values.ways) sets place after (length-accessed values.ways number lines writes) was.filled.room;
+          room = Each-set (λ ls. length ls ≤ values.ways) sets place after (length-accessed values.ways number lines writes (room_at number)) was.filled.room;
           inside = Each-set (AreInside base values.line (length bytes)) sets place after (Each-accessed values.ways number lines writes (λ line. IsInside base values.line (length bytes) line.number) (λ dirty. own) (inside_at number)) was.filled.inside;
         }
 
