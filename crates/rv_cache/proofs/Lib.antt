@@ -1,6 +1,5 @@
 pub mod Divided
-pub mod Dropped
-pub mod Places
+pub mod Replacement
 pub mod Sets
 pub mod Steps
 pub mod Written

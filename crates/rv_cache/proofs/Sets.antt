@@ -1,9 +1,7 @@
 -- What holds of each line and of each set.
-use Rattle.std.proofs.Common.{ℕ, true, false, List, [], ◌∷◌, get_or, set, take, map, replicate, cond, nat_eq, suc, zero}
+use Rattle.std.proofs.Common.{ℕ, Bool, true, false, List, [], ◌∷◌, get_or, set, take, map, replicate, filter, cond, suc, zero}
 use Rattle.std.specs.Option.{IfSome}
 use Rattle.std.specs.List.{slice_get}
-use Rattle.rv_cache.specs.declared.line.CacheLine.{CacheLine}
-use Rattle.rv_cache.specs.Line.{without}
 use Rattle.rv_cache.specs.WriteBack.{Each}
 
 module _ {X : Type 0} (P : X → Type 0) where
@@ -22,6 +20,11 @@ module _ {X : Type 0} (P : X → Type 0) where
   Each-take (suc n) [] each = tt
   Each-take (suc n) (x ∷ xs) each = (each.0, Each-take n xs each.1)
 
+  pub Each-filter : (p : X → Bool) (xs : List X) → Each P xs → Each P (filter p xs)
+  Each-filter p [] each = tt
+  Each-filter p (x ∷ xs) each =
+      elim (p x) as (λ b. Each P (cond b (x ∷ filter p xs) (filter p xs))) [ true ↦ (each.0, Each-filter p xs each.1) | false ↦ Each-filter p xs each.1 ]
+
   pub Each-slice_get : (xs : List X) (i : ℕ) → Each P xs → IfSome (slice_get xs i) P
   Each-slice_get [] i each = tt
   Each-slice_get (x ∷ xs) zero each = each.0
@@ -34,8 +37,3 @@ module _ {X : Type 0} (P : X → Type 0) where
   pub Each-replicate : (n : ℕ) (x : X) → P x → Each P (replicate n x)
   Each-replicate zero x is = tt
   Each-replicate (suc n) x is = (is, Each-replicate n x is)
-
-pub Each-without : (P : CacheLine → Type 0) (number : ℕ) (lines : List CacheLine) → Each P lines → Each P (without number lines)
-Each-without P number [] each = tt
-Each-without P number (line ∷ lines) each =
-    elim (nat_eq line.number number) as (λ b. Each P (cond b lines (line ∷ without number lines))) [ true ↦ each.1 | false ↦ (each.0, Each-without P number lines each.1) ]

@@ -1,7 +1,6 @@
 -- What each call keeps of a cache's fields.
-use Rattle.std.proofs.Common.{◌≡◌, ◌≢◌, ℕ, ◌+◌, ◌-◌, ◌/◌, ◌%◌, ◌<◌, ◌≤◌, ◌⊎◌, Bool, true, false, cond, ◌||◌, List, [], ◌∷◌, length, get_or, set, map, replicate, Option, Some, None, refl, sym, ap, subst, ◌∙◌, inl, inr, arith, length-set, length-take, get_or-set_other}
+use Rattle.std.proofs.Common.{◌≡◌, ◌≢◌, ℕ, ◌+◌, ◌-◌, ◌/◌, ◌%◌, ◌<◌, ◌≤◌, ◌⊎◌, Bool, true, List, [], length, get_or, set, map, replicate, Option, Some, None, refl, sym, ap, subst, ◌∙◌, inl, inr, arith, length-set, get_or-set_other}
 use Rattle.std.specs.Option.{IfSome}
-use Rattle.std.specs.List.{slice_get}
 use Rattle.std.proofs.Math.Nat.{mod-lt}
 use Rattle.std.proofs.lemmas.List.{ext_get_or, length-map, length-replicate}
 use Rattle.std.proofs.lemmas.Bool.{cases_lt, cases_eq, cases_Bool, false≢true}
@@ -9,13 +8,14 @@ use Rattle.std.proofs.lemmas.Grind.{get_or-set_at}
 use Rattle.rv_isa.specs.declared.values.CacheValues.{CacheValues}
 use Rattle.rv_memory.specs.Bytes.{overwritten}
 use Rattle.rv_cache.specs.declared.line.CacheLine.{CacheLine}
-use Rattle.rv_cache.specs.Line.{is_held, is_dirty, without, accessed, victim, cleaned}
+use Rattle.rv_cache.specs.Line.{is_dirty, cleaned}
+use Rattle.rv_cache.specs.Replacement.{accessed, victim}
 use Rattle.rv_cache.specs.Cache.{Contents, accessed_sets}
 use Rattle.rv_cache.specs.WriteBack.{IsInside, AreInside, victim_written, sets_written}
 use Rattle.rv_cache.specs.Consistent.{IsDivided, AreFilled, IsInStep, IsConsistent}
-use Rattle.rv_cache.proofs.Sets.{Each-at, Each-set, Each-take, Each-slice_get, Each-map, Each-replicate, Each-without}
+use Rattle.rv_cache.proofs.Replacement.{Each-accessed, Each-victim, length-accessed, dropped_line, is_dirty_written, not_accessed}
+use Rattle.rv_cache.proofs.Sets.{Each-at, Each-set, Each-map, Each-replicate}
 use Rattle.rv_cache.proofs.Written.{IsToCome, line_wins, victim_either, length-victim_written, length-sets_written, sets_win, length-overwritten, get_or-overwritten_below, get_or-overwritten_above}
-use Rattle.rv_cache.proofs.Dropped.{dropped_line, is_dirty_written, not_accessed}
 use Rattle.rv_cache.proofs.Divided.{line_inside, same_line}
 
 module _ (base line_bytes : ℕ) (bytes : List ℕ) (positive : 0 < line_bytes) where
@@ -44,6 +44,9 @@ module _ (base : ℕ) (values : CacheValues) (bytes memory : List ℕ) (sets : L
   inside_at : (number : ℕ) → AreInside base values.line (length bytes) (get_or sets (number % values.sets) [])
   inside_at number = Each-at (AreInside base values.line (length bytes)) sets (number % values.sets) [] tt was.filled.inside
 
+  pub dropped_inside : (number : ℕ) → IfSome (victim values.ways number (get_or sets (number % values.sets) [])) (λ line. IsInside base values.line (length bytes) line.number)
+  dropped_inside number = Each-victim values.ways number _ (λ line. IsInside base values.line (length bytes) line.number) (inside_at number)
+
   module _ (address : ℕ) (above : base ≤ address) (below : address < base + length bytes) (writes : Bool) where
     abbrev number : ℕ
     number = address / values.line
@@ -54,54 +57,42 @@ module _ (base : ℕ) (values : CacheValues) (bytes memory : List ℕ) (sets : L
     abbrev lines : List CacheLine
     lines = get_or sets place []
 
-    abbrev moved : CacheLine
-    moved = record { number = number; dirty = writes || is_dirty number lines }
-
     abbrev after : List CacheLine
     after = accessed values.ways number writes lines
 
     abbrev dropped : Option CacheLine
     dropped = victim values.ways number lines
 
-    pub dropped_inside : IfSome dropped (λ line. IsInside base values.line (length bytes) line.number)
-    dropped_inside =
-        elim (is_held number lines) as (λ b. IfSome (cond b None (slice_get lines (values.ways - 1))) (λ line. IsInside base values.line (length bytes) line.number)) [
-          | true ↦ tt
-          | false ↦ Each-slice_get (λ line. IsInside base values.line (length bytes) line.number) lines (values.ways - 1) (inside_at number)
-        ]
-
     pub length_after : length (victim_written base values.line bytes dropped memory) ≡ length bytes
-    length_after = length-victim_written base values.line bytes positive dropped memory dropped_inside was.size
+    length_after = length-victim_written base values.line bytes positive dropped memory (dropped_inside number) was.size
 
     filled_after : AreFilled base values (length bytes) (set sets place after)
     filled_after =
         let own = line_inside base (length bytes) values.line address positive was.divided.base_aligned was.divided.whole_lines above below in
-        let Inside = λ (line : CacheLine). IsInside base values.line (length bytes) line.number in
         record {
           count = length-set sets place after ∙ was.filled.count;
-          room = Each-set (λ ls. length ls ≤ values.ways) sets place after (omega (arith, length-take values.ways (moved ∷ without number lines))) was.filled.room;
-          inside = Each-set (AreInside base values.line (length bytes)) sets place after (Each-take Inside values.ways (moved ∷ without number lines) (own, Each-without Inside number lines (inside_at number))) was.filled.inside;
+          room = Each-set (λ ls. length ls ≤ values.ways) sets place after (length-accessed values.ways number lines writes (room_at number)) was.filled.room;
+          inside = Each-set (AreInside base values.line (length bytes)) sets place after (Each-accessed values.ways number lines writes (λ line. IsInside base values.line (length bytes) line.number) (λ dirty. own) (inside_at number)) was.filled.inside;
         }
 
     in_step_after : IsInStep base values bytes (set sets place after) (victim_written base values.line bytes dropped memory)
     in_step_after i within clean =
         let q = (base + i) / values.line in
         let other_place = q % values.sets in
-        let ways_more : values.ways ≡ values.ways - 1 + 1 = omega (arith, was.divided.legal.0.ways.0) in
-        victim_wins base values.line bytes positive dropped memory dropped_inside was.size i (elim (cases_eq other_place place) [
+        victim_wins base values.line bytes positive dropped memory (dropped_inside number) was.size i (elim (cases_eq other_place place) [
           | inr other ↦ inl (was.in_step i within (sym (ap (is_dirty q) (get_or-set_other sets place other_place after [] other)) ∙ clean))
           | inl same ↦
               let here = get_or-set_at sets place other_place after [] same (place_in number) in
               let clean_after = sym (ap (is_dirty q) here) ∙ clean in
               elim (cases_Bool (is_dirty q lines)) [
                 | inr clean_before ↦ inl (was.in_step i within (ap (λ n. is_dirty q (get_or sets n [])) same ∙ clean_before))
-                | inl dirty ↦ inr (dropped_line values.ways (values.ways - 1) number q writes lines ways_more (room_at number) dirty clean_after)
+                | inl dirty ↦ inr (dropped_line values.ways number lines writes q was.divided.legal.0.ways.0 (room_at number) dirty clean_after)
               ]
         ])
 
     -- each byte of memory stays, or is the one that a program sees and lies in another line
     pub updated_elsewhere : (i : ℕ) → (get_or (victim_written base values.line bytes dropped memory) i 0 ≡ get_or memory i 0) ⊎ ((get_or (victim_written base values.line bytes dropped memory) i 0 ≡ get_or bytes i 0) × ((base + i) / values.line ≢ number))
-    updated_elsewhere i = elim (victim_either base values.line bytes positive dropped memory dropped_inside was.size i) [
+    updated_elsewhere i = elim (victim_either base values.line bytes positive dropped memory (dropped_inside number) was.size i) [
       | inl stays ↦ inl stays
       | inr seen ↦ inr (seen.0, λ own. not_accessed values.ways number lines seen.1 seen.2 (sym seen.3 ∙ own))
     ]

@@ -1,10 +1,10 @@
 -- The bytes of memory once lines were written to it.
-use Rattle.std.proofs.Common.{◌≡◌, ℕ, ◌+◌, ◌-◌, ◌*◌, ◌/◌, ◌<◌, ◌≤◌, ◌⊎◌, true, false, nat_eq, List, [], ◌∷◌, ◌++◌, length, get_or, take, drop, Option, Some, None, suc, zero, refl, sym, ap, ◌∙◌, inl, inr, arith, length-take-le, length-append, length-drop, get_or-drop, get_or-take}
+use Rattle.std.proofs.Common.{◌≡◌, ℕ, ◌+◌, ◌-◌, ◌*◌, ◌/◌, ◌<◌, ◌≤◌, ◌⊎◌, true, false, List, [], ◌∷◌, ◌++◌, length, get_or, take, drop, Option, Some, None, suc, zero, refl, ap, ◌∙◌, inl, inr, arith, length-take-le, length-append, length-drop, get_or-drop, get_or-take}
 use Rattle.std.specs.List.{slice_range}
 use Rattle.std.specs.Option.{IfSome}
 use Rattle.std.proofs.lemmas.List.{get_or_append_left, get_or-append_right}
 use Rattle.std.proofs.lemmas.List.Edits.{length-between, get_or-between}
-use Rattle.std.proofs.lemmas.Bool.{cases_lt, cases_Bool, cond-true, cond-false, eqb-true, false≢true}
+use Rattle.std.proofs.lemmas.Bool.{cases_lt, cases_Bool, or_cases, and_parts, cond-true, cond-false, eqb-true, false≢true}
 use Rattle.std.proofs.lemmas.Nat.{div-add-mod', div-mul-add}
 use Rattle.rv_memory.specs.Bytes.{overwritten}
 use Rattle.rv_cache.specs.declared.line.CacheLine.{CacheLine}
@@ -43,9 +43,9 @@ in_line base line_bytes i number positive from is =
 
 -- the line that is dirty is the first, or a later one
 pub is_dirty_cases : (number : ℕ) (line : CacheLine) (lines : List CacheLine) → is_dirty number (line ∷ lines) ≡ true → ((line.number ≡ number) × (line.dirty ≡ true)) ⊎ (is_dirty number lines ≡ true)
-is_dirty_cases number line lines dirty = elim (cases_Bool (nat_eq line.number number)) [
-  | inl same ↦ inl (eqb-true line.number number same, sym (cond-true (nat_eq line.number number) line.dirty (is_dirty number lines) same) ∙ dirty)
-  | inr other ↦ inr (sym (cond-false (nat_eq line.number number) line.dirty (is_dirty number lines) other) ∙ dirty)
+is_dirty_cases number line lines dirty = elim (or_cases _ _ dirty) [
+  | inl own ↦ let parts = and_parts _ _ own in inl (eqb-true line.number number parts.0, parts.1)
+  | inr later ↦ inr later
 ]
 
 module _ (base line_bytes : ℕ) (bytes : List ℕ) (positive : 0 < line_bytes) where

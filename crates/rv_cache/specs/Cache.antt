@@ -3,7 +3,8 @@ use Rattle.std.specs.Prelude.{◌≡◌, ◌≢◌, ℕ, ◌+◌, ◌-◌, ◌/�
 use Rattle.rv_isa.specs.declared.values.CacheValues.{CacheValues}
 use Rattle.rv_memory.specs.Bytes.{overwritten}
 use Rattle.rv_cache.specs.declared.line.CacheLine.{CacheLine}
-use Rattle.rv_cache.specs.Line.{is_held, accessed, victim}
+use Rattle.rv_cache.specs.Line.{is_held}
+use Rattle.rv_cache.specs.Replacement.{accessed, victim}
 use Rattle.rv_cache.specs.WriteBack.{victim_written}
 
 -- the bytes that a program sees from address base on, for each set its lines, most recently used first, and the backing

@@ -1,4 +1,5 @@
 pub mod Cache
 pub mod Consistent
 pub mod Line
+pub mod Replacement
 pub mod WriteBack

@@ -1,6 +1,6 @@
 ghost use Rattle.std.specs.Prelude.{◌≡◌, ◌-◌, ◌≤◌, nat_eq, [], length, map, take, slice_get};
-ghost use Rattle.std.specs.List.{position};
-ghost use Rattle.rv_cache.specs.Line.{accessed, is_held, victim, cleaned, dirty_count};
+ghost use Rattle.rv_cache.specs.Line.{cleaned, dirty_count, is_dirty, is_held};
+ghost use Rattle.rv_cache.specs.Replacement.{accessed, victim};
 ghost use Rattle.rv_cache.specs.WriteBack.{AreInside, lines_written};
 
 use crate::CacheLine;
@@ -52,31 +52,13 @@ impl Set {
         ensures hit { result.is_hit ≡ is_held number self.old }
         ensures victim { result.victim ≡ victim ways number self.old }
     {
-        match place_of(self.lines.as_slice(), number) {
-            Some(place) => {
-                let line = self.lines.remove(place);
-                let dirty = line.is_dirty_after(writes);
-                self.lines.insert(0, CacheLine { number, dirty });
-                Access {
-                    is_hit: true,
-                    victim: None,
-                }
-            }
-            None => {
-                let victim = take_last_if_full(&mut self.lines, ways);
-                self.lines.insert(
-                    0,
-                    CacheLine {
-                        number,
-                        dirty: writes,
-                    },
-                );
-                Access {
-                    is_hit: false,
-                    victim,
-                }
-            }
-        }
+        let is_hit = is_held(self.lines.as_slice(), number);
+        let was_dirty = is_dirty(self.lines.as_slice(), number);
+        let dirty = writes || was_dirty;
+        self.lines.retain(|line| line.number != number);
+        let victim = take_last_if_full(&mut self.lines, ways);
+        self.lines.insert(0, CacheLine { number, dirty });
+        Access { is_hit, victim }
     }
 
     /// Writes the dirty lines to the backing and answers their number; all are clean then.
@@ -100,11 +82,18 @@ impl Set {
     }
 }
 
-// Where a line is among the lines of a set.
-fn place_of(lines: &[CacheLine], number: u32) -> Option<usize>
-    ensures { result ≡ position (λ line. nat_eq line.number number) lines.now }
+// Whether a line is among these.
+fn is_held(lines: &[CacheLine], number: u32) -> bool
+    ensures { result ≡ is_held number lines.now }
 {
-    lines.iter().position(|line| line.number == number)
+    lines.iter().any(|line| line.number == number)
+}
+
+// Whether a line is among these, and dirty.
+fn is_dirty(lines: &[CacheLine], number: u32) -> bool
+    ensures { result ≡ is_dirty number lines.now }
+{
+    lines.iter().any(|line| line.number == number && line.dirty)
 }
 
 // Makes room for a line where there are as many as there may be.

@@ -1,13 +1,15 @@
 -- The cache holds no more lines than it has room for, so its write-back has a longest time.
-use Rattle.std.proofs.Common.{◌≡◌, ℕ, ◌*◌, ◌%◌, ◌≤◌, Bool, true, false, cond, ◌||◌, min, List, [], ◌∷◌, length, map, refl, arith}
-use Rattle.std.proofs.lemmas.List.{length-map, length-replicate, length-set, length-take}
+use Rattle.std.proofs.Common.{◌≡◌, ℕ, ◌*◌, ◌%◌, ◌≤◌, Bool, true, false, cond, List, [], ◌∷◌, length, map, refl, arith}
+use Rattle.std.proofs.lemmas.List.{length-map, length-replicate, length-set}
 use Rattle.std.proofs.Math.Nat.{mul-le-mul_right}
 use Rattle.rv_isa.specs.declared.values.CacheValues.{CacheValues}
 use Rattle.rv_isa.specs.declared.values.Values.{Values}
 use Rattle.rv_memory.specs.Memory.{Memory}
-use Rattle.rv_cache.proofs.Sets.{Each-map, Each-replicate, Each-set}
+use Rattle.rv_cache.proofs.Replacement.{length-accessed}
+use Rattle.rv_cache.proofs.Sets.{Each-at, Each-map, Each-replicate, Each-set}
 use Rattle.rv_cache.specs.Cache.{Contents, accessed_sets, line_of, set_of}
-use Rattle.rv_cache.specs.Line.{accessed, cleaned, dirty_count, dirty_total, is_dirty, without}
+use Rattle.rv_cache.specs.Line.{cleaned, dirty_count, dirty_total}
+use Rattle.rv_cache.specs.Replacement.{accessed}
 use Rattle.rv_cache.specs.WriteBack.{Each}
 use Rattle.rv_cache.specs.declared.line.CacheLine.{CacheLine}
 use Rattle.rv_hardware.specs.Commit.{write_back_time}
@@ -25,19 +27,17 @@ FitIn values sets = (length sets ≤ values.sets) × Each (Fits values.ways) set
 abbrev pub HasRoom : Hardware → Type 0
 HasRoom h = FitIn h.cache.values h.cache.sets
 
--- an access leaves no more lines in a set than there is room for
-accessed_fits : (ways number : ℕ) (writes : Bool) (lines : List CacheLine) → Fits ways (accessed ways number writes lines)
-accessed_fits ways number writes lines =
-    let all : List CacheLine = record { number = number; dirty = writes || is_dirty number lines } ∷ without number lines in
-    let taken : length (accessed ways number writes lines) ≡ min ways (length all) = length-take ways all in
-    omega (arith, taken)
+empty_fits : (ways : ℕ) → Fits ways []
+empty_fits ways = omega arith
 
+-- an access leaves no more lines in a set than there is room for
 pub accessed-fit : (cache : Contents Memory) (address : ℕ) (writes : Bool) → FitIn cache.values cache.sets → FitIn cache.values (accessed_sets cache address writes)
 accessed-fit cache address writes fits =
     let number : ℕ = line_of cache address in
+    let room = Each-at (Fits cache.values.ways) cache.sets (number % cache.values.sets) [] (empty_fits cache.values.ways) fits.1 in
     let lines : List CacheLine = accessed cache.values.ways number writes (set_of cache number) in (
       omega (arith, length-set cache.sets (number % cache.values.sets) lines, fits.0),
-      Each-set (Fits cache.values.ways) cache.sets (number % cache.values.sets) lines (accessed_fits cache.values.ways number writes (set_of cache number)) fits.1,
+      Each-set (Fits cache.values.ways) cache.sets (number % cache.values.sets) lines (length-accessed cache.values.ways number (set_of cache number) writes room) fits.1,
     )
 
 cleaned_fits : (ways : ℕ) (lines : List CacheLine) → Fits ways lines → Fits ways (map cleaned lines)
@@ -99,9 +99,6 @@ room-kept = record {
   };
   fetch = record { fetches = λ ram cycle h front stop fits fetches. fits };
 }
-
-empty_fits : (ways : ℕ) → Fits ways []
-empty_fits ways = omega arith
 
 pub room-at_reset : (values : Values) (image : List ℕ) (start : ℕ) → HasRoom (reset_hardware values image start)
 room-at_reset values image start =

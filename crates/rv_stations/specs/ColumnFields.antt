@@ -4,6 +4,7 @@ use Rattle.std.specs.Simd.Lanes.{zip2}
 use Rattle.rv_stations.specs.Column.{Column, operand_of, producers}
 use Rattle.rv_stations.specs.declared.column.OperandColumn.TheInside.{Inside}
 
+-- the operands that the tags and the values stand for
 abbrev pub column : Inside → Column
 column c = record { operands = zip2 operand_of c.tags.items c.values.items; capacity = c.capacity }
 

@@ -10,6 +10,7 @@ use Rattle.rv_stations.specs.Pool.{Pool}
 abbrev pub with_dispatched : ℕ → Dispatched → ℕ × Dispatched
 with_dispatched seq dispatched = (seq, dispatched)
 
+-- the operands of an instruction side by side
 abbrev pub both_operands : Operand → Operand → Operand × Operand
 both_operands first second = (first, second)
 
@@ -22,6 +23,7 @@ abbrev pub joined : List ℕ → List Dispatched → List Operand → List Opera
 joined seqs dispatched first second =
     zip2 instruction_of (zip2 with_dispatched seqs dispatched) (zip2 both_operands first second)
 
+-- the waiting instructions that the lists hold
 abbrev pub pool : Inside → Pool
 pool p = record { waiting = joined p.seqs.items p.dispatched.items p.first.operands p.second.operands; capacity = p.capacity }
 

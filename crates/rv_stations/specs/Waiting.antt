@@ -27,6 +27,7 @@ ready_with w (Value first) (Value second) = Some (record { seq = w.seq; pc = w.p
 ready_with w (Value first) (Tag tag) = None
 ready_with w (Tag tag) second = None
 
+-- the same with the operands that it has
 abbrev pub ready_of : Waiting → Option Ready
 ready_of w = ready_with w w.first w.second
 

@@ -15,6 +15,7 @@ abbrev pub byte_of_state : ℕ → StoreState → Option ℕ
 byte_of_state place (Filled access phase) = written_at place access
 byte_of_state place _ = None
 
+-- the byte of a store at a place of memory
 abbrev pub byte_at : ℕ → Store → Option ℕ
 byte_at place store = byte_of_state place store.state
 
@@ -33,6 +34,7 @@ abbrev pub is_known_state : StoreState → Bool
 is_known_state Waiting = false
 is_known_state _ = true
 
+-- whether a store was filled or marked as faulting
 abbrev pub is_known : Store → Bool
 is_known store = is_known_state store.state
 
@@ -42,6 +44,7 @@ is_committed_state (Filled access Committed) = true
 is_committed_state (Filled access Draining) = true
 is_committed_state _ = false
 
+-- whether a store has retired
 abbrev pub is_committed : Store → Bool
 is_committed store = is_committed_state store.state
 
@@ -50,6 +53,7 @@ abbrev pub is_draining_state : StoreState → Bool
 is_draining_state (Filled access Draining) = true
 is_draining_state _ = false
 
+-- whether the access of a store to the cache is under way
 abbrev pub is_draining : Store → Bool
 is_draining store = is_draining_state store.state
 
@@ -58,6 +62,7 @@ abbrev pub state_to_drain : StoreState → Option StoreAccess
 state_to_drain (Filled access Committed) = Some access
 state_to_drain _ = None
 
+-- what a store writes that may begin to drain
 abbrev pub access_to_drain : Store → Option StoreAccess
 access_to_drain store = state_to_drain store.state
 

@@ -4,6 +4,7 @@ use Rattle.rv_isa.specs.Numbered.{IsInOrder}
 use Rattle.rv_units.specs.Bus.{Pending, seq_of}
 use Rattle.rv_units.specs.declared.bus.Bus.TheInside.{Inside}
 
+-- the results that wait, and how many may wait and leave in a cycle
 abbrev pub pending : Inside → Pending
 pending bus = record { results = bus.results.items; capacity = bus.capacity; width = bus.width }
 

@@ -1,7 +1,15 @@
 use Rattle.std.proofs.Common.{[], ◌/◌, ◌%◌}
 use Rattle.std.proofs.lemmas.List.{get_or_read}
-use Rattle.rv_cache.proofs.Steps.{place_in, updated_elsewhere, consistent_after}
+use Rattle.rv_cache.proofs.Steps.{place_in, dropped_inside, updated_elsewhere, consistent_after}
 use Rattle.rv_cache.proofs.cache.Cache.access.Goals as goal
+
+pub write_back_victim-requires-clause-inside : goal.write_back_victim-requires-clause-inside
+write_back_victim-requires-clause-inside g c =
+    let s = c.self.inside in
+    let memory = g.M.Backing.bytes s.backing in
+    let number = c.args.address / s.values.line in
+    let read = get_or_read s.sets.items (number % s.values.sets) c.index_mut.result.now (place_in s.base s.values s.bytes.items memory s.sets.items c.self.invariant number) c.index_mut.ensures.value [] in
+    rw (c.access-access.ensures.victim, c.deref.ensures.value, read) (dropped_inside s.base s.values s.bytes.items memory s.sets.items c.self.invariant number)
 
 pub invariant_of-self : goal.invariant_of-self
 invariant_of-self g c =

@@ -1,5 +1,4 @@
-use Rattle.std.proofs.Common.{◌≡◌, ◌++◌, ◌∷◌, [], refl, sym, ap, subst, ◌∙◌}
-use Rattle.rv_stores.specs.Queue.{CanEnter}
+use Rattle.std.proofs.Common.{◌≡◌, ◌++◌, ◌∷◌, [], refl, ap, ◌∙◌}
 use Rattle.rv_stores.specs.Store.{entered, is_committed}
 use Rattle.rv_stores.proofs.Kept.{ComeFirst-push, keep_last-room}
 use Rattle.rv_isa.proofs.Numbered.{IsInOrder-push}
@@ -7,7 +6,7 @@ use Rattle.rv_stores.proofs.queue.StoreQueue.enter.Goals as goal
 
 pub invariant_of-self : goal.invariant_of-self
 invariant_of-self c =
-    let may = subst (CanEnter c.args.seq) (sym c.self.view_is) c.requires in
+    let may = rw (← c.self.view_is) at c.requires in
     let items = c.self.inside.ring.items in
     let pushed : c.push_back.new.self.items ≡ items ++ entered c.args.seq ∷ [] = ap (λ b. b.items) c.push_back.ensures.items ∙ keep_last-room c.self.inside.ring.capacity items (entered c.args.seq) may.0 in
     rw pushed (

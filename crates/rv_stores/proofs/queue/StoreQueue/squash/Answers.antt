@@ -1,7 +1,5 @@
-use Rattle.std.proofs.Common.{◌≡◌, nat_lt, filter, take, refl, sym, ap, subst, ◌∙◌}
-use Rattle.std.specs.List.{prefix_len}
+use Rattle.std.proofs.Common.{◌≡◌, nat_lt, filter, take, refl, ap, ◌∙◌}
 use Rattle.circular_buffer.specs.Buffer.{buffer}
-use Rattle.rv_stores.specs.Queue.{Queue}
 use Rattle.rv_stores.specs.Store.{is_committed}
 use Rattle.rv_stores.proofs.Prefix.{take-prefix_len_at}
 use Rattle.rv_stores.proofs.Kept.{ComeFirst-filter, ComeFirst-older}
@@ -11,8 +9,7 @@ use Rattle.rv_stores.proofs.queue.StoreQueue.squash.Goals as goal
 kept : (c : goal.After-truncate_back) → c.truncate_back.new.self ≡ buffer (filter (λ s. nat_lt s.seq c.args.from) c.self.inside.ring.items) c.self.inside.ring.capacity
 kept c =
     let items = c.self.inside.ring.items in
-    let Count : Queue → Type 0 = λ q. c.older_count-kept.result ≡ prefix_len (λ s. nat_lt s.seq c.args.from) q.stores in
-    let same : take c.older_count-kept.result items ≡ filter (λ s. nat_lt s.seq c.args.from) items = take-prefix_len_at (λ s. nat_lt s.seq c.args.from) items c.older_count-kept.result (subst Count (sym c.self.view_is) c.older_count-kept.ensures) (ComeFirst-older c.args.from items c.self.invariant.0) in
+    let same : take c.older_count-kept.result items ≡ filter (λ s. nat_lt s.seq c.args.from) items = take-prefix_len_at (λ s. nat_lt s.seq c.args.from) items c.older_count-kept.result (rw (← c.self.view_is) at c.older_count-kept.ensures) (ComeFirst-older c.args.from items c.self.invariant.0) in
     c.truncate_back.ensures ∙ ap (λ l. buffer l c.self.inside.ring.capacity) same
 
 pub invariant_of-self : goal.invariant_of-self
