@@ -21,6 +21,7 @@ pub record Kept : Type 0 where
 abbrev pub has_bit : ℕ → ℕ → Bool
 has_bit word n = word / 2 ^ n % 2 == 1
 
+-- bit n of a word, 1 or 0, at its place
 abbrev pub bit : Bool → ℕ → ℕ
 bit true n = 2 ^ n
 bit false n = 0
@@ -29,6 +30,7 @@ bit false n = 0
 abbrev pub interrupt_bits : Lines → ℕ
 interrupt_bits lines = bit lines.software 3 + bit lines.timer 7 + bit lines.external 11
 
+-- Privileged Architecture 20211203, 3.1.9: the interrupts that a word for mie enables
 abbrev pub interrupts_of : ℕ → Lines
 interrupts_of word = record { software = has_bit word 3; timer = has_bit word 7; external = has_bit word 11 }
 

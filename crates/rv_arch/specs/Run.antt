@@ -1,5 +1,5 @@
 use Rattle.std.specs.Prelude.{◌≡◌, ℕ, ◌+◌, Bool, true, false, if◌then◌else◌, List, [], ◌∷◌}
-use Rattle.rv_isa.specs.declared.{causes.Cause.Cause, lines.Arrival.Arrival, lines.Lines.Lines}
+use Rattle.rv_isa.specs.declared.{lines.Arrival.Arrival, lines.Lines.Lines}
 use Rattle.rv_isa.specs.declared.causes.Cause.TheVariants.{Breakpoint}
 use Rattle.rv_isa.specs.Arrivals.{lines_at}
 use Rattle.rv_arch.specs.declared.outcome.RefStep.{RefStep}
@@ -8,29 +8,29 @@ use Rattle.rv_memory.specs.Memory.{Layout}
 use Rattle.rv_arch.specs.State.{State}
 use Rattle.rv_arch.specs.Step.{Step}
 
+-- an instruction retired
 abbrev pub is_retired : RefStep → Bool
 is_retired (Retired pc word written) = true
 is_retired _ = false
 
+-- an exception was taken (Privileged Architecture 20211203, 3.1.15)
 abbrev pub is_trap : RefStep → Bool
 is_trap (Trap pc cause value) = true
 is_trap _ = false
 
+-- an interrupt was taken (Privileged Architecture 20211203, 3.1.9)
 abbrev pub is_interrupt : RefStep → Bool
 is_interrupt (Interrupt pc cause) = true
 is_interrupt _ = false
 
+-- a stale word was found (Unprivileged ISA 20191213, 3)
 abbrev pub is_stale : RefStep → Bool
 is_stale (Stale pc) = true
 is_stale _ = false
 
-abbrev pub is_breakpoint_cause : Cause → Bool
-is_breakpoint_cause Breakpoint = true
-is_breakpoint_cause _ = false
-
 -- a trap whose cause is a breakpoint, 3
 abbrev pub is_breakpoint : RefStep → Bool
-is_breakpoint (Trap pc cause value) = is_breakpoint_cause cause
+is_breakpoint (Trap pc Breakpoint value) = true
 is_breakpoint _ = false
 
 -- A run: one step for each stamp, with the lines as they are at that stamp, and none of the outcomes is stale.

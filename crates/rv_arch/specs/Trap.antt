@@ -1,18 +1,15 @@
-use Rattle.std.specs.Prelude.{ℕ, ◌+◌, ◌-◌, ◌*◌, ◌/◌, ◌%◌, ◌^◌, ◌==◌, ◌&&◌, Bool, true, false, if◌then◌else◌, nat_le}
+use Rattle.std.specs.Prelude.{ℕ, ◌+◌, ◌-◌, ◌*◌, ◌/◌, ◌%◌, ◌^◌, ◌==◌, ◌&&◌, true, false, if◌then◌else◌, nat_le}
 use Rattle.rv_arch.specs.Csr.{Kept, legal_mepc}
 
 -- Privileged Architecture 20211203, 3.1.15: the cause of an interrupt has bit 31 set
 abbrev pub interrupt_cause : ℕ → ℕ
 interrupt_cause code = 2 ^ 31 + code
 
-abbrev pub is_interrupt : ℕ → Bool
-is_interrupt cause = nat_le (2 ^ 31) cause
-
 -- Privileged Architecture 20211203, 3.1.7: an interrupt in vectored mode goes to the base plus four times its code, all else to the base
 abbrev pub handler_of : Kept → ℕ → ℕ
 handler_of kept cause =
     let base = 4 * (kept.mtvec / 4) in
-    if kept.mtvec % 4 == 1 && is_interrupt cause then (base + 4 * (cause - 2 ^ 31)) % 2 ^ 32 else base
+    if kept.mtvec % 4 == 1 && nat_le (2 ^ 31) cause then (base + 4 * (cause - 2 ^ 31)) % 2 ^ 32 else base
 
 -- Privileged Architecture 20211203, 3.1.6.1, 3.1.14 to 3.1.16: what is kept once a trap is taken at pc
 abbrev pub trapped : Kept → ℕ → ℕ → ℕ → Kept

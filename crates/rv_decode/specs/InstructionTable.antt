@@ -18,41 +18,51 @@ pub record Row : Type 0 where
   pub fixed : ℕ
   pub instruction : ℕ → Instr
 
--- rows that fix the opcode alone, funct3 and the opcode, funct7, funct3 and the opcode, or the whole word
+-- a row that fixes the opcode alone
 abbrev pub opcode_row : ℕ → (ℕ → Instr) → Row
 opcode_row opcode form = record { mask = 0x0000007f; fixed = opcode; instruction = form }
 
+-- a row that fixes funct3 and the opcode
 abbrev pub funct3_row : ℕ → ℕ → (ℕ → Instr) → Row
 funct3_row funct3 opcode form = record { mask = 0x0000707f; fixed = funct3 * 2 ^ 12 + opcode; instruction = form }
 
+-- a row that fixes funct7, funct3 and the opcode
 abbrev pub funct7_row : ℕ → ℕ → ℕ → (ℕ → Instr) → Row
 funct7_row funct7 funct3 opcode form = record { mask = 0xfe00707f; fixed = funct7 * 2 ^ 25 + funct3 * 2 ^ 12 + opcode; instruction = form }
 
+-- a row that fixes the whole word
 abbrev pub word_row : ℕ → Instr → Row
 word_row word instruction = record { mask = 0xffffffff; fixed = word; instruction = λ _. instruction }
 
--- the forms: the instruction that a row makes of the operands in the word
+-- Unprivileged ISA 20191213, 2.5: a conditional branch with the operands in the word
 abbrev pub branch : Condition → ℕ → Instr
 branch condition word = Branch condition (rs1 word) (rs2 word) (b_immediate word)
 
+-- 2.6: a load
 abbrev pub load : LoadForm → ℕ → Instr
 load form word = Load form (rd word) (rs1 word) (i_immediate word)
 
+-- 2.6: a store
 abbrev pub store : Width → ℕ → Instr
 store width word = Store width (rs1 word) (rs2 word) (s_immediate word)
 
+-- 2.4.1: an operation on a register and an immediate
 abbrev pub op_immediate : ImmediateOp → ℕ → Instr
 op_immediate op word = OpImmediate op (rd word) (rs1 word) (i_immediate word)
 
+-- 2.4.1: a shift by a constant
 abbrev pub shift : ShiftOp → ℕ → Instr
 shift op word = Shift op (rd word) (rs1 word) (shift_amount word)
 
+-- 2.4.2: an operation on two registers
 abbrev pub op : AluOp → ℕ → Instr
 op operation word = Op operation (rd word) (rs1 word) (rs2 word)
 
+-- 9.1: a CSR instruction with a register
 abbrev pub csr : CsrOp → ℕ → Instr
 csr op word = Csr op (rd word) (csr_address word) (Register (rs1 word))
 
+-- 9.1: a CSR instruction with an immediate
 abbrev pub csr_with_immediate : CsrOp → ℕ → Instr
 csr_with_immediate op word = Csr op (rd word) (csr_address word) (Immediate (csr_immediate word))
 
