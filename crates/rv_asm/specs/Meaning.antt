@@ -10,6 +10,7 @@ use Rattle.rv_isa.specs.declared.instructions.Instr.TheVariants as instr
 use Rattle.rv_isa.specs.declared.operations.Width.TheVariants.{Byte, Half, Word}
 use Rattle.rv_asm.specs.Directive.{laid_by}
 use Rattle.rv_asm.specs.Layout.{Line, Layout, Meanings, layout, unlaid, signed_word, load_number, load_address, offset}
+use Rattle.rv_asm.specs.Mnemonic.{bare_instruction}
 use Rattle.rv_asm.specs.Operand.{Expression, Number, Symbol, Sum, Operand}
 use Rattle.rv_asm.specs.Placed.{Placed, placed}
 use Rattle.rv_asm.specs.Statement.{Statement, Instruction, Values, Bytes, and_then, is_between, expression_in}
@@ -80,14 +81,9 @@ instructions (operation.Store width) f address v = and_then (immediate v) (λ n.
 instructions (operation.OpImmediate op) f address v = and_then (immediate v) (λ n. one (instr.OpImmediate op f.rd f.rs1 n))
 instructions (operation.Shift op) f address v = and_then (natural 31 v) (λ n. one (instr.Shift op f.rd f.rs1 n))
 instructions (operation.Op op) f address v = one (instr.Op op f.rd f.rs1 f.rs2)
-instructions operation.Fence f address v = one instr.Fence
-instructions operation.FenceI f address v = one instr.FenceI
+instructions (operation.Bare bare) f address v = one (bare_instruction bare)
 instructions (operation.Csr op) f address v = and_then (natural 4095 f.csr) (λ csr. one (instr.Csr op f.rd csr (Register f.rs1)))
 instructions (operation.CsrImmediate op) f address v = and_then (natural 4095 f.csr) (λ csr. and_then (natural 31 v) (λ n. one (instr.Csr op f.rd csr (Immediate n))))
-instructions operation.Ecall f address v = one instr.Ecall
-instructions operation.Ebreak f address v = one instr.Ebreak
-instructions operation.Mret f address v = one instr.Mret
-instructions operation.Wfi f address v = one instr.Wfi
 instructions operation.LoadNumber f address v = Ok (load_number f.rd (signed_word v))
 instructions operation.LoadAddress f address v = Ok (load_address f.rd (signed_word (v -ℤ pos address)))
 

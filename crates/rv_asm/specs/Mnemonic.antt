@@ -1,6 +1,8 @@
 -- The mnemonics and directives.
 use Rattle.std.specs.Prelude.{ℕ, List, [], ◌∷◌, Option, codes}
 use Rattle.rv_isa.specs.declared.arithmetic.AluOp.TheVariants as alu
+use Rattle.rv_isa.specs.declared.instructions.Instr.{Instr}
+use Rattle.rv_isa.specs.declared.instructions.Instr.TheVariants as instr
 use Rattle.rv_isa.specs.declared.operations.Condition.TheVariants as condition
 use Rattle.rv_isa.specs.declared.operations.CsrOp.TheVariants as csr
 use Rattle.rv_isa.specs.declared.operations.ImmediateOp.TheVariants as immediate
@@ -9,12 +11,23 @@ use Rattle.rv_isa.specs.declared.operations.ShiftOp.TheVariants as shift
 use Rattle.rv_isa.specs.declared.operations.Width.TheVariants as width
 use Rattle.rv_asm.specs.Names.{named}
 use Rattle.rv_asm.specs.declared.directive.Directive.TheVariants.{Zeros, Align, Characters}
+use Rattle.rv_asm.specs.declared.mnemonic.BareInstruction.{BareInstruction}
+use Rattle.rv_asm.specs.declared.mnemonic.BareInstruction.TheVariants.{Fence, FenceI, Ecall, Ebreak, Mret, Wfi}
 use Rattle.rv_asm.specs.declared.operation.Form.{Form}
 use Rattle.rv_asm.specs.declared.operation.Form.TheVariants as form
 use Rattle.rv_asm.specs.declared.operation.Form.TheVariants.{Instruction, Choice, Values, Bytes}
-use Rattle.rv_asm.specs.declared.operation.Operation.TheVariants.{Lui, Auipc, Jal, Jalr, Branch, Load, Store, OpImmediate, Shift, Op, Fence, FenceI, Csr, CsrImmediate, Ecall, Ebreak, Mret, Wfi, LoadNumber, LoadAddress}
+use Rattle.rv_asm.specs.declared.operation.Operation.TheVariants.{Lui, Auipc, Jal, Jalr, Branch, Load, Store, OpImmediate, Shift, Op, Bare, Csr, CsrImmediate, LoadNumber, LoadAddress}
 use Rattle.rv_asm.specs.declared.operation.Place.TheVariants.{Rd, Rs1, Rs2, Value, Known, Target, Address, Csr as Csr', UpTo, Multiple, Text, Link, Return, One, MinusOne, Empty}
 use Rattle.rv_asm.specs.declared.operation.Section.TheVariants as section
+
+-- an instruction without operands
+abbrev pub bare_instruction : BareInstruction → Instr
+bare_instruction Fence = instr.Fence
+bare_instruction FenceI = instr.FenceI
+bare_instruction Ecall = instr.Ecall
+bare_instruction Ebreak = instr.Ebreak
+bare_instruction Mret = instr.Mret
+bare_instruction Wfi = instr.Wfi
 
 -- what each mnemonic and directive names, and the places that its operands fill
 unfoldable pub mnemonics : List (List ℕ × Form)
@@ -57,11 +70,11 @@ mnemonics =
     (codes "sra", Instruction (Op alu.Sra) Rd Rs1 Rs2) ∷
     (codes "or", Instruction (Op alu.Or) Rd Rs1 Rs2) ∷
     (codes "and", Instruction (Op alu.And) Rd Rs1 Rs2) ∷
-    (codes "ecall", Instruction Ecall Empty Empty Empty) ∷
-    (codes "ebreak", Instruction Ebreak Empty Empty Empty) ∷
-    (codes "fence", Instruction Fence Empty Empty Empty) ∷
+    (codes "ecall", Instruction (Bare Ecall) Empty Empty Empty) ∷
+    (codes "ebreak", Instruction (Bare Ebreak) Empty Empty Empty) ∷
+    (codes "fence", Instruction (Bare Fence) Empty Empty Empty) ∷
     -- Zifencei
-    (codes "fence.i", Instruction FenceI Empty Empty Empty) ∷
+    (codes "fence.i", Instruction (Bare FenceI) Empty Empty Empty) ∷
     -- Zicsr
     (codes "csrrw", Instruction (Csr csr.Write) Rd Csr' Rs1) ∷
     (codes "csrrs", Instruction (Csr csr.Set) Rd Csr' Rs1) ∷
@@ -83,8 +96,8 @@ mnemonics =
     (codes "sh2add", Instruction (Op alu.Sh2add) Rd Rs1 Rs2) ∷
     (codes "sh3add", Instruction (Op alu.Sh3add) Rd Rs1 Rs2) ∷
     -- machine mode
-    (codes "mret", Instruction Mret Empty Empty Empty) ∷
-    (codes "wfi", Instruction Wfi Empty Empty Empty) ∷
+    (codes "mret", Instruction (Bare Mret) Empty Empty Empty) ∷
+    (codes "wfi", Instruction (Bare Wfi) Empty Empty Empty) ∷
     -- pseudo-instructions
     (codes "nop", Instruction (OpImmediate immediate.Addi) Empty Empty Empty) ∷
     (codes "mv", Instruction (OpImmediate immediate.Addi) Rd Rs1 Empty) ∷

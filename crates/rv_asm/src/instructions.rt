@@ -156,8 +156,7 @@ pub fn instructions(
             amount: shift_amount(number)?,
         },
         Operation::Op(op) => Instr::Op { op, rd, rs1, rs2 },
-        Operation::Fence => Instr::Fence,
-        Operation::FenceI => Instr::FenceI,
+        Operation::Bare(bare) => bare.instruction(),
         Operation::Csr(op) => Instr::Csr {
             op,
             rd,
@@ -170,10 +169,6 @@ pub fn instructions(
             csr: csr_address(csr)?,
             source: CsrSource::Immediate(csr_immediate(number)?),
         },
-        Operation::Ecall => Instr::Ecall,
-        Operation::Ebreak => Instr::Ebreak,
-        Operation::Mret => Instr::Mret,
-        Operation::Wfi => Instr::Wfi,
         Operation::LoadNumber => return Ok(load_number(rd, signed_word(number))),
         Operation::LoadAddress => {
             return Ok(load_address(rd, signed_word(distance(number, address))));

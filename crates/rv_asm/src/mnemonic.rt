@@ -1,12 +1,13 @@
 ghost use Rattle.std.specs.Prelude.{◌≡◌};
-ghost use Rattle.rv_asm.specs.Mnemonic.{form_named};
+ghost use Rattle.rv_asm.specs.Mnemonic.{bare_instruction, form_named};
 
+use self::BareInstruction::{Ebreak, Ecall, Fence, FenceI, Mret, Wfi};
 use crate::directive::Directive::{Align, Characters, Zeros};
 use crate::names::lookup;
 use crate::operation::Form::{self, Bytes, Instruction};
 use crate::operation::Operation::{
-    Auipc, Branch, Csr, CsrImmediate, Ebreak, Ecall, Fence, FenceI, Jal, Jalr, Load, LoadAddress,
-    LoadNumber, Lui, Mret, Op, OpImmediate, Shift, Store, Wfi,
+    Auipc, Bare, Branch, Csr, CsrImmediate, Jal, Jalr, Load, LoadAddress, LoadNumber, Lui, Op,
+    OpImmediate, Shift, Store,
 };
 use crate::operation::Place::{
     Address, Csr as CsrName, Empty, Known, Link, MinusOne, Multiple, One, Rd, Return, Rs1, Rs2,
@@ -18,7 +19,33 @@ use rv_isa::Condition::{
 };
 use rv_isa::CsrOp::{Clear, Set, Write};
 use rv_isa::ImmediateOp::{Addi, Andi, Ori, Slti, Sltiu, Xori};
-use rv_isa::{AluOp, LoadForm, ShiftOp, Width};
+use rv_isa::{AluOp, Instr, LoadForm, ShiftOp, Width};
+
+/// An instruction without operands.
+#[derive(Clone, Copy)]
+pub enum BareInstruction {
+    Fence,
+    FenceI,
+    Ecall,
+    Ebreak,
+    Mret,
+    Wfi,
+}
+
+impl BareInstruction {
+    pub fn instruction(self) -> Instr
+        ensures { result ≡ bare_instruction self }
+    {
+        match self {
+            Fence => Instr::Fence,
+            FenceI => Instr::FenceI,
+            Ecall => Instr::Ecall,
+            Ebreak => Instr::Ebreak,
+            Mret => Instr::Mret,
+            Wfi => Instr::Wfi,
+        }
+    }
+}
 
 /// The mnemonics and directives: what each does, and where its operands go.
 static MNEMONICS: [(&[u8], Form); 106] = [
@@ -75,11 +102,11 @@ static MNEMONICS: [(&[u8], Form); 106] = [
     (b"sra", Instruction(Op(AluOp::Sra), Rd, Rs1, Rs2)),
     (b"or", Instruction(Op(AluOp::Or), Rd, Rs1, Rs2)),
     (b"and", Instruction(Op(AluOp::And), Rd, Rs1, Rs2)),
-    (b"ecall", Instruction(Ecall, Empty, Empty, Empty)),
-    (b"ebreak", Instruction(Ebreak, Empty, Empty, Empty)),
-    (b"fence", Instruction(Fence, Empty, Empty, Empty)),
+    (b"ecall", Instruction(Bare(Ecall), Empty, Empty, Empty)),
+    (b"ebreak", Instruction(Bare(Ebreak), Empty, Empty, Empty)),
+    (b"fence", Instruction(Bare(Fence), Empty, Empty, Empty)),
     // Zifencei
-    (b"fence.i", Instruction(FenceI, Empty, Empty, Empty)),
+    (b"fence.i", Instruction(Bare(FenceI), Empty, Empty, Empty)),
     // Zicsr
     (b"csrrw", Instruction(Csr(Write), Rd, CsrName, Rs1)),
     (b"csrrs", Instruction(Csr(Set), Rd, CsrName, Rs1)),
@@ -110,8 +137,8 @@ static MNEMONICS: [(&[u8], Form); 106] = [
     (b"sh2add", Instruction(Op(AluOp::Sh2add), Rd, Rs1, Rs2)),
     (b"sh3add", Instruction(Op(AluOp::Sh3add), Rd, Rs1, Rs2)),
     // machine mode
-    (b"mret", Instruction(Mret, Empty, Empty, Empty)),
-    (b"wfi", Instruction(Wfi, Empty, Empty, Empty)),
+    (b"mret", Instruction(Bare(Mret), Empty, Empty, Empty)),
+    (b"wfi", Instruction(Bare(Wfi), Empty, Empty, Empty)),
     // pseudo-instructions
     (b"nop", Instruction(OpImmediate(Addi), Empty, Empty, Empty)),
     (b"mv", Instruction(OpImmediate(Addi), Rd, Rs1, Empty)),

@@ -1,4 +1,5 @@
 use crate::directive::Directive;
+use crate::mnemonic::BareInstruction;
 use rv_isa::{AluOp, Condition, CsrOp, ImmediateOp, LoadForm, Reg, ShiftOp, Width};
 
 /// The section that a statement stands in.
@@ -21,16 +22,12 @@ pub enum Operation {
     OpImmediate(ImmediateOp),
     Shift(ShiftOp),
     Op(AluOp),
-    Fence,
-    FenceI,
+    /// An instruction without operands.
+    Bare(BareInstruction),
     /// With a register as source.
     Csr(CsrOp),
     /// With a number as source.
     CsrImmediate(CsrOp),
-    Ecall,
-    Ebreak,
-    Mret,
-    Wfi,
     /// `li`
     LoadNumber,
     /// `la`
