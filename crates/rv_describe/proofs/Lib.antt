@@ -4,7 +4,6 @@ pub mod Falls
 pub mod FirstError
 pub mod Legal
 pub mod LegalArrivals
-pub mod NamesOf
 pub mod NotToml
 pub mod Numbers
 pub mod Ranges

@@ -57,6 +57,7 @@ abbrev pub arrival_with : Option ℕ → Option Line → Option Bool → Option 
 arrival_with (Some cycle) (Some line) (Some level) = Some (record { cycle = cycle; line = line; level = level })
 arrival_with _ _ _ = None
 
+-- the arrival with the values of these fields
 abbrev pub arrival_from : Fields → Option Arrival
 arrival_from fields = arrival_with (cycle_of fields.cycle) fields.line (level_of fields.level)
 

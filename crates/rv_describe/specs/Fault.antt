@@ -1,5 +1,5 @@
 -- What is wrong with the values of a table of TOML.
-use Rattle.std.specs.Prelude.{ℕ, ℤ, Bool, true, false, is_some, List, Option, Some, None, if◌then◌else◌}
+use Rattle.std.specs.Prelude.{ℕ, ℤ, Bool, true, false, is_some, Option, Some, None, option_map, if◌then◌else◌}
 use Rattle.std.specs.{List.position_from, Option.option_map_or}
 use Rattle.toml.specs.Data.{Data, Members, as_integer, as_bool, as_str}
 use Rattle.rv_isa.specs.declared.{bounds.Bounds.Bounds, keys.Key.Key}
@@ -28,19 +28,22 @@ bounds_fault bounds size n =
 abbrev pub integer_fault : Bounds → ℕ → ℤ → Option ValueFault
 integer_fault bounds size z = option_map_or (bounds_fault bounds size) (word_of z) (Some OutOfRange)
 
--- what is wrong with the value of a key that holds a number, a way to mend wrong predictions, or a predictor
+-- what is wrong with the value of a key that holds a number
 abbrev pub number_fault : Bounds → ℕ → Data → Option ValueFault
 number_fault bounds size value = option_map_or (integer_fault bounds size) (as_integer value) (Some WrongKind)
 
-abbrev pub choice_fault : {X : Type 0} → (List ℕ → Option X) → Data → Option ValueFault
-choice_fault named value = option_map_or (λ name. unless (is_some (named name)) OutOfRange) (as_str value) (Some WrongKind)
+-- what is wrong with a choice: there is no name, or the name names none
+abbrev pub choice_fault : {X : Type 0} → Option (Option X) → Option ValueFault
+choice_fault None = Some WrongKind
+choice_fault (Some None) = Some OutOfRange
+choice_fault (Some (Some choice)) = None
 
 -- what is wrong with a value
 abbrev pub value_fault : Key → ℕ → Data → Option ValueFault
 value_fault (Number key) size value = number_fault (row_of key).bounds size value
-value_fault Recovery size value = choice_fault recovery_named value
+value_fault Recovery size value = choice_fault (option_map recovery_named (as_str value))
 value_fault (Pipelined kind) size value = unless (is_some (as_bool value)) WrongKind
-value_fault PredictorKind size value = choice_fault predictor_named value
+value_fault PredictorKind size value = choice_fault (option_map predictor_named (as_str value))
 
 -- A key that is not there has no fault. A name that must hold a table and does not is each of its keys' fault, and so
 -- the first one's.
@@ -57,6 +60,7 @@ ram_size_of members = number members RamSize
 unfoldable pub key_fault : Members → Key → Option ValueFault
 key_fault members key = held_fault key (ram_size_of members) (held members (key_place key))
 
+-- the value has this fault
 abbrev pub is_fault : ValueFault → Option ValueFault → Bool
 is_fault WrongKind (Some WrongKind) = true
 is_fault OutOfRange (Some OutOfRange) = true

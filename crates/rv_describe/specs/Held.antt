@@ -23,6 +23,7 @@ within_table name None = absent
 within_table name (Some (table members)) = at_name (get_member name members)
 within_table name _ = misplaced
 
+-- what stands at a name at top level, or of a table
 abbrev pub held_under : Option (List ℕ) → List ℕ → Members → Held
 held_under None name members = at_name (get_member name members)
 held_under (Some outer) name members = within_table name (get_member outer members)

@@ -18,19 +18,22 @@ word_of (negsuc number) = None
 abbrev pub value_at : Members → Key → Option Data
 value_at members key = value_in (held members (key_place key))
 
--- the number, truth or choice at a key, or else the standard machine's
+-- the number at a key, or else the standard machine's
 unfoldable pub number : Members → NumberKey → ℕ
 number members key =
     unwrap_or (option_and_then word_of (option_and_then as_integer (value_at members (Number key)))) (number_of standard_values key)
 
+-- whether the units of a kind are pipelined
 unfoldable pub is_pipelined : Members → Kind → Bool
 is_pipelined members kind =
     unwrap_or (option_and_then as_bool (value_at members (Pipelined kind))) (at_kind kind standard_values.kinds).pipelined
 
+-- the way to mend wrong predictions
 unfoldable pub recovery : Members → Mending
 recovery members =
     unwrap_or (option_and_then recovery_named (option_and_then as_str (value_at members Recovery))) standard_values.recovery
 
+-- the predictor
 unfoldable pub predictor : Members → Prediction
 predictor members =
     unwrap_or (option_and_then predictor_named (option_and_then as_str (value_at members PredictorKind))) standard_values.predictor.kind

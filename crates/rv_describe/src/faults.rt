@@ -1,8 +1,7 @@
-ghost use Rattle.std.specs.Prelude.{◌≡◌, Some};
+ghost use Rattle.std.specs.Prelude.{◌≡◌};
 ghost use Rattle.std.specs.List.{position_from};
 ghost use Rattle.toml.specs.View.{view, table_view};
-ghost use Rattle.rv_isa.specs.Choice.{recovery_named, predictor_named};
-ghost use Rattle.rv_describe.specs.Fault.{unless, bounds_fault, integer_fault, number_fault, choice_fault, value_fault, key_fault, is_fault, first_place, ram_size_of};
+ghost use Rattle.rv_describe.specs.Fault.{unless, number_fault, choice_fault, value_fault, key_fault, is_fault, first_place, ram_size_of};
 
 use crate::held::{Held, look_up};
 use crate::settings::number;
@@ -25,48 +24,27 @@ fn unless(holds: bool, fault: ValueFault) -> Option<ValueFault>
 }
 
 // What is wrong with a number, on a machine with so many bytes of RAM.
-fn bounds_fault(bounds: Bounds, size: u32, number: u32) -> Option<ValueFault>
-    ensures { result ≡ bounds_fault bounds size number }
-{
-    if bounds.is_in_range(size, number) {
-        unless(bounds.is_power(number), ValueFault::NotPowerOfTwo)
-    } else {
-        Some(ValueFault::OutOfRange)
-    }
-}
-
-fn integer_fault(bounds: Bounds, size: u32, number: i64) -> Option<ValueFault>
-    ensures { result ≡ integer_fault bounds size number }
-{
-    match word_of(number) {
-        Some(number) => bounds_fault(bounds, size, number),
-        None => Some(ValueFault::OutOfRange),
-    }
-}
-
 fn number_fault(bounds: Bounds, size: u32, value: &Value) -> Option<ValueFault>
     ensures { result ≡ number_fault bounds size (view value.now) }
 {
-    match value.as_integer() {
-        Some(number) => integer_fault(bounds, size, number),
-        None => Some(ValueFault::WrongKind),
+    let Some(number) = value.as_integer() else {
+        return Some(ValueFault::WrongKind);
+    };
+    match word_of(number) {
+        Some(number) if bounds.is_in_range(size, number) => {
+            unless(bounds.is_power(number), ValueFault::NotPowerOfTwo)
+        }
+        _ => Some(ValueFault::OutOfRange),
     }
 }
 
-fn recovery_fault(value: &Value) -> Option<ValueFault>
-    ensures { result ≡ choice_fault recovery_named (view value.now) }
+// What is wrong with a choice, given what its name names, if it is a name.
+fn choice_fault<X: Copy>(named: Option<Option<X>>) -> Option<ValueFault>
+    ensures { result ≡ choice_fault named }
 {
-    match value.as_str() {
-        Some(name) => unless(Recovery::named(name).is_some(), ValueFault::OutOfRange),
-        None => Some(ValueFault::WrongKind),
-    }
-}
-
-fn predictor_fault(value: &Value) -> Option<ValueFault>
-    ensures { result ≡ choice_fault predictor_named (view value.now) }
-{
-    match value.as_str() {
-        Some(name) => unless(PredictorKind::named(name).is_some(), ValueFault::OutOfRange),
+    match named {
+        Some(Some(_)) => None,
+        Some(None) => Some(ValueFault::OutOfRange),
         None => Some(ValueFault::WrongKind),
     }
 }
@@ -77,9 +55,9 @@ fn value_fault(key: Key, size: u32, value: &Value) -> Option<ValueFault>
 {
     match key {
         Key::Number(key) => number_fault(key.bounds(), size, value),
-        Key::Recovery => recovery_fault(value),
+        Key::Recovery => choice_fault(value.as_str().map(Recovery::named)),
         Key::Pipelined(_) => unless(value.is_bool(), ValueFault::WrongKind),
-        Key::PredictorKind => predictor_fault(value),
+        Key::PredictorKind => choice_fault(value.as_str().map(PredictorKind::named)),
     }
 }
 

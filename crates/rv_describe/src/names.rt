@@ -20,7 +20,7 @@ fn is_among(name: &str, names: &[&str]) -> bool
 pub fn has_other_name(table: &Table, names: &[&str]) -> bool
     ensures { result ≡ has_other_name (map (λ name. name.now) names.now) (table_view table.now) }
 {
-    for name in table.keys() {
+    for (name, _) in table {
         if !is_among(name.as_str(), names) {
             return true;
         }

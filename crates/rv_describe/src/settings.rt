@@ -1,7 +1,8 @@
-ghost use Rattle.std.specs.Prelude.{◌≡◌};
+ghost use Rattle.std.specs.Prelude.{◌≡◌, option_and_then, option_copied};
+ghost use Rattle.toml.specs.Data.{as_str};
 ghost use Rattle.toml.specs.View.{table_view};
 ghost use Rattle.rv_isa.specs.Key.{kind_with};
-ghost use Rattle.rv_describe.specs.Setting.{number, is_pipelined, recovery, predictor, values_of};
+ghost use Rattle.rv_describe.specs.Setting.{value_at, number, is_pipelined, recovery, predictor, values_of};
 
 use crate::held::value_at;
 use crate::words::word_of;
@@ -37,18 +38,20 @@ fn is_pipelined(table: &Table, kind: Kind) -> bool
     value.as_bool().unwrap_or(default)
 }
 
+fn name_at(table: &Table, key: Key) -> Option<&str>
+    ensures { option_copied result ≡ option_and_then as_str (value_at (table_view table.now) key) }
+{
+    value_at(table, key)?.as_str()
+}
+
 #[tactic(auto, unfolding(crate::specs::Setting::recovery))]
 fn recovery(table: &Table) -> Recovery
     ensures { result ≡ recovery (table_view table.now) }
 {
     let default = Values::standard().recovery;
-    let Some(value) = value_at(table, Key::Recovery) else {
-        return default;
-    };
-    let Some(name) = value.as_str() else {
-        return default;
-    };
-    Recovery::named(name).unwrap_or(default)
+    name_at(table, Key::Recovery)
+        .and_then(Recovery::named)
+        .unwrap_or(default)
 }
 
 #[tactic(auto, unfolding(crate::specs::Setting::predictor))]
@@ -56,13 +59,9 @@ fn predictor(table: &Table) -> PredictorKind
     ensures { result ≡ predictor (table_view table.now) }
 {
     let default = Values::standard().predictor.kind;
-    let Some(value) = value_at(table, Key::PredictorKind) else {
-        return default;
-    };
-    let Some(name) = value.as_str() else {
-        return default;
-    };
-    PredictorKind::named(name).unwrap_or(default)
+    name_at(table, Key::PredictorKind)
+        .and_then(PredictorKind::named)
+        .unwrap_or(default)
 }
 
 // The values of the execution units of a kind.

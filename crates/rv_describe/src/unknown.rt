@@ -1,64 +1,37 @@
-ghost use Rattle.std.specs.Prelude.{◌≡◌, ◌&&◌, not, Some, None, option_copied};
-ghost use Rattle.std.specs.List.{list_any};
-ghost use Rattle.std.specs.Str.{bytes_eq};
+ghost use Rattle.std.specs.Prelude.{◌≡◌, not, Some, option_copied};
 ghost use Rattle.toml.specs.View.{view, table_view};
-ghost use Rattle.rv_isa.specs.Key.{key_place};
 ghost use Rattle.rv_describe.specs.Names.{any_member};
 ghost use Rattle.rv_describe.specs.Unknown.{same_table, is_key, is_table, unknown_within, unknown_at_top, has_unknown};
 
-use rv_isa::{Key, all_keys};
+use rv_isa::all_keys;
 use toml::{Table, Value};
 
 fn same_table(table: Option<&str>, other: Option<&str>) -> bool
     ensures { result ≡ same_table (option_copied table.entry) (option_copied other.entry) }
 {
-    match table {
-        Some(table) => match other {
-            Some(other) => table == other,
-            None => false,
-        },
-        None => other.is_none(),
+    match (table, other) {
+        (Some(table), Some(other)) => table == other,
+        (None, None) => true,
+        _ => false,
     }
-}
-
-fn key_among(keys: &[Key], table: Option<&str>, name: &str) -> bool
-    ensures { result
-        ≡ list_any (λ key. same_table (key_place key).table (option_copied table.entry)
-        && bytes_eq (key_place key).name name.now) keys.now }
-{
-    for key in keys {
-        let place = key.place();
-        if same_table(place.table, table) && place.name == name {
-            return true;
-        }
-    }
-    false
 }
 
 // Some key has this name in this table, or at top level.
+#[tactic(auto, unfolding(crate::specs::Unknown::is_key))]
 fn is_key(table: Option<&str>, name: &str) -> bool
     ensures { result ≡ is_key (option_copied table.entry) name.now }
 {
-    key_among(all_keys(), table, name)
-}
-
-fn table_among(keys: &[Key], name: &str) -> bool
-    ensures { result ≡ list_any (λ key. same_table (key_place key).table (Some name.now)) keys.now }
-{
-    for key in keys {
-        let place = key.place();
-        if same_table(place.table, Some(name)) {
-            return true;
-        }
-    }
-    false
+    all_keys().iter().any(|key| same_table(key.place().table, table) && key.place().name == name)
 }
 
 // Some key is in this table.
+#[tactic(auto, unfolding(crate::specs::Unknown::is_table))]
 fn is_table(name: &str) -> bool
     ensures { result ≡ is_table name.now }
 {
-    table_among(all_keys(), name)
+    all_keys()
+        .iter()
+        .any(|key| same_table(key.place().table, Some(name)))
 }
 
 // Some name in a table of keys is none of its keys.
