@@ -1,9 +1,10 @@
 -- The laws of the table of the keys: every key stands in the order, and values are legal exactly where each is one that its key takes.
-use Rattle.std.proofs.Common.{◌≡◌, ℕ, zero, suc, ◌≤◌, ◌%◌, Bool, true, List, [], ◌∷◌, Some, IsTrue, ◌↔◌, refl, arith}
+use Rattle.std.proofs.Common.{◌≡◌, ℕ, zero, suc, ◌≤◌, ◌%◌, Bool, true, List, [], ◌∷◌, Some, unwrap_or,  IsTrue, ◌↔◌, refl, arith}
 use Rattle.std.specs.Prelude.{nat_le, ◌==◌, ◌&&◌}
 use Rattle.std.specs.Int.{is_power_of_two}
 use lib.Count.{ones}
-use Rattle.std.specs.List.{list_all, slice_get}
+use Rattle.std.specs.List.{list_all, position_from, slice_get}
+use Rattle.std.specs.Str.{bytes_eq}
 use Rattle.std.proofs.lemmas.Bool.{and_parts, and_from, eqb-true, eq-eqb}
 use Rattle.std.proofs.lemmas.Bool.Decides.{nat_tests}
 use Rattle.rv_isa.specs.declared.keys.Key.{Key}
@@ -21,52 +22,15 @@ use Rattle.rv_isa.specs.declared.values.Values.{Values}
 use Rattle.rv_isa.specs.declared.bounds.Bounds.TheVariants.{Whole, Pages, Powers, Words, Front}
 use Rattle.rv_isa.specs.Bounds.{lies, takes}
 use Rattle.rv_isa.specs.Description.{IsLegal, IsLegalMemory, IsLegalPipeline, IsLegalKind, IsLegalCache, Within}
-use Rattle.rv_isa.specs.Key.{ObeysEachKey, kind_number, kind_row, kind_with, number_of, obeys, order, row_of, values_with}
+use Rattle.rv_isa.specs.Key.{ObeysEachKey, kind_number, kind_row, kind_with, number_of, obeys, order, row_of, text_of, values_with}
 use Rattle.rv_isa.specs.PerKind.{at_kind}
 use Rattle.rv_isa.specs.Standard.{standard_values}
 use Rattle.rv_isa.proofs.WithKind.{at_kind-by_kind}
 
--- every key stands in the order
+-- every key stands in the order, at the first place with its text
 pub in_order : (key : Key) → (index : ℕ) × (slice_get order index ≡ Some key)
 unfolding order
-in_order (Number RamBase) = (0, refl)
-in_order (Number RamSize) = (1, refl)
-in_order (Number RomBytes) = (2, refl)
-in_order (Number FetchWidth) = (3, refl)
-in_order (Number DispatchWidth) = (4, refl)
-in_order (Number CommitWidth) = (5, refl)
-in_order (Number BusWidth) = (6, refl)
-in_order (Number FetchBuffer) = (7, refl)
-in_order (Number Rob) = (8, refl)
-in_order (Number StoreQueue) = (9, refl)
-in_order (Number Forward) = (10, refl)
-in_order Recovery = (11, refl)
-in_order (Number (OfKind Alu Stations)) = (12, refl)
-in_order (Number (OfKind Alu Units)) = (13, refl)
-in_order (Number (OfKind Alu Latency)) = (14, refl)
-in_order (Pipelined Alu) = (15, refl)
-in_order (Number (OfKind Mul Stations)) = (16, refl)
-in_order (Number (OfKind Mul Units)) = (17, refl)
-in_order (Number (OfKind Mul Latency)) = (18, refl)
-in_order (Pipelined Mul) = (19, refl)
-in_order (Number (OfKind Div Stations)) = (20, refl)
-in_order (Number (OfKind Div Units)) = (21, refl)
-in_order (Number (OfKind Div Latency)) = (22, refl)
-in_order (Pipelined Div) = (23, refl)
-in_order (Number (OfKind Mem Stations)) = (24, refl)
-in_order (Number (OfKind Mem Units)) = (25, refl)
-in_order (Number (OfKind Mem Latency)) = (26, refl)
-in_order (Pipelined Mem) = (27, refl)
-in_order (Number CacheSets) = (28, refl)
-in_order (Number CacheWays) = (29, refl)
-in_order (Number CacheLine) = (30, refl)
-in_order (Number CacheHit) = (31, refl)
-in_order (Number CacheMiss) = (32, refl)
-in_order (Number CacheWriteBack) = (33, refl)
-in_order PredictorKind = (34, refl)
-in_order (Number PredictorEntries) = (35, refl)
-in_order (Number ReportDumpAddress) = (36, refl)
-in_order (Number ReportDumpWords) = (37, refl)
+in_order key = (unwrap_or (position_from (λ other. bytes_eq (text_of other) (text_of key)) 0 order) 0, grind arith)
 
 -- what passes at each element passes at one of them, and what passes everywhere passes at each element
 all_at : {X : Type 0} (test : X → Bool) (xs : List X) (i : ℕ) (x : X) → list_all test xs ≡ true → slice_get xs i ≡ Some x → test x ≡ true
@@ -187,33 +151,8 @@ takes_front size n below whole =
     let fits : nat_le n size ≡ true = grind (arith, nat_tests) in
     and_from (nat_le n size && (n % 4096 == 0)) true (and_from (nat_le n size) (n % 4096 == 0) fits (eq-eqb (n % 4096) 0 whole)) refl
 
-takes_kind : (size : ℕ) (k : KindValues) (kind : Kind) (key : KindKey) → IsLegalKind k → takes (kind_row kind key).bounds size (kind_number k key) ≡ true
-takes_kind size k kind Stations legal = takes_whole 1 64 size k.stations legal.stations
-takes_kind size k kind Units legal = takes_whole 1 8 size k.units legal.units
-takes_kind size k kind Latency legal = takes_whole 1 64 size k.latency legal.latency
-
 takes_number : (v : Values) → IsLegal v → (key : NumberKey) → takes (row_of key).bounds v.ram_size (number_of v key) ≡ true
-takes_number v legal RamBase = takes_pages 0 0xff00_0000 v.ram_size v.ram_base (omega arith, legal.memory.base.0) legal.memory.base.1
-takes_number v legal RamSize = takes_pages 4096 16777216 v.ram_size v.ram_size (legal.memory.size.0, legal.memory.size.1) legal.memory.size.2
-takes_number v legal RomBytes = takes_front v.ram_size v.rom_bytes legal.memory.rom legal.memory.rom_aligned
-takes_number v legal FetchWidth = takes_whole 1 8 v.ram_size v.fetch_width legal.pipeline.fetch_width
-takes_number v legal DispatchWidth = takes_whole 1 8 v.ram_size v.dispatch_width legal.pipeline.dispatch_width
-takes_number v legal CommitWidth = takes_whole 1 8 v.ram_size v.commit_width legal.pipeline.commit_width
-takes_number v legal BusWidth = takes_whole 1 8 v.ram_size v.bus_width legal.pipeline.bus_width
-takes_number v legal FetchBuffer = takes_whole 1 32 v.ram_size v.fetch_buffer legal.pipeline.fetch_buffer
-takes_number v legal Rob = takes_whole 1 256 v.ram_size v.rob legal.pipeline.rob
-takes_number v legal StoreQueue = takes_whole 1 64 v.ram_size v.store_queue legal.pipeline.store_queue
-takes_number v legal Forward = takes_whole 1 64 v.ram_size v.forward legal.pipeline.forward
-takes_number v legal (OfKind kind key) = takes_kind v.ram_size (at_kind kind v.kinds) kind key (legal.kinds kind)
-takes_number v legal CacheSets = takes_powers 1 256 v.ram_size v.cache.sets legal.cache.0.sets legal.cache.0.sets_power
-takes_number v legal CacheWays = takes_whole 1 16 v.ram_size v.cache.ways legal.cache.0.ways
-takes_number v legal CacheLine = takes_powers 4 128 v.ram_size v.cache.line legal.cache.0.line legal.cache.0.line_power
-takes_number v legal CacheHit = takes_whole 1 16 v.ram_size v.cache.hit legal.cache.1.hit
-takes_number v legal CacheMiss = takes_whole 0 1000 v.ram_size v.cache.miss (omega arith, legal.cache.1.miss)
-takes_number v legal CacheWriteBack = takes_whole 0 1000 v.ram_size v.cache.write_back (omega arith, legal.cache.1.write_back)
-takes_number v legal PredictorEntries = takes_whole 1 4096 v.ram_size v.predictor.entries legal.predictor
-takes_number v legal ReportDumpAddress = takes_words v.ram_size v.report.dump_address legal.report.dump_aligned
-takes_number v legal ReportDumpWords = takes_whole 0 256 v.ram_size v.report.dump_words (omega arith, legal.report.dump_words)
+takes_number v legal key = grind (arith, nat_tests, legal.kinds, takes_pages, takes_whole, takes_powers, takes_front, takes_words)
 
 obeyed : (v : Values) → IsLegal v → ObeysEachKey v
 obeyed v legal (Number key) = takes_number v legal key
@@ -231,67 +170,12 @@ kind_number-kind_with number is_pipelined kind Units = refl
 kind_number-kind_with number is_pipelined kind Latency = refl
 
 pub number_of-values_with : (number : NumberKey → ℕ) (is_pipelined : Kind → Bool) (recovery : Mending) (predictor : Prediction) (key : NumberKey) → number_of (values_with number is_pipelined recovery predictor) key ≡ number key
-number_of-values_with number is_pipelined recovery predictor RamBase = refl
-number_of-values_with number is_pipelined recovery predictor RamSize = refl
-number_of-values_with number is_pipelined recovery predictor RomBytes = refl
-number_of-values_with number is_pipelined recovery predictor FetchWidth = refl
-number_of-values_with number is_pipelined recovery predictor DispatchWidth = refl
-number_of-values_with number is_pipelined recovery predictor CommitWidth = refl
-number_of-values_with number is_pipelined recovery predictor BusWidth = refl
-number_of-values_with number is_pipelined recovery predictor FetchBuffer = refl
-number_of-values_with number is_pipelined recovery predictor Rob = refl
-number_of-values_with number is_pipelined recovery predictor StoreQueue = refl
-number_of-values_with number is_pipelined recovery predictor Forward = refl
-number_of-values_with number is_pipelined recovery predictor (OfKind kind key) =
-    rw (at_kind-by_kind (kind_with number is_pipelined) kind) (kind_number-kind_with number is_pipelined kind key)
-number_of-values_with number is_pipelined recovery predictor CacheSets = refl
-number_of-values_with number is_pipelined recovery predictor CacheWays = refl
-number_of-values_with number is_pipelined recovery predictor CacheLine = refl
-number_of-values_with number is_pipelined recovery predictor CacheHit = refl
-number_of-values_with number is_pipelined recovery predictor CacheMiss = refl
-number_of-values_with number is_pipelined recovery predictor CacheWriteBack = refl
-number_of-values_with number is_pipelined recovery predictor PredictorEntries = refl
-number_of-values_with number is_pipelined recovery predictor ReportDumpAddress = refl
-number_of-values_with number is_pipelined recovery predictor ReportDumpWords = refl
+number_of-values_with number is_pipelined recovery predictor key = grind arith
 
 -- the standard values are taken, whatever the bytes of RAM
 power_16 : IsTrue (is_power_of_two 16)
 unfolding ones
 power_16 = refl
 
-standard_kind : (size : ℕ) (kind : Kind) (key : KindKey) → takes (kind_row kind key).bounds size (kind_number (at_kind kind standard_values.kinds) key) ≡ true
-standard_kind size Alu Stations = refl
-standard_kind size Alu Units = refl
-standard_kind size Alu Latency = refl
-standard_kind size Mul Stations = refl
-standard_kind size Mul Units = refl
-standard_kind size Mul Latency = refl
-standard_kind size Div Stations = refl
-standard_kind size Div Units = refl
-standard_kind size Div Latency = refl
-standard_kind size Mem Stations = refl
-standard_kind size Mem Units = refl
-standard_kind size Mem Latency = refl
-
 pub standard_taken : (size : ℕ) (key : NumberKey) → takes (row_of key).bounds size (number_of standard_values key) ≡ true
-standard_taken size RamBase = refl
-standard_taken size RamSize = refl
-standard_taken size RomBytes = takes_front size 0 (omega arith) refl
-standard_taken size FetchWidth = refl
-standard_taken size DispatchWidth = refl
-standard_taken size CommitWidth = refl
-standard_taken size BusWidth = refl
-standard_taken size FetchBuffer = refl
-standard_taken size Rob = refl
-standard_taken size StoreQueue = refl
-standard_taken size Forward = refl
-standard_taken size (OfKind kind key) = standard_kind size kind key
-standard_taken size CacheSets = takes_powers 1 256 size 16 (omega arith, omega arith) power_16
-standard_taken size CacheWays = refl
-standard_taken size CacheLine = takes_powers 4 128 size 16 (omega arith, omega arith) power_16
-standard_taken size CacheHit = refl
-standard_taken size CacheMiss = refl
-standard_taken size CacheWriteBack = refl
-standard_taken size PredictorEntries = refl
-standard_taken size ReportDumpAddress = refl
-standard_taken size ReportDumpWords = refl
+standard_taken size key = grind (arith, nat_tests, power_16)
