@@ -1,4 +1,4 @@
-use Rattle.std.proofs.Common.{◌≡◌, ℕ, Bool, true, false, cond, ◌&&◌, List, [], ◌∷◌, filter, refl, ◌∙◌, sym, ap, nat_le}
+use Rattle.std.proofs.Common.{◌≡◌, ℕ, Bool, true, false, cond, ◌&&◌, List, [], ◌∷◌, filter, refl, ◌∙◌, sym, ap, nat_le, arith}
 use Rattle.rv_isa.specs.declared.lines.Line.{Line}
 use Rattle.rv_isa.specs.declared.lines.Line.TheVariants.{Software, Timer, External}
 use Rattle.rv_isa.specs.declared.lines.Lines.{Lines}
@@ -18,8 +18,7 @@ last_level-last_or (a ∷ b ∷ later) = last_level-last_or (b ∷ later)
 
 -- the arrival at the front counts or does not
 last_or-front : (b : Bool) (before : Bool) (a : Arrival) (rest : List Arrival) → last_or (cond b a.level before) rest ≡ last_or before (cond b (a ∷ rest) rest)
-last_or-front true before a rest = refl
-last_or-front false before a rest = refl
+last_or-front b before a rest = grind arith
 
 -- a line's level after some arrivals
 line_after : (line : Line) (level : Lines → Bool) → ((lines : Lines) (a : Arrival) → level (line_set lines a) ≡ cond (is_line line a.line) a.level (level lines)) → (lines : Lines) (xs : List Arrival) → level (lines_after lines xs) ≡ last_or (level lines) (filter (λ a. is_line line a.line) xs)
@@ -29,14 +28,10 @@ line_after line level sets lines (a ∷ xs) =
     line_after line level sets (line_set lines a) xs ∙ ap (λ b. last_or b rest) (sets lines a) ∙ last_or-front (is_line line a.line) (level lines) a rest
 
 filter-front : {X : Type 0} (p : X → Bool) (b : Bool) (x : X) (rest : List X) → filter p (cond b (x ∷ rest) rest) ≡ cond b (cond (p x) (x ∷ filter p rest) (filter p rest)) (filter p rest)
-filter-front p true x rest = refl
-filter-front p false x rest = refl
+filter-front p b x rest = grind arith
 
 both_front : {X : Type 0} (b c : Bool) (x : X) {xs ys : List X} → xs ≡ ys → cond c (cond b (x ∷ xs) xs) xs ≡ cond (b && c) (x ∷ ys) ys
-both_front true true x e = ap (λ r. x ∷ r) e
-both_front true false x e = e
-both_front false true x e = e
-both_front false false x e = e
+both_front b c x e = grind (arith, e)
 
 -- what passes two tests
 filter-both : {X : Type 0} (p q : X → Bool) (xs : List X) → filter p (filter q xs) ≡ filter (λ x. p x && q x) xs

@@ -63,12 +63,6 @@ module _ {X : Type 0} (seq : X → ℕ) where
   pub AreBelow-push : (n : ℕ) (xs : List X) (x : X) → AreBelow seq n xs → seq x < n → AreBelow seq n (xs ++ x ∷ [])
   AreBelow-push n xs x are lt = All-push (λ z. seq z < n) xs x are lt
 
-  pub AreBelow-left : (n : ℕ) (xs ys : List X) → AreBelow seq n (xs ++ ys) → AreBelow seq n xs
-  AreBelow-left n xs ys are k d lt = let at = get_or_append_left xs ys d k lt in omega (arith, ap seq at, are k d (omega (arith, length-append xs ys)))
-
-  pub AreBelow-right : (n : ℕ) (xs ys : List X) → AreBelow seq n (xs ++ ys) → AreBelow seq n ys
-  AreBelow-right n xs ys are k d lt = let at = get_or-append-add xs ys k d in omega (arith, ap seq at, are (length xs + k) d (omega (arith, length-append xs ys)))
-
   -- those below n are below n
   pub below-AreBelow : (n : ℕ) (xs : List X) → AreBelow seq n (below seq n xs)
   below-AreBelow n [] = λ k d lt. absurd (omega arith)
@@ -76,12 +70,6 @@ module _ {X : Type 0} (seq : X → ℕ) where
     | inl low ↦ rw (below-stays n x xs low) (AreBelow-cons n x (below seq n xs) low (below-AreBelow n xs))
     | inr high ↦ rw (below-goes n x xs high) (below-AreBelow n xs)
   ]
-
-  pub AreBelow-take : (n k : ℕ) (xs : List X) → AreBelow seq n xs → AreBelow seq n (take k xs)
-  AreBelow-take n k xs are = All-take (λ z. seq z < n) k xs are
-
-  pub AreBelow-drop : (n k : ℕ) (xs : List X) → AreBelow seq n xs → AreBelow seq n (drop k xs)
-  AreBelow-drop n k xs are = All-drop (λ z. seq z < n) k xs are
 
   -- the one at a place
   pub AreBelow-slice_get : (n i : ℕ) (xs : List X) (x : X) → AreBelow seq n xs → slice_get xs i ≡ Some x → seq x < n
@@ -167,9 +155,6 @@ module _ {X Y : Type 0} (seq : X → ℕ) (key : Y → ℕ) (f : X → Y) (same 
     | inl low ↦ below-stays key n (f x) (map f xs) (omega (arith, same x)) ∙ ap (λ l. f x ∷ l) (below-map n xs) ∙ sym (ap (map f) (below-stays seq n x xs low))
     | inr high ↦ below-goes key n (f x) (map f xs) (omega (arith, same x)) ∙ below-map n xs ∙ sym (ap (map f) (below-goes seq n x xs high))
   ]
-
-  pub AreBelow-map : (n : ℕ) (xs : List X) → AreBelow seq n xs → AreBelow key n (map f xs)
-  AreBelow-map n xs are = All-map (λ z. key z < n) f xs (λ k d lt. omega (arith, same (get_or xs k d), are k d lt))
 
   pub IsInOrder-map : (xs : List X) → IsInOrder seq xs → IsInOrder key (map f xs)
   IsInOrder-map [] order = λ i j d lt within. absurd (omega arith)

@@ -1,5 +1,5 @@
 -- The part of a kind in parts that were made or changed.
-use Rattle.std.proofs.Common.{◌≡◌, true, false, cond, inl, inr, refl, sym, ap, subst, ◌∙◌}
+use Rattle.std.proofs.Common.{◌≡◌, true, false, cond, inl, inr, refl, sym, ap, subst, ◌∙◌, arith}
 use Rattle.std.proofs.lemmas.Bool.{cases_Bool}
 use Rattle.rv_isa.specs.declared.operations.Kind.{Kind}
 use Rattle.rv_isa.specs.declared.operations.Kind.TheVariants.{Alu, Mul, Div, Mem}
@@ -8,23 +8,13 @@ use Rattle.rv_isa.specs.PerKind.{at_kind, by_kind, for_each, is_same, with_kind}
 
 -- a kind is the same as itself, and as no other
 pub is_same-own : (kind : Kind) → is_same kind kind ≡ true
-is_same-own Alu = refl
-is_same-own Mul = refl
-is_same-own Div = refl
-is_same-own Mem = refl
+is_same-own kind = grind arith
 
 pub is_same-true : (a b : Kind) → is_same a b ≡ true → a ≡ b
-is_same-true Alu Alu is = refl
-is_same-true Mul Mul is = refl
-is_same-true Div Div is = refl
-is_same-true Mem Mem is = refl
-is_same-true a b is = absurd (cc)
+is_same-true a b is = grind arith
 
 pub at_kind-by_kind : {X : Type 0} (part : Kind → X) (kind : Kind) → at_kind kind (by_kind part) ≡ part kind
-at_kind-by_kind part Alu = refl
-at_kind-by_kind part Mul = refl
-at_kind-by_kind part Div = refl
-at_kind-by_kind part Mem = refl
+at_kind-by_kind part kind = grind arith
 
 pub at_kind-for_each : {X Y : Type 0} (change : X → Y) (parts : PerKind X) (kind : Kind) → at_kind kind (for_each change parts) ≡ change (at_kind kind parts)
 at_kind-for_each change parts kind = at_kind-by_kind (λ k. change (at_kind k parts)) kind

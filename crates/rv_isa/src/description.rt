@@ -84,12 +84,7 @@ fn obeys(values: &Values, key: Key) -> bool
 fn obeys_each(values: &Values, keys: &[Key]) -> bool
     ensures { result ≡ list_all (obeys values.now) keys.now }
 {
-    for key in keys {
-        if !obeys(values, *key) {
-            return false;
-        }
-    }
-    true
+    keys.iter().all(|key| obeys(values, *key))
 }
 
 fn is_legal(values: &Values) -> bool

@@ -114,7 +114,6 @@ pub fn sources(instruction: &Instr) -> [Option<Reg>; 2]
     ensures in_range { All (λ source. IfSome source (λ register. register < 32)) result }
 {
     match *instruction {
-        Instr::Lui { .. } | Instr::Auipc { .. } | Instr::Jal { .. } => [None, None],
         Instr::Jalr { rs1, .. }
         | Instr::Load { rs1, .. }
         | Instr::OpImmediate { rs1, .. }
@@ -126,9 +125,7 @@ pub fn sources(instruction: &Instr) -> [Option<Reg>; 2]
             CsrSource::Register(rs1) => [rs1.operand(), None],
             CsrSource::Immediate(_) => [None, None],
         },
-        Instr::Fence | Instr::FenceI | Instr::Ecall | Instr::Ebreak | Instr::Mret | Instr::Wfi => [
-            None, None,
-        ],
+        _ => [None, None],
     }
 }
 
@@ -147,14 +144,7 @@ pub fn target(instruction: &Instr) -> Option<Reg>
         | Instr::Shift { rd, .. }
         | Instr::Op { rd, .. }
         | Instr::Csr { rd, .. } => rd,
-        Instr::Branch { .. }
-        | Instr::Store { .. }
-        | Instr::Fence
-        | Instr::FenceI
-        | Instr::Ecall
-        | Instr::Ebreak
-        | Instr::Mret
-        | Instr::Wfi => Reg::ZERO,
+        _ => Reg::ZERO,
     };
     if rd.number() == 0 { None } else { Some(rd) }
 }
@@ -173,12 +163,6 @@ pub fn kind(instruction: &Instr) -> Option<Kind>
         | Instr::Branch { .. }
         | Instr::OpImmediate { .. }
         | Instr::Shift { .. } => Some(Kind::Alu),
-        Instr::Fence
-        | Instr::FenceI
-        | Instr::Csr { .. }
-        | Instr::Ecall
-        | Instr::Ebreak
-        | Instr::Mret
-        | Instr::Wfi => None,
+        _ => None,
     }
 }

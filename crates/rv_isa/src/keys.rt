@@ -1,7 +1,7 @@
-ghost use Rattle.std.specs.Prelude.{◌≡◌, codes, []};
+ghost use Rattle.std.specs.Prelude.{◌≡◌, []};
 ghost use Rattle.std.specs.List.{slice_get};
 ghost use Rattle.std.specs.Option.{option_map_or};
-ghost use Rattle.rv_isa.specs.Key.{inside, joined, kind_name, kind_row, order, key_place, row, row_of, shown, shown_row, text_at, text_of, top};
+ghost use Rattle.rv_isa.specs.Key.{joined, kind_row, order, key_place, row, row_of, shown, shown_row, text_at, text_of, top};
 
 use crate::bounds::Bounds::{self, Front, Pages, Powers, Whole, Words};
 use crate::operations::Kind;
@@ -80,15 +80,26 @@ fn top(name: &'static str) -> Place
 }
 
 // A key of a table.
-fn inside(table: &'static str, name: &'static str, text: &'static str) -> Place
-    ensures place { shown result ≡ inside table.now name.now }
-    ensures text { result.text.now ≡ text.now }
-{
-    Place {
-        table: Some(table),
-        name,
-        text,
-    }
+macro_rules! inside {
+    ($table:literal, $name:literal) => {
+        Place {
+            table: Some($table),
+            name: $name,
+            text: concat!($table, ".", $name),
+        }
+    };
+}
+
+// A key of a kind's table.
+macro_rules! of_kind {
+    ($kind:expr, $name:literal) => {
+        match $kind {
+            Kind::Alu => inside!("alu", $name),
+            Kind::Mul => inside!("mul", $name),
+            Kind::Div => inside!("div", $name),
+            Kind::Mem => inside!("mem", $name),
+        }
+    };
 }
 
 fn row(place: Place, bounds: Bounds) -> NumberRow
@@ -98,59 +109,14 @@ fn row(place: Place, bounds: Bounds) -> NumberRow
     NumberRow { place, bounds }
 }
 
-// The table with the keys of a kind.
-fn kind_name(kind: Kind) -> &'static str
-    ensures { result.now ≡ kind_name kind }
-{
-    match kind {
-        Kind::Alu => "alu",
-        Kind::Mul => "mul",
-        Kind::Div => "div",
-        Kind::Mem => "mem",
-    }
-}
-
-// The text of a number's key.
-fn number_text(kind: Kind, key: KindKey) -> &'static str
-    ensures { result.now ≡ joined (Some (kind_name kind)) (kind_row kind key).place.name }
-{
-    match (kind, key) {
-        (Kind::Alu, KindKey::Stations) => "alu.stations",
-        (Kind::Alu, KindKey::Units) => "alu.units",
-        (Kind::Alu, KindKey::Latency) => "alu.latency",
-        (Kind::Mul, KindKey::Stations) => "mul.stations",
-        (Kind::Mul, KindKey::Units) => "mul.units",
-        (Kind::Mul, KindKey::Latency) => "mul.latency",
-        (Kind::Div, KindKey::Stations) => "div.stations",
-        (Kind::Div, KindKey::Units) => "div.units",
-        (Kind::Div, KindKey::Latency) => "div.latency",
-        (Kind::Mem, KindKey::Stations) => "mem.stations",
-        (Kind::Mem, KindKey::Units) => "mem.units",
-        (Kind::Mem, KindKey::Latency) => "mem.latency",
-    }
-}
-
-fn pipelined_text(kind: Kind) -> &'static str
-    ensures { result.now ≡ joined (Some (kind_name kind)) (codes "pipelined") }
-{
-    match kind {
-        Kind::Alu => "alu.pipelined",
-        Kind::Mul => "mul.pipelined",
-        Kind::Div => "div.pipelined",
-        Kind::Mem => "mem.pipelined",
-    }
-}
-
 fn kind_row(kind: Kind, key: KindKey) -> NumberRow
     ensures row { shown_row result ≡ kind_row kind key }
     ensures text { result.place.text.now ≡ joined (kind_row kind key).place.table (kind_row kind key).place.name }
 {
-    let table = kind_name(kind);
-    let text = number_text(kind, key);
     match key {
-        KindKey::Stations => row(inside(table, "stations", text), Whole(1, 64)),
-        KindKey::Units => row(inside(table, "units", text), Whole(1, 8)),
-        KindKey::Latency => row(inside(table, "latency", text), Whole(1, 64)),
+        KindKey::Stations => row(of_kind!(kind, "stations"), Whole(1, 64)),
+        KindKey::Units => row(of_kind!(kind, "units"), Whole(1, 8)),
+        KindKey::Latency => row(of_kind!(kind, "latency"), Whole(1, 64)),
     }
 }
 
@@ -173,27 +139,15 @@ impl NumberKey {
             NumberKey::StoreQueue => row(top("store_queue"), Whole(1, 64)),
             NumberKey::Forward => row(top("forward"), Whole(1, 64)),
             NumberKey::OfKind(kind, key) => kind_row(kind, key),
-            NumberKey::CacheSets => row(inside("cache", "sets", "cache.sets"), Powers(1, 256)),
-            NumberKey::CacheWays => row(inside("cache", "ways", "cache.ways"), Whole(1, 16)),
-            NumberKey::CacheLine => row(inside("cache", "line", "cache.line"), Powers(4, 128)),
-            NumberKey::CacheHit => row(inside("cache", "hit", "cache.hit"), Whole(1, 16)),
-            NumberKey::CacheMiss => row(inside("cache", "miss", "cache.miss"), Whole(0, 1000)),
-            NumberKey::CacheWriteBack => row(
-                inside("cache", "write_back", "cache.write_back"),
-                Whole(0, 1000),
-            ),
-            NumberKey::PredictorEntries => row(
-                inside("predictor", "entries", "predictor.entries"),
-                Whole(1, 4096),
-            ),
-            NumberKey::ReportDumpAddress => row(
-                inside("report", "dump_address", "report.dump_address"),
-                Words,
-            ),
-            NumberKey::ReportDumpWords => row(
-                inside("report", "dump_words", "report.dump_words"),
-                Whole(0, 256),
-            ),
+            NumberKey::CacheSets => row(inside!("cache", "sets"), Powers(1, 256)),
+            NumberKey::CacheWays => row(inside!("cache", "ways"), Whole(1, 16)),
+            NumberKey::CacheLine => row(inside!("cache", "line"), Powers(4, 128)),
+            NumberKey::CacheHit => row(inside!("cache", "hit"), Whole(1, 16)),
+            NumberKey::CacheMiss => row(inside!("cache", "miss"), Whole(0, 1000)),
+            NumberKey::CacheWriteBack => row(inside!("cache", "write_back"), Whole(0, 1000)),
+            NumberKey::PredictorEntries => row(inside!("predictor", "entries"), Whole(1, 4096)),
+            NumberKey::ReportDumpAddress => row(inside!("report", "dump_address"), Words),
+            NumberKey::ReportDumpWords => row(inside!("report", "dump_words"), Whole(0, 256)),
         }
     }
 
@@ -214,8 +168,8 @@ impl Key {
         match self {
             Key::Number(key) => key.row().place,
             Key::Recovery => top("recovery"),
-            Key::Pipelined(kind) => inside(kind_name(kind), "pipelined", pipelined_text(kind)),
-            Key::PredictorKind => inside("predictor", "kind", "predictor.kind"),
+            Key::Pipelined(kind) => of_kind!(kind, "pipelined"),
+            Key::PredictorKind => inside!("predictor", "kind"),
         }
     }
 }
