@@ -39,6 +39,16 @@ value_of Sh3add a b = (b + a * 8) % 2 ^ 32
 
 -- the kind of unit for a register operation
 abbrev pub operation_kind_of : AluOp → Kind
+operation_kind_of Add = kind.Alu
+operation_kind_of Sub = kind.Alu
+operation_kind_of Sll = kind.Alu
+operation_kind_of Slt = kind.Alu
+operation_kind_of Sltu = kind.Alu
+operation_kind_of Xor = kind.Alu
+operation_kind_of Srl = kind.Alu
+operation_kind_of Sra = kind.Alu
+operation_kind_of Or = kind.Alu
+operation_kind_of And = kind.Alu
 operation_kind_of Mul = kind.Mul
 operation_kind_of Mulh = kind.Mul
 operation_kind_of Mulhsu = kind.Mul
@@ -47,4 +57,6 @@ operation_kind_of Div = kind.Div
 operation_kind_of Divu = kind.Div
 operation_kind_of Rem = kind.Div
 operation_kind_of Remu = kind.Div
-operation_kind_of _ = kind.Alu
+operation_kind_of Sh1add = kind.Alu
+operation_kind_of Sh2add = kind.Alu
+operation_kind_of Sh3add = kind.Alu

@@ -24,7 +24,9 @@ width_of HalfUnsigned = width.Half
 abbrev pub is_sign_extended : LoadForm → Bool
 is_sign_extended Byte = true
 is_sign_extended Half = true
-is_sign_extended _ = false
+is_sign_extended Word = false
+is_sign_extended ByteUnsigned = false
+is_sign_extended HalfUnsigned = false
 
 -- Unprivileged ISA 20191213, 2.4.1: each does to a register and a constant what the operation does to two registers
 abbrev pub immediate_operation : ImmediateOp → AluOp

@@ -69,7 +69,19 @@ pub(crate) fn operation_kind(op: AluOp) -> Kind
     match op {
         AluOp::Mul | AluOp::Mulh | AluOp::Mulhsu | AluOp::Mulhu => Kind::Mul,
         AluOp::Div | AluOp::Divu | AluOp::Rem | AluOp::Remu => Kind::Div,
-        _ => Kind::Alu,
+        AluOp::Add
+        | AluOp::Sub
+        | AluOp::Sll
+        | AluOp::Slt
+        | AluOp::Sltu
+        | AluOp::Xor
+        | AluOp::Srl
+        | AluOp::Sra
+        | AluOp::Or
+        | AluOp::And
+        | AluOp::Sh1add
+        | AluOp::Sh2add
+        | AluOp::Sh3add => Kind::Alu,
     }
 }
 

@@ -114,6 +114,7 @@ pub fn sources(instruction: &Instr) -> [Option<Reg>; 2]
     ensures in_range { All (λ source. IfSome source (λ register. register < 32)) result }
 {
     match *instruction {
+        Instr::Lui { .. } | Instr::Auipc { .. } | Instr::Jal { .. } => [None, None],
         Instr::Jalr { rs1, .. }
         | Instr::Load { rs1, .. }
         | Instr::OpImmediate { rs1, .. }
@@ -125,7 +126,9 @@ pub fn sources(instruction: &Instr) -> [Option<Reg>; 2]
             CsrSource::Register(rs1) => [rs1.operand(), None],
             CsrSource::Immediate(_) => [None, None],
         },
-        _ => [None, None],
+        Instr::Fence | Instr::FenceI | Instr::Ecall | Instr::Ebreak | Instr::Mret | Instr::Wfi => [
+            None, None,
+        ],
     }
 }
 
@@ -144,7 +147,14 @@ pub fn target(instruction: &Instr) -> Option<Reg>
         | Instr::Shift { rd, .. }
         | Instr::Op { rd, .. }
         | Instr::Csr { rd, .. } => rd,
-        _ => Reg::ZERO,
+        Instr::Branch { .. }
+        | Instr::Store { .. }
+        | Instr::Fence
+        | Instr::FenceI
+        | Instr::Ecall
+        | Instr::Ebreak
+        | Instr::Mret
+        | Instr::Wfi => Reg::ZERO,
     };
     if rd.number() == 0 { None } else { Some(rd) }
 }
@@ -163,6 +173,12 @@ pub fn kind(instruction: &Instr) -> Option<Kind>
         | Instr::Branch { .. }
         | Instr::OpImmediate { .. }
         | Instr::Shift { .. } => Some(Kind::Alu),
-        _ => None,
+        Instr::Fence
+        | Instr::FenceI
+        | Instr::Csr { .. }
+        | Instr::Ecall
+        | Instr::Ebreak
+        | Instr::Mret
+        | Instr::Wfi => None,
     }
 }
