@@ -9,14 +9,17 @@ use Rattle.rv_hardware.specs.declared.step.Step.TheVariants.{Retired, Trap, Inte
 use Rattle.rv_text.specs.Line.{line_of, count_line, ratio_text}
 use Rattle.rv_report.specs.declared.totals.{StepCounts.StepCounts, Totals.Totals}
 
+-- an instruction retired in a step
 abbrev pub is_retired : Step → Bool
 is_retired (Retired row) = true
 is_retired _ = false
 
+-- a step is an exception
 abbrev pub is_trap : Step → Bool
 is_trap (Trap pc cause value cycle) = true
 is_trap _ = false
 
+-- a step is an interrupt
 abbrev pub is_interrupt : Step → Bool
 is_interrupt (Interrupt pc cause cycle) = true
 is_interrupt _ = false
