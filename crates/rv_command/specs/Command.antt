@@ -44,13 +44,15 @@ number_from low high text = if is_unsigned_in low high text
 abbrev pub number_in : Text → ℕ → ℕ → List Row → Option ℕ
 number_in name low high rows = option_and_then (number_from low high) (one_of name rows)
 
--- the numbers of each option
+-- the number of `--limit`
 abbrev pub limit_in : List Row → Option ℕ
 limit_in = number_in (codes "limit") 1 most_steps
 
+-- the number of `--from`
 abbrev pub from_in : List Row → Option ℕ
 from_in = number_in (codes "from") 0 last_cycle
 
+-- the number of `--cycles`
 abbrev pub cycles_in : List Row → Option ℕ
 cycles_in = number_in (codes "cycles") 1 most_cycles_shown
 

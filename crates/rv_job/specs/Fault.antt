@@ -79,22 +79,16 @@ fault_line WriteFailed = codes "error: output\n"
 
 -- the exit status of a fault: 1 for a job that is refused, 4 where output failed, 5 for want of memory
 unfoldable pub fault_status : SimError → ℕ
-fault_status TooLong = 1
-fault_status TooManyDescriptions = 1
-fault_status (Description error) = 1
-fault_status (Described number error) = 1
-fault_status (Arrivals error) = 1
-fault_status (Assembly error) = 1
-fault_status ImageDoesNotFit = 1
-fault_status (DoesNotFit number) = 1
 fault_status Memory = 5
 fault_status WriteFailed = 4
+fault_status refused = 1
 
--- the line that tells why the input could not be read, and the exit status
+-- the line that tells why the input could not be read
 unfoldable pub input_fault_line : InputError → List ℕ
 input_fault_line unread.Failed = codes "error: input\n"
 input_fault_line unread.Memory = fault_line Memory
 
+-- the exit status where the input could not be read: 4 where a read failed, 5 for want of memory
 unfoldable pub input_fault_status : InputError → ℕ
 input_fault_status unread.Failed = 4
 input_fault_status unread.Memory = fault_status Memory

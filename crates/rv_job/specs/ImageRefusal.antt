@@ -1,3 +1,4 @@
+-- Why a text is refused where its image alone is asked for.
 use Rattle.std.specs.Prelude.{◌<◌, ℕ, List, length}
 use Rattle.rv_isa.specs.declared.values.Values.{Values}
 use Rattle.rv_job.specs.Input.{most_bytes}
@@ -6,7 +7,7 @@ use Rattle.rv_job.specs.Parts.{parts_of}
 use Rattle.rv_job.specs.declared.errors.SimError.{SimError}
 use Rattle.rv_job.specs.declared.errors.SimError.TheVariants.{TooLong}
 
--- Why a text is refused where its image is asked for: its arrivals are not read, and the image need not fit.
+-- a fault of a text, of which the arrivals are not read; the image need not fit
 pub data RefusesImage (text : List ℕ) : SimError → Type 0 where
   too_long : most_bytes < length text → RefusesImage text TooLong
   description : {error : SimError} → HasLegalLength text → RefusesDescription (parts_of text).description error → RefusesImage text error

@@ -1,3 +1,4 @@
+-- What is read of the input.
 use Rattle.std.specs.Prelude.{◌≡◌, ℕ, ◌+◌, List, Option, IfSome, take}
 
 -- the most bytes that a job may have

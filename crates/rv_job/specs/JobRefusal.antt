@@ -1,3 +1,4 @@
+-- Why a text is refused as a job.
 use Rattle.std.specs.Prelude.{◌<◌, ℕ, List, length}
 use Rattle.rv_isa.specs.declared.{images.Image.Image, lines.Arrival.Arrival, values.Values.Values}
 use Rattle.rv_job.specs.Input.{most_bytes}
@@ -7,7 +8,7 @@ use Rattle.rv_job.specs.TextImage.{Fits}
 use Rattle.rv_job.specs.declared.errors.SimError.{SimError}
 use Rattle.rv_job.specs.declared.errors.SimError.TheVariants.{TooLong, ImageDoesNotFit}
 
--- Why a text is refused as a job: what is tested earlier is without fault.
+-- a fault of a text, where what is tested earlier is without fault.
 pub data RefusesJob (text : List ℕ) : SimError → Type 0 where
   too_long : most_bytes < length text → RefusesJob text TooLong
   description : {error : SimError} → HasLegalLength text → RefusesDescription (parts_of text).description error → RefusesJob text error

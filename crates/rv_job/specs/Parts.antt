@@ -2,6 +2,7 @@
 use Rattle.std.specs.Prelude.{ℕ, List, [], ◌∷◌, ◌++◌, Bool, ◌==◌, ◌||◌, if◌then◌else◌, Option, Some, None, codes}
 use Rattle.std.specs.{List.before_first, List.after_first, Option.option_map, Option.option_map_or, Option.option_or, Str.bytes_eq}
 
+-- the byte at which a line ends
 abbrev pub is_line_feed : ℕ → Bool
 is_line_feed byte = byte == 10
 
@@ -37,6 +38,7 @@ later_halves (byte ∷ later) =
 unfoldable pub halves_of : List ℕ → Option Halves
 halves_of text = option_or (halves_at_front text) (later_halves text)
 
+-- the three parts of a job
 pub record Parts : Type 0 where
   pub description : List ℕ
   pub arrivals : List ℕ

@@ -1,5 +1,5 @@
 -- The lines of a trace, one a step.
-use Rattle.std.specs.Prelude.{ℕ, List, ◌++◌, codes, decimal, Option, Some, None}
+use Rattle.std.specs.Prelude.{ℕ, List, ◌++◌, codes, decimal, Option, Some, None, option_map}
 use Rattle.std.specs.List.{flat_map}
 use Rattle.rv_isa.specs.Cause.{code_of}
 use Rattle.rv_hardware.specs.declared.step.{Execution.Execution, Row.Row, Step.Step}
@@ -11,13 +11,13 @@ unfoldable pub stamp_text : Option ℕ → List ℕ
 stamp_text None = codes "-"
 stamp_text (Some cycle) = decimal cycle
 
+-- the cycle in which what was executed was issued
 abbrev pub issued_in : Option Execution → Option ℕ
-issued_in None = None
-issued_in (Some execution) = Some execution.issued
+issued_in execution = option_map (λ (e : Execution). e.issued) execution
 
+-- the cycle in which its result was broadcast
 abbrev pub broadcast_in : Option Execution → Option ℕ
-broadcast_in None = None
-broadcast_in (Some execution) = Some execution.broadcast
+broadcast_in execution = option_map (λ (e : Execution). e.broadcast) execution
 
 -- pc, word, and the cycles of fetch, dispatch, issue, broadcast and retirement
 unfoldable pub passage_text : Row → List ℕ

@@ -16,6 +16,7 @@ stop_text Breakpoint = codes "breakpoint"
 stop_text (Stale pc) = codes "stale " ++ word_text pc
 stop_text Exhausted = codes "exhausted"
 
+-- the line that says so
 unfoldable pub stop_line : Stop → List ℕ
 stop_line stop = line_of (codes "stop") (stop_text stop)
 

@@ -2,7 +2,7 @@
 use Rattle.std.proofs.Common.{◌≡◌, ℕ, List, Option}
 use Rattle.std.specs.Prelude.{Err}
 use Rattle.rv_job.specs.declared.errors.SimError.{SimError}
-use Rattle.rv_job.specs.declared.errors.SimError.TheVariants.{TooLong, TooManyDescriptions, Description, Described, Arrivals, Assembly, ImageDoesNotFit, DoesNotFit, Memory, WriteFailed}
+use Rattle.rv_job.specs.declared.errors.SimError.TheVariants.{Memory, WriteFailed}
 use Rattle.rv_sim.specs.Answer.{IsAnswer}
 use Rattle.rv_sim.specs.Task.{AsksForMemory, Ends, Shows}
 use Rattle.rv_sim.specs.declared.task.Task.{Task}
@@ -14,11 +14,4 @@ pub Ends-by_error : {T : Type 0} (task : Task) (Is : T → List ℕ → Type 0) 
     → Ends task old new (Err error)
 Ends-by_error task Is status Memory old new asks shows nothing = (asks, Keeps-same old new nothing)
 Ends-by_error task Is status WriteFailed old new asks shows (answer, text, is, beginning) = (text, status answer, shows answer text is, beginning)
-Ends-by_error task Is status TooLong old new asks shows never = absurd never
-Ends-by_error task Is status TooManyDescriptions old new asks shows never = absurd never
-Ends-by_error task Is status (Description error) old new asks shows never = absurd never
-Ends-by_error task Is status (Described number error) old new asks shows never = absurd never
-Ends-by_error task Is status (Arrivals error) old new asks shows never = absurd never
-Ends-by_error task Is status (Assembly error) old new asks shows never = absurd never
-Ends-by_error task Is status ImageDoesNotFit old new asks shows never = absurd never
-Ends-by_error task Is status (DoesNotFit number) old new asks shows never = absurd never
+Ends-by_error task Is status _ old new asks shows never = absurd never

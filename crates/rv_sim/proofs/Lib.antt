@@ -3,5 +3,5 @@ mod Compared
 mod Ending
 mod Flushed
 mod LinesAfter
-mod Running
+mod Referred
 mod Simulated

@@ -4,6 +4,7 @@ use Rattle.rv_isa.specs.Arrivals.{lines_at}
 use Rattle.rv_isa.specs.Description.{IsLegal}
 use Rattle.rv_isa.specs.declared.lines.Arrival.{Arrival}
 use Rattle.rv_isa.specs.declared.lines.Lines.{Lines}
+use Rattle.rv_isa.specs.declared.values.Values.{Values}
 use Rattle.rv_arch.specs.Reset.{reset}
 use Rattle.rv_arch.specs.declared.outcome.Stop.{Stop}
 use Rattle.rv_hardware.specs.Hardware.{Hardware}
@@ -73,14 +74,16 @@ values_kept {arrivals} sound (cycled {old = old} {middle = middle} {report = rep
     values_kept goes.sound rest ∙ goes.values_are
 
 -- the report of a run of the core
-pub run_simulated : (job : Job) (options asked : Options) (old : Hardware) (stop : Stop) (text : List ℕ)
-    → IsLegal job.description → IsLoadable job.description job.image.base job.image.bytes job.image.start → old ≡ hardware_of job
-    → asked ≡ shown job.description.report options → IsRunReport job.arrivals asked old stop text → IsSimulation job options stop text
-run_simulated job options asked old stop text legal loadable old_is asked_is run =
+pub run_simulated : (job : Job) (options asked : Options) (values : Values) (old : Hardware) (stop : Stop) (text : List ℕ)
+    → values ≡ job.description → IsLegal values → IsLoadable job.description job.image.base job.image.bytes job.image.start → old ≡ hardware_of job
+    → asked ≡ shown values.report options → IsRunReport job.arrivals asked old stop text → IsSimulation job options stop text
+run_simulated job options asked values old stop text values_are values_legal loadable old_is asked_is run =
+    let legal = subst IsLegal values_are values_legal in
+    let options_are : asked ≡ shown job.description.report options = asked_is ∙ ap (λ (v : Values). shown v.report options) values_are in
     let cycles = subst (λ (h : Hardware). Cycles job.arrivals h run.reports run.new) old_is run.cycles in
-    let stops = subst (λ (o : Options). IsStop o.limit run.reports run.new stop) asked_is run.stops in
-    let values = values_kept (always_sound (at_reset legal loadable)) cycles in
+    let stops = subst (λ (o : Options). IsStop o.limit run.reports run.new stop) options_are run.stops in
+    let kept = values_kept (always_sound (at_reset legal loadable)) cycles in
     let text_is : text_of job options stop run.reports run.new ≡ text =
-    (λ i. run_report (steps_of run.reports) (totals_at run.reports stop) (layout_of (sym values i)) (seen run.new) run.new.lines (sym asked_is i)) ∙ sym run.text_is
+    (λ i. run_report (steps_of run.reports) (totals_at run.reports stop) (layout_of (sym kept i)) (seen run.new) run.new.lines (sym options_are i)) ∙ sym run.text_is
     in
     subst (IsSimulation job options stop) text_is (simulated job options stop run.reports run.new legal loadable cycles stops)

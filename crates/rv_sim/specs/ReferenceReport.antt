@@ -1,3 +1,4 @@
+-- What the report of a run of the one-at-a-time machine says.
 use Rattle.std.specs.Prelude.{◌≡◌, ℕ, List}
 use Rattle.rv_isa.specs.declared.values.{ReportValues.ReportValues, Values.Values}
 use Rattle.rv_arch.specs.Machine.{Machine}

@@ -2,7 +2,7 @@
 use Rattle.std.specs.Prelude.{◌≡◌, ℕ, Bool, List, length, true, false, ⊤, Option, Result, Ok, Err}
 use Rattle.std.specs.Io.KnownBytes.{Appends, Keeps}
 use Rattle.rv_arch.specs.declared.outcome.Stop.{Stop}
-use Rattle.rv_arch.specs.declared.outcome.Stop.TheVariants.{Stale, Limit, Breakpoint, Exhausted}
+use Rattle.rv_arch.specs.declared.outcome.Stop.TheVariants.{Stale}
 use Rattle.rv_command.specs.declared.command.Command.{Command}
 use Rattle.rv_command.specs.declared.command.Command.TheVariants as command
 use Rattle.rv_isa.specs.Standard.{standard_values}
@@ -14,7 +14,7 @@ use Rattle.rv_job.specs.JobRefusal.{RefusesJob}
 use Rattle.rv_job.specs.JobText.{IsJobOf}
 use Rattle.rv_job.specs.ListedJob.{IsListedJobOf}
 use Rattle.rv_job.specs.declared.errors.SimError.{SimError}
-use Rattle.rv_job.specs.declared.errors.SimError.TheVariants.{TooLong, TooManyDescriptions, Description, Described, Arrivals, Assembly, ImageDoesNotFit, DoesNotFit, Memory, WriteFailed}
+use Rattle.rv_job.specs.declared.errors.SimError.TheVariants.{Memory, WriteFailed}
 use Rattle.rv_picture.specs.declared.picture.Form.{Form}
 use Rattle.rv_picture.specs.declared.picture.Form.TheVariants.{Text, Svg}
 use Rattle.rv_report.specs.declared.options.Options.{Options}
@@ -75,9 +75,7 @@ predictor_of (Compare comparison limit) = standard_values.predictor
 -- the exit status of a run
 unfoldable pub stop_status : Stop → ℕ
 stop_status (Stale pc) = 3
-stop_status Limit = 0
-stop_status Breakpoint = 0
-stop_status Exhausted = 0
+stop_status _ = 0
 
 -- the text of a task that was done, and the exit status
 abbrev pub Shows : Task → List ℕ → ℕ → Type 0
@@ -94,26 +92,14 @@ Shows (Explain listed limit) text status =
     (stop : Stop) × IsExplanationOf listed limit stop text × (status ≡ stop_status stop)
 Shows (Compare comparison limit) text status = IsComparisonTable comparison limit text × (status ≡ 0)
 
--- only a run asks for memory
+-- a task asks for memory, but for one that only says which image a job makes
 abbrev pub AsksForMemory : Task → Type 0
-AsksForMemory (Run job options) = ⊤
-AsksForMemory (Reference job options) = ⊤
 AsksForMemory (Check made) = ⊥
-AsksForMemory (Picture listed view) = ⊤
-AsksForMemory (Log listed limit) = ⊤
-AsksForMemory (Explain listed limit) = ⊤
-AsksForMemory (Compare comparison limit) = ⊤
+AsksForMemory _ = ⊤
 
 -- A task ended so: with an exit status and its text whole, or by an error. The known bytes of its output go from old to new.
 abbrev pub Ends : Task → Option (List ℕ) → Option (List ℕ) → Result ℕ SimError → Type 0
 Ends task old new (Ok status) = (text : List ℕ) × Shows task text status × Appends old new text
 Ends task old new (Err WriteFailed) = (text : List ℕ) × (status : ℕ) × Shows task text status × AppendsBeginning old new text
 Ends task old new (Err Memory) = AsksForMemory task × Keeps old new
-Ends task old new (Err TooLong) = ⊥
-Ends task old new (Err TooManyDescriptions) = ⊥
-Ends task old new (Err (Description error)) = ⊥
-Ends task old new (Err (Described number error)) = ⊥
-Ends task old new (Err (Arrivals error)) = ⊥
-Ends task old new (Err (Assembly error)) = ⊥
-Ends task old new (Err ImageDoesNotFit) = ⊥
-Ends task old new (Err (DoesNotFit number)) = ⊥
+Ends task old new (Err _) = ⊥

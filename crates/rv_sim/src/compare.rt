@@ -2,25 +2,23 @@ ghost use Rattle.std.specs.Prelude.{◌≡◌, IfOk, IfErr};
 ghost use Rattle.rv_sim.specs.Answer.{IsAnswer};
 ghost use Rattle.rv_sim.specs.Comparison.{AreRuns, IsComparisonTable, IsRun};
 
-use crate::boxed_predictor::BoxedPredictor;
+use crate::boxed_predictor::{BoxedPredictor, boxed};
 use rv_core::Core;
-use rv_front::{BackwardTaken, Bimodal, NotTaken};
-use rv_isa::PredictorKind;
 use rv_job::{Comparison, Job, SimError};
 use rv_report::{Totals, run_totals, write_table};
 use std::alloc::Global;
 use std::io::Write;
 
-// Runs a job with a predictor.
-fn run_with(
-    alloc: Global,
-    job: &Job,
-    predictor: BoxedPredictor,
-    limit: u64,
-) -> Result<Totals, SimError>
+// Runs a job on the core that it describes, with the predictor that it describes, up to a breakpoint, a stale word or a
+// limit of cycles.
+fn run_one(alloc: Global, job: &Job, limit: u64) -> Result<Totals, SimError>
     ensures totals { IfOk result (IsRun limit job.now) }
     ensures errors { IfErr result (λ e. e ≡ SimError.Memory) }
 {
+    let Ok(predictor) = boxed(alloc, job.description.values().predictor) else {
+        return Err(SimError::Memory);
+    };
+    let predictor = BoxedPredictor { predictor };
     let Ok(steps) = Vec::with_capacity(alloc, 8) else {
         return Err(SimError::Memory);
     };
@@ -29,38 +27,6 @@ fn run_with(
         return Err(SimError::Memory);
     };
     Ok(run_totals(core, &job.arrivals, limit, steps))
-}
-
-// Runs a job on the core that it describes, with the predictor that it describes, up to a breakpoint, a stale word or a
-// limit of cycles.
-fn run_one(alloc: Global, job: &Job, limit: u64) -> Result<Totals, SimError>
-    ensures totals { IfOk result (IsRun limit job.now) }
-    ensures errors { IfErr result (λ e. e ≡ SimError.Memory) }
-{
-    let described = job.description.values().predictor;
-    match described.kind {
-        PredictorKind::NotTaken => {
-            let Ok(predictor) = Box::new(alloc, NotTaken) else {
-                return Err(SimError::Memory);
-            };
-            run_with(alloc, job, BoxedPredictor { predictor }, limit)
-        }
-        PredictorKind::BackwardTaken => {
-            let Ok(predictor) = Box::new(alloc, BackwardTaken) else {
-                return Err(SimError::Memory);
-            };
-            run_with(alloc, job, BoxedPredictor { predictor }, limit)
-        }
-        PredictorKind::Bimodal => {
-            let Ok(bimodal) = Bimodal::new(alloc, described.entries) else {
-                return Err(SimError::Memory);
-            };
-            let Ok(predictor) = Box::new(alloc, bimodal) else {
-                return Err(SimError::Memory);
-            };
-            run_with(alloc, job, BoxedPredictor { predictor }, limit)
-        }
-    }
 }
 
 // Runs jobs one behind the other.

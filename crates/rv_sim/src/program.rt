@@ -5,11 +5,9 @@ ghost use Rattle.rv_job.specs.Input.{IsInputOf};
 ghost use Rattle.rv_sim.specs.Program.{EndsWithin, Runs};
 ghost use Rattle.rv_job.specs.declared.input.InputError.{InputError as OneError};
 
-use crate::boxed_predictor::BoxedPredictor;
+use crate::boxed_predictor::{BoxedPredictor, boxed};
 use crate::task::{Task, begin, finish};
 use rv_command::Command;
-use rv_front::{BackwardTaken, Bimodal, NotTaken};
-use rv_isa::PredictorKind;
 use rv_job::{FaultLines, SimError, read_input};
 use std::alloc::Global;
 use std::io::{Read, Write};
@@ -40,25 +38,9 @@ fn finish_task<W: Write, E: Write>(
 ) -> u8
     ensures { EndsWithin task (W.contents output.old) (W.contents output.new) errors.old errors.new result }
 {
-    let described = task.predictor();
-    match described.kind {
-        PredictorKind::NotTaken => match Box::new(alloc, NotTaken) {
-            Ok(predictor) => finish(alloc, task, BoxedPredictor { predictor }, output, errors),
-            Err(_) => errors.tell(SimError::Memory),
-        },
-        PredictorKind::BackwardTaken => match Box::new(alloc, BackwardTaken) {
-            Ok(predictor) => finish(alloc, task, BoxedPredictor { predictor }, output, errors),
-            Err(_) => errors.tell(SimError::Memory),
-        },
-        PredictorKind::Bimodal => {
-            let Ok(bimodal) = Bimodal::new(alloc, described.entries) else {
-                return errors.tell(SimError::Memory);
-            };
-            match Box::new(alloc, bimodal) {
-                Ok(predictor) => finish(alloc, task, BoxedPredictor { predictor }, output, errors),
-                Err(_) => errors.tell(SimError::Memory),
-            }
-        }
+    match boxed(alloc, task.predictor()) {
+        Ok(predictor) => finish(alloc, task, BoxedPredictor { predictor }, output, errors),
+        Err(_) => errors.tell(SimError::Memory),
     }
 }
 

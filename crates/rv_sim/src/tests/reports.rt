@@ -63,22 +63,6 @@ fn an_empty_text_traps_at_its_start_and_then_at_zero(rt: HostRuntime) {
 }
 
 #[test]
-fn a_run_ends_at_its_limit_of_cycles(rt: HostRuntime) {
-    let traced = Command::Run {
-        trace: true,
-        limit: 10,
-    };
-    let lines = [
-        "T 80000000 00000002 00000000 C2",
-        "T 00000000 00000001 00000000 C8",
-        "stop limit",
-        "cycles 10",
-        "traps 4",
-    ];
-    check_run(&rt, rt.alloc(), traced, "", 0, &lines);
-}
-
-#[test]
 fn a_report_without_a_trace_begins_with_the_stop(rt: HostRuntime) -> Result<(), Fail> {
     let ended = run_text(rt.alloc(), CORE, b"addi x1,x0,5\nebreak\n");
     assert!(rt;

@@ -1,7 +1,7 @@
 use Rattle.std.proofs.Common.{subst, sym}
 use Rattle.rv_job.specs.ImageRefusal.{RefusesImage, too_long, description, assembly}
+use Rattle.rv_job.specs.JobText.{Describes}
 use Rattle.rv_job.proofs.HandedOn.{refused_on}
-use Rattle.rv_job.proofs.JobParts.{assembly_refused, description_refused, machine_described}
 use Rattle.rv_job.proofs.image_text.read_image_text.Goals as goal
 
 pub returns-in_err-parts-clause-refused : goal.returns-in_err-parts-clause-refused
@@ -12,11 +12,11 @@ returns-in_err-parts-clause-refused c =
 pub returns-in_err-description-clause-refused : goal.returns-in_err-description-clause-refused
 returns-in_err-description-clause-refused c =
     refused_on (RefusesImage c.args.text.now) _ _ c.from_residual-in_err-description.ensures.1
-    (description c.in_ok-parts.ensures.length (description_refused _ _ _ c.in_ok-parts.ensures.parts c.in_err-description.ensures.refused))
+    (description c.in_ok-parts.ensures.length (rw (← c.in_ok-parts.ensures.parts) c.in_err-description.ensures.refused))
 
 pub returns-in_err-image-clause-refused : goal.returns-in_err-image-clause-refused
 returns-in_err-image-clause-refused c =
-    let text_is = c.in_ok-parts.ensures.parts in
+    let parts_are = c.in_ok-parts.ensures.parts in
+    let described : Describes c.args.text.now c.in_ok-description.description = rw (← parts_are) c.in_ok-description.ensures.machine in
     refused_on (RefusesImage c.args.text.now) _ _ c.from_residual-in_err-image.ensures.1
-    (assembly c.in_ok-parts.ensures.length (machine_described _ _ _ text_is c.in_ok-description.ensures.machine)
-    (assembly_refused _ _ _ _ _ text_is c.values.ensures.values c.in_err-image.ensures.refused))
+    (assembly c.in_ok-parts.ensures.length described (rw (← parts_are, ← c.values.ensures.values) c.in_err-image.ensures.refused))

@@ -1,8 +1,8 @@
 use Rattle.std.proofs.Common.{ap, arith, subst, sym}
 use Rattle.rv_isa.specs.declared.values.Values.{Values}
 use Rattle.rv_job.specs.JobRefusal.{RefusesJob, too_long, description, arrivals, assembly, unfit}
+use Rattle.rv_job.specs.JobText.{Assembles, Describes, Lists}
 use Rattle.rv_job.proofs.HandedOn.{refused_on}
-use Rattle.rv_job.proofs.JobParts.{arrivals_listed, arrivals_refused, assembly_refused, description_refused, image_meant, machine_described}
 use Rattle.rv_job.proofs.job_text.read_job.Goals as goal
 use Rattle.rv_job.proofs.job_text.read_job.Goals.{else-len-values-via-then-len-values+else-image-eq0, else-len-values-via-else-len-values}
 
@@ -13,32 +13,32 @@ returns-in_err-parts-clause-refused c =
 
 pub returns-in_err-description-clause-refused : goal.returns-in_err-description-clause-refused
 returns-in_err-description-clause-refused c =
-    let text_is = c.in_ok-parts.ensures.parts in
     refused_on (RefusesJob c.args.text.now) _ _ c.from_residual-in_err-description.ensures.1
-    (description c.in_ok-parts.ensures.length (description_refused _ _ _ text_is c.in_err-description.ensures.refused))
+    (description c.in_ok-parts.ensures.length (rw (← c.in_ok-parts.ensures.parts) c.in_err-description.ensures.refused))
 
 pub returns-in_err-arrivals-clause-refused : goal.returns-in_err-arrivals-clause-refused
 returns-in_err-arrivals-clause-refused c =
-    let text_is = c.in_ok-parts.ensures.parts in
+    let parts_are = c.in_ok-parts.ensures.parts in
+    let described : Describes c.args.text.now c.in_ok-description.description = rw (← parts_are) c.in_ok-description.ensures.machine in
     refused_on (RefusesJob c.args.text.now) _ _ c.from_residual-in_err-arrivals.ensures.1
-    (arrivals c.in_ok-parts.ensures.length (machine_described _ _ _ text_is c.in_ok-description.ensures.machine)
-    (arrivals_refused _ _ _ text_is c.in_err-arrivals.ensures.refused))
+    (arrivals c.in_ok-parts.ensures.length described (rw (← parts_are) c.in_err-arrivals.ensures.refused))
 
 pub returns-in_err-image-clause-refused : goal.returns-in_err-image-clause-refused
 returns-in_err-image-clause-refused c =
-    let text_is = c.in_ok-parts.ensures.parts in
+    let parts_are = c.in_ok-parts.ensures.parts in
+    let described : Describes c.args.text.now c.in_ok-description.description = rw (← parts_are) c.in_ok-description.ensures.machine in
+    let listed : Lists c.args.text.now c.in_ok-arrivals.arrivals = rw (← parts_are) c.in_ok-arrivals.ensures.arrivals in
     refused_on (RefusesJob c.args.text.now) _ _ c.from_residual-in_err-image.ensures.1
-    (assembly c.in_ok-parts.ensures.length (machine_described _ _ _ text_is c.in_ok-description.ensures.machine)
-    (arrivals_listed _ _ _ text_is c.in_ok-arrivals.ensures.arrivals)
-    (assembly_refused _ _ _ _ _ text_is c.values-values.ensures.values c.in_err-image.ensures.refused))
+    (assembly c.in_ok-parts.ensures.length described listed (rw (← parts_are, ← c.values-values.ensures.values) c.in_err-image.ensures.refused))
 
 pub returns-else-len-values-clause-refused : goal.returns-else-len-values-clause-refused
 returns-else-len-values-clause-refused c =
-    let text_is = c.in_ok-parts.ensures.parts in
+    let parts_are = c.in_ok-parts.ensures.parts in
     let values_are = c.values-values.ensures.values in
-    unfit c.in_ok-parts.ensures.length (machine_described _ _ _ text_is c.in_ok-description.ensures.machine)
-    (arrivals_listed _ _ _ text_is c.in_ok-arrivals.ensures.arrivals)
-    (image_meant _ _ _ _ _ text_is values_are c.in_ok-image.ensures.image)
+    let described : Describes c.args.text.now c.in_ok-description.description = rw (← parts_are) c.in_ok-description.ensures.machine in
+    let listed : Lists c.args.text.now c.in_ok-arrivals.arrivals = rw (← parts_are) c.in_ok-arrivals.ensures.arrivals in
+    let assembled : Assembles c.args.text.now c.in_ok-description.description c.in_ok-image.image = rw (← parts_are, ← values_are) c.in_ok-image.ensures.image in
+    unfit c.in_ok-parts.ensures.length described listed assembled
     (λ fits. elim c.else-len-values.branch [
       | else-len-values-via-then-len-values+else-image-eq0 w ↦ w.if-image-eq0.false fits.1
       | else-len-values-via-else-len-values w ↦
