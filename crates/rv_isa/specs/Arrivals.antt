@@ -1,4 +1,4 @@
-use Rattle.std.specs.Prelude.{ℕ, ◌≤◌, Bool, true, false, ◌&&◌, List, [], ◌∷◌, length, filter, nat_le, All}
+use Rattle.std.specs.Prelude.{ℕ, ◌≤◌, Bool, true, false, List, [], ◌∷◌, length, filter, nat_le, All}
 use Rattle.std.specs.List.Sorted.{IsNonDecreasingBy}
 use Rattle.rv_isa.specs.declared.lines.{Line.Line, Lines.Lines, Arrival.Arrival}
 use Rattle.rv_isa.specs.declared.lines.Line.TheVariants.{Software, Timer, External}
@@ -16,15 +16,14 @@ is_line Timer Timer = true
 is_line External External = true
 is_line _ _ = false
 
--- the level of the last of some arrivals, low where there is none
-abbrev pub last_level : List Arrival → Bool
-last_level [] = false
-last_level (a ∷ []) = a.level
-last_level (a ∷ b ∷ later) = last_level (b ∷ later)
+-- the level of the last of some arrivals, and the level before where there is none
+abbrev pub last_level : Bool → List Arrival → Bool
+last_level before [] = before
+last_level before (a ∷ later) = last_level a.level later
 
 -- a line's level in a cycle: that of its last arrival in the list with a cycle at most this one
 abbrev pub level_at : Line → List Arrival → ℕ → Bool
-level_at line arrivals cycle = last_level (filter (λ a. is_line line a.line && nat_le a.cycle cycle) arrivals)
+level_at line arrivals cycle = last_level false (filter (λ a. is_line line a.line) (filter (λ a. nat_le a.cycle cycle) arrivals))
 
 -- the levels of the three lines in a cycle
 abbrev pub lines_at : List Arrival → ℕ → Lines

@@ -53,12 +53,15 @@ pub record IsLegalCost (c : CacheValues) : Type 0 where
   pub miss : c.miss ≤ 1000
   pub write_back : c.write_back ≤ 1000
 
+-- the cache's shape and its costs
 abbrev pub IsLegalCache : CacheValues → Type 0
 IsLegalCache c = IsLegalShape c × IsLegalCost c
 
+-- how many entries each table of the predictor has
 abbrev pub IsLegalPredictor : PredictorValues → Type 0
 IsLegalPredictor p = Within 1 4096 p.entries
 
+-- the words of memory that a report dumps
 pub record IsLegalReport (r : ReportValues) : Type 0 where
   pub dump_aligned : r.dump_address % 4 ≡ 0
   pub dump_words : r.dump_words ≤ 256

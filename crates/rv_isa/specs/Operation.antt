@@ -37,6 +37,7 @@ immediate_operation Xori = alu.Xor
 immediate_operation Ori = alu.Or
 immediate_operation Andi = alu.And
 
+-- Unprivileged ISA 20191213, 2.4.1: each shifts a register by a constant as the operation does by a register
 abbrev pub shift_operation : ShiftOp → AluOp
 shift_operation Slli = alu.Sll
 shift_operation Srli = alu.Srl

@@ -1,7 +1,6 @@
-ghost use Rattle.std.specs.Prelude.{◌≡◌, ◌↔◌, IsSome, IfSome, IsTrue};
+ghost use Rattle.std.specs.Prelude.{◌≡◌, ◌≤◌, ◌↔◌, IsSome, IfSome, IsTrue, filter, length, nat_le, take};
 ghost use Rattle.std.specs.List.Sorted.{IsNonDecreasingBy};
 ghost use Rattle.rv_isa.specs.Arrivals.{IsLegalArrivals};
-ghost use Rattle.rv_isa.specs.Levels.{IsSplit};
 
 use crate::line_levels::{BLOCK, BLOCKS, levels_of, lines_after};
 use crate::lines::{Arrival, Lines};
@@ -68,7 +67,8 @@ impl Arrivals {
 // How many arrivals are not later than a cycle.
 fn count_until(items: &[Arrival], cycle: u64) -> usize
     requires { IsNonDecreasingBy (λ a. a.cycle) items.now }
-    ensures { IsSplit cycle items.now result }
+    ensures within { result ≤ length items.now }
+    ensures not_later { filter (λ a. nat_le a.cycle cycle) items.now ≡ take result items.now }
 {
     items.partition_point(|arrival| arrival.cycle <= cycle)
 }

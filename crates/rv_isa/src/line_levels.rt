@@ -1,5 +1,5 @@
-ghost use Rattle.std.specs.Prelude.{◌≡◌, ◌≤◌, length};
-ghost use Rattle.rv_isa.specs.Levels.{HoldsLevels, lines_after, line_set};
+ghost use Rattle.std.specs.Prelude.{◌≡◌, ◌≤◌, fold, length};
+ghost use Rattle.rv_isa.specs.Levels.{HoldsLevels, line_set};
 
 use crate::arrivals::MOST_ARRIVALS;
 use crate::lines::{Arrival, Line, Lines};
@@ -38,7 +38,7 @@ fn with(lines: Lines, arrival: Arrival) -> Lines
 
 // The levels after some arrivals, one after another.
 pub fn lines_after(before: Lines, arrivals: &[Arrival]) -> Lines
-    ensures { result ≡ lines_after before arrivals.now }
+    ensures { result ≡ fold line_set before arrivals.now }
 {
     let mut lines = before;
     for arrival in arrivals {
