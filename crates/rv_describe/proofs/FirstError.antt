@@ -1,5 +1,5 @@
 -- A table has no first error exactly where every name is known and no key has a fault.
-use Rattle.std.proofs.Common.{◌≡◌, ℕ, zero, suc, ◌+◌, Bool, true, false, List, [], ◌∷◌, Option, Some, None, IsNone, IsOk, Ok, Err, Result, inl, inr, refl, ◌↔◌}
+use Rattle.std.proofs.Common.{◌≡◌, ℕ, zero, suc, ◌+◌, Bool, true, false, List, [], ◌∷◌, Option, Some, None, IsNone, IsOk, Ok, Err, Result, inl, inr, refl, ◌↔◌, if◌then◌else◌}
 use Rattle.std.specs.Option.{option_map, option_or, option_map_or}
 use Rattle.std.specs.List.{position_from, slice_get}
 use Rattle.std.proofs.lemmas.Bool.{cases_Bool}
@@ -19,19 +19,19 @@ use Rattle.rv_describe.specs.Setting.{values_of}
 use Rattle.rv_describe.specs.Unknown.{has_unknown}
 use Rattle.rv_isa.proofs.LegalKeys.{in_order}
 
+-- where there is no first element that passes, it is not this one, nor one behind it
+not_first : (passes : Bool) (place : ℕ) (found : Option ℕ) → (if passes then Some place else found) ≡ None → (passes ≡ false) × (found ≡ None)
+not_first true place found none = absurd (cc)
+not_first false place found none = (refl, none)
+
 -- where nothing passes, no element does
 none_at : {X : Type 0} (test : X → Bool) (start : ℕ) (xs : List X) (i : ℕ) (x : X) → position_from test start xs ≡ None → slice_get xs i ≡ Some x → test x ≡ false
 none_at test start [] i x none here = absurd (cc)
 none_at test start (y ∷ ys) zero x none here =
-    elim (cases_Bool (test y)) [
-      | inl passes ↦ let impossible : Some start ≡ None = rw passes at none in absurd (cc)
-      | inr fails ↦ let same : y ≡ x = cc in rw (← same) fails
-    ]
+    let same : y ≡ x = cc in
+    rw (← same) (not_first (test y) start (position_from test (start + 1) ys) none).0
 none_at test start (y ∷ ys) (suc i) x none here =
-    elim (cases_Bool (test y)) [
-      | inl passes ↦ let impossible : Some start ≡ None = rw passes at none in absurd (cc)
-      | inr fails ↦ none_at test (start + 1) ys i x (rw fails at none) here
-    ]
+    none_at test (start + 1) ys i x (not_first (test y) start (position_from test (start + 1) ys) none).1 here
 
 -- none of the three faults is no fault
 no_fault : (found : Option ValueFault) → is_fault WrongKind found ≡ false → is_fault OutOfRange found ≡ false → is_fault NotPowerOfTwo found ≡ false → found ≡ None
@@ -53,13 +53,6 @@ no_places None (Some place) power none = absurd (cc)
 no_places None None (Some place) none = absurd (cc)
 no_places None None None none = (refl, refl, refl)
 
-first_places : (t : Members) → IsNone (first_error t) → (has_unknown t ≡ false) × ((first_place WrongKind t ≡ None) × (first_place OutOfRange t ≡ None) × (first_place NotPowerOfTwo t ≡ None))
-first_places t none =
-    elim (cases_Bool (has_unknown t)) [
-      | inl unknown ↦ let impossible : true ≡ false = rw unknown at none in absurd (cc)
-      | inr known ↦ (known, no_places (first_place WrongKind t) (first_place OutOfRange t) (first_place NotPowerOfTwo t) (rw known at none))
-    ]
-
 no_key : (t : Members) (fault : ValueFault) (key : Key) → first_place fault t ≡ None → is_fault fault (key_fault t key) ≡ false
 unfolding first_place
 no_key t fault key none =
@@ -68,11 +61,13 @@ no_key t fault key none =
 
 pub faultless : (t : Members) → IsNone (first_error t) → IsFaultless t
 faultless t none =
-    let (known, places) = first_places t none in
-    record {
-      known = known;
-      keys = λ key. no_fault (key_fault t key) (no_key t WrongKind key places.0) (no_key t OutOfRange key places.1) (no_key t NotPowerOfTwo key places.2);
-    }
+    elim (cases_Bool (has_unknown t)) [
+      | inl unknown ↦ let impossible : true ≡ false = rw unknown at none in absurd (cc)
+      | inr known ↦ let places = no_places (first_place WrongKind t) (first_place OutOfRange t) (first_place NotPowerOfTwo t) (rw known at none) in record {
+        known = known;
+        keys = λ key. no_fault (key_fault t key) (no_key t WrongKind key places.0) (no_key t OutOfRange key places.1) (no_key t NotPowerOfTwo key places.2);
+      }
+    ]
 
 -- where no element passes, there is no place of one
 nowhere : {X : Type 0} (test : X → Bool) (start : ℕ) (xs : List X) → ((x : X) → test x ≡ false) → position_from test start xs ≡ None

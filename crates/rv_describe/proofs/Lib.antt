@@ -1,12 +1,6 @@
 pub mod Blank
-pub mod EntriesMeaning
-pub mod Falls
+pub mod Document
 pub mod FirstError
 pub mod Legal
 pub mod LegalArrivals
-pub mod NotToml
-pub mod Numbers
-pub mod Ranges
-pub mod ReadSoFar
 pub mod TableMeaning
-pub mod Through

@@ -9,6 +9,7 @@ mod tests;
 
 use crate::arrivals_error::ArrivalsError;
 use crate::entries::read_entries;
+use crate::held::get;
 use crate::names::has_other_name;
 use rv_isa::Arrivals;
 use std::alloc::Global;
@@ -41,8 +42,8 @@ fn read_table(alloc: Global, table: &Table) -> Result<Arrivals, ArrivalsError>
     if has_other_name(table, &["arrival"]) {
         return Err(ArrivalsError::UnknownKey);
     }
-    let Some(value) = table.get("arrival") else {
-        return read_entries(alloc, &[]);
+    let Some(value) = get(table, "arrival") else {
+        return Ok(Arrivals::new(Vec::new(alloc)).unwrap());
     };
     match value.as_array() {
         Some(entries) => read_entries(alloc, entries.as_slice()),

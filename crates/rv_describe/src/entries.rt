@@ -1,25 +1,32 @@
-ghost use Rattle.std.specs.Prelude.{◌≡◌, ◌≢◌, ◌<◌, ◌≤◌, Some, None, IfOk, IfErr, OnErr, length, map, option_map};
+ghost use Rattle.std.specs.Prelude.{◌≡◌, ◌≢◌, IfOk, map};
 ghost use Rattle.std.specs.List.{filter_map, list_any};
 ghost use Rattle.toml.specs.View.{view};
-ghost use Rattle.rv_describe.specs.Entries.{first_without, first_fall, entries_meaning, range_fault};
-ghost use Rattle.rv_describe.specs.Entry.{arrival_from, fields_of, has_unknown_field};
+ghost use Rattle.rv_describe.specs.Entries.{first_fall, first_without, entries_meaning, range_fault};
+ghost use Rattle.rv_describe.specs.Entry.{arrival_of, fields_of, has_unknown_field};
 
 use crate::arrivals_error::ArrivalsError;
-use crate::entry::{Fields, has_unknown_field};
+use crate::entry::{Fields, arrival_of, has_unknown_field};
 use rv_isa::{Arrival, Arrivals, MOST_ARRIVALS};
-use std::alloc::Global;
+use std::alloc::{AllocError, Global};
 use toml::Value;
 
 /// The arrivals of the entries, or their fault.
+#[tactic(auto, unfolding(crate::specs::Entries::entries_meaning))]
 pub fn read_entries(alloc: Global, entries: &[Value]) -> Result<Arrivals, ArrivalsError>
-    ensures read { result ≢ Err ArrivalsError.Memory → result ≡ entries_meaning (map view entries.now) }
-    ensures memory { result ≡ Err ArrivalsError.Memory → 0 < length entries.now }
+    ensures { result ≢ Err ArrivalsError.Memory → result ≡ entries_meaning (map view entries.now) }
 {
     if has_unknown_fields(entries) {
         return Err(ArrivalsError::UnknownKey);
     }
-    let fields = read_fields(alloc, entries)?;
-    let arrivals = read_ranges(alloc, fields.as_slice())?;
+    if let Some(entry) = first_without_fields(entries) {
+        return Err(ArrivalsError::WrongKind { entry });
+    }
+    if let Some(entry) = range_fault(entries) {
+        return Err(ArrivalsError::OutOfRange { entry });
+    }
+    let Ok(arrivals) = collect_arrivals(alloc, entries) else {
+        return Err(ArrivalsError::Memory);
+    };
     match first_fall(arrivals.as_slice()) {
         Some(entry) => Err(ArrivalsError::Unsorted { entry }),
         None => Ok(Arrivals::new(arrivals).unwrap()),
@@ -38,64 +45,44 @@ fn has_unknown_fields(entries: &[Value]) -> bool
     false
 }
 
-/// The fields of each entry, or the first entry that lacks them.
-fn read_fields(alloc: Global, entries: &[Value]) -> Result<Vec<Fields>, ArrivalsError>
-    ensures sound { IfOk result (λ _. first_without (λ entry. fields_of (view entry)) entries.now ≡ None) }
-    ensures fields { IfOk result (λ fields. fields.items ≡ filter_map (λ entry. fields_of (view entry)) entries.now) }
-    ensures refused { IfErr result (λ error. error ≢ ArrivalsError.Memory → option_map ArrivalsError.WrongKind (first_without (λ entry. fields_of (view entry)) entries.now) ≡ Some error) }
-    ensures some { OnErr result (0 < length entries.now) }
+/// The number of the first entry that lacks a field, or has one of another type.
+fn first_without_fields(entries: &[Value]) -> Option<usize>
+    ensures { result ≡ first_without fields_of 1 (map view entries.now) }
 {
-    let mut read = Vec::new(alloc);
-    for (index, entry) in entries.iter().enumerate() {
-        let Some(fields) = Fields::of_entry(entry) else {
-            return Err(ArrivalsError::WrongKind { entry: index + 1 });
-        };
-        if read.push(fields).is_err() {
-            return Err(ArrivalsError::Memory);
+    let mut number = 1;
+    for entry in entries {
+        if Fields::of_entry(entry).is_none() {
+            return Some(number);
         }
+        number += 1;
     }
-    Ok(read)
+    None
 }
 
-/// The arrival of each entry, or the first entry that has none.
-fn read_each(alloc: Global, entries: &[Fields]) -> Result<Vec<Arrival>, ArrivalsError>
-    ensures sound { IfOk result (λ _. first_without arrival_from entries.now ≡ None) }
-    ensures arrivals { IfOk result (λ arrivals. arrivals.items ≡ filter_map arrival_from entries.now) }
-    ensures refused { IfErr result (λ error. error ≢ ArrivalsError.Memory → option_map ArrivalsError.OutOfRange (first_without arrival_from entries.now) ≡ Some error) }
-    ensures some { OnErr result (0 < length entries.now) }
+/// The number of the first entry that gives no arrival, or stands behind the 100,000th.
+fn range_fault(entries: &[Value]) -> Option<usize>
+    ensures { result ≡ range_fault 1 (map view entries.now) }
 {
-    let mut read = Vec::new(alloc);
-    for (index, fields) in entries.iter().enumerate() {
-        let Some(arrival) = fields.arrival() else {
-            return Err(ArrivalsError::OutOfRange { entry: index + 1 });
-        };
-        if read.push(arrival).is_err() {
-            return Err(ArrivalsError::Memory);
+    let mut number = 1;
+    for entry in entries {
+        if number > MOST_ARRIVALS || arrival_of(entry).is_none() {
+            return Some(number);
         }
+        number += 1;
     }
-    Ok(read)
+    None
 }
 
-/// The arrivals of at most 100,000 entries, or the first entry that has none or stands behind them.
-fn read_ranges(alloc: Global, entries: &[Fields]) -> Result<Vec<Arrival>, ArrivalsError>
-    ensures short { IfOk result (λ _. length entries.now ≤ 100000) }
-    ensures sound { IfOk result (λ _. range_fault arrival_from entries.now ≡ None) }
-    ensures arrivals { IfOk result (λ arrivals. arrivals.items ≡ filter_map arrival_from entries.now) }
-    ensures refused { IfErr result (λ error. error ≢ ArrivalsError.Memory → option_map ArrivalsError.OutOfRange (range_fault arrival_from entries.now) ≡ Some error) }
-    ensures some { OnErr result (0 < length entries.now) }
+/// The arrivals of the entries that give one, where memory suffices.
+fn collect_arrivals(alloc: Global, entries: &[Value]) -> Result<Vec<Arrival>, AllocError>
+    ensures { IfOk result (λ arrivals. arrivals.items ≡ filter_map (λ entry. arrival_of (view entry)) entries.now) }
 {
-    if entries.len() <= MOST_ARRIVALS {
-        return read_each(alloc, entries);
-    }
-    read_each(alloc, &entries[..MOST_ARRIVALS])?;
-    Err(ArrivalsError::OutOfRange {
-        entry: MOST_ARRIVALS + 1,
-    })
+    entries.iter().filter_map(arrival_of).collect(alloc)
 }
 
 /// The number of the first arrival with a cycle below the one before.
 fn first_fall(arrivals: &[Arrival]) -> Option<usize>
-    ensures { result ≡ first_fall arrivals.now }
+    ensures { result ≡ first_fall 1 0 arrivals.now }
 {
     let mut before = 0;
     for (index, arrival) in arrivals.iter().enumerate() {
@@ -105,28 +92,4 @@ fn first_fall(arrivals: &[Arrival]) -> Option<usize>
         before = arrival.cycle;
     }
     None
-}
-
-#[cfg(test)]
-mod tests {
-    use super::*;
-    use rv_isa::Line;
-    use std::test::Fail;
-
-    #[test]
-    fn a_list_has_at_most_a_hundred_thousand_entries(rt: HostRuntime) -> Result<(), Fail> {
-        let fields = Fields {
-            cycle: 7,
-            line: Some(Line::Timer),
-            level: 1,
-        };
-        let mut entries = vec![in rt.alloc(); fields; 100_000]?;
-        assert_eq!(rt; read_ranges(rt.alloc(), entries.as_slice())?.len(), 100_000);
-        entries.push(fields)?;
-        assert_eq!(rt;
-            read_ranges(rt.alloc(), entries.as_slice()).err(),
-            Some(ArrivalsError::OutOfRange { entry: 100_001 })
-        );
-        Ok(())
-    }
 }

@@ -1,7 +1,8 @@
 ghost use Rattle.std.specs.Prelude.{◌≡◌};
 ghost use Rattle.toml.specs.View.{view, table_view};
-ghost use Rattle.rv_describe.specs.Entry.{arrival_from, cycle_of, fields_of, has_unknown_field, integer_at, level_in, level_of, line_at, line_named};
+ghost use Rattle.rv_describe.specs.Entry.{arrival_of, cycle_of, fields_of, has_unknown_field, integer_at, level_in, level_of, line_at, line_named};
 
+use crate::held::get;
 use crate::names::has_other_name;
 use rv_isa::{Arrival, LAST_CYCLE, Line};
 use toml::{Table, Value};
@@ -29,16 +30,18 @@ impl Fields {
         let level = level_in(table)?;
         Some(Fields { cycle, line, level })
     }
+}
 
-    /// The arrival, or `None` where the cycle, the line or the level is not one of those allowed.
-    pub fn arrival(&self) -> Option<Arrival>
-        ensures { result ≡ arrival_from self.now }
-    {
-        let cycle = cycle_of(self.cycle)?;
-        let line = self.line?;
-        let level = level_of(self.level)?;
-        Some(Arrival { cycle, line, level })
-    }
+/// The arrival of an entry, or `None` where it lacks a field, or a field has another type or a value
+/// that is not allowed.
+pub fn arrival_of(entry: &Value) -> Option<Arrival>
+    ensures { result ≡ arrival_of (view entry.now) }
+{
+    let fields = Fields::of_entry(entry)?;
+    let cycle = cycle_of(fields.cycle)?;
+    let line = fields.line?;
+    let level = level_of(fields.level)?;
+    Some(Arrival { cycle, line, level })
 }
 
 /// Whether an entry is a table with another field than `cycle`, `line` and `level`.
@@ -55,21 +58,21 @@ pub fn has_unknown_field(entry: &Value) -> bool
 fn integer_at(table: &Table, name: &str) -> Option<i64>
     ensures { result ≡ integer_at name.now (table_view table.now) }
 {
-    table.get(name)?.as_integer()
+    get(table, name)?.as_integer()
 }
 
 /// The line that the string at `line` names, `Some(None)` for another string.
 fn line_at(table: &Table) -> Option<Option<Line>>
     ensures { result ≡ line_at (table_view table.now) }
 {
-    Some(line_named(table.get("line")?.as_str()?))
+    Some(line_named(get(table, "line")?.as_str()?))
 }
 
 /// The integer at `level`, 1 where there is no such field.
 fn level_in(table: &Table) -> Option<i64>
     ensures { result ≡ level_in (table_view table.now) }
 {
-    match table.get("level") {
+    match get(table, "level") {
         Some(value) => value.as_integer(),
         None => Some(1),
     }

@@ -20,11 +20,18 @@ pub enum Held<'a> {
     Present(&'a Value),
 }
 
+/// The value at a name of a table.
+pub fn get<'a>(table: &'a Table, name: &str) -> Option<&'a Value>
+    ensures { option_map (λ v. view v.now) result ≡ get_member name.now (table_view table.now) }
+{
+    table.get(name)
+}
+
 // What a table holds at a name.
 fn at_name<'a>(table: &'a Table, name: &str) -> Held<'a>
     ensures { seen result ≡ at_name (get_member name.now (table_view table.now)) }
 {
-    match table.get(name) {
+    match get(table, name) {
         Some(value) => Held::Present(value),
         None => Held::Absent,
     }
@@ -34,7 +41,7 @@ fn at_name<'a>(table: &'a Table, name: &str) -> Held<'a>
 fn within_table<'a>(table: &'a Table, outer: &str, name: &str) -> Held<'a>
     ensures { seen result ≡ within_table name.now (get_member outer.now (table_view table.now)) }
 {
-    match table.get(outer) {
+    match get(table, outer) {
         Some(value) => within_value(value, name),
         None => Held::Absent,
     }

@@ -21,10 +21,7 @@ pub fn number(table: &Table, key: NumberKey) -> u32
     let Some(value) = value_at(table, Key::Number(key)) else {
         return default;
     };
-    let Some(number) = value.as_integer() else {
-        return default;
-    };
-    word_of(number).unwrap_or(default)
+    value.as_integer().and_then(word_of).unwrap_or(default)
 }
 
 #[tactic(auto, unfolding(crate::specs::Setting::is_pipelined))]

@@ -74,6 +74,21 @@ fn lower_faults_of_later_entries_come_first(rt: HostRuntime) {
 }
 
 #[test]
+fn a_list_has_at_most_a_hundred_thousand_entries(rt: HostRuntime) -> Result<(), Fail> {
+    let mut text = String::new(rt.alloc());
+    text.push_str("arrival = [")?;
+    for _ in 0..100_000 {
+        text.push_str("{cycle=7,line='timer'},")?;
+    }
+    let all = format!(in rt.alloc(); "{text}]")?;
+    assert_eq!(rt; fault_of(rt.alloc(), all.as_str()), None);
+    let more = format!(in rt.alloc(); "{text}{{cycle=7,line='timer'}}]")?;
+    let fault = Some(OutOfRange { entry: 100_001 });
+    assert_eq!(rt; fault_of(rt.alloc(), more.as_str()), fault);
+    Ok(())
+}
+
+#[test]
 fn a_fault_is_shown_with_its_entry(rt: HostRuntime) -> Result<(), Fail> {
     let shown = WrongKind { entry: 12 }.to_string(rt.alloc())?;
     assert_eq!(rt; shown.as_str(), "WrongKind 12");
