@@ -1,31 +1,24 @@
 -- The laws of the table of the keys: every key stands in the order, and values are legal exactly where each is one that its key takes.
-use Rattle.std.proofs.Common.{◌≡◌, ℕ, zero, suc, ◌≤◌, ◌%◌, Bool, true, List, [], ◌∷◌, Some, unwrap_or, IsTrue, ◌↔◌, refl, arith}
-use Rattle.std.specs.Prelude.{nat_le, ◌==◌, ◌&&◌}
+use Rattle.std.proofs.Common.{◌≡◌, ℕ, zero, suc, Bool, true, List, [], ◌∷◌, Some, unwrap_or, IsTrue, ◌↔◌, refl, arith}
 use Rattle.std.specs.Int.{is_power_of_two}
 use lib.Count.{ones}
 use Rattle.std.specs.List.{list_all, position_from, slice_get}
 use Rattle.std.specs.Str.{bytes_eq}
-use Rattle.std.proofs.lemmas.Bool.{and_parts, and_from, eqb-true, eq-eqb}
 use Rattle.std.proofs.lemmas.Bool.Decides.{nat_tests}
 use Rattle.rv_isa.specs.declared.keys.Key.{Key}
-use Rattle.rv_isa.specs.declared.keys.Key.TheVariants.{Number, Recovery, Pipelined, PredictorKind}
-use Rattle.rv_isa.specs.declared.keys.KindKey.{KindKey}
+use Rattle.rv_isa.specs.declared.keys.Key.TheVariants.{Number}
 use Rattle.rv_isa.specs.declared.keys.KindKey.TheVariants.{Stations, Units, Latency}
 use Rattle.rv_isa.specs.declared.keys.NumberKey.{NumberKey}
 use Rattle.rv_isa.specs.declared.keys.NumberKey.TheVariants.{RamBase, RamSize, RomBytes, FetchWidth, DispatchWidth, CommitWidth, BusWidth, FetchBuffer, Rob, StoreQueue, Forward, OfKind, CacheSets, CacheWays, CacheLine, CacheHit, CacheMiss, CacheWriteBack, PredictorEntries, ReportDumpAddress, ReportDumpWords}
 use Rattle.rv_isa.specs.declared.operations.Kind.{Kind}
-use Rattle.rv_isa.specs.declared.operations.Kind.TheVariants.{Alu, Mul, Div, Mem}
-use Rattle.rv_isa.specs.declared.values.KindValues.{KindValues}
 use Rattle.rv_isa.specs.declared.values.PredictorKind.{PredictorKind as Prediction}
 use Rattle.rv_isa.specs.declared.values.Recovery.{Recovery as Mending}
 use Rattle.rv_isa.specs.declared.values.Values.{Values}
-use Rattle.rv_isa.specs.declared.bounds.Bounds.TheVariants.{Whole, Pages, Powers, Words, Front}
-use Rattle.rv_isa.specs.Bounds.{lies, takes}
-use Rattle.rv_isa.specs.Description.{IsLegal, IsLegalMemory, IsLegalPipeline, IsLegalKind, IsLegalCache, Within}
-use Rattle.rv_isa.specs.Key.{ObeysEachKey, kind_number, kind_row, kind_with, number_of, obeys, order, row_of, text_of, values_with}
+use Rattle.rv_isa.specs.Bounds.{takes}
+use Rattle.rv_isa.specs.Description.{IsLegal, IsLegalMemory, IsLegalPipeline, IsLegalKind, IsLegalCache}
+use Rattle.rv_isa.specs.Key.{ObeysEachKey, number_of, obeys, order, row_of, text_of, values_with}
 use Rattle.rv_isa.specs.PerKind.{at_kind}
 use Rattle.rv_isa.specs.Standard.{standard_values}
-use Rattle.rv_isa.proofs.WithKind.{at_kind-by_kind}
 
 -- every key stands in the order, at the first place with its text
 pub in_order : (key : Key) → (index : ℕ) × (slice_get order index ≡ Some key)
