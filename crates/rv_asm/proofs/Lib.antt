@@ -10,8 +10,6 @@ pub mod Named
 pub mod Operands
 pub mod Ranges
 pub mod SecondPass
-pub mod TokenFirst
 pub mod TokenLines
 pub mod TokenNumbers
-pub mod TokenStrings
 pub mod Words

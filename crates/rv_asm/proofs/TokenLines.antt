@@ -1,5 +1,5 @@
 -- Reading a line token by token.
-use Rattle.std.proofs.Common.{◌≡◌, ℕ, zero, suc, ◌-◌, ◌<◌, List, [], ◌∷◌, ◌++◌, length, drop, Option, Some, None, sym, refl, ap, ◌∙◌, append_assoc, append-nil, arith}
+use Rattle.std.proofs.Common.{◌≡◌, ℕ, zero, suc, ◌-◌, ◌<◌, List, [], ◌∷◌, ◌++◌, length, drop, get_or, Option, Some, None, sym, refl, ap, ◌∙◌, append_assoc, append-nil, arith}
 use Rattle.std.specs.Prelude.{option_and_then, map}
 use Rattle.std.proofs.lemmas.List.{map-append}
 use Rattle.std.specs.Option.{option_map, option_to_list}
@@ -30,7 +30,7 @@ tokens_behind-drop [] (suc taken) = refl
 tokens_behind-drop (byte ∷ bytes) zero = refl
 tokens_behind-drop (byte ∷ bytes) (suc taken) = tokens_behind-drop bytes taken
 
-tokens_behind-first : (byte : ℕ) (bytes : List ℕ) (found : Option Lexeme) → found ≡ first_lexeme (byte ∷ bytes) → tokens_behind (byte ∷ bytes) 0 ≡ option_and_then (λ l. joined (option_to_list l.token) (tokens_behind bytes (l.size - 1))) found
+tokens_behind-first : (byte : ℕ) (bytes : List ℕ) (found : Option Lexeme) → found ≡ first_lexeme byte (byte ∷ bytes) → tokens_behind (byte ∷ bytes) 0 ≡ option_and_then (λ l. joined (option_to_list l.token) (tokens_behind bytes (l.size - 1))) found
 unfolding tokens_behind joined
 tokens_behind-first byte bytes found found_is = rw found_is refl
 
@@ -39,13 +39,13 @@ drop-size byte bytes zero positive = absurd (omega arith)
 drop-size byte bytes (suc size) positive = ap (λ n. drop n bytes) (omega arith)
 
 -- the first lexeme's token comes first
-pub tokens_of-first : (line : List ℕ) (found : Lexeme) → 0 < length line → Some found ≡ first_lexeme line → 0 < found.size → tokens_of line ≡ joined (option_to_list found.token) (tokens_of (drop found.size line))
+pub tokens_of-first : (line : List ℕ) (found : Lexeme) → 0 < length line → Some found ≡ first_lexeme (get_or line 0 0) line → 0 < found.size → tokens_of line ≡ joined (option_to_list found.token) (tokens_of (drop found.size line))
 unfolding tokens_of
 tokens_of-first [] found some_bytes found_is positive = absurd (omega arith)
 tokens_of-first (byte ∷ bytes) found some_bytes found_is positive =
     tokens_behind-first byte bytes (Some found) found_is ∙ ap (joined (option_to_list found.token)) (tokens_behind-drop bytes (found.size - 1) ∙ ap (λ rest. tokens_behind rest 0) (drop-size byte bytes found.size positive))
 
-pub tokens_of-none : (line : List ℕ) → 0 < length line → None ≡ first_lexeme line → tokens_of line ≡ None
+pub tokens_of-none : (line : List ℕ) → 0 < length line → None ≡ first_lexeme (get_or line 0 0) line → tokens_of line ≡ None
 unfolding tokens_of
 tokens_of-none [] some_bytes found_is = absurd (omega arith)
 tokens_of-none (byte ∷ bytes) some_bytes found_is = tokens_behind-first byte bytes None found_is

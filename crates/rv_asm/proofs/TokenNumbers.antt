@@ -1,5 +1,5 @@
 -- Reading a number from its first digit on.
-use Rattle.std.proofs.Common.{◌≡◌, ℕ, ◌+◌, ◌*◌, ◌^◌, ◌<◌, ◌≤◌, Bool, true, false, cond, ◌&&◌, List, [], ◌∷◌, length, get_or, drop, Option, Some, None, sym, refl, ap, ◌∙◌, arith}
+use Rattle.std.proofs.Common.{◌≡◌, ℕ, ◌+◌, ◌*◌, ◌<◌, ◌≤◌, Bool, true, false, cond, ◌&&◌, List, [], ◌∷◌, length, get_or, drop, Option, Some, None, sym, refl, ap, ◌∙◌, arith}
 use Rattle.std.specs.Prelude.{nat_le}
 use Rattle.std.specs.List.{list_all}
 use Rattle.std.specs.Char.{is_digit, digit_value}
@@ -7,12 +7,9 @@ use Rattle.std.proofs.lemmas.Bool.{lt-ltb, le-ltb}
 use Rattle.std.proofs.lemmas.Bool.Decides.{nat_tests}
 use Rattle.std.proofs.lemmas.Grind.{common_steps}
 use Rattle.std.proofs.lemmas.List.{drop_more, drop_all}
-use Rattle.std.proofs.Math.Nat.{pow-suc, add-mul, mul_assoc, mul_comm, one-le-pow, le-mul_of_pos_right}
-use Rattle.rv_asm.specs.Token.{value_of, number_in}
-
--- the value of digits behind others whose value is known
-pub value_from : ℕ → ℕ → List ℕ → ℕ
-value_from base value digits = value * base ^ length digits + value_of base digits
+use Rattle.std.proofs.Math.Nat.{le-mul_of_pos_right}
+use Rattle.std.specs.Str.Parse.{digits_value_after}
+use Rattle.rv_asm.specs.Token.{number_in}
 
 -- a number, where its digits are all digits and it is not too large
 pub bounded : Bool → ℕ → Option ℕ
@@ -24,25 +21,12 @@ are_digits_of base digits = list_all (λ c. is_digit c base) digits
 
 -- the number that digits write behind others whose value is known
 pub number_from : ℕ → ℕ → List ℕ → Option ℕ
-number_from base value digits = bounded (are_digits_of base digits) (value_from base value digits)
+number_from base value digits = bounded (are_digits_of base digits) (digits_value_after base value digits)
 
-regroup : (value base digit power rest : ℕ) → value * (power * base) + (digit * power + rest) ≡ (value * base + digit) * power + rest
-regroup value base digit power rest =
-    let split = add-mul (value * base) digit power in
-    let order : value * (power * base) ≡ value * base * power = ap (λ n. value * n) (mul_comm power base) ∙ sym (mul_assoc value base power) in
-    omega arith
-
-value_from-digit : (base value digit : ℕ) (digits : List ℕ) → value_from base value (digit ∷ digits) ≡ value_from base (value * base + digit_value digit) digits
-unfolding value_from
-value_from-digit base value digit digits =
-    rw (pow-suc base (length digits)) (regroup value base (digit_value digit) (base ^ length digits) (value_of base digits))
-
-value_from-at_least : (base value : ℕ) (digits : List ℕ) → 1 ≤ base → value ≤ value_from base value digits
-unfolding value_from
-value_from-at_least base value digits positive =
-    let power = one-le-pow (length digits) base positive in
-    let grows = le-mul_of_pos_right value power in
-    omega arith
+grows : (base value : ℕ) (digits : List ℕ) → 1 ≤ base → value ≤ digits_value_after base value digits
+grows base value [] positive = omega arith
+grows base value (digit ∷ digits) positive =
+    omega (arith, le-mul_of_pos_right value positive, grows base (value * base + digit_value digit) digits positive)
 
 bounded-too_large : (are_digits : Bool) (value : ℕ) → 4294967295 < value → bounded are_digits value ≡ None
 unfolding bounded
@@ -54,32 +38,28 @@ unfolding number_from are_digits_of
 number_from-digit base value digit digits in_base =
     let is_one = lt-ltb (digit_value digit) base in_base in
     let others = list_all (λ c. is_digit c base) digits in
-    ap (λ b. bounded (b && others) (value_from base value (digit ∷ digits))) is_one ∙ ap (bounded others) (value_from-digit base value digit digits)
+    ap (λ b. bounded (b && others) (digits_value_after base value (digit ∷ digits))) is_one
 
 pub number_from-not_digit : (base value digit : ℕ) (digits : List ℕ) → base ≤ digit_value digit → number_from base value (digit ∷ digits) ≡ None
 unfolding number_from are_digits_of bounded
 number_from-not_digit base value digit digits not_in_base =
-    let total = value_from base value (digit ∷ digits) in
+    let total = digits_value_after base value (digit ∷ digits) in
     let others = list_all (λ c. is_digit c base) digits in
     ap (λ b. cond ((b && others) && nat_le total 4294967295) (Some total) None) (le-ltb (digit_value digit) base not_in_base)
 
 pub number_from-too_large : (base value digit : ℕ) (digits : List ℕ) → 1 ≤ base → 4294967295 < value * base + digit_value digit → number_from base value (digit ∷ digits) ≡ None
 unfolding number_from
 number_from-too_large base value digit digits positive too_large =
-    let at_least = value_from-at_least base (value * base + digit_value digit) digits positive in
-    let same = value_from-digit base value digit digits in
-    bounded-too_large _ _ (omega arith)
+    bounded-too_large _ _ (omega (arith, too_large, grows base (value * base + digit_value digit) digits positive))
 
 pub number_from-all : (base value : ℕ) → value ≤ 4294967295 → number_from base value [] ≡ Some value
-unfolding number_from bounded value_from are_digits_of
+unfolding number_from bounded are_digits_of
 number_from-all base value fits = grind (arith, nat_tests, common_steps)
 
 pub number_in-number_from : (base : ℕ) (digits : List ℕ) → 0 < length digits → number_in base digits ≡ number_from base 0 digits
-unfolding number_in number_from bounded are_digits_of value_from
+unfolding number_in number_from bounded are_digits_of
 number_in-number_from base [] some_digits = absurd (omega arith)
-number_in-number_from base (digit ∷ digits) some_digits =
-    let total : value_of base (digit ∷ digits) ≡ 0 * base ^ length (digit ∷ digits) + value_of base (digit ∷ digits) = omega arith in
-    ap (bounded (are_digits_of base (digit ∷ digits))) total
+number_in-number_from base (digit ∷ digits) some_digits = refl
 
 at_least_from_not_below : (a b : ℕ) → (a < b → ⊥) → b ≤ a
 at_least_from_not_below a b not_below = omega arith

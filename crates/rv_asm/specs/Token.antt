@@ -1,6 +1,6 @@
 -- The tokens of a line of assembly text. Numbers are the codes of ASCII characters, which a comment shows.
-use Rattle.std.specs.Prelude.{ℕ, zero, suc, ◌+◌, ◌-◌, ◌*◌, ◌^◌, ◌==◌, ◌||◌, ◌&&◌, Bool, if◌then◌else◌, nat_le, List, [], ◌∷◌, ◌++◌, length, take, Option, Some, None, unwrap_or, is_some, option_and_then}
-use Rattle.std.specs.{List.take_while, List.list_all, Option.option_map, Option.option_to_list, Char.is_ascii_alphabetic, Char.is_ascii_digit, Char.is_digit, Char.digit_value}
+use Rattle.std.specs.Prelude.{ℕ, zero, suc, ◌+◌, ◌-◌, ◌==◌, ◌||◌, ◌&&◌, Bool, if◌then◌else◌, nat_le, List, [], ◌∷◌, ◌++◌, length, take, drop, Option, Some, None, unwrap_or, is_some, option_and_then}
+use Rattle.std.specs.{List.take_while, List.list_all, Option.option_map, Option.option_to_list, Char.is_ascii_alphabetic, Char.is_ascii_digit, Char.is_digit, Str.Parse.digits_value}
 
 -- a token: a name by its bytes, a number, the bytes that a string stands for, or a mark
 pub data Token : Type 0 where
@@ -37,17 +37,12 @@ mark_of byte =
     else (if byte == 45 then Some Minus
     else None)))))
 
--- the value of digits in a base, the first digit weighing most
-abbrev pub value_of : ℕ → List ℕ → ℕ
-value_of base [] = 0
-value_of base (digit ∷ digits) = digit_value digit * base ^ length digits + value_of base digits
-
 -- the number that digits of a base write; none where there is no digit, another byte, or a value past 4294967295
 unfoldable pub number_in : ℕ → List ℕ → Option ℕ
 number_in base [] = None
 number_in base (digit ∷ digits) =
-    if list_all (λ c. is_digit c base) (digit ∷ digits) && nat_le (value_of base (digit ∷ digits)) 4294967295
-    then Some (value_of base (digit ∷ digits))
+    if list_all (λ c. is_digit c base) (digit ∷ digits) && nat_le (digits_value base (digit ∷ digits)) 4294967295
+    then Some (digits_value base (digit ∷ digits))
     else None
 
 -- the number that a word writes: after 0x in hexadecimal, after 0b in binary, else in decimal
@@ -68,14 +63,18 @@ escape_of byte =
     else (if byte == 48 then Some 0
     else None))))
 
--- how many bytes stand before the closing quote; none where the line ends before it, or where an escape is not known
-unfoldable pub quoted_length : List ℕ → Option ℕ
-quoted_length [] = None
-quoted_length (byte ∷ []) = if byte == 34 then Some 0 else None
-quoted_length (byte ∷ next ∷ bytes) =
-    if byte == 34 then Some 0
-    else (if byte == 92 then (if is_some (escape_of next) then option_map (λ n. n + 2) (quoted_length bytes) else None)
-    else option_map (λ n. n + 1) (quoted_length (next ∷ bytes)))
+-- the bytes from the closing quote on; none where the line ends before it, or where an escape is not known
+unfoldable pub from_quote : List ℕ → Option (List ℕ)
+from_quote [] = None
+from_quote (byte ∷ []) = if byte == 34 then Some (byte ∷ []) else None
+from_quote (byte ∷ next ∷ bytes) =
+    if byte == 34 then Some (byte ∷ next ∷ bytes)
+    else (if byte == 92 then (if is_some (escape_of next) then from_quote bytes else None)
+    else from_quote (next ∷ bytes))
+
+-- how many bytes stand before the closing quote
+abbrev pub quoted_length : List ℕ → Option ℕ
+quoted_length bytes = option_map (λ closing. length bytes - length closing) (from_quote bytes)
 
 -- the bytes between two quotes with their escapes resolved
 unfoldable pub unescaped : List ℕ → List ℕ
@@ -90,28 +89,27 @@ pub record Lexeme : Type 0 where
   pub token : Option Token
   pub size : ℕ
 
--- what a line begins with; none where that is no token. A word, that is a name or a number, takes all the bytes of
--- names that stand together
-unfoldable pub first_lexeme : List ℕ → Option Lexeme
-first_lexeme [] = None
-first_lexeme (first ∷ others) =
-    let line = first ∷ others in
+-- what a line begins with, whose first byte is given; none where that is no token. A word, that is a name or a
+-- number, takes all the bytes of names that stand together
+unfoldable pub first_lexeme : ℕ → List ℕ → Option Lexeme
+first_lexeme first line =
     let word = take_while is_name_byte line in
+    let others = drop 1 line in
     if is_separator first then Some (record { token = None; size = 1 })
     -- # begins a comment
     else (if first == 35 then Some (record { token = None; size = length line })
-    else (if begins_name first then Some (record { token = Some (Name word); size = length word })
-    else (if is_ascii_digit first then option_map (λ n. record { token = Some (Number n); size = length word }) (number_of word)
+    else (if is_name_byte first then (if begins_name first then Some (record { token = Some (Name word); size = length word })
+    else option_map (λ n. record { token = Some (Number n); size = length word }) (number_of word))
     -- a quote begins a string, and another ends it
     else (if first == 34 then option_map (λ n. record { token = Some (Text (unescaped (take n others))); size = n + 2 }) (quoted_length others)
-    else option_map (λ mark. record { token = Some mark; size = 1 }) (mark_of first)))))
+    else option_map (λ mark. record { token = Some mark; size = 1 }) (mark_of first))))
 
 -- the tokens of the bytes behind so many, which belong to the token before
 unfoldable pub tokens_behind : List ℕ → ℕ → Option (List Token)
 tokens_behind [] taken = Some []
 tokens_behind (byte ∷ bytes) (suc taken) = tokens_behind bytes taken
 tokens_behind (byte ∷ bytes) zero =
-    option_and_then (λ found. option_map (λ tokens. option_to_list found.token ++ tokens) (tokens_behind bytes (found.size - 1))) (first_lexeme (byte ∷ bytes))
+    option_and_then (λ found. option_map (λ tokens. option_to_list found.token ++ tokens) (tokens_behind bytes (found.size - 1))) (first_lexeme byte (byte ∷ bytes))
 
 -- the tokens of a line; none where something on it is no token
 unfoldable pub tokens_of : List ℕ → Option (List Token)

@@ -1,4 +1,4 @@
-ghost use Rattle.std.specs.Prelude.{◌≡◌, ◌<◌, ◌≤◌, ◌∷◌, ◌++◌, length, drop, ok_or, OnOk, IfSome};
+ghost use Rattle.std.specs.Prelude.{get_or, [], None, ◌≡◌, ◌<◌, ◌≤◌, ◌∷◌, ◌++◌, length, ok_or, OnOk, IfSome};
 ghost use Rattle.std.specs.List.{prefix_len};
 ghost use Rattle.std.specs.Option.{option_map};
 ghost use Rattle.rv_asm.specs.Answer.{Follows};
@@ -118,28 +118,30 @@ fn word_length(bytes: &[u8]) -> usize
 }
 
 // How many bytes of a string stand before its closing quote.
+#[tactic(auto, unfolding(crate::specs::Token::from_quote))]
 fn quoted_length(bytes: &[u8]) -> Option<usize>
     ensures length { result ≡ quoted_length bytes.now }
     ensures closed { IfSome result (λ n. n < length bytes.now) }
 {
-    let mut length = 0;
-    while length < bytes.len() {
-        match bytes[length] {
-            b'"' => return Some(length),
-            b'\\' => {
-                escape(*bytes.get(length + 1)?)?;
-                length += 2;
+    let mut rest = bytes;
+    loop {
+        match rest {
+            [] => return None,
+            [b'"', ..] => return Some(bytes.len() - rest.len()),
+            [b'\\', next, others @ ..] => {
+                escape(*next)?;
+                rest = others;
             }
-            _ => length += 1,
+            [_, others @ ..] => rest = others,
         }
     }
-    None
 }
 
 // What a line begins with.
+#[tactic(auto, unfolding(crate::specs::Token::first_lexeme))]
 fn first_lexeme(line: &[u8]) -> Option<Lexeme<'_>>
     requires { 0 < length line.now }
-    ensures lexeme { option_map lexeme_of result ≡ first_lexeme line.now }
+    ensures lexeme { option_map lexeme_of result ≡ first_lexeme (get_or line.now 0 0) line.now }
     ensures size { IfSome result (λ found. (0 < found.size) × (found.size ≤ length line.now)) }
 {
     let first = line[0];
@@ -206,30 +208,17 @@ pub fn tokenize<'a>(alloc: Global, line: &'a [u8]) -> Result<Vec<Token<'a>>, Asm
     Ok(tokens)
 }
 
-// The first byte that a string stands for.
-#[derive(Clone, Copy)]
-struct Character {
-    byte: u8,
-    /// How many bytes of the text write it.
-    size: usize,
-}
-
-// The first byte that a string stands for.
-fn first_character(raw: &[u8]) -> Character
-    requires { 0 < length raw.now }
-    ensures byte { unescaped raw.now ≡ result.byte ∷ unescaped (drop result.size raw.now) }
-    ensures size { (0 < result.size) × (result.size ≤ length raw.now) }
+// The first byte that a string stands for, and what is left of the string behind it.
+#[tactic(auto, unfolding(crate::specs::Token::unescaped))]
+fn first_character(raw: &[u8]) -> Option<(u8, &[u8])>
+    ensures ended { result ≡ None → unescaped raw.now ≡ [] }
+    ensures character { IfSome result (λ found. unescaped raw.now ≡ found.0 ∷ unescaped found.1.now) }
+    ensures shorter { IfSome result (λ found. length found.1.now < length raw.now) }
 {
-    let first = raw[0];
-    if first != b'\\' || raw.len() == 1 {
-        return Character {
-            byte: first,
-            size: 1,
-        };
-    }
-    Character {
-        byte: escape(raw[1]).unwrap_or(raw[1]),
-        size: 2,
+    match raw {
+        [] => None,
+        [b'\\', escaped, others @ ..] => Some((escape(*escaped).unwrap_or(*escaped), others)),
+        [first, others @ ..] => Some((*first, others)),
     }
 }
 
@@ -239,8 +228,7 @@ pub fn text_len(raw: &[u8]) -> usize
 {
     let mut bytes = 0;
     let mut rest = raw;
-    while !rest.is_empty() {
-        let (_, others) = rest.split_at(first_character(rest).size);
+    while let Some((_, others)) = first_character(rest) {
         bytes += 1;
         rest = others;
     }
@@ -252,10 +240,8 @@ pub fn push_text(out: &mut Vec<u8>, raw: &[u8]) -> Result<(), AllocError>
     ensures { OnOk result (out.new.items ≡ out.old.items ++ unescaped raw.now) }
 {
     let mut rest = raw;
-    while !rest.is_empty() {
-        let first = first_character(rest);
-        out.push(first.byte)?;
-        let (_, others) = rest.split_at(first.size);
+    while let Some((byte, others)) = first_character(rest) {
+        out.push(byte)?;
         rest = others;
     }
     Ok(())

@@ -1,11 +1,10 @@
-use Rattle.std.proofs.Common.{◌≡◌, ◌≤◌, ◌-◌, length, drop}
-use Rattle.rv_asm.specs.Token.{quoted_length}
-use Rattle.rv_asm.proofs.TokenStrings.{longer}
+use Rattle.std.proofs.Common.{◌≡◌, ◌≤◌, length}
+use Rattle.rv_asm.specs.Token.{from_quote}
 use Rattle.rv_asm.proofs.token.quoted_length.Given as goal
 
--- what is counted and what is left to count are the whole
-abbrev pub invariant-loop-length : goal.invariant-loop-length
-invariant-loop-length l = record { in_range : l.length ≤ length l.bytes; counted : longer l.length (quoted_length (drop l.length l.bytes)) ≡ quoted_length l.bytes }
+-- the closing quote is still to come
+abbrev pub invariant-loop-rest : goal.invariant-loop-rest
+invariant-loop-rest l = record { closing : from_quote l.rest ≡ from_quote l.bytes; in_range : length l.rest ≤ length l.bytes }
 
-abbrev pub decreases-loop-length : goal.decreases-loop-length
-decreases-loop-length l = length l.bytes - l.length
+abbrev pub decreases-loop-rest : goal.decreases-loop-rest
+decreases-loop-rest l = length l.rest
