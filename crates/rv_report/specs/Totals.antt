@@ -9,24 +9,6 @@ use Rattle.rv_hardware.specs.declared.{report.StallCounts.StallCounts, step.Step
 use Rattle.rv_text.specs.Line.{line_of, count_line, ratio_text}
 use Rattle.rv_report.specs.declared.totals.{StepCounts.StepCounts, Totals.Totals}
 
-<<<<<<< HEAD
-=======
--- an instruction retired in a step
-abbrev pub is_retired : Step → Bool
-is_retired (Retired row) = true
-is_retired _ = false
-
--- a step is an exception
-abbrev pub is_trap : Step → Bool
-is_trap (Trap pc cause value cycle) = true
-is_trap _ = false
-
--- a step is an interrupt
-abbrev pub is_interrupt : Step → Bool
-is_interrupt (Interrupt pc cause cycle) = true
-is_interrupt _ = false
-
->>>>>>> ce7b077e8ec8d74f0a85941cfde047bb537525bb
 -- how many steps there are of each sort
 abbrev pub counts_of : List Step → StepCounts
 counts_of steps = record {
