@@ -7,7 +7,7 @@ use Rattle.rv_asm.specs.Kept.{Kept, says_nothing, is_idle, keep, kept, places, f
 use Rattle.rv_asm.specs.Layout.{Layout, extended, layout, line_in, lines_of, unlaid}
 use Rattle.rv_asm.specs.Meaning.{Spells, behind_text, contents, image_parts, line_cells, parts_in, section_parts}
 use Rattle.rv_asm.specs.Placed.{Placed, constant_starts, place, place_body, placed}
-use Rattle.rv_asm.specs.Statement.{Statement, Nothing, Choice, Constant, Instruction, Values, Bytes}
+use Rattle.rv_asm.specs.Statement.{Statement, Nothing}
 use Rattle.rv_asm.specs.declared.fault.AsmFault.{AsmFault}
 use Rattle.rv_asm.specs.declared.reach.Reach.{Reach}
 use Rattle.rv_asm.specs.declared.operation.Section.{Section}
@@ -15,12 +15,7 @@ use Rattle.rv_asm.specs.declared.operation.Section.TheVariants.{Text, Data}
 
 nothing_said : (r : Result Statement AsmFault) → says_nothing r ≡ true → r ≡ Ok Nothing
 nothing_said (Ok Nothing) is = refl
-nothing_said (Ok (Choice s)) is = absurd (cc)
-nothing_said (Ok (Constant name number)) is = absurd (cc)
-nothing_said (Ok (Instruction operation fields value)) is = absurd (cc)
-nothing_said (Ok (Values width operands)) is = absurd (cc)
-nothing_said (Ok (Bytes directive operand)) is = absurd (cc)
-nothing_said (Err fault) is = absurd (cc)
+nothing_said _ is = absurd (cc)
 
 -- an idle line has no statement with an effect, and is not where execution starts
 pub record SaysNothing (line : Placed) : Type 0 where

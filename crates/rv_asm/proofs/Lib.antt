@@ -1,4 +1,3 @@
-pub mod Comments
 pub mod Defined
 pub mod Emitted
 pub mod Kept

@@ -1,7 +1,6 @@
 -- The lines of a text, one after another.
-use Rattle.std.proofs.Common.{◌≡◌, ◌∙◌, ◌+◌, ◌<◌, ◌≤◌, ◌++◌, ◌∷◌, [], ℕ, List, map, take, drop, get_or, length, length-take, arith, Bool, true, false, zero, suc, Some, None, ap, sym, refl, ◌==◌, append_assoc, append-nil}
+use Rattle.std.proofs.Common.{◌≡◌, ◌∙◌, ◌+◌, ◌<◌, ◌≤◌, ◌++◌, ◌∷◌, [], ℕ, List, map, take, drop, get_or, length, length-take, arith, false, zero, suc, Some, None, ap, sym, refl, ◌==◌, append_assoc, append-nil}
 use Rattle.std.specs.List.{position_or_len, slice_split}
-use Rattle.std.proofs.lemmas.Bool.Decides.{nat_tests}
 use Rattle.std.proofs.lemmas.List.{drop-drop, take_all}
 use Rattle.std.proofs.lemmas.List.Splits.{slice_split_first, slice_split_none}
 use Rattle.std.proofs.lemmas.List.Sums.{fails_before_first}
@@ -15,14 +14,6 @@ use Rattle.rv_asm.specs.declared.fault.AsmFault.{AsmFault}
 -- no byte before the first line feed is one
 no_feed : (text : List ℕ) (k d : ℕ) → position_or_len (λ byte. byte == 10) text ≡ length text → k < length text → (get_or text k d == 10) ≡ false
 no_feed text k d all below = fails_before_first (λ byte. byte == 10) text k d (omega (arith, all, below))
-
-pub some_left : (n : ℕ) (is_none : Bool) → is_none ≡ (n == 0) → is_none ≡ false → 0 < n
-some_left zero is_none is none_not = absurd (cc)
-some_left (suc n) is_none is none_not = omega arith
-
-pub none_left : (n : ℕ) (is_none : Bool) → is_none ≡ (n == 0) → is_none ≡ true → n ≡ 0
-none_left zero is_none is none = refl
-none_left (suc n) is_none is none = grind (arith, nat_tests)
 
 -- the next line of a text, and the last one
 module _ (text rest bytes behind : List ℕ) (begin size : ℕ) (rest_is : rest ≡ drop begin text) (size_is : size ≡ position_or_len (λ byte. byte == 10) rest) (bytes_are : bytes ≡ take size rest) (left : length behind + size ≡ length rest) where

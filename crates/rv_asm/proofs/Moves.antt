@@ -4,7 +4,7 @@ use Rattle.rv_asm.specs.Kept.{is_idle}
 use Rattle.rv_asm.proofs.Kept.{idle_says_nothing}
 use Rattle.rv_asm.specs.Layout.{Line, Unreadable, Readable, Layout, Meanings, advance, behind, extended, grow_in, laid, labelled, label_at, offset, offset_in, size, statement_in}
 use Rattle.rv_asm.specs.Placed.{place}
-use Rattle.rv_asm.specs.Statement.{Statement, Nothing, Choice, Constant, Instruction, Values, Bytes}
+use Rattle.rv_asm.specs.Statement.{Statement, Choice}
 use Rattle.rv_asm.specs.declared.fault.AsmFault.{AsmFault}
 use Rattle.rv_asm.specs.declared.operation.Section.{Section}
 use Rattle.rv_asm.specs.declared.operation.Section.TheVariants.{Text, Data}
@@ -24,11 +24,7 @@ grow Data n reach = record { text_grows = omega arith; data_grows = omega arith 
 
 advances : (m : Meanings) (s : Statement) (reach : Reach) → Grows reach (advance m s reach)
 advances m (Choice section) reach = record { text_grows = omega arith; data_grows = omega arith }
-advances m Nothing reach = grow reach.section 0 reach
-advances m (Constant name number) reach = grow reach.section 0 reach
-advances m (Instruction operation fields value) reach = grow reach.section (size m (offset reach) (Instruction operation fields value)) reach
-advances m (Values width operands) reach = grow reach.section (size m (offset reach) (Values width operands)) reach
-advances m (Bytes directive operand) reach = grow reach.section (size m (offset reach) (Bytes directive operand)) reach
+advances m s reach = grow reach.section (size m (offset reach) s) reach
 
 behind_grows : (m : Meanings) (reach : Reach) (said : Result Statement AsmFault) → Grows reach (behind m reach said).reach
 behind_grows m reach (Ok said) = advances m said reach

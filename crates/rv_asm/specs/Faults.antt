@@ -27,10 +27,11 @@ earliest number [] = None
 earliest number (None ∷ others) = earliest (number + 1) others
 earliest number (Some fault ∷ others) = Some (fault, number)
 
--- the earliest fault of the first pass, and of the second
+-- the earliest fault of the first pass
 abbrev pub first_fault_of : List Line → Option (AsmFault × ℕ)
 first_fault_of lines = earliest 1 (first_faults unlaid lines)
 
+-- the earliest fault of the second pass
 abbrev pub second_fault_of : ℕ → List Line → Option (AsmFault × ℕ)
 second_fault_of base lines = earliest 1 (map (second_fault base (layout lines)) (placed unlaid lines))
 

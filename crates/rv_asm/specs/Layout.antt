@@ -32,6 +32,7 @@ abbrev pub body_of : List Token → List Token
 body_of (token.Name name ∷ token.Colon ∷ rest) = body_of rest
 body_of tokens = tokens
 
+-- the line of these tokens, if they are tokens
 abbrev pub line_of : Option (List Token) → Line
 line_of None = Unreadable
 line_of (Some tokens) = Readable (labels_of tokens) (body_of tokens)
@@ -75,6 +76,7 @@ load_address rd away = Auipc rd (upper away) ∷ OpImmediate Addi rd rd (lower a
 abbrev pub start : Reach
 start = record { section = Text; text_size = 0; data_size = 0 }
 
+-- how many bytes a section has so far
 abbrev pub offset_in : Section → Reach → ℕ
 offset_in Text reach = reach.text_size
 offset_in Data reach = reach.data_size
@@ -83,6 +85,7 @@ offset_in Data reach = reach.data_size
 abbrev pub offset : Reach → ℕ
 offset reach = offset_in reach.section reach
 
+-- a section has so many bytes more
 abbrev pub grow_in : Section → ℕ → Reach → Reach
 grow_in Text size reach = record reach { text_size = reach.text_size + size }
 grow_in Data size reach = record reach { data_size = reach.data_size + size }

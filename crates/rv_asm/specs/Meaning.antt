@@ -53,9 +53,9 @@ evaluate value (Sum name number) = option_map (λ symbol. symbol +ℤ number) (v
 abbrev pub ranged : ℤ → ℤ → ℤ → Result ℤ AsmFault
 ranged least greatest number = if is_between least greatest number then Ok number else Err OutOfRange
 
--- a number from 0 on, in a range
+-- a number from 0 on, below a limit
 abbrev pub natural : ℕ → ℤ → Result ℕ AsmFault
-natural greatest number = and_then (ranged (pos 0) (pos greatest) number) (λ inside. Ok (unsigned_abs inside))
+natural limit number = and_then (ranged (pos 0) (pos limit -ℤ pos 1) number) (λ inside. Ok (unsigned_abs inside))
 
 -- a distance in a range; a distance is even
 abbrev pub distance : ℤ → ℤ → ℤ → Result ℤ AsmFault
@@ -66,24 +66,25 @@ distance least greatest number =
 abbrev pub immediate : ℤ → Result ℤ AsmFault
 immediate v = ranged (negsuc 2047) (pos 2047) v
 
+-- one instruction alone
 abbrev pub one : Instr → Result (List Instr) AsmFault
 one instruction = Ok (instruction ∷ [])
 
 -- the instructions of an operation, its fields and the value of its expression, at an address
 abbrev pub instructions : Operation → Fields → ℕ → ℤ → Result (List Instr) AsmFault
-instructions operation.Lui f address v = and_then (natural 1048575 v) (λ n. one (instr.Lui f.rd n))
-instructions operation.Auipc f address v = and_then (natural 1048575 v) (λ n. one (instr.Auipc f.rd n))
+instructions operation.Lui f address v = and_then (natural 1048576 v) (λ n. one (instr.Lui f.rd n))
+instructions operation.Auipc f address v = and_then (natural 1048576 v) (λ n. one (instr.Auipc f.rd n))
 instructions operation.Jal f address v = and_then (distance (negsuc 1048575) (pos 1048574) (v -ℤ pos address)) (λ away. one (instr.Jal f.rd away))
 instructions operation.Jalr f address v = and_then (immediate v) (λ n. one (instr.Jalr f.rd f.rs1 n))
 instructions (operation.Branch condition) f address v = and_then (distance (negsuc 4095) (pos 4094) (v -ℤ pos address)) (λ away. one (instr.Branch condition f.rs1 f.rs2 away))
 instructions (operation.Load form) f address v = and_then (immediate v) (λ n. one (instr.Load form f.rd f.rs1 n))
 instructions (operation.Store width) f address v = and_then (immediate v) (λ n. one (instr.Store width f.rs1 f.rs2 n))
 instructions (operation.OpImmediate op) f address v = and_then (immediate v) (λ n. one (instr.OpImmediate op f.rd f.rs1 n))
-instructions (operation.Shift op) f address v = and_then (natural 31 v) (λ n. one (instr.Shift op f.rd f.rs1 n))
+instructions (operation.Shift op) f address v = and_then (natural 32 v) (λ n. one (instr.Shift op f.rd f.rs1 n))
 instructions (operation.Op op) f address v = one (instr.Op op f.rd f.rs1 f.rs2)
 instructions (operation.Bare bare) f address v = one (bare_instruction bare)
-instructions (operation.Csr op) f address v = and_then (natural 4095 f.csr) (λ csr. one (instr.Csr op f.rd csr (Register f.rs1)))
-instructions (operation.CsrImmediate op) f address v = and_then (natural 4095 f.csr) (λ csr. and_then (natural 31 v) (λ n. one (instr.Csr op f.rd csr (Immediate n))))
+instructions (operation.Csr op) f address v = and_then (natural 4096 f.csr) (λ csr. one (instr.Csr op f.rd csr (Register f.rs1)))
+instructions (operation.CsrImmediate op) f address v = and_then (natural 4096 f.csr) (λ csr. and_then (natural 32 v) (λ n. one (instr.Csr op f.rd csr (Immediate n))))
 instructions operation.LoadNumber f address v = Ok (load_number f.rd (signed_word v))
 instructions operation.LoadAddress f address v = Ok (load_address f.rd (signed_word (v -ℤ pos address)))
 

@@ -30,6 +30,7 @@ register_names =
     (codes "t3", 28) ∷ (codes "t4", 29) ∷ (codes "t5", 30) ∷ (codes "t6", 31) ∷
     []
 
+-- the number of the register of a name
 abbrev pub register_named : List ℕ → Option ℕ
 register_named name = named register_names name
 

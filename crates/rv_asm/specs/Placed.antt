@@ -10,6 +10,7 @@ use Rattle.rv_asm.specs.declared.fault.AsmFault.TheVariants.{BadToken}
 abbrev pub is_start : List ℕ → Bool
 is_start name = bytes_eq name (codes "_start")
 
+-- a .equ defines _start
 abbrev pub constant_starts : Result Statement AsmFault → Bool
 constant_starts (Ok (Constant name number)) = is_start name
 constant_starts _ = false
@@ -24,6 +25,7 @@ pub record Placed : Type 0 where
 abbrev pub place_body : Reach → Bool → Result Statement AsmFault → Placed
 place_body reach label_starts statement = record { reach = reach; starts = label_starts || constant_starts statement; statement = statement }
 
+-- a line in its place
 abbrev pub place : Reach → Line → Placed
 place reach Unreadable = place_body reach false (Err BadToken)
 place reach (Readable labels body) = place_body reach (list_any is_start labels) (statement_in body)

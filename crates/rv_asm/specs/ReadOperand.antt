@@ -20,5 +20,6 @@ operand_of (Value expression) = spec.Value (expression_of expression)
 operand_of (Indirect offset register) = spec.Indirect (option_map expression_of offset) register.now
 operand_of (Text raw) = spec.Text (unescaped raw.now)
 
+-- what operands of the program stand for
 abbrev pub operands_in : List shown.Operand → List spec.Operand
 operands_in operands = map operand_of operands

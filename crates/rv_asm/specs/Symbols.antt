@@ -30,9 +30,11 @@ placed_of line = place_body line.reach line.label_starts (statement line.reading
 abbrev pub kept_of : Record → Kept
 kept_of line = record { number = line.line.number; bytes = line.line.bytes.now; place = placed_of line }
 
+-- what the program keeps of lines
 abbrev pub kept_in : List Record → List Kept
 kept_in records = map kept_of records
 
+-- the lines that the program keeps, where they stand
 abbrev pub lines_in : List Record → List Placed
 lines_in records = places (kept_in records)
 

@@ -1,14 +1,11 @@
-ghost use Rattle.std.specs.Prelude.{◌≡◌, ◌<◌, ◌∷◌, ◌≤ℤ◌, ◌≤◌, ◌-ℤ◌, ◌^◌, pos, negsuc, option_to_list, IfOk};
+ghost use Rattle.std.specs.Prelude.{◌≡◌, ◌<◌, ◌∷◌, ◌≤ℤ◌, ◌-ℤ◌, ◌^◌, pos, negsuc, option_to_list};
 ghost use Rattle.std.specs.Result.{result_map_both};
 ghost use Rattle.rv_asm.specs.Meaning.{distance, immediate, instructions, natural};
 
 use crate::fault::AsmFault;
 use crate::operation::{Fields, Operation};
 use crate::reach::{load_address, load_number, signed_word};
-use rv_isa::{
-    BranchOffset, CsrAddress, CsrImmediate, CsrSource, Immediate, Instr, JumpOffset, ShiftAmount,
-    UpperImmediate,
-};
+use rv_isa::{BranchOffset, CsrSource, Immediate, Instr, JumpOffset, Unsigned};
 
 /// One instruction, or two.
 type Made = (Instr, Option<Instr>);
@@ -23,40 +20,15 @@ fn immediate(number: i128) -> Result<Immediate, AsmFault>
     }
 }
 
-/// A number from 0 on that a field holds.
-fn natural(number: i128, greatest: u32) -> Result<u32, AsmFault>
-    ensures number { result ≡ natural greatest number }
-    ensures in_range { IfOk result (λ n. n ≤ greatest) }
+/// The field that holds a number from 0 on.
+fn natural<const LIMIT: u32>(number: i128) -> Result<Unsigned<LIMIT>, AsmFault>
+    ensures { result ≡ natural LIMIT number }
 {
-    if 0 <= number && number <= i128::from(greatest) {
-        Ok(number.unsigned_abs() as u32)
+    if 0 <= number && number < i128::from(LIMIT) {
+        Ok(Unsigned::from_field(number.unsigned_abs() as u32))
     } else {
         Err(AsmFault::OutOfRange)
     }
-}
-
-fn upper_immediate(number: i128) -> Result<UpperImmediate, AsmFault>
-    ensures { result ≡ natural 1048575 number }
-{
-    Ok(UpperImmediate::from_field(natural(number, 1048575)?))
-}
-
-fn shift_amount(number: i128) -> Result<ShiftAmount, AsmFault>
-    ensures { result ≡ natural 31 number }
-{
-    Ok(ShiftAmount::from_field(natural(number, 31)?))
-}
-
-fn csr_address(number: i64) -> Result<CsrAddress, AsmFault>
-    ensures { result ≡ natural 4095 number }
-{
-    Ok(CsrAddress::from_field(natural(i128::from(number), 4095)?))
-}
-
-fn csr_immediate(number: i128) -> Result<CsrImmediate, AsmFault>
-    ensures { result ≡ natural 31 number }
-{
-    Ok(CsrImmediate::from_field(natural(number, 31)?))
 }
 
 fn branch_offset(away: i128) -> Result<BranchOffset, AsmFault>
@@ -110,11 +82,11 @@ pub fn instructions(
     let instruction = match operation {
         Operation::Lui => Instr::Lui {
             rd,
-            immediate: upper_immediate(number)?,
+            immediate: natural(number)?,
         },
         Operation::Auipc => Instr::Auipc {
             rd,
-            immediate: upper_immediate(number)?,
+            immediate: natural(number)?,
         },
         Operation::Jal => Instr::Jal {
             rd,
@@ -153,21 +125,21 @@ pub fn instructions(
             op,
             rd,
             rs1,
-            amount: shift_amount(number)?,
+            amount: natural(number)?,
         },
         Operation::Op(op) => Instr::Op { op, rd, rs1, rs2 },
         Operation::Bare(bare) => bare.instruction(),
         Operation::Csr(op) => Instr::Csr {
             op,
             rd,
-            csr: csr_address(csr)?,
+            csr: natural(i128::from(csr))?,
             source: CsrSource::Register(rs1),
         },
         Operation::CsrImmediate(op) => Instr::Csr {
             op,
             rd,
-            csr: csr_address(csr)?,
-            source: CsrSource::Immediate(csr_immediate(number)?),
+            csr: natural(i128::from(csr))?,
+            source: CsrSource::Immediate(natural(number)?),
         },
         Operation::LoadNumber => return Ok(load_number(rd, signed_word(number))),
         Operation::LoadAddress => {

@@ -31,13 +31,13 @@ pub struct Layout<'a> {
     pub records: Vec<Record<'a>>,
 }
 
-/// How many bytes stand before the first line feed, or how many there are.
-fn line_length(text: &[u8]) -> usize
-    ensures length { result ≡ position_or_len (λ byte. byte == 10) text.now }
+/// How many bytes stand before the first one that is this, or how many there are.
+pub fn length_before(end: u8, text: &[u8]) -> usize
+    ensures length { result ≡ position_or_len (λ byte. byte == end) text.now }
     ensures in_range { result ≤ length text.now }
 {
     for (count, byte) in text.iter().enumerate() {
-        if *byte == b'\n' {
+        if *byte == end {
             return count;
         }
     }
@@ -163,7 +163,7 @@ impl<'a> Layout<'a> {
         let mut number = 1;
         loop {
             let (_, rest) = text.split_at(begin);
-            let (bytes, behind) = rest.split_at(line_length(rest));
+            let (bytes, behind) = rest.split_at(length_before(b'\n', rest));
             if let Err(fault) = layout.add(alloc, TextLine { number, bytes }) {
                 return Err(AsmError::at(fault, number));
             }

@@ -1,5 +1,4 @@
-ghost use Rattle.std.specs.Prelude.{◌≡◌, ◌-◌, ◌++◌, nat_eq, Some, None, IfOk, IfErr, replicate};
-ghost use Rattle.std.specs.List.{position};
+ghost use Rattle.std.specs.Prelude.{◌≡◌, ◌-◌, ◌++◌, Some, None, IfOk, IfErr, replicate};
 ghost use Rattle.rv_asm.specs.Answer.{RefusedAt};
 ghost use Rattle.rv_asm.specs.Faults.{first_fault_of};
 ghost use Rattle.rv_asm.specs.KeptWords.{reach_before, words_between, words_in};
@@ -9,7 +8,7 @@ ghost use Rattle.rv_asm.specs.Meaning.{round_up};
 ghost use Rattle.rv_asm.specs.Symbols.{kept_in};
 
 use crate::fault::{AsmError, AsmFault};
-use crate::layout::Layout;
+use crate::layout::{Layout, length_before};
 use crate::operation::Section;
 use crate::reach::Reach;
 use crate::record::{Record, TextLine};
@@ -38,24 +37,12 @@ fn words_of_gap(text_size: usize) -> usize
     ((rounded + 3) / 4 - (text_size as u128 + 3) / 4) as usize
 }
 
-/// The place of the first `#` of a line.
-fn place_of_comment(line: &[u8]) -> Option<usize>
-    ensures { result ≡ position (λ byte. nat_eq byte 35) line.now }
-{
-    line.iter().position(|byte| *byte == b'#')
-}
-
 /// The bytes of a line before its first `#`.
 fn before_comment(line: &[u8]) -> &[u8]
     ensures { result.now ≡ before_comment line.now }
 {
-    match place_of_comment(line) {
-        Some(count) => {
-            let (statement, _) = line.split_at(count);
-            statement
-        }
-        None => line,
-    }
+    let (statement, _) = line.split_at(length_before(b'#', line));
+    statement
 }
 
 /// The line as a listing shows it: without its comment, and without white space at its ends.
