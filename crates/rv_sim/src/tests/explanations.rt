@@ -79,11 +79,36 @@ struct Told {
     line: &'static str,
 }
 
-// The first has to be executed and retires in cycle 4; its target is fetched then. The second traps in cycle 2.
-const PLACES: [Told; 2] = [
+// Each instruction that faults retires in cycle 4 where it has to be executed, and in 2 where it has not; the target of the
+// jump that retires in 4 is fetched then.
+const CAUSES: [Told; 8] = [
+    Told {
+        program: "jalr x0,2(x0)",
+        line: "The first exception came in cycle 4: Instruction address misaligned, mtval 00000002, at 80000000, line 1: jalr x0,2(x0)",
+    },
     Told {
         program: "jalr x0,0(x0)",
         line: "The first exception came in cycle 6: Instruction access fault, mtval 00000000, at 00000000, which no line of the program fills",
+    },
+    Told {
+        program: ".word 0xffffffff",
+        line: "The first exception came in cycle 2: Illegal instruction, mtval ffffffff, at 80000000, line 1: .word 0xffffffff",
+    },
+    Told {
+        program: "lw x1,1(x0)",
+        line: "The first exception came in cycle 4: Load address misaligned, mtval 00000001, at 80000000, line 1: lw x1,1(x0)",
+    },
+    Told {
+        program: "lw x1,16(x0)",
+        line: "The first exception came in cycle 4: Load access fault, mtval 00000010, at 80000000, line 1: lw x1,16(x0)",
+    },
+    Told {
+        program: "sw x1,1(x0)",
+        line: "The first exception came in cycle 4: Store/AMO address misaligned, mtval 00000001, at 80000000, line 1: sw x1,1(x0)",
+    },
+    Told {
+        program: "sw x1,16(x0)",
+        line: "The first exception came in cycle 4: Store/AMO access fault, mtval 00000010, at 80000000, line 1: sw x1,16(x0)",
     },
     Told {
         program: "ecall",
@@ -92,8 +117,8 @@ const PLACES: [Told; 2] = [
 ];
 
 #[test]
-fn an_exception_is_told_with_its_line_or_none(rt: HostRuntime) {
-    for told in PLACES {
+fn each_cause_has_its_name(rt: HostRuntime) {
+    for told in CAUSES {
         check_run(&rt, rt.alloc(), EXPLAIN, told.program, 0, &[told.line]);
     }
 }
@@ -110,6 +135,33 @@ fn a_mode_without_an_address_is_no_handler(rt: HostRuntime) {
     let handled = "la x5,h\ncsrw mtvec,x5\necall\nh: ebreak";
     let line = "The program went on at its handler, at 80000010";
     check_run(&rt, alloc, EXPLAIN, handled, 0, &[line]);
+}
+
+// Two exceptions, with a handler that goes on behind each.
+const TWO_EXCEPTIONS: &str = "la x31,h
+csrw mtvec,x31
+lw x1,1(x0)
+ecall
+ebreak
+h: csrr x5,mepc
+addi x5,x5,4
+csrw mepc,x5
+mret
+";
+
+#[test]
+fn the_first_of_two_exceptions_is_told(rt: HostRuntime) {
+    let taken =
+        "The first exception came in cycle 10: Load address misaligned, mtval 00000001, at 8000000c, line 3: lw x1,1(x0)";
+    let handler = "The program went on at its handler, at 80000018";
+    check_run(
+        &rt,
+        rt.alloc(),
+        EXPLAIN,
+        TWO_EXCEPTIONS,
+        0,
+        &[taken, handler],
+    );
 }
 
 // Two stores to the word that is fetched then, and one to the word behind it.
@@ -147,6 +199,34 @@ fn the_last_store_to_the_stale_word_is_told(rt: HostRuntime) {
     ];
     for told in rows {
         check_run(&rt, rt.alloc(), EXPLAIN, told.program, 3, &[told.line]);
+    }
+}
+
+// What each first waits for behind the second cycle: the division, a place in the reorder buffer, the one station, in which an
+// instruction waits for the division, and the end of the first store's drain.
+const WAITS: [Told; 4] = [
+    Told {
+        program: "div x6,x0,x0\ncsrrs x5,mip,x0\nebreak",
+        line: "serial         17   77.3%  #######################################",
+    },
+    Told {
+        program: "rob = 1\n%%\naddi x1,x0,1\nebreak",
+        line: "rob             2   33.3%  #################",
+    },
+    Told {
+        program: "div.stations = 1\nrob = 3\n%%\ndiv x3,x1,x1\ndiv x4,x3,x1\ndiv x5,x1,x1\nebreak",
+        line: "station        16   30.2%  ###############",
+    },
+    Told {
+        program: "store_queue = 1\n%%\nlui x5,0x80001\nsw x0,0(x5)\nsw x0,4(x5)\nebreak",
+        line: "store          15   71.4%  ####################################",
+    },
+];
+
+#[test]
+fn each_reason_to_wait_has_its_cycles(rt: HostRuntime) {
+    for told in WAITS {
+        check_run(&rt, rt.alloc(), EXPLAIN, told.program, 0, &[told.line]);
     }
 }
 
@@ -217,4 +297,68 @@ fn drains_are_counted_when_they_begin(rt: HostRuntime) {
     for told in rows {
         check_run(&rt, rt.alloc(), EXPLAIN, told.program, 0, &[told.line]);
     }
+}
+
+// A loop of five rounds of 7 cycles, but for the first, which waits for the division. Each branch back is mispredicted.
+const LOOP: &[u8] = b"predictor.kind = \"not_taken\"
+%%
+li x1,5
+div x3,x1,x1
+l: li x2,0x12345678
+addi x1,x1,-1
+bnez x1,l
+ebreak
+";
+
+// The division stands at the head behind the cycles 4 to 20. The two words of `li` stand there for 3 and 2 cycles of each
+// later round, the second for 1 of the first round.
+const LINES_OF_LOOP: &[u8] = b"
+The lines that stood longest at the head of the reorder buffer, in cycles:
+80000008, line 3: l: li x2,0x12345678
+               21   40.4%  ####################
+80000004, line 2: div x3,x1,x1
+               17   32.7%  ################
+80000014, line 5: bnez x1,l
+                5    9.6%  #####
+80000000, line 1: li x1,5
+                3    5.8%  ###
+";
+
+#[test]
+fn the_words_of_a_line_are_told_together(rt: HostRuntime) {
+    let ended = run_text(rt.alloc(), EXPLAIN, LOOP);
+    assert_eq!(rt; ended.status, 0);
+    assert!(rt; ended.output.as_slice().ends_with(LINES_OF_LOOP));
+}
+
+// Each addition waits for the one before it.
+const CHAIN: &[u8] = b"li x1,5
+mul x2,x1,x1
+addi x3,x2,1
+addi x4,x3,1
+addi x5,x4,1
+addi x6,x5,1
+ebreak
+";
+
+// The multiplication stands at the head behind the cycles 4 to 7, each addition behind the next two.
+const LINES_OF_CHAIN: &[u8] = b"
+The lines that stood longest at the head of the reorder buffer, in cycles:
+80000004, line 2: mul x2,x1,x1
+                4   23.5%  ############
+80000000, line 1: li x1,5
+                3   17.6%  #########
+80000008, line 3: addi x3,x2,1
+                2   11.8%  ######
+8000000c, line 4: addi x4,x3,1
+                2   11.8%  ######
+80000010, line 5: addi x5,x4,1
+                2   11.8%  ######
+";
+
+#[test]
+fn of_equal_lines_the_first_are_told(rt: HostRuntime) {
+    let ended = run_text(rt.alloc(), EXPLAIN, CHAIN);
+    assert_eq!(rt; ended.status, 0);
+    assert!(rt; ended.output.as_slice().ends_with(LINES_OF_CHAIN));
 }
