@@ -34,16 +34,11 @@ none_at test start (y ∷ ys) (suc i) x none here =
     none_at test (start + 1) ys i x (not_first (test y) start (position_from test (start + 1) ys) none).1 here
 
 -- none of the three faults is no fault
-no_fault : (found : Option ValueFault) → is_fault WrongKind found ≡ false → is_fault OutOfRange found ≡ false → is_fault NotPowerOfTwo found ≡ false → found ≡ None
+no_fault : (found : Option ValueFault) → is_fault found WrongKind ≡ false → is_fault found OutOfRange ≡ false → is_fault found NotPowerOfTwo ≡ false → found ≡ None
 no_fault None kind range power = refl
 no_fault (Some WrongKind) kind range power = absurd (cc)
 no_fault (Some OutOfRange) kind range power = absurd (cc)
 no_fault (Some NotPowerOfTwo) kind range power = absurd (cc)
-
-fault_in_none : (fault : ValueFault) → is_fault fault None ≡ false
-fault_in_none WrongKind = refl
-fault_in_none OutOfRange = refl
-fault_in_none NotPowerOfTwo = refl
 
 -- where there is no error there is no place of one
 no_places : (kind range power : Option ℕ) → IsNone (option_or (option_map error.WrongKind kind) (option_or (option_map error.OutOfRange range) (option_map error.NotPowerOfTwo power)))
@@ -53,11 +48,11 @@ no_places None (Some place) power none = absurd (cc)
 no_places None None (Some place) none = absurd (cc)
 no_places None None None none = (refl, refl, refl)
 
-no_key : (t : Members) (fault : ValueFault) (key : Key) → first_place fault t ≡ None → is_fault fault (key_fault t key) ≡ false
+no_key : (t : Members) (fault : ValueFault) (key : Key) → first_place fault t ≡ None → is_fault (key_fault t key) fault ≡ false
 unfolding first_place
 no_key t fault key none =
     let (index, here) = in_order key in
-    none_at (λ key. is_fault fault (key_fault t key)) 1 order index key none here
+    none_at (λ key. is_fault (key_fault t key) fault) 1 order index key none here
 
 pub faultless : (t : Members) → IsNone (first_error t) → IsFaultless t
 faultless t none =
@@ -77,7 +72,7 @@ nowhere test start (x ∷ xs) none = rw (none x) (nowhere test (start + 1) xs no
 no_place : (t : Members) (fault : ValueFault) → ((key : Key) → key_fault t key ≡ None) → first_place fault t ≡ None
 unfolding first_place
 no_place t fault none =
-    nowhere (λ key. is_fault fault (key_fault t key)) 1 order (λ key. rw (none key) (fault_in_none fault))
+    nowhere (λ key. is_fault (key_fault t key) fault) 1 order (λ key. rw (none key))
 
 pub first_error-faultless : (t : Members) → IsFaultless t → first_error t ≡ None
 first_error-faultless t legal =

@@ -60,16 +60,17 @@ ram_size_of members = number members RamSize
 unfoldable pub key_fault : Members → Key → Option ValueFault
 key_fault members key = held_fault key (ram_size_of members) (held members (key_place key))
 
--- the value has this fault
-abbrev pub is_fault : ValueFault → Option ValueFault → Bool
-is_fault WrongKind (Some WrongKind) = true
-is_fault OutOfRange (Some OutOfRange) = true
-is_fault NotPowerOfTwo (Some NotPowerOfTwo) = true
+-- what is wrong is this fault
+abbrev pub is_fault : Option ValueFault → ValueFault → Bool
+is_fault None fault = false
+is_fault (Some WrongKind) WrongKind = true
+is_fault (Some OutOfRange) OutOfRange = true
+is_fault (Some NotPowerOfTwo) NotPowerOfTwo = true
 is_fault _ _ = false
 
 -- the place, from 1, of the first key with a fault
 unfoldable pub first_place : ValueFault → Members → Option ℕ
-first_place fault members = position_from (λ key. is_fault fault (key_fault members key)) 1 order
+first_place fault members = position_from (λ key. is_fault (key_fault members key) fault) 1 order
 
 -- the place that an error names, and 0 where it names none
 abbrev pub place_of : DescriptionError → ℕ

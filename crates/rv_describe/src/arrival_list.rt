@@ -35,6 +35,7 @@ pub fn read_arrivals(alloc: Global, bytes: &[u8]) -> Result<Arrivals, ArrivalsEr
 }
 
 /// The arrivals that a table lists, or its fault.
+#[tactic(auto, unfolding(crate::specs::ArrivalList::table_meaning))]
 fn read_table(alloc: Global, table: &Table) -> Result<Arrivals, ArrivalsError>
     ensures read { result ≢ Err ArrivalsError.Memory → result ≡ table_meaning (table_view table.now) }
     ensures memory { result ≡ Err ArrivalsError.Memory → IsSome (get_member (codes "arrival") (table_view table.now)) }

@@ -79,8 +79,8 @@ fn key_fault(table: &Table, key: Key) -> Option<ValueFault>
     }
 }
 
-fn is_fault(fault: ValueFault, found: Option<ValueFault>) -> bool
-    ensures { result ≡ is_fault fault found }
+fn is_fault(found: Option<ValueFault>, fault: ValueFault) -> bool
+    ensures { result ≡ is_fault found fault }
 {
     match found {
         Some(ValueFault::WrongKind) => matches!(fault, ValueFault::WrongKind),
@@ -92,11 +92,11 @@ fn is_fault(fault: ValueFault, found: Option<ValueFault>) -> bool
 
 fn first_among(keys: &[Key], table: &Table, fault: ValueFault) -> Option<usize>
     ensures { result
-        ≡ position_from (λ key. is_fault fault (key_fault (table_view table.now) key)) 1 keys.now }
+        ≡ position_from (λ key. is_fault (key_fault (table_view table.now) key) fault) 1 keys.now }
 {
     let mut place = 1;
     for key in keys {
-        if is_fault(fault, key_fault(table, *key)) {
+        if is_fault(key_fault(table, *key), fault) {
             return Some(place);
         }
         place += 1;
