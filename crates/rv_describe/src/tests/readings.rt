@@ -1,5 +1,5 @@
-use super::{is_read, is_refused};
-use crate::{DescriptionError, read_description};
+use super::is_read;
+use crate::read_description;
 use rv_isa::{
     CacheValues, KindValues, PerKind, PredictorKind, PredictorValues, Recovery, ReportValues,
     Values,
@@ -137,29 +137,6 @@ fn names_that_a_key_knows(rt: HostRuntime) {
         ),
     ] {
         is_read(&rt, rt.alloc(), text, expected);
-    }
-}
-
-fn with_rob(rob: u32) -> Values {
-    Values {
-        rob,
-        ..Values::standard()
-    }
-}
-
-#[test]
-fn beginnings_of_a_text(rt: HostRuntime) {
-    let alloc = rt.alloc();
-    for text in ["r", "ro", "rob", "rob ", "rob =", "rob = "] {
-        is_refused(&rt, alloc, text, DescriptionError::NotToml, "");
-    }
-    for (text, rob) in [
-        ("", 16),
-        ("rob = 1", 1),
-        ("rob = 16", 16),
-        ("rob = 16\n", 16),
-    ] {
-        is_read(&rt, alloc, text, with_rob(rob));
     }
 }
 
