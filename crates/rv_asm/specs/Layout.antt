@@ -123,6 +123,7 @@ advance definition statement reach = grow_in reach.section (size definition (off
 abbrev pub is_too_large : Reach → Bool
 is_too_large reach = nat_lt 16777200 (reach.text_size + reach.data_size)
 
+-- a reach, unless text and data are too large
 abbrev pub unless_too_large : Reach → Result Reach AsmFault
 unless_too_large reach = if is_too_large reach then Err TooLarge else Ok reach
 

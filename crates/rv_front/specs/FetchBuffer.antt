@@ -19,6 +19,7 @@ abbrev pub first_pc : List Fetched → ℕ → ℕ
 first_pc [] next = next
 first_pc (e ∷ es) next = e.pc
 
+-- the pc of the oldest fetched word, or of the one to be fetched next
 abbrev pub head_pc : FetchBuffer → ℕ
 head_pc front = first_pc front.entries front.next_pc
 
@@ -27,6 +28,7 @@ abbrev pub IsLinked : List Fetched → ℕ → Type 0
 IsLinked [] next = Unit {0}
 IsLinked (e ∷ es) next = (first_pc es next ≡ e.predicted) × IsLinked es next
 
+-- the fetched words follow their predictions up to the pc to be fetched next
 abbrev pub IsChain : FetchBuffer → Type 0
 IsChain front = IsLinked front.entries front.next_pc
 
@@ -60,6 +62,7 @@ stop_for None straight = Some Halted
 stop_for (Some word) true = None
 stop_for (Some word) false = Some Prediction
 
+-- why a fetch ends behind a word, if it does
 abbrev pub stop_behind : Fetched → Option FetchStop
 stop_behind e = stop_for e.word (e.predicted == pc_plus_4 e.pc)
 

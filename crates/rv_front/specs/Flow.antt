@@ -15,6 +15,7 @@ flow_of pc (Jalr rd rs1 offset) = flow.Indirect
 flow_of pc (Branch condition rs1 rs2 offset) = flow.Branch (pc_plus pc offset) (int_lt offset (pos 0))
 flow_of pc other = flow.Sequential
 
+-- an illegal word traps, so that nothing is guessed behind it but the next word
 abbrev pub flow_behind : ℕ → Option Instr → Flow
 flow_behind pc None = flow.Sequential
 flow_behind pc (Some instruction) = flow_of pc instruction

@@ -31,9 +31,11 @@ backward_taken pc flow = predicted (λ backward. backward) None pc flow
 abbrev pub place_of : Tables → ℕ → ℕ
 place_of tables pc = pc / 4 % length tables.counters
 
+-- the counter of a pc
 abbrev pub counter_at : Tables → ℕ → ℕ
 counter_at tables pc = slice_index tables.counters (place_of tables pc)
 
+-- the last target of a register that was jumped to from a pc, if there was one
 abbrev pub target_at : Tables → ℕ → Option ℕ
 target_at tables pc = slice_index_or tables.targets (place_of tables pc) None
 

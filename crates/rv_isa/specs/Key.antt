@@ -15,9 +15,11 @@ pub record Place : Type 0 where
   pub table : Option (List ℕ)
   pub name : List ℕ
 
+-- a place at top level
 abbrev pub top : List ℕ → Place
 top name = record { table = None; name = name }
 
+-- a place in a table
 abbrev pub inside : List ℕ → List ℕ → Place
 inside table name = record { table = Some table; name = name }
 
@@ -26,6 +28,7 @@ pub record NumberRow : Type 0 where
   pub place : Place
   pub bounds : Bounds
 
+-- the row of a place that takes these numbers
 abbrev pub row : Place → Bounds → NumberRow
 row place bounds = record { place = place; bounds = bounds }
 
@@ -89,11 +92,12 @@ order =
     Number ReportDumpAddress ∷ Number ReportDumpWords ∷
     []
 
--- the text of a key: its name, behind its table's and a dot
+-- the text of a name, behind its table's and a dot
 abbrev pub joined : Option (List ℕ) → List ℕ → List ℕ
 joined None name = name
 joined (Some table) name = table ++ codes "." ++ name
 
+-- the text of a key, as a description writes it
 abbrev pub text_of : Key → List ℕ
 text_of key = joined (key_place key).table (key_place key).name
 
@@ -182,9 +186,10 @@ obeys v PredictorKind = true
 abbrev pub ObeysEachKey : Values → Type 0
 ObeysEachKey v = (key : Key) → obeys v key ≡ true
 
--- what the program's places and rows show
+-- what the program's place shows
 abbrev pub shown : PlaceValue → Place
 shown place = record { table = option_map (λ table. table.now) place.table; name = place.name.now }
 
+-- what the program's row shows
 abbrev pub shown_row : RowValue → NumberRow
 shown_row row = record { place = shown row.place; bounds = row.bounds }

@@ -9,5 +9,6 @@ plain_byte byte =
     else if byte == 9 then codes " "
     else codes "?"
 
+-- a text in printing characters
 abbrev pub plain_text : List ℕ → List ℕ
 plain_text text = flat_map plain_byte text
