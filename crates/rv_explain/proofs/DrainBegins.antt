@@ -1,5 +1,5 @@
 -- A cycle's drain phase begins an access where the end of the access under way changes, and nowhere else.
-use Rattle.std.proofs.Common.{◌≡◌, ◌∙◌, ℕ, ◌+◌, ◌-◌, ◌≤◌, ◌<◌, ◌==◌, Bool, true, false, if◌then◌else◌, nat_le, List, [], ◌∷◌, ◌++◌, Option, Some, None, refl, ap, sym, arith, eq-eqb, ne_eqb}
+use Rattle.std.proofs.Common.{◌≡◌, ◌∙◌, ℕ, ◌+◌, ◌-◌, ◌≤◌, ◌<◌, Bool, true, false, if◌then◌else◌, nat_le, List, [], ◌∷◌, ◌++◌, Option, Some, None, refl, ap, sym, arith, eq-eqb, ne_eqb}
 use Rattle.std.specs.FinSet as set
 use Rattle.std.specs.Option.{option_map}
 use Rattle.std.proofs.lemmas.Bool.{leb-true, leb-false, true≢false}
@@ -15,7 +15,7 @@ use Rattle.rv_stores.specs.declared.store.StoreState.{StoreState}
 use Rattle.rv_stores.specs.declared.store.StoreState.TheVariants.{Waiting, Faulted, Filled}
 use Rattle.rv_hardware.specs.Commit.{is_drained, with_write_back}
 use Rattle.rv_hardware.specs.Cycle.{IsCycle, any_prediction, commit_with, execute, with_lines}
-use Rattle.rv_hardware.specs.Drain.{drain, drain_cost, drain_end, end_drain, start_drain, with_drained}
+use Rattle.rv_hardware.specs.Drain.{drain, drain_cost, drain_end, end_drain, start_drain}
 use Rattle.rv_hardware.specs.Hardware.{Hardware}
 use Rattle.rv_hardware.specs.Issue.{FromCache, has_port, with_access}
 use Rattle.rv_hardware.specs.Report.{Report}

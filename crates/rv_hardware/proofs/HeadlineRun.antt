@@ -16,7 +16,7 @@ use Rattle.rv_hardware.specs.Hardware.{Hardware}
 use Rattle.rv_hardware.specs.Headline.{told, Lead, nowhere, onwards, EndAtTraps, IsTrueCycle, ComesBefore, IsTrueRun}
 use Rattle.rv_hardware.specs.Report.{Report}
 use Rattle.rv_hardware.specs.Reset.{reset_hardware, IsLoadable}
-use Rattle.rv_hardware.specs.Run.{Cycles, cycled, Reachable, at_reset, steps_of, NoneStops, EndsWith, IsStop}
+use Rattle.rv_hardware.specs.Run.{Cycles, cycled, Reachable, at_reset, steps_of}
 use Rattle.rv_hardware.specs.Run as run
 use Rattle.rv_hardware.specs.Seen.{layout_of, seen}
 use Rattle.rv_hardware.specs.Step.{stamp_of}

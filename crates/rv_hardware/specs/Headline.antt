@@ -1,5 +1,5 @@
 -- The headline: the reported steps are the one-at-a-time machine's, and lead from what programs saw before to what they see after.
-use Rattle.std.specs.Prelude.{◌≡◌, ℕ, ◌+◌, ◌^◌, ◌<◌, ◌≤◌, ◌↔◌, Bool, true, false, List, [], ◌∷◌, map, Option, Some}
+use Rattle.std.specs.Prelude.{◌≡◌, ℕ, ◌+◌, ◌^◌, ◌<◌, ◌≤◌, ◌↔◌, true, false, List, [], ◌∷◌, map, Option, Some}
 use Rattle.std.specs.List.{All, AllPairs, list_any}
 use Rattle.rv_isa.specs.Arrivals.{lines_at}
 use Rattle.rv_isa.specs.declared.lines.{Arrival.Arrival, Lines.Lines}

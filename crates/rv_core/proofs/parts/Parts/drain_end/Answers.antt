@@ -1,12 +1,9 @@
-use Rattle.std.proofs.Common.{◌≡◌, true, false, ap, sym, ◌∙◌}
+use Rattle.std.proofs.Common.{◌≡◌, ap, ◌∙◌}
 use Rattle.rv_stores.specs.Queue.{Queue, is_oldest_draining}
-use Rattle.rv_hardware.specs.Drain.{drain_end}
-use Rattle.rv_hardware.specs.Hardware.{Hardware}
 use Rattle.rv_hardware.specs.InFlight.{stores_of}
 use Rattle.rv_core.proofs.Drained.{is_draining_behind, none_drains}
 use Rattle.rv_core.specs.Parts.{hardware_of, IsSound}
 use Rattle.rv_core.specs.declared.parts.Parts.TheInside.{Inside}
-use Rattle.rv_core.proofs.parts.Parts.drain_end.Goals as goal
 
 -- the queue's oldest store drains where the oldest retired one does
 oldest : (p : Inside) → IsSound p → is_oldest_draining p.stores.stores ≡ is_oldest_draining (hardware_of p).committed
