@@ -1,5 +1,6 @@
 pub mod Defined
 pub mod Emitted
+pub mod Joined
 pub mod Kept
 pub mod Labels
 pub mod LineAdded

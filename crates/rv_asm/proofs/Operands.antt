@@ -1,9 +1,8 @@
 -- The operands that tokens spell, piece by piece.
-use Rattle.std.proofs.Common.{◌≡◌, ◌∙◌, ◌<◌, List, [], ◌∷◌, ◌++◌, map, length, Bool, true, false, cond, Some, None, Option, Result, Ok, Err, IfOk, Bor, sym, refl, ap, arith, option_and_then, append_assoc, append-nil}
+use Rattle.std.proofs.Common.{◌≡◌, ◌∙◌, ◌<◌, arith, length, List, [], ◌∷◌, ◌++◌, map, Bool, true, false, cond, Some, Option, Result, Ok, Err, IfOk, Bor, sym, refl, ap, option_and_then}
 use Rattle.std.specs.Global.{Vec}
 use Rattle.std.specs.List.{slice_split, onto_first}
 use Rattle.std.specs.Option.{option_map}
-use Rattle.std.proofs.lemmas.List.{map-append}
 use Rattle.std.proofs.lemmas.Simd.{map-map}
 use Rattle.rv_asm.specs.Operand.{Operand, operand, operands_in, operands_of, is_comma}
 use Rattle.rv_asm.specs.ReadOperand.{operand_of}
@@ -11,6 +10,7 @@ use Rattle.rv_asm.specs.ReadToken.{token_of}
 use Rattle.rv_asm.specs.Token as spec
 use Rattle.rv_asm.specs.declared.token.Token.{Token}
 use Rattle.rv_asm.specs.declared.operand.Operand as read
+use Rattle.rv_asm.proofs.Joined.{joined, joined-push}
 
 -- a comma of the program
 abbrev pub separates : Token → Bool
@@ -33,33 +33,15 @@ pub pieces_are : {E : Type 0} (r : Result (Vec (Bor (List Token))) E) (tokens : 
 pieces_are (Ok v) tokens e = sym (map-map (map token_of) (λ x. x.now) v.items) ∙ ap (map (map token_of)) e ∙ sym (slice_split-map tokens)
 pieces_are (Err f) tokens e = tt
 
--- the operands so far, and those of the other pieces, are those of all tokens
-abbrev pub Spelled : List spec.Token → List (List spec.Token) → List read.Operand → Type 0
-Spelled tokens rest done = operands_of tokens ≡ option_map (λ others. map operand_of done ++ others) (operands_in rest)
+pub operands_of-pieces : (tokens : List Token) → 0 < length tokens → operands_of (map token_of tokens) ≡ operands_in (slice_split is_comma (map token_of tokens))
+operands_of-pieces [] some_tokens = absurd (omega arith)
+operands_of-pieces (first ∷ others) some_tokens = refl
 
-id_map : (o : Option (List Operand)) → o ≡ option_map (λ others. [] ++ others) o
-id_map None = refl
-id_map (Some x) = refl
-
-pub spelled_none : (tokens : List Token) (done : List read.Operand) → 0 < length tokens → done ≡ [] → Spelled (map token_of tokens) (slice_split is_comma (map token_of tokens)) done
-spelled_none [] done nonempty none = absurd (omega arith)
-spelled_none (x ∷ xs) done nonempty none = rw none (id_map (operands_in (slice_split is_comma (map token_of (x ∷ xs)))))
-
-regroup : (rest : Option (List Operand)) (done : List read.Operand) (o : read.Operand) → option_map (λ others. map operand_of done ++ others) (option_map (λ others. operand_of o ∷ others) rest) ≡ option_map (λ others. map operand_of (done ++ o ∷ []) ++ others) rest
-regroup None done o = refl
-regroup (Some others) done o = ap Some (sym (ap (λ l. l ++ others) (map-append operand_of done (o ∷ [])) ∙ append_assoc (map operand_of done) (operand_of o ∷ []) others))
-
-module _ (tokens piece : List spec.Token) (rest others : List (List spec.Token)) (done : List read.Operand) (so_far : Spelled tokens rest done) (rest_is : rest ≡ piece ∷ others) where
-  taken : (found : Option Operand) → operand piece ≡ found → operands_of tokens ≡ option_map (λ l. map operand_of done ++ l) (option_and_then (λ first. option_map (λ l. first ∷ l) (operands_in others)) found)
-  taken found is = so_far ∙ ap (λ l. option_map (λ o. map operand_of done ++ o) (operands_in l)) rest_is ∙ ap (λ f. option_map (λ l. map operand_of done ++ l) (option_and_then (λ first. option_map (λ l. first ∷ l) (operands_in others)) f)) is
+-- the operands so far and those of the pieces are all of them
+module _ (all : Option (List Operand)) (piece : List spec.Token) (rest others : List (List spec.Token)) (done : List read.Operand) (so_far : joined operand_of done (operands_in rest) ≡ all) (rest_is : rest ≡ piece ∷ others) where
+  pub joined-found : (found : Option Operand) → found ≡ operand piece → joined operand_of done (option_and_then (λ first. option_map (λ l. first ∷ l) (operands_in others)) found) ≡ all
+  joined-found found found_is = ap (λ f. joined operand_of done (option_and_then (λ first. option_map (λ l. first ∷ l) (operands_in others)) f)) found_is ∙ sym (ap (λ l. joined operand_of done (operands_in l)) rest_is) ∙ so_far
 
   -- a piece is an operand
-  pub spelled_more : (done' : List read.Operand) (o : read.Operand) → Some (operand_of o) ≡ operand piece → done' ≡ done ++ o ∷ [] → Spelled tokens others done'
-  spelled_more done' o read_is pushed = rw pushed (taken (Some (operand_of o)) (sym read_is) ∙ regroup (operands_in others) done o)
-
-  -- a piece is none
-  pub spelled_bad : None ≡ operand piece → operands_of tokens ≡ None
-  spelled_bad read_is = taken None (sym read_is)
-
-pub spelled_all : (tokens : List spec.Token) (rest : List (List spec.Token)) (done : List read.Operand) → Spelled tokens rest done → rest ≡ [] → operands_of tokens ≡ Some (map operand_of done)
-spelled_all tokens rest done so_far none = so_far ∙ ap (λ l. option_map (λ o. map operand_of done ++ o) (operands_in l)) none ∙ ap Some (append-nil (map operand_of done))
+  pub joined-operand : (o : read.Operand) → Some (operand_of o) ≡ operand piece → joined operand_of (done ++ o ∷ []) (operands_in others) ≡ all
+  joined-operand o read_is = joined-push operand_of done o (operands_in others) ∙ joined-found (Some (operand_of o)) read_is

@@ -1,27 +1,8 @@
 -- Reading a line token by token.
-use Rattle.std.proofs.Common.{◌≡◌, ℕ, zero, suc, ◌-◌, ◌<◌, List, [], ◌∷◌, ◌++◌, length, drop, get_or, Option, Some, None, sym, refl, ap, ◌∙◌, append_assoc, append-nil, arith}
-use Rattle.std.specs.Prelude.{option_and_then, map}
-use Rattle.std.proofs.lemmas.List.{map-append}
+use Rattle.std.proofs.Common.{◌≡◌, ℕ, zero, suc, ◌-◌, ◌<◌, List, [], ◌∷◌, ◌++◌, length, drop, get_or, Option, Some, None, refl, ap, ◌∙◌, arith}
+use Rattle.std.specs.Prelude.{option_and_then}
 use Rattle.std.specs.Option.{option_map, option_to_list}
-use Rattle.rv_asm.specs.Token.{Token, Lexeme, first_lexeme, tokens_behind, tokens_of}
-
--- tokens and those behind them
-pub joined : List Token → Option (List Token) → Option (List Token)
-joined tokens behind = option_map (λ others. tokens ++ others) behind
-
-pub joined-none : (tokens : List Token) → joined tokens None ≡ None
-unfolding joined
-joined-none tokens = refl
-
-pub joined-nothing : (behind : Option (List Token)) → joined [] behind ≡ behind
-unfolding joined
-joined-nothing None = refl
-joined-nothing (Some others) = refl
-
-pub joined-joined : (a b : List Token) (behind : Option (List Token)) → joined a (joined b behind) ≡ joined (a ++ b) behind
-unfolding joined
-joined-joined a b None = refl
-joined-joined a b (Some others) = ap Some (sym (append_assoc a b others))
+use Rattle.rv_asm.specs.Token.{Lexeme, first_lexeme, tokens_behind, tokens_of}
 
 tokens_behind-drop : (bytes : List ℕ) (taken : ℕ) → tokens_behind bytes taken ≡ tokens_behind (drop taken bytes) 0
 unfolding tokens_behind
@@ -30,20 +11,20 @@ tokens_behind-drop [] (suc taken) = refl
 tokens_behind-drop (byte ∷ bytes) zero = refl
 tokens_behind-drop (byte ∷ bytes) (suc taken) = tokens_behind-drop bytes taken
 
-tokens_behind-first : (byte : ℕ) (bytes : List ℕ) (found : Option Lexeme) → found ≡ first_lexeme byte (byte ∷ bytes) → tokens_behind (byte ∷ bytes) 0 ≡ option_and_then (λ l. joined (option_to_list l.token) (tokens_behind bytes (l.size - 1))) found
-unfolding tokens_behind joined
-tokens_behind-first byte bytes found found_is = rw found_is refl
-
 drop-size : (byte : ℕ) (bytes : List ℕ) (size : ℕ) → 0 < size → drop (size - 1) bytes ≡ drop size (byte ∷ bytes)
 drop-size byte bytes zero positive = absurd (omega arith)
 drop-size byte bytes (suc size) positive = ap (λ n. drop n bytes) (omega arith)
 
+tokens_behind-first : (byte : ℕ) (bytes : List ℕ) (found : Option Lexeme) → found ≡ first_lexeme byte (byte ∷ bytes) → tokens_behind (byte ∷ bytes) 0 ≡ option_and_then (λ l. option_map (λ tokens. option_to_list l.token ++ tokens) (tokens_behind bytes (l.size - 1))) found
+unfolding tokens_behind
+tokens_behind-first byte bytes found found_is = rw found_is refl
+
 -- the first lexeme's token comes first
-pub tokens_of-first : (line : List ℕ) (found : Lexeme) → 0 < length line → Some found ≡ first_lexeme (get_or line 0 0) line → 0 < found.size → tokens_of line ≡ joined (option_to_list found.token) (tokens_of (drop found.size line))
+pub tokens_of-first : (line : List ℕ) (found : Lexeme) → 0 < length line → Some found ≡ first_lexeme (get_or line 0 0) line → 0 < found.size → tokens_of line ≡ option_map (λ tokens. option_to_list found.token ++ tokens) (tokens_of (drop found.size line))
 unfolding tokens_of
 tokens_of-first [] found some_bytes found_is positive = absurd (omega arith)
 tokens_of-first (byte ∷ bytes) found some_bytes found_is positive =
-    tokens_behind-first byte bytes (Some found) found_is ∙ ap (joined (option_to_list found.token)) (tokens_behind-drop bytes (found.size - 1) ∙ ap (λ rest. tokens_behind rest 0) (drop-size byte bytes found.size positive))
+    tokens_behind-first byte bytes (Some found) found_is ∙ ap (option_map (λ tokens. option_to_list found.token ++ tokens)) (tokens_behind-drop bytes (found.size - 1) ∙ ap (λ rest. tokens_behind rest 0) (drop-size byte bytes found.size positive))
 
 pub tokens_of-none : (line : List ℕ) → 0 < length line → None ≡ first_lexeme (get_or line 0 0) line → tokens_of line ≡ None
 unfolding tokens_of
@@ -54,11 +35,3 @@ pub tokens_of-empty : (line : List ℕ) → length line ≡ 0 → tokens_of line
 unfolding tokens_of tokens_behind
 tokens_of-empty [] no_bytes = refl
 tokens_of-empty (byte ∷ bytes) no_bytes = absurd (omega arith)
-
-pub joined-push : {A : Type 0} (read : A → Token) (items : List A) (item : A) (behind : Option (List Token)) → joined (map read (items ++ item ∷ [])) behind ≡ joined (map read items) (joined (read item ∷ []) behind)
-joined-push read items item behind =
-    ap (λ tokens. joined tokens behind) (map-append read items (item ∷ [])) ∙ sym (joined-joined (map read items) (read item ∷ []) behind)
-
-pub joined-last : (tokens : List Token) → joined tokens (Some []) ≡ Some tokens
-unfolding joined
-joined-last tokens = ap Some (append-nil tokens)

@@ -1,5 +1,5 @@
 -- The tokens of a line of assembly text. Numbers are the codes of ASCII characters, which a comment shows.
-use Rattle.std.specs.Prelude.{ℕ, zero, suc, ◌+◌, ◌-◌, ◌==◌, ◌||◌, ◌&&◌, Bool, if◌then◌else◌, nat_le, List, [], ◌∷◌, ◌++◌, length, take, drop, Option, Some, None, unwrap_or, is_some, option_and_then}
+use Rattle.std.specs.Prelude.{ℕ, zero, suc, ◌+◌, ◌-◌, ◌==◌, ◌||◌, ◌&&◌, Bool, if◌then◌else◌, nat_lt, List, [], ◌∷◌, ◌++◌, length, take, drop, Option, Some, None, unwrap_or, is_some, option_and_then}
 use Rattle.std.specs.{List.take_while, List.list_all, Option.option_map, Option.option_to_list, Char.is_ascii_alphabetic, Char.is_ascii_digit, Char.is_digit, Str.Parse.digits_value}
 
 -- a token: a name by its bytes, a number, the bytes that a string stands for, or a mark
@@ -39,10 +39,9 @@ mark_of byte =
 
 -- the number that digits of a base write; none where there is no digit, another byte, or a value past 4294967295
 unfoldable pub number_in : ℕ → List ℕ → Option ℕ
-number_in base [] = None
-number_in base (digit ∷ digits) =
-    if list_all (λ c. is_digit c base) (digit ∷ digits) && nat_le (digits_value base (digit ∷ digits)) 4294967295
-    then Some (digits_value base (digit ∷ digits))
+number_in base digits =
+    if (nat_lt 0 (length digits) && list_all (λ c. is_digit c base) digits) && nat_lt (digits_value base digits) 4294967296
+    then Some (digits_value base digits)
     else None
 
 -- the number that a word writes: after 0x in hexadecimal, after 0b in binary, else in decimal

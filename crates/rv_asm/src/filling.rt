@@ -16,10 +16,9 @@ fn register_in(operand: Operand<'_>) -> Result<Reg, AsmFault>
     ensures { result ≡ register_in (operand_of operand.entry) }
 {
     match operand {
-        Operand::Value(Expression::Symbol(name)) => {
+        Operand::Value(Expression::Symbol(name)) | Operand::Indirect(_, name) => {
             register_named(name).ok_or(AsmFault::BadRegister)
         }
-        Operand::Indirect(_, name) => register_named(name).ok_or(AsmFault::BadRegister),
         _ => Err(AsmFault::BadOperands),
     }
 }
@@ -41,10 +40,9 @@ fn csr_in(operand: Operand<'_>) -> Result<i64, AsmFault>
 {
     match operand {
         Operand::Value(Expression::Number(number)) => Ok(number),
-        Operand::Value(Expression::Symbol(name)) => match csr_named(name) {
-            Some(address) => Ok(i64::from(address)),
-            None => Err(AsmFault::BadOperands),
-        },
+        Operand::Value(Expression::Symbol(name)) => {
+            csr_named(name).map(i64::from).ok_or(AsmFault::BadOperands)
+        }
         _ => Err(AsmFault::BadOperands),
     }
 }

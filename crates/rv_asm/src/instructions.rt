@@ -37,10 +37,7 @@ fn branch_offset(away: i128) -> Result<BranchOffset, AsmFault>
     if away < -4096 || away > 4094 {
         return Err(AsmFault::OutOfRange);
     }
-    match BranchOffset::new(away as i32) {
-        Some(offset) => Ok(offset),
-        None => Err(AsmFault::Misaligned),
-    }
+    BranchOffset::new(away as i32).ok_or(AsmFault::Misaligned)
 }
 
 fn jump_offset(away: i128) -> Result<JumpOffset, AsmFault>
@@ -49,10 +46,7 @@ fn jump_offset(away: i128) -> Result<JumpOffset, AsmFault>
     if away < -1048576 || away > 1048574 {
         return Err(AsmFault::OutOfRange);
     }
-    match JumpOffset::new(away as i32) {
-        Some(offset) => Ok(offset),
-        None => Err(AsmFault::Misaligned),
-    }
+    JumpOffset::new(away as i32).ok_or(AsmFault::Misaligned)
 }
 
 /// How far a number is from an address.

@@ -13,7 +13,7 @@ use crate::operation::Place::{
     Address, Csr as CsrName, Empty, Known, Link, MinusOne, Multiple, One, Rd, Return, Rs1, Rs2,
     Target, Text, UpTo, Value,
 };
-use crate::operation::Section;
+use crate::operation::{Operation, Place, Section};
 use rv_isa::Condition::{
     Equal, GreaterOrEqual, GreaterOrEqualUnsigned, LessThan, LessThanUnsigned, NotEqual,
 };
@@ -47,154 +47,113 @@ impl BareInstruction {
     }
 }
 
-/// The mnemonics and directives: what each does, and where its operands go.
-static MNEMONICS: [(&[u8], Form); 106] = [
+/// What an instruction or a pseudo-instruction does, and where its operands go.
+type Shape = (Operation, Place, Place, Place);
+
+/// The mnemonics whose operands have one shape.
+static INSTRUCTIONS: [(&[u8], Shape); 89] = [
     // RV32I
-    (b"lui", Instruction(Lui, Rd, Value, Empty)),
-    (b"auipc", Instruction(Auipc, Rd, Value, Empty)),
+    (b"lui", (Lui, Rd, Value, Empty)),
+    (b"auipc", (Auipc, Rd, Value, Empty)),
+    (b"beq", (Branch(Equal), Rs1, Rs2, Target)),
+    (b"bne", (Branch(NotEqual), Rs1, Rs2, Target)),
+    (b"blt", (Branch(LessThan), Rs1, Rs2, Target)),
+    (b"bge", (Branch(GreaterOrEqual), Rs1, Rs2, Target)),
+    (b"bltu", (Branch(LessThanUnsigned), Rs1, Rs2, Target)),
+    (b"bgeu", (Branch(GreaterOrEqualUnsigned), Rs1, Rs2, Target)),
+    (b"lb", (Load(LoadForm::Byte), Rd, Address, Empty)),
+    (b"lh", (Load(LoadForm::Half), Rd, Address, Empty)),
+    (b"lw", (Load(LoadForm::Word), Rd, Address, Empty)),
+    (b"lbu", (Load(LoadForm::ByteUnsigned), Rd, Address, Empty)),
+    (b"lhu", (Load(LoadForm::HalfUnsigned), Rd, Address, Empty)),
+    (b"sb", (Store(Width::Byte), Rs2, Address, Empty)),
+    (b"sh", (Store(Width::Half), Rs2, Address, Empty)),
+    (b"sw", (Store(Width::Word), Rs2, Address, Empty)),
+    (b"addi", (OpImmediate(Addi), Rd, Rs1, Value)),
+    (b"slti", (OpImmediate(Slti), Rd, Rs1, Value)),
+    (b"sltiu", (OpImmediate(Sltiu), Rd, Rs1, Value)),
+    (b"xori", (OpImmediate(Xori), Rd, Rs1, Value)),
+    (b"ori", (OpImmediate(Ori), Rd, Rs1, Value)),
+    (b"andi", (OpImmediate(Andi), Rd, Rs1, Value)),
+    (b"slli", (Shift(ShiftOp::Slli), Rd, Rs1, Value)),
+    (b"srli", (Shift(ShiftOp::Srli), Rd, Rs1, Value)),
+    (b"srai", (Shift(ShiftOp::Srai), Rd, Rs1, Value)),
+    (b"add", (Op(AluOp::Add), Rd, Rs1, Rs2)),
+    (b"sub", (Op(AluOp::Sub), Rd, Rs1, Rs2)),
+    (b"sll", (Op(AluOp::Sll), Rd, Rs1, Rs2)),
+    (b"slt", (Op(AluOp::Slt), Rd, Rs1, Rs2)),
+    (b"sltu", (Op(AluOp::Sltu), Rd, Rs1, Rs2)),
+    (b"xor", (Op(AluOp::Xor), Rd, Rs1, Rs2)),
+    (b"srl", (Op(AluOp::Srl), Rd, Rs1, Rs2)),
+    (b"sra", (Op(AluOp::Sra), Rd, Rs1, Rs2)),
+    (b"or", (Op(AluOp::Or), Rd, Rs1, Rs2)),
+    (b"and", (Op(AluOp::And), Rd, Rs1, Rs2)),
+    (b"ecall", (Bare(Ecall), Empty, Empty, Empty)),
+    (b"ebreak", (Bare(Ebreak), Empty, Empty, Empty)),
+    (b"fence", (Bare(Fence), Empty, Empty, Empty)),
+    // Zifencei
+    (b"fence.i", (Bare(FenceI), Empty, Empty, Empty)),
+    // Zicsr
+    (b"csrrw", (Csr(Write), Rd, CsrName, Rs1)),
+    (b"csrrs", (Csr(Set), Rd, CsrName, Rs1)),
+    (b"csrrc", (Csr(Clear), Rd, CsrName, Rs1)),
+    (b"csrrwi", (CsrImmediate(Write), Rd, CsrName, Value)),
+    (b"csrrsi", (CsrImmediate(Set), Rd, CsrName, Value)),
+    (b"csrrci", (CsrImmediate(Clear), Rd, CsrName, Value)),
+    // M
+    (b"mul", (Op(AluOp::Mul), Rd, Rs1, Rs2)),
+    (b"mulh", (Op(AluOp::Mulh), Rd, Rs1, Rs2)),
+    (b"mulhsu", (Op(AluOp::Mulhsu), Rd, Rs1, Rs2)),
+    (b"mulhu", (Op(AluOp::Mulhu), Rd, Rs1, Rs2)),
+    (b"div", (Op(AluOp::Div), Rd, Rs1, Rs2)),
+    (b"divu", (Op(AluOp::Divu), Rd, Rs1, Rs2)),
+    (b"rem", (Op(AluOp::Rem), Rd, Rs1, Rs2)),
+    (b"remu", (Op(AluOp::Remu), Rd, Rs1, Rs2)),
+    // Zba
+    (b"sh1add", (Op(AluOp::Sh1add), Rd, Rs1, Rs2)),
+    (b"sh2add", (Op(AluOp::Sh2add), Rd, Rs1, Rs2)),
+    (b"sh3add", (Op(AluOp::Sh3add), Rd, Rs1, Rs2)),
+    // machine mode
+    (b"mret", (Bare(Mret), Empty, Empty, Empty)),
+    (b"wfi", (Bare(Wfi), Empty, Empty, Empty)),
+    // pseudo-instructions
+    (b"nop", (OpImmediate(Addi), Empty, Empty, Empty)),
+    (b"mv", (OpImmediate(Addi), Rd, Rs1, Empty)),
+    (b"not", (OpImmediate(Xori), Rd, Rs1, MinusOne)),
+    (b"neg", (Op(AluOp::Sub), Rd, Rs2, Empty)),
+    (b"seqz", (OpImmediate(Sltiu), Rd, Rs1, One)),
+    (b"snez", (Op(AluOp::Sltu), Rd, Rs2, Empty)),
+    (b"sltz", (Op(AluOp::Slt), Rd, Rs1, Empty)),
+    (b"sgtz", (Op(AluOp::Slt), Rd, Rs2, Empty)),
+    (b"beqz", (Branch(Equal), Rs1, Target, Empty)),
+    (b"bnez", (Branch(NotEqual), Rs1, Target, Empty)),
+    (b"bltz", (Branch(LessThan), Rs1, Target, Empty)),
+    (b"bgez", (Branch(GreaterOrEqual), Rs1, Target, Empty)),
+    (b"bgtz", (Branch(LessThan), Rs2, Target, Empty)),
+    (b"blez", (Branch(GreaterOrEqual), Rs2, Target, Empty)),
+    (b"bgt", (Branch(LessThan), Rs2, Rs1, Target)),
+    (b"ble", (Branch(GreaterOrEqual), Rs2, Rs1, Target)),
+    (b"bgtu", (Branch(LessThanUnsigned), Rs2, Rs1, Target)),
+    (b"bleu", (Branch(GreaterOrEqualUnsigned), Rs2, Rs1, Target)),
+    (b"j", (Jal, Target, Empty, Empty)),
+    (b"call", (Jal, Link, Target, Empty)),
+    (b"jr", (Jalr, Rs1, Empty, Empty)),
+    (b"ret", (Jalr, Return, Empty, Empty)),
+    (b"csrr", (Csr(Set), Rd, CsrName, Empty)),
+    (b"csrw", (Csr(Write), CsrName, Rs1, Empty)),
+    (b"csrs", (Csr(Set), CsrName, Rs1, Empty)),
+    (b"csrc", (Csr(Clear), CsrName, Rs1, Empty)),
+    (b"csrwi", (CsrImmediate(Write), CsrName, Value, Empty)),
+    (b"csrsi", (CsrImmediate(Set), CsrName, Value, Empty)),
+    (b"csrci", (CsrImmediate(Clear), CsrName, Value, Empty)),
+    (b"li", (LoadNumber, Rd, Known, Empty)),
+    (b"la", (LoadAddress, Rd, Target, Empty)),
+];
+
+/// The mnemonics whose operands have several shapes, and the directives.
+static OTHERS: [(&[u8], Form); 17] = [
     (b"jal", Form::Jal),
     (b"jalr", Form::Jalr),
-    (b"beq", Instruction(Branch(Equal), Rs1, Rs2, Target)),
-    (b"bne", Instruction(Branch(NotEqual), Rs1, Rs2, Target)),
-    (b"blt", Instruction(Branch(LessThan), Rs1, Rs2, Target)),
-    (
-        b"bge",
-        Instruction(Branch(GreaterOrEqual), Rs1, Rs2, Target),
-    ),
-    (
-        b"bltu",
-        Instruction(Branch(LessThanUnsigned), Rs1, Rs2, Target),
-    ),
-    (
-        b"bgeu",
-        Instruction(Branch(GreaterOrEqualUnsigned), Rs1, Rs2, Target),
-    ),
-    (b"lb", Instruction(Load(LoadForm::Byte), Rd, Address, Empty)),
-    (b"lh", Instruction(Load(LoadForm::Half), Rd, Address, Empty)),
-    (b"lw", Instruction(Load(LoadForm::Word), Rd, Address, Empty)),
-    (
-        b"lbu",
-        Instruction(Load(LoadForm::ByteUnsigned), Rd, Address, Empty),
-    ),
-    (
-        b"lhu",
-        Instruction(Load(LoadForm::HalfUnsigned), Rd, Address, Empty),
-    ),
-    (b"sb", Instruction(Store(Width::Byte), Rs2, Address, Empty)),
-    (b"sh", Instruction(Store(Width::Half), Rs2, Address, Empty)),
-    (b"sw", Instruction(Store(Width::Word), Rs2, Address, Empty)),
-    (b"addi", Instruction(OpImmediate(Addi), Rd, Rs1, Value)),
-    (b"slti", Instruction(OpImmediate(Slti), Rd, Rs1, Value)),
-    (b"sltiu", Instruction(OpImmediate(Sltiu), Rd, Rs1, Value)),
-    (b"xori", Instruction(OpImmediate(Xori), Rd, Rs1, Value)),
-    (b"ori", Instruction(OpImmediate(Ori), Rd, Rs1, Value)),
-    (b"andi", Instruction(OpImmediate(Andi), Rd, Rs1, Value)),
-    (b"slli", Instruction(Shift(ShiftOp::Slli), Rd, Rs1, Value)),
-    (b"srli", Instruction(Shift(ShiftOp::Srli), Rd, Rs1, Value)),
-    (b"srai", Instruction(Shift(ShiftOp::Srai), Rd, Rs1, Value)),
-    (b"add", Instruction(Op(AluOp::Add), Rd, Rs1, Rs2)),
-    (b"sub", Instruction(Op(AluOp::Sub), Rd, Rs1, Rs2)),
-    (b"sll", Instruction(Op(AluOp::Sll), Rd, Rs1, Rs2)),
-    (b"slt", Instruction(Op(AluOp::Slt), Rd, Rs1, Rs2)),
-    (b"sltu", Instruction(Op(AluOp::Sltu), Rd, Rs1, Rs2)),
-    (b"xor", Instruction(Op(AluOp::Xor), Rd, Rs1, Rs2)),
-    (b"srl", Instruction(Op(AluOp::Srl), Rd, Rs1, Rs2)),
-    (b"sra", Instruction(Op(AluOp::Sra), Rd, Rs1, Rs2)),
-    (b"or", Instruction(Op(AluOp::Or), Rd, Rs1, Rs2)),
-    (b"and", Instruction(Op(AluOp::And), Rd, Rs1, Rs2)),
-    (b"ecall", Instruction(Bare(Ecall), Empty, Empty, Empty)),
-    (b"ebreak", Instruction(Bare(Ebreak), Empty, Empty, Empty)),
-    (b"fence", Instruction(Bare(Fence), Empty, Empty, Empty)),
-    // Zifencei
-    (b"fence.i", Instruction(Bare(FenceI), Empty, Empty, Empty)),
-    // Zicsr
-    (b"csrrw", Instruction(Csr(Write), Rd, CsrName, Rs1)),
-    (b"csrrs", Instruction(Csr(Set), Rd, CsrName, Rs1)),
-    (b"csrrc", Instruction(Csr(Clear), Rd, CsrName, Rs1)),
-    (
-        b"csrrwi",
-        Instruction(CsrImmediate(Write), Rd, CsrName, Value),
-    ),
-    (
-        b"csrrsi",
-        Instruction(CsrImmediate(Set), Rd, CsrName, Value),
-    ),
-    (
-        b"csrrci",
-        Instruction(CsrImmediate(Clear), Rd, CsrName, Value),
-    ),
-    // M
-    (b"mul", Instruction(Op(AluOp::Mul), Rd, Rs1, Rs2)),
-    (b"mulh", Instruction(Op(AluOp::Mulh), Rd, Rs1, Rs2)),
-    (b"mulhsu", Instruction(Op(AluOp::Mulhsu), Rd, Rs1, Rs2)),
-    (b"mulhu", Instruction(Op(AluOp::Mulhu), Rd, Rs1, Rs2)),
-    (b"div", Instruction(Op(AluOp::Div), Rd, Rs1, Rs2)),
-    (b"divu", Instruction(Op(AluOp::Divu), Rd, Rs1, Rs2)),
-    (b"rem", Instruction(Op(AluOp::Rem), Rd, Rs1, Rs2)),
-    (b"remu", Instruction(Op(AluOp::Remu), Rd, Rs1, Rs2)),
-    // Zba
-    (b"sh1add", Instruction(Op(AluOp::Sh1add), Rd, Rs1, Rs2)),
-    (b"sh2add", Instruction(Op(AluOp::Sh2add), Rd, Rs1, Rs2)),
-    (b"sh3add", Instruction(Op(AluOp::Sh3add), Rd, Rs1, Rs2)),
-    // machine mode
-    (b"mret", Instruction(Bare(Mret), Empty, Empty, Empty)),
-    (b"wfi", Instruction(Bare(Wfi), Empty, Empty, Empty)),
-    // pseudo-instructions
-    (b"nop", Instruction(OpImmediate(Addi), Empty, Empty, Empty)),
-    (b"mv", Instruction(OpImmediate(Addi), Rd, Rs1, Empty)),
-    (b"not", Instruction(OpImmediate(Xori), Rd, Rs1, MinusOne)),
-    (b"neg", Instruction(Op(AluOp::Sub), Rd, Rs2, Empty)),
-    (b"seqz", Instruction(OpImmediate(Sltiu), Rd, Rs1, One)),
-    (b"snez", Instruction(Op(AluOp::Sltu), Rd, Rs2, Empty)),
-    (b"sltz", Instruction(Op(AluOp::Slt), Rd, Rs1, Empty)),
-    (b"sgtz", Instruction(Op(AluOp::Slt), Rd, Rs2, Empty)),
-    (b"beqz", Instruction(Branch(Equal), Rs1, Target, Empty)),
-    (b"bnez", Instruction(Branch(NotEqual), Rs1, Target, Empty)),
-    (b"bltz", Instruction(Branch(LessThan), Rs1, Target, Empty)),
-    (
-        b"bgez",
-        Instruction(Branch(GreaterOrEqual), Rs1, Target, Empty),
-    ),
-    (b"bgtz", Instruction(Branch(LessThan), Rs2, Target, Empty)),
-    (
-        b"blez",
-        Instruction(Branch(GreaterOrEqual), Rs2, Target, Empty),
-    ),
-    (b"bgt", Instruction(Branch(LessThan), Rs2, Rs1, Target)),
-    (
-        b"ble",
-        Instruction(Branch(GreaterOrEqual), Rs2, Rs1, Target),
-    ),
-    (
-        b"bgtu",
-        Instruction(Branch(LessThanUnsigned), Rs2, Rs1, Target),
-    ),
-    (
-        b"bleu",
-        Instruction(Branch(GreaterOrEqualUnsigned), Rs2, Rs1, Target),
-    ),
-    (b"j", Instruction(Jal, Target, Empty, Empty)),
-    (b"call", Instruction(Jal, Link, Target, Empty)),
-    (b"jr", Instruction(Jalr, Rs1, Empty, Empty)),
-    (b"ret", Instruction(Jalr, Return, Empty, Empty)),
-    (b"csrr", Instruction(Csr(Set), Rd, CsrName, Empty)),
-    (b"csrw", Instruction(Csr(Write), CsrName, Rs1, Empty)),
-    (b"csrs", Instruction(Csr(Set), CsrName, Rs1, Empty)),
-    (b"csrc", Instruction(Csr(Clear), CsrName, Rs1, Empty)),
-    (
-        b"csrwi",
-        Instruction(CsrImmediate(Write), CsrName, Value, Empty),
-    ),
-    (
-        b"csrsi",
-        Instruction(CsrImmediate(Set), CsrName, Value, Empty),
-    ),
-    (
-        b"csrci",
-        Instruction(CsrImmediate(Clear), CsrName, Value, Empty),
-    ),
-    (b"li", Instruction(LoadNumber, Rd, Known, Empty)),
-    (b"la", Instruction(LoadAddress, Rd, Target, Empty)),
     // directives
     (b".text", Form::Choice(Section::Text)),
     (b".data", Form::Choice(Section::Data)),
@@ -217,5 +176,10 @@ static MNEMONICS: [(&[u8], Form); 106] = [
 pub fn form_named(name: &[u8]) -> Option<Form>
     ensures { result ≡ form_named name.now }
 {
-    lookup(&MNEMONICS, name)
+    match lookup(&INSTRUCTIONS, name) {
+        Some((operation, first, second, third)) => {
+            Some(Instruction(operation, first, second, third))
+        }
+        None => lookup(&OTHERS, name),
+    }
 }

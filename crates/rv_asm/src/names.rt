@@ -105,6 +105,5 @@ pub fn register_named(name: &[u8]) -> Option<Reg>
 pub fn csr_named(name: &[u8]) -> Option<u32>
     ensures { result ≡ csr_named name.now }
 {
-    let csr = Csr::named(name)?;
-    Some(csr.row().0)
+    Some(Csr::named(name)?.row().0)
 }

@@ -29,38 +29,19 @@ pub enum Operand<'a> {
     Text(&'a [u8]),
 }
 
-/// The expression that one token is.
-fn one_token(first: Token<'_>) -> Option<Expression<'_>>
-    ensures { option_map expression_of result ≡ expression (token_of first.entry ∷ []) }
+/// The expression that tokens spell.
+fn read_expression<'a>(tokens: &[Token<'a>]) -> Option<Expression<'a>>
+    ensures { option_map expression_of result ≡ expression (tokens_in tokens.now) }
 {
-    match first {
-        Token::Number(number) => Some(Expression::Number(i64::from(number))),
-        Token::Name(symbol) => Some(Expression::Symbol(symbol)),
-        _ => None,
-    }
-}
-
-/// The expression that two tokens are.
-fn two_tokens<'a>(first: Token<'a>, second: Token<'a>) -> Option<Expression<'a>>
-    ensures { option_map expression_of result ≡ expression (token_of first.entry ∷ token_of second.entry ∷ []) }
-{
-    match (first, second) {
-        (Token::Minus, Token::Number(number)) => Some(Expression::Number(-i64::from(number))),
-        _ => None,
-    }
-}
-
-/// The expression that three tokens are.
-fn three_tokens<'a>(first: Token<'a>, second: Token<'a>, third: Token<'a>) -> Option<Expression<'a>>
-    ensures { option_map expression_of result
-        ≡ expression (token_of first.entry ∷ token_of second.entry ∷ token_of third.entry ∷ []) }
-{
-    match (first, second, third) {
-        (Token::Name(symbol), Token::Plus, Token::Number(number)) => {
-            Some(Expression::Sum(symbol, i64::from(number)))
+    match tokens {
+        [Token::Number(number)] => Some(Expression::Number(i64::from(*number))),
+        [Token::Minus, Token::Number(number)] => Some(Expression::Number(-i64::from(*number))),
+        [Token::Name(symbol)] => Some(Expression::Symbol(symbol)),
+        [Token::Name(symbol), Token::Plus, Token::Number(number)] => {
+            Some(Expression::Sum(symbol, i64::from(*number)))
         }
-        (Token::Name(symbol), Token::Minus, Token::Number(number)) => {
-            Some(Expression::Sum(symbol, -i64::from(number)))
+        [Token::Name(symbol), Token::Minus, Token::Number(number)] => {
+            Some(Expression::Sum(symbol, -i64::from(*number)))
         }
         _ => None,
     }
@@ -86,39 +67,30 @@ fn based<'a>(offset: Option<Expression<'a>>, name: Option<&'a [u8]>) -> Option<O
     }
 }
 
-/// The operand that three tokens are.
-fn operand_of_three<'a>(
-    first: Token<'a>,
-    second: Token<'a>,
-    third: Token<'a>,
-) -> Option<Operand<'a>>
-    ensures { option_map operand_of result
-        ≡ operand (token_of first.entry ∷ token_of second.entry ∷ token_of third.entry ∷ []) }
-{
-    match three_tokens(first, second, third) {
-        Some(expression) => Some(Operand::Value(expression)),
-        None => Some(Operand::Indirect(None, in_parentheses(first, second, third)?)),
-    }
-}
-
 /// The operand that tokens spell.
 fn read_operand<'a>(tokens: &[Token<'a>]) -> Option<Operand<'a>>
     ensures { option_map operand_of result ≡ operand (tokens_in tokens.now) }
 {
     match tokens {
         [Token::Text(raw)] => Some(Operand::Text(raw)),
-        [first] => one_token(*first).map(Operand::Value),
-        [first, second] => two_tokens(*first, *second).map(Operand::Value),
-        [first, second, third] => operand_of_three(*first, *second, *third),
+        [_] => read_expression(tokens).map(Operand::Value),
+        [_, _] => read_expression(tokens).map(Operand::Value),
+        [first, second, third] => match read_expression(tokens) {
+            Some(expression) => Some(Operand::Value(expression)),
+            None => Some(Operand::Indirect(None, in_parentheses(*first, *second, *third)?)),
+        },
         [first, left, name, right] => {
-            based(one_token(*first), in_parentheses(*left, *name, *right))
+            based(
+                read_expression(&[*first]),
+                in_parentheses(*left, *name, *right),
+            )
         }
         [first, second, left, name, right] => based(
-            two_tokens(*first, *second),
+            read_expression(&[*first, *second]),
             in_parentheses(*left, *name, *right),
         ),
         [first, second, third, left, name, right] => based(
-            three_tokens(*first, *second, *third),
+            read_expression(&[*first, *second, *third]),
             in_parentheses(*left, *name, *right),
         ),
         _ => None,

@@ -49,43 +49,6 @@ fn instruction<'a>(
     Ok(Statement::Instruction(operation, fields, value))
 }
 
-/// What a directive lays down by its one operand.
-fn bytes<'a>(
-    directive: Directive,
-    place: Place,
-    operands: &[Operand<'a>],
-) -> Result<Statement<'a>, AsmFault>
-    ensures { Makes operands.now result (statement (Form.Bytes directive place) (operands_in operands.now)) }
-{
-    match operands {
-        [operand] if place.takes(*operand) => Ok(Statement::Bytes(directive, *operand)),
-        _ => Err(AsmFault::BadOperands),
-    }
-}
-
-/// The name and the number of a `.equ`.
-fn constant<'a>(operands: &[Operand<'a>]) -> Result<Statement<'a>, AsmFault>
-    ensures { Makes operands.now result (statement Form.Constant (operands_in operands.now)) }
-{
-    match operands {
-        [
-            Operand::Value(Expression::Symbol(name)),
-            Operand::Value(Expression::Number(number)),
-        ] => Ok(Statement::Constant(name, *number)),
-        _ => Err(AsmFault::BadOperands),
-    }
-}
-
-/// `.globl` of a name, which does nothing.
-fn global<'a>(operands: &[Operand<'a>]) -> Result<Statement<'a>, AsmFault>
-    ensures { Makes operands.now result (statement Form.Global (operands_in operands.now)) }
-{
-    match operands {
-        [Operand::Value(Expression::Symbol(_))] => Ok(Statement::Nothing),
-        _ => Err(AsmFault::BadOperands),
-    }
-}
-
 /// Whether each operand is an expression.
 fn are_values(operands: &[Operand<'_>]) -> bool
     ensures { result ≡ list_all (takes Place.Value) (operands_in operands.now) }
@@ -98,27 +61,6 @@ fn are_values(operands: &[Operand<'_>]) -> bool
     true
 }
 
-/// `jalr` with an offset before its register in parentheses, behind it, or with its register alone.
-fn jump_register<'a>(operands: &[Operand<'a>]) -> Result<Statement<'a>, AsmFault>
-    ensures { Makes operands.now result (statement Form.Jalr (operands_in operands.now)) }
-{
-    match operands.len() {
-        1 => instruction(Operation::Jalr, &[Link, Rs1], operands),
-        2 => instruction(Operation::Jalr, &[Rd, Base], operands),
-        _ => instruction(Operation::Jalr, &[Rd, Rs1, Value], operands),
-    }
-}
-
-/// `jal` with or without its register.
-fn jump<'a>(operands: &[Operand<'a>]) -> Result<Statement<'a>, AsmFault>
-    ensures { Makes operands.now result (statement Form.Jal (operands_in operands.now)) }
-{
-    match operands.len() {
-        1 => instruction(Operation::Jal, &[Link, Target], operands),
-        _ => instruction(Operation::Jal, &[Rd, Target], operands),
-    }
-}
-
 /// The statement of a form with its operands.
 pub fn make_statement<'a>(form: Form, operands: &[Operand<'a>]) -> Result<Statement<'a>, AsmFault>
     ensures { Makes operands.now result (statement form (operands_in operands.now)) }
@@ -128,15 +70,36 @@ pub fn make_statement<'a>(form: Form, operands: &[Operand<'a>]) -> Result<Statem
         Form::Instruction(operation, first, second, third) => {
             instruction(operation, &[first, second, third], operands)
         }
-        Form::Jal => jump(operands),
-        Form::Jalr => jump_register(operands),
+        // with or without its register
+        Form::Jal => match operands {
+            [_] => instruction(Operation::Jal, &[Link, Target], operands),
+            _ => instruction(Operation::Jal, &[Rd, Target], operands),
+        },
+        // with its register alone, with an offset before it in parentheses, or with one behind it
+        Form::Jalr => match operands {
+            [_] => instruction(Operation::Jalr, &[Link, Rs1], operands),
+            [_, _] => instruction(Operation::Jalr, &[Rd, Base], operands),
+            _ => instruction(Operation::Jalr, &[Rd, Rs1, Value], operands),
+        },
         Form::Choice(section) if operands.is_empty() => Ok(Statement::Choice(section)),
-        Form::Global => global(operands),
-        Form::Constant => constant(operands),
+        Form::Global => match operands {
+            [Operand::Value(Expression::Symbol(_))] => Ok(Statement::Nothing),
+            _ => Err(AsmFault::BadOperands),
+        },
+        Form::Constant => match operands {
+            [
+                Operand::Value(Expression::Symbol(name)),
+                Operand::Value(Expression::Number(number)),
+            ] => Ok(Statement::Constant(name, *number)),
+            _ => Err(AsmFault::BadOperands),
+        },
         Form::Values(width) if !operands.is_empty() && are_values(operands) => {
             Ok(Statement::Values(width))
         }
-        Form::Bytes(directive, place) => bytes(directive, place, operands),
+        Form::Bytes(directive, place) => match operands {
+            [operand] if place.takes(*operand) => Ok(Statement::Bytes(directive, *operand)),
+            _ => Err(AsmFault::BadOperands),
+        },
         _ => Err(AsmFault::BadOperands),
     }
 }

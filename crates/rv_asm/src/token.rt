@@ -81,21 +81,19 @@ fn escape(byte: u8) -> Option<u8>
     }
 }
 
-// The number that digits of a base write.
+// The number that digits of a base write; std would take a plus before them.
 fn number_in(digits: &[u8], base: u32) -> Option<u32>
     requires two_digits { 2 ≤ base }
     requires letters_suffice { base ≤ 36 }
     ensures { result ≡ number_in base digits.now }
 {
-    if digits.is_empty() {
+    if *digits.first()? == b'+' {
         return None;
     }
-    let mut value = 0_u32;
-    for digit in digits {
-        let digit = char::from(*digit).to_digit(base)?;
-        value = value.checked_mul(base)?.checked_add(digit)?;
+    match str::from_utf8(digits) {
+        Ok(text) => u32::from_str_radix(text, base).ok(),
+        Err(_) => None,
     }
-    Some(value)
 }
 
 // The number that a word writes.
@@ -199,11 +197,12 @@ pub fn tokenize<'a>(alloc: Global, line: &'a [u8]) -> Result<Vec<Token<'a>>, Asm
         let Some(found) = first_lexeme(rest) else {
             return Err(AsmFault::BadToken);
         };
-        if let Some(token) = found.token {
-            tokens.push(token)?;
-        }
         let (_, others) = rest.split_at(found.size);
         rest = others;
+        let Some(token) = found.token else {
+            continue;
+        };
+        tokens.push(token)?;
     }
     Ok(tokens)
 }
