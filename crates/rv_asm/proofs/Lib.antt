@@ -1,9 +1,5 @@
-pub mod Defined
 pub mod Emitted
 pub mod Kept
-pub mod Labels
-pub mod LineAdded
-pub mod Lines
 pub mod Moves
 pub mod Named
 pub mod Operands
