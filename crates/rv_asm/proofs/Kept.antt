@@ -1,19 +1,18 @@
 -- What is kept of the lines gives the same image and the same fault as all of them.
-use Rattle.std.proofs.Common.{◌≡◌, ◌∙◌, ℕ, ◌+◌, List, [], ◌∷◌, ◌++◌, map, Bool, true, false, cond, Option, Some, None, Result, Ok, refl, ap, subst, ◌==◌, ◌||◌}
+use Rattle.std.proofs.Common.{◌≡◌, ◌∙◌, ℕ, ◌+◌, List, [], ◌∷◌, ◌++◌, map, Bool, true, false, cond, Result, Ok, refl, ap, subst, ◌==◌, arith}
 use Rattle.std.specs.List.{slice_split}
 use Rattle.std.specs.Option.{option_map, option_or}
 use Rattle.rv_asm.specs.Faults.{earliest, second_fault, second_fault_of}
-use Rattle.rv_asm.specs.Kept.{Kept, says_nothing, is_idle, keep, kept, places, first_with_fault}
+use Rattle.rv_asm.specs.Kept.{Kept, says_nothing, is_idle, kept, places, first_with_fault}
 use Rattle.rv_asm.specs.Layout.{Layout, extended, layout, line_in, lines_of, unlaid}
 use Rattle.rv_asm.specs.Meaning.{Spells, behind_text, contents, image_parts, line_cells, parts_in, section_parts}
-use Rattle.rv_asm.specs.Placed.{Placed, constant_starts, place, place_body, placed}
+use Rattle.rv_asm.specs.Placed.{Placed, place, placed}
 use Rattle.rv_asm.specs.Statement.{Statement, Nothing}
 use Rattle.rv_asm.specs.declared.fault.AsmFault.{AsmFault}
-use Rattle.rv_asm.specs.declared.reach.Reach.{Reach}
 use Rattle.rv_asm.specs.declared.operation.Section.{Section}
 use Rattle.rv_asm.specs.declared.operation.Section.TheVariants.{Text, Data}
 
-nothing_said : (r : Result Statement AsmFault) → says_nothing r ≡ true → r ≡ Ok Nothing
+pub nothing_said : (r : Result Statement AsmFault) → says_nothing r ≡ true → r ≡ Ok Nothing
 nothing_said (Ok Nothing) is = refl
 nothing_said _ is = absurd (cc)
 
@@ -22,75 +21,43 @@ pub record SaysNothing (line : Placed) : Type 0 where
   pub nothing : line.statement ≡ Ok Nothing
   pub starts_not : line.starts ≡ false
 
-says_nothing_if : (line : Placed) (starts : Bool) → line.starts ≡ starts → cond starts false (says_nothing line.statement) ≡ true → SaysNothing line
-says_nothing_if line true starts_is idle = absurd (cc)
-says_nothing_if line false starts_is idle = record { nothing = nothing_said line.statement idle; starts_not = starts_is }
-
 pub idle_says_nothing : (line : Placed) → is_idle line ≡ true → SaysNothing line
-idle_says_nothing line idle = says_nothing_if line line.starts refl idle
+idle_says_nothing line idle = record { nothing = nothing_said line.statement (grind arith); starts_not = grind arith }
 
 module _ (base : ℕ) (whole : Layout) where
-  idle_fault : (line : Placed) → is_idle line ≡ true → second_fault base whole line ≡ None
-  idle_fault line idle =
-      let says = idle_says_nothing line idle in
-      rw (says.nothing, says.starts_not) refl
-
   nothing_in : (part section : Section) → parts_in part section (Ok []) ≡ []
   nothing_in Text Text = refl
   nothing_in Text Data = refl
   nothing_in Data Text = refl
   nothing_in Data Data = refl
 
-  idle_parts : (part : Section) (line : Placed) → is_idle line ≡ true → parts_in part line.reach.section (line_cells base whole line) ≡ []
-  idle_parts part line idle = rw (idle_says_nothing line idle).nothing (nothing_in part line.reach.section)
+  -- some lines have the same parts and the same fault as others
+  record Same (lines all : List Kept) : Type 0 where
+    pub parts : (part : Section) → contents base whole part (places lines) ≡ contents base whole part (places all)
+    pub fault : first_with_fault (second_fault base whole) lines ≡ first_with_fault (second_fault base whole) all
 
-  kept_one : (part : Section) (number : ℕ) (bytes : List ℕ) (line : Placed) (others : List Kept) (idle : Bool) → is_idle line ≡ idle → contents base whole part (places ((cond idle [] (record { number = number; bytes = bytes; place = line } ∷ [])) ++ others)) ≡ contents base whole part (line ∷ places others)
-  kept_one part number bytes line others true is = rw (idle_parts part line is) refl
-  kept_one part number bytes line others false is = refl
+  kept_one : (line : Kept) (others : List Kept) (idle : Bool) → is_idle line.place ≡ idle → Same (cond idle [] (line ∷ []) ++ others) (line ∷ others)
+  kept_one line others true idle =
+      let says = idle_says_nothing line.place idle in
+      record { parts = λ part. rw (says.nothing, nothing_in part line.place.reach.section) refl; fault = rw (says.nothing, says.starts_not) refl }
+  kept_one line others false idle = record { parts = λ part. refl; fault = refl }
+
+  module _ (number : ℕ) (layout : Layout) (bytes : List ℕ) (others : List (List ℕ)) where
+    one : Same (kept number layout (bytes ∷ others)) (record { number = number; bytes = bytes; place = place layout.reach (line_in bytes) } ∷ kept (number + 1) (extended layout (line_in bytes)) others)
+    one = kept_one (record { number = number; bytes = bytes; place = place layout.reach (line_in bytes) }) (kept (number + 1) (extended layout (line_in bytes)) others) (is_idle (place layout.reach (line_in bytes))) refl
 
   -- the parts of a section
   pub kept_contents : (part : Section) (number : ℕ) (layout : Layout) (lines : List (List ℕ)) → contents base whole part (places (kept number layout lines)) ≡ contents base whole part (placed layout (map line_in lines))
   kept_contents part number layout [] = refl
   kept_contents part number layout (bytes ∷ others) =
       let line = place layout.reach (line_in bytes) in
-      kept_one part number bytes line (kept (number + 1) (extended layout (line_in bytes)) others) (is_idle line) refl
-      ∙ ap (λ rest. parts_in part line.reach.section (line_cells base whole line) ++ rest) (kept_contents part (number + 1) (extended layout (line_in bytes)) others)
-
-  fault_one : (number : ℕ) (bytes : List ℕ) (line : Placed) (others : List Kept) (idle : Bool) → is_idle line ≡ idle → first_with_fault (second_fault base whole) ((cond idle [] (record { number = number; bytes = bytes; place = line } ∷ [])) ++ others) ≡ first_with_fault (second_fault base whole) (record { number = number; bytes = bytes; place = line } ∷ others)
-  fault_one number bytes line others true is = rw (idle_fault line is) refl
-  fault_one number bytes line others false is = refl
-
-  earliest-first : (number : ℕ) (fault : Option AsmFault) (others : List (Option AsmFault)) (later : Option (AsmFault × ℕ)) → later ≡ earliest (number + 1) others → option_or (option_map (λ found. (found, number)) fault) later ≡ earliest number (fault ∷ others)
-  earliest-first number None others later is = is
-  earliest-first number (Some found) others later is = refl
+      (one number layout bytes others).parts part ∙ ap (λ rest. parts_in part line.reach.section (line_cells base whole line) ++ rest) (kept_contents part (number + 1) (extended layout (line_in bytes)) others)
 
   -- the first fault
   pub kept_fault : (number : ℕ) (layout : Layout) (lines : List (List ℕ)) → first_with_fault (second_fault base whole) (kept number layout lines) ≡ earliest number (map (second_fault base whole) (placed layout (map line_in lines)))
   kept_fault number layout [] = refl
   kept_fault number layout (bytes ∷ others) =
-      let line = place layout.reach (line_in bytes) in
-      fault_one number bytes line (kept (number + 1) (extended layout (line_in bytes)) others) (is_idle line) refl
-      ∙ earliest-first number (second_fault base whole line) (map (second_fault base whole) (placed (extended layout (line_in bytes)) (map line_in others))) (first_with_fault (second_fault base whole) (kept (number + 1) (extended layout (line_in bytes)) others)) (kept_fault (number + 1) (extended layout (line_in bytes)) others)
-
--- a line by what stands behind its labels
-module _ (number : ℕ) (bytes : List ℕ) (reach : Reach) where
-  pub keep_none : (said : Result Statement AsmFault) (starts : Bool) → starts ≡ false → says_nothing said ≡ true → [] ≡ keep number bytes (place_body reach starts said)
-  keep_none said starts starts_not nothing = rw (starts_not, nothing_said said nothing) refl
-
-  keep_if : (line : Kept) (idle : Bool) → idle ≡ false → let one : List Kept = line ∷ [] in one ≡ cond idle [] one
-  keep_if line idle idle_not = rw idle_not refl
-
-  saying : (said : Result Statement AsmFault) (starts : Bool) → says_nothing said ≡ false → cond starts false (says_nothing said) ≡ false
-  saying said true says = refl
-  saying said false says = says
-
-  -- it defines _start
-  pub keep_start : (said : Result Statement AsmFault) (starts : Bool) → starts ≡ true → record { number = number; bytes = bytes; place = place_body reach starts said } ∷ [] ≡ keep number bytes (place_body reach starts said)
-  keep_start said starts is = rw is refl
-
-  -- it has a statement
-  pub keep_statement : (said : Result Statement AsmFault) (starts : Bool) → says_nothing said ≡ false → record { number = number; bytes = bytes; place = place_body reach starts said } ∷ [] ≡ keep number bytes (place_body reach starts said)
-  keep_statement said starts says = keep_if (record { number = number; bytes = bytes; place = place_body reach starts said }) (is_idle (place_body reach starts said)) (saying said (starts || constant_starts said) says)
+      (one number layout bytes others).fault ∙ ap (option_or (option_map (λ found. (found, number)) (second_fault base whole (place layout.reach (line_in bytes))))) (kept_fault (number + 1) (extended layout (line_in bytes)) others)
 
 -- of a whole text
 module _ (base : ℕ) (text : List ℕ) (whole : Layout) (lines : List Kept) (whole_is : whole ≡ layout (lines_of text)) (lines_are : lines ≡ kept 1 unlaid (slice_split (λ byte. byte == 10) text)) where

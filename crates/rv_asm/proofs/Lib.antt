@@ -1,10 +1,6 @@
-pub mod Defined
 pub mod Emitted
 pub mod Joined
 pub mod Kept
-pub mod Labels
-pub mod LineAdded
-pub mod Lines
 pub mod Moves
 pub mod Named
 pub mod Operands

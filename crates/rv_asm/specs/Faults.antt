@@ -1,6 +1,6 @@
 -- The fault of a text.
 use Rattle.std.specs.Prelude.{ℕ, ◌+◌, ◌%◌, ◌==◌, List, [], ◌∷◌, map, if◌then◌else◌, Option, Some, None}
-use Rattle.std.specs.{Option.option_or, Result.result_err}
+use Rattle.std.specs.{Option.option_map, Option.option_or, Result.result_err}
 use Rattle.rv_asm.specs.FirstPass.{first_fault}
 use Rattle.rv_asm.specs.Layout.{Line, Layout, extended, layout, unlaid}
 use Rattle.rv_asm.specs.Meaning.{line_cells, start_address}
@@ -24,8 +24,7 @@ first_faults layout (line ∷ others) = first_fault layout line ∷ first_faults
 -- the first fault of lines that are numbered from here on, with its number
 abbrev pub earliest : ℕ → List (Option AsmFault) → Option (AsmFault × ℕ)
 earliest number [] = None
-earliest number (None ∷ others) = earliest (number + 1) others
-earliest number (Some fault ∷ others) = Some (fault, number)
+earliest number (fault ∷ others) = option_or (option_map (λ found. (found, number)) fault) (earliest (number + 1) others)
 
 -- the earliest fault of the first pass
 abbrev pub first_fault_of : List Line → Option (AsmFault × ℕ)

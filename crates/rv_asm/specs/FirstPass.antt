@@ -1,6 +1,6 @@
 -- What the first pass finds wrong with a line.
-use Rattle.std.specs.Prelude.{ℕ, List, [], ◌∷◌, Bool, false, ◌||◌, ◌&&◌, if◌then◌else◌, Option, Some, None, Result, Ok, Err, is_some, is_none, codes}
-use Rattle.std.specs.Str.{bytes_eq}
+use Rattle.std.specs.Prelude.{ℕ, List, [], ◌∷◌, Bool, false, ◌&&◌, if◌then◌else◌, Option, Some, None, Result, Ok, Err, is_some, is_none, codes}
+use Rattle.std.specs.{Option.option_or, Str.bytes_eq}
 use Rattle.rv_asm.specs.Layout.{Line, Unreadable, Readable, Meanings, Layout, defined, labelled, label_at, number_of, advance, is_too_large}
 use Rattle.rv_asm.specs.Operand.{Operand}
 use Rattle.rv_asm.specs.Statement.{Statement, statement, needed, reading}
@@ -9,10 +9,10 @@ use Rattle.rv_asm.specs.Token as token
 use Rattle.rv_asm.specs.declared.{fault.AsmFault.AsmFault, reach.Reach.Reach, operation.Form.Form, symbols.Definition.Definition}
 use Rattle.rv_asm.specs.declared.fault.AsmFault.TheVariants.{BadToken, BadOperands, DuplicateSymbol, TooLarge}
 
--- one of the labels was defined before, or stands twice
-abbrev pub repeats : Meanings → Definition → List (List ℕ) → Bool
-repeats meanings here [] = false
-repeats meanings here (name ∷ names) = is_some (meanings name) || repeats (defined meanings name here) here names
+-- the fault of labels: one of them was defined before, or stands twice
+abbrev pub label_fault : Meanings → Definition → List (List ℕ) → Option AsmFault
+label_fault meanings here [] = None
+label_fault meanings here (name ∷ names) = if is_some (meanings name) then Some DuplicateSymbol else label_fault (defined meanings name here) here names
 
 -- the name right behind .equ was defined before
 abbrev pub redefines : Meanings → List Token → Bool
@@ -48,5 +48,5 @@ body_fault meanings reach body = if redefines meanings body then Some DuplicateS
 abbrev pub first_fault : Layout → Line → Option AsmFault
 first_fault layout Unreadable = Some BadToken
 first_fault layout (Readable labels body) =
-    if repeats layout.meanings (label_at layout.reach) labels then Some DuplicateSymbol
-    else body_fault (labelled layout.meanings (label_at layout.reach) labels) layout.reach body
+    option_or (label_fault layout.meanings (label_at layout.reach) labels)
+    (body_fault (labelled layout.meanings (label_at layout.reach) labels) layout.reach body)

@@ -1,6 +1,7 @@
 -- The lines that the program keeps: those with a statement, and those that define _start. No public clause names these.
-use Rattle.std.specs.Prelude.{ℕ, ◌+◌, List, [], ◌∷◌, ◌++◌, map, Bool, true, false, if◌then◌else◌, Option, None, Result, Ok}
-use Rattle.std.specs.Option.{option_map, option_or}
+use denote.Ref.{Bor}
+use Rattle.std.specs.Prelude.{ℕ, ◌+◌, ◌==◌, ◌&&◌, List, [], ◌∷◌, ◌++◌, map, Bool, true, false, not, if◌then◌else◌, Option, None, Some, Result, Ok}
+use Rattle.std.specs.{List.slice_split, Option.option_map, Option.option_or}
 use Rattle.rv_asm.specs.Layout.{Layout, extended, line_in}
 use Rattle.rv_asm.specs.Placed.{Placed, place}
 use Rattle.rv_asm.specs.Statement.{Statement, Nothing}
@@ -19,7 +20,7 @@ says_nothing _ = false
 
 -- the second pass has nothing to do in the line
 abbrev pub is_idle : Placed → Bool
-is_idle line = if line.starts then false else says_nothing line.statement
+is_idle line = says_nothing line.statement && not line.starts
 
 -- what is kept of a line
 abbrev pub keep : ℕ → List ℕ → Placed → List Kept
@@ -29,6 +30,11 @@ keep number bytes place = if is_idle place then [] else record { number = number
 abbrev pub kept : ℕ → Layout → List (List ℕ) → List Kept
 kept number layout [] = []
 kept number layout (bytes ∷ others) = keep number bytes (place layout.reach (line_in bytes)) ++ kept (number + 1) (extended layout (line_in bytes)) others
+
+-- the lines that are left, if a line feed stood before them
+abbrev pub lines_left : Option (Bor (List ℕ)) → List (List ℕ)
+lines_left None = []
+lines_left (Some text) = slice_split (λ byte. byte == 10) text.now
 
 -- the lines where they stand
 abbrev pub places : List Kept → List Placed

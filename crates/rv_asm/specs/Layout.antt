@@ -1,6 +1,6 @@
 -- Where the statements of a text stand, and what its symbols are.
-use Rattle.std.specs.Prelude.{ℕ, ℤ, pos, negsuc, ◌+◌, ◌*◌, ◌+ℤ◌, ◌-ℤ◌, List, [], ◌∷◌, length, map, Bool, if◌then◌else◌, ◌==◌, nat_lt, Option, Some, None, Result, Ok, Err, unwrap_or, unsigned_abs}
-use Rattle.std.specs.{List.slice_split, Option.option_or, Str.bytes_eq, Int.int_div_euclid, Int.int_rem_euclid}
+use Rattle.std.specs.Prelude.{ℕ, ℤ, pos, negsuc, ◌+◌, ◌*◌, ◌+ℤ◌, ◌-ℤ◌, List, [], ◌∷◌, length, map, Bool, if◌then◌else◌, ◌==◌, nat_lt, Option, Some, None, Result, Ok, Err, ok_or, unwrap_or, unsigned_abs}
+use Rattle.std.specs.{List.slice_split, Map.update, Str.bytes_eq, Int.int_div_euclid, Int.int_rem_euclid}
 use Rattle.rv_isa.specs.Operation.{bytes_of}
 use Rattle.rv_isa.specs.Word.{signed, modulo_word}
 use Rattle.rv_isa.specs.declared.instructions.Instr.{Instr}
@@ -12,7 +12,7 @@ use Rattle.rv_asm.specs.Statement.{Statement, Choice, Constant, Instruction, Val
 use Rattle.rv_asm.specs.Token.{Token, tokens_of}
 use Rattle.rv_asm.specs.Token as token
 use Rattle.rv_asm.specs.declared.{fault.AsmFault.AsmFault, operation.Fields.Fields, operation.Operation.Operation, operation.Section.Section, reach.Reach.Reach, symbols.Definition.Definition}
-use Rattle.rv_asm.specs.declared.fault.AsmFault.TheVariants.{TooLarge}
+use Rattle.rv_asm.specs.declared.fault.AsmFault.TheVariants.{BadToken, TooLarge}
 use Rattle.rv_asm.specs.declared.operation.Operation.TheVariants as operation
 use Rattle.rv_asm.specs.declared.operation.Section.TheVariants.{Text, Data}
 use Rattle.rv_asm.specs.declared.symbols.Definition.TheVariants as symbol
@@ -33,13 +33,13 @@ body_of (token.Name name ∷ token.Colon ∷ rest) = body_of rest
 body_of tokens = tokens
 
 -- the line of these tokens, if they are tokens
-abbrev pub line_of : Option (List Token) → Line
-line_of None = Unreadable
-line_of (Some tokens) = Readable (labels_of tokens) (body_of tokens)
+abbrev pub line_of : Result (List Token) AsmFault → Line
+line_of (Ok tokens) = Readable (labels_of tokens) (body_of tokens)
+line_of (Err fault) = Unreadable
 
 -- the line that some bytes spell
 abbrev pub line_in : List ℕ → Line
-line_in bytes = line_of (tokens_of bytes)
+line_in bytes = line_of (ok_or (tokens_of bytes) BadToken)
 
 -- the lines of a text; a line feed ends a line
 abbrev pub lines_of : List ℕ → List Line
@@ -71,10 +71,6 @@ load_number rd v =
 -- the instructions that load an address by its distance, always two
 abbrev pub load_address : ℕ → ℤ → List Instr
 load_address rd away = Auipc rd (upper away) ∷ OpImmediate Addi rd rd (lower away) ∷ []
-
--- no section has bytes yet, and the text begins in .text
-abbrev pub start : Reach
-start = record { section = Text; text_size = 0; data_size = 0 }
 
 -- how many bytes a section has so far
 abbrev pub offset_in : Section → Reach → ℕ
@@ -131,9 +127,9 @@ unless_too_large reach = if is_too_large reach then Err TooLarge else Ok reach
 abbrev pub Meanings : Type 0
 Meanings = List ℕ → Option Definition
 
--- a name more is defined; the first definition of a name counts
+-- a name more is defined; where it was defined before, the first pass finds the fault
 abbrev pub defined : Meanings → List ℕ → Definition → Meanings
-defined meanings name definition other = option_or (meanings other) (if bytes_eq name other then Some definition else None)
+defined meanings name definition = update bytes_eq meanings name (Some definition)
 
 -- how far the text has come, and what it has defined
 pub record Layout : Type 0 where
@@ -164,9 +160,9 @@ abbrev pub extended : Layout → Line → Layout
 extended layout Unreadable = layout
 extended layout (Readable labels body) = behind (labelled layout.meanings (label_at layout.reach) labels) layout.reach (statement_in body)
 
--- the layout of no lines
+-- the layout of no lines: no section has bytes yet, and the text begins in .text
 abbrev pub unlaid : Layout
-unlaid = record { reach = start; meanings = λ name. None }
+unlaid = record { reach = record { section = Text; text_size = 0; data_size = 0 }; meanings = λ name. None }
 
 -- the layout behind lines
 abbrev pub laid : Layout → List Line → Layout

@@ -1,10 +1,10 @@
-ghost use Rattle.std.specs.Prelude.{◌≡◌, ◌∷◌, ◌++◌, ◌==◌, ◌≤◌, [], None, IfOk, IfErr, Ok, length};
+ghost use Rattle.std.specs.Prelude.{◌≡◌, ◌∷◌, ◌++◌, ◌==◌, ◌<◌, ◌≤◌, [], None, IfOk, IfErr, IfSome, Ok, length};
 ghost use Rattle.std.specs.List.{position_or_len, slice_split};
 ghost use Rattle.rv_asm.specs.Answer.{RefusedBy, RefusedAt};
 ghost use Rattle.rv_asm.specs.Faults.{first_fault_of};
 ghost use Rattle.rv_asm.specs.FirstPass.{body_fault, first_fault, operand_fault};
 ghost use Rattle.rv_asm.specs.Layout.{behind, extended, layout, unlaid, lines_of, statement_in, line_in};
-ghost use Rattle.rv_asm.specs.Kept.{keep, kept, says_nothing};
+ghost use Rattle.rv_asm.specs.Kept.{keep, kept, lines_left, says_nothing};
 ghost use Rattle.rv_asm.specs.Placed.{place, place_body};
 ghost use Rattle.rv_asm.specs.ReadOperand.{operands_in};
 ghost use Rattle.rv_asm.specs.ReadToken.{tokens_in};
@@ -42,6 +42,19 @@ pub fn length_before(end: u8, text: &[u8]) -> usize
         }
     }
     text.len()
+}
+
+/// The first line of a text, and what stands behind its line feed, if it has one.
+fn first_line(text: &[u8]) -> (&[u8], Option<&[u8]>)
+    ensures lines { slice_split (λ byte. byte == 10) text.now ≡ result.0.now ∷ lines_left result.1 }
+    ensures shorter { IfSome result.1 (λ rest. length rest.now < length text.now) }
+{
+    let size = length_before(b'\n', text);
+    if size == text.len() {
+        return (text, None);
+    }
+    let (_, rest) = text.split_at(size + 1);
+    (&text[..size], Some(rest))
 }
 
 /// Adds a form with its operands. The answer is how far the text has come behind it, and whether
@@ -100,10 +113,8 @@ impl<'a> Layout<'a> {
         body: &[Token<'a>],
     ) -> Result<(), AsmFault>
         ensures added { IfOk result (λ _. body_fault (found self.old.symbols) self.old.reach (tokens_in body.now) ≡ None) }
-        ensures reach { IfOk result (λ _.
-            self.new.reach ≡ (behind (found self.old.symbols) self.old.reach (statement_in (tokens_in body.now))).reach) }
-        ensures symbols { IfOk result (λ _.
-            found self.new.symbols ≡ (behind (found self.old.symbols) self.old.reach (statement_in (tokens_in body.now))).meanings) }
+        ensures layout { IfOk result (λ _.
+            layout_of self.new ≡ behind (found self.old.symbols) self.old.reach (statement_in (tokens_in body.now))) }
         ensures records { IfOk result (λ _. kept_in self.new.records.items ≡ kept_in self.old.records.items
             ++ keep line.entry.number line.entry.bytes.now (place_body self.old.reach label_starts (statement_in (tokens_in body.now)))) }
         ensures refused { RefusedBy (body_fault (found self.old.symbols) self.old.reach (tokens_in body.now)) result }
@@ -142,12 +153,9 @@ impl<'a> Layout<'a> {
     {
         let tokens = tokenize(alloc, line.bytes)?;
         let here = Definition::Label(self.reach.section, self.reach.offset());
-        let (count, starts) = self.symbols.define_labels(tokens.as_slice(), here)?;
-        let (_, body) = tokens.as_slice().split_at(count);
-        match self.add_body(alloc, line, starts, body) {
-            Ok(()) => Ok(()),
-            Err(fault) => Err(fault),
-        }
+        let (body, starts) = self.symbols.define_labels(tokens.as_slice(), here)?;
+        self.add_body(alloc, line, starts, body)?;
+        Ok(())
     }
 
     /// The layout of a text, or its first fault in the first pass.
@@ -159,19 +167,16 @@ impl<'a> Layout<'a> {
         ensures memory { IfErr result (λ error. error.fault ≡ AsmFault.Memory → error.line ≡ 0) }
     {
         let mut layout = Layout::new(alloc);
-        let mut begin = 0;
         let mut number = 1;
-        loop {
-            let (_, rest) = text.split_at(begin);
-            let (bytes, behind) = rest.split_at(length_before(b'\n', rest));
+        let mut rest = Some(text);
+        while let Some(unread) = rest {
+            let (bytes, behind) = first_line(unread);
             if let Err(fault) = layout.add(alloc, TextLine { number, bytes }) {
                 return Err(AsmError::at(fault, number));
             }
-            if behind.is_empty() {
-                return Ok(layout);
-            }
-            begin += bytes.len() + 1;
             number += 1;
+            rest = behind;
         }
+        Ok(layout)
     }
 }

@@ -6,12 +6,14 @@ ghost use Rattle.rv_asm.specs.ReadOperand.{expression_of, operands_in};
 ghost use Rattle.rv_asm.specs.ReadStatement.{statement_of};
 ghost use Rattle.rv_asm.specs.Symbols.{found};
 ghost use Rattle.rv_isa.specs.Word.{modulo_word};
+ghost use Rattle.rv_isa.specs.declared.instructions.Instr.TheVariants.{OpImmediate};
+ghost use Rattle.rv_isa.specs.declared.operations.ImmediateOp.TheVariants.{Addi};
 
 use crate::fault::AsmFault;
 use crate::operand::{Expression, Operand};
 use crate::operation::{Fields, Operation, Section};
 use crate::statement::Statement;
-use crate::symbols::{Definition, Symbols};
+use crate::symbols::Symbols;
 use rv_isa::{Immediate, ImmediateOp, Instr, Reg, UpperImmediate};
 
 /// The most bytes that text and data may have together.
@@ -54,7 +56,7 @@ impl Reach {
     }
 
     /// So many bytes more in the section in force, if text and data are not too large then.
-    fn grown(self, size: u128) -> Result<Reach, AsmFault>
+    fn grown(mut self, size: u128) -> Result<Reach, AsmFault>
         requires { size < 2 ^ 100 }
         ensures { result ≡ unless_too_large (grow_in self.section size self) }
     {
@@ -63,15 +65,10 @@ impl Reach {
             return Err(AsmFault::TooLarge);
         }
         match self.section {
-            Section::Text => Ok(Reach {
-                text_size: self.text_size + size as usize,
-                ..self
-            }),
-            Section::Data => Ok(Reach {
-                data_size: self.data_size + size as usize,
-                ..self
-            }),
+            Section::Text => self.text_size += size as usize,
+            Section::Data => self.data_size += size as usize,
         }
+        Ok(self)
     }
 }
 
@@ -81,10 +78,7 @@ fn known<'a>(symbols: &Symbols<'a>, value: &Expression<'a>) -> i64
 {
     match *value {
         Expression::Number(number) => number,
-        Expression::Symbol(name) => match symbols.get(name) {
-            Some(Definition::Constant(number)) => number,
-            _ => 0,
-        },
+        Expression::Symbol(name) => symbols.constant(name).unwrap_or(0),
         Expression::Sum(_, _) => 0,
     }
 }
@@ -119,53 +113,41 @@ fn lower(word: i32) -> Immediate
     Immediate::from_field(rest as i32)
 }
 
+/// The instruction that adds an immediate.
+fn add_immediate(rd: Reg, rs1: Reg, immediate: Immediate) -> Instr
+    ensures { result ≡ OpImmediate Addi rd rs1 immediate }
+{
+    let op = ImmediateOp::Addi;
+    Instr::OpImmediate {
+        op,
+        rd,
+        rs1,
+        immediate,
+    }
+}
+
 /// The instructions that load a signed word: one, or two.
 pub fn load_number(rd: Reg, word: i32) -> (Instr, Option<Instr>)
     ensures { result.0 ∷ option_to_list result.1 ≡ load_number rd word }
 {
     if let Some(immediate) = Immediate::new(word) {
-        return (
-            Instr::OpImmediate {
-                op: ImmediateOp::Addi,
-                rd,
-                rs1: Reg::ZERO,
-                immediate,
-            },
-            None,
-        );
+        return (add_immediate(rd, Reg::ZERO, immediate), None);
     }
-    let first = Instr::Lui {
-        rd,
-        immediate: upper(word),
-    };
-    let immediate = lower(word);
-    if immediate.value() == 0 {
+    let (immediate, rest) = (upper(word), lower(word));
+    let first = Instr::Lui { rd, immediate };
+    if rest.value() == 0 {
         return (first, None);
     }
-    let second = Instr::OpImmediate {
-        op: ImmediateOp::Addi,
-        rd,
-        rs1: rd,
-        immediate,
-    };
-    (first, Some(second))
+    (first, Some(add_immediate(rd, rd, rest)))
 }
 
 /// The instructions that load an address by its distance.
 pub fn load_address(rd: Reg, away: i32) -> (Instr, Option<Instr>)
     ensures { result.0 ∷ option_to_list result.1 ≡ load_address rd away }
 {
-    let first = Instr::Auipc {
-        rd,
-        immediate: upper(away),
-    };
-    let second = Instr::OpImmediate {
-        op: ImmediateOp::Addi,
-        rd,
-        rs1: rd,
-        immediate: lower(away),
-    };
-    (first, Some(second))
+    let immediate = upper(away);
+    let first = Instr::Auipc { rd, immediate };
+    (first, Some(add_immediate(rd, rd, lower(away))))
 }
 
 /// The bytes of an instruction.

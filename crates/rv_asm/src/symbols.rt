@@ -1,7 +1,7 @@
-ghost use Rattle.std.specs.Prelude.{◌≡◌, ◌∷◌, ◌≤◌, [], Some, None, OnOk, IfOk, IfErr, OnSome, MatchOption};
-ghost use Rattle.std.specs.Prelude.{drop, length, is_none, true, false, ◌≢◌};
+ghost use Rattle.std.specs.Prelude.{◌≡◌, None, OnOk, IfOk};
 ghost use Rattle.std.specs.List.{list_any};
-ghost use Rattle.rv_asm.specs.FirstPass.{repeats, redefines};
+ghost use Rattle.rv_asm.specs.Answer.{RefusedBy};
+ghost use Rattle.rv_asm.specs.FirstPass.{label_fault, redefines};
 ghost use Rattle.rv_asm.specs.Layout.{defined, labelled, labels_of, body_of, number_of};
 ghost use Rattle.rv_asm.specs.Placed.{is_start};
 ghost use Rattle.rv_asm.specs.ReadToken.{tokens_in};
@@ -55,50 +55,45 @@ impl<'a> Symbols<'a> {
         self.defined.get(name).copied()
     }
 
-    /// Defines a name. The first definition of a name counts; the answer is whether this is it.
-    pub fn define(&mut self, name: &'a [u8], definition: Definition) -> Result<bool, AllocError>
-        ensures defined { OnOk result (found self.new ≡ defined (found self.old) name.entry.now definition) }
-        ensures is_first { IfOk result (λ is_first. is_first ≡ is_none (found self.old name.entry.now)) }
+    /// Defines a name.
+    pub fn define(&mut self, name: &'a [u8], definition: Definition) -> Result<(), AllocError>
+        ensures { OnOk result (found self.new ≡ defined (found self.old) name.entry.now definition) }
     {
-        if self.get(name).is_some() {
-            return Ok(false);
-        }
-        match self.defined.insert(name, definition) {
-            Ok(_) => Ok(true),
-            Err(refused) => Err(AllocError::from(refused)),
-        }
+        self.defined.insert(name, definition)?;
+        Ok(())
     }
 
-    /// Defines the labels at the front of a line. The answer is how many tokens they are, and
-    /// whether one of them is `_start`.
-    pub fn define_labels(
+    /// Defines the labels at the front of a line. The answer is the tokens behind them, and whether
+    /// one of them is `_start`.
+    pub fn define_labels<'t>(
         &mut self,
-        tokens: &[Token<'a>],
+        tokens: &'t [Token<'a>],
         here: Definition,
-    ) -> Result<(usize, bool), AsmFault>
+    ) -> Result<(&'t [Token<'a>], bool), AsmFault>
+        ensures added { IfOk result (λ _. label_fault (found self.old) here (labels_of (tokens_in tokens.entry.now)) ≡ None) }
         ensures labels { IfOk result (λ _.
-            found self.new ≡ labelled (found self.old) here (labels_of (tokens_in tokens.now))) }
-        ensures fresh { IfOk result (λ _. repeats (found self.old) here (labels_of (tokens_in tokens.now)) ≡ false) }
-        ensures repeated { IfErr result (λ fault. fault ≢ AsmFault.Memory →
-            repeats (found self.old) here (labels_of (tokens_in tokens.now)) ≡ true) }
-        ensures refused { IfErr result (λ fault. fault ≢ AsmFault.Memory → fault ≡ AsmFault.DuplicateSymbol) }
-        ensures in_range { IfOk result (λ labels. labels.0 ≤ length tokens.now) }
-        ensures body { IfOk result (λ labels. body_of (tokens_in tokens.now) ≡ tokens_in (drop labels.0 tokens.now)) }
-        ensures starts { IfOk result (λ labels. labels.1 ≡ list_any is_start (labels_of (tokens_in tokens.now))) }
+            found self.new ≡ labelled (found self.old) here (labels_of (tokens_in tokens.entry.now))) }
+        ensures body { IfOk result (λ behind. body_of (tokens_in tokens.entry.now) ≡ tokens_in behind.0.now) }
+        ensures starts { IfOk result (λ behind. behind.1 ≡ list_any is_start (labels_of (tokens_in tokens.entry.now))) }
+        ensures refused { RefusedBy (label_fault (found self.old) here (labels_of (tokens_in tokens.entry.now))) result }
     {
-        let mut count = 0;
+        let mut rest = tokens;
         let mut starts = false;
         loop {
-            let (_, rest) = tokens.split_at(count);
-            let Some(name) = next_label(rest) else {
-                return Ok((count, starts));
-            };
-            let is_first = self.define(name, here)?;
-            if !is_first {
-                return Err(AsmFault::DuplicateSymbol);
+            match rest {
+                [first, second, others @ ..] => match (*first, *second) {
+                    (Token::Name(name), Token::Colon) => {
+                        if self.get(name).is_some() {
+                            return Err(AsmFault::DuplicateSymbol);
+                        }
+                        self.define(name, here)?;
+                        starts |= is_start(name);
+                        rest = others;
+                    }
+                    _ => return Ok((rest, starts)),
+                },
+                _ => return Ok((rest, starts)),
             }
-            starts |= is_start(name);
-            count += 2;
         }
     }
 
@@ -107,12 +102,9 @@ impl<'a> Symbols<'a> {
         ensures { result ≡ redefines (found self.now) (tokens_in tokens.now) }
     {
         match tokens {
-            [first, second, ..] => match (*first, *second) {
-                (Token::Name(directive), Token::Name(name)) => {
-                    directive == b".equ".as_slice() && self.get(name).is_some()
-                }
-                _ => false,
-            },
+            [Token::Name(directive), Token::Name(name), ..] => {
+                *directive == b".equ".as_slice() && self.get(name).is_some()
+            }
             _ => false,
         }
     }
@@ -125,22 +117,5 @@ impl<'a> Symbols<'a> {
             Some(Definition::Constant(number)) => Some(number),
             _ => None,
         }
-    }
-}
-
-/// The name before a colon at the front of a line, if one stands there.
-fn next_label<'a>(tokens: &[Token<'a>]) -> Option<&'a [u8]>
-    ensures label { MatchOption result (labels_of (tokens_in tokens.now) ≡ []) (λ name.
-        labels_of (tokens_in tokens.now) ≡ name.now ∷ labels_of (tokens_in (drop 2 tokens.now))) }
-    ensures body { MatchOption result (body_of (tokens_in tokens.now) ≡ tokens_in tokens.now) (λ _.
-        body_of (tokens_in tokens.now) ≡ body_of (tokens_in (drop 2 tokens.now))) }
-    ensures room { OnSome result (2 ≤ length tokens.now) }
-{
-    match tokens {
-        [first, second, ..] => match (*first, *second) {
-            (Token::Name(name), Token::Colon) => Some(name),
-            _ => None,
-        },
-        _ => None,
     }
 }

@@ -1,20 +1,20 @@
-use Rattle.std.proofs.Common.{◌≡◌, ◌≤◌, ◌-◌, ◌||◌, map, length, drop}
+use Rattle.std.proofs.Common.{◌≡◌, ◌||◌, length}
 use Rattle.std.specs.List.{list_any}
-use Rattle.rv_asm.proofs.Labels.{ReachesLabel}
-use Rattle.rv_asm.specs.Layout.{body_of, labels_of}
+use Rattle.rv_asm.specs.FirstPass.{label_fault}
+use Rattle.rv_asm.specs.Layout.{body_of, labelled, labels_of}
 use Rattle.rv_asm.specs.Placed.{is_start}
-use Rattle.rv_asm.specs.ReadToken.{token_of}
+use Rattle.rv_asm.specs.ReadToken.{tokens_in}
 use Rattle.rv_asm.specs.Symbols.{found}
 use Rattle.rv_asm.proofs.symbols.Symbols.define_labels.Given as goal
 
--- the labels so far are defined
-abbrev pub invariant-loop-name : goal.invariant-loop-name
-invariant-loop-name l = record {
-  in_range : l.count ≤ length l.tokens;
-  same_body : body_of (map token_of l.tokens) ≡ body_of (map token_of (drop l.count l.tokens));
-  same_start : list_any is_start (labels_of (map token_of l.tokens)) ≡ (l.starts || list_any is_start (labels_of (map token_of (drop l.count l.tokens))));
-  known : ReachesLabel (found l.initial.self) l.here (map token_of l.tokens) (map token_of (drop l.count l.tokens)) (found l.self);
+-- what is left of the line gives what all of it gives
+abbrev pub invariant-loop-rest : goal.invariant-loop-rest
+invariant-loop-rest l = record {
+  faults : label_fault (found l.initial.self) l.here (labels_of (tokens_in l.tokens)) ≡ label_fault (found l.self) l.here (labels_of (tokens_in l.rest));
+  labels : labelled (found l.initial.self) l.here (labels_of (tokens_in l.tokens)) ≡ labelled (found l.self) l.here (labels_of (tokens_in l.rest));
+  body : body_of (tokens_in l.tokens) ≡ body_of (tokens_in l.rest);
+  start : list_any is_start (labels_of (tokens_in l.tokens)) ≡ (l.starts || list_any is_start (labels_of (tokens_in l.rest)));
 }
 
-abbrev pub decreases-loop-name : goal.decreases-loop-name
-decreases-loop-name l = length l.tokens - l.count
+abbrev pub decreases-loop-rest : goal.decreases-loop-rest
+decreases-loop-rest l = length l.rest
