@@ -5,7 +5,6 @@ pub mod Moves
 pub mod Named
 pub mod Operands
 pub mod Ranges
-pub mod SecondPass
 pub mod TokenLines
 pub mod TokenNumbers
 pub mod Words

@@ -2,7 +2,7 @@
 use Rattle.std.proofs.Common.{◌≡◌, ◌+◌, ◌≤◌, ℕ, List, [], ◌∷◌, Result, Ok, Err, true, ◌∙◌, refl, ap, arith}
 use Rattle.rv_asm.specs.Kept.{is_idle}
 use Rattle.rv_asm.proofs.Kept.{idle_says_nothing}
-use Rattle.rv_asm.specs.Layout.{Line, Unreadable, Readable, Layout, Meanings, advance, behind, extended, grow_in, laid, labelled, label_at, offset, offset_in, size, statement_in}
+use Rattle.rv_asm.specs.Layout.{Line, Unreadable, Readable, Layout, Meanings, behind, extended, grow_in, laid, labelled, label_at, offset, offset_in, size, statement_in}
 use Rattle.rv_asm.specs.Placed.{place}
 use Rattle.rv_asm.specs.Statement.{Statement, Choice}
 use Rattle.rv_asm.specs.declared.fault.AsmFault.{AsmFault}
@@ -10,37 +10,22 @@ use Rattle.rv_asm.specs.declared.operation.Section.{Section}
 use Rattle.rv_asm.specs.declared.operation.Section.TheVariants.{Text, Data}
 use Rattle.rv_asm.specs.declared.reach.Reach.{Reach}
 
--- no section shrinks
-pub record Grows (before behind' : Reach) : Type 0 where
-  pub text_grows : before.text_size ≤ behind'.text_size
-  pub data_grows : before.data_size ≤ behind'.data_size
+grow : (part s : Section) (n : ℕ) (reach : Reach) → offset_in part reach ≤ offset_in part (grow_in s n reach)
+grow Text Text n reach = omega arith
+grow Text Data n reach = omega arith
+grow Data Text n reach = omega arith
+grow Data Data n reach = omega arith
 
-still : (reach : Reach) → Grows reach reach
-still reach = record { text_grows = omega arith; data_grows = omega arith }
-
-grow : (s : Section) (n : ℕ) (reach : Reach) → Grows reach (grow_in s n reach)
-grow Text n reach = record { text_grows = omega arith; data_grows = omega arith }
-grow Data n reach = record { text_grows = omega arith; data_grows = omega arith }
-
-advances : (m : Meanings) (s : Statement) (reach : Reach) → Grows reach (advance m s reach)
-advances m (Choice section) reach = record { text_grows = omega arith; data_grows = omega arith }
-advances m s reach = grow reach.section (size m (offset reach) s) reach
-
-behind_grows : (m : Meanings) (reach : Reach) (said : Result Statement AsmFault) → Grows reach (behind m reach said).reach
-behind_grows m reach (Ok said) = advances m said reach
-behind_grows m reach (Err fault) = still reach
-
-extended_grows : (before : Layout) (line : Line) → Grows before.reach (extended before line).reach
-extended_grows before Unreadable = still before.reach
-extended_grows before (Readable labels body) = behind_grows (labelled before.meanings (label_at before.reach) labels) before.reach (statement_in body)
-
-grows_in : (part : Section) (before after : Reach) → Grows before after → offset_in part before ≤ offset_in part after
-grows_in Text before after g = g.text_grows
-grows_in Data before after g = g.data_grows
+behind_grows : (part : Section) (m : Meanings) (reach : Reach) (said : Result Statement AsmFault) → offset_in part reach ≤ offset_in part (behind m reach said).reach
+behind_grows Text m reach (Ok (Choice section)) = omega arith
+behind_grows Data m reach (Ok (Choice section)) = omega arith
+behind_grows part m reach (Ok said) = grow part reach.section (size m (offset reach) said) reach
+behind_grows part m reach (Err fault) = omega arith
 
 -- behind a line a section is not smaller, nor behind many
 pub line_grows : (part : Section) (before : Layout) (line : Line) → offset_in part before.reach ≤ offset_in part (extended before line).reach
-line_grows part before line = grows_in part before.reach (extended before line).reach (extended_grows before line)
+line_grows part before Unreadable = omega arith
+line_grows part before (Readable labels body) = behind_grows part (labelled before.meanings (label_at before.reach) labels) before.reach (statement_in body)
 
 pub lines_grow : (part : Section) (before : Layout) (lines : List Line) → offset_in part before.reach ≤ offset_in part (laid before lines).reach
 lines_grow part before [] = omega arith

@@ -1,22 +1,18 @@
--- What a function gives at the numbers of a range.
-use Rattle.std.proofs.Common.{◌≡◌, ◌∙◌, ◌+◌, ◌<◌, ◌≤◌, ℕ, zero, suc, ◌∷◌, ◌++◌, map, replicate, refl, ap, arith}
+-- What functions give at the numbers of a range.
+use Rattle.std.proofs.Common.{◌≡◌, ◌+◌, ◌<◌, ◌≤◌, ℕ, zero, suc, ◌∷◌, ◌++◌, map, replicate, refl, arith}
 use Rattle.std.specs.List.{range_with_len}
 
-module _ {X : Type 0} (f : ℕ → X) where
-  pub split_range : (a m n : ℕ) → map f (range_with_len a (m + n)) ≡ map f (range_with_len a m) ++ map f (range_with_len (a + m) n)
-  split_range a zero n =
+module _ {X : Type 0} (f g : ℕ → X) (x : X) (b : ℕ) (there : (i : ℕ) → b ≤ i → f i ≡ g i) where
+  same_behind : (a n : ℕ) → b ≤ a → map f (range_with_len a n) ≡ map g (range_with_len a n)
+  same_behind a zero le = refl
+  same_behind a (suc n) le = (λ i. there a le i ∷ same_behind (a + 1) n (omega arith) i)
+
+  -- before b the one value, and behind it what the other function gives
+  pub split_range : (a m n : ℕ) → a + m ≡ b → ((i : ℕ) → a ≤ i → i < b → f i ≡ x) → map f (range_with_len a (m + n)) ≡ replicate m x ++ map g (range_with_len b n)
+  split_range a zero n is here =
       let first : 0 + n ≡ n = omega arith in
-      let begin : a ≡ a + 0 = omega arith in
-      (λ i. map f (range_with_len (begin i) (first i)))
-  split_range a (suc m) n =
+      let begin : a ≡ b = omega arith in
+      rw (first, begin) (same_behind b n (omega arith))
+  split_range a (suc m) n is here =
       let more : suc m + n ≡ suc (m + n) = omega arith in
-      let begin : a + 1 + m ≡ a + suc m = omega arith in
-      ap (λ k. map f (range_with_len a k)) more ∙ ap (λ l. f a ∷ l) (split_range (a + 1) m n ∙ ap (λ k. map f (range_with_len (a + 1) m) ++ map f (range_with_len k n)) begin)
-
-  pub replicate_range : (x : X) (a n : ℕ) → ((i : ℕ) → a ≤ i → i < a + n → f i ≡ x) → map f (range_with_len a n) ≡ replicate n x
-  replicate_range x a zero same = refl
-  replicate_range x a (suc n) same = (λ i. same a (omega arith) (omega arith) i ∷ replicate_range x (a + 1) n (λ k above below. same k (omega (arith, above)) (omega (arith, below))) i)
-
-pub same_range : {X : Type 0} (f g : ℕ → X) (a n : ℕ) → ((i : ℕ) → a ≤ i → i < a + n → f i ≡ g i) → map f (range_with_len a n) ≡ map g (range_with_len a n)
-same_range f g a zero same = refl
-same_range f g a (suc n) same = (λ i. same a (omega arith) (omega arith) i ∷ same_range f g (a + 1) n (λ k above below. same k (omega (arith, above)) (omega (arith, below))) i)
+      rw more (λ i. here a (omega arith) (omega arith) i ∷ split_range (a + 1) m n (omega arith) (λ k above below. here k (omega (arith, above)) below) i)

@@ -4,7 +4,6 @@ pub mod Emitted
 pub mod Faults
 pub mod FirstPass
 pub mod Kept
-pub mod KeptWords
 pub mod Layout
 pub mod Listing
 pub mod Meaning

@@ -3,26 +3,21 @@ use Rattle.std.specs.Prelude.{ℕ, ◌+◌, ◌-◌, ◌*◌, ◌/◌, List, [],
 use Rattle.std.specs.{Char.is_ascii_whitespace, List.before_first, List.prefix_len, List.suffix_len, List.range_with_len, List.slice_split}
 use Rattle.rv_source.specs.Listing as source
 use Rattle.rv_source.specs.Listing.{Listed}
-use Rattle.rv_asm.specs.Layout.{Layout, extended, laid, line_in, offset_in, unlaid}
+use Rattle.rv_asm.specs.Kept.{Kept}
+use Rattle.rv_asm.specs.Layout.{Layout, extended, layout, line_in, lines_of, offset_in, unlaid}
 use Rattle.rv_asm.specs.Meaning.{round_up}
 use Rattle.rv_asm.specs.declared.{operation.Section.Section, reach.Reach.Reach}
 use Rattle.rv_asm.specs.declared.operation.Section.TheVariants.{Text, Data}
 
--- bytes from the first on that is no white space
-abbrev pub behind_space : List ℕ → List ℕ
-behind_space bytes = drop (prefix_len is_ascii_whitespace bytes) bytes
+-- bytes from the first on that is no white space up to the last one
+abbrev pub trimmed : List ℕ → List ℕ
+trimmed bytes =
+    let rest = drop (prefix_len is_ascii_whitespace bytes) bytes in
+    take (length rest - suffix_len is_ascii_whitespace rest) rest
 
--- and up to the last one
-abbrev pub before_space : List ℕ → List ℕ
-before_space bytes = take (length bytes - suffix_len is_ascii_whitespace bytes) bytes
-
--- the bytes of a line before a comment, which a number sign begins
-abbrev pub before_comment : List ℕ → List ℕ
-before_comment bytes = before_first (λ byte. byte == 35) bytes
-
--- a line that a listing shows: its number, and its statement without white space at its ends
+-- a line that a listing shows: its number, and its statement, which a number sign ends, without white space at its ends
 abbrev pub shown : ℕ → List ℕ → source.Line
-shown number bytes = record { number = number; text = before_space (behind_space (before_comment bytes)) }
+shown number bytes = record { number = number; text = trimmed (before_first (λ byte. byte == 35) bytes) }
 
 -- the bytes of a line hold an offset of a section: they begin where the section had come before the line, and end where
 -- it has come behind it
@@ -54,10 +49,20 @@ abbrev pub image_lines : Reach → List (List ℕ) → List (Option source.Line)
 image_lines end lines =
     section_lines Text end.text_size lines ++ lines_behind_text end.text_size end.data_size (section_lines Data end.data_size lines)
 
--- the listing of a text at a base
-abbrev pub listed : ℕ → List (List ℕ) → Listed
-listed base lines = record { base = base; words = image_lines (laid unlaid (map line_in lines)).reach lines }
-
--- the listing of a text; a line feed ends a line
+-- the listing of a text at a base; a line feed ends a line
 abbrev pub listing_of : ℕ → List ℕ → Listed
-listing_of base text = listed base (slice_split (λ byte. byte == 10) text)
+listing_of base text = record { base = base; words = image_lines (layout (lines_of text)).reach (slice_split (λ byte. byte == 10) text) }
+
+-- how many words of a section begin between two points of a text
+abbrev pub words_between : Section → Reach → Reach → ℕ
+words_between part before behind = word_count (offset_in part behind) - word_count (offset_in part before)
+
+-- how far the text has come before lines that the program keeps, where it comes as far as this behind them
+abbrev pub reach_before : Reach → List Kept → Reach
+reach_before end [] = end
+reach_before end (line ∷ others) = line.place.reach
+
+-- the words of a section, from the lines that the program keeps; no public clause names these
+abbrev pub words_in : Section → Reach → List Kept → List (Option source.Line)
+words_in part end [] = []
+words_in part end (line ∷ others) = replicate (words_between part line.place.reach (reach_before end others)) (Some (shown line.number line.bytes)) ++ words_in part end others

@@ -88,37 +88,30 @@ instructions (operation.CsrImmediate op) f address v = and_then (natural 4096 f.
 instructions operation.LoadNumber f address v = Ok (load_number f.rd (signed_word v))
 instructions operation.LoadAddress f address v = Ok (load_address f.rd (signed_word (v -ℤ pos address)))
 
--- an instruction stands at a multiple of 4
-abbrev pub aligned : ℕ → List Instr → Result (List Cell) AsmFault
-aligned address made = if address % 4 == 0 then Ok (map Word' made) else Err Misaligned
-
 -- the numbers that data of a width may hold
 abbrev pub fits_width : Width → ℤ → Bool
 fits_width Byte number = is_between (negsuc 127) (pos 255) number
 fits_width Half number = is_between (negsuc 32767) (pos 65535) number
 fits_width Word number = is_between (negsuc 2147483647) (pos 4294967295) number
 
--- the bytes of a number modulo 2 ^ 32, the lowest first
-abbrev pub bytes_at : Width → ℤ → List Cell
-bytes_at width number = map Byte' (take (bytes_of width) (to_le_bytes w32 (modulo_word number)))
+-- the bytes of a number modulo 2 ^ 32, the lowest first, if data of the width may hold it
+abbrev pub bytes_at : Width → ℤ → Result (List Cell) AsmFault
+bytes_at width number =
+    if fits_width width number then Ok (map Byte' (take (bytes_of width) (to_le_bytes w32 (modulo_word number)))) else Err OutOfRange
 
--- the value of an operand of data, or 0 where it has none
-abbrev pub data_value : (List ℕ → Option ℤ) → Operand → ℤ
-data_value value operand = unwrap_or (evaluate value (expression_in operand)) (pos 0)
-
--- the bytes of the values of operands, if each has the width's range
+-- the bytes of the values of operands of data; an operand without a value counts as 0
 abbrev pub data_of : (List ℕ → Option ℤ) → Width → List Operand → Result (List Cell) AsmFault
 data_of value width [] = Ok []
 data_of value width (operand ∷ operands) =
-    if fits_width width (data_value value operand)
-    then and_then (data_of value width operands) (λ others. Ok (bytes_at width (data_value value operand) ++ others))
-    else Err OutOfRange
+    and_then (bytes_at width (unwrap_or (evaluate value (expression_in operand)) (pos 0)))
+    (λ first. and_then (data_of value width operands) (λ others. Ok (first ++ others)))
 
 -- what a statement means, at an offset in a section that starts at an address
 abbrev pub cells : (List ℕ → Option ℤ) → ℕ → ℕ → Statement → Result (List Cell) AsmFault
 cells value start offset (Instruction operation fields expression) =
     and_then (ok_or (evaluate value expression) UnknownSymbol)
-    (λ v. and_then (instructions operation fields (start + offset) v) (aligned (start + offset)))
+    (λ v. and_then (instructions operation fields (start + offset) v)
+    (λ made. if (start + offset) % 4 == 0 then Ok (map Word' made) else Err Misaligned))
 cells value start offset (Values width operands) =
     if list_all (λ operand. is_some (evaluate value (expression_in operand))) operands then data_of value width operands else Err UnknownSymbol
 cells value start offset (Bytes directive operand) = Ok (map Byte' (laid_by directive offset operand))

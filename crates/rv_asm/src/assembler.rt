@@ -35,10 +35,8 @@ fn joined(text_size: usize, data_size: usize, sections: Sections) -> Result<Vec<
         return Ok(text);
     }
     push_zeros(&mut text, gap(text_size))?;
-    match text.extend_from_slice(data_bytes.as_slice()) {
-        Ok(()) => Ok(text),
-        Err(_) => Err(AsmFault::Memory),
-    }
+    text.extend_from_slice(data_bytes.as_slice())?;
+    Ok(text)
 }
 
 /// The image of an assembly text whose text section begins at the base, or its first fault.
@@ -60,12 +58,12 @@ pub fn assemble(alloc: Global, text: &[u8], base: u32) -> Result<Image, AsmError
     };
     let sections = Sections::of_program(alloc, &program)?;
     let start = start_address(&program);
-    match joined(layout.reach.text_size, layout.reach.data_size, sections) {
-        Ok(bytes) => Ok(Image {
-            base,
-            bytes: Bytes::from_vec(bytes),
-            start,
-        }),
-        Err(fault) => Err(AsmError::at(fault, 0)),
-    }
+    let Ok(bytes) = joined(layout.reach.text_size, layout.reach.data_size, sections) else {
+        return Err(AsmError::at(AsmFault::Memory, 0));
+    };
+    Ok(Image {
+        base,
+        bytes: Bytes::from_vec(bytes),
+        start,
+    })
 }

@@ -1,10 +1,9 @@
 ghost use Rattle.std.specs.Prelude.{◌≡◌, ◌≢◌, ◌<◌, ◌∷◌, ◌^◌, [], Err, map, take};
-ghost use Rattle.std.specs.Prelude.{option_to_list, IfOk, IfErr, OnOk, is_some, true, false};
+ghost use Rattle.std.specs.Prelude.{option_to_list, is_some, pos, unwrap_or};
 ghost use Rattle.std.specs.List.{list_all};
 ghost use Rattle.std.specs.Int.{to_le_bytes, w32};
 ghost use Rattle.rv_asm.specs.Emitted.{Appends, AppendsIfRoom, EmitsOrRefuses};
-ghost use Rattle.rv_asm.specs.Meaning.{Byte', Word', bytes_at, data_of, data_value, evaluate};
-ghost use Rattle.rv_asm.specs.Meaning.{fits_width, instructions};
+ghost use Rattle.rv_asm.specs.Meaning.{Word', bytes_at, data_of, evaluate, fits_width, instructions};
 ghost use Rattle.rv_asm.specs.ReadOperand.{expression_of, operand_of, operands_in};
 ghost use Rattle.rv_asm.specs.ReadStatement.{statement_of};
 ghost use Rattle.rv_asm.specs.Statement.{Instruction, expression_in};
@@ -26,8 +25,7 @@ use rv_isa::{Instr, Width};
 fn push_word(out: &mut Vec<u8>, instruction: &Instr) -> Result<(), AsmFault>
     ensures { AppendsIfRoom (Word' instruction.now ∷ []) out.old.items out.new.items result }
 {
-    let word = encode(instruction);
-    let bytes = word.to_le_bytes();
+    let bytes = encode(instruction).to_le_bytes();
     out.extend_from_slice(&bytes)?;
     Ok(())
 }
@@ -59,16 +57,10 @@ fn emit_instruction<'a>(
         (Instruction operation fields (expression_of value.now))) out.old.items out.new.items result }
 {
     let address = program.start_of(reach.section) + reach.offset() as u128;
-    let Some(number) = program.evaluate(value) else {
-        return Err(AsmFault::UnknownSymbol);
-    };
+    let number = program.evaluate(value).ok_or(AsmFault::UnknownSymbol)?;
     match instructions(operation, fields, address, number) {
-        Ok((first, second)) => {
-            if address % 4 != 0 {
-                return Err(AsmFault::Misaligned);
-            }
-            push_words(out, &first, second)
-        }
+        Ok(_) if address % 4 != 0 => Err(AsmFault::Misaligned),
+        Ok((first, second)) => push_words(out, &first, second),
         Err(fault) => Err(fault),
     }
 }
@@ -84,20 +76,14 @@ fn fits_width(width: Width, number: i128) -> bool
     }
 }
 
-/// Appends the bytes of a number modulo 2^32, the lowest first.
+/// Appends the bytes of a number modulo 2^32, the lowest first, if data of the width may hold it.
 fn push_number(out: &mut Vec<u8>, width: Width, number: i128) -> Result<(), AsmFault>
-    ensures { AppendsIfRoom (bytes_at width number) out.old.items out.new.items result }
+    ensures { EmitsOrRefuses (bytes_at width number) out.old.items out.new.items result }
 {
-    let word = modulo_word(number);
-    push_low(out, width, word)?;
-    Ok(())
-}
-
-/// Appends the low bytes of a word, the lowest first.
-fn push_low(out: &mut Vec<u8>, width: Width, word: u32) -> Result<(), AsmFault>
-    ensures { AppendsIfRoom (map Byte' (take (bytes_of width) (to_le_bytes w32 word))) out.old.items out.new.items result }
-{
-    let bytes = word.to_le_bytes();
+    if !fits_width(width, number) {
+        return Err(AsmFault::OutOfRange);
+    }
+    let bytes = modulo_word(number).to_le_bytes();
     let (low, _) = bytes.as_slice().split_at(width.bytes() as usize);
     out.extend_from_slice(low)?;
     Ok(())
@@ -110,40 +96,25 @@ fn are_known<'a>(program: &Program<'_, 'a>, operands: &[Operand<'a>]) -> bool
         (operands_in operands.now) }
 {
     for operand in operands {
-        let expression = expression_in(*operand);
-        if program.evaluate(&expression).is_none() {
+        if program.evaluate(&expression_in(*operand)).is_none() {
             return false;
         }
     }
     true
 }
 
-/// Appends the value of an operand.
+/// Appends the value of an operand; one without a value counts as 0.
 fn emit_value<'a>(
     program: &Program<'_, 'a>,
     width: Width,
     operand: &Operand<'a>,
     out: &mut Vec<u8>,
 ) -> Result<(), AsmFault>
-    ensures fits { IfOk result (λ _.
-        fits_width width (data_value (value_in program.now) (operand_of operand.now)) ≡ true) }
-    ensures pushed { OnOk result (Appends
-        (bytes_at width (data_value (value_in program.now) (operand_of operand.now)))
-        out.old.items out.new.items) }
-    ensures misfits { IfErr result (λ fault. fault ≢ AsmFault.Memory →
-        fits_width width (data_value (value_in program.now) (operand_of operand.now)) ≡ false) }
-    ensures refused { IfErr result (λ fault. fault ≢ AsmFault.Memory → fault ≡ AsmFault.OutOfRange) }
+    ensures { EmitsOrRefuses (bytes_at width (unwrap_or (evaluate (value_in program.now)
+        (expression_in (operand_of operand.now))) (pos 0))) out.old.items out.new.items result }
 {
-    let expression = expression_in(*operand);
-    let number = match program.evaluate(&expression) {
-        Some(number) => number,
-        None => 0,
-    };
-    if !fits_width(width, number) {
-        return Err(AsmFault::OutOfRange);
-    }
-    push_number(out, width, number)?;
-    Ok(())
+    let number = program.evaluate(&expression_in(*operand)).unwrap_or(0);
+    push_number(out, width, number)
 }
 
 /// Appends the values of operands.
@@ -156,20 +127,16 @@ fn emit_values<'a>(
     ensures { EmitsOrRefuses (data_of (value_in program.now) width
         (operands_in operands.now)) out.old.items out.new.items result }
 {
-    let mut count = 0;
-    loop {
-        let (_, rest) = operands.split_at(count);
-        let Some((operand, _others)) = rest.split_first() else {
-            return Ok(());
-        };
+    for operand in operands {
         if let Err(fault) = emit_value(program, width, operand, out) {
             return Err(fault);
         }
-        count += 1;
     }
+    Ok(())
 }
 
 /// Appends what a statement means.
+#[tactic(auto, using(crate::proofs::Emitted::emits_nothing))]
 pub fn emit<'a>(
     program: &Program<'_, 'a>,
     reach: Reach,
@@ -184,16 +151,11 @@ pub fn emit<'a>(
         Statement::Instruction(operation, fields, value) => emit_instruction(
             program, reach, *operation, *fields, value, out,
         ),
-        Statement::Values(width) => {
-            if are_known(program, operands) {
-                emit_values(program, *width, operands, out)
-            } else {
-                Err(AsmFault::UnknownSymbol)
-            }
+        Statement::Values(width) if are_known(program, operands) => {
+            emit_values(program, *width, operands, out)
         }
+        Statement::Values(_) => Err(AsmFault::UnknownSymbol),
         Statement::Bytes(directive, operand) => directive.push(reach.offset(), *operand, out),
-        Statement::Nothing => Ok(()),
-        Statement::Choice(_) => Ok(()),
-        Statement::Constant(_, _) => Ok(()),
+        Statement::Nothing | Statement::Choice(_) | Statement::Constant(_, _) => Ok(()),
     }
 }

@@ -1,9 +1,9 @@
 ghost use Rattle.std.specs.Prelude.{◌≡◌, ◌-◌, ◌++◌, Some, None, IfOk, IfErr, replicate};
 ghost use Rattle.rv_asm.specs.Answer.{RefusedAt};
 ghost use Rattle.rv_asm.specs.Faults.{first_fault_of};
-ghost use Rattle.rv_asm.specs.KeptWords.{reach_before, words_between, words_in};
 ghost use Rattle.rv_asm.specs.Layout.{lines_of};
-ghost use Rattle.rv_asm.specs.Listing.{before_comment, listing_of, lines_behind_text, shown, word_count};
+ghost use Rattle.rv_asm.specs.Listing.{lines_behind_text, listing_of, reach_before, shown, word_count};
+ghost use Rattle.rv_asm.specs.Listing.{words_between, words_in};
 ghost use Rattle.rv_asm.specs.Meaning.{round_up};
 ghost use Rattle.rv_asm.specs.Symbols.{kept_in};
 
@@ -37,20 +37,13 @@ fn words_of_gap(text_size: usize) -> usize
     ((rounded + 3) / 4 - (text_size as u128 + 3) / 4) as usize
 }
 
-/// The bytes of a line before its first `#`.
-fn before_comment(line: &[u8]) -> &[u8]
-    ensures { result.now ≡ before_comment line.now }
-{
-    let (statement, _) = line.split_at(length_before(b'#', line));
-    statement
-}
-
 /// The line as a listing shows it: without its comment, and without white space at its ends.
 fn shown(alloc: Global, line: TextLine<'_>) -> Result<SourceLine, AllocError>
     ensures { IfOk result (λ source. source ≡ shown line.entry.number line.entry.bytes.now) }
 {
     let mut text = Vec::new(alloc);
-    text.extend_from_slice(before_comment(line.bytes).trim_ascii())?;
+    let (statement, _) = line.bytes.split_at(length_before(b'#', line.bytes));
+    text.extend_from_slice(statement.trim_ascii())?;
     Ok(SourceLine::new(line.number, text))
 }
 
@@ -77,10 +70,7 @@ fn push_words(
 fn reach_before(end: Reach, records: &[Record<'_>]) -> Reach
     ensures { result ≡ reach_before end (kept_in records.now) }
 {
-    match records.first() {
-        Some(record) => record.reach,
-        None => end,
-    }
+    records.first().map_or(end, |record| record.reach)
 }
 
 /// Appends the words of a section.
@@ -95,32 +85,12 @@ fn push_section(
           ++ words_in section layout.now.reach (kept_in layout.now.records.items);
     }) }
 {
-    let records = layout.records.as_slice();
-    let mut count = 0;
-    loop {
-        let (_, rest) = records.split_at(count);
-        let Some((record, others)) = rest.split_first() else {
-            return Ok(());
-        };
+    let mut rest = layout.records.as_slice();
+    while let [record, others @ ..] = rest {
         let words = words_between(section, record.reach, reach_before(layout.reach, others));
         push_words(alloc, record.line, words, listing)?;
-        count += 1;
+        rest = others;
     }
-}
-
-/// Appends the zero bytes behind the text, and the data.
-fn push_data(alloc: Global, layout: &Layout<'_>, listing: &mut Listing) -> Result<(), AllocError>
-    ensures { IfOk result (λ _. listing.new ≡ record listing.old {
-      words = listing.old.words
-          ++ lines_behind_text layout.now.reach.text_size layout.now.reach.data_size
-          (words_in Section.Data layout.now.reach (kept_in layout.now.records.items));
-    }) }
-{
-    if layout.reach.data_size == 0 {
-        return Ok(());
-    }
-    listing.push_gap(words_of_gap(layout.reach.text_size))?;
-    push_section(alloc, layout, Section::Data, listing)?;
     Ok(())
 }
 
@@ -136,7 +106,11 @@ fn listing_of(alloc: Global, layout: &Layout<'_>, base: u32) -> Result<Listing, 
 {
     let mut listing = Listing::new(alloc, base);
     push_section(alloc, layout, Section::Text, &mut listing)?;
-    push_data(alloc, layout, &mut listing)?;
+    if layout.reach.data_size == 0 {
+        return Ok(listing);
+    }
+    listing.push_gap(words_of_gap(layout.reach.text_size))?;
+    push_section(alloc, layout, Section::Data, &mut listing)?;
     Ok(listing)
 }
 

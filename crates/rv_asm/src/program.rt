@@ -35,13 +35,12 @@ impl<'l, 'a> Program<'l, 'a> {
         ensures least { IfSome result (λ v. negsuc (2 ^ 70) ≤ℤ v) }
         ensures greatest { IfSome result (λ v. v ≤ℤ pos (2 ^ 70)) }
     {
-        match self.layout.symbols.get(name) {
-            Some(Definition::Label(section, offset)) => {
-                Some((self.start_of(section) + offset as u128) as i128)
+        Some(match self.layout.symbols.get(name)? {
+            Definition::Label(section, offset) => {
+                (self.start_of(section) + offset as u128) as i128
             }
-            Some(Definition::Constant(number)) => Some(i128::from(number)),
-            None => None,
-        }
+            Definition::Constant(number) => i128::from(number),
+        })
     }
 
     /// The value of an expression.

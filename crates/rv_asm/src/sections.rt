@@ -23,20 +23,14 @@ use std::alloc::Global;
 pub fn start_address(program: &Program<'_, '_>) -> u32
     ensures { result ≡ start_address program.now.base (layout_of program.now.layout.now) }
 {
-    match program.value_of(START) {
-        Some(value) => modulo_word(value),
-        None => program.base,
-    }
+    program.value_of(START).map_or(program.base, modulo_word)
 }
 
 /// Whether a statement is a `.equ` of `_start`.
 fn constant_starts(statement: &Statement<'_>) -> bool
     ensures { (operands : List Operand) → result ≡ constant_starts (Ok (statement_of operands statement.now)) }
 {
-    match statement {
-        Statement::Constant(name, _) => is_start(name),
-        _ => false,
-    }
+    matches!(statement, Statement::Constant(name, _) if is_start(name))
 }
 
 /// Appends what a line means.
@@ -73,17 +67,6 @@ pub struct Sections {
 }
 
 impl Sections {
-    /// No bytes.
-    fn new(alloc: Global) -> Self
-        ensures text { result.text.items ≡ [] }
-        ensures data_bytes { result.data_bytes.items ≡ [] }
-    {
-        Sections {
-            text: Vec::new(alloc),
-            data_bytes: Vec::new(alloc),
-        }
-    }
-
     /// Appends what a line means to the section that it stands in.
     fn add<'a>(&mut self, program: &Program<'_, 'a>, line: &Record<'a>) -> Result<(), AsmFault>
         ensures text { OnOk result (Appends (parts_in Section.Text line.now.reach.section
@@ -115,7 +98,10 @@ impl Sections {
             (kept_in program.now.layout.now.records.items)) result }
         ensures memory { IfErr result (λ error. error.fault ≡ AsmFault.Memory → error.line ≡ 0) }
     {
-        let mut sections = Sections::new(alloc);
+        let mut sections = Sections {
+            text: Vec::new(alloc),
+            data_bytes: Vec::new(alloc),
+        };
         for line in &program.layout.records {
             if let Err(fault) = sections.add(program, line) {
                 return Err(AsmError::at(fault, line.line.number));

@@ -1,14 +1,13 @@
-use Rattle.std.proofs.Common.{◌≤◌, ◌-◌, drop, length}
-use Rattle.rv_asm.proofs.Words.{Pushed}
+use Rattle.std.proofs.Common.{◌≡◌, ◌++◌, length}
+use Rattle.rv_asm.specs.Listing.{words_in}
 use Rattle.rv_asm.specs.Symbols.{kept_in}
 use Rattle.rv_asm.proofs.listing.push_section.Given as goal
 
--- the words so far are pushed
-abbrev pub invariant-loop-record : goal.invariant-loop-record
-invariant-loop-record l = record {
-  in_range : l.count ≤ length l.records;
-  pushed : Pushed l.section l.layout.reach (kept_in l.records) (kept_in (drop l.count l.records)) l.initial.listing l.listing;
-}
+-- the words of the rest complete those of all records
+abbrev pub invariant-loop-rest : goal.invariant-loop-rest
+invariant-loop-rest l =
+    record l.listing { words = l.listing.words ++ words_in l.section l.layout.reach (kept_in l.rest) }
+    ≡ record l.initial.listing { words = l.initial.listing.words ++ words_in l.section l.layout.reach (kept_in l.layout.records.items) }
 
-abbrev pub decreases-loop-record : goal.decreases-loop-record
-decreases-loop-record l = length l.records - l.count
+abbrev pub decreases-loop-rest : goal.decreases-loop-rest
+decreases-loop-rest l = length l.rest
