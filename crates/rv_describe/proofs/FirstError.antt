@@ -1,8 +1,9 @@
 -- A table has no first error exactly where every name is known and no key has a fault.
-use Rattle.std.proofs.Common.{◌≡◌, ℕ, zero, suc, ◌+◌, Bool, true, false, List, [], ◌∷◌, Option, Some, None, IsNone, IsOk, Ok, Err, Result, inl, inr, refl, ◌↔◌, if◌then◌else◌}
+use Rattle.std.proofs.Common.{◌≡◌, ℕ, zero, suc, ◌+◌, Bool, true, false, List, [], ◌∷◌, Option, Some, None, IsNone, IsOk, Ok, Err, Result, inl, inr, refl, sym, ◌∙◌, ◌↔◌, if◌then◌else◌}
 use Rattle.std.specs.Option.{option_map, option_or, option_map_or}
 use Rattle.std.specs.List.{position_from, slice_get}
 use Rattle.std.proofs.lemmas.Bool.{cases_Bool}
+use Rattle.std.proofs.lemmas.Option.{same_Some}
 use Rattle.toml.specs.Data.{Members}
 use Rattle.rv_isa.specs.declared.values.Values.{Values}
 use Rattle.rv_describe.specs.declared.description_error.DescriptionError.{DescriptionError}
@@ -10,7 +11,7 @@ use Rattle.rv_describe.specs.declared.description_error.DescriptionError.TheVari
 use Rattle.rv_describe.specs.declared.faults.ValueFault.{ValueFault}
 use Rattle.rv_describe.specs.declared.faults.ValueFault.TheVariants.{WrongKind, OutOfRange, NotPowerOfTwo}
 use Rattle.rv_isa.specs.declared.keys.Key.{Key}
-use Rattle.rv_describe.specs.Description.{first_error, described, description_of}
+use Rattle.rv_describe.specs.Description.{first_error, described}
 use Rattle.rv_describe.specs.Document.{document}
 use Rattle.rv_describe.specs.Fault.{key_fault, is_fault, first_place}
 use Rattle.rv_isa.specs.Key.{order}
@@ -83,14 +84,11 @@ no_error : (found : Option DescriptionError) (values : Values) → IsOk {T = Val
 no_error None values ok = refl
 no_error (Some e) values ok = absurd (cc)
 
-read : (bytes : List ℕ) (found : Option Members) → document bytes ≡ found → IsOk (option_map_or described found (Err error.NotToml)) → IsLegalText bytes
-read bytes None is ok = absurd (cc)
-read bytes (Some t) is ok = (t, is, faultless t (no_error (first_error t) (values_of t) ok))
-
--- the bytes describe a machine exactly where they are a legal text
-pub description_of-legal : (bytes : List ℕ) (answer : Result Values DescriptionError) → answer ≡ description_of bytes → IsOk answer ↔ IsLegalText bytes
-unfolding description_of
-description_of-legal bytes answer is = (
-  λ ok. read bytes (document bytes) refl (rw is at ok),
-  λ legal. rw (is, legal.1, first_error-faultless legal.0 legal.2),
+-- a machine is described exactly where the bytes are a legal text
+pub described-legal : (bytes : List ℕ) (t : Members) (answer : Result Values DescriptionError) → Some t ≡ document bytes → answer ≡ described t → IsOk answer ↔ IsLegalText bytes
+described-legal bytes t answer is_text is = (
+  λ ok. (t, sym is_text, faultless t (no_error (first_error t) (values_of t) (rw is at ok))),
+  λ legal.
+      let same : t ≡ legal.0 = same_Some _ _ (is_text ∙ legal.1) in
+      rw (is, same, first_error-faultless legal.0 legal.2),
 )

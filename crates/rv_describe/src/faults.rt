@@ -39,7 +39,7 @@ fn number_fault(bounds: Bounds, size: u32, value: &Value) -> Option<ValueFault>
 }
 
 // What is wrong with a choice, given what its name names, if it is a name.
-fn choice_fault<X: Copy>(named: Option<Option<X>>) -> Option<ValueFault>
+pub fn choice_fault<X: Copy>(named: Option<Option<X>>) -> Option<ValueFault>
     ensures { result ≡ choice_fault named }
 {
     match named {
@@ -79,7 +79,7 @@ fn key_fault(table: &Table, key: Key) -> Option<ValueFault>
     }
 }
 
-fn is_fault(found: Option<ValueFault>, fault: ValueFault) -> bool
+pub fn is_fault(found: Option<ValueFault>, fault: ValueFault) -> bool
     ensures { result ≡ is_fault found fault }
 {
     match found {

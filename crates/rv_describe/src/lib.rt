@@ -7,6 +7,7 @@ mod arrival_list;
 mod arrivals_error;
 mod description;
 mod description_error;
+mod document;
 mod entries;
 mod entry;
 mod faults;
