@@ -4,7 +4,7 @@ use Rattle.std.specs.{List.filter_map, List.list_any, List.position, Option.opti
 use Rattle.toml.specs.Data.{Data, get, as_integer, as_str, as_table}
 use Rattle.rv_isa.specs.declared.lines.{Line.Line, Arrival.Arrival}
 use Rattle.rv_isa.specs.declared.lines.Line.TheVariants.{Software, Timer, External}
-use Rattle.rv_describe.specs.{Fault.choice_fault, Fault.is_fault, Names.has_other_name}
+use Rattle.rv_describe.specs.{Fault.choice_fault, Fault.is_fault, Unknown.has_other_name}
 use Rattle.rv_describe.specs.declared.{arrivals_error.ArrivalsError.ArrivalsError, faults.ValueFault.ValueFault}
 use Rattle.rv_describe.specs.declared.arrivals_error.ArrivalsError.TheVariants.{UnknownKey, WrongKind, OutOfRange, Unsorted}
 use Rattle.rv_describe.specs.declared.faults.ValueFault.TheVariants as fault

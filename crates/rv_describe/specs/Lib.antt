@@ -3,8 +3,5 @@ pub mod Description
 pub mod Document
 pub mod Entries
 pub mod Fault
-pub mod Held
-pub mod Legal
-pub mod Names
 pub mod Setting
 pub mod Unknown

@@ -1,22 +1,18 @@
 -- The values that a table of TOML gives a machine.
 use Rattle.std.specs.Prelude.{ℕ, ℤ, pos, negsuc, Bool, Option, Some, None, unwrap_or, option_and_then, nat_lt, if◌then◌else◌}
-use Rattle.toml.specs.Data.{Data, Members, as_integer, as_bool, as_str}
+use Rattle.toml.specs.Data.{Members, as_integer, as_bool, as_str}
 use Rattle.rv_isa.specs.PerKind.{at_kind}
-use Rattle.rv_isa.specs.declared.{keys.Key.Key, keys.NumberKey.NumberKey, operations.Kind.Kind, values.PredictorKind.PredictorKind as Prediction, values.Recovery.Recovery as Mending, values.Values.Values}
+use Rattle.rv_isa.specs.declared.{keys.NumberKey.NumberKey, operations.Kind.Kind, values.PredictorKind.PredictorKind as Prediction, values.Recovery.Recovery as Mending, values.Values.Values}
 use Rattle.rv_isa.specs.declared.keys.Key.TheVariants.{Number, Recovery, Pipelined, PredictorKind}
 use Rattle.rv_isa.specs.Choice.{recovery_named, predictor_named}
-use Rattle.rv_isa.specs.Key.{number_of, key_place, values_with}
+use Rattle.rv_isa.specs.Key.{number_of, values_with}
 use Rattle.rv_isa.specs.Standard.{standard_values}
-use Rattle.rv_describe.specs.Held.{held, value_in}
+use Rattle.rv_describe.specs.Document.{value_at}
 
 -- an integer as a word
 abbrev pub word_of : ℤ → Option ℕ
 word_of (pos number) = if nat_lt number 4294967296 then Some number else None
 word_of (negsuc number) = None
-
--- the value at a key
-abbrev pub value_at : Members → Key → Option Data
-value_at members key = value_in (held members (key_place key))
 
 -- the number at a key, or else the standard machine's
 unfoldable pub number : Members → NumberKey → ℕ

@@ -11,7 +11,7 @@ use crate::arrivals_error::ArrivalsError;
 use crate::document::document;
 use crate::entries::read_entries;
 use crate::held::get;
-use crate::names::has_other_name;
+use crate::unknown::has_other_name;
 use rv_isa::Arrivals;
 use std::alloc::Global;
 use toml::Table;

@@ -1,8 +1,7 @@
 ghost use Rattle.std.specs.Prelude.{◌≡◌, ◌≢◌, ◌↔◌, IsNone, IsOk, Err};
 ghost use Rattle.toml.specs.Errors.{IsBlank};
 ghost use Rattle.toml.specs.View.{table_view};
-ghost use Rattle.rv_describe.specs.Description.{described, description_of, value_error, first_error};
-ghost use Rattle.rv_describe.specs.Legal.{IsLegalText};
+ghost use Rattle.rv_describe.specs.Description.{described, description_of, value_error, first_error, IsLegalText};
 ghost use Rattle.rv_describe.specs.Setting.{values_of};
 
 use crate::description_error::DescriptionError;

@@ -2,7 +2,7 @@ ghost use Rattle.std.specs.Prelude.{◌≡◌};
 ghost use Rattle.toml.specs.View.{view};
 ghost use Rattle.rv_describe.specs.Entries.{arrival_of, arrival_with, cycle_of, has_unknown_field, level_of, line_named, reading_of};
 
-use crate::names::has_other_name;
+use crate::unknown::has_other_name;
 use rv_isa::{Arrival, LAST_CYCLE, Line};
 use toml::Value;
 

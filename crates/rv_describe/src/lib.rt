@@ -12,10 +12,8 @@ mod entries;
 mod entry;
 mod faults;
 mod held;
-mod names;
 mod settings;
 mod unknown;
-mod words;
 
 pub use arrival_list::read_arrivals;
 pub use arrivals_error::ArrivalsError;

@@ -2,15 +2,22 @@ ghost use Rattle.std.specs.Prelude.{◌≡◌, option_and_then, option_copied};
 ghost use Rattle.toml.specs.Data.{as_str};
 ghost use Rattle.toml.specs.View.{table_view};
 ghost use Rattle.rv_isa.specs.Key.{kind_with};
-ghost use Rattle.rv_describe.specs.Setting.{value_at, number, is_pipelined, recovery, predictor, values_of};
+ghost use Rattle.rv_describe.specs.Document.{value_at};
+ghost use Rattle.rv_describe.specs.Setting.{number, is_pipelined, recovery, predictor, values_of, word_of};
 
 use crate::held::value_at;
-use crate::words::word_of;
 use rv_isa::{
     CacheValues, Key, Kind, KindKey, KindValues, NumberKey, PerKind, PredictorKind,
     PredictorValues, Recovery, ReportValues, Values,
 };
 use toml::Table;
+
+/// An integer as a word, if it fits one.
+pub fn word_of(number: i64) -> Option<u32>
+    ensures { result ≡ word_of number }
+{
+    u32::try_from(number).ok()
+}
 
 /// The number at a key, or else the standard machine's.
 #[tactic(auto, unfolding(crate::specs::Setting::number))]
@@ -74,19 +81,6 @@ fn kind_values(table: &Table, kind: Kind) -> KindValues
     }
 }
 
-fn cache(table: &Table) -> CacheValues
-    ensures { result ≡ (values_of (table_view table.now)).cache }
-{
-    CacheValues {
-        sets: number(table, NumberKey::CacheSets),
-        ways: number(table, NumberKey::CacheWays),
-        line: number(table, NumberKey::CacheLine),
-        hit: number(table, NumberKey::CacheHit),
-        miss: number(table, NumberKey::CacheMiss),
-        write_back: number(table, NumberKey::CacheWriteBack),
-    }
-}
-
 /// The values that a table gives, where the standard ones are the defaults.
 pub fn values(table: &Table) -> Values
     ensures { result ≡ values_of (table_view table.now) }
@@ -110,7 +104,14 @@ pub fn values(table: &Table) -> Values
             div: kind_values(table, Kind::Div),
             mem: kind_values(table, Kind::Mem),
         },
-        cache: cache(table),
+        cache: CacheValues {
+            sets: number(table, NumberKey::CacheSets),
+            ways: number(table, NumberKey::CacheWays),
+            line: number(table, NumberKey::CacheLine),
+            hit: number(table, NumberKey::CacheHit),
+            miss: number(table, NumberKey::CacheMiss),
+            write_back: number(table, NumberKey::CacheWriteBack),
+        },
         predictor: PredictorValues {
             kind: predictor(table),
             entries: number(table, NumberKey::PredictorEntries),

@@ -1,4 +1,4 @@
-use Rattle.rv_describe.proofs.FirstError.{described-legal}
+use Rattle.rv_describe.proofs.Legal.{described-legal}
 use Rattle.rv_describe.proofs.description.read_description.Goals as goal
 
 pub returns-in-Ok-Some-clause-legal : goal.returns-in-Ok-Some-clause-legal
