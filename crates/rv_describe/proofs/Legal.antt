@@ -22,7 +22,7 @@ use Rattle.rv_describe.specs.declared.faults.ValueFault.TheVariants.{WrongKind, 
 use Rattle.rv_describe.specs.Description.{IsFaultless, IsLegalText, described, first_error}
 use Rattle.rv_describe.specs.Document.{document, held}
 use Rattle.rv_describe.specs.Fault.{first_place, is_fault, key_fault, number_fault, value_fault}
-use Rattle.rv_describe.specs.Setting.{is_pipelined, number, predictor, recovery, values_of, word_of}
+use Rattle.rv_describe.specs.Setting.{is_pipelined, number, values_of, word_of}
 use Rattle.rv_describe.specs.Unknown.{has_unknown}
 
 -- where there is no first element that passes, none does
@@ -72,8 +72,7 @@ first_error-faultless t legal =
 
 -- what is described without an error has none
 no_error : (found : Option DescriptionError) (values : Values) → IsOk {T = Values} {E = DescriptionError} (option_map_or Err found (Ok values)) → IsNone found
-no_error None values ok = refl
-no_error (Some e) values ok = absurd (cc)
+no_error found values ok = grind arith
 
 -- a machine is described exactly where the bytes are a legal text
 pub described-legal : (bytes : List ℕ) (t : Members) (answer : Result Values DescriptionError) → Some t ≡ document bytes → answer ≡ described t → IsOk answer ↔ IsLegalText bytes
@@ -87,11 +86,7 @@ described-legal bytes t answer is_text is = (
 -- the number that is held, or the default, is taken where it has no fault
 word_taken : (bounds : Bounds) (size default : ℕ) (word : Option ℕ) → number_fault bounds size (Some word) ≡ None → takes bounds size default ≡ true → takes bounds size (unwrap_or word default) ≡ true
 word_taken bounds size default None none base = base
-word_taken bounds size default (Some n) none base =
-    elim (cases_Bool (takes bounds size n)) [
-      | inl fits ↦ fits
-      | inr fails ↦ let fault = rw fails at none in absurd (cc)
-    ]
+word_taken bounds size default (Some n) none base = grind arith
 
 integer_taken : (bounds : Bounds) (size default : ℕ) (integer : Option ℤ) → number_fault bounds size (option_map word_of integer) ≡ None → takes bounds size default ≡ true
     → takes bounds size (unwrap_or (option_and_then word_of integer) default) ≡ true
@@ -111,7 +106,7 @@ taken t legal key =
 
 pub values_of-legal : (t : Members) → IsFaultless t → ObeysEachKey (values_of t)
 values_of-legal t legal (Number key) =
-    rw (number_of-values_with (number t) (is_pipelined t) (recovery t) (predictor t) key) (taken t legal key)
+    rw (number_of-values_with (number t) (is_pipelined t) (values_of t).recovery (values_of t).predictor.kind key) (taken t legal key)
 values_of-legal t legal Recovery = refl
 values_of-legal t legal (Pipelined kind) = refl
 values_of-legal t legal PredictorKind = refl
