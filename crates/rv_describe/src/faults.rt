@@ -9,7 +9,7 @@ use rv_isa::{Bounds, Key, NumberKey, PredictorKind, Recovery, all_keys};
 use toml::{Table, Value};
 
 /// What is wrong with a value.
-#[derive(Clone, Copy)]
+#[derive(Clone, Copy, PartialEq, Eq)]
 pub enum ValueFault {
     WrongKind,
     OutOfRange,
@@ -70,12 +70,7 @@ fn key_fault(table: &Table, key: Key) -> Option<ValueFault>
 pub fn is_fault(found: Option<ValueFault>, fault: ValueFault) -> bool
     ensures { result ≡ is_fault found fault }
 {
-    match found {
-        Some(ValueFault::WrongKind) => matches!(fault, ValueFault::WrongKind),
-        Some(ValueFault::OutOfRange) => matches!(fault, ValueFault::OutOfRange),
-        Some(ValueFault::NotPowerOfTwo) => matches!(fault, ValueFault::NotPowerOfTwo),
-        None => false,
-    }
+    found == Some(fault)
 }
 
 fn first_among(keys: &[Key], table: &Table, fault: ValueFault) -> Option<usize>

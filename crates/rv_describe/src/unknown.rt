@@ -74,10 +74,9 @@ fn unknown_among(name: &str, table: &Table) -> bool
 fn unknown_within(name: &str, value: &Value) -> bool
     ensures { result ≡ unknown_within name.now (view value.now) }
 {
-    match value.as_table() {
-        Some(table) => unknown_among(name, table),
-        None => false,
-    }
+    value
+        .as_table()
+        .is_some_and(|table| unknown_among(name, table))
 }
 
 fn unknown_at_top(name: &str, value: &Value) -> bool
