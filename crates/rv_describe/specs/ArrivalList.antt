@@ -5,7 +5,7 @@ use Rattle.toml.specs.Data.{Data, Items, no_items, item, Members, get_member, as
 use Rattle.rv_isa.specs.declared.lines.Arrival.{Arrival}
 use Rattle.rv_describe.specs.Document.{document}
 use Rattle.rv_describe.specs.Entries.{entries_meaning}
-use Rattle.rv_describe.specs.Names.{has_other_name}
+use Rattle.rv_describe.specs.Unknown.{has_other_name}
 use Rattle.rv_describe.specs.declared.arrivals_error.ArrivalsError.{ArrivalsError}
 use Rattle.rv_describe.specs.declared.arrivals_error.ArrivalsError.TheVariants.{NotToml, UnknownKey, WrongKind}
 

@@ -1,13 +1,13 @@
--- What the bytes of a description say.
-use Rattle.std.specs.Prelude.{ℕ, List, Option, Some, Result, Ok, Err, if◌then◌else◌}
+-- What the bytes of a description say, and which are legal.
+use Rattle.std.specs.Prelude.{◌≡◌, false, ℕ, List, Option, Some, None, Result, Ok, Err, if◌then◌else◌}
 use Rattle.std.specs.Option.{option_map, option_or, option_map_or}
 use Rattle.toml.specs.Data.{Members}
-use Rattle.rv_isa.specs.declared.values.Values.{Values}
+use Rattle.rv_isa.specs.declared.{keys.Key.Key, values.Values.Values}
 use Rattle.rv_describe.specs.declared.description_error.DescriptionError.{DescriptionError}
 use Rattle.rv_describe.specs.declared.description_error.DescriptionError.TheVariants as error
 use Rattle.rv_describe.specs.declared.faults.ValueFault.TheVariants.{WrongKind, OutOfRange, NotPowerOfTwo}
 use Rattle.rv_describe.specs.Document.{document}
-use Rattle.rv_describe.specs.Fault.{first_place}
+use Rattle.rv_describe.specs.Fault.{first_place, key_fault}
 use Rattle.rv_describe.specs.Setting.{values_of}
 use Rattle.rv_describe.specs.Unknown.{has_unknown}
 
@@ -30,3 +30,12 @@ described members = option_map_or Err (first_error members) (Ok (values_of membe
 -- what the bytes describe: bytes that give no table are no TOML
 unfoldable pub description_of : List ℕ → Result Values DescriptionError
 description_of bytes = option_map_or described (document bytes) (Err error.NotToml)
+
+-- every name is known, and no key has a fault
+pub record IsFaultless (members : Members) : Type 0 where
+  pub known : has_unknown members ≡ false
+  pub keys : (key : Key) → key_fault members key ≡ None
+
+-- the bytes are the text of such a table
+abbrev pub IsLegalText : List ℕ → Type 0
+IsLegalText bytes = (members : Members) × (document bytes ≡ Some members) × IsFaultless members

@@ -2,10 +2,6 @@ pub mod ArrivalList
 pub mod Description
 pub mod Document
 pub mod Entries
-pub mod Entry
 pub mod Fault
-pub mod Held
-pub mod Legal
-pub mod Names
 pub mod Setting
 pub mod Unknown

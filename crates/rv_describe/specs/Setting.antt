@@ -1,22 +1,18 @@
 -- The values that a table of TOML gives a machine.
-use Rattle.std.specs.Prelude.{ℕ, ℤ, pos, negsuc, Bool, Option, Some, None, unwrap_or, option_and_then, nat_lt, if◌then◌else◌}
-use Rattle.toml.specs.Data.{Data, Members, as_integer, as_bool, as_str}
+use Rattle.std.specs.Prelude.{ℕ, ℤ, pos, negsuc, Bool, List, Option, Some, None, unwrap_or, option_and_then, nat_lt, if◌then◌else◌}
+use Rattle.toml.specs.Data.{Members, as_integer, as_bool, as_str}
 use Rattle.rv_isa.specs.PerKind.{at_kind}
-use Rattle.rv_isa.specs.declared.{keys.Key.Key, keys.NumberKey.NumberKey, operations.Kind.Kind, values.PredictorKind.PredictorKind as Prediction, values.Recovery.Recovery as Mending, values.Values.Values}
+use Rattle.rv_isa.specs.declared.{keys.Key.Key, keys.NumberKey.NumberKey, operations.Kind.Kind, values.Values.Values}
 use Rattle.rv_isa.specs.declared.keys.Key.TheVariants.{Number, Recovery, Pipelined, PredictorKind}
 use Rattle.rv_isa.specs.Choice.{recovery_named, predictor_named}
-use Rattle.rv_isa.specs.Key.{number_of, key_place, values_with}
+use Rattle.rv_isa.specs.Key.{number_of, values_with}
 use Rattle.rv_isa.specs.Standard.{standard_values}
-use Rattle.rv_describe.specs.Held.{held, value_in}
+use Rattle.rv_describe.specs.Document.{value_at}
 
 -- an integer as a word
 abbrev pub word_of : ℤ → Option ℕ
 word_of (pos number) = if nat_lt number 4294967296 then Some number else None
 word_of (negsuc number) = None
-
--- the value at a key
-abbrev pub value_at : Members → Key → Option Data
-value_at members key = value_in (held members (key_place key))
 
 -- the number at a key, or else the standard machine's
 unfoldable pub number : Members → NumberKey → ℕ
@@ -28,16 +24,12 @@ unfoldable pub is_pipelined : Members → Kind → Bool
 is_pipelined members kind =
     unwrap_or (option_and_then as_bool (value_at members (Pipelined kind))) (at_kind kind standard_values.kinds).pipelined
 
--- the way to mend wrong predictions
-unfoldable pub recovery : Members → Mending
-recovery members =
-    unwrap_or (option_and_then recovery_named (option_and_then as_str (value_at members Recovery))) standard_values.recovery
-
--- the predictor
-unfoldable pub predictor : Members → Prediction
-predictor members =
-    unwrap_or (option_and_then predictor_named (option_and_then as_str (value_at members PredictorKind))) standard_values.predictor.kind
+-- the choice at a key that names it, or else the standard machine's
+unfoldable pub choice : {X : Type 0} → (List ℕ → Option X) → Key → X → Members → X
+choice named key default members = unwrap_or (option_and_then named (option_and_then as_str (value_at members key))) default
 
 -- the values that a table gives, where the standard ones are the defaults
 abbrev pub values_of : Members → Values
-values_of members = values_with (number members) (is_pipelined members) (recovery members) (predictor members)
+values_of members =
+    values_with (number members) (is_pipelined members) (choice recovery_named Recovery standard_values.recovery members)
+    (choice predictor_named PredictorKind standard_values.predictor.kind members)

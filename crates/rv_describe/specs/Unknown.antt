@@ -1,9 +1,17 @@
--- The names of a table of TOML that a description does not know.
+-- The names of a table of TOML, and those that a description does not know.
 use Rattle.std.specs.Prelude.{ℕ, Bool, true, false, not, ◌&&◌, ◌||◌, List, Option, Some, None}
 use Rattle.std.specs.{List.list_any, Str.bytes_eq}
-use Rattle.toml.specs.Data.{Data, table, Members}
+use Rattle.toml.specs.Data.{Data, table, Members, no_members, member}
 use Rattle.rv_isa.specs.Key.{key_place, order}
-use Rattle.rv_describe.specs.Names.{any_member}
+
+-- some name of a table passes a test, with its value
+abbrev pub any_member : (List ℕ → Data → Bool) → Members → Bool
+any_member test no_members = false
+any_member test (member name value later) = test name value || any_member test later
+
+-- some name of the table is none of these
+abbrev pub has_other_name : List (List ℕ) → Members → Bool
+has_other_name names members = any_member (λ name value. not (list_any (bytes_eq name) names)) members
 
 -- the same place of keys: the top level, or the table of a name
 abbrev pub same_table : Option (List ℕ) → Option (List ℕ) → Bool

@@ -8,9 +8,10 @@ ghost use Rattle.rv_describe.specs.ArrivalList.{listed_arrivals, table_meaning};
 mod tests;
 
 use crate::arrivals_error::ArrivalsError;
+use crate::document::document;
 use crate::entries::read_entries;
 use crate::held::get;
-use crate::names::has_other_name;
+use crate::unknown::has_other_name;
 use rv_isa::Arrivals;
 use std::alloc::Global;
 use toml::Table;
@@ -23,14 +24,15 @@ use toml::Table;
 ///
 /// Memory is answered only where it was refused, and never for a text with nothing but blanks and
 /// comments.
+#[tactic(auto, unfolding(crate::specs::ArrivalList::listed_arrivals))]
 pub fn read_arrivals(alloc: Global, bytes: &[u8]) -> Result<Arrivals, ArrivalsError>
     ensures read { result ≢ Err ArrivalsError.Memory → result ≡ listed_arrivals bytes.now }
     ensures memory { result ≡ Err ArrivalsError.Memory → ¬ IsBlank bytes.now }
 {
-    match toml::table_from_slice(alloc, bytes) {
-        Ok(table) => read_table(alloc, &table),
-        Err(error) if error.is_memory() => Err(ArrivalsError::Memory),
-        Err(_) => Err(ArrivalsError::NotToml),
+    match document(alloc, bytes) {
+        Ok(Some(table)) => read_table(alloc, &table),
+        Ok(None) => Err(ArrivalsError::NotToml),
+        Err(_) => Err(ArrivalsError::Memory),
     }
 }
 

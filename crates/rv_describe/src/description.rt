@@ -1,11 +1,11 @@
 ghost use Rattle.std.specs.Prelude.{◌≡◌, ◌≢◌, ◌↔◌, IsNone, IsOk, Err};
 ghost use Rattle.toml.specs.Errors.{IsBlank};
 ghost use Rattle.toml.specs.View.{table_view};
-ghost use Rattle.rv_describe.specs.Description.{described, description_of, value_error, first_error};
-ghost use Rattle.rv_describe.specs.Legal.{IsLegalText};
+ghost use Rattle.rv_describe.specs.Description.{described, description_of, value_error, first_error, IsLegalText};
 ghost use Rattle.rv_describe.specs.Setting.{values_of};
 
 use crate::description_error::DescriptionError;
+use crate::document::document;
 use crate::faults::{ValueFault, first_place};
 use crate::settings::values;
 use crate::unknown::has_unknown;
@@ -59,14 +59,15 @@ fn described(table: &Table) -> Result<Description, DescriptionError>
 ///
 /// # Errors
 /// The first [`DescriptionError`] of the text; [`DescriptionError::Memory`] where memory is refused.
+#[tactic(auto, unfolding(crate::specs::Description::description_of))]
 pub fn read_description(alloc: Global, bytes: &[u8]) -> Result<Description, DescriptionError>
     ensures meant { result ≢ Err DescriptionError.Memory → result ≡ description_of bytes.now }
     ensures legal { result ≢ Err DescriptionError.Memory → (IsOk result ↔ IsLegalText bytes.now) }
     ensures memory { result ≡ Err DescriptionError.Memory → ¬ IsBlank bytes.now }
 {
-    match toml::table_from_slice(alloc, bytes) {
-        Ok(table) => described(&table),
-        Err(error) if error.is_memory() => Err(DescriptionError::Memory),
-        Err(_) => Err(DescriptionError::NotToml),
+    match document(alloc, bytes) {
+        Ok(Some(table)) => described(&table),
+        Ok(None) => Err(DescriptionError::NotToml),
+        Err(_) => Err(DescriptionError::Memory),
     }
 }

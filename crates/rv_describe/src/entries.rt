@@ -1,11 +1,12 @@
-ghost use Rattle.std.specs.Prelude.{◌≡◌, ◌≢◌, IfOk, map};
-ghost use Rattle.std.specs.List.{filter_map, list_any};
+ghost use Rattle.std.specs.Prelude.{◌≡◌, ◌≢◌, IfOk, map, take};
+ghost use Rattle.std.specs.List.{filter_map, list_any, position};
 ghost use Rattle.toml.specs.View.{view};
-ghost use Rattle.rv_describe.specs.Entries.{first_fall, first_without, entries_meaning, range_fault};
-ghost use Rattle.rv_describe.specs.Entry.{arrival_of, fields_of, has_unknown_field};
+ghost use Rattle.rv_describe.specs.Entries.{arrival_of, entries_meaning, entry_fault, first_fall, has_unknown_field, reading_of};
+ghost use Rattle.rv_describe.specs.Fault.{choice_fault, is_fault};
 
 use crate::arrivals_error::ArrivalsError;
-use crate::entry::{Fields, arrival_of, has_unknown_field};
+use crate::entry::{arrival_of, has_unknown_field, reading_of};
+use crate::faults::{ValueFault, choice_fault, is_fault};
 use rv_isa::{Arrival, Arrivals, MOST_ARRIVALS};
 use std::alloc::{AllocError, Global};
 use toml::Value;
@@ -15,14 +16,13 @@ use toml::Value;
 pub fn read_entries(alloc: Global, entries: &[Value]) -> Result<Arrivals, ArrivalsError>
     ensures { result ≢ Err ArrivalsError.Memory → result ≡ entries_meaning (map view entries.now) }
 {
-    if has_unknown_fields(entries) {
-        return Err(ArrivalsError::UnknownKey);
+    if let Some(error) = entry_fault(entries) {
+        return Err(error);
     }
-    if let Some(entry) = first_without_fields(entries) {
-        return Err(ArrivalsError::WrongKind { entry });
-    }
-    if let Some(entry) = range_fault(entries) {
-        return Err(ArrivalsError::OutOfRange { entry });
+    if entries.len() > MOST_ARRIVALS {
+        return Err(ArrivalsError::OutOfRange {
+            entry: MOST_ARRIVALS + 1,
+        });
     }
     let Ok(arrivals) = collect_arrivals(alloc, entries) else {
         return Err(ArrivalsError::Memory);
@@ -33,54 +33,57 @@ pub fn read_entries(alloc: Global, entries: &[Value]) -> Result<Arrivals, Arriva
     }
 }
 
-/// Whether an entry has an unknown field.
+// The fault that an entry has by itself.
+fn entry_fault(entries: &[Value]) -> Option<ArrivalsError>
+    ensures { result ≡ entry_fault (map view entries.now) }
+{
+    if has_unknown_fields(entries) {
+        return Some(ArrivalsError::UnknownKey);
+    }
+    if let Some(index) = first_with(entries, ValueFault::WrongKind) {
+        return Some(ArrivalsError::WrongKind { entry: index + 1 });
+    }
+    if let Some(index) = first_with(foremost(entries), ValueFault::OutOfRange) {
+        return Some(ArrivalsError::OutOfRange { entry: index + 1 });
+    }
+    None
+}
+
+// The entries that a list may have.
+fn foremost(entries: &[Value]) -> &[Value]
+    ensures { result.now ≡ take 100000 entries.now }
+{
+    if entries.len() > MOST_ARRIVALS {
+        &entries[..MOST_ARRIVALS]
+    } else {
+        entries
+    }
+}
+
+// Whether an entry has an unknown field.
 fn has_unknown_fields(entries: &[Value]) -> bool
-    ensures { result ≡ list_any has_unknown_field (map view entries.now) }
+    ensures { result ≡ list_any (λ entry. has_unknown_field (view entry)) entries.now }
 {
-    for entry in entries {
-        if has_unknown_field(entry) {
-            return true;
-        }
-    }
-    false
+    entries.iter().any(has_unknown_field)
 }
 
-/// The number of the first entry that lacks a field, or has one of another type.
-fn first_without_fields(entries: &[Value]) -> Option<usize>
-    ensures { result ≡ first_without fields_of 1 (map view entries.now) }
+// The index of the first entry with a fault in its fields.
+fn first_with(entries: &[Value], fault: ValueFault) -> Option<usize>
+    ensures { result ≡ position (λ entry. is_fault (choice_fault (reading_of (view entry))) fault) entries.now }
 {
-    let mut number = 1;
-    for entry in entries {
-        if Fields::of_entry(entry).is_none() {
-            return Some(number);
-        }
-        number += 1;
-    }
-    None
+    entries
+        .iter()
+        .position(|entry| is_fault(choice_fault(reading_of(entry)), fault))
 }
 
-/// The number of the first entry that gives no arrival, or stands behind the 100,000th.
-fn range_fault(entries: &[Value]) -> Option<usize>
-    ensures { result ≡ range_fault 1 (map view entries.now) }
-{
-    let mut number = 1;
-    for entry in entries {
-        if number > MOST_ARRIVALS || arrival_of(entry).is_none() {
-            return Some(number);
-        }
-        number += 1;
-    }
-    None
-}
-
-/// The arrivals of the entries that give one, where memory suffices.
+// The arrivals of the entries that give one, where memory suffices.
 fn collect_arrivals(alloc: Global, entries: &[Value]) -> Result<Vec<Arrival>, AllocError>
     ensures { IfOk result (λ arrivals. arrivals.items ≡ filter_map (λ entry. arrival_of (view entry)) entries.now) }
 {
     entries.iter().filter_map(arrival_of).collect(alloc)
 }
 
-/// The number of the first arrival with a cycle below the one before.
+// The number of the first arrival with a cycle below the one before.
 fn first_fall(arrivals: &[Arrival]) -> Option<usize>
     ensures { result ≡ first_fall 1 0 arrivals.now }
 {

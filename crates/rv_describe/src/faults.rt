@@ -1,45 +1,23 @@
 ghost use Rattle.std.specs.Prelude.{◌≡◌};
 ghost use Rattle.std.specs.List.{position_from};
 ghost use Rattle.toml.specs.View.{view, table_view};
-ghost use Rattle.rv_describe.specs.Fault.{unless, number_fault, choice_fault, value_fault, key_fault, is_fault, first_place, ram_size_of};
+ghost use Rattle.rv_describe.specs.Fault.{number_fault, choice_fault, value_fault, key_fault, is_fault, first_place};
 
-use crate::held::{Held, look_up};
-use crate::settings::number;
-use crate::words::word_of;
+use crate::held::look_up;
+use crate::settings::{number, word_of};
 use rv_isa::{Bounds, Key, NumberKey, PredictorKind, Recovery, all_keys};
 use toml::{Table, Value};
 
 /// What is wrong with a value.
-#[derive(Clone, Copy)]
+#[derive(Clone, Copy, PartialEq, Eq)]
 pub enum ValueFault {
     WrongKind,
     OutOfRange,
     NotPowerOfTwo,
 }
 
-fn unless(holds: bool, fault: ValueFault) -> Option<ValueFault>
-    ensures { result ≡ unless holds fault }
-{
-    if holds { None } else { Some(fault) }
-}
-
-// What is wrong with a number, on a machine with so many bytes of RAM.
-fn number_fault(bounds: Bounds, size: u32, value: &Value) -> Option<ValueFault>
-    ensures { result ≡ number_fault bounds size (view value.now) }
-{
-    let Some(number) = value.as_integer() else {
-        return Some(ValueFault::WrongKind);
-    };
-    match word_of(number) {
-        Some(number) if bounds.is_in_range(size, number) => {
-            unless(bounds.is_power(number), ValueFault::NotPowerOfTwo)
-        }
-        _ => Some(ValueFault::OutOfRange),
-    }
-}
-
 // What is wrong with a choice, given what its name names, if it is a name.
-fn choice_fault<X: Copy>(named: Option<Option<X>>) -> Option<ValueFault>
+pub fn choice_fault<X: Copy>(named: Option<Option<X>>) -> Option<ValueFault>
     ensures { result ≡ choice_fault named }
 {
     match named {
@@ -49,22 +27,32 @@ fn choice_fault<X: Copy>(named: Option<Option<X>>) -> Option<ValueFault>
     }
 }
 
+// What is wrong with a number, given the word that it is, on a machine with so many bytes of RAM.
+fn number_fault(bounds: Bounds, size: u32, read: Option<Option<u32>>) -> Option<ValueFault>
+    ensures { result ≡ number_fault bounds size read }
+{
+    let Some(Some(number)) = read else {
+        return choice_fault(read);
+    };
+    if bounds.takes(size, number) {
+        None
+    } else if bounds.is_in_range(size, number) {
+        Some(ValueFault::NotPowerOfTwo)
+    } else {
+        Some(ValueFault::OutOfRange)
+    }
+}
+
 // What is wrong with a value at a key, on a machine with so many bytes of RAM.
 fn value_fault(key: Key, size: u32, value: &Value) -> Option<ValueFault>
     ensures { result ≡ value_fault key size (view value.now) }
 {
     match key {
-        Key::Number(key) => number_fault(key.bounds(), size, value),
+        Key::Number(key) => number_fault(key.bounds(), size, value.as_integer().map(word_of)),
         Key::Recovery => choice_fault(value.as_str().map(Recovery::named)),
-        Key::Pipelined(_) => unless(value.is_bool(), ValueFault::WrongKind),
+        Key::Pipelined(_) => choice_fault(value.as_bool().map(Some)),
         Key::PredictorKind => choice_fault(value.as_str().map(PredictorKind::named)),
     }
-}
-
-fn ram_size_of(table: &Table) -> u32
-    ensures { result ≡ ram_size_of (table_view table.now) }
-{
-    number(table, NumberKey::RamSize)
 }
 
 // What is wrong at a key.
@@ -73,21 +61,16 @@ fn key_fault(table: &Table, key: Key) -> Option<ValueFault>
     ensures { result ≡ key_fault (table_view table.now) key }
 {
     match look_up(table, &key.place()) {
-        Held::Absent => None,
-        Held::Misplaced => Some(ValueFault::WrongKind),
-        Held::Present(value) => value_fault(key, ram_size_of(table), value),
+        None => Some(ValueFault::WrongKind),
+        Some(None) => None,
+        Some(Some(value)) => value_fault(key, number(table, NumberKey::RamSize), value),
     }
 }
 
-fn is_fault(found: Option<ValueFault>, fault: ValueFault) -> bool
+pub fn is_fault(found: Option<ValueFault>, fault: ValueFault) -> bool
     ensures { result ≡ is_fault found fault }
 {
-    match found {
-        Some(ValueFault::WrongKind) => matches!(fault, ValueFault::WrongKind),
-        Some(ValueFault::OutOfRange) => matches!(fault, ValueFault::OutOfRange),
-        Some(ValueFault::NotPowerOfTwo) => matches!(fault, ValueFault::NotPowerOfTwo),
-        None => false,
-    }
+    found == Some(fault)
 }
 
 fn first_among(keys: &[Key], table: &Table, fault: ValueFault) -> Option<usize>

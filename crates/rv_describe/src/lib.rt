@@ -7,14 +7,13 @@ mod arrival_list;
 mod arrivals_error;
 mod description;
 mod description_error;
+mod document;
 mod entries;
 mod entry;
 mod faults;
 mod held;
-mod names;
 mod settings;
 mod unknown;
-mod words;
 
 pub use arrival_list::read_arrivals;
 pub use arrivals_error::ArrivalsError;

@@ -2,15 +2,22 @@ ghost use Rattle.std.specs.Prelude.{◌≡◌, option_and_then, option_copied};
 ghost use Rattle.toml.specs.Data.{as_str};
 ghost use Rattle.toml.specs.View.{table_view};
 ghost use Rattle.rv_isa.specs.Key.{kind_with};
-ghost use Rattle.rv_describe.specs.Setting.{value_at, number, is_pipelined, recovery, predictor, values_of};
+ghost use Rattle.rv_describe.specs.Document.{value_at};
+ghost use Rattle.rv_describe.specs.Setting.{number, is_pipelined, values_of, word_of};
 
 use crate::held::value_at;
-use crate::words::word_of;
 use rv_isa::{
     CacheValues, Key, Kind, KindKey, KindValues, NumberKey, PerKind, PredictorKind,
     PredictorValues, Recovery, ReportValues, Values,
 };
 use toml::Table;
+
+/// An integer as a word, if it fits one.
+pub fn word_of(number: i64) -> Option<u32>
+    ensures { result ≡ word_of number }
+{
+    u32::try_from(number).ok()
+}
 
 /// The number at a key, or else the standard machine's.
 #[tactic(auto, unfolding(crate::specs::Setting::number))]
@@ -41,26 +48,6 @@ fn name_at(table: &Table, key: Key) -> Option<&str>
     value_at(table, key)?.as_str()
 }
 
-#[tactic(auto, unfolding(crate::specs::Setting::recovery))]
-fn recovery(table: &Table) -> Recovery
-    ensures { result ≡ recovery (table_view table.now) }
-{
-    let default = Values::standard().recovery;
-    name_at(table, Key::Recovery)
-        .and_then(Recovery::named)
-        .unwrap_or(default)
-}
-
-#[tactic(auto, unfolding(crate::specs::Setting::predictor))]
-fn predictor(table: &Table) -> PredictorKind
-    ensures { result ≡ predictor (table_view table.now) }
-{
-    let default = Values::standard().predictor.kind;
-    name_at(table, Key::PredictorKind)
-        .and_then(PredictorKind::named)
-        .unwrap_or(default)
-}
-
 // The values of the execution units of a kind.
 fn kind_values(table: &Table, kind: Kind) -> KindValues
     ensures { result ≡ kind_with (number (table_view table.now)) (is_pipelined (table_view table.now)) kind }
@@ -74,23 +61,12 @@ fn kind_values(table: &Table, kind: Kind) -> KindValues
     }
 }
 
-fn cache(table: &Table) -> CacheValues
-    ensures { result ≡ (values_of (table_view table.now)).cache }
-{
-    CacheValues {
-        sets: number(table, NumberKey::CacheSets),
-        ways: number(table, NumberKey::CacheWays),
-        line: number(table, NumberKey::CacheLine),
-        hit: number(table, NumberKey::CacheHit),
-        miss: number(table, NumberKey::CacheMiss),
-        write_back: number(table, NumberKey::CacheWriteBack),
-    }
-}
-
 /// The values that a table gives, where the standard ones are the defaults.
+#[tactic(auto, unfolding(crate::specs::Setting::choice))]
 pub fn values(table: &Table) -> Values
     ensures { result ≡ values_of (table_view table.now) }
 {
+    let standard = Values::standard();
     Values {
         ram_base: number(table, NumberKey::RamBase),
         ram_size: number(table, NumberKey::RamSize),
@@ -103,16 +79,27 @@ pub fn values(table: &Table) -> Values
         rob: number(table, NumberKey::Rob),
         store_queue: number(table, NumberKey::StoreQueue),
         forward: number(table, NumberKey::Forward),
-        recovery: recovery(table),
+        recovery: name_at(table, Key::Recovery)
+            .and_then(Recovery::named)
+            .unwrap_or(standard.recovery),
         kinds: PerKind {
             alu: kind_values(table, Kind::Alu),
             mul: kind_values(table, Kind::Mul),
             div: kind_values(table, Kind::Div),
             mem: kind_values(table, Kind::Mem),
         },
-        cache: cache(table),
+        cache: CacheValues {
+            sets: number(table, NumberKey::CacheSets),
+            ways: number(table, NumberKey::CacheWays),
+            line: number(table, NumberKey::CacheLine),
+            hit: number(table, NumberKey::CacheHit),
+            miss: number(table, NumberKey::CacheMiss),
+            write_back: number(table, NumberKey::CacheWriteBack),
+        },
         predictor: PredictorValues {
-            kind: predictor(table),
+            kind: name_at(table, Key::PredictorKind)
+                .and_then(PredictorKind::named)
+                .unwrap_or(standard.predictor.kind),
             entries: number(table, NumberKey::PredictorEntries),
         },
         report: ReportValues {

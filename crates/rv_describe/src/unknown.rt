@@ -1,10 +1,34 @@
-ghost use Rattle.std.specs.Prelude.{◌≡◌, not, Some, option_copied};
+ghost use Rattle.std.specs.Prelude.{◌≡◌, not, map, Some, option_copied};
+ghost use Rattle.std.specs.{List.list_any, Str.bytes_eq};
 ghost use Rattle.toml.specs.View.{view, table_view};
-ghost use Rattle.rv_describe.specs.Names.{any_member};
-ghost use Rattle.rv_describe.specs.Unknown.{same_table, is_key, is_table, unknown_within, unknown_at_top, has_unknown};
+ghost use Rattle.rv_describe.specs.Unknown.{any_member, has_other_name, same_table, is_key, is_table, unknown_within, unknown_at_top, has_unknown};
 
 use rv_isa::all_keys;
 use toml::{Table, Value};
+
+// Whether a name is one of these.
+fn is_among(name: &str, names: &[&str]) -> bool
+    ensures { result ≡ list_any (bytes_eq name.now) (map (λ other. other.now) names.now) }
+{
+    for other in names {
+        if name == *other {
+            return true;
+        }
+    }
+    false
+}
+
+/// Whether a table has a name that is none of these.
+pub fn has_other_name(table: &Table, names: &[&str]) -> bool
+    ensures { result ≡ has_other_name (map (λ name. name.now) names.now) (table_view table.now) }
+{
+    for (name, _) in table {
+        if !is_among(name.as_str(), names) {
+            return true;
+        }
+    }
+    false
+}
 
 fn same_table(table: Option<&str>, other: Option<&str>) -> bool
     ensures { result ≡ same_table (option_copied table.entry) (option_copied other.entry) }
@@ -50,10 +74,9 @@ fn unknown_among(name: &str, table: &Table) -> bool
 fn unknown_within(name: &str, value: &Value) -> bool
     ensures { result ≡ unknown_within name.now (view value.now) }
 {
-    match value.as_table() {
-        Some(table) => unknown_among(name, table),
-        None => false,
-    }
+    value
+        .as_table()
+        .is_some_and(|table| unknown_among(name, table))
 }
 
 fn unknown_at_top(name: &str, value: &Value) -> bool

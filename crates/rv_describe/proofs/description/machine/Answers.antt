@@ -1,5 +1,4 @@
-use Rattle.rv_describe.proofs.FirstError.{faultless}
-use Rattle.rv_describe.proofs.Legal.{values_of-legal}
+use Rattle.rv_describe.proofs.Legal.{faultless, values_of-legal}
 use Rattle.rv_describe.proofs.description.machine.Goals as goal
 
 pub unwrap-requires : goal.unwrap-requires
