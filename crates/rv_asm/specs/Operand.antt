@@ -16,10 +16,6 @@ pub data Operand : Type 0 where
   Indirect : Option Expression → List ℕ → Operand
   Text : List ℕ → Operand
 
--- the number that a minus makes of a number
-abbrev pub negative : ℕ → ℤ
-negative number = pos 0 -ℤ pos number
-
 -- a comma, which separates operands
 abbrev pub is_comma : Token → Bool
 is_comma token.Comma = true
@@ -28,10 +24,10 @@ is_comma _ = false
 -- the expression that tokens spell
 abbrev pub expression : List Token → Option Expression
 expression (token.Number number ∷ []) = Some (Number (pos number))
-expression (token.Minus ∷ token.Number number ∷ []) = Some (Number (negative number))
+expression (token.Minus ∷ token.Number number ∷ []) = Some (Number (pos 0 -ℤ pos number))
 expression (token.Name symbol ∷ []) = Some (Symbol symbol)
 expression (token.Name symbol ∷ token.Plus ∷ token.Number number ∷ []) = Some (Sum symbol (pos number))
-expression (token.Name symbol ∷ token.Minus ∷ token.Number number ∷ []) = Some (Sum symbol (negative number))
+expression (token.Name symbol ∷ token.Minus ∷ token.Number number ∷ []) = Some (Sum symbol (pos 0 -ℤ pos number))
 expression _ = None
 
 -- the name between two parentheses

@@ -1,11 +1,8 @@
 -- What the statements of the program stand for.
-use Rattle.std.specs.Prelude.{◌≡◌, Result, List}
-use Rattle.std.specs.Result.{result_map_both}
+use Rattle.std.specs.Prelude.{List}
 use Rattle.rv_asm.specs.Statement as spec
 use Rattle.rv_asm.specs.Operand.{Operand}
-use Rattle.rv_asm.specs.ReadOperand.{expression_of, operand_of, operands_in}
-use Rattle.rv_asm.specs.declared.fault.AsmFault.{AsmFault}
-use Rattle.rv_asm.specs.declared.operand.Operand as shown
+use Rattle.rv_asm.specs.ReadOperand.{expression_of, operand_of}
 use Rattle.rv_asm.specs.declared.statement.Statement as read
 use Rattle.rv_asm.specs.declared.statement.Statement.TheVariants.{Nothing, Choice, Constant, Instruction, Values, Bytes}
 
@@ -17,7 +14,3 @@ statement_of operands (Constant name number) = spec.Constant name.now number
 statement_of operands (Instruction operation fields value) = spec.Instruction operation fields (expression_of value)
 statement_of operands (Values width) = spec.Values width operands
 statement_of operands (Bytes directive operand) = spec.Bytes directive (operand_of operand)
-
--- the statement that was made of these operands, or the fault, is what the definition says
-abbrev pub Makes : List shown.Operand → Result read.Statement AsmFault → Result spec.Statement AsmFault → Type 0
-Makes operands result defined = result_map_both (statement_of (operands_in operands)) (λ fault. fault) result ≡ defined

@@ -46,11 +46,6 @@ is_implied place.MinusOne = true
 is_implied place.Empty = true
 is_implied _ = false
 
--- the multiples that .balign takes
-abbrev pub is_alignment : ℤ → Bool
-is_alignment (pos n) = (n == 1) || (n == 2) || (n == 4) || (n == 8) || (n == 16)
-is_alignment (negsuc n) = false
-
 -- the operand has the shape of the place; a register may be any name
 abbrev pub takes : Place → Operand → Bool
 takes place.Rd (Value (Symbol name)) = true
@@ -66,7 +61,7 @@ takes place.Base (Indirect (Some offset) name) = true
 takes place.Csr (Value (Number number)) = true
 takes place.Csr (Value (Symbol name)) = is_some (csr_named name)
 takes (place.UpTo greatest) (Value (Number number)) = is_between (pos 0) (pos greatest) number
-takes place.Multiple (Value (Number number)) = is_alignment number
+takes place.Multiple (Value (Number (pos n))) = (n == 1) || (n == 2) || (n == 4) || (n == 8) || (n == 16)
 takes place.Text (Text bytes) = true
 takes _ operand = false
 
@@ -87,10 +82,6 @@ abbrev pub csr_in : Operand → Result ℤ AsmFault
 csr_in (Value (Number number)) = Ok number
 csr_in (Value (Symbol name)) = ok_or (option_map (λ address. pos address) (csr_named name)) BadOperands
 csr_in _ = Err BadOperands
-
--- a field that no operand fills is x0 or 0
-abbrev pub unfilled : Fields
-unfilled = record { rd = 0; rs1 = 0; rs2 = 0; csr = pos 0 }
 
 -- the field that an operand fills at its place, if it fills one
 abbrev pub put : Place → Operand → Fields → Result Fields AsmFault
@@ -133,9 +124,9 @@ fill (place ∷ places) (operand ∷ operands) fields =
     else (if takes place operand then and_then (fill places operands fields) (λ filled. and_then (put place operand filled.0) (λ fields. Ok (fields, unwrap_or (value_at place operand) filled.1)))
     else Err BadOperands)
 
--- the instruction with its operands
+-- the instruction with its operands; a field that none fills is x0 or 0
 abbrev pub instruction : Operation → List Place → List Operand → Result Statement AsmFault
-instruction operation places operands = and_then (fill places operands unfilled) (λ filled. Ok (Instruction operation filled.0 filled.1))
+instruction operation places operands = and_then (fill places operands (record { rd = 0; rs1 = 0; rs2 = 0; csr = pos 0 })) (λ filled. Ok (Instruction operation filled.0 filled.1))
 
 -- the statement of a form with its operands
 abbrev pub statement : Form → List Operand → Result Statement AsmFault

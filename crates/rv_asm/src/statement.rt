@@ -1,9 +1,10 @@
-ghost use Rattle.std.specs.Prelude.{◌≡◌, Result};
+ghost use Rattle.std.specs.Prelude.{◌≡◌};
 ghost use Rattle.std.specs.List.{list_all};
 ghost use Rattle.std.specs.Option.{option_copied};
+ghost use Rattle.std.specs.Result.{result_map_both};
 ghost use Rattle.rv_asm.specs.Answer.{Follows};
 ghost use Rattle.rv_asm.specs.ReadOperand.{operands_in};
-ghost use Rattle.rv_asm.specs.ReadStatement.{Makes};
+ghost use Rattle.rv_asm.specs.ReadStatement.{statement_of};
 ghost use Rattle.rv_asm.specs.ReadToken.{tokens_in};
 ghost use Rattle.rv_asm.specs.Statement.{instruction, needed, reading, statement, takes};
 
@@ -37,7 +38,8 @@ fn instruction<'a>(
     places: &[Place],
     operands: &[Operand<'a>],
 ) -> Result<Statement<'a>, AsmFault>
-    ensures { Makes operands.now result (instruction operation places.now (operands_in operands.now)) }
+    ensures { result_map_both (statement_of (operands_in operands.now)) (λ fault. fault) result
+        ≡ instruction operation places.now (operands_in operands.now) }
 {
     let mut fields = Fields {
         rd: Reg::ZERO,
@@ -63,7 +65,8 @@ fn are_values(operands: &[Operand<'_>]) -> bool
 
 /// The statement of a form with its operands.
 pub fn make_statement<'a>(form: Form, operands: &[Operand<'a>]) -> Result<Statement<'a>, AsmFault>
-    ensures { Makes operands.now result (statement form (operands_in operands.now)) }
+    ensures { result_map_both (statement_of (operands_in operands.now)) (λ fault. fault) result
+        ≡ statement form (operands_in operands.now) }
 {
     match form {
         Form::Nothing if operands.is_empty() => Ok(Statement::Nothing),
