@@ -27,9 +27,8 @@ idle_says_nothing line idle = record { nothing = nothing_said line.statement (gr
 module _ (base : ℕ) (whole : Layout) where
   nothing_in : (part section : Section) → parts_in part section (Ok []) ≡ []
   nothing_in Text Text = refl
-  nothing_in Text Data = refl
-  nothing_in Data Text = refl
   nothing_in Data Data = refl
+  nothing_in _ _ = refl
 
   -- some lines have the same parts and the same fault as others
   record Same (lines all : List Kept) : Type 0 where

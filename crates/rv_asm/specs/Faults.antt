@@ -1,12 +1,49 @@
 -- The fault of a text.
-use Rattle.std.specs.Prelude.{ℕ, ◌+◌, ◌%◌, ◌==◌, List, [], ◌∷◌, map, if◌then◌else◌, Option, Some, None}
-use Rattle.std.specs.{Option.option_map, Option.option_or, Result.result_err}
-use Rattle.rv_asm.specs.FirstPass.{first_fault}
-use Rattle.rv_asm.specs.Layout.{Line, Layout, extended, layout, unlaid}
+use Rattle.std.specs.Prelude.{ℕ, ◌+◌, ◌%◌, ◌==◌, List, [], ◌∷◌, map, Bool, false, ◌&&◌, if◌then◌else◌, Option, Some, None, Result, Err, is_some, is_none, codes}
+use Rattle.std.specs.{Option.option_map, Option.option_or, Result.result_err, Str.bytes_eq}
+use Rattle.rv_asm.specs.Layout.{Line, Unreadable, Readable, Meanings, Layout, advance, defined, extended, label_at, labelled, layout, number_of, unlaid, unless_too_large}
 use Rattle.rv_asm.specs.Meaning.{line_cells, start_address}
+use Rattle.rv_asm.specs.Operand.{Operand}
 use Rattle.rv_asm.specs.Placed.{Placed, placed}
-use Rattle.rv_asm.specs.declared.fault.AsmFault.{AsmFault}
-use Rattle.rv_asm.specs.declared.fault.AsmFault.TheVariants.{Misaligned}
+use Rattle.rv_asm.specs.Statement.{and_then, statement, needed, reading}
+use Rattle.rv_asm.specs.Token.{Token}
+use Rattle.rv_asm.specs.Token as token
+use Rattle.rv_asm.specs.declared.{fault.AsmFault.AsmFault, reach.Reach.Reach, operation.Form.Form, symbols.Definition.Definition}
+use Rattle.rv_asm.specs.declared.fault.AsmFault.TheVariants.{BadToken, BadOperands, DuplicateSymbol, Misaligned}
+
+-- the fault of labels: one of them was defined before, or stands twice
+abbrev pub label_fault : Meanings → Definition → List (List ℕ) → Option AsmFault
+label_fault meanings here [] = None
+label_fault meanings here (name ∷ names) = if is_some (meanings name) then Some DuplicateSymbol else label_fault (defined meanings name here) here names
+
+-- the name right behind .equ was defined before
+abbrev pub redefines : Meanings → List Token → Bool
+redefines meanings (token.Name directive ∷ token.Name name ∷ rest) = bytes_eq directive (codes ".equ") && is_some (meanings name)
+redefines meanings _ = false
+
+-- the symbol that li takes is no .equ of an earlier line
+abbrev pub is_unmet : Meanings → Option (List ℕ) → Bool
+is_unmet meanings None = false
+is_unmet meanings (Some name) = is_none (number_of (meanings name))
+
+-- how far the text has come behind a form with its operands, if they have no fault and it is not too large then
+abbrev pub moved : Meanings → Reach → Form → List Operand → Result Reach AsmFault
+moved meanings reach form operands =
+    if is_unmet meanings (needed form operands) then Err BadOperands
+    else and_then (statement form operands) (λ said. unless_too_large (advance meanings said reach))
+
+-- the fault of what stands behind the labels
+abbrev pub body_fault : Meanings → Reach → List Token → Option AsmFault
+body_fault meanings reach body =
+    if redefines meanings body then Some DuplicateSymbol
+    else result_err (and_then (reading body) (λ read. moved meanings reach read.0 read.1))
+
+-- what the first pass finds wrong with a line in view of the lines before it
+abbrev pub first_fault : Layout → Line → Option AsmFault
+first_fault layout Unreadable = Some BadToken
+first_fault layout (Readable labels body) =
+    option_or (label_fault layout.meanings (label_at layout.reach) labels)
+    (body_fault (labelled layout.meanings (label_at layout.reach) labels) layout.reach body)
 
 -- execution starts at no multiple of 4
 abbrev pub start_misalignment : ℕ → Layout → Option AsmFault

@@ -1,5 +1,5 @@
 -- Where the statements of a text stand, and what its symbols are.
-use Rattle.std.specs.Prelude.{ℕ, ℤ, pos, negsuc, ◌+◌, ◌*◌, ◌+ℤ◌, ◌-ℤ◌, List, [], ◌∷◌, length, map, Bool, if◌then◌else◌, ◌==◌, nat_lt, Option, Some, None, Result, Ok, Err, ok_or, unwrap_or, unsigned_abs}
+use Rattle.std.specs.Prelude.{ℕ, ℤ, pos, negsuc, ◌+◌, ◌*◌, ◌+ℤ◌, ◌-ℤ◌, List, [], ◌∷◌, length, map, if◌then◌else◌, ◌==◌, nat_lt, Option, Some, None, Result, Ok, Err, ok_or, unwrap_or, unsigned_abs}
 use Rattle.std.specs.{List.slice_split, Map.update, Str.bytes_eq, Int.int_div_euclid, Int.int_rem_euclid}
 use Rattle.rv_isa.specs.Operation.{bytes_of}
 use Rattle.rv_isa.specs.Word.{signed, modulo_word}
@@ -115,13 +115,9 @@ abbrev pub advance : (List ℕ → Option Definition) → Statement → Reach �
 advance definition (Choice section) reach = record reach { section = section }
 advance definition statement reach = grow_in reach.section (size definition (offset reach) statement) reach
 
--- text and data have more than 16,777,200 bytes
-abbrev pub is_too_large : Reach → Bool
-is_too_large reach = nat_lt 16777200 (reach.text_size + reach.data_size)
-
--- a reach, unless text and data are too large
+-- a reach, unless text and data have more than 16,777,200 bytes
 abbrev pub unless_too_large : Reach → Result Reach AsmFault
-unless_too_large reach = if is_too_large reach then Err TooLarge else Ok reach
+unless_too_large reach = if nat_lt 16777200 (reach.text_size + reach.data_size) then Err TooLarge else Ok reach
 
 -- what a name stands for, if it is defined
 abbrev pub Meanings : Type 0

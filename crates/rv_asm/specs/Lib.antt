@@ -2,7 +2,6 @@ pub mod Answer
 pub mod Directive
 pub mod Emitted
 pub mod Faults
-pub mod FirstPass
 pub mod Kept
 pub mod Layout
 pub mod Listing

@@ -1,8 +1,7 @@
 ghost use Rattle.std.specs.Prelude.{◌≡◌, ◌∷◌, ◌++◌, ◌==◌, ◌<◌, ◌≤◌, [], None, IfOk, IfErr, IfSome, Ok, length};
 ghost use Rattle.std.specs.List.{position_or_len, slice_split};
-ghost use Rattle.rv_asm.specs.Answer.{RefusedBy, RefusedAt};
-ghost use Rattle.rv_asm.specs.Faults.{first_fault_of};
-ghost use Rattle.rv_asm.specs.FirstPass.{body_fault, first_fault, operand_fault};
+ghost use Rattle.rv_asm.specs.Answer.{Follows, RefusedBy, RefusedAt};
+ghost use Rattle.rv_asm.specs.Faults.{body_fault, first_fault, first_fault_of, moved};
 ghost use Rattle.rv_asm.specs.Layout.{behind, extended, layout, unlaid, lines_of, statement_in, line_in};
 ghost use Rattle.rv_asm.specs.Kept.{keep, kept, lines_left, says_nothing};
 ghost use Rattle.rv_asm.specs.Placed.{place, place_body};
@@ -57,38 +56,6 @@ fn first_line(text: &[u8]) -> (&[u8], Option<&[u8]>)
     (&text[..size], Some(rest))
 }
 
-/// Adds a form with its operands. The answer is how far the text has come behind it, and whether
-/// its statement has no effect.
-fn add_form<'a>(
-    symbols: &mut Symbols<'a>,
-    reach: Reach,
-    form: Form,
-    operands: &[Operand<'a>],
-) -> Result<(Reach, bool), AsmFault>
-    ensures added { IfOk result (λ _. operand_fault (found symbols.old) reach form (operands_in operands.now) ≡ None) }
-    ensures idle { IfOk result (λ next. next.1 ≡ says_nothing (statement form (operands_in operands.now))) }
-    ensures reach { IfOk result (λ next.
-        next.0 ≡ (behind (found symbols.old) reach (statement form (operands_in operands.now))).reach) }
-    ensures symbols { IfOk result (λ _.
-        found symbols.new ≡ (behind (found symbols.old) reach (statement form (operands_in operands.now))).meanings) }
-    ensures refused { RefusedBy (operand_fault (found symbols.old) reach form (operands_in operands.now)) result }
-{
-    if let Some(name) = needed(form, operands) {
-        if symbols.constant(name).is_none() {
-            return Err(AsmFault::BadOperands);
-        }
-    }
-    let statement = match make_statement(form, operands) {
-        Ok(statement) => statement,
-        Err(fault) => return Err(fault),
-    };
-    let next = advance(symbols, &statement, operands, reach)?;
-    if let Statement::Constant(name, number) = statement {
-        symbols.define(name, Definition::Constant(number))?;
-    }
-    Ok((next, matches!(statement, Statement::Nothing)))
-}
-
 impl<'a> Layout<'a> {
     ghost use Rattle.rv_asm.specs.Symbols.{layout_of, kept_in};
 
@@ -102,6 +69,31 @@ impl<'a> Layout<'a> {
             reach: Reach::START,
             records: Vec::new(alloc),
         }
+    }
+
+    /// Adds a form with its operands. The answer is whether its statement has no effect.
+    fn add_form(&mut self, form: Form, operands: &[Operand<'a>]) -> Result<bool, AsmFault>
+        ensures moved { Follows (λ _. self.new.reach) result
+            (moved (found self.old.symbols) self.old.reach form (operands_in operands.now)) }
+        ensures layout { IfOk result (λ _.
+            layout_of self.new ≡ behind (found self.old.symbols) self.old.reach (statement form (operands_in operands.now))) }
+        ensures idle { IfOk result (λ idle. idle ≡ says_nothing (statement form (operands_in operands.now))) }
+        ensures records { self.new.records ≡ self.old.records }
+    {
+        if let Some(name) = needed(form, operands) {
+            if self.symbols.constant(name).is_none() {
+                return Err(AsmFault::BadOperands);
+            }
+        }
+        let statement = match make_statement(form, operands) {
+            Ok(statement) => statement,
+            Err(fault) => return Err(fault),
+        };
+        self.reach = advance(&self.symbols, &statement, operands, self.reach)?;
+        if let Statement::Constant(name, number) = statement {
+            self.symbols.define(name, Definition::Constant(number))?;
+        }
+        Ok(matches!(statement, Statement::Nothing))
     }
 
     /// Adds what stands behind the labels of a line.
@@ -124,13 +116,7 @@ impl<'a> Layout<'a> {
         }
         let reading = read(alloc, body)?;
         let reach = self.reach;
-        let (next, says_nothing) = add_form(
-            &mut self.symbols,
-            reach,
-            reading.form,
-            reading.operands.as_slice(),
-        )?;
-        self.reach = next;
+        let says_nothing = self.add_form(reading.form, reading.operands.as_slice())?;
         if says_nothing && !label_starts {
             return Ok(());
         }

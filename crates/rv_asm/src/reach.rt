@@ -198,17 +198,14 @@ pub fn advance<'a>(
     symbols: &Symbols<'a>,
     statement: &Statement<'a>,
     operands: &[Operand<'a>],
-    reach: Reach,
+    mut reach: Reach,
 ) -> Result<Reach, AsmFault>
     ensures { result ≡ unless_too_large
         (advance (found symbols.now) (statement_of (operands_in operands.now) statement.now) reach) }
 {
     if let Statement::Choice(section) = statement {
-        return Reach {
-            section: *section,
-            ..reach
-        }
-        .grown(0);
+        reach.section = *section;
+        return reach.grown(0);
     }
     reach.grown(size(symbols, reach.offset(), statement, operands))
 }

@@ -1,7 +1,7 @@
 ghost use Rattle.std.specs.Prelude.{◌≡◌, None, OnOk, IfOk};
 ghost use Rattle.std.specs.List.{list_any};
 ghost use Rattle.rv_asm.specs.Answer.{RefusedBy};
-ghost use Rattle.rv_asm.specs.FirstPass.{label_fault, redefines};
+ghost use Rattle.rv_asm.specs.Faults.{label_fault, redefines};
 ghost use Rattle.rv_asm.specs.Layout.{defined, labelled, labels_of, body_of, number_of};
 ghost use Rattle.rv_asm.specs.Placed.{is_start};
 ghost use Rattle.rv_asm.specs.ReadToken.{tokens_in};

@@ -1,6 +1,6 @@
 use Rattle.std.proofs.Common.{◌≡◌, ◌||◌, length}
 use Rattle.std.specs.List.{list_any}
-use Rattle.rv_asm.specs.FirstPass.{label_fault}
+use Rattle.rv_asm.specs.Faults.{label_fault}
 use Rattle.rv_asm.specs.Layout.{body_of, labelled, labels_of}
 use Rattle.rv_asm.specs.Placed.{is_start}
 use Rattle.rv_asm.specs.ReadToken.{tokens_in}
