@@ -1,5 +1,5 @@
 -- What is appended, one part after another.
-use Rattle.std.proofs.Common.{◌≡◌, ◌∙◌, ◌+◌, ◌-◌, ◌<◌, ℕ, List, [], ◌∷◌, ◌++◌, map, take, drop, get_or, length, Bool, false, Result, Ok, Err, OnOk, sym, refl, ap, arith, append_assoc, if◌then◌else◌}
+use Rattle.std.proofs.Common.{◌≡◌, ◌∙◌, ◌+◌, ◌-◌, ◌<◌, ℕ, List, [], ◌∷◌, ◌++◌, map, take, drop, get_or, length, Result, Ok, Err, OnOk, sym, refl, ap, arith, append_assoc}
 use Rattle.std.specs.Prelude.{replicate}
 use Rattle.std.proofs.lemmas.List.{append-nil, drop_more, take_all}
 use Rattle.std.specs.Int.{to_le_bytes, w32}
@@ -21,9 +21,9 @@ pub appends_nothing : (a : List ℕ) → Appends [] a a
 appends_nothing a = record { bytes = []; spells = nothing; appended = sym (append-nil a) }
 
 -- to the other section a line adds nothing
-pub nothing_added : {T : Type 0} (r : Result T AsmFault) (a : List ℕ) → OnOk r (Appends [] a a)
-nothing_added (Ok x) a = appends_nothing a
-nothing_added (Err fault) a = tt
+pub nothing_added : {T : Type 0} (r : Result T AsmFault) (parts : List Cell) (a : List ℕ) → parts ≡ [] → OnOk r (Appends parts a a)
+nothing_added (Ok x) parts a none = rw none (appends_nothing a)
+nothing_added (Err fault) parts a none = tt
 
 pub emits_nothing : (meaning : Result (List Cell) AsmFault) (a : List ℕ) → meaning ≡ Ok [] → Emits meaning a a
 emits_nothing meaning a means = record { parts = []; means = means; appends = appends_nothing a }
@@ -62,8 +62,3 @@ begins_more {a = a} begin put more spells = rw (put.appended, append_assoc a put
 
 pub begins_all : {all : List Cell} {bytes : List ℕ} → Begins all [] bytes → Spells all bytes
 begins_all begin = simp append-nil at (begin [] nothing)
-
-pub joined_spells : (text_parts data_parts : List Cell) (count wanted : ℕ) (old middle more new : List ℕ) (empty : Bool) → empty ≡ false → count ≡ wanted → Spells text_parts old → Spells data_parts more → Appends (map Byte' (replicate count 0)) old middle → new ≡ middle ++ more → Spells (text_parts ++ (if empty then [] else (map Byte' (replicate wanted 0) ++ data_parts))) new
-joined_spells text_parts data_parts count wanted old middle more new empty is_false same t d r e =
-    let appended : new ≡ old ++ (r.bytes ++ more) = e ∙ ap (λ l. l ++ more) r.appended ∙ append_assoc old r.bytes more in
-    rw (is_false, ← same, appended) (spells_append t (spells_append r.spells d))

@@ -1,5 +1,5 @@
 -- Which line of a text each word of its image comes from.
-use Rattle.std.specs.Prelude.{ℕ, ◌+◌, ◌-◌, ◌*◌, ◌/◌, List, [], ◌∷◌, ◌++◌, map, length, take, drop, replicate, Bool, ◌&&◌, ◌==◌, nat_le, nat_lt, if◌then◌else◌, Option, Some, None}
+use Rattle.std.specs.Prelude.{ℕ, ◌+◌, ◌-◌, ◌*◌, ◌/◌, List, [], ◌∷◌, ◌++◌, map, length, take, drop, replicate, ◌&&◌, ◌==◌, nat_le, nat_lt, if◌then◌else◌, Option, Some, None}
 use Rattle.std.specs.{Char.is_ascii_whitespace, List.before_first, List.prefix_len, List.suffix_len, List.range_with_len, List.slice_split}
 use Rattle.rv_source.specs.Listing as source
 use Rattle.rv_source.specs.Listing.{Listed}
@@ -19,17 +19,14 @@ trimmed bytes =
 abbrev pub shown : ℕ → List ℕ → source.Line
 shown number bytes = record { number = number; text = trimmed (before_first (λ byte. byte == 35) bytes) }
 
--- the bytes of a line hold an offset of a section: they begin where the section had come before the line, and end where
--- it has come behind it
-abbrev pub holds : Section → Reach → Reach → ℕ → Bool
-holds part before behind offset = nat_le (offset_in part before) offset && nat_lt offset (offset_in part behind)
-
--- the first line whose bytes hold an offset of a section, of lines behind a layout, numbered from here on
+-- the first line whose bytes hold an offset of a section, of lines behind a layout, numbered from here on: they begin
+-- where the section had come before the line, and end where it has come behind it
 abbrev pub line_holding : Section → ℕ → Layout → List (List ℕ) → ℕ → Option source.Line
 line_holding part number before [] offset = None
 line_holding part number before (bytes ∷ others) offset =
-    if holds part before.reach (extended before (line_in bytes)).reach offset then Some (shown number bytes)
-    else line_holding part (number + 1) (extended before (line_in bytes)) others offset
+    let behind = extended before (line_in bytes) in
+    if nat_le (offset_in part before.reach) offset && nat_lt offset (offset_in part behind.reach) then Some (shown number bytes)
+    else line_holding part (number + 1) behind others offset
 
 -- how many words hold so many bytes
 abbrev pub word_count : ℕ → ℕ

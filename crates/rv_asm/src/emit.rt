@@ -1,14 +1,11 @@
-ghost use Rattle.std.specs.Prelude.{◌≡◌, ◌≢◌, ◌<◌, ◌∷◌, ◌^◌, [], Err, map, take};
-ghost use Rattle.std.specs.Prelude.{option_to_list, is_some, pos, unwrap_or};
+ghost use Rattle.std.specs.Prelude.{◌≡◌, ◌∷◌, [], map, option_to_list, is_some, pos, unwrap_or};
 ghost use Rattle.std.specs.List.{list_all};
-ghost use Rattle.std.specs.Int.{to_le_bytes, w32};
-ghost use Rattle.rv_asm.specs.Emitted.{Appends, AppendsIfRoom, EmitsOrRefuses};
+ghost use Rattle.rv_asm.specs.Emitted.{AppendsIfRoom, EmitsOrRefuses};
 ghost use Rattle.rv_asm.specs.Meaning.{Word', bytes_at, data_of, evaluate, fits_width, instructions};
 ghost use Rattle.rv_asm.specs.ReadOperand.{expression_of, operand_of, operands_in};
 ghost use Rattle.rv_asm.specs.ReadStatement.{statement_of};
 ghost use Rattle.rv_asm.specs.Statement.{Instruction, expression_in};
 ghost use Rattle.rv_asm.specs.Symbols.{means, value_in};
-ghost use Rattle.rv_isa.specs.Operation.{bytes_of};
 
 use crate::fault::AsmFault;
 use crate::filling::expression_in;

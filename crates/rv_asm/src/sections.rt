@@ -1,4 +1,4 @@
-ghost use Rattle.std.specs.Prelude.{◌≡◌, ◌%◌, [], List, Ok, None, OnOk, IfOk, IfErr};
+ghost use Rattle.std.specs.Prelude.{◌≡◌, List, Ok, None, OnOk, IfOk, IfErr};
 ghost use Rattle.rv_asm.specs.Answer.{RefusedBy, RefusedAt};
 ghost use Rattle.rv_asm.specs.Emitted.{Appends, Emits};
 ghost use Rattle.rv_asm.specs.Faults.{second_fault};
@@ -68,6 +68,7 @@ pub struct Sections {
 
 impl Sections {
     /// Appends what a line means to the section that it stands in.
+    #[tactic(auto, using(crate::proofs::Emitted::nothing_added))]
     fn add<'a>(&mut self, program: &Program<'_, 'a>, line: &Record<'a>) -> Result<(), AsmFault>
         ensures text { OnOk result (Appends (parts_in Section.Text line.now.reach.section
             (line_cells program.now.base (layout_of program.now.layout.now) (placed_of line.now)))
