@@ -5,8 +5,7 @@ use Rattle.std.specs.List.{slice_split, onto_first}
 use Rattle.std.specs.Option.{option_map}
 use Rattle.std.proofs.lemmas.Simd.{map-map}
 use Rattle.rv_asm.specs.Operand.{Operand, operand, operands_in, operands_of, is_comma}
-use Rattle.rv_asm.specs.ReadOperand.{operand_of}
-use Rattle.rv_asm.specs.ReadToken.{token_of}
+use Rattle.rv_asm.specs.Read.{operand_of, token_of}
 use Rattle.rv_asm.specs.Token as spec
 use Rattle.rv_asm.specs.declared.token.Token.{Token}
 use Rattle.rv_asm.specs.declared.operand.Operand as read

@@ -10,9 +10,7 @@ pub mod Mnemonic
 pub mod Names
 pub mod Operand
 pub mod Placed
-pub mod ReadOperand
-pub mod ReadStatement
-pub mod ReadToken
+pub mod Read
 pub mod Statement
 pub mod Symbols
 pub mod Token

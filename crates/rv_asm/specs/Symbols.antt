@@ -5,7 +5,7 @@ use Rattle.rv_asm.specs.Kept.{Kept, places}
 use Rattle.rv_asm.specs.Layout.{Layout}
 use Rattle.rv_asm.specs.Meaning.{Cell, cells_at, value_of}
 use Rattle.rv_asm.specs.Placed.{Placed, place_body}
-use Rattle.rv_asm.specs.ReadOperand.{operands_in}
+use Rattle.rv_asm.specs.Read.{operands_in}
 use Rattle.rv_asm.specs.Statement.{Statement, statement}
 use Rattle.rv_asm.specs.declared.{fault.AsmFault.AsmFault, record.Record.Record, program.Program.Program, reach.Reach.Reach, symbols.Definition.Definition, symbols.Symbols.Symbols}
 use Rattle.rv_asm.specs.declared.layout.Layout as read

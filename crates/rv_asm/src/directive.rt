@@ -2,7 +2,7 @@ ghost use Rattle.std.specs.Prelude.{◌≡◌, ◌∷◌, ◌<◌, ◌^◌, [], 
 ghost use Rattle.rv_asm.specs.Directive.{amount_in, text_in, padding, laid_by};
 ghost use Rattle.rv_asm.specs.Emitted.{AppendsIfRoom};
 ghost use Rattle.rv_asm.specs.Meaning.{Byte'};
-ghost use Rattle.rv_asm.specs.ReadOperand.{operand_of};
+ghost use Rattle.rv_asm.specs.Read.{operand_of};
 ghost use Rattle.rv_asm.specs.Token.{unescaped};
 
 use crate::fault::AsmFault;

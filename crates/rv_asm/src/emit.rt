@@ -2,8 +2,7 @@ ghost use Rattle.std.specs.Prelude.{◌≡◌, ◌∷◌, [], map, option_to_lis
 ghost use Rattle.std.specs.List.{list_all};
 ghost use Rattle.rv_asm.specs.Emitted.{AppendsIfRoom, EmitsOrRefuses};
 ghost use Rattle.rv_asm.specs.Meaning.{Word', bytes_at, data_of, evaluate, fits_width, instructions};
-ghost use Rattle.rv_asm.specs.ReadOperand.{expression_of, operand_of, operands_in};
-ghost use Rattle.rv_asm.specs.ReadStatement.{statement_of};
+ghost use Rattle.rv_asm.specs.Read.{expression_of, operand_of, operands_in, statement_of};
 ghost use Rattle.rv_asm.specs.Statement.{Instruction, expression_in};
 ghost use Rattle.rv_asm.specs.Symbols.{means, value_in};
 

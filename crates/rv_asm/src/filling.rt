@@ -1,7 +1,7 @@
 ghost use Rattle.std.specs.Prelude.{◌≡◌};
 ghost use Rattle.std.specs.Option.{option_map};
 ghost use Rattle.std.specs.Result.{result_map_both};
-ghost use Rattle.rv_asm.specs.ReadOperand.{operand_of, expression_of, operands_in};
+ghost use Rattle.rv_asm.specs.Read.{expression_of, operand_of, operands_in};
 ghost use Rattle.rv_asm.specs.Statement.{implied_value};
 ghost use Rattle.rv_asm.specs.Statement.{register_in, expression_in, csr_in, put, imply, fill, value_at};
 

@@ -5,8 +5,7 @@ ghost use Rattle.rv_asm.specs.Faults.{body_fault, first_fault, first_fault_of, m
 ghost use Rattle.rv_asm.specs.Layout.{behind, extended, layout, unlaid, lines_of, statement_in, line_in};
 ghost use Rattle.rv_asm.specs.Kept.{keep, kept, lines_left, says_nothing};
 ghost use Rattle.rv_asm.specs.Placed.{place, place_body};
-ghost use Rattle.rv_asm.specs.ReadOperand.{operands_in};
-ghost use Rattle.rv_asm.specs.ReadToken.{tokens_in};
+ghost use Rattle.rv_asm.specs.Read.{operands_in, tokens_in};
 ghost use Rattle.rv_asm.specs.Statement.{statement};
 ghost use Rattle.rv_asm.specs.Symbols.{found};
 

@@ -3,8 +3,7 @@ ghost use Rattle.std.specs.List.{slice_split};
 ghost use Rattle.std.specs.Option.{option_map, option_copied};
 ghost use Rattle.rv_asm.specs.Answer.{Follows};
 ghost use Rattle.rv_asm.specs.Operand.{expression, in_parentheses, based, operand, operands_of, is_comma};
-ghost use Rattle.rv_asm.specs.ReadOperand.{expression_of, operand_of, operands_in};
-ghost use Rattle.rv_asm.specs.ReadToken.{token_of, tokens_in};
+ghost use Rattle.rv_asm.specs.Read.{expression_of, operand_of, operands_in, token_of, tokens_in};
 
 use crate::fault::AsmFault;
 use crate::token::Token;

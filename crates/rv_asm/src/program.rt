@@ -1,6 +1,6 @@
 ghost use Rattle.std.specs.Prelude.{◌≡◌, ◌<◌, ◌≤ℤ◌, ◌^◌, pos, negsuc, IfSome};
 ghost use Rattle.rv_asm.specs.Meaning.{evaluate, start_of};
-ghost use Rattle.rv_asm.specs.ReadOperand.{expression_of};
+ghost use Rattle.rv_asm.specs.Read.{expression_of};
 ghost use Rattle.rv_asm.specs.Symbols.{value_in};
 
 use crate::layout::Layout;

@@ -2,8 +2,7 @@ ghost use Rattle.std.specs.Prelude.{◌≡◌, ◌+◌, ◌-◌, ◌*◌, ◌<�
 ghost use Rattle.std.specs.Prelude.{unsigned_abs, option_to_list};
 ghost use Rattle.rv_asm.specs.Layout.{offset, offset_in, grow_in, known, size, instruction_size, advance};
 ghost use Rattle.rv_asm.specs.Layout.{upper, lower, signed_word, load_number, load_address, unless_too_large};
-ghost use Rattle.rv_asm.specs.ReadOperand.{expression_of, operands_in};
-ghost use Rattle.rv_asm.specs.ReadStatement.{statement_of};
+ghost use Rattle.rv_asm.specs.Read.{expression_of, operands_in, statement_of};
 ghost use Rattle.rv_asm.specs.Symbols.{found};
 ghost use Rattle.rv_isa.specs.Word.{modulo_word};
 ghost use Rattle.rv_isa.specs.declared.instructions.Instr.TheVariants.{OpImmediate};

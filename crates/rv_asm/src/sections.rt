@@ -6,7 +6,7 @@ ghost use Rattle.rv_asm.specs.Kept.{first_with_fault};
 ghost use Rattle.rv_asm.specs.Meaning.{Spells, contents, line_cells, parts_in, start_address};
 ghost use Rattle.rv_asm.specs.Operand.{Operand};
 ghost use Rattle.rv_asm.specs.Placed.{constant_starts};
-ghost use Rattle.rv_asm.specs.ReadStatement.{statement_of};
+ghost use Rattle.rv_asm.specs.Read.{statement_of};
 ghost use Rattle.rv_asm.specs.Symbols.{kept_in, layout_of, lines_in, placed_of};
 
 use crate::emit::emit;

@@ -1,5 +1,5 @@
 ghost use Rattle.std.specs.Prelude.{◌≡◌};
-ghost use Rattle.rv_asm.specs.ReadOperand.{operand_of};
+ghost use Rattle.rv_asm.specs.Read.{operand_of};
 ghost use Rattle.rv_asm.specs.Statement.{is_implied, takes};
 
 use crate::names::csr_named;

@@ -3,9 +3,7 @@ ghost use Rattle.std.specs.List.{list_all};
 ghost use Rattle.std.specs.Option.{option_copied};
 ghost use Rattle.std.specs.Result.{result_map_both};
 ghost use Rattle.rv_asm.specs.Answer.{Follows};
-ghost use Rattle.rv_asm.specs.ReadOperand.{operands_in};
-ghost use Rattle.rv_asm.specs.ReadStatement.{statement_of};
-ghost use Rattle.rv_asm.specs.ReadToken.{tokens_in};
+ghost use Rattle.rv_asm.specs.Read.{operands_in, statement_of, tokens_in};
 ghost use Rattle.rv_asm.specs.Statement.{instruction, needed, reading, statement, takes};
 
 use crate::directive::Directive;

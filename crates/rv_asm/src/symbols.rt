@@ -4,7 +4,7 @@ ghost use Rattle.rv_asm.specs.Answer.{RefusedBy};
 ghost use Rattle.rv_asm.specs.Faults.{label_fault, redefines};
 ghost use Rattle.rv_asm.specs.Layout.{defined, labelled, labels_of, body_of, number_of};
 ghost use Rattle.rv_asm.specs.Placed.{is_start};
-ghost use Rattle.rv_asm.specs.ReadToken.{tokens_in};
+ghost use Rattle.rv_asm.specs.Read.{tokens_in};
 ghost use Rattle.rv_asm.specs.Symbols.{found};
 
 use crate::fault::AsmFault;

@@ -2,7 +2,7 @@ ghost use Rattle.std.specs.Prelude.{get_or, [], None, ◌≡◌, ◌<◌, ◌≤
 ghost use Rattle.std.specs.List.{prefix_len};
 ghost use Rattle.std.specs.Option.{option_map};
 ghost use Rattle.rv_asm.specs.Answer.{Follows};
-ghost use Rattle.rv_asm.specs.ReadToken.{token_of, lexeme_of, tokens_in};
+ghost use Rattle.rv_asm.specs.Read.{lexeme_of, token_of, tokens_in};
 ghost use Rattle.rv_asm.specs.Token.{escape_of, quoted_length, unescaped, first_lexeme, tokens_of};
 ghost use Rattle.rv_asm.specs.Token.{is_separator, begins_name, is_name_byte, mark_of, number_in, number_of};
 

@@ -1,7 +1,7 @@
 use Rattle.std.proofs.Common.{◌≡◌, map, drop, is_some}
 use Rattle.std.specs.List.{list_all}
 use Rattle.rv_asm.specs.Meaning.{evaluate}
-use Rattle.rv_asm.specs.ReadOperand.{operand_of}
+use Rattle.rv_asm.specs.Read.{operand_of}
 use Rattle.rv_asm.specs.Statement.{expression_in}
 use Rattle.rv_asm.specs.Symbols.{value_in}
 use Rattle.rv_asm.proofs.emit.are_known.Given as goal

@@ -1,7 +1,7 @@
 use Rattle.std.proofs.Common.{List, ℕ, drop, Result}
 use Rattle.rv_asm.specs.Emitted.{EmitsOrRefuses}
 use Rattle.rv_asm.specs.Meaning.{data_of}
-use Rattle.rv_asm.specs.ReadOperand.{operands_in}
+use Rattle.rv_asm.specs.Read.{operands_in}
 use Rattle.rv_asm.specs.Symbols.{value_in}
 use Rattle.rv_asm.specs.declared.fault.AsmFault.{AsmFault}
 use Rattle.rv_asm.proofs.emit.emit_values.Given as goal

@@ -4,8 +4,7 @@ use Rattle.std.proofs.lemmas.List.{drop_more, drop_all}
 use Rattle.rv_asm.proofs.Joined.{joined, joined-nil, joined-end}
 use Rattle.rv_asm.proofs.Operands.{operands_of-pieces, joined-found, joined-operand}
 use Rattle.rv_asm.specs.Operand.{operands_in}
-use Rattle.rv_asm.specs.ReadOperand.{operand_of}
-use Rattle.rv_asm.specs.ReadToken.{token_of}
+use Rattle.rv_asm.specs.Read.{operand_of, token_of}
 use Rattle.rv_asm.specs.declared.fault.AsmFault.TheVariants.{BadOperands}
 use Rattle.rv_asm.proofs.operand.read_operands.Goals as goal
 

@@ -1,7 +1,6 @@
 use Rattle.std.proofs.Common.{◌≡◌, map, drop}
 use Rattle.rv_asm.specs.Operand.{operands_in, operands_of}
-use Rattle.rv_asm.specs.ReadOperand.{operand_of}
-use Rattle.rv_asm.specs.ReadToken.{token_of}
+use Rattle.rv_asm.specs.Read.{operand_of, token_of}
 use Rattle.rv_asm.proofs.Joined.{joined}
 use Rattle.rv_asm.proofs.operand.read_operands.Given as goal
 

@@ -1,6 +1,6 @@
 use Rattle.std.proofs.Common.{◌≡◌, map, drop}
 use Rattle.std.specs.List.{list_all}
-use Rattle.rv_asm.specs.ReadOperand.{operand_of}
+use Rattle.rv_asm.specs.Read.{operand_of}
 use Rattle.rv_asm.specs.Statement.{takes}
 use Rattle.rv_asm.specs.declared.operation.Place.TheVariants.{Value}
 use Rattle.rv_asm.proofs.statement.are_values.Given as goal

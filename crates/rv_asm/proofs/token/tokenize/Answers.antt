@@ -4,7 +4,7 @@ use Rattle.std.specs.Option.{option_map, option_to_list}
 use Rattle.std.proofs.lemmas.Bool.Decides.{nat_tests}
 use Rattle.rv_asm.specs.Token.{tokens_of}
 use Rattle.rv_asm.specs.declared.fault.AsmFault.TheVariants.{BadToken}
-use Rattle.rv_asm.specs.ReadToken.{lexeme_of, token_of}
+use Rattle.rv_asm.specs.Read.{lexeme_of, token_of}
 use Rattle.rv_asm.proofs.Joined.{joined, joined-nil, joined-push, joined-end}
 use Rattle.rv_asm.proofs.TokenLines.{tokens_of-first, tokens_of-none, tokens_of-empty}
 use Rattle.rv_asm.proofs.token.tokenize.Goals as goal

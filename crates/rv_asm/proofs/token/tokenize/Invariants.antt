@@ -1,6 +1,6 @@
 use Rattle.std.proofs.Common.{◌≡◌, length}
 use Rattle.rv_asm.specs.Token.{tokens_of}
-use Rattle.rv_asm.specs.ReadToken.{token_of}
+use Rattle.rv_asm.specs.Read.{token_of}
 use Rattle.rv_asm.proofs.Joined.{joined}
 use Rattle.rv_asm.proofs.token.tokenize.Given as goal
 

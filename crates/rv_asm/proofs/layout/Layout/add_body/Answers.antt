@@ -1,7 +1,7 @@
 use Rattle.std.proofs.Common.{◌≡◌, ◌∙◌, Ok, ap, sym, append-nil}
 use Rattle.rv_asm.proofs.Kept.{nothing_said}
 use Rattle.rv_asm.specs.Layout.{statement_in}
-use Rattle.rv_asm.specs.ReadToken.{tokens_in}
+use Rattle.rv_asm.specs.Read.{tokens_in}
 use Rattle.rv_asm.specs.Statement.{Nothing}
 use Rattle.rv_asm.specs.Symbols.{kept_in}
 use Rattle.rv_asm.proofs.layout.Layout.add_body.Goals as goal

@@ -3,7 +3,7 @@ use Rattle.std.specs.List.{list_any}
 use Rattle.rv_asm.specs.Faults.{label_fault}
 use Rattle.rv_asm.specs.Layout.{body_of, labelled, labels_of}
 use Rattle.rv_asm.specs.Placed.{is_start}
-use Rattle.rv_asm.specs.ReadToken.{tokens_in}
+use Rattle.rv_asm.specs.Read.{tokens_in}
 use Rattle.rv_asm.specs.Symbols.{found}
 use Rattle.rv_asm.proofs.symbols.Symbols.define_labels.Given as goal
 
