@@ -8,8 +8,7 @@ use Rattle.rv_asm.specs.Layout.{Layout, extended, layout, line_in, lines_of, unl
 use Rattle.rv_asm.specs.Meaning.{Spells, behind_text, contents, image_parts, line_cells, parts_in, section_parts}
 use Rattle.rv_asm.specs.Placed.{Placed, place, placed}
 use Rattle.rv_asm.specs.Statement.{Statement, Nothing}
-use Rattle.rv_asm.specs.declared.fault.AsmFault.{AsmFault}
-use Rattle.rv_asm.specs.declared.operation.Section.{Section}
+use Rattle.rv_asm.specs.declared.{fault.AsmFault.AsmFault, operation.Section.Section}
 use Rattle.rv_asm.specs.declared.operation.Section.TheVariants.{Text, Data}
 
 pub nothing_said : (r : Result Statement AsmFault) → says_nothing r ≡ true → r ≡ Ok Nothing

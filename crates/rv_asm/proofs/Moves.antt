@@ -5,10 +5,8 @@ use Rattle.rv_asm.proofs.Kept.{idle_says_nothing}
 use Rattle.rv_asm.specs.Layout.{Line, Unreadable, Readable, Layout, Meanings, behind, extended, grow_in, laid, labelled, label_at, offset, offset_in, size, statement_in}
 use Rattle.rv_asm.specs.Placed.{place}
 use Rattle.rv_asm.specs.Statement.{Statement, Choice}
-use Rattle.rv_asm.specs.declared.fault.AsmFault.{AsmFault}
-use Rattle.rv_asm.specs.declared.operation.Section.{Section}
+use Rattle.rv_asm.specs.declared.{fault.AsmFault.AsmFault, operation.Section.Section, reach.Reach.Reach}
 use Rattle.rv_asm.specs.declared.operation.Section.TheVariants.{Text, Data}
-use Rattle.rv_asm.specs.declared.reach.Reach.{Reach}
 
 grow : (part s : Section) (n : ℕ) (reach : Reach) → offset_in part reach ≤ offset_in part (grow_in s n reach)
 grow Text Text n reach = omega arith

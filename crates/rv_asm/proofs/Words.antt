@@ -11,9 +11,8 @@ use Rattle.rv_asm.specs.Kept.{Kept, is_idle, kept}
 use Rattle.rv_asm.specs.Layout.{Layout, extended, laid, layout, line_in, lines_of, offset_in, unlaid}
 use Rattle.rv_asm.specs.Listing.{line_holding, lines_behind_text, listing_of, reach_before, shown, word_count, words_between, words_in}
 use Rattle.rv_asm.specs.Placed.{place}
-use Rattle.rv_asm.specs.declared.operation.Section.{Section}
+use Rattle.rv_asm.specs.declared.{operation.Section.Section, reach.Reach.Reach}
 use Rattle.rv_asm.specs.declared.operation.Section.TheVariants.{Text, Data}
-use Rattle.rv_asm.specs.declared.reach.Reach.{Reach}
 
 held : (a b i : ℕ) → word_count a ≤ i → i < word_count b → (nat_le a (4 * i) && nat_lt (4 * i) b) ≡ true
 held a b i above below =

@@ -45,13 +45,9 @@ first_fault layout (Readable labels body) =
     option_or (label_fault layout.meanings (label_at layout.reach) labels)
     (body_fault (labelled layout.meanings (label_at layout.reach) labels) layout.reach body)
 
--- execution starts at no multiple of 4
-abbrev pub start_misalignment : ℕ → Layout → Option AsmFault
-start_misalignment base whole = if start_address base whole % 4 == 0 then None else Some Misaligned
-
 -- the fault that the second pass finds in a line: of its statement, or of the start where it defines _start
 abbrev pub second_fault : ℕ → Layout → Placed → Option AsmFault
-second_fault base whole line = option_or (result_err (line_cells base whole line)) (if line.starts then start_misalignment base whole else None)
+second_fault base whole line = option_or (result_err (line_cells base whole line)) (if line.starts then (if start_address base whole % 4 == 0 then None else Some Misaligned) else None)
 
 -- what the first pass finds in lines behind a layout, each in view of the lines before it
 abbrev pub first_faults : Layout → List Line → List (Option AsmFault)

@@ -26,13 +26,9 @@ layout_of program = record { reach = program.reach; meanings = found program.sym
 abbrev pub placed_of : Record → Placed
 placed_of line = place_body line.reach line.label_starts (statement line.reading.form (operands_in line.reading.operands.items))
 
--- what the program keeps of a line
-abbrev pub kept_of : Record → Kept
-kept_of line = record { number = line.line.number; bytes = line.line.bytes.now; place = placed_of line }
-
 -- what the program keeps of lines
 abbrev pub kept_in : List Record → List Kept
-kept_in records = map kept_of records
+kept_in records = map (λ line. record { number = line.line.number; bytes = line.line.bytes.now; place = placed_of line }) records
 
 -- the lines that the program keeps, where they stand
 abbrev pub lines_in : List Record → List Placed

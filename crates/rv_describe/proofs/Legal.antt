@@ -5,19 +5,15 @@ use Rattle.std.specs.List.{position_from, slice_get}
 use Rattle.std.proofs.lemmas.Bool.{cases_Bool}
 use Rattle.std.proofs.lemmas.Option.{same_Some}
 use Rattle.toml.specs.Data.{Data, Members, as_integer}
-use Rattle.rv_isa.specs.declared.bounds.Bounds.{Bounds}
-use Rattle.rv_isa.specs.declared.keys.Key.{Key}
+use Rattle.rv_isa.specs.declared.{bounds.Bounds.Bounds, keys.Key.Key, keys.NumberKey.NumberKey, values.Values.Values}
 use Rattle.rv_isa.specs.declared.keys.Key.TheVariants.{Number, Recovery, Pipelined, PredictorKind}
-use Rattle.rv_isa.specs.declared.keys.NumberKey.{NumberKey}
 use Rattle.rv_isa.specs.declared.keys.NumberKey.TheVariants.{RamSize}
-use Rattle.rv_isa.specs.declared.values.Values.{Values}
 use Rattle.rv_isa.specs.Bounds.{takes}
 use Rattle.rv_isa.specs.Key.{ObeysEachKey, key_place, number_of, order, row_of}
 use Rattle.rv_isa.specs.Standard.{standard_values}
 use Rattle.rv_isa.proofs.LegalKeys.{in_order, number_of-values_with, standard_taken}
-use Rattle.rv_describe.specs.declared.description_error.DescriptionError.{DescriptionError}
+use Rattle.rv_describe.specs.declared.{description_error.DescriptionError.DescriptionError, faults.ValueFault.ValueFault}
 use Rattle.rv_describe.specs.declared.description_error.DescriptionError.TheVariants as error
-use Rattle.rv_describe.specs.declared.faults.ValueFault.{ValueFault}
 use Rattle.rv_describe.specs.declared.faults.ValueFault.TheVariants.{WrongKind, OutOfRange, NotPowerOfTwo}
 use Rattle.rv_describe.specs.Description.{IsFaultless, IsLegalText, described, first_error}
 use Rattle.rv_describe.specs.Document.{document, held}

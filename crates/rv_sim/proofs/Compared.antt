@@ -1,8 +1,7 @@
 -- Jobs that are run one behind the other.
 use Rattle.std.proofs.Common.{◌≡◌, ◌∙◌, ℕ, ◌+◌, ◌<◌, List, [], ◌∷◌, ◌++◌, length, take, get_or, sym, ap, subst, arith}
 use Rattle.std.proofs.lemmas.List.{take_all, take_more}
-use Rattle.rv_job.specs.declared.comparison.Comparison.{Comparison}
-use Rattle.rv_job.specs.declared.job.Job.{Job}
+use Rattle.rv_job.specs.declared.{comparison.Comparison.Comparison, job.Job.Job}
 use Rattle.rv_report.specs.Comparison.{table_of}
 use Rattle.rv_report.specs.declared.totals.Totals.{Totals}
 use Rattle.rv_sim.specs.Comparison.{AreRuns, IsComparisonTable, IsRun}

@@ -3,8 +3,7 @@ use Rattle.std.proofs.Common.{◌≡◌, ℕ, ◌+◌, ◌-◌, ◌==◌, false,
 use Rattle.std.proofs.lemmas.Bool.{ne_eqb}
 use Rattle.std.specs.FinSet as set
 use Rattle.rv_isa.specs.Arrivals.{lines_at}
-use Rattle.rv_isa.specs.declared.lines.Arrival.{Arrival}
-use Rattle.rv_isa.specs.declared.lines.Lines.{Lines}
+use Rattle.rv_isa.specs.declared.{lines.Arrival.Arrival, lines.Lines.Lines}
 use Rattle.rv_isa.specs.Arrivals.{no_lines}
 use Rattle.rv_hardware.specs.Broadcast.{broadcast}
 use Rattle.rv_hardware.specs.Commit.{Committing}

@@ -1,7 +1,6 @@
 use Rattle.std.proofs.Common.{◌≡◌}
 use Rattle.toml.specs.View.{members_view}
-use Rattle.rv_describe.specs.Unknown.{any_member}
-use Rattle.rv_describe.specs.Unknown.{unknown_at_top}
+use Rattle.rv_describe.specs.Unknown.{any_member, unknown_at_top}
 use Rattle.rv_describe.proofs.unknown.has_unknown.Given as goal
 
 abbrev pub invariant-loop-name : goal.invariant-loop-name

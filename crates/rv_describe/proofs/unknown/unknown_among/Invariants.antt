@@ -1,7 +1,6 @@
 use Rattle.std.proofs.Common.{◌≡◌, not, Some}
 use Rattle.toml.specs.View.{members_view}
-use Rattle.rv_describe.specs.Unknown.{any_member}
-use Rattle.rv_describe.specs.Unknown.{is_key}
+use Rattle.rv_describe.specs.Unknown.{any_member, is_key}
 use Rattle.rv_describe.proofs.unknown.unknown_among.Given as goal
 
 abbrev pub invariant-loop-inner : goal.invariant-loop-inner
