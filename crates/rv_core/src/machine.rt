@@ -1,5 +1,6 @@
 ghost use Rattle.std.specs.Prelude.{◌≡◌, ◌+◌, ◌^◌, ◌<◌, ◌≤◌, ◌↔◌, ◌==◌, List, ◌++◌, is_some, length, nat_le, vec_len, vec_capacity, IsTrue, IfOk, IfErr};
 ghost use Rattle.std.specs.FinSet as set;
+ghost use Rattle.rv_isa.specs.Description.{IsLegal};
 ghost use Rattle.rv_memory.specs.Memory.{byte_seen, word_of};
 ghost use Rattle.rv_hardware.specs.Cycle.{IsCycle, any_prediction};
 ghost use Rattle.rv_hardware.specs.Drain.{drain_end};
@@ -30,7 +31,8 @@ const LAST_CYCLE: u64 = 1 << 40;
 /// The core with its branch predictor, of which nothing is asked but that its calls return.
 #[derive(Drop)]
 pub struct Core {
-    parts: Parts,
+    // In a box, so that each owner drops it by one call.
+    parts: Box<Parts>,
     predictor: Box<dyn Predictor>,
     // The steps of a cycle, with room for as many as can retire.
     steps: Vec<Step>,
@@ -44,12 +46,12 @@ impl Model for Core {
 
     ghost coded = { hardware_code };
 
-    ghost view = { λ core. core.parts };
+    ghost view = { λ core. core.parts.value };
 
     ghost use Rattle.std.specs.Prelude.{vec_capacity};
     ghost use Rattle.rv_core.specs.Reached.{IsReached};
 
-    ghost invariant = { λ core. IsReached core.parts (vec_capacity core.steps) };
+    ghost invariant = { λ core. IsReached core.parts.value (vec_capacity core.steps) };
 }
 
 impl Core {
@@ -74,9 +76,12 @@ impl Core {
             return Err(NewError::ImageDoesNotFit);
         }
         let parts = Parts::new(alloc, description, image)?;
+        let Ok(boxed) = Box::new(alloc, parts) else {
+            return Err(NewError::Memory);
+        };
         let steps = Vec::with_capacity(alloc, 8)?;
         Ok(Core {
-            parts,
+            parts: boxed,
             predictor,
             steps,
         })
@@ -203,7 +208,8 @@ impl Core {
 
 // Whether the described RAM can hold an image.
 fn fits(description: &Description, image: &Image) -> bool
-    ensures { IsTrue result ↔ IsLoadable description.now image.now.base image.now.bytes image.now.start }
+    ensures legal { IsLegal description.now }
+    ensures fits { IsTrue result ↔ IsLoadable description.now image.now.base image.now.bytes image.now.start }
 {
     let values = description.values();
     image.base == values.ram_base

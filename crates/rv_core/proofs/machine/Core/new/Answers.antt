@@ -1,14 +1,12 @@
 use Rattle.std.proofs.Common.{sym, subst, ◌∙◌, arith}
-use Rattle.rv_isa.specs.Description.{IsLegal}
-use Rattle.rv_hardware.specs.Hardware.{Hardware}
 use Rattle.rv_hardware.specs.Run.{Reachable, at_reset}
 use Rattle.rv_core.proofs.machine.Core.new.Goals as goal
 
 pub invariant_of-result : goal.invariant_of-result
 invariant_of-result g c =
-    let legal : IsLegal c.args.description.now = subst (λ (h : Hardware). IsLegal h.values) (c.parts.view_is ∙ c.in_ok-parts.ensures) c.parts.invariant.sound.legal in
+    let boxed = c.in-Ok.ensures.ok ∙ c.in_ok-parts.ensures in
     record {
-      reached = subst Reachable (sym c.in_ok-parts.ensures) (at_reset legal (c.fits.ensures.0 c.if-not-fits.false));
-      numbers = rw c.in_ok-parts.ensures (omega arith);
+      reached = subst Reachable (sym boxed) (at_reset c.fits.ensures.legal (c.fits.ensures.fits.0 c.if-not-fits.false));
+      numbers = rw boxed (omega arith);
       has_room = omega (arith, c.in_ok-steps.ensures.capacity);
     }
