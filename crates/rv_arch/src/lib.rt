@@ -10,8 +10,6 @@ mod observed;
 mod outcome;
 mod reference;
 mod run;
-#[cfg(test)]
-mod tests;
 
 pub use csr::{CsrOperand, Illegal};
 pub use csrs::Csrs;

@@ -25,6 +25,3 @@ mod token;
 pub use assembler::assemble;
 pub use fault::{AsmError, AsmFault};
 pub use listing::list_text;
-
-#[cfg(test)]
-mod tests;

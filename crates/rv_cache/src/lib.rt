@@ -4,12 +4,8 @@
 #![tactic(auto)]
 
 mod cache;
-#[cfg(test)]
-mod halves;
 mod line;
 mod set;
-#[cfg(test)]
-mod tests;
 mod write_back;
 
 pub use cache::Cache;

@@ -5,8 +5,6 @@
 mod arguments;
 mod command;
 mod help;
-#[cfg(test)]
-mod tests;
 mod usage;
 
 pub use command::{Command, parse_words};

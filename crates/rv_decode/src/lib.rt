@@ -10,6 +10,3 @@ mod opcodes;
 mod operations;
 
 pub use codec::{decode, encode};
-
-#[cfg(test)]
-mod tests;

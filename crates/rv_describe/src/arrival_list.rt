@@ -4,9 +4,6 @@ ghost use Rattle.toml.specs.Errors.{IsBlank};
 ghost use Rattle.toml.specs.View.{table_view};
 ghost use Rattle.rv_describe.specs.ArrivalList.{listed_arrivals, table_meaning};
 
-#[cfg(test)]
-mod tests;
-
 use crate::arrivals_error::ArrivalsError;
 use crate::document::document;
 use crate::entries::read_entries;

@@ -20,6 +20,3 @@ pub use arrivals_error::ArrivalsError;
 pub use description::read_description;
 pub use description_error::DescriptionError;
 pub use rv_isa::key_name;
-
-#[cfg(test)]
-mod tests;

@@ -19,8 +19,6 @@ mod stack;
 mod stored;
 mod stores;
 mod tale;
-#[cfg(test)]
-mod tests;
 mod word_note;
 mod word_notes;
 

@@ -8,8 +8,6 @@ mod flow;
 mod front;
 mod predictor;
 mod predictors;
-#[cfg(test)]
-mod tests;
 
 pub use fetched::{FetchStop, Fetched};
 pub use flow::Flow;

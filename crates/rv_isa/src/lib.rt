@@ -22,8 +22,6 @@ mod operations;
 mod per_kind;
 mod registers;
 mod store_bytes;
-#[cfg(test)]
-mod tests;
 mod values;
 
 pub use arithmetic::{AluOp, alu};

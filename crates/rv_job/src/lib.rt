@@ -13,8 +13,6 @@ mod job;
 mod job_text;
 mod listed_job;
 mod parts;
-#[cfg(test)]
-mod tests;
 
 pub use comparison::{Comparison, read_comparison};
 pub use errors::SimError;

@@ -8,8 +8,6 @@ mod event;
 mod running;
 mod stage;
 mod statement;
-#[cfg(test)]
-mod tests;
 mod written;
 
 pub use written::write_log;

@@ -7,8 +7,6 @@ mod in_flight;
 mod passage;
 mod rows;
 mod table;
-#[cfg(test)]
-mod tests;
 
 pub use in_flight::MOST_IN_FLIGHT;
 pub use passage::{Ending, Passage};

@@ -10,11 +10,12 @@ mod picture;
 mod place;
 mod recording;
 mod svg;
-#[cfg(test)]
-mod tests;
 mod text;
 mod window;
 mod written;
 
 pub use picture::Form;
+pub use svg::write_picture_svg;
+pub use text::write_picture_text;
+pub use window::Window;
 pub use written::write_picture;

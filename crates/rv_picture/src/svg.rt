@@ -323,10 +323,10 @@ fn write_shown<W: Write>(
 }
 
 /// Writes a picture as an SVG: cycle numbers on top, a row for each instruction that shows something in the window, with a
-/// box for each cell, a line for each interrupt, and a legend. Asks for no memory. Fails by `WriteFailed` alone, and what
-/// was written is then a beginning of the picture.
+/// box for each cell, a line for each interrupt, and a legend. The window ends below cycle 2^64. Asks for no memory. Fails
+/// by `WriteFailed` alone, and what was written is then a beginning of the picture.
 #[tactic(auto, unfolding(crate::specs::SvgPicture::svg_picture))]
-pub(crate) fn write_picture_svg<W: Write>(
+pub fn write_picture_svg<W: Write>(
     rows: &[Passage],
     interrupts: &[u64],
     listing: &Listing,

@@ -215,9 +215,9 @@ fn write_interrupts<W: Write>(
 }
 
 /// Writes a picture for a terminal: a line of cycle numbers, a line for each instruction that shows something in the
-/// window, one for the interrupts if there are any, and a legend. Asks for no memory. Fails by `WriteFailed` alone, and
-/// what was written is then a beginning of the picture.
-pub(crate) fn write_picture_text<W: Write>(
+/// window, one for the interrupts if there are any, and a legend. The window ends below cycle 2^64. Asks for no memory.
+/// Fails by `WriteFailed` alone, and what was written is then a beginning of the picture.
+pub fn write_picture_text<W: Write>(
     rows: &[Passage],
     interrupts: &[u64],
     listing: &Listing,

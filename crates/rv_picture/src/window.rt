@@ -1,8 +1,8 @@
 /// The cycles that a picture shows.
 #[derive(Clone, Copy, Debug, PartialEq, Eq)]
-pub(crate) struct Window {
+pub struct Window {
     /// The number of the first of them.
-    pub(crate) first: u64,
+    pub first: u64,
     /// How many they are.
-    pub(crate) cycles: u64,
+    pub cycles: u64,
 }

@@ -7,8 +7,6 @@
 mod checkpoints;
 mod producer;
 mod rename_map;
-#[cfg(test)]
-mod tests;
 
 pub use producer::Producer;
 pub use rename_map::RenameMap;

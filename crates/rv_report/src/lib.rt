@@ -11,8 +11,6 @@ mod reference_report;
 mod rows;
 mod run_report;
 mod state;
-#[cfg(test)]
-mod tests;
 mod totals;
 
 pub use comparison::write_table;

@@ -6,8 +6,6 @@
 
 mod entry;
 mod reorder_buffer;
-#[cfg(test)]
-mod tests;
 
 pub use entry::{Entry, Stage};
 pub use reorder_buffer::Rob;

@@ -6,8 +6,6 @@
 mod forwarding;
 mod queue;
 mod store;
-#[cfg(test)]
-mod tests;
 
 pub use queue::StoreQueue;
 pub use store::{Store, StorePhase, StoreState};

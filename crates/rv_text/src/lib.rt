@@ -6,8 +6,6 @@ mod digits;
 mod fields;
 mod output;
 mod plain;
-#[cfg(test)]
-mod tests;
 
 pub use digits::hexadecimal;
 pub use fields::{Field, Value, write_cells, write_fields};

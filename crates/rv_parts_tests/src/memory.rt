@@ -1,0 +1,2 @@
+mod ram;
+mod stale;

@@ -1,0 +1,83 @@
+use rv_isa::{Description, Reg, Values};
+use rv_rename::RenameMap;
+use std::process::Abort;
+use std::test::Fail;
+
+fn description(rt: &impl Abort, rob: u32) -> Description {
+    let values = Values {
+        rob,
+        ..Values::standard()
+    };
+    Description::new(values).expect(rt, "a legal description")
+}
+
+fn x(rt: &impl Abort, number: u8) -> Reg {
+    Reg::new(number).expect(rt, "a register")
+}
+
+fn define(rt: &impl Abort, map: &mut RenameMap, reg: Reg, seq: u64) {
+    assert!(rt; map.can_define(seq));
+    map.define(reg, seq);
+}
+
+fn checkpoint(rt: &impl Abort, map: &mut RenameMap, seq: u64) {
+    assert!(rt; map.can_checkpoint(seq));
+    map.checkpoint(seq);
+}
+
+#[test]
+fn youngest_producer_is_found_while_the_ring_wraps_around(rt: HostRuntime) -> Result<(), Fail> {
+    let mut map = RenameMap::new(rt.alloc(), &description(&rt, 3))?;
+    let (x1, x2) = (x(&rt, 1), x(&rt, 2));
+    for first in [0, 3, 6, 9, 12] {
+        define(&rt, &mut map, x1, first);
+        define(&rt, &mut map, x2, first + 1);
+        define(&rt, &mut map, x1, first + 2);
+        assert!(rt; map.is_full());
+        map.retire(x1, first);
+        assert_eq!(rt; map.lookup(x1), Some(first + 2));
+        assert_eq!(rt; map.lookup(x2), Some(first + 1));
+        map.retire(x2, first + 1);
+        assert_eq!(rt; map.lookup(x2), None);
+        map.retire(x1, first + 2);
+        assert_eq!(rt; map.lookup(x1), None);
+    }
+    Ok(())
+}
+
+#[test]
+fn checkpoint_brings_back_what_has_not_retired(rt: HostRuntime) -> Result<(), Fail> {
+    let mut map = RenameMap::new(rt.alloc(), &description(&rt, 8))?;
+    let (x1, x2, x3) = (x(&rt, 1), x(&rt, 2), x(&rt, 3));
+    define(&rt, &mut map, x1, 0);
+    define(&rt, &mut map, x2, 1);
+    checkpoint(&rt, &mut map, 2);
+    define(&rt, &mut map, x1, 3);
+    checkpoint(&rt, &mut map, 4);
+    define(&rt, &mut map, x3, 5);
+    map.retire(x1, 0);
+
+    map.restore(4);
+    assert_eq!(rt; map.lookup(x3), None);
+    assert_eq!(rt; map.lookup(x1), Some(3));
+
+    define(&rt, &mut map, x3, 5);
+    map.restore(2);
+    assert_eq!(rt; map.lookup(x1), None);
+    assert_eq!(rt; map.lookup(x2), Some(1));
+    assert_eq!(rt; map.lookup(x3), None);
+
+    // The numbers behind the checkpoint are used again, and the later checkpoint is gone.
+    define(&rt, &mut map, x2, 3);
+    map.restore(4);
+    assert_eq!(rt; map.lookup(x2), Some(3));
+    map.restore(2);
+    assert_eq!(rt; map.lookup(x2), Some(1));
+    map.drop_checkpoint(2);
+    define(&rt, &mut map, x2, 3);
+    map.restore(2);
+    assert_eq!(rt; map.lookup(x2), Some(3));
+    map.clear();
+    assert_eq!(rt; map.lookup(x2), None);
+    Ok(())
+}

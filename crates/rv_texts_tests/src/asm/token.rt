@@ -1,0 +1,60 @@
+use super::BASE;
+use rv_asm::{AsmFault, assemble};
+use std::test::Fail;
+
+#[test]
+fn tokens_stand_with_or_without_blanks_and_a_comment_is_left_out(
+    rt: HostRuntime,
+) -> Result<(), Fail> {
+    let cases: [(&[u8], &[u8]); 8] = [
+        (b"l: lw x7, -4(x5) # load", b"\x83\xa3\xc2\xff"),
+        (b"l:lw\tx7 ,- 4 ( x5 )\r", b"\x83\xa3\xc2\xff"),
+        (b"_.$a1:.half 0010,0xFf,0b101", b"\x0a\x00\xff\x00\x05\x00"),
+        (
+            b".word 4294967295, 0xFFFFFFFF, 0",
+            b"\xff\xff\xff\xff\xff\xff\xff\xff\0\0\0\0",
+        ),
+        (b".asciz \"a#b\" #\xff", b"a#b\0"),
+        (b".ascii \"\\n\\t\\\\\\\"\\0\xe9\"", b"\n\t\\\"\0\xe9"),
+        (b"# \x07 and \"", b""),
+        (b"", b""),
+    ];
+    for (line, bytes) in cases.iter() {
+        let image = assemble(rt.alloc(), line, BASE)
+            .ok()
+            .ok_or("these lines are legal")?;
+        assert_eq!(rt; image.bytes.as_slice(), *bytes);
+    }
+    Ok(())
+}
+
+#[test]
+fn what_is_no_token_is_refused(rt: HostRuntime) -> Result<(), Fail> {
+    let lines: [&[u8]; 18] = [
+        b"4294967296",
+        b"0x100000000",
+        b"0x",
+        b"0b",
+        b"0b2",
+        b"0xg",
+        b"0X1",
+        b"12a",
+        b"1_0",
+        b"5.",
+        b"7$",
+        b"\"abc",
+        b"\"a\\q\"",
+        b"\"\\",
+        b"a ; b",
+        b"'a'",
+        b"addi\x80",
+        b"\x07",
+    ];
+    for line in lines.iter() {
+        let error = assemble(rt.alloc(), line, BASE)
+            .err()
+            .ok_or("no token stands there")?;
+        assert!(rt; error.fault == AsmFault::BadToken);
+    }
+    Ok(())
+}

@@ -1,0 +1,288 @@
+use rv_command::{parse_words, show_usage};
+use rv_job::FaultLines;
+use std::alloc::Global;
+use std::process::Abort;
+use std::test::Fail;
+
+const HELP: &str = "Simulates a RISC-V core
+
+Usage: rv_sim <COMMAND>
+
+Commands:
+  run        Runs the text on standard input on the core, cycle by cycle
+  reference  Runs the text on standard input, one step at a time
+  check      Assembles the text on standard input
+  picture    Draws some cycles of a run of the text on standard input
+  log        Writes a run of the text on standard input as a log for pipeline viewers (Konata)
+  explain    Says in sentences how a run of the text on standard input went
+  compare    Runs one program on several machines, and compares their totals
+  help       Print this message or the help of the given subcommand(s)
+
+Options:
+  -h, --help     Print help
+  -V, --version  Print version
+
+A job is a program in assembly; or a description of the machine in TOML, a line %%, and a program;
+or a description, %%, interrupt arrivals in TOML, %%, and a program.
+
+Example:
+  printf 'addi x1,x0,5\\nebreak\\n' | rv_sim run --trace
+";
+
+// The help of a command that runs a job: its beginning, and its example.
+macro_rules! help_of_run {
+    ($beginning:literal, $example:literal) => {
+        concat!(
+            $beginning,
+            "
+Reads a job from standard input, as in:
+  ",
+            $example,
+            "
+
+Exit status:
+  0  the run ended by a breakpoint or its limit
+  1  the job was refused
+  2  wrong usage
+  3  the run stopped at a stale word
+  4  standard input or output failed
+  5  out of memory
+"
+        )
+    };
+}
+
+const HELP_OF_RUN: &str = help_of_run!(
+    "Runs the text on standard input on the core, cycle by cycle
+
+Usage: rv_sim run [OPTIONS]
+
+Options:
+      --trace      Begins the report with a line for each step
+      --limit <N>  The most cycles, 1 to 1000000 [default: 100000]
+  -h, --help       Print help
+",
+    "rv_sim run --trace < FILE"
+);
+
+const HELP_OF_REFERENCE: &str = help_of_run!(
+    "Runs the text on standard input, one step at a time
+
+Usage: rv_sim reference [OPTIONS]
+
+Options:
+      --limit <N>  The most steps, 1 to 1000000 [default: 100000]
+  -h, --help       Print help
+",
+    "rv_sim reference < FILE"
+);
+
+const HELP_OF_CHECK: &str = "Assembles the text on standard input
+
+Usage: rv_sim check
+
+Options:
+  -h, --help  Print help
+
+Reads a job from standard input, and of it not the arrivals, as in:
+  rv_sim check < FILE
+
+Exit status:
+  0  the program was assembled
+  1  the job was refused
+  2  wrong usage
+  4  standard input or output failed
+  5  out of memory
+";
+
+const HELP_OF_PICTURE: &str = "Draws some cycles of a run of the text on standard input
+
+Usage: rv_sim picture [OPTIONS]
+
+Options:
+      --text        Draws in characters, and not as SVG
+      --from <N>    The first cycle, 0 to 999999 [default: 0]
+      --cycles <N>  How many cycles, 1 to 1000 [default: 60]
+  -h, --help        Print help
+
+Reads a job from standard input, runs it up to the last of those cycles, and draws a column for each
+of them and a row for each instruction that was in the core then, as in:
+  rv_sim picture --from 100 --cycles 40 < FILE > FILE.svg
+  rv_sim picture --text < FILE
+
+Exit status:
+  0  the run ended by a breakpoint or with the last of those cycles
+  1  the job was refused
+  2  wrong usage
+  3  the run stopped at a stale word
+  4  standard input or output failed
+  5  out of memory
+";
+
+const HELP_OF_LOG: &str = help_of_run!(
+    "Writes a run of the text on standard input as a log for pipeline viewers (Konata)
+
+Usage: rv_sim log [OPTIONS]
+
+Options:
+      --limit <N>  The most cycles, 1 to 1000000 [default: 100000]
+  -h, --help       Print help
+",
+    "rv_sim log < FILE > FILE.log"
+);
+
+const HELP_OF_EXPLAIN: &str = help_of_run!(
+    "Says in sentences how a run of the text on standard input went
+
+Usage: rv_sim explain [OPTIONS]
+
+Options:
+      --limit <N>  The most cycles, 1 to 1000000 [default: 100000]
+  -h, --help       Print help
+",
+    "rv_sim explain < FILE"
+);
+
+const HELP_OF_COMPARE: &str = "Runs one program on several machines, and compares their totals
+
+Usage: rv_sim compare [OPTIONS]
+
+Options:
+      --limit <N>  The most cycles of each run, 1 to 1000000 [default: 100000]
+  -h, --help       Print help
+
+Reads from standard input up to 64 descriptions of machines in TOML, a line %% behind each, and a program,
+as in:
+  rv_sim compare < FILE
+
+Writes a line for each machine, in their order, its cells with a tab between two: its number, the
+counts of its run, and why the run ended.
+
+Exit status:
+  0  the table was written; its last column says how each run ended
+  1  a description or the program was refused
+  2  wrong usage
+  4  standard input or output failed
+  5  out of memory
+";
+
+const FROM_TOO_LATE: &str =
+    "error: invalid value '1000000' for '--from <N>': 1000000 is not in 0..=999999
+
+For more information, try '--help'.
+";
+
+const CYCLES_TOO_MANY: &str =
+    "error: invalid value '1001' for '--cycles <N>': 1001 is not in 1..=1000
+
+For more information, try '--help'.
+";
+
+const VERSION: &str = "rv_sim 0.1.0
+";
+
+const LIMIT_OF_ZERO: &str = "error: invalid value '0' for '--limit <N>': 0 is not in 1..=1000000
+
+For more information, try '--help'.
+";
+
+const NO_COMMAND: &str = "error: 'rv_sim' requires a subcommand but one was not provided
+  [subcommands: run, reference, check, picture, log, explain, compare, help]
+
+Usage: rv_sim <COMMAND>
+
+For more information, try '--help'.
+";
+
+const FILE_AS_ARGUMENT: &str = "error: unexpected argument 'FILE' found
+
+Usage: rv_sim run [OPTIONS]
+
+For more information, try '--help'.
+A job comes on standard input, as in 'rv_sim run < FILE'.
+";
+
+const FILE_AS_COMMAND: &str = "error: unrecognized subcommand 'FILE'
+
+Usage: rv_sim <COMMAND>
+
+For more information, try '--help'.
+A job comes on standard input, as in 'rv_sim run < FILE'.
+";
+
+fn refused(alloc: Global, texts: &[&str]) -> Result<clap::Error, Fail> {
+    let mut words = Vec::new(alloc);
+    for text in texts {
+        words.push(String::from_str(alloc, text)?)?;
+    }
+    match parse_words(alloc, words.as_slice()) {
+        Ok(_) => Err(Fail::from("words were taken")),
+        Err(error) => Ok(error),
+    }
+}
+
+// The words are refused with this text and exit status, and no fault is told beside it.
+fn is_shown<R: Abort>(
+    rt: &R,
+    alloc: Global,
+    words: &[&str],
+    text: &str,
+    status: u8,
+) -> Result<(), Fail> {
+    let error = refused(alloc, words)?;
+    let mut output = Vec::new(alloc);
+    let mut errors = FaultLines::new(Vec::new(alloc));
+    let shown = show_usage(alloc, &error, &mut output, &mut errors);
+    let told = errors.into_writer();
+    let (text_shown, other) = if status == 0 {
+        (output, told)
+    } else {
+        (told, output)
+    };
+    assert_eq!(rt; shown, status, "{text}");
+    assert_eq!(rt; text_shown.as_slice(), text.as_bytes());
+    assert!(rt; other.is_empty(), "{text}");
+    Ok(())
+}
+
+#[test]
+fn help_and_version_have_their_texts(rt: HostRuntime) -> Result<(), Fail> {
+    let alloc = rt.alloc();
+    let cases: [(&[&str], &str); 11] = [
+        (&["rv_sim", "--help"], HELP),
+        (&["rv_sim", "help"], HELP),
+        (&["rv_sim", "run", "-h"], HELP_OF_RUN),
+        (&["rv_sim", "run", "--help"], HELP_OF_RUN),
+        (&["rv_sim", "reference", "--help"], HELP_OF_REFERENCE),
+        (&["rv_sim", "check", "--help"], HELP_OF_CHECK),
+        (&["rv_sim", "help", "picture"], HELP_OF_PICTURE),
+        (&["rv_sim", "log", "--help"], HELP_OF_LOG),
+        (&["rv_sim", "explain", "--help"], HELP_OF_EXPLAIN),
+        (&["rv_sim", "compare", "--help"], HELP_OF_COMPARE),
+        (&["rv_sim", "--version"], VERSION),
+    ];
+    for (words, text) in cases {
+        is_shown(&rt, alloc, words, text, 0)?;
+    }
+    Ok(())
+}
+
+#[test]
+fn mistakes_have_their_texts_with_a_hint_where_a_word_may_be_a_file(
+    rt: HostRuntime,
+) -> Result<(), Fail> {
+    let alloc = rt.alloc();
+    let cases: [(&[&str], &str); 7] = [
+        (&["rv_sim", "reference", "--limit", "0"], LIMIT_OF_ZERO),
+        (&["rv_sim", "compare", "--limit=0"], LIMIT_OF_ZERO),
+        (&["rv_sim", "picture", "--from", "1000000"], FROM_TOO_LATE),
+        (&["rv_sim", "picture", "--cycles", "1001"], CYCLES_TOO_MANY),
+        (&["rv_sim"], NO_COMMAND),
+        (&["rv_sim", "run", "FILE"], FILE_AS_ARGUMENT),
+        (&["rv_sim", "FILE"], FILE_AS_COMMAND),
+    ];
+    for (words, text) in cases {
+        is_shown(&rt, alloc, words, text, 2)?;
+    }
+    Ok(())
+}

@@ -1,0 +1,16 @@
+//! The tests of what is read: assembly texts, descriptions, jobs and words of a command; and of the texts that are
+//! written. They stand apart, so that no crate is proved a second time for them.
+#![tactic(auto)]
+
+#[cfg(test)]
+mod asm;
+#[cfg(test)]
+mod command;
+#[cfg(test)]
+mod describe;
+#[cfg(test)]
+mod job;
+#[cfg(test)]
+mod source;
+#[cfg(test)]
+mod text;

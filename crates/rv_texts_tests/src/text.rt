@@ -1,0 +1,53 @@
+use rv_text::{Field, Value, write_cells, write_fields, write_plain};
+use std::test::Fail;
+
+#[test]
+fn a_tab_is_shown_as_a_blank_and_other_control_bytes_as_question_marks(
+    rt: HostRuntime,
+) -> Result<(), Fail> {
+    let mut shown = Vec::new(rt.alloc());
+    let written = write_plain(
+        &mut shown,
+        b"addi\tx1, x0, 5 # \x1b[1m \xe2\x82\xac ~\x7f\r\x1f",
+    );
+    assert_eq!(&rt; written, Ok(()));
+    assert_eq!(&rt;
+        shown.as_slice(),
+        b"addi x1, x0, 5 # ?[1m ??? ~???".as_slice()
+    );
+    Ok(())
+}
+
+// 5 / 3 is cut, and what is left of 601 / 200 begins with zeros.
+const VALUES: [Value; 6] = [
+    Value::Count(18_446_744_073_709_551_615),
+    Value::Word(0x0123_4567),
+    Value::Word(0x89ab_cdef),
+    Value::Ratio { count: 5, each: 3 },
+    Value::Ratio {
+        count: 601,
+        each: 200,
+    },
+    Value::Ratio { count: 5, each: 0 },
+];
+
+#[test]
+fn each_value_is_shown_in_a_cell_and_in_a_line(rt: HostRuntime) -> Result<(), Fail> {
+    let mut cells = Vec::new(rt.alloc());
+    assert_eq!(&rt; write_cells(&mut cells, &VALUES), Ok(()));
+    assert_eq!(&rt;
+        cells.as_slice(),
+        b"18446744073709551615\t01234567\t89abcdef\t1.666\t3.005\t-\t".as_slice()
+    );
+    let mut lines = Vec::new(rt.alloc());
+    let fields = VALUES.map(|value| Field {
+        name: "name",
+        value,
+    });
+    assert_eq!(&rt; write_fields(&mut lines, &fields), Ok(()));
+    assert_eq!(&rt;
+        lines.as_slice(),
+        b"name 18446744073709551615\nname 01234567\nname 89abcdef\nname 1.666\nname 3.005\nname -\n".as_slice()
+    );
+    Ok(())
+}

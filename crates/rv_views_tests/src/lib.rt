@@ -1,0 +1,16 @@
+//! The tests of what shows a run: reports, logs, pictures and explanations. They stand apart, so that no crate is proved
+//! a second time for them.
+#![tactic(auto)]
+
+#[cfg(test)]
+mod explain;
+#[cfg(test)]
+mod log;
+#[cfg(test)]
+mod machine;
+#[cfg(test)]
+mod passage;
+#[cfg(test)]
+mod picture;
+#[cfg(test)]
+mod report;

@@ -1,0 +1,65 @@
+use crate::machine::{core, described, listing, narrow, no_arrivals};
+use rv_arch::Stop;
+use rv_log::write_log;
+
+// One addition and a breakpoint.
+const PROGRAM: &[u8] = &[0x93, 0x00, 0x50, 0x00, 0x73, 0x00, 0x10, 0x00];
+
+// The addition is fetched in cycle 0, dispatched in 1, issued in 2, broadcast in 3 and retired in 4; the breakpoint traps in 5,
+// which flushes what was fetched behind it, and fetches where mtvec points to, outside RAM. A viewer ends an instruction's last
+// stage where it reads the R, so that this stands behind the C of the cycle.
+const LOG: &[u8] = b"Kanata\t0004
+C=\t0
+I\t0\t0\t0
+L\t0\t0\t80000000: addi x1
+S\t0\t0\tF
+C\t1
+S\t0\t0\tD
+I\t1\t1\t0
+L\t1\t0\t80000004: ebreak # a label has at most sixty-four bytes of a line of the s
+S\t1\t0\tF
+C\t1
+S\t0\t0\tI
+S\t1\t0\tD
+I\t2\t2\t0
+L\t2\t0\t80000008: 00000000
+S\t2\t0\tF
+C\t1
+S\t0\t0\tB
+S\t2\t0\tD
+I\t3\t3\t0
+L\t3\t0\t8000000c: 00000000
+S\t3\t0\tF
+C\t1
+S\t0\t0\tC
+S\t3\t0\tD
+I\t4\t4\t0
+L\t4\t0\t80000010: 00000000
+S\t4\t0\tF
+C\t1
+R\t0\t0\t0
+I\t5\t5\t0
+L\t5\t0\t00000000: -
+S\t5\t0\tF
+C\t1
+R\t1\t1\t1
+R\t2\t2\t1
+R\t3\t3\t1
+R\t4\t4\t1
+";
+
+#[test]
+fn an_addition_passes_through_each_stage(rt: HostRuntime) {
+    let alloc = rt.alloc();
+    let lines = [
+        "addi\tx1",
+        "ebreak # a label has at most sixty-four bytes of a line of the source text",
+    ];
+    let listing = listing(&rt, alloc, &lines);
+    let arrivals = no_arrivals(&rt, alloc);
+    let mut text = Vec::new(alloc);
+    let mut core = core(&rt, alloc, &described(&rt, narrow()), PROGRAM);
+    let stop = write_log(alloc, &mut core, &arrivals, 100, &listing, &mut text);
+    assert_eq!(&rt; stop, Ok(Stop::Breakpoint));
+    assert_eq!(&rt; text.as_slice(), LOG);
+}

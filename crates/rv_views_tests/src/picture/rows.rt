@@ -1,0 +1,172 @@
+use crate::machine::listing;
+use rv_isa::{Cause, Reg};
+use rv_passage::{Ending, Passage};
+use rv_picture::{Window, write_picture_svg, write_picture_text};
+use std::str;
+use std::test::Fail;
+
+// Ten cycles from cycle 10 on.
+const WINDOW: Window = Window {
+    first: 10,
+    cycles: 10,
+};
+
+// The second, third and fourth are those in the window.
+const INTERRUPTS: [u64; 5] = [9, 10, 13, 19, 20];
+
+const LINES: [&str; 2] = [
+    "addi\tx1,x0,5",
+    "ebreak # stops & \"waits\" <here> for good",
+];
+
+const TEXT: &str = "                                                       10        \n\
+7ffffff8 00000013                         -            x         \n\
+80000000 addi x1,x0,5                     x1=00000005  FDI==B.C  \n\
+80000004 ebreak # stops & \"waits\" <here>  -             FD.....T \n\
+80000008 0000006f                         -              F.x     \n\
+8000000c 00000013                         -               FDI====\n\
+00000000 -                                -                     F\n\
+interrupts                                             !  !     !\n\
+F fetch  D dispatch  I issue  = execution  B broadcast  C retirement  T trap  x squash  . wait  ! interrupt\n";
+
+fn fetched(number: u64, pc: u32, word: Option<u32>, cycle: u64) -> Passage {
+    Passage {
+        number,
+        pc,
+        word,
+        fetched: cycle,
+        dispatched: None,
+        issued: None,
+        broadcast: None,
+        ending: Ending::InFlight,
+    }
+}
+
+// One that left before the window, one that left in its first cycle, one for each ending, two in flight, and one that is fetched
+// behind the window.
+fn passages() -> [Passage; 8] {
+    let register = Reg::new(1);
+    [
+        Passage {
+            ending: Ending::Squashed { cycle: 9 },
+            ..fetched(0, 0x7fff_fffc, Some(0x13), 8)
+        },
+        Passage {
+            ending: Ending::Squashed { cycle: 10 },
+            ..fetched(1, 0x7fff_fff8, Some(0x13), 9)
+        },
+        Passage {
+            dispatched: Some(11),
+            issued: Some(12),
+            broadcast: Some(15),
+            ending: Ending::Retired {
+                order: 0,
+                cycle: 17,
+                written: register.map(|register| (register, 5)),
+            },
+            ..fetched(2, 0x8000_0000, Some(0x0050_0093), 10)
+        },
+        Passage {
+            dispatched: Some(12),
+            ending: Ending::Trapped {
+                cycle: 18,
+                cause: Cause::Breakpoint,
+            },
+            ..fetched(3, 0x8000_0004, Some(0x0010_0073), 11)
+        },
+        Passage {
+            ending: Ending::Squashed { cycle: 14 },
+            ..fetched(4, 0x8000_0008, Some(0x6f), 12)
+        },
+        Passage {
+            dispatched: Some(14),
+            issued: Some(15),
+            ..fetched(5, 0x8000_000c, Some(0x13), 13)
+        },
+        fetched(6, 0, None, 19),
+        fetched(7, 4, None, 20),
+    ]
+}
+
+#[test]
+fn each_ending_has_its_letter_and_each_phase_its_own(rt: HostRuntime) {
+    let alloc = rt.alloc();
+    let listing = listing(&rt, alloc, &LINES);
+    let mut text = Vec::new(alloc);
+    let written = write_picture_text(&passages(), &INTERRUPTS, &listing, WINDOW, &mut text);
+    assert_eq!(&rt; written, Ok(()));
+    assert_eq!(&rt; text.as_slice(), TEXT.as_bytes());
+}
+
+// A class, a column, a name, a cycle and a letter.
+const BOXES: [(&str, u32, &str, u32, &str); 9] = [
+    ("f", 448, "fetch", 10, "F"),
+    ("d", 462, "dispatch", 11, "D"),
+    ("i", 476, "issue", 12, "I"),
+    ("e", 490, "execution", 13, "="),
+    ("b", 518, "broadcast", 15, "B"),
+    ("w", 532, "wait", 16, "."),
+    ("c", 546, "retirement", 17, "C"),
+    ("t", 560, "trap", 18, "T"),
+    ("x", 504, "squash", 14, "x"),
+];
+
+// What stands around ten columns and six rows: the last row ends at 44 + 6 * 18 = 152.
+const FRAME: [&str; 9] = [
+    "<svg xmlns='http://www.w3.org/2000/svg' width='740' height='224' viewBox='0 0 740 224'>\n",
+    "<g class='n' transform='translate(448 0)'><title>cycle 10</title><path d='M0 20V152'/><text x='3' y='16'>10</text></g>\n",
+    "<g class='v' transform='translate(448 0)'><title>cycle 10, interrupt</title><path d='M0 38V152'/><text x='7' y='34'>!</text></g>\n",
+    "<g class='v' transform='translate(490 0)'><title>cycle 13, interrupt</title><path d='M0 38V152'/><text x='7' y='34'>!</text></g>\n",
+    "<g class='v' transform='translate(574 0)'><title>cycle 19, interrupt</title><path d='M0 38V152'/><text x='7' y='34'>!</text></g>\n<g transform='translate(8 166)'>\n",
+    "<text x='7' y='13'>!</text></g><text x='20' y='13'>interrupt</text></g>\n</g>\n</svg>\n",
+    "</text><text x='344' y='13'>x1=00000005</text>\n<g class='p f' transform='translate(448 0)'>",
+    "\n.out text{fill:#888}\n",
+    "\n.trap text{fill:#a00}\n",
+];
+
+// How the rows begin.
+const ROWS: [&str; 6] = [
+    "<g class='out' transform='translate(0 44)'><text x='8' y='13'>7ffffff8</text><text x='84' y='13'>00000013</text>",
+    "<g class='done' transform='translate(0 62)'><text x='8' y='13'>80000000</text><text x='84' y='13'>addi x1,x0,5</text>",
+    "<g class='trap' transform='translate(0 80)'><text x='8' y='13'>80000004</text><text x='84' y='13'>ebreak # stops &amp; &quot;waits&quot; &lt;here&gt; </text>",
+    "<g class='out' transform='translate(0 98)'><text x='8' y='13'>80000008</text><text x='84' y='13'>0000006f</text>",
+    "<g class='open' transform='translate(0 116)'><text x='8' y='13'>8000000c</text><text x='84' y='13'>00000013</text>",
+    "<g class='open' transform='translate(0 134)'><text x='8' y='13'>00000000</text><text x='84' y='13'>-</text>",
+];
+
+#[test]
+fn each_kind_of_cell_has_a_box_and_a_colour_of_its_own(rt: HostRuntime) -> Result<(), Fail> {
+    let alloc = rt.alloc();
+    let listing = listing(&rt, alloc, &LINES);
+    let mut text = Vec::new(alloc);
+    let written = write_picture_svg(&passages(), &INTERRUPTS, &listing, WINDOW, &mut text);
+    assert_eq!(&rt; written, Ok(()));
+    let svg = str::from_utf8(text.as_slice()).expect(&rt, "ASCII");
+    for row in ROWS {
+        assert!(&rt; svg.contains(row));
+    }
+    for part in FRAME {
+        assert!(&rt; svg.contains(part), "{part}");
+    }
+    assert!(&rt; !svg.contains("cycle 9,") && !svg.contains("cycle 20"));
+    assert!(&rt; !svg.contains("7ffffffc") && !svg.contains("00000004"));
+    let mut colours = Vec::new(alloc);
+    for (class, column, name, cycle, letter) in BOXES {
+        let shown = format!(in alloc;
+            "<g class='p {class}' transform='translate({column} 0)'><title>{name} in cycle {cycle}</title><rect width='14' height='18'/><text x='7' y='13'>{letter}</text></g>\n"
+        )?;
+        assert!(&rt; svg.contains(shown.as_str()));
+        let meaning = format!(in alloc;
+            "<g class='p {class}'><rect width='14' height='18'/><text x='7' y='13'>{letter}</text></g><text x='20' y='13'>{name}</text></g>\n"
+        )?;
+        assert!(&rt; svg.contains(meaning.as_str()));
+        let rule = format!(in alloc; "\n.{class} rect{{fill:")?;
+        let (_, behind) = svg
+            .split_once(rule.as_str())
+            .expect(&rt, "a rule for the class");
+        let (colour, _) = behind.split_once("}").expect(&rt, "the end of the rule");
+        assert!(&rt; !colours.contains(&colour));
+        colours.push(colour)?;
+    }
+    Ok(())
+}

@@ -1,0 +1,67 @@
+use crate::machine::{core, described, listing, no_arrivals};
+use rv_arch::Stop;
+use rv_isa::Values;
+use rv_picture::{Form, write_picture};
+use std::alloc::Global;
+use std::process::Abort;
+
+const EXPECTED: &str = "                                                       0         \n\
+80000000 00500093                         x1=00000005  FDIBC\n\
+80000004 00100073                         -             FD.T\n\
+80000008 00000000                         -              FDx\n\
+8000000c 00000000                         -               Fx\n\
+00000000 -                                -                F\n\
+F fetch  D dispatch  I issue  = execution  B broadcast  C retirement  T trap  x squash  . wait  ! interrupt\n";
+
+// addi x1,x0,5 and ebreak.
+const PROGRAM: [u8; 8] = [0x93, 0x00, 0x50, 0x00, 0x73, 0x00, 0x10, 0x00];
+
+// The last cycle, in which each instruction but the one that was fetched leaves the hardware.
+const LAST_CYCLE: &str = "                                                        \n\
+80000000 00500093                         x1=00000005  C\n\
+80000004 00100073                         -            T\n\
+80000008 00000000                         -            x\n\
+8000000c 00000000                         -            x\n\
+00000000 -                                -            F\n\
+F fetch  D dispatch  I issue  = execution  B broadcast  C retirement  T trap  x squash  . wait  ! interrupt\n";
+
+const NOTHING: &str = "                                                       \n\
+F fetch  D dispatch  I issue  = execution  B broadcast  C retirement  T trap  x squash  . wait  ! interrupt\n";
+
+// The picture of at most sixty cycles from one on, and why the run ended.
+fn picture_from(rt: &impl Abort, alloc: Global, from: u64) -> (Stop, Vec<u8>) {
+    let mut values = Values::standard();
+    values.fetch_width = 1;
+    let arrivals = no_arrivals(rt, alloc);
+    let listing = listing(rt, alloc, &[]);
+    let mut text = Vec::new(alloc);
+    let mut core = core(rt, alloc, &described(rt, values), &PROGRAM);
+    let stop = write_picture(
+        alloc,
+        &mut core,
+        &arrivals,
+        from,
+        60,
+        Form::Text,
+        &listing,
+        &mut text,
+    );
+    (stop.expect(rt, "a picture"), text)
+}
+
+#[test]
+fn two_words_in_characters(rt: HostRuntime) {
+    let (stop, text) = picture_from(&rt, rt.alloc(), 0);
+    assert_eq!(rt; stop, Stop::Breakpoint);
+    assert_eq!(rt; text.as_slice(), EXPECTED.as_bytes());
+}
+
+// The breakpoint is taken in cycle 4.
+#[test]
+fn behind_the_end_of_a_run_nothing_is_shown(rt: HostRuntime) {
+    for (from, shown) in [(4, LAST_CYCLE), (5, NOTHING), (6, NOTHING)] {
+        let (stop, text) = picture_from(&rt, rt.alloc(), from);
+        assert_eq!(rt; stop, Stop::Breakpoint);
+        assert_eq!(rt; text.as_slice(), shown.as_bytes());
+    }
+}

@@ -1,0 +1,57 @@
+use crate::machine::{core, described, no_arrivals};
+use rv_arch::Stop;
+use rv_hardware::StallCounts;
+use rv_isa::Values;
+use rv_report::{StepCounts, Totals, run_totals, write_table};
+use std::test::Fail;
+
+#[test]
+fn a_table_has_a_line_for_each_run(rt: HostRuntime) -> Result<(), Fail> {
+    let stale = Totals {
+        stop: Stop::Stale(0x8000_0014),
+        cycles: 17,
+        steps: StepCounts {
+            retired: 3,
+            traps: 0,
+            interrupts: 0,
+        },
+        longest_gap: 4,
+        busy: 2,
+        stalls: StallCounts {
+            fetch: 1,
+            serial: 2,
+            rob: 3,
+            station: 4,
+            store: 5,
+        },
+    };
+    let none = Totals {
+        stop: Stop::Limit,
+        steps: StepCounts::default(),
+        ..stale
+    };
+    let mut table = Vec::new(rt.alloc());
+    write_table(&[stale, none], &mut table)?;
+    let lines = "number\tcycles\tretired\tcpi\tbusy\tfetch\tserial\trob\tstation\tstore\tstop
+1\t17\t3\t5.666\t2\t1\t2\t3\t4\t5\tstale 80000014
+2\t17\t0\t-\t2\t1\t2\t3\t4\t5\tlimit
+";
+    assert_eq!(rt; table.as_slice(), lines.as_bytes());
+    Ok(())
+}
+
+// A run without a program traps in every second cycle, and its other cycles dispatch nothing.
+#[test]
+fn a_run_comes_to_its_totals(rt: HostRuntime) -> Result<(), Fail> {
+    let alloc = rt.alloc();
+    let arrivals = no_arrivals(&rt, alloc);
+    let steps = Vec::with_capacity(alloc, 8)?;
+    let core = core(&rt, alloc, &described(&rt, Values::standard()), &[]);
+    let totals = run_totals(core, &arrivals, 100, steps);
+    assert_eq!(rt;
+        (totals.cycles, totals.busy, totals.stalls.fetch),
+        (100, 50, 50)
+    );
+    assert_eq!(rt; (totals.steps.traps, totals.steps.retired), (49, 0));
+    Ok(())
+}
