@@ -3,7 +3,7 @@ ghost use Rattle.std.specs.Prelude.{◌≡◌, false, IfOk};
 ghost use Rattle.clap.specs.Words.{new_app, rule_of};
 ghost use Rattle.rv_command.specs.Arguments.{IsParserOf, check_arguments, cycles_rule, flag_rule, from_rule, limit_rule};
 ghost use Rattle.rv_command.specs.Arguments.{limited_arguments, number_rule, picture_arguments, program_arguments, run_arguments};
-ghost use Rattle.rv_command.specs.Arguments.{bare_arguments};
+ghost use Rattle.rv_command.specs.Arguments.{bare_arguments, bare_picture_arguments};
 
 use crate::command::{LAST_CYCLE, MOST_CYCLES_SHOWN, MOST_STEPS};
 use crate::help::{self, CommandHelp};
@@ -89,11 +89,21 @@ fn check_command<'a>(alloc: Global) -> Command<'a>
     described(alloc, "check", help::CHECK)
 }
 
+// `picture` with its flag, and no number yet.
+fn bare_picture_command<'a>(alloc: Global) -> Result<Command<'a>, AllocError>
+    ensures arguments { IfOk result (IsParserOf bare_picture_arguments) }
+{
+    described(alloc, "picture", help::PICTURE).arg(flag_argument(
+        alloc,
+        "text",
+        "Draws in characters, and not as SVG",
+    ))
+}
+
 fn picture_command<'a>(alloc: Global) -> Result<Command<'a>, AllocError>
     ensures arguments { IfOk result (IsParserOf picture_arguments) }
 {
-    described(alloc, "picture", help::PICTURE)
-        .arg(flag_argument(alloc, "text", "Draws in characters, and not as SVG"))?
+    bare_picture_command(alloc)?
         .arg(number_argument(
             alloc,
             "from",
@@ -116,11 +126,10 @@ fn picture_command<'a>(alloc: Global) -> Result<Command<'a>, AllocError>
 fn program<'a>(alloc: Global) -> Result<Command<'a>, AllocError>
     ensures arguments { IfOk result (IsParserOf bare_arguments) }
 {
-    let named = Command::new(alloc, "rv_sim").bin_name("rv_sim")?;
-    let described = named
-        .about("Simulates a RISC-V core")
-        .after_help(help::PROGRAM_ENDING);
-    Ok(described.version(VERSION).subcommand_required(true))
+    described(alloc, "rv_sim", help::PROGRAM)
+        .version(VERSION)
+        .subcommand_required(true)
+        .bin_name("rv_sim")
 }
 
 /// The parser of the program's command lines.

@@ -26,12 +26,14 @@ Exit status:
     };
 }
 
-pub(crate) const PROGRAM_ENDING: &str =
-    "A job is a program in assembly; or a description of the machine in TOML, a line %%, and a program;
+pub(crate) const PROGRAM: CommandHelp = CommandHelp {
+    about: "Simulates a RISC-V core",
+    ending: "A job is a program in assembly; or a description of the machine in TOML, a line %%, and a program;
 or a description, %%, interrupt arrivals in TOML, %%, and a program.
 
 Example:
-  printf 'addi x1,x0,5\\nebreak\\n' | rv_sim run --trace";
+  printf 'addi x1,x0,5\\nebreak\\n' | rv_sim run --trace",
+};
 
 pub(crate) const RUN: CommandHelp = CommandHelp {
     about: "Runs the text on standard input on the core, cycle by cycle",

@@ -1,114 +1,20 @@
 //! The simulator's worked examples on the reference: what each program leaves.
 
+mod cases;
 mod control_registers;
 mod instructions;
 mod programs;
 
+use crate::checks::{check_equal, check_true};
+use cases::{Case, HIGH, LOW, PLAIN, TIMER, arrivals, check, holds, machine};
 use programs::{
     branch_to_illegal, byte_store, divisions, forwarded, jump_to_odd_half, load_past_ram,
     no_such_csr, read_mip, rom_edge, rom_half, rom_store, set_mhartid, store_and_fence,
     store_to_next, three_lines, timer, vectored, warl, write_mhartid,
 };
-use rv_arch::{CsrOperand, Csrs, Illegal, Observed, RefOutcome, Reference, Stop, run_reference};
-use rv_isa::{Arrival, Arrivals, CsrAddress, CsrOp, Line, Lines};
-use std::alloc::Global;
-use std::process::Abort;
+use rv_arch::{CsrOperand, Csrs, Illegal, RefOutcome, Stop, run_reference};
+use rv_isa::{CsrAddress, CsrOp};
 use std::test::Fail;
-
-const BASE: u32 = 0x8000_0000;
-
-const SIZE: u32 = 65536;
-
-const LOW: Lines = Lines {
-    software: false,
-    timer: false,
-    external: false,
-};
-
-const TIMER: Lines = Lines {
-    software: false,
-    timer: true,
-    external: false,
-};
-
-const HIGH: Lines = Lines {
-    software: true,
-    timer: true,
-    external: true,
-};
-
-// In a box, which a test drops by one call.
-fn machine(rt: &impl Abort, alloc: Global, words: &[u32], rom_bytes: u32) -> Box<Reference> {
-    let mut bytes = Vec::new(alloc);
-    for word in words {
-        bytes
-            .extend_from_slice(&word.to_le_bytes())
-            .expect(rt, "room for a word");
-    }
-    assert!(rt; bytes.len() <= SIZE as usize);
-    assert!(rt; rom_bytes <= SIZE);
-    let reference = Reference::new(alloc, BASE, SIZE, rom_bytes, bytes.as_slice(), BASE).expect(
-        rt,
-        "room for the machine",
-    );
-    Box::new(alloc, reference).expect(rt, "a box")
-}
-
-/// Each line has its level from a cycle on.
-fn arrivals(rt: &impl Abort, alloc: Global, cycle: u64, lines: Lines) -> Arrivals {
-    let mut items = Vec::new(alloc);
-    for (line, level) in [
-        (Line::Software, lines.software),
-        (Line::Timer, lines.timer),
-        (Line::External, lines.external),
-    ] {
-        items
-            .push(Arrival { cycle, line, level })
-            .expect(rt, "room for an arrival");
-    }
-    Arrivals::new(items).expect(rt, "a cycle within bounds")
-}
-
-/// A program, what it is started with, and what it leaves at its breakpoint.
-#[derive(Clone, Copy)]
-struct Case<'a> {
-    words: &'a [u32],
-    rom_bytes: u32,
-    lines: Lines,
-    traps: u64,
-    interrupts: u64,
-    registers: &'a [(usize, u32)],
-}
-
-/// A program that takes no trap but its breakpoint.
-const PLAIN: Case<'static> = Case {
-    words: &[],
-    rom_bytes: 0,
-    lines: LOW,
-    traps: 1,
-    interrupts: 0,
-    registers: &[],
-};
-
-/// What the program has left.
-fn check(rt: &impl Abort, alloc: Global, case: &Case) -> Observed {
-    let arrivals = arrivals(rt, alloc, 0, case.lines);
-    let mut reference = machine(rt, alloc, case.words, case.rom_bytes);
-    let outcome = run_reference(&mut reference, &arrivals, 1000);
-    assert_eq!(rt; outcome.stop, Stop::Breakpoint);
-    assert_eq!(rt; outcome.traps, case.traps);
-    assert_eq!(rt; outcome.interrupts, case.interrupts);
-    let seen = reference.observe();
-    for (register, value) in case.registers {
-        holds(rt, &seen, *register, *value);
-    }
-    seen
-}
-
-fn holds(rt: &impl Abort, seen: &Observed, register: usize, value: u32) {
-    assert!(rt; register < 32);
-    assert_eq!(rt; seen.regs[register], value, "x{register}");
-}
 
 #[test]
 fn load_takes_the_stored_word(rt: HostRuntime) {
@@ -324,11 +230,11 @@ fn interrupt_comes_once_whenever_the_line_rises(rt: HostRuntime) {
     for k in 0..61u64 {
         let mut reference = machine(&rt, rt.alloc(), &timer(), 0);
         let outcome = run_reference(&mut reference, &arrivals(&rt, rt.alloc(), k, TIMER), 1000);
-        assert_eq!(rt; outcome.stop, Stop::Breakpoint);
+        check_equal(&rt, outcome.stop, Stop::Breakpoint);
         let seen = reference.observe();
         holds(&rt, &seen, 5, 0x37);
         holds(&rt, &seen, 30, if k < 39 { 1 } else { 0 });
-        assert_eq!(rt; outcome.interrupts, if k < 39 { 1 } else { 0 });
+        check_equal(&rt, outcome.interrupts, if k < 39 { 1 } else { 0 });
     }
 }
 
@@ -337,19 +243,20 @@ fn stale_word_stops_the_run_until_a_fence(rt: HostRuntime) {
     let low = arrivals(&rt, rt.alloc(), 0, LOW);
     let mut reference = machine(&rt, rt.alloc(), &store_to_next(), 0);
     let outcome = run_reference(&mut reference, &low, 1000);
-    assert_eq!(rt;
+    check_equal(
+        &rt,
         outcome,
         RefOutcome {
             steps: 5,
             retired: 5,
             traps: 0,
             interrupts: 0,
-            stop: Stop::Stale(0x8000_0014)
-        }
+            stop: Stop::Stale(0x8000_0014),
+        },
     );
     holds(&rt, &reference.observe(), 7, 0);
-    assert!(rt; reference.is_stale(0x8000_0017));
-    assert!(rt; !reference.is_stale(0x8000_0010));
+    check_true(&rt, reference.is_stale(0x8000_0017));
+    check_true(&rt, !reference.is_stale(0x8000_0010));
     check(
         &rt,
         rt.alloc(),
@@ -365,8 +272,8 @@ fn stale_word_stops_the_run_until_a_fence(rt: HostRuntime) {
 fn stamps_lead_to_where_the_run_stops(rt: HostRuntime) {
     let low = arrivals(&rt, rt.alloc(), 0, LOW);
     let mut reference = machine(&rt, rt.alloc(), &store_to_next(), 0);
-    assert_eq!(rt; reference.run_stamps(&[0, 2, 4, 4, 5, 9, 9], &low), 5);
-    assert_eq!(rt; reference.observe().pc, 0x8000_0014);
+    check_equal(&rt, reference.run_stamps(&[0, 2, 4, 4, 5, 9, 9], &low), 5);
+    check_equal(&rt, reference.observe().pc, 0x8000_0014);
 }
 
 #[test]
@@ -382,20 +289,20 @@ fn vectored_interrupt_goes_to_its_own_place(rt: HostRuntime) {
             ..PLAIN
         },
     );
-    assert_eq!(rt; seen.pc, 0x8000_0020);
-    assert_eq!(rt; seen.csrs.read(0x305, seen.lines), Some(0x8000_0021));
-    assert_eq!(rt; seen.csrs.read(0x341, seen.lines), Some(0x8000_0044));
+    check_equal(&rt, seen.pc, 0x8000_0020);
+    check_equal(&rt, seen.csrs.read(0x305, seen.lines), Some(0x8000_0021));
+    check_equal(&rt, seen.csrs.read(0x341, seen.lines), Some(0x8000_0044));
 }
 
 #[test]
 fn bytes_are_those_of_ram(rt: HostRuntime) {
     let mut reference = machine(&rt, rt.alloc(), &rom_edge(), 4096);
     let outcome = run_reference(&mut reference, &arrivals(&rt, rt.alloc(), 0, LOW), 1000);
-    assert_eq!(rt; outcome.stop, Stop::Breakpoint);
-    assert_eq!(rt; reference.byte(0x8000_1001), Some(0x10));
-    assert_eq!(rt; reference.byte(0x8000_1003), Some(0x80));
-    assert_eq!(rt; reference.byte(0x8001_0000), None);
-    assert_eq!(rt; reference.byte(0x7fff_ffff), None);
+    check_equal(&rt, outcome.stop, Stop::Breakpoint);
+    check_equal(&rt, reference.byte(0x8000_1001), Some(0x10));
+    check_equal(&rt, reference.byte(0x8000_1003), Some(0x80));
+    check_equal(&rt, reference.byte(0x8001_0000), None);
+    check_equal(&rt, reference.byte(0x7fff_ffff), None);
 }
 
 #[test]
@@ -407,8 +314,8 @@ fn mtvec_keeps_modes_0_and_1(rt: HostRuntime) {
             field_is_zero: false,
         };
         let access = csrs.csr_access(CsrOp::Write, CsrAddress::from_field(0x305), source, LOW);
-        assert!(rt; access.is_ok());
-        assert_eq!(rt; csrs.read(0x305, LOW), Some(kept));
+        check_true(&rt, access.is_ok());
+        check_equal(&rt, csrs.read(0x305, LOW), Some(kept));
     }
 }
 

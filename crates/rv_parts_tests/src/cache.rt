@@ -1,5 +1,6 @@
 ghost use Rattle.std.specs.Prelude.{◌≡◌, ◌+◌, ◌%◌, ◌≤◌, length, IfOk, IfSome};
 
+use crate::checks::check_equal;
 use crate::halves::Halves;
 use rv_cache::Cache;
 use rv_isa::{Description, Values};
@@ -72,14 +73,14 @@ fn check_one_way<M: Backing>(rt: &impl Abort, alloc: Global, backing: M) -> Resu
     requires { length (M.bytes backing) ≡ 4096 }
 {
     let mut cache = small_cache(alloc, backing, 1)?;
-    assert_eq!(rt; read_word(&mut cache, A), ([0, 0, 0, 0], 11));
-    assert_eq!(rt; read_word(&mut cache, A).1, 1);
-    assert_eq!(rt; write_word(&mut cache, A, [1, 2, 3, 4]), 1);
-    assert_eq!(rt; cache.peek(A + 2), 3);
-    assert_eq!(rt; read_word(&mut cache, B).1, 21);
-    assert_eq!(rt; first_bytes(&cache), [1, 2, 3, 4, 0, 0, 0, 0]);
-    assert_eq!(rt; read_word(&mut cache, A), ([1, 2, 3, 4], 11));
-    assert_eq!(rt; cache.write_back_all(), 0);
+    check_equal(rt, read_word(&mut cache, A), ([0, 0, 0, 0], 11));
+    check_equal(rt, read_word(&mut cache, A).1, 1);
+    check_equal(rt, write_word(&mut cache, A, [1, 2, 3, 4]), 1);
+    check_equal(rt, cache.peek(A + 2), 3);
+    check_equal(rt, read_word(&mut cache, B).1, 21);
+    check_equal(rt, first_bytes(&cache), [1, 2, 3, 4, 0, 0, 0, 0]);
+    check_equal(rt, read_word(&mut cache, A), ([1, 2, 3, 4], 11));
+    check_equal(rt, cache.write_back_all(), 0);
     Ok(())
 }
 
@@ -87,15 +88,15 @@ fn check_two_ways<M: Backing>(rt: &impl Abort, alloc: Global, backing: M) -> Res
     requires { length (M.bytes backing) ≡ 4096 }
 {
     let mut cache = small_cache(alloc, backing, 2)?;
-    assert_eq!(rt; read_word(&mut cache, A).1, 11);
-    assert_eq!(rt; read_word(&mut cache, B).1, 11);
-    assert_eq!(rt; read_word(&mut cache, A).1, 1);
-    assert_eq!(rt; read_word(&mut cache, C).1, 11);
-    assert_eq!(rt; read_word(&mut cache, A).1, 1);
-    assert_eq!(rt; read_word(&mut cache, B).1, 11);
-    assert_eq!(rt; write_word(&mut cache, A, [5, 6, 7, 8]), 1);
-    assert_eq!(rt; cache.write_back_all(), 1);
-    assert_eq!(rt; first_bytes(&cache), [5, 6, 7, 8, 0, 0, 0, 0]);
+    check_equal(rt, read_word(&mut cache, A).1, 11);
+    check_equal(rt, read_word(&mut cache, B).1, 11);
+    check_equal(rt, read_word(&mut cache, A).1, 1);
+    check_equal(rt, read_word(&mut cache, C).1, 11);
+    check_equal(rt, read_word(&mut cache, A).1, 1);
+    check_equal(rt, read_word(&mut cache, B).1, 11);
+    check_equal(rt, write_word(&mut cache, A, [5, 6, 7, 8]), 1);
+    check_equal(rt, cache.write_back_all(), 1);
+    check_equal(rt, first_bytes(&cache), [5, 6, 7, 8, 0, 0, 0, 0]);
     Ok(())
 }
 

@@ -2,6 +2,7 @@
 //! and 3.3.3; Bit-Manipulation ISA-extensions 1.0.0, 1.1), put together by hand from the fields there: rd is x5, rs1 x6
 //! and rs2 x7, or 6 where an immediate is in the place of rs1.
 
+use crate::checks::check_equal;
 use rv_decode::{decode, encode};
 use rv_isa::{
     AluOp, BranchOffset, Condition, CsrAddress, CsrImmediate, CsrOp, CsrSource, Immediate,
@@ -212,9 +213,9 @@ fn instructions_without_operands(rt: HostRuntime) {
     same(&rt, 0x3020_0073, Instr::Mret);
     same(&rt, 0x1050_0073, Instr::Wfi);
     // The fences ignore their other fields: fence.tso, and all ones.
-    assert_eq!(rt; decode(0x8330_000f), Some(Instr::Fence));
-    assert_eq!(rt; decode(0xffff_8f8f), Some(Instr::Fence));
-    assert_eq!(rt; decode(0xffff_9f8f), Some(Instr::FenceI));
+    check_equal(&rt, decode(0x8330_000f), Some(Instr::Fence));
+    check_equal(&rt, decode(0xffff_8f8f), Some(Instr::Fence));
+    check_equal(&rt, decode(0xffff_9f8f), Some(Instr::FenceI));
 }
 
 #[test]

@@ -1,5 +1,6 @@
 ghost use Rattle.std.specs.Prelude.{◌≡◌, ⊤};
 
+use crate::checks::{check_equal, check_true};
 use rv_decode::decode;
 use rv_front::{
     BackwardTaken, Bimodal, DescribedPredictor, FetchStop, Fetched, Flow, Front, NotTaken,
@@ -27,32 +28,33 @@ const NOP: u32 = 0x0000_0013;
 #[test]
 fn a_bimodal_counter_learns_from_branches_alone(rt: HostRuntime) -> Result<(), Fail> {
     let mut predictor = Bimodal::new(rt.alloc(), 64)?;
-    assert_eq!(rt; predictor.predict(BASE, BRANCH_FORWARD), BASE + 4);
+    check_equal(&rt, predictor.predict(BASE, BRANCH_FORWARD), BASE + 4);
     predictor.learn(BASE, BRANCH_FORWARD, BASE + 8);
-    assert_eq!(rt; predictor.predict(BASE, BRANCH_FORWARD), BASE + 8);
-    assert_eq!(rt;
+    check_equal(&rt, predictor.predict(BASE, BRANCH_FORWARD), BASE + 8);
+    check_equal(
+        &rt,
         predictor.predict(BASE + 0x100, BRANCH_FORWARD),
-        BASE + 0x108
+        BASE + 0x108,
     );
     predictor.learn(BASE, BRANCH_FORWARD, BASE + 8);
     predictor.learn(BASE, BRANCH_FORWARD, BASE + 4);
-    assert_eq!(rt; predictor.predict(BASE, BRANCH_FORWARD), BASE + 8);
+    check_equal(&rt, predictor.predict(BASE, BRANCH_FORWARD), BASE + 8);
     predictor.learn(BASE, BRANCH_FORWARD, BASE + 4);
-    assert_eq!(rt; predictor.predict(BASE, BRANCH_FORWARD), BASE + 4);
+    check_equal(&rt, predictor.predict(BASE, BRANCH_FORWARD), BASE + 4);
     predictor.learn(BASE, JAL, BASE + 8);
-    assert_eq!(rt; predictor.predict(BASE, BRANCH_FORWARD), BASE + 4);
+    check_equal(&rt, predictor.predict(BASE, BRANCH_FORWARD), BASE + 4);
     Ok(())
 }
 
 #[test]
 fn a_bimodal_target_is_the_last_one_at_its_index(rt: HostRuntime) -> Result<(), Fail> {
     let mut predictor = Bimodal::new(rt.alloc(), 64)?;
-    assert_eq!(rt; predictor.predict(BASE, JALR), BASE + 4);
+    check_equal(&rt, predictor.predict(BASE, JALR), BASE + 4);
     predictor.learn(BASE, JALR, BASE + 0x40);
-    assert_eq!(rt; predictor.predict(BASE, JALR), BASE + 0x40);
-    assert_eq!(rt; predictor.predict(BASE + 4, JALR), BASE + 8);
-    assert_eq!(rt; predictor.predict(BASE + 0x100, JALR), BASE + 0x40);
-    assert_eq!(rt; predictor.predict(BASE, BRANCH_FORWARD), BASE + 4);
+    check_equal(&rt, predictor.predict(BASE, JALR), BASE + 0x40);
+    check_equal(&rt, predictor.predict(BASE + 4, JALR), BASE + 8);
+    check_equal(&rt, predictor.predict(BASE + 0x100, JALR), BASE + 0x40);
+    check_equal(&rt, predictor.predict(BASE, BRANCH_FORWARD), BASE + 4);
     Ok(())
 }
 
@@ -128,23 +130,27 @@ fn entry(pc: u32, word: Option<u32>, predicted: u32, cycle: u64) -> Fetched {
 fn fetch_follows_the_predictions_until_the_buffer_is_full(rt: HostRuntime) -> Result<(), Fail> {
     let (ram, mut front) = ram_and_front(&rt, &[NOP, JAL, NOP, NOP, NOP])?;
     let predictor: Box<dyn Predictor> = Box::new(rt.alloc(), NotTaken)?;
-    assert_eq!(rt; front.peek(), None);
-    assert_eq!(rt; front.fetch(0, &ram, &*predictor), FetchStop::Prediction);
-    assert_eq!(rt; front.fetch(1, &ram, &*predictor), FetchStop::Width);
+    check_true(&rt, front.peek().is_none());
+    check_equal(
+        &rt,
+        front.fetch(0, &ram, &*predictor),
+        FetchStop::Prediction,
+    );
+    check_equal(&rt, front.fetch(1, &ram, &*predictor), FetchStop::Width);
     for (pc, word, predicted, cycle) in [
         (BASE, NOP, BASE + 4, 0),
         (BASE + 4, JAL, BASE + 12, 0),
         (BASE + 12, NOP, BASE + 16, 1),
     ] {
         let expected = entry(pc, Some(word), predicted, cycle);
-        assert_eq!(rt; front.peek(), Some(&expected));
+        check_equal(&rt, front.peek().copied(), Some(expected));
         front.take();
     }
     let mut stop = FetchStop::Width;
     for cycle in 2..20 {
         stop = front.fetch(cycle, &ram, &*predictor);
     }
-    assert_eq!(rt; stop, FetchStop::Room);
+    check_equal(&rt, stop, FetchStop::Room);
     Ok(())
 }
 
@@ -168,19 +174,19 @@ impl Predictor for Always {
 fn a_prediction_outside_ram_halts_the_fetch_until_a_redirect(rt: HostRuntime) -> Result<(), Fail> {
     let (ram, mut front) = ram_and_front(&rt, &[NOP, NOP])?;
     let predictor = Always(0xffff_ffff);
-    assert_eq!(rt; front.fetch(0, &ram, &predictor), FetchStop::Prediction);
-    assert_eq!(rt; front.fetch(1, &ram, &predictor), FetchStop::Halted);
-    assert_eq!(rt; front.fetch(2, &ram, &predictor), FetchStop::Halted);
+    check_equal(&rt, front.fetch(0, &ram, &predictor), FetchStop::Prediction);
+    check_equal(&rt, front.fetch(1, &ram, &predictor), FetchStop::Halted);
+    check_equal(&rt, front.fetch(2, &ram, &predictor), FetchStop::Halted);
     let word = entry(BASE, Some(NOP), 0xffff_fffc, 0);
     let fault = entry(0xffff_fffc, None, 0, 1);
     for expected in [word, fault] {
-        assert_eq!(rt; front.peek(), Some(&expected));
+        check_equal(&rt, front.peek().copied(), Some(expected));
         front.take();
     }
-    assert_eq!(rt; front.peek(), None);
+    check_true(&rt, front.peek().is_none());
     front.redirect(BASE + 4);
-    assert_eq!(rt; front.fetch(3, &ram, &predictor), FetchStop::Prediction);
-    assert_eq!(rt; front.peek().map(|fetched| fetched.pc), Some(BASE + 4));
+    check_equal(&rt, front.fetch(3, &ram, &predictor), FetchStop::Prediction);
+    check_equal(&rt, front.peek().map(|fetched| fetched.pc), Some(BASE + 4));
     Ok(())
 }
 

@@ -8,6 +8,7 @@ mod images;
 mod store_bytes;
 mod values;
 
+use crate::checks::check_equal;
 use rv_isa::{
     AluOp, BranchOffset, Condition, CsrAddress, CsrImmediate, CsrOp, CsrSource, Immediate,
     ImmediateOp, Instr, JumpOffset, Kind, LoadForm, Reg, ShiftAmount, ShiftOp, UpperImmediate,
@@ -187,8 +188,8 @@ fn each_format_has_its_registers_and_its_kind(rt: HostRuntime) {
         (Instr::Wfi, None, None, None, None),
     ];
     for (instruction, first, second, written, unit) in cases {
-        assert_eq!(rt; sources(&instruction), [first, second]);
-        assert_eq!(rt; target(&instruction), written);
-        assert_eq!(rt; kind(&instruction), unit);
+        check_equal(&rt, sources(&instruction), [first, second]);
+        check_equal(&rt, target(&instruction), written);
+        check_equal(&rt, kind(&instruction), unit);
     }
 }

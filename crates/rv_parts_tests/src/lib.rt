@@ -7,6 +7,8 @@ mod arch;
 #[cfg(test)]
 mod cache;
 #[cfg(test)]
+mod checks;
+#[cfg(test)]
 mod decode;
 #[cfg(test)]
 mod front;

@@ -1,3 +1,4 @@
+use crate::checks::{check_equal, check_true};
 use rv_isa::{Description, Reg, Values};
 use rv_rename::RenameMap;
 use std::process::Abort;
@@ -33,14 +34,14 @@ fn youngest_producer_is_found_while_the_ring_wraps_around(rt: HostRuntime) -> Re
         define(&rt, &mut map, x1, first);
         define(&rt, &mut map, x2, first + 1);
         define(&rt, &mut map, x1, first + 2);
-        assert!(rt; map.is_full());
+        check_true(&rt, map.is_full());
         map.retire(x1, first);
-        assert_eq!(rt; map.lookup(x1), Some(first + 2));
-        assert_eq!(rt; map.lookup(x2), Some(first + 1));
+        check_equal(&rt, map.lookup(x1), Some(first + 2));
+        check_equal(&rt, map.lookup(x2), Some(first + 1));
         map.retire(x2, first + 1);
-        assert_eq!(rt; map.lookup(x2), None);
+        check_equal(&rt, map.lookup(x2), None);
         map.retire(x1, first + 2);
-        assert_eq!(rt; map.lookup(x1), None);
+        check_equal(&rt, map.lookup(x1), None);
     }
     Ok(())
 }
@@ -58,26 +59,26 @@ fn checkpoint_brings_back_what_has_not_retired(rt: HostRuntime) -> Result<(), Fa
     map.retire(x1, 0);
 
     map.restore(4);
-    assert_eq!(rt; map.lookup(x3), None);
-    assert_eq!(rt; map.lookup(x1), Some(3));
+    check_equal(&rt, map.lookup(x3), None);
+    check_equal(&rt, map.lookup(x1), Some(3));
 
     define(&rt, &mut map, x3, 5);
     map.restore(2);
-    assert_eq!(rt; map.lookup(x1), None);
-    assert_eq!(rt; map.lookup(x2), Some(1));
-    assert_eq!(rt; map.lookup(x3), None);
+    check_equal(&rt, map.lookup(x1), None);
+    check_equal(&rt, map.lookup(x2), Some(1));
+    check_equal(&rt, map.lookup(x3), None);
 
     // The numbers behind the checkpoint are used again, and the later checkpoint is gone.
     define(&rt, &mut map, x2, 3);
     map.restore(4);
-    assert_eq!(rt; map.lookup(x2), Some(3));
+    check_equal(&rt, map.lookup(x2), Some(3));
     map.restore(2);
-    assert_eq!(rt; map.lookup(x2), Some(1));
+    check_equal(&rt, map.lookup(x2), Some(1));
     map.drop_checkpoint(2);
     define(&rt, &mut map, x2, 3);
     map.restore(2);
-    assert_eq!(rt; map.lookup(x2), Some(3));
+    check_equal(&rt, map.lookup(x2), Some(3));
     map.clear();
-    assert_eq!(rt; map.lookup(x2), None);
+    check_equal(&rt, map.lookup(x2), None);
     Ok(())
 }

@@ -1,3 +1,4 @@
+use crate::checks::{check_equal, check_true};
 use rv_isa::{Cause, Description, Fault, Issue, Message, Values};
 use rv_rob::{Entry, Rob, Stage};
 use std::process::Abort;
@@ -46,29 +47,34 @@ fn push(rt: &impl Abort, rob: &mut Rob, pc: u32) -> u64 {
 #[test]
 fn numbers_go_on_while_the_ring_wraps_around(rt: HostRuntime) -> Result<(), Fail> {
     let mut rob = Rob::new(rt.alloc(), &description(&rt, 3))?;
-    assert!(rt; rob.is_empty());
+    check_true(&rt, rob.is_empty());
     for round in 0..5 {
         for place in 0..2 {
             let number = push(&rt, &mut rob, 8 * round + 4 * place);
-            assert_eq!(rt; number, u64::from(2 * round + place));
+            check_equal(&rt, number, u64::from(2 * round + place));
         }
         let youngest = u64::from(2 * round + 1);
-        assert_eq!(rt; rob.retired(), youngest - 1);
-        assert_eq!(rt;
+        check_equal(&rt, rob.retired(), youngest - 1);
+        check_equal(
+            &rt,
             rob.get(youngest).map(|entry| entry.pc),
-            Some(8 * round + 4)
+            Some(8 * round + 4),
         );
-        assert_eq!(rt; rob.get(youngest + 1), None);
-        assert_eq!(rt; rob.head().map(|entry| entry.pc), Some(8 * round));
-        assert_eq!(rt; rob.youngest().map(|entry| entry.pc), Some(8 * round + 4));
+        check_true(&rt, rob.get(youngest + 1).is_none());
+        check_equal(&rt, rob.head().map(|entry| entry.pc), Some(8 * round));
+        check_equal(
+            &rt,
+            rob.youngest().map(|entry| entry.pc),
+            Some(8 * round + 4),
+        );
         rob.pop_head();
-        assert_eq!(rt; rob.get(youngest - 1), None);
-        assert_eq!(rt; rob.head().map(|entry| entry.pc), Some(8 * round + 4));
+        check_true(&rt, rob.get(youngest - 1).is_none());
+        check_equal(&rt, rob.head().map(|entry| entry.pc), Some(8 * round + 4));
         rob.pop_head();
-        assert!(rt; rob.is_empty());
+        check_true(&rt, rob.is_empty());
         rob.pop_head();
     }
-    assert_eq!(rt; rob.retired(), 10);
+    check_equal(&rt, rob.retired(), 10);
     Ok(())
 }
 
@@ -78,15 +84,15 @@ fn cut_numbers_are_used_again(rt: HostRuntime) -> Result<(), Fail> {
     for pc in [0, 4, 8, 12] {
         push(&rt, &mut rob, pc);
     }
-    assert!(rt; rob.is_full());
+    check_true(&rt, rob.is_full());
     rob.pop_head();
     rob.cut(2);
-    assert_eq!(rt; rob.len(), 1);
-    assert_eq!(rt; rob.next_number(), 2);
-    assert_eq!(rt; push(&rt, &mut rob, 100), 2);
-    assert_eq!(rt; rob.get(2).map(|entry| entry.pc), Some(100));
+    check_equal(&rt, rob.len(), 1);
+    check_equal(&rt, rob.next_number(), 2);
+    check_equal(&rt, push(&rt, &mut rob, 100), 2);
+    check_equal(&rt, rob.get(2).map(|entry| entry.pc), Some(100));
     rob.cut(0);
-    assert_eq!(rt; rob.next_number(), 1);
+    check_equal(&rt, rob.next_number(), 1);
     Ok(())
 }
 
@@ -103,7 +109,7 @@ fn entry_keeps_the_issue_and_the_whole_message(rt: HostRuntime) -> Result<(), Fa
         },
         ..waiting(0x8000_0000)
     };
-    assert_eq!(rt; rob.head().copied(), Some(running));
+    check_equal(&rt, rob.head().copied(), Some(running));
     rob.finish(seq, message(), 3);
     rob.correct_prediction(seq, 0x8000_0040);
     rob.finish(9, message(), 3);
@@ -116,7 +122,7 @@ fn entry_keeps_the_issue_and_the_whole_message(rt: HostRuntime) -> Result<(), Fa
         },
         ..waiting(0x8000_0000)
     };
-    assert_eq!(rt; rob.head().copied(), Some(finished));
-    assert_eq!(rt; rob.get(other).copied(), Some(waiting(0x8000_0004)));
+    check_equal(&rt, rob.head().copied(), Some(finished));
+    check_equal(&rt, rob.get(other).copied(), Some(waiting(0x8000_0004)));
     Ok(())
 }

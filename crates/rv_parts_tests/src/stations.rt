@@ -1,6 +1,7 @@
 ghost use Rattle.std.specs.Prelude.{IsTrue};
 ghost use Rattle.rv_stations.specs.Waiting.{IsOperand};
 
+use crate::checks::check_equal;
 use rv_isa::{Description, Instr, Kind, KindValues, PerKind, Values};
 use rv_stations::{Operand, Stations, Waiting};
 use std::alloc::Global;
@@ -53,9 +54,9 @@ fn issue(rt: &impl Abort, stations: &mut Stations, seq: u64, value: u32) {
     let issued = stations
         .take_oldest_ready(Kind::Alu, |_| true)
         .expect(rt, "a ready instruction");
-    assert_eq!(rt; issued.seq, seq);
-    assert_eq!(rt; issued.first, value);
-    assert_eq!(rt; issued.second, value);
+    check_equal(rt, issued.seq, seq);
+    check_equal(rt, issued.first, value);
+    check_equal(rt, issued.second, value);
 }
 
 // In lanes of eight, with and without a rest.

@@ -1,5 +1,6 @@
 ghost use Rattle.std.specs.Prelude.{◌≤◌, length};
 
+use crate::checks::{check_equal, check_true};
 use rv_isa::{Description, StoreAccess, StoreBytes, Values};
 use rv_stores::{Store, StorePhase, StoreQueue, StoreState};
 use std::test::Fail;
@@ -57,7 +58,7 @@ fn mixed_widths_forward_as_a_plain_list_of_stores(rt: HostRuntime) -> Result<(),
             _ => 4,
         };
         let address = 0x8000_0000 + ((random >> 20) & 7) / width * width;
-        assert!(rt; queue.can_enter(seq));
+        check_true(&rt, queue.can_enter(seq));
         queue.enter(seq);
         if seq % 5 == 3 {
             queue.fill_fault(seq);
@@ -92,20 +93,26 @@ fn a_load_takes_each_byte_from_the_youngest_older_store(rt: HostRuntime) -> Resu
         (5, 0x101, &[0x7f]),
         (9, 0x102, &[1, 2]),
     ] {
-        assert!(rt; queue.can_enter(seq) && bytes.len() <= 4);
+        check_true(&rt, queue.can_enter(seq) && bytes.len() <= 4);
         queue.enter(seq);
         queue.fill(seq, access(address, bytes));
     }
-    assert_eq!(rt;
+    check_equal(
+        &rt,
         queue.overlay(9, 0x100, 4),
-        [Some(0x11), Some(0x7f), Some(0x33), Some(0x44)]
+        [Some(0x11), Some(0x7f), Some(0x33), Some(0x44)],
     );
-    assert_eq!(rt;
+    check_equal(
+        &rt,
         queue.overlay(10, 0x100, 4),
-        [Some(0x11), Some(0x7f), Some(1), Some(2)]
+        [Some(0x11), Some(0x7f), Some(1), Some(2)],
     );
-    assert_eq!(rt; queue.overlay(10, 0x102, 2), [Some(1), Some(2), None, None]);
-    assert_eq!(rt; queue.overlay(3, 0x100, 4), [None; 4]);
+    check_equal(
+        &rt,
+        queue.overlay(10, 0x102, 2),
+        [Some(1), Some(2), None, None],
+    );
+    check_equal(&rt, queue.overlay(3, 0x100, 4), [None; 4]);
     Ok(())
 }
 
@@ -114,21 +121,21 @@ fn a_store_drains_after_its_commit_and_forwards_until_the_drain_ends(
     rt: HostRuntime,
 ) -> Result<(), Fail> {
     let mut queue = large_queue(&rt)?;
-    assert!(rt; queue.is_empty() && queue.can_enter(1));
+    check_true(&rt, queue.is_empty() && queue.can_enter(1));
     queue.enter(1);
-    assert!(rt; queue.first_unknown() == Some(1));
+    check_true(&rt, queue.first_unknown() == Some(1));
     queue.fill(1, access(0x200, &[0xaa, 0xbb]));
-    assert!(rt; queue.first_unknown().is_none() && !queue.can_drain());
-    assert_eq!(rt; queue.committed_byte(0x201), None);
+    check_true(&rt, queue.first_unknown().is_none() && !queue.can_drain());
+    check_equal(&rt, queue.committed_byte(0x201), None);
     queue.commit_oldest();
-    assert!(rt; queue.can_drain());
+    check_true(&rt, queue.can_drain());
     let write = queue.start_drain();
-    assert_eq!(rt; write.address, 0x200);
-    assert_eq!(rt; write.bytes.as_slice(), [0xaa, 0xbb].as_slice());
-    assert_eq!(rt; queue.committed_byte(0x201), Some(0xbb));
-    assert!(rt; !queue.can_drain());
+    check_equal(&rt, write.address, 0x200);
+    check_equal(&rt, write.bytes.as_slice(), [0xaa, 0xbb].as_slice());
+    check_equal(&rt, queue.committed_byte(0x201), Some(0xbb));
+    check_true(&rt, !queue.can_drain());
     queue.end_drain();
-    assert!(rt; queue.is_empty());
+    check_true(&rt, queue.is_empty());
     Ok(())
 }
 
@@ -138,15 +145,15 @@ fn a_squash_keeps_the_older_stores_and_a_trap_the_committed_ones(
 ) -> Result<(), Fail> {
     let mut queue = large_queue(&rt)?;
     for seq in [2, 4, 6, 8] {
-        assert!(rt; queue.can_enter(seq));
+        check_true(&rt, queue.can_enter(seq));
         queue.enter(seq);
         queue.fill(seq, access(0x300, &[seq as u8]));
     }
     queue.commit_oldest();
     queue.squash(7);
-    assert_eq!(rt; queue.overlay(9, 0x300, 1), [Some(6), None, None, None]);
+    check_equal(&rt, queue.overlay(9, 0x300, 1), [Some(6), None, None, None]);
     queue.squash_uncommitted();
-    assert_eq!(rt; queue.overlay(9, 0x300, 1), [Some(2), None, None, None]);
-    assert!(rt; !queue.is_full() && queue.can_enter(4));
+    check_equal(&rt, queue.overlay(9, 0x300, 1), [Some(2), None, None, None]);
+    check_true(&rt, !queue.is_full() && queue.can_enter(4));
     Ok(())
 }

@@ -3,7 +3,8 @@
 
 ghost use Rattle.std.specs.Prelude.{◌<◌};
 
-use super::{HIGH, LOW, TIMER};
+use super::cases::{HIGH, LOW, TIMER};
+use crate::checks::check_equal;
 use rv_arch::{CsrOperand, Csrs};
 use rv_isa::{CsrAddress, CsrOp, Lines};
 use std::process::Abort;
@@ -82,11 +83,11 @@ fn each_register_stands_at_its_address(rt: HostRuntime) {
 fn vectored_mode_is_for_interrupts(rt: HostRuntime) {
     let mut csrs = Csrs::reset();
     write(&rt, &mut csrs, 0x305, 0x8000_0101);
-    assert_eq!(rt; csrs.enter_trap(0, 0x8000_000b, 0), 0x8000_012c);
-    assert_eq!(rt; csrs.enter_trap(0, 0x8000_0003, 0), 0x8000_010c);
-    assert_eq!(rt; csrs.enter_trap(0, 11, 0), 0x8000_0100);
+    check_equal(&rt, csrs.enter_trap(0, 0x8000_000b, 0), 0x8000_012c);
+    check_equal(&rt, csrs.enter_trap(0, 0x8000_0003, 0), 0x8000_010c);
+    check_equal(&rt, csrs.enter_trap(0, 11, 0), 0x8000_0100);
     write(&rt, &mut csrs, 0x305, 0x8000_0100);
-    assert_eq!(rt; csrs.enter_trap(0, 0x8000_000b, 0), 0x8000_0100);
+    check_equal(&rt, csrs.enter_trap(0, 0x8000_000b, 0), 0x8000_0100);
 }
 
 // A trap moves MIE to MPIE and clears it; MRET moves MPIE to MIE and sets it; MPP stays 3.
@@ -95,17 +96,17 @@ fn mret_undoes_a_trap(rt: HostRuntime) {
     let mut csrs = Csrs::reset();
     write(&rt, &mut csrs, 0x300, 8);
     csrs.enter_trap(0x8000_0014, 5, 0x55);
-    assert_eq!(rt; csrs.read(0x300, LOW), Some(0x1880));
-    assert_eq!(rt; csrs.read(0x341, LOW), Some(0x8000_0014));
-    assert_eq!(rt; csrs.read(0x342, LOW), Some(5));
-    assert_eq!(rt; csrs.read(0x343, LOW), Some(0x55));
-    assert_eq!(rt; csrs.mret(), 0x8000_0014);
-    assert_eq!(rt; csrs.read(0x300, LOW), Some(0x1888));
+    check_equal(&rt, csrs.read(0x300, LOW), Some(0x1880));
+    check_equal(&rt, csrs.read(0x341, LOW), Some(0x8000_0014));
+    check_equal(&rt, csrs.read(0x342, LOW), Some(5));
+    check_equal(&rt, csrs.read(0x343, LOW), Some(0x55));
+    check_equal(&rt, csrs.mret(), 0x8000_0014);
+    check_equal(&rt, csrs.read(0x300, LOW), Some(0x1888));
     csrs.enter_trap(0x8000_0018, 2, 0);
     csrs.enter_trap(0x8000_001c, 2, 0);
-    assert_eq!(rt; csrs.read(0x300, LOW), Some(0x1800));
-    assert_eq!(rt; csrs.mret(), 0x8000_001c);
-    assert_eq!(rt; csrs.read(0x300, LOW), Some(0x1880));
+    check_equal(&rt, csrs.read(0x300, LOW), Some(0x1800));
+    check_equal(&rt, csrs.mret(), 0x8000_001c);
+    check_equal(&rt, csrs.read(0x300, LOW), Some(0x1880));
 }
 
 // What mie has, the lines, and the code that is due.
@@ -133,7 +134,7 @@ fn due_interrupt_is_the_first_enabled(rt: HostRuntime) {
     for (enabled, lines, code) in due_interrupts() {
         let mut csrs = Csrs::reset();
         write(&rt, &mut csrs, 0x304, enabled);
-        assert_eq!(rt; csrs.due_interrupt(lines), None);
+        check_equal(&rt, csrs.due_interrupt(lines), None);
         write(&rt, &mut csrs, 0x300, 8);
         assert_eq!(rt; csrs.due_interrupt(lines), code, "{enabled:03x}");
     }

@@ -1,7 +1,8 @@
 //! What single instructions do: each load and store width, operations, jumps and branches, CSR
 //! instructions, and the cause and `mtval` of each fault.
 
-use super::{BASE, Case, LOW, PLAIN, TIMER, check, machine};
+use super::cases::{BASE, Case, LOW, PLAIN, TIMER, check, machine};
+use crate::checks::check_equal;
 use rv_arch::RefStep;
 use rv_isa::{Cause, Reg};
 use std::test::Fail;
@@ -279,9 +280,9 @@ fn each_fault_has_its_code_and_value(rt: HostRuntime) {
             "{word:08x}"
         );
         let seen = reference.observe();
-        assert_eq!(rt; seen.regs[1], 0);
-        assert_eq!(rt; seen.regs[7], 0);
-        assert_eq!(rt; seen.csrs.read(0x341, LOW), Some(0x8000_0008));
+        check_equal(&rt, seen.regs[1], 0);
+        check_equal(&rt, seen.regs[7], 0);
+        check_equal(&rt, seen.csrs.read(0x341, LOW), Some(0x8000_0008));
         assert_eq!(rt; seen.csrs.read(0x342, LOW), Some(code), "{word:08x}");
         assert_eq!(rt; seen.csrs.read(0x343, LOW), Some(value), "{word:08x}");
     }
@@ -297,17 +298,18 @@ fn fetch_outside_ram_faults_with_the_pc(rt: HostRuntime) {
         word: 0x0003_0067,
         written: None,
     };
-    assert_eq!(rt; reference.step(LOW), jump);
+    check_equal(&rt, reference.step(LOW), jump);
     let trap = RefStep::Trap {
         pc: 0x8001_0000,
         cause: Cause::InstructionAccessFault,
         value: 0x8001_0000,
     };
-    assert_eq!(rt; reference.step(LOW), trap);
-    assert_eq!(rt; reference.observe().csrs.read(0x342, LOW), Some(1));
-    assert_eq!(rt;
+    check_equal(&rt, reference.step(LOW), trap);
+    check_equal(&rt, reference.observe().csrs.read(0x342, LOW), Some(1));
+    check_equal(
+        &rt,
         reference.observe().csrs.read(0x343, LOW),
-        Some(0x8001_0000)
+        Some(0x8001_0000),
     );
 }
 

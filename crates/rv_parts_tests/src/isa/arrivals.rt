@@ -1,3 +1,4 @@
+use crate::checks::check_true;
 use rv_isa::{Arrival, Arrivals, Line};
 use std::test::Fail;
 
@@ -14,8 +15,11 @@ fn the_last_arrival_of_a_cycle_counts(rt: HostRuntime) -> Result<(), Fail> {
         arrival(5, Line::Software, true),
     ]?;
     let arrivals = Arrivals::new(items).ok_or("these arrivals are legal")?;
-    assert!(rt; !arrivals.at(2).timer && arrivals.at(3).timer && arrivals.at(9).timer);
-    assert!(rt; !arrivals.at(5).external && arrivals.at(5).software);
+    check_true(
+        &rt,
+        !arrivals.at(2).timer && arrivals.at(3).timer && arrivals.at(9).timer,
+    );
+    check_true(&rt, !arrivals.at(5).external && arrivals.at(5).software);
     Ok(())
 }
 
@@ -25,8 +29,8 @@ fn a_falling_or_late_cycle_is_refused(rt: HostRuntime) -> Result<(), Fail> {
         arrival(5, Line::Timer, true),
         arrival(4, Line::Timer, true),
     ]?;
-    assert!(rt; Arrivals::new(falling).is_none());
+    check_true(&rt, Arrivals::new(falling).is_none());
     let late = vec![in rt.alloc(); arrival(1_000_001, Line::Timer, true)]?;
-    assert!(rt; Arrivals::new(late).is_none());
+    check_true(&rt, Arrivals::new(late).is_none());
     Ok(())
 }

@@ -1,3 +1,4 @@
+use crate::checks::check_true;
 use rv_isa::{Description, Kind, Values};
 use rv_units::Units;
 use std::process::Abort;
@@ -18,7 +19,7 @@ fn division_holds_its_unit_to_its_last_cycle(rt: HostRuntime) -> Result<(), Fail
         assert!(rt; !units.free(Kind::Div, cycle), "in cycle {cycle}");
     }
     begin(&rt, &mut units, Kind::Div, 8, 10);
-    assert!(rt; !units.free(Kind::Div, 10));
+    check_true(&rt, !units.free(Kind::Div, 10));
     Ok(())
 }
 
