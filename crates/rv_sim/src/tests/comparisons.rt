@@ -1,5 +1,4 @@
 use crate::compare::compare;
-use crate::tests::checks::{check_equal, check_true};
 use crate::tests::helpers::Narrow;
 use rv_job::{SimError, read_comparison};
 use std::test::Fail;
@@ -40,9 +39,9 @@ fn an_output_that_is_full_has_a_beginning_of_the_table(rt: HostRuntime) -> Resul
             taken: Vec::new(rt.alloc()),
         };
         let ended = compare(rt.alloc(), &comparison, 100_000, &mut output);
-        check_equal(&rt, ended.err(), Some(SimError::WriteFailed));
-        check_equal(&rt, output.taken.len(), room);
-        check_true(&rt, TABLE.as_bytes().starts_with(output.taken.as_slice()));
+        assert_eq!(rt; ended.err(), Some(SimError::WriteFailed));
+        assert_eq!(rt; output.taken.len(), room);
+        assert!(rt; TABLE.as_bytes().starts_with(output.taken.as_slice()));
     }
     Ok(())
 }

@@ -1,4 +1,4 @@
-use crate::tests::checks::{check_equal, check_run, check_true};
+use crate::tests::checks::check_run;
 use crate::tests::helpers::run_text;
 use crate::tests::programs::STORE_INTO_CODE;
 use rv_command::Command;
@@ -33,9 +33,9 @@ The lines that stood longest at the head of the reorder buffer, in cycles:
 #[test]
 fn a_run_is_explained_with_the_lines_of_its_program(rt: HostRuntime) {
     let ended = run_text(rt.alloc(), EXPLAIN, ADDITION);
-    check_equal(&rt, ended.status, 0);
-    check_true(&rt, ended.output.as_slice() == SENTENCES);
-    check_true(&rt, ended.errors.is_empty());
+    assert_eq!(rt; ended.status, 0);
+    assert!(rt; ended.output.as_slice() == SENTENCES);
+    assert!(rt; ended.errors.is_empty());
 }
 
 #[test]
@@ -327,8 +327,8 @@ The lines that stood longest at the head of the reorder buffer, in cycles:
 #[test]
 fn the_words_of_a_line_are_told_together(rt: HostRuntime) {
     let ended = run_text(rt.alloc(), EXPLAIN, LOOP);
-    check_equal(&rt, ended.status, 0);
-    check_true(&rt, ended.output.as_slice().ends_with(LINES_OF_LOOP));
+    assert_eq!(rt; ended.status, 0);
+    assert!(rt; ended.output.as_slice().ends_with(LINES_OF_LOOP));
 }
 
 // Each addition waits for the one before it.
@@ -359,6 +359,6 @@ The lines that stood longest at the head of the reorder buffer, in cycles:
 #[test]
 fn of_equal_lines_the_first_are_told(rt: HostRuntime) {
     let ended = run_text(rt.alloc(), EXPLAIN, CHAIN);
-    check_equal(&rt, ended.status, 0);
-    check_true(&rt, ended.output.as_slice().ends_with(LINES_OF_CHAIN));
+    assert_eq!(rt; ended.status, 0);
+    assert!(rt; ended.output.as_slice().ends_with(LINES_OF_CHAIN));
 }

@@ -1,5 +1,4 @@
 use crate::program::run;
-use crate::tests::checks::{check_equal, check_true};
 use crate::tests::helpers::{Ended, WHOLE};
 use rv_command::Command;
 use rv_job::{FaultLines, read_input};
@@ -41,11 +40,8 @@ fn run_endless(alloc: Global, command: Command) -> Ended {
 fn what_is_cut_is_too_long(rt: HostRuntime) {
     for command in [WHOLE, Command::Check] {
         let ended = run_endless(rt.alloc(), command);
-        check_equal(&rt, ended.status, 1);
-        check_true(&rt, ended.output.is_empty());
-        check_true(
-            &rt,
-            ended.errors.as_slice() == b"error: job too long\n".as_slice(),
-        );
+        assert_eq!(rt; ended.status, 1);
+        assert!(rt; ended.output.is_empty());
+        assert!(rt; ended.errors.as_slice() == b"error: job too long\n".as_slice());
     }
 }

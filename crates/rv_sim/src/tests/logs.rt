@@ -1,4 +1,3 @@
-use crate::tests::checks::{check_equal, check_true};
 use crate::tests::helpers::run_text;
 use crate::tests::programs::ADDITION;
 use rv_command::Command;
@@ -15,7 +14,7 @@ C\t1
 #[test]
 fn the_cycles_of_a_run_are_logged_with_the_lines_of_its_program(rt: HostRuntime) {
     let ended = run_text(rt.alloc(), Command::Log { limit: 5 }, ADDITION);
-    check_equal(&rt, ended.status, 0);
-    check_true(&rt, ended.output.as_slice().starts_with(FIRST_CYCLE));
-    check_true(&rt, ended.errors.is_empty());
+    assert_eq!(rt; ended.status, 0);
+    assert!(rt; ended.output.as_slice().starts_with(FIRST_CYCLE));
+    assert!(rt; ended.errors.is_empty());
 }

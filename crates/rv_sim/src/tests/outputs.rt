@@ -1,5 +1,4 @@
 use crate::program::run;
-use crate::tests::checks::{check_equal, check_true};
 use crate::tests::helpers::{Closed, Ended, Narrow, WHOLE, run_text};
 use rv_command::Command;
 use rv_job::FaultLines;
@@ -53,7 +52,7 @@ fn an_output_that_is_full_has_a_beginning_of_the_report(rt: HostRuntime) {
     for room in [0, 1, 15, 16, 100, 400] {
         assert!(rt; is_cut(rt.alloc(), WHOLE, room), "at {room}");
     }
-    check_true(&rt, is_cut(rt.alloc(), Command::Check, 3));
+    assert!(rt; is_cut(rt.alloc(), Command::Check, 3));
 }
 
 // The status of a run whose faults cannot be told, and whether there were none to tell.
@@ -65,7 +64,7 @@ fn run_untold(alloc: Global, mut input: &[u8]) -> (u8, bool) {
 
 #[test]
 fn a_fault_that_cannot_be_told_has_its_status_too(rt: HostRuntime) -> Result<(), Fail> {
-    check_equal(&rt, run_untold(rt.alloc(), b"frobnicate\n"), (1, false));
-    check_equal(&rt, run_untold(rt.alloc(), b"ebreak\n"), (4, false));
+    assert_eq!(rt; run_untold(rt.alloc(), b"frobnicate\n"), (1, false));
+    assert_eq!(rt; run_untold(rt.alloc(), b"ebreak\n"), (4, false));
     Ok(())
 }

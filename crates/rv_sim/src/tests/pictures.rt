@@ -1,4 +1,3 @@
-use crate::tests::checks::{check_equal, check_true};
 use crate::tests::helpers::run_text;
 use crate::tests::programs::ADDITION;
 use rv_command::Command;
@@ -22,9 +21,9 @@ fn the_cycles_in_view_are_shown_with_the_lines_of_the_program(rt: HostRuntime) {
         cycles: 3,
     };
     let ended = run_text(rt.alloc(), three, ADDITION);
-    check_equal(&rt, ended.status, 0);
-    check_true(&rt, ended.output.as_slice() == THREE_CYCLES);
-    check_true(&rt, ended.errors.is_empty());
+    assert_eq!(rt; ended.status, 0);
+    assert!(rt; ended.output.as_slice() == THREE_CYCLES);
+    assert!(rt; ended.errors.is_empty());
 }
 
 #[test]
@@ -35,13 +34,12 @@ fn a_picture_is_an_svg_where_no_text_is_asked_for(rt: HostRuntime) {
         cycles: 6,
     };
     let ended = run_text(rt.alloc(), drawn, ADDITION);
-    check_equal(&rt, ended.status, 0);
-    check_true(
-        &rt,
+    assert_eq!(rt; ended.status, 0);
+    assert!(rt;
         ended
             .output
             .as_slice()
-            .starts_with(b"<svg xmlns='http://www.w3.org/2000/svg' "),
+            .starts_with(b"<svg xmlns='http://www.w3.org/2000/svg' ")
     );
-    check_true(&rt, ended.output.as_slice().ends_with(b"</svg>\n"));
+    assert!(rt; ended.output.as_slice().ends_with(b"</svg>\n"));
 }

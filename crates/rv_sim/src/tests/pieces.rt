@@ -1,4 +1,3 @@
-use crate::tests::checks::{check_equal, check_true};
 use crate::tests::words::loaded_core;
 use rv_arch::Stop;
 use rv_core::{Core, Outcome, run};
@@ -104,11 +103,11 @@ fn runs_of_one_cycle_each_tell_what_one_run_tells(rt: HostRuntime) {
         ] {
             let whole = told_in_pieces(&rt, rt.alloc(), bytes, recovery, 1000);
             let pieces = told_in_pieces(&rt, rt.alloc(), bytes, recovery, 1);
-            check_equal(&rt, whole.steps.len(), steps);
-            check_true(&rt, pieces.steps.as_slice() == whole.steps.as_slice());
-            check_equal(&rt, pieces.cycles, whole.cycles);
-            check_equal(&rt, pieces.busy, whole.busy);
-            check_equal(&rt, pieces.stalls, whole.stalls);
+            assert_eq!(rt; whole.steps.len(), steps);
+            assert!(rt; pieces.steps.as_slice() == whole.steps.as_slice());
+            assert_eq!(rt; pieces.cycles, whole.cycles);
+            assert_eq!(rt; pieces.busy, whole.busy);
+            assert_eq!(rt; pieces.stalls, whole.stalls);
         }
     }
 }

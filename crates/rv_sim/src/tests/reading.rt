@@ -1,5 +1,4 @@
 use crate::program::run;
-use crate::tests::checks::{check_equal, check_true};
 use crate::tests::helpers::WHOLE;
 use rv_job::FaultLines;
 use std::io;
@@ -29,11 +28,10 @@ fn an_input_that_cannot_be_read_gives_status_4(rt: HostRuntime) {
     let mut errors = FaultLines::new(Vec::new(alloc));
     let mut reader = Broken { zeros: 5 };
     let status = run(alloc, &WHOLE, &mut reader, &mut output, &mut errors);
-    check_equal(&rt, status, 4);
-    check_true(&rt, output.is_empty());
-    check_equal(
-        &rt,
+    assert_eq!(rt; status, 4);
+    assert!(rt; output.is_empty());
+    assert_eq!(rt;
         errors.into_writer().as_slice(),
-        b"error: input\n".as_slice(),
+        b"error: input\n".as_slice()
     );
 }

@@ -1,4 +1,3 @@
-use crate::tests::checks::{check_equal, check_true};
 use crate::tests::helpers::run_text;
 use rv_command::Command;
 use std::str;
@@ -29,8 +28,8 @@ fn a_tab_in_a_statement_is_shown_as_a_blank(rt: HostRuntime) {
     for command in COMMANDS {
         let ended = run_text(rt.alloc(), command, TABBED);
         let text = str::from_utf8(ended.output.as_slice()).expect(&rt, "ASCII");
-        check_equal(&rt, ended.status, 0);
-        check_true(&rt, text.contains("addi x1,x0,5"));
-        check_true(&rt, !text.contains("?"));
+        assert_eq!(rt; ended.status, 0);
+        assert!(rt; text.contains("addi x1,x0,5"));
+        assert!(rt; !text.contains("?"));
     }
 }
