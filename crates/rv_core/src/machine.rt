@@ -76,12 +76,9 @@ impl Core {
             return Err(NewError::ImageDoesNotFit);
         }
         let parts = Parts::new(alloc, description, image)?;
-        let Ok(boxed) = Box::new(alloc, parts) else {
-            return Err(NewError::Memory);
-        };
         let steps = Vec::with_capacity(alloc, 8)?;
         Ok(Core {
-            parts: boxed,
+            parts,
             predictor,
             steps,
         })

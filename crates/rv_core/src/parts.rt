@@ -76,15 +76,15 @@ impl Parts {
         alloc: Global,
         description: &Description,
         image: &Image,
-    ) -> Result<Parts, AllocError>
+    ) -> Result<Box<Parts>, AllocError>
         requires { length image.now.bytes ≤ description.now.ram_size }
-        ensures { IfOk result (λ parts. parts ≡ reset_hardware description.now image.now.bytes image.now.start) }
+        ensures { IfOk result (λ parts. parts.value ≡ reset_hardware description.now image.now.bytes image.now.start) }
     {
         let front = Front::new(alloc, description, image.start)?;
         let (cache, stale) = memory_at_reset(alloc, description, image)?;
         let (rob, rename, stores) = empty_buffers(alloc, description)?;
         let (stations, units, bus) = empty_units(alloc, description)?;
-        Ok(Parts {
+        let parts = Parts {
             values: description.values(),
             pc: image.start,
             registers: [0; 32],
@@ -101,7 +101,8 @@ impl Parts {
             front,
             cycle: 0,
             lines: Lines::default(),
-        })
+        };
+        Ok(Box::new(alloc, parts)?)
     }
 
     /// Does one cycle: its seven phases, in order.
