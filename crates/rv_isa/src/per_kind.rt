@@ -1,7 +1,8 @@
-ghost use Rattle.std.specs.Prelude.{◌≡◌};
+ghost use Rattle.std.specs.Prelude.{◌≡◌, Ok, IfOk};
 ghost use Rattle.std.specs.Borrow.{sem};
 
 use crate::operations::Kind;
+use std::alloc::AllocError;
 
 /// What there is for each of the four kinds of unit.
 #[derive(Clone, Copy, Debug, PartialEq, Eq, Drop)]
@@ -10,6 +11,25 @@ pub struct PerKind<T> {
     pub mul: T,
     pub div: T,
     pub mem: T,
+}
+
+impl<T: Drop> PerKind<T> {
+    /// The parts of the four kinds, where there was memory for each. The only error is want of memory.
+    pub fn try_new(
+        alu: Result<T, AllocError>,
+        mul: Result<T, AllocError>,
+        div: Result<T, AllocError>,
+        mem: Result<T, AllocError>,
+    ) -> Result<PerKind<T>, AllocError>
+        ensures { IfOk result (λ parts. (alu ≡ Ok parts.alu) × (mul ≡ Ok parts.mul) × (div ≡ Ok parts.div) × (mem ≡ Ok parts.mem)) }
+    {
+        Ok(PerKind {
+            alu: alu?,
+            mul: mul?,
+            div: div?,
+            mem: mem?,
+        })
+    }
 }
 
 impl<T> PerKind<T> {

@@ -31,12 +31,12 @@ impl Stations {
         ensures { IfOk result (λ stations. stations ≡ for_each empty_pool description.now.kinds) }
     {
         let kinds = description.values().kinds;
-        let pools = PerKind {
-            alu: StationPool::new(alloc, kinds.alu)?,
-            mul: StationPool::new(alloc, kinds.mul)?,
-            div: StationPool::new(alloc, kinds.div)?,
-            mem: StationPool::new(alloc, kinds.mem)?,
-        };
+        let pools = PerKind::try_new(
+            StationPool::new(alloc, kinds.alu),
+            StationPool::new(alloc, kinds.mul),
+            StationPool::new(alloc, kinds.div),
+            StationPool::new(alloc, kinds.mem),
+        )?;
         Ok(Stations { pools })
     }
 

@@ -28,12 +28,12 @@ impl Units {
         ensures { IfOk result (λ units. units ≡ for_each free_pool description.now.kinds) }
     {
         let kinds = description.values().kinds;
-        let pools = PerKind {
-            alu: UnitPool::new(alloc, kinds.alu)?,
-            mul: UnitPool::new(alloc, kinds.mul)?,
-            div: UnitPool::new(alloc, kinds.div)?,
-            mem: UnitPool::new(alloc, kinds.mem)?,
-        };
+        let pools = PerKind::try_new(
+            UnitPool::new(alloc, kinds.alu),
+            UnitPool::new(alloc, kinds.mul),
+            UnitPool::new(alloc, kinds.div),
+            UnitPool::new(alloc, kinds.mem),
+        )?;
         Ok(Units { pools })
     }
 
