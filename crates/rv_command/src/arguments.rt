@@ -1,6 +1,6 @@
 //! The arguments of the program, as `clap` is given them.
 ghost use Rattle.std.specs.Prelude.{◌≡◌, false, IfOk};
-ghost use Rattle.clap.specs.Words.{new_app, rule_of};
+ghost use Rattle.clap.specs.Words.{App, new_app, rule_of, with_subcommand};
 ghost use Rattle.rv_command.specs.Arguments.{IsParserOf, check_arguments, cycles_rule, flag_rule, from_rule, limit_rule};
 ghost use Rattle.rv_command.specs.Arguments.{limited_arguments, number_rule, picture_arguments, program_arguments, run_arguments};
 ghost use Rattle.rv_command.specs.Arguments.{bare_arguments, bare_picture_arguments};
@@ -132,31 +132,40 @@ fn program<'a>(alloc: Global) -> Result<Command<'a>, AllocError>
         .bin_name("rv_sim")
 }
 
+// The program with one more command, where that could be made.
+fn with_command<'a>(
+    program: Command<'a>,
+    command: Result<Command<'a>, AllocError>,
+) -> Result<Command<'a>, AllocError>
+    ensures arguments { (p c : App) → IsParserOf p program.entry → IfOk command.entry (IsParserOf c) → IfOk result (IsParserOf (with_subcommand p c.top)) }
+{
+    match command {
+        Ok(command) => program.subcommand(command),
+        Err(error) => Err(error),
+    }
+}
+
 /// The parser of the program's command lines.
 pub(crate) fn parser<'a>(alloc: Global) -> Result<Command<'a>, AllocError>
     ensures arguments { IfOk result (IsParserOf program_arguments) }
 {
-    program(alloc)?
-        .subcommand(run_command(alloc)?)?
-        .subcommand(limited_command(
-            alloc,
-            "reference",
-            help::REFERENCE,
-            "The most steps, 1 to 1000000",
-        )?)?
-        .subcommand(check_command(alloc))?
-        .subcommand(picture_command(alloc)?)?
-        .subcommand(limited_command(alloc, "log", help::LOG, "The most cycles, 1 to 1000000")?)?
-        .subcommand(limited_command(
-            alloc,
-            "explain",
-            help::EXPLAIN,
-            "The most cycles, 1 to 1000000",
-        )?)?
-        .subcommand(limited_command(
-            alloc,
-            "compare",
-            help::COMPARE,
-            "The most cycles of each run, 1 to 1000000",
-        )?)
+    const CYCLES: &str = "The most cycles, 1 to 1000000";
+    const STEPS: &str = "The most steps, 1 to 1000000";
+    const CYCLES_OF_EACH: &str = "The most cycles of each run, 1 to 1000000";
+    let program = with_command(program(alloc)?, run_command(alloc))?;
+    let program = with_command(
+        program,
+        limited_command(alloc, "reference", help::REFERENCE, STEPS),
+    )?;
+    let program = with_command(program, Ok(check_command(alloc)))?;
+    let program = with_command(program, picture_command(alloc))?;
+    let program = with_command(program, limited_command(alloc, "log", help::LOG, CYCLES))?;
+    let program = with_command(
+        program,
+        limited_command(alloc, "explain", help::EXPLAIN, CYCLES),
+    )?;
+    with_command(
+        program,
+        limited_command(alloc, "compare", help::COMPARE, CYCLES_OF_EACH),
+    )
 }
