@@ -1,7 +1,9 @@
 -- The names that tables hold.
-use Rattle.std.proofs.Common.{◌≡◌, ◌<◌, ℕ, List, [], ◌∷◌, true, Some, None, Option, refl, ap, arith, IsSome, IfSome, ◌↔◌}
+use Rattle.std.proofs.Common.{◌≡◌, ◌∙◌, ◌+◌, ◌<◌, Bor, cond, drop, false, get_or, length, map, sym, ℕ, List, [], ◌∷◌, true, Some, None, Option, refl, ap, arith, IsSome, IfSome, ◌↔◌}
 use Rattle.std.specs.Prelude.{nat_lt}
 use Rattle.std.specs.List.{list_all}
+use Rattle.std.specs.Str.{bytes_eq}
+use Rattle.std.proofs.lemmas.List.{drop_more}
 use Rattle.rv_asm.specs.Names.{named, register_names, register_named}
 use Rattle.std.proofs.lemmas.Bool.Decides.{nat_tests}
 
@@ -17,3 +19,14 @@ register_below name number found = named_below register_names name 32 number ref
 pub some_below : {r : Option ℕ} {n : ℕ} → (IsSome r ↔ (n < 32)) → IfSome r (λ x. x ≡ n) → n < 32 → r ≡ Some n
 some_below {r = None} valid is below = let impossible : IsSome {T = ℕ} None = valid.1 below in absurd (cc)
 some_below {r = Some x} valid is below = ap Some is
+
+-- what is left of a table that a loop reads: its next row, and what stands behind it
+module _ {T : Type 0} (table : List (Bor (List ℕ) × T)) (i : ℕ) (row : Bor (List ℕ) × T) (name : List ℕ) (inside : i < length table) (row_is : row ≡ get_or table i row) where
+  next_row : named (map (λ row. (row.0.now, row.1)) (drop i table)) name ≡ cond (bytes_eq row.0.now name) (Some row.1) (named (map (λ row. (row.0.now, row.1)) (drop (i + 1) table)) name)
+  next_row = ap (λ rows. named (map (λ row. (row.0.now, row.1)) rows) name) (drop_more table i row inside ∙ ap (λ first. first ∷ drop (i + 1) table) (sym row_is))
+
+  pub named-here : bytes_eq row.0.now name ≡ true → named (map (λ row. (row.0.now, row.1)) (drop i table)) name ≡ Some row.1
+  named-here same = next_row ∙ ap (λ b. cond b (Some row.1) (named (map (λ row. (row.0.now, row.1)) (drop (i + 1) table)) name)) same
+
+  pub named-behind : bytes_eq row.0.now name ≡ false → named (map (λ row. (row.0.now, row.1)) (drop i table)) name ≡ named (map (λ row. (row.0.now, row.1)) (drop (i + 1) table)) name
+  named-behind other = next_row ∙ ap (λ b. cond b (Some row.1) (named (map (λ row. (row.0.now, row.1)) (drop (i + 1) table)) name)) other

@@ -1,12 +1,14 @@
 -- The operands that tokens spell, piece by piece.
-use Rattle.std.proofs.Common.{◌≡◌, ◌∙◌, ◌<◌, arith, length, List, [], ◌∷◌, ◌++◌, map, Bool, true, false, cond, Some, Option, Result, Ok, Err, IfOk, Bor, sym, refl, ap, option_and_then}
+use Rattle.std.proofs.Common.{rules, ◌≡◌, ◌≢◌, ◌∙◌, ◌<◌, ◌≤◌, ◌-◌, ℕ, None, drop, arith, length, List, [], ◌∷◌, ◌++◌, map, Bool, true, false, cond, Some, Option, Result, Ok, Err, IfOk, Bor, sym, refl, ap, option_and_then}
 use Rattle.std.specs.Global.{Vec}
 use Rattle.std.specs.List.{slice_split, onto_first}
 use Rattle.std.specs.Option.{option_map}
+use Rattle.std.proofs.lemmas.List.{map-append}
 use Rattle.std.proofs.lemmas.Simd.{map-map}
-use Rattle.rv_asm.specs.Operand.{Operand, operand, operands_in, operands_of, is_comma}
+use Rattle.rv_asm.specs.Operand.{Operand, Indirect, Value, based, expression, in_parentheses, operand, operands_in, operands_of, is_comma}
 use Rattle.rv_asm.specs.Read.{operand_of, token_of}
 use Rattle.rv_asm.specs.Token as spec
+use Rattle.rv_asm.specs.Token.{LeftParenthesis, Name, RightParenthesis}
 use Rattle.rv_asm.specs.declared.token.Token.{Token}
 use Rattle.rv_asm.specs.declared.operand.Operand as read
 use Rattle.rv_asm.proofs.Joined.{joined, joined-push}
@@ -44,3 +46,45 @@ module _ (all : Option (List Operand)) (piece : List spec.Token) (rest others : 
   -- a piece is an operand
   pub joined-operand : (o : read.Operand) → Some (operand_of o) ≡ operand piece → joined operand_of (done ++ o ∷ []) (operands_in others) ≡ all
   joined-operand o read_is = joined-push operand_of done o (operands_in others) ∙ joined-found (Some (operand_of o)) read_is
+
+-- what stands before a name in parentheses is its offset
+module _ (name : List ℕ) where
+  ended : (offset : List Token) → List spec.Token
+  ended offset = map token_of offset ++ LeftParenthesis ∷ Name name ∷ RightParenthesis ∷ []
+
+  operand-ended : (found : Option Operand) (offset : List Token) → (length offset ≡ 0 → found ≡ Some (Indirect None name)) → (0 < length offset → found ≡ based (expression (map token_of offset)) (Some name)) → found ≡ operand (ended offset)
+  unfolding ended
+  operand-ended found [] alone behind = alone refl
+  operand-ended found (a ∷ []) alone behind = let is = behind (omega arith) in search rules
+  operand-ended found (a ∷ b ∷ []) alone behind = let is = behind (omega arith) in search rules
+  operand-ended found (a ∷ b ∷ c ∷ []) alone behind = let is = behind (omega arith) in search rules
+  operand-ended found (a ∷ b ∷ c ∷ d ∷ []) alone behind = let is = behind (omega arith) in search rules
+  operand-ended found (a ∷ b ∷ c ∷ d ∷ e ∷ []) alone behind = let is = behind (omega arith) in search rules
+  operand-ended found (a ∷ b ∷ c ∷ d ∷ e ∷ f ∷ []) alone behind = let is = behind (omega arith) in search rules
+  operand-ended found (a ∷ b ∷ c ∷ d ∷ e ∷ f ∷ g ∷ offset) alone behind = let is = behind (omega arith) in search rules
+
+  pub operand-indirect : (found : Option Operand) (tokens offset behind : List Token) → tokens ≡ offset ++ behind → map token_of behind ≡ LeftParenthesis ∷ Name name ∷ RightParenthesis ∷ [] → (length offset ≡ 0 → found ≡ Some (Indirect None name)) → (0 < length offset → found ≡ based (expression (map token_of offset)) (Some name)) → found ≡ operand (map token_of tokens)
+  unfolding ended
+  operand-indirect found tokens offset behind split ends alone based_on =
+      operand-ended found offset alone based_on ∙ ap (λ l. operand (map token_of offset ++ l)) (sym ends) ∙ ap operand (sym (map-append token_of offset behind)) ∙ ap (λ l. operand (map token_of l)) (sym split)
+
+in_parentheses-none : (left name right : spec.Token) → ((text : List ℕ) → (left ∷ name ∷ right ∷ []) ≢ (LeftParenthesis ∷ Name text ∷ RightParenthesis ∷ [])) → in_parentheses left name right ≡ None
+in_parentheses-none LeftParenthesis (Name text) RightParenthesis other = absurd (other text refl)
+in_parentheses-none _ _ _ other = refl
+
+-- without a name in parentheses at its end, an operand of three tokens or more is an expression
+operand-long : (tokens : List Token) → 3 ≤ length tokens → ((name : List ℕ) → map token_of (drop (length tokens - 3) tokens) ≢ (LeftParenthesis ∷ Name name ∷ RightParenthesis ∷ [])) → option_map Value (expression (map token_of tokens)) ≡ operand (map token_of tokens)
+operand-long (a ∷ b ∷ c ∷ []) long other = let none = in_parentheses-none (token_of a) (token_of b) (token_of c) other in search rules
+operand-long (a ∷ b ∷ c ∷ d ∷ []) long other = let none = in_parentheses-none (token_of b) (token_of c) (token_of d) other in search rules
+operand-long (a ∷ b ∷ c ∷ d ∷ e ∷ []) long other = let none = in_parentheses-none (token_of c) (token_of d) (token_of e) other in search rules
+operand-long (a ∷ b ∷ c ∷ d ∷ e ∷ f ∷ []) long other = let none = in_parentheses-none (token_of d) (token_of e) (token_of f) other in search rules
+operand-long (a ∷ b ∷ c ∷ d ∷ e ∷ f ∷ g ∷ tokens) long other = search rules
+operand-long _ long other = absurd (omega arith)
+
+pub operand-direct : (found : Option Operand) (tokens behind : List Token) → behind ≡ drop (length tokens - 3) tokens → ((name : List ℕ) → map token_of behind ≢ (LeftParenthesis ∷ Name name ∷ RightParenthesis ∷ [])) → (length tokens < 3 → found ≡ operand (map token_of tokens)) → (3 ≤ length tokens → found ≡ option_map Value (expression (map token_of tokens))) → found ≡ operand (map token_of tokens)
+operand-direct found [] behind ends other short long = short (omega arith)
+operand-direct found (a ∷ []) behind ends other short long = short (omega arith)
+operand-direct found (a ∷ b ∷ []) behind ends other short long = short (omega arith)
+operand-direct found (a ∷ b ∷ c ∷ tokens) behind ends other short long =
+    let enough : 3 ≤ length (a ∷ b ∷ c ∷ tokens) = omega arith in
+    long enough ∙ operand-long (a ∷ b ∷ c ∷ tokens) enough (λ name is. other name (ap (map token_of) ends ∙ is))

@@ -139,8 +139,7 @@ impl<'a> Layout<'a> {
         let tokens = tokenize(alloc, line.bytes)?;
         let here = Definition::Label(self.reach.section, self.reach.offset());
         let (body, starts) = self.symbols.define_labels(tokens.as_slice(), here)?;
-        self.add_body(alloc, line, starts, body)?;
-        Ok(())
+        self.add_body(alloc, line, starts, body)
     }
 
     /// The layout of a text, or its first fault in the first pass.

@@ -1,9 +1,10 @@
-ghost use Rattle.std.specs.Prelude.{◌≡◌, ◌∷◌, [], map, ok_or, IfOk};
+ghost use Rattle.std.specs.Prelude.{◌≡◌, ◌≢◌, ◌<◌, ◌≤◌, ◌∷◌, [], ℕ, List, None, Some, length, map, ok_or, IfOk, IfSome};
 ghost use Rattle.std.specs.List.{slice_split};
-ghost use Rattle.std.specs.Option.{option_map, option_copied};
+ghost use Rattle.std.specs.Option.{option_map};
 ghost use Rattle.rv_asm.specs.Answer.{Follows};
-ghost use Rattle.rv_asm.specs.Operand.{expression, in_parentheses, based, operand, operands_of, is_comma};
+ghost use Rattle.rv_asm.specs.Operand.{Indirect, Value, expression, based, operand, operands_of, is_comma};
 ghost use Rattle.rv_asm.specs.Read.{expression_of, operand_of, operands_in, token_of, tokens_in};
+ghost use Rattle.rv_asm.specs.Token.{LeftParenthesis, Name, RightParenthesis};
 
 use crate::fault::AsmFault;
 use crate::token::Token;
@@ -47,22 +48,41 @@ fn read_expression<'a>(tokens: &[Token<'a>]) -> Option<Expression<'a>>
 }
 
 /// The name between two parentheses.
-fn in_parentheses<'a>(left: Token<'a>, name: Token<'a>, right: Token<'a>) -> Option<&'a [u8]>
-    ensures { option_copied result ≡ in_parentheses (token_of left.entry) (token_of name.entry) (token_of right.entry) }
+fn in_parentheses<'a>(tokens: &[Token<'a>]) -> Option<&'a [u8]>
+    ensures found { IfSome result (λ name. tokens_in tokens.now ≡ LeftParenthesis ∷ Name name.now ∷ RightParenthesis ∷ []) }
+    ensures other { result ≡ None → (name : List ℕ) → tokens_in tokens.now ≢ LeftParenthesis ∷ Name name ∷ RightParenthesis ∷ [] }
 {
-    match (left, name, right) {
-        (Token::LeftParenthesis, Token::Name(name), Token::RightParenthesis) => Some(name),
+    match tokens {
+        [
+            Token::LeftParenthesis,
+            Token::Name(name),
+            Token::RightParenthesis,
+        ] => Some(name),
         _ => None,
     }
 }
 
-/// An expression before a name in parentheses.
-fn based<'a>(offset: Option<Expression<'a>>, name: Option<&'a [u8]>) -> Option<Operand<'a>>
-    ensures { option_map operand_of result ≡ based (option_map expression_of offset.entry) (option_copied name.entry) }
+/// A name in parentheses, behind an offset or alone.
+fn indirect<'a>(offset: &[Token<'a>], name: &'a [u8]) -> Option<Operand<'a>>
+    ensures alone { length offset.now ≡ 0 → option_map operand_of result ≡ Some (Indirect None name.entry.now) }
+    ensures behind { 0 < length offset.now → option_map operand_of result
+        ≡ based (expression (tokens_in offset.now)) (Some name.entry.now) }
 {
-    match (offset, name) {
-        (Some(offset), Some(name)) => Some(Operand::Indirect(Some(offset), name)),
-        _ => None,
+    if offset.is_empty() {
+        return Some(Operand::Indirect(None, name));
+    }
+    Some(Operand::Indirect(Some(read_expression(offset)?), name))
+}
+
+/// A string or an expression.
+fn direct<'a>(tokens: &[Token<'a>]) -> Option<Operand<'a>>
+    ensures short { length tokens.now < 3 → option_map operand_of result ≡ operand (tokens_in tokens.now) }
+    ensures long { 3 ≤ length tokens.now → option_map operand_of result
+        ≡ option_map Value (expression (tokens_in tokens.now)) }
+{
+    match tokens {
+        [Token::Text(raw)] => Some(Operand::Text(raw)),
+        _ => read_expression(tokens).map(Operand::Value),
     }
 }
 
@@ -70,29 +90,10 @@ fn based<'a>(offset: Option<Expression<'a>>, name: Option<&'a [u8]>) -> Option<O
 fn read_operand<'a>(tokens: &[Token<'a>]) -> Option<Operand<'a>>
     ensures { option_map operand_of result ≡ operand (tokens_in tokens.now) }
 {
-    match tokens {
-        [Token::Text(raw)] => Some(Operand::Text(raw)),
-        [_] => read_expression(tokens).map(Operand::Value),
-        [_, _] => read_expression(tokens).map(Operand::Value),
-        [first, second, third] => match read_expression(tokens) {
-            Some(expression) => Some(Operand::Value(expression)),
-            None => Some(Operand::Indirect(None, in_parentheses(*first, *second, *third)?)),
-        },
-        [first, left, name, right] => {
-            based(
-                read_expression(&[*first]),
-                in_parentheses(*left, *name, *right),
-            )
-        }
-        [first, second, left, name, right] => based(
-            read_expression(&[*first, *second]),
-            in_parentheses(*left, *name, *right),
-        ),
-        [first, second, third, left, name, right] => based(
-            read_expression(&[*first, *second, *third]),
-            in_parentheses(*left, *name, *right),
-        ),
-        _ => None,
+    let (offset, behind) = tokens.split_at(tokens.len().saturating_sub(3));
+    match in_parentheses(behind) {
+        Some(name) => indirect(offset, name),
+        None => direct(tokens),
     }
 }
 
