@@ -17,12 +17,12 @@ use std::io::Write;
 /// Fails by `Memory`, and has written nothing then, or by `WriteFailed`, and has written a beginning of the log.
 pub fn log<W: Write>(
     alloc: Global,
-    listed: ListedJob,
+    listed: &ListedJob,
     predictor: BoxedPredictor,
     limit: u64,
     writer: &mut W,
 ) -> Result<Stop, SimError>
-    ensures { IsAnswer (IsLogOf listed limit) result (W.contents writer.old) (W.contents writer.new) }
+    ensures { IsAnswer (IsLogOf listed.now limit) result (W.contents writer.old) (W.contents writer.new) }
 {
     let job = &listed.job;
     // The image of a job fits, so that memory alone can be wanting.

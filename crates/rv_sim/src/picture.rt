@@ -28,12 +28,12 @@ pub struct View {
 /// Fails by `Memory`, and has written nothing then, or by `WriteFailed`, and has written a beginning of the picture.
 pub fn picture<W: Write>(
     alloc: Global,
-    listed: ListedJob,
+    listed: &ListedJob,
     predictor: BoxedPredictor,
     view: &View,
     writer: &mut W,
 ) -> Result<Stop, SimError>
-    ensures { IsAnswer (IsPictureOf listed view.now) result (W.contents writer.old) (W.contents writer.new) }
+    ensures { IsAnswer (IsPictureOf listed.now view.now) result (W.contents writer.old) (W.contents writer.new) }
 {
     let job = &listed.job;
     // The image of a job fits, so that memory alone can be wanting.

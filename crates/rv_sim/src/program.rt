@@ -32,11 +32,11 @@ fn take_input<R: Read, E: Write>(
 // Does a task with the predictor of its machine.
 fn finish_task<W: Write, E: Write>(
     alloc: Global,
-    task: Task,
+    task: &Task,
     output: &mut W,
     errors: &mut FaultLines<E>,
 ) -> u8
-    ensures { EndsWithin task (W.contents output.old) (W.contents output.new) errors.old errors.new result }
+    ensures { EndsWithin task.now (W.contents output.old) (W.contents output.new) errors.old errors.new result }
 {
     match boxed(alloc, task.predictor()) {
         Ok(predictor) => finish(alloc, task, BoxedPredictor { predictor }, output, errors),
@@ -63,7 +63,12 @@ pub fn run<R: Read, W: Write, E: Write>(
         Err(status) => return status,
     };
     match begin(alloc, command, input.as_slice(), errors) {
-        Ok(task) => finish_task(alloc, task, output, errors),
+        Ok(task) => {
+            let status = finish_task(alloc, &task, output, errors);
+            // By one call: at the end of its scope each kind of task is dropped field by field.
+            drop(task);
+            status
+        }
         Err(status) => status,
     }
 }

@@ -29,11 +29,11 @@ pub(crate) fn with_dump(report: &ReportValues, options: &Options) -> Options
 /// of the report.
 pub fn reference<W: Write>(
     alloc: Global,
-    job: Job,
+    job: &Job,
     options: &Options,
     writer: &mut W,
 ) -> Result<Stop, SimError>
-    ensures { IsAnswer (IsReferenceReport job options.now) result (W.contents writer.old) (W.contents writer.new) }
+    ensures { IsAnswer (IsReferenceReport job.now options.now) result (W.contents writer.old) (W.contents writer.new) }
 {
     let values = job.description.values();
     let options = with_dump(&values.report, options);

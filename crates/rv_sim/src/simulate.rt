@@ -19,12 +19,12 @@ use std::io::Write;
 /// of the report.
 pub fn simulate<W: Write>(
     alloc: Global,
-    job: Job,
+    job: &Job,
     predictor: BoxedPredictor,
     options: &Options,
     writer: &mut W,
 ) -> Result<Stop, SimError>
-    ensures { IsAnswer (IsSimulation job options.now) result (W.contents writer.old) (W.contents writer.new) }
+    ensures { IsAnswer (IsSimulation job.now options.now) result (W.contents writer.old) (W.contents writer.new) }
 {
     let options = with_dump(&job.description.values().report, options);
     // The image of a job fits, so that memory alone can be wanting.

@@ -162,19 +162,19 @@ fn stop_status(stop: Stop) -> u8
 
 fn perform<W: Write>(
     alloc: Global,
-    task: Task,
+    task: &Task,
     predictor: BoxedPredictor,
     output: &mut W,
 ) -> Result<u8, SimError>
-    ensures { Ends task (W.contents output.old) (W.contents output.new) result }
+    ensures { Ends task.now (W.contents output.old) (W.contents output.new) result }
 {
     match task {
         Task::Run { job, options } => {
-            let stop = simulate(alloc, job, predictor, &options, output)?;
+            let stop = simulate(alloc, job, predictor, options, output)?;
             Ok(stop_status(stop))
         }
         Task::Reference { job, options } => {
-            let stop = reference(alloc, job, &options, output)?;
+            let stop = reference(alloc, job, options, output)?;
             Ok(stop_status(stop))
         }
         Task::Check { made } => {
@@ -182,19 +182,19 @@ fn perform<W: Write>(
             Ok(0)
         }
         Task::Picture { listed, view } => {
-            let stop = picture(alloc, listed, predictor, &view, output)?;
+            let stop = picture(alloc, listed, predictor, view, output)?;
             Ok(stop_status(stop))
         }
         Task::Log { listed, limit } => {
-            let stop = log(alloc, listed, predictor, limit, output)?;
+            let stop = log(alloc, listed, predictor, *limit, output)?;
             Ok(stop_status(stop))
         }
         Task::Explain { listed, limit } => {
-            let stop = explain(alloc, listed, predictor, limit, output)?;
+            let stop = explain(alloc, listed, predictor, *limit, output)?;
             Ok(stop_status(stop))
         }
         Task::Compare { comparison, limit } => {
-            compare(alloc, &comparison, limit, output)?;
+            compare(alloc, comparison, *limit, output)?;
             Ok(0)
         }
     }
@@ -203,11 +203,11 @@ fn perform<W: Write>(
 // Does the task, and then has the output pass on what it still holds back.
 fn complete<W: Write>(
     alloc: Global,
-    task: Task,
+    task: &Task,
     predictor: BoxedPredictor,
     output: &mut W,
 ) -> Result<u8, SimError>
-    ensures { Ends task (W.contents output.old) (W.contents output.new) result }
+    ensures { Ends task.now (W.contents output.old) (W.contents output.new) result }
 {
     let status = perform(alloc, task, predictor, output)?;
     match output.flush() {
@@ -221,13 +221,13 @@ fn complete<W: Write>(
 /// `errors`. Only a run of one job on the core asks the predictor.
 pub fn finish<W: Write, E: Write>(
     alloc: Global,
-    task: Task,
+    task: &Task,
     predictor: BoxedPredictor,
     output: &mut W,
     errors: &mut FaultLines<E>,
 ) -> u8
     ensures { (outcome : Result ℕ OneError)
-        × Ends task (W.contents output.old) (W.contents output.new) outcome
+        × Ends task.now (W.contents output.old) (W.contents output.new) outcome
         × TellsOf errors.old errors.new outcome
         × (result ≡ exit_status outcome) }
 {

@@ -13,7 +13,7 @@ pub(crate) fn check_run(
     lines: &[&str],
 ) {
     let ended = run_text(alloc, command, text.as_bytes());
-    assert_eq!(rt; ended.status, status, "{text}");
-    assert_eq!(rt; missing(ended.output.as_slice(), lines), None, "{text}");
-    assert!(rt; ended.errors.is_empty(), "{text}");
+    let missing = missing(ended.output.as_slice(), lines);
+    let found = (ended.status, missing, ended.errors.is_empty());
+    assert_eq!(rt; found, (status, None, true), "{text}");
 }

@@ -5,22 +5,31 @@ use rv_isa::{PredictorKind, PredictorValues};
 use rv_job::FaultLines;
 use std::alloc::Global;
 
-const PICTURE: Command = Command::Picture {
-    text: true,
-    from: 0,
-    cycles: 1,
-};
+const COMMANDS: [Command; 5] = [
+    WHOLE,
+    Command::Check,
+    Command::Picture {
+        text: true,
+        from: 0,
+        cycles: 1,
+    },
+    Command::Log { limit: 1 },
+    Command::Explain { limit: 1 },
+];
 
 // The predictor that the task of a command on an input has.
-fn predictor(alloc: Global, command: Command, input: &[u8]) -> Option<PredictorValues> {
+fn predictor(alloc: Global, command: &Command, input: &[u8]) -> Option<PredictorValues> {
     let mut errors = FaultLines::new(Vec::new(alloc));
-    let task = begin(alloc, &command, input, &mut errors).ok()?;
-    Some(task.predictor())
+    let task = begin(alloc, command, input, &mut errors).ok()?;
+    let predictor = task.predictor();
+    // By one call, as in `run`.
+    drop(task);
+    Some(predictor)
 }
 
 #[test]
 fn a_task_has_the_predictor_that_is_described(rt: HostRuntime) {
-    let cases = [
+    const CASES: [(&str, PredictorKind, u32); 4] = [
         ("ebreak\n", PredictorKind::Bimodal, 64),
         (
             "predictor.entries = 7\n%%\nebreak\n",
@@ -38,18 +47,15 @@ fn a_task_has_the_predictor_that_is_described(rt: HostRuntime) {
             64,
         ),
     ];
-    for (text, kind, entries) in cases {
-        let described = Some(PredictorValues { kind, entries });
-        for command in [
-            WHOLE,
-            Command::Check,
-            PICTURE,
-            Command::Log { limit: 1 },
-            Command::Explain { limit: 1 },
-        ] {
+    for (text, kind, entries) in &CASES {
+        let described = PredictorValues {
+            kind: *kind,
+            entries: *entries,
+        };
+        for command in &COMMANDS {
             assert_eq!(rt;
                 predictor(rt.alloc(), command, text.as_bytes()),
-                described,
+                Some(described),
                 "{text}"
             );
         }

@@ -143,7 +143,7 @@ handler:
 
 #[test]
 fn the_examples_end_with_what_their_comments_say(rt: HostRuntime) {
-    let cases = [
+    const CASES: [(&str, &str); 8] = [
         (ADDITION, "x1 00000005"),
         (DIVISOR, "x10 00000015"),
         (FACTORIAL, "x10 00000078"),
@@ -153,7 +153,7 @@ fn the_examples_end_with_what_their_comments_say(rt: HostRuntime) {
         (SUM, "x5 00000037"),
         (TIMER, "x8 80000007"),
     ];
-    for (text, line) in cases {
+    for (text, line) in &CASES {
         for command in [WHOLE, CORE] {
             check_run(
                 &rt,

@@ -94,20 +94,22 @@ const STORES_AND_LOADS: [u8; 20] = [
     0x73, 0x00, 0x10, 0x00,
 ];
 
+// One run and runs of one cycle each tell the same, and so many steps.
+fn check_pieces(rt: &impl Abort, alloc: Global, bytes: &[u8], recovery: Recovery, steps: usize) {
+    let whole = told_in_pieces(rt, alloc, bytes, recovery, 1000);
+    let pieces = told_in_pieces(rt, alloc, bytes, recovery, 1);
+    assert_eq!(rt; whole.steps.len(), steps);
+    assert!(rt; pieces.steps.as_slice() == whole.steps.as_slice());
+    assert_eq!(rt;
+        (pieces.cycles, pieces.busy, pieces.stalls),
+        (whole.cycles, whole.busy, whole.stalls)
+    );
+}
+
 #[test]
 fn runs_of_one_cycle_each_tell_what_one_run_tells(rt: HostRuntime) {
     for recovery in [Recovery::Commit, Recovery::Early] {
-        for (bytes, steps) in [
-            (COUNTS_DOWN.as_slice(), 12),
-            (STORES_AND_LOADS.as_slice(), 5),
-        ] {
-            let whole = told_in_pieces(&rt, rt.alloc(), bytes, recovery, 1000);
-            let pieces = told_in_pieces(&rt, rt.alloc(), bytes, recovery, 1);
-            assert_eq!(rt; whole.steps.len(), steps);
-            assert!(rt; pieces.steps.as_slice() == whole.steps.as_slice());
-            assert_eq!(rt; pieces.cycles, whole.cycles);
-            assert_eq!(rt; pieces.busy, whole.busy);
-            assert_eq!(rt; pieces.stalls, whole.stalls);
-        }
+        check_pieces(&rt, rt.alloc(), &COUNTS_DOWN, recovery, 12);
+        check_pieces(&rt, rt.alloc(), &STORES_AND_LOADS, recovery, 5);
     }
 }

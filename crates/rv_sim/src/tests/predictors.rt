@@ -159,7 +159,7 @@ fn expected(alloc: Global, text: &str) -> Result<Vec<u8>, Fail> {
     let mut report = Vec::new(alloc);
     reference(
         alloc,
-        read_job(alloc, text.as_bytes())?,
+        &read_job(alloc, text.as_bytes())?,
         &OPTIONS,
         &mut report,
     )?;
@@ -173,7 +173,7 @@ fn simulated(alloc: Global, text: &str, guesses: Guesses) -> Result<Vec<u8>, Fai
     let predictor = BoxedPredictor {
         predictor: Box::new(alloc, guesses)?,
     };
-    simulate(alloc, job, predictor, &OPTIONS, &mut report)?;
+    simulate(alloc, &job, predictor, &OPTIONS, &mut report)?;
     Ok(report)
 }
 

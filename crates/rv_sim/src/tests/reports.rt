@@ -76,11 +76,11 @@ fn a_report_without_a_trace_begins_with_the_stop(rt: HostRuntime) -> Result<(), 
 
 #[test]
 fn a_stale_word_gives_status_3_and_the_report(rt: HostRuntime) {
-    let stale = ["stop stale 80000014", "pc 80000014", "x7 00000000"];
-    let fenced = ["stop breakpoint", "x7 00000001"];
+    const STALE: [&str; 3] = ["stop stale 80000014", "pc 80000014", "x7 00000000"];
+    const FENCED: [&str; 2] = ["stop breakpoint", "x7 00000001"];
     for command in [WHOLE, CORE] {
-        check_run(&rt, rt.alloc(), command, STORE_INTO_CODE, 3, &stale);
-        check_run(&rt, rt.alloc(), command, STORE_AND_FENCE, 0, &fenced);
+        check_run(&rt, rt.alloc(), command, STORE_INTO_CODE, 3, &STALE);
+        check_run(&rt, rt.alloc(), command, STORE_AND_FENCE, 0, &FENCED);
     }
 }
 
@@ -99,12 +99,12 @@ fn words_of_memory_follow_and_go_on_past_the_last_address(rt: HostRuntime) {
 
 #[test]
 fn the_image_of_a_text_is_told_by_its_size_and_start(rt: HostRuntime) {
-    let cases = [
+    const CASES: [(&str, &str); 3] = [
         ("addi x1,x0,5\nebreak\n", "ok 8 bytes start 80000000"),
         ("nop\n_start: ebreak\n", "ok 8 bytes start 80000004"),
         ("ebreak\n.data\n.byte 1\n", "ok 17 bytes start 80000000"),
     ];
-    for (text, line) in cases {
+    for (text, line) in &CASES {
         check_run(&rt, rt.alloc(), Command::Check, text, 0, &[line]);
     }
 }

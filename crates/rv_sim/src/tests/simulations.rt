@@ -47,7 +47,7 @@ fn is_refused(alloc: Global, text: &str, line: &str) -> bool {
 
 #[test]
 fn a_job_that_is_refused_is_not_run(rt: HostRuntime) {
-    let cases = [
+    const CASES: [(&str, &str); 4] = [
         (
             "ram_size = 4096\nrom_bytes = 8192\n%%\nebreak\n",
             "error: description: OutOfRange rom_bytes\n",
@@ -59,7 +59,7 @@ fn a_job_that_is_refused_is_not_run(rt: HostRuntime) {
         ("%%\n%%\n%%\n", "error: assembly line 1: BadToken\n"),
         (".zero 65537\n", "error: image does not fit\n"),
     ];
-    for (text, line) in cases {
+    for (text, line) in &CASES {
         assert!(rt; is_refused(rt.alloc(), text, line), "{text}");
     }
 }

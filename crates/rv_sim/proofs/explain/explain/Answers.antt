@@ -6,9 +6,9 @@ use Rattle.rv_sim.proofs.explain.explain.Goals as goal
 
 pub returns : goal.returns
 returns g c =
-    let job = c.args.listed.job in
-    let listing = c.args.listed.listing in
+    let job = c.args.listed.now.job in
+    let listing = c.args.listed.now.listing in
     let end = c.write_explanation-written.new.core in
-    answered_by (IsExplanation job.arrivals c.args.limit job.description listing c.in-Ok.core end) (IsExplanationOf c.args.listed c.args.limit) c.write_explanation-written.result c.answer.result (g.W.Write.contents c.args.writer.now) (g.W.Write.contents c.write_explanation-written.new.writer) c.answer.ensures
+    answered_by (IsExplanation job.arrivals c.args.limit job.description listing c.in-Ok.core end) (IsExplanationOf c.args.listed.now c.args.limit) c.write_explanation-written.result c.answer.result (g.W.Write.contents c.args.writer.now) (g.W.Write.contents c.write_explanation-written.new.writer) c.answer.ensures
     (λ stop text tells. record { end = end; explains = subst (λ h. IsExplanation job.arrivals c.args.limit job.description listing h end stop text) c.in-Ok.ensures.made tells })
     c.write_explanation-written.ensures.written
