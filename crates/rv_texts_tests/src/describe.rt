@@ -10,22 +10,30 @@ use rv_isa::Values;
 use std::alloc::Global;
 use std::process::Abort;
 
-fn values(alloc: Global, text: &str) -> Option<Values> {
-    match read_description(alloc, text.as_bytes()) {
+fn values(alloc: Global, text: &[u8]) -> Option<Values> {
+    match read_description(alloc, text) {
         Ok(description) => Some(description.values()),
         Err(_) => None,
     }
 }
 
-fn fault(alloc: Global, text: &str) -> Option<DescriptionError> {
-    read_description(alloc, text.as_bytes()).err()
+fn fault(alloc: Global, text: &[u8]) -> Option<DescriptionError> {
+    match read_description(alloc, text) {
+        Ok(_) => None,
+        Err(error) => Some(error),
+    }
 }
 
 fn is_read(rt: &impl Abort, alloc: Global, text: &str, expected: Values) {
-    assert_eq!(rt; values(alloc, text), Some(expected), "{text}");
+    assert_eq!(rt; values(alloc, text.as_bytes()), Some(expected), "{text}");
+}
+
+/// Checks the fault of a text, if it has one.
+fn check_fault(rt: &impl Abort, alloc: Global, text: &str, expected: Option<DescriptionError>) {
+    assert_eq!(rt; fault(alloc, text.as_bytes()), expected, "{text}");
 }
 
 fn is_refused(rt: &impl Abort, alloc: Global, text: &str, error: DescriptionError, key: &str) {
-    assert_eq!(rt; fault(alloc, text), Some(error), "{text}");
+    check_fault(rt, alloc, text, Some(error));
     assert!(rt; key_name(error.place()) == key, "{text}");
 }

@@ -5,6 +5,8 @@
 #[cfg(test)]
 mod asm;
 #[cfg(test)]
+mod checks;
+#[cfg(test)]
 mod command;
 #[cfg(test)]
 mod describe;

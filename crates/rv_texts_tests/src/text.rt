@@ -1,4 +1,7 @@
+use crate::checks::check_bytes;
 use rv_text::{Field, Value, write_cells, write_fields, write_plain};
+use std::alloc::Global;
+use std::process::Abort;
 use std::test::Fail;
 
 #[test]
@@ -6,15 +9,11 @@ fn a_tab_is_shown_as_a_blank_and_other_control_bytes_as_question_marks(
     rt: HostRuntime,
 ) -> Result<(), Fail> {
     let mut shown = Vec::new(rt.alloc());
-    let written = write_plain(
+    write_plain(
         &mut shown,
         b"addi\tx1, x0, 5 # \x1b[1m \xe2\x82\xac ~\x7f\r\x1f",
-    );
-    assert_eq!(&rt; written, Ok(()));
-    assert_eq!(&rt;
-        shown.as_slice(),
-        b"addi x1, x0, 5 # ?[1m ??? ~???".as_slice()
-    );
+    )?;
+    check_bytes(&rt, shown.as_slice(), b"addi x1, x0, 5 # ?[1m ??? ~???");
     Ok(())
 }
 
@@ -31,23 +30,36 @@ const VALUES: [Value; 6] = [
     Value::Ratio { count: 5, each: 0 },
 ];
 
-#[test]
-fn each_value_is_shown_in_a_cell_and_in_a_line(rt: HostRuntime) -> Result<(), Fail> {
-    let mut cells = Vec::new(rt.alloc());
-    assert_eq!(&rt; write_cells(&mut cells, &VALUES), Ok(()));
-    assert_eq!(&rt;
-        cells.as_slice(),
-        b"18446744073709551615\t01234567\t89abcdef\t1.666\t3.005\t-\t".as_slice()
-    );
-    let mut lines = Vec::new(rt.alloc());
+// Checks the cells of the values.
+fn check_cells(rt: &impl Abort, alloc: Global, expected: &[u8]) -> Result<(), Fail> {
+    let mut cells = Vec::new(alloc);
+    write_cells(&mut cells, &VALUES)?;
+    check_bytes(rt, cells.as_slice(), expected);
+    Ok(())
+}
+
+// Checks the lines of the values.
+fn check_fields(rt: &impl Abort, alloc: Global, expected: &[u8]) -> Result<(), Fail> {
+    let mut lines = Vec::new(alloc);
     let fields = VALUES.map(|value| Field {
         name: "name",
         value,
     });
-    assert_eq!(&rt; write_fields(&mut lines, &fields), Ok(()));
-    assert_eq!(&rt;
-        lines.as_slice(),
-        b"name 18446744073709551615\nname 01234567\nname 89abcdef\nname 1.666\nname 3.005\nname -\n".as_slice()
-    );
+    write_fields(&mut lines, &fields)?;
+    check_bytes(rt, lines.as_slice(), expected);
     Ok(())
+}
+
+#[test]
+fn each_value_is_shown_in_a_cell_and_in_a_line(rt: HostRuntime) -> Result<(), Fail> {
+    check_cells(
+        &rt,
+        rt.alloc(),
+        b"18446744073709551615\t01234567\t89abcdef\t1.666\t3.005\t-\t",
+    )?;
+    check_fields(
+        &rt,
+        rt.alloc(),
+        b"name 18446744073709551615\nname 01234567\nname 89abcdef\nname 1.666\nname 3.005\nname -\n",
+    )
 }

@@ -1,9 +1,9 @@
-use super::means;
+use super::{each_is_word, each_means};
 use std::test::Fail;
 
 #[test]
 fn each_base_instruction_has_the_word_of_the_manual(rt: HostRuntime) -> Result<(), Fail> {
-    let cases: [(&str, u32); 44] = [
+    const CASES: [(&str, u32); 44] = [
         ("lui x5,0xfffff", 0xfffff2b7),
         ("auipc x31,1", 0x00001f97),
         ("a: jal x5,a+1048574", 0x7ffff2ef),
@@ -49,17 +49,14 @@ fn each_base_instruction_has_the_word_of_the_manual(rt: HostRuntime) -> Result<(
         ("ecall", 0x00000073),
         ("ebreak", 0x00100073),
     ];
-    for case in &cases {
-        means(rt.alloc(), case.0, &[case.1])?;
-    }
-    Ok(())
+    each_is_word(rt.alloc(), &CASES)
 }
 
 #[test]
 fn each_instruction_of_an_extension_has_the_word_of_the_manual(
     rt: HostRuntime,
 ) -> Result<(), Fail> {
-    let cases: [(&str, u32); 19] = [
+    const CASES: [(&str, u32); 19] = [
         ("mul x5,x6,x7", 0x027302b3),
         ("mulh x5,x6,x7", 0x027312b3),
         ("mulhsu x5,x6,x7", 0x027322b3),
@@ -80,15 +77,12 @@ fn each_instruction_of_an_extension_has_the_word_of_the_manual(
         ("csrrsi x5,mip,0", 0x344062f3),
         ("csrrci x5,0x340,1", 0x3400f2f3),
     ];
-    for case in &cases {
-        means(rt.alloc(), case.0, &[case.1])?;
-    }
-    Ok(())
+    each_is_word(rt.alloc(), &CASES)
 }
 
 #[test]
 fn a_pseudo_instruction_is_the_instruction_that_it_stands_for(rt: HostRuntime) -> Result<(), Fail> {
-    let cases: [(&str, u32); 34] = [
+    const CASES: [(&str, u32); 34] = [
         ("nop", 0x00000013),
         ("mv x5,x6", 0x00030293),
         ("not x5,x6", 0xfff34293),
@@ -124,15 +118,12 @@ fn a_pseudo_instruction_is_the_instruction_that_it_stands_for(rt: HostRuntime) -
         ("csrsi mstatus,8", 0x30046073),
         ("csrci mstatush,1", 0x3100f073),
     ];
-    for case in &cases {
-        means(rt.alloc(), case.0, &[case.1])?;
-    }
-    Ok(())
+    each_is_word(rt.alloc(), &CASES)
 }
 
 #[test]
 fn li_is_one_instruction_where_one_is_enough(rt: HostRuntime) -> Result<(), Fail> {
-    let cases: [(&str, &[u32]); 15] = [
+    const CASES: [(&str, &[u32]); 15] = [
         ("li x5,0", &[0x00000293]),
         ("li x5,2047", &[0x7ff00293]),
         ("li x5,-2048", &[0x80000293]),
@@ -149,17 +140,14 @@ fn li_is_one_instruction_where_one_is_enough(rt: HostRuntime) -> Result<(), Fail
         ("li x5,-4294967295", &[0x00100293]),
         (".equ a,0xfff\nli x5,a", &[0x000012b7, 0xfff28293]),
     ];
-    for case in &cases {
-        means(rt.alloc(), case.0, case.1)?;
-    }
-    Ok(())
+    each_means(rt.alloc(), &CASES)
 }
 
 #[test]
 fn la_counts_from_its_first_instruction_and_modulo_2_to_the_32(
     rt: HostRuntime,
 ) -> Result<(), Fail> {
-    let cases: [(&str, &[u32]); 7] = [
+    const CASES: [(&str, &[u32]); 7] = [
         ("a: la x5,a", &[0x00000297, 0x00028293]),
         ("a: la x5,a+2047", &[0x00000297, 0x7ff28293]),
         ("a: la x5,a+2048", &[0x00001297, 0x80028293]),
@@ -171,8 +159,5 @@ fn la_counts_from_its_first_instruction_and_modulo_2_to_the_32(
         ),
         ("a: la x5,a+4294967292", &[0x00000297, 0xffc28293]),
     ];
-    for case in &cases {
-        means(rt.alloc(), case.0, case.1)?;
-    }
-    Ok(())
+    each_means(rt.alloc(), &CASES)
 }

@@ -1,10 +1,11 @@
-use super::{BASE, is_refused, means};
+use super::{BASE, each_is_refused, each_means, is_refused, means};
 use rv_asm::{AsmFault, assemble};
+use std::alloc::Global;
 use std::test::Fail;
 
 #[test]
 fn a_label_is_the_address_where_its_line_begins(rt: HostRuntime) -> Result<(), Fail> {
-    let cases: [(&str, &[u32]); 6] = [
+    const CASES: [(&str, &[u32]); 6] = [
         // before the padding of its line
         (".byte 1\na: .balign 4\n.word a", &[1, 0x80000001]),
         // in the section before a directive of its line
@@ -21,15 +22,12 @@ fn a_label_is_the_address_where_its_line_begins(rt: HostRuntime) -> Result<(), F
         (".word a+4\n.word a-4\na:", &[0x8000000c, 0x80000004]),
         ("l: nop\n.data\n.word l", &[0x00000013, 0, 0, 0, 0x80000000]),
     ];
-    for case in &cases {
-        means(rt.alloc(), case.0, case.1)?;
-    }
-    Ok(())
+    each_means(rt.alloc(), &CASES)
 }
 
 #[test]
 fn data_begin_at_the_next_multiple_of_16_behind_the_text(rt: HostRuntime) -> Result<(), Fail> {
-    let cases: [(&str, &[u32]); 5] = [
+    const CASES: [(&str, &[u32]); 5] = [
         ("nop\n.data\n", &[0x00000013]),
         ("nop\n.data\n.zero 0", &[0x00000013]),
         (
@@ -42,15 +40,12 @@ fn data_begin_at_the_next_multiple_of_16_behind_the_text(rt: HostRuntime) -> Res
             &[0x00000013, 0, 0, 0, 1, 2],
         ),
     ];
-    for case in &cases {
-        means(rt.alloc(), case.0, case.1)?;
-    }
-    Ok(())
+    each_means(rt.alloc(), &CASES)
 }
 
 #[test]
 fn data_stand_lowest_byte_first_and_without_alignment(rt: HostRuntime) -> Result<(), Fail> {
-    let cases: [(&str, &[u32]); 8] = [
+    const CASES: [(&str, &[u32]); 8] = [
         (
             ".word -1,4294967295,-2147483648",
             &[0xffffffff, 0xffffffff, 0x80000000],
@@ -67,25 +62,19 @@ fn data_stand_lowest_byte_first_and_without_alignment(rt: HostRuntime) -> Result
             &[1, 2, 0, 0],
         ),
     ];
-    for case in &cases {
-        means(rt.alloc(), case.0, case.1)?;
-    }
-    Ok(())
+    each_means(rt.alloc(), &CASES)
 }
 
 #[test]
 fn strings_stand_with_their_escapes_resolved(rt: HostRuntime) -> Result<(), Fail> {
-    let cases: [(&str, &[u32]); 5] = [
+    const CASES: [(&str, &[u32]); 5] = [
         (".asciz \"a#b\"", &[0x00622361]),
         (".string \"abc\"", &[0x00636261]),
         (".ascii \"\\n\\t\\\\\\\"\"", &[0x225c090a]),
         (".ascii \"\\0\u{e9}\x07\"", &[0x07a9c300]),
         (".asciz \"\"\n.ascii \"\"\n.zero 3", &[0]),
     ];
-    for case in &cases {
-        means(rt.alloc(), case.0, case.1)?;
-    }
-    Ok(())
+    each_means(rt.alloc(), &CASES)
 }
 
 #[test]
@@ -99,9 +88,17 @@ fn instructions_may_stand_in_the_data_at_multiples_of_4(rt: HostRuntime) -> Resu
     )
 }
 
+// The base of a text's image, and where it starts.
+fn places(alloc: Global, text: &str) -> Option<(u32, u32)> {
+    match assemble(alloc, text.as_bytes(), BASE) {
+        Ok(image) => Some((image.base, image.start)),
+        Err(_) => None,
+    }
+}
+
 #[test]
-fn execution_starts_at_the_symbol_start_or_at_the_base(rt: HostRuntime) -> Result<(), Fail> {
-    let cases: [(&str, u32); 6] = [
+fn execution_starts_at_the_symbol_start_or_at_the_base(rt: HostRuntime) {
+    const CASES: [(&str, u32); 6] = [
         ("nop", 0x80000000),
         ("nop\n_start: nop", 0x80000004),
         ("nop\n.data\n_start:", 0x80000010),
@@ -111,21 +108,16 @@ fn execution_starts_at_the_symbol_start_or_at_the_base(rt: HostRuntime) -> Resul
         (".equ _start,-4", 0xfffffffc),
         (".globl _start\n.global _start", 0x80000000),
     ];
-    for case in &cases {
-        let image = assemble(rt.alloc(), case.0.as_bytes(), BASE)
-            .ok()
-            .ok_or(case.0)?;
-        assert_eq!(rt; image.start, case.1);
-        assert_eq!(rt; image.base, BASE);
+    for (text, start) in &CASES {
+        assert_eq!(rt; places(rt.alloc(), text), Some((BASE, *start)), "{text}");
     }
-    Ok(())
 }
 
 #[test]
 fn text_and_data_may_have_16777200_bytes_the_gap_between_them_not_counted(
     rt: HostRuntime,
 ) -> Result<(), Fail> {
-    let cases: [(&str, AsmFault, usize); 6] = [
+    const CASES: [(&str, AsmFault, usize); 6] = [
         (".zero 16777200\n.byte 0", AsmFault::TooLarge, 2),
         (".zero 16777200\nnop", AsmFault::TooLarge, 2),
         (".zero 16777200\n.data\n.byte 0", AsmFault::TooLarge, 3),
@@ -143,8 +135,5 @@ fn text_and_data_may_have_16777200_bytes_the_gap_between_them_not_counted(
             1,
         ),
     ];
-    for case in &cases {
-        is_refused(rt.alloc(), case.0, case.1, case.2)?;
-    }
-    Ok(())
+    each_is_refused(rt.alloc(), &CASES)
 }

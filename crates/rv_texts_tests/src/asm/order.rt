@@ -1,10 +1,10 @@
-use super::is_refused;
+use super::each_is_refused;
 use rv_asm::AsmFault;
 use std::test::Fail;
 
 #[test]
 fn the_first_faults_of_a_line_are_looked_for_in_their_order(rt: HostRuntime) -> Result<(), Fail> {
-    let cases: [(&str, AsmFault, usize); 10] = [
+    const CASES: [(&str, AsmFault, usize); 10] = [
         ("a: nop\na: frob ?", AsmFault::BadToken, 2),
         ("a: nop\na: frob", AsmFault::DuplicateSymbol, 2),
         ("frob x1 x2", AsmFault::UnknownMnemonic, 1),
@@ -17,15 +17,12 @@ fn the_first_faults_of_a_line_are_looked_for_in_their_order(rt: HostRuntime) -> 
         ("add x1,x2,x99\n?", AsmFault::BadRegister, 1),
         ("nop\nnop\n?\nfrob", AsmFault::BadToken, 3),
     ];
-    for case in &cases {
-        is_refused(rt.alloc(), case.0, case.1, case.2)?;
-    }
-    Ok(())
+    each_is_refused(rt.alloc(), &CASES)
 }
 
 #[test]
 fn values_are_looked_at_once_the_whole_text_is_read(rt: HostRuntime) -> Result<(), Fail> {
-    let cases: [(&str, AsmFault, usize); 14] = [
+    const CASES: [(&str, AsmFault, usize); 14] = [
         ("j nowhere\nfrob", AsmFault::UnknownMnemonic, 2),
         // on one line: symbols, ranges, multiples
         (".byte 256,nowhere", AsmFault::UnknownSymbol, 1),
@@ -44,8 +41,5 @@ fn values_are_looked_at_once_the_whole_text_is_read(rt: HostRuntime) -> Result<(
         ("addi x1,x0,2048\nj nowhere", AsmFault::OutOfRange, 1),
         (".byte 0\n_start:\n.byte 256", AsmFault::Misaligned, 2),
     ];
-    for case in &cases {
-        is_refused(rt.alloc(), case.0, case.1, case.2)?;
-    }
-    Ok(())
+    each_is_refused(rt.alloc(), &CASES)
 }

@@ -1,4 +1,4 @@
-use super::means;
+use super::each_means;
 use std::test::Fail;
 
 // Divisions and upper halves of products at their edges.
@@ -251,31 +251,37 @@ const VECTORED_WORDS: [u32; 18] = [
 
 #[test]
 fn programs_of_arithmetic_and_stores_assemble(rt: HostRuntime) -> Result<(), Fail> {
-    means(rt.alloc(), DIVISIONS, &DIVISIONS_WORDS)?;
-    means(rt.alloc(), BYTE_STORE, &BYTE_STORE_WORDS)?;
-    means(rt.alloc(), PASSED_STORE, &PASSED_STORE_WORDS)?;
-    means(rt.alloc(), STALE, &STALE_WORDS)?;
-    means(rt.alloc(), FENCED, &FENCED_WORDS)?;
-    Ok(())
+    const CASES: [(&str, &[u32]); 5] = [
+        (DIVISIONS, &DIVISIONS_WORDS),
+        (BYTE_STORE, &BYTE_STORE_WORDS),
+        (PASSED_STORE, &PASSED_STORE_WORDS),
+        (STALE, &STALE_WORDS),
+        (FENCED, &FENCED_WORDS),
+    ];
+    each_means(rt.alloc(), &CASES)
 }
 
 #[test]
 fn programs_with_a_trap_handler_assemble(rt: HostRuntime) -> Result<(), Fail> {
-    means(rt.alloc(), LOAD_PAST_RAM, &LOAD_PAST_RAM_WORDS)?;
-    means(rt.alloc(), ODD_HALF, &ODD_HALF_WORDS)?;
-    means(rt.alloc(), ILLEGAL, &ILLEGAL_WORDS)?;
-    means(rt.alloc(), WRITE_MHARTID, &WRITE_MHARTID_WORDS)?;
-    means(rt.alloc(), NO_SUCH_CSR, &NO_SUCH_CSR_WORDS)?;
-    means(rt.alloc(), SET_MHARTID, &SET_MHARTID_WORDS)?;
-    Ok(())
+    const CASES: [(&str, &[u32]); 6] = [
+        (LOAD_PAST_RAM, &LOAD_PAST_RAM_WORDS),
+        (ODD_HALF, &ODD_HALF_WORDS),
+        (ILLEGAL, &ILLEGAL_WORDS),
+        (WRITE_MHARTID, &WRITE_MHARTID_WORDS),
+        (NO_SUCH_CSR, &NO_SUCH_CSR_WORDS),
+        (SET_MHARTID, &SET_MHARTID_WORDS),
+    ];
+    each_means(rt.alloc(), &CASES)
 }
 
 #[test]
 fn programs_that_are_interrupted_assemble(rt: HostRuntime) -> Result<(), Fail> {
-    means(rt.alloc(), TIMER, &TIMER_WORDS)?;
-    means(rt.alloc(), THREE_LINES, &THREE_LINES_WORDS)?;
-    means(rt.alloc(), READ_MIP, &READ_MIP_WORDS)?;
-    means(rt.alloc(), VECTORED, &VECTORED_WORDS)?;
-    means(rt.alloc(), ALL_ONES, &ALL_ONES_WORDS)?;
-    Ok(())
+    const CASES: [(&str, &[u32]); 5] = [
+        (TIMER, &TIMER_WORDS),
+        (THREE_LINES, &THREE_LINES_WORDS),
+        (READ_MIP, &READ_MIP_WORDS),
+        (VECTORED, &VECTORED_WORDS),
+        (ALL_ONES, &ALL_ONES_WORDS),
+    ];
+    each_means(rt.alloc(), &CASES)
 }

@@ -1,10 +1,11 @@
-use super::is_refused;
+use super::{BASE, each_has_fault};
 use rv_asm::{AsmFault, assemble};
+use std::alloc::Global;
 use std::test::Fail;
 
 #[test]
 fn a_value_outside_its_fields_range_is_refused(rt: HostRuntime) -> Result<(), Fail> {
-    let cases: [&str; 27] = [
+    const CASES: [&str; 27] = [
         "addi x1,x0,2048",
         "addi x1,x0,-2049",
         "lw x1,2048(x0)",
@@ -33,15 +34,20 @@ fn a_value_outside_its_fields_range_is_refused(rt: HostRuntime) -> Result<(), Fa
         "a: .word a+4294967295",
         "a: addi x1,x0,a",
     ];
-    for text in &cases {
-        is_refused(rt.alloc(), text, AsmFault::OutOfRange, 1)?;
+    each_has_fault(rt.alloc(), AsmFault::OutOfRange, &CASES)
+}
+
+// Fails with the text where it is refused.
+fn is_taken(alloc: Global, text: &'static str) -> Result<(), Fail> {
+    match assemble(alloc, text.as_bytes(), BASE) {
+        Ok(_) => Ok(()),
+        Err(_) => Err(text.into()),
     }
-    Ok(())
 }
 
 #[test]
 fn the_ends_of_each_range_are_taken(rt: HostRuntime) -> Result<(), Fail> {
-    let cases: [&str; 14] = [
+    const CASES: [&str; 14] = [
         "addi x1,x0,2047\naddi x1,x0,-2048",
         "lw x1,2047(x0)\nsw x1,-2048(x0)",
         "slli x1,x0,31\nsrli x1,x0,0",
@@ -57,10 +63,8 @@ fn the_ends_of_each_range_are_taken(rt: HostRuntime) -> Result<(), Fail> {
         ".word 4294967295,-2147483648",
         ".balign 16\n.zero 0",
     ];
-    for text in &cases {
-        assemble(rt.alloc(), text.as_bytes(), super::BASE)
-            .ok()
-            .ok_or(*text)?;
+    for text in &CASES {
+        is_taken(rt.alloc(), text)?;
     }
     Ok(())
 }

@@ -1,12 +1,22 @@
-use super::BASE;
+use super::{BASE, fault};
+use crate::checks::check_bytes;
 use rv_asm::{AsmFault, assemble};
+use std::alloc::Global;
+use std::process::Abort;
 use std::test::Fail;
+
+// Checks the bytes of the image that a line makes.
+fn check_image(rt: &impl Abort, alloc: Global, line: &[u8], bytes: &[u8]) -> Result<(), Fail> {
+    let image = assemble(alloc, line, BASE)?;
+    check_bytes(rt, image.bytes.as_slice(), bytes);
+    Ok(())
+}
 
 #[test]
 fn tokens_stand_with_or_without_blanks_and_a_comment_is_left_out(
     rt: HostRuntime,
 ) -> Result<(), Fail> {
-    let cases: [(&[u8], &[u8]); 8] = [
+    const CASES: [(&[u8], &[u8]); 8] = [
         (b"l: lw x7, -4(x5) # load", b"\x83\xa3\xc2\xff"),
         (b"l:lw\tx7 ,- 4 ( x5 )\r", b"\x83\xa3\xc2\xff"),
         (b"_.$a1:.half 0010,0xFf,0b101", b"\x0a\x00\xff\x00\x05\x00"),
@@ -19,18 +29,15 @@ fn tokens_stand_with_or_without_blanks_and_a_comment_is_left_out(
         (b"# \x07 and \"", b""),
         (b"", b""),
     ];
-    for (line, bytes) in cases.iter() {
-        let image = assemble(rt.alloc(), line, BASE)
-            .ok()
-            .ok_or("these lines are legal")?;
-        assert_eq!(rt; image.bytes.as_slice(), *bytes);
+    for (line, bytes) in &CASES {
+        check_image(&rt, rt.alloc(), line, bytes)?;
     }
     Ok(())
 }
 
 #[test]
-fn what_is_no_token_is_refused(rt: HostRuntime) -> Result<(), Fail> {
-    let lines: [&[u8]; 18] = [
+fn what_is_no_token_is_refused(rt: HostRuntime) {
+    const LINES: [&[u8]; 18] = [
         b"4294967296",
         b"0x100000000",
         b"0x",
@@ -50,11 +57,7 @@ fn what_is_no_token_is_refused(rt: HostRuntime) -> Result<(), Fail> {
         b"addi\x80",
         b"\x07",
     ];
-    for line in lines.iter() {
-        let error = assemble(rt.alloc(), line, BASE)
-            .err()
-            .ok_or("no token stands there")?;
-        assert!(rt; error.fault == AsmFault::BadToken);
+    for line in &LINES {
+        assert_eq!(rt; fault(rt.alloc(), line), Some((AsmFault::BadToken, 1)));
     }
-    Ok(())
 }

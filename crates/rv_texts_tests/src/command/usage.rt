@@ -1,4 +1,6 @@
-use rv_command::{parse_words, show_usage};
+use super::refused;
+use crate::checks::{check_bytes, check_told};
+use rv_command::show_usage;
 use rv_job::FaultLines;
 use std::alloc::Global;
 use std::process::Abort;
@@ -210,20 +212,25 @@ For more information, try '--help'.
 A job comes on standard input, as in 'rv_sim run < FILE'.
 ";
 
-fn refused(alloc: Global, texts: &[&str]) -> Result<clap::Error, Fail> {
-    let mut words = Vec::new(alloc);
-    for text in texts {
-        words.push(String::from_str(alloc, text)?)?;
-    }
-    match parse_words(alloc, words.as_slice()) {
-        Ok(_) => Err(Fail::from("words were taken")),
-        Err(error) => Ok(error),
-    }
+// Checks a text and an exit status that were shown, and that nothing is beside the text.
+fn check_shown(
+    rt: &impl Abort,
+    (found_status, output, told): (u8, &[u8], &[u8]),
+    text: &str,
+    status: u8,
+) {
+    let (found, other) = if status == 0 {
+        (output, told)
+    } else {
+        (told, output)
+    };
+    check_told(rt, (found_status, found), status, text);
+    check_bytes(rt, other, b"");
 }
 
 // The words are refused with this text and exit status, and no fault is told beside it.
-fn is_shown<R: Abort>(
-    rt: &R,
+fn is_shown(
+    rt: &impl Abort,
     alloc: Global,
     words: &[&str],
     text: &str,
@@ -232,23 +239,29 @@ fn is_shown<R: Abort>(
     let error = refused(alloc, words)?;
     let mut output = Vec::new(alloc);
     let mut errors = FaultLines::new(Vec::new(alloc));
-    let shown = show_usage(alloc, &error, &mut output, &mut errors);
+    let found = show_usage(alloc, &error, &mut output, &mut errors);
     let told = errors.into_writer();
-    let (text_shown, other) = if status == 0 {
-        (output, told)
-    } else {
-        (told, output)
-    };
-    assert_eq!(rt; shown, status, "{text}");
-    assert_eq!(rt; text_shown.as_slice(), text.as_bytes());
-    assert!(rt; other.is_empty(), "{text}");
+    let shown = (found, output.as_slice(), told.as_slice());
+    check_shown(rt, shown, text, status);
+    Ok(())
+}
+
+// Each of the words is refused with the text beside it and this exit status.
+fn each_is_shown(
+    rt: &impl Abort,
+    alloc: Global,
+    cases: &[(&[&str], &str)],
+    status: u8,
+) -> Result<(), Fail> {
+    for (words, text) in cases {
+        is_shown(rt, alloc, words, text, status)?;
+    }
     Ok(())
 }
 
 #[test]
 fn help_and_version_have_their_texts(rt: HostRuntime) -> Result<(), Fail> {
-    let alloc = rt.alloc();
-    let cases: [(&[&str], &str); 11] = [
+    const CASES: [(&[&str], &str); 11] = [
         (&["rv_sim", "--help"], HELP),
         (&["rv_sim", "help"], HELP),
         (&["rv_sim", "run", "-h"], HELP_OF_RUN),
@@ -261,18 +274,14 @@ fn help_and_version_have_their_texts(rt: HostRuntime) -> Result<(), Fail> {
         (&["rv_sim", "compare", "--help"], HELP_OF_COMPARE),
         (&["rv_sim", "--version"], VERSION),
     ];
-    for (words, text) in cases {
-        is_shown(&rt, alloc, words, text, 0)?;
-    }
-    Ok(())
+    each_is_shown(&rt, rt.alloc(), &CASES, 0)
 }
 
 #[test]
 fn mistakes_have_their_texts_with_a_hint_where_a_word_may_be_a_file(
     rt: HostRuntime,
 ) -> Result<(), Fail> {
-    let alloc = rt.alloc();
-    let cases: [(&[&str], &str); 7] = [
+    const CASES: [(&[&str], &str); 7] = [
         (&["rv_sim", "reference", "--limit", "0"], LIMIT_OF_ZERO),
         (&["rv_sim", "compare", "--limit=0"], LIMIT_OF_ZERO),
         (&["rv_sim", "picture", "--from", "1000000"], FROM_TOO_LATE),
@@ -281,8 +290,5 @@ fn mistakes_have_their_texts_with_a_hint_where_a_word_may_be_a_file(
         (&["rv_sim", "run", "FILE"], FILE_AS_ARGUMENT),
         (&["rv_sim", "FILE"], FILE_AS_COMMAND),
     ];
-    for (words, text) in cases {
-        is_shown(&rt, alloc, words, text, 2)?;
-    }
-    Ok(())
+    each_is_shown(&rt, rt.alloc(), &CASES, 2)
 }

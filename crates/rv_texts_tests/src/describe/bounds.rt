@@ -1,12 +1,20 @@
-use super::fault;
+use super::check_fault;
 use rv_describe::{DescriptionError, key_name};
 use std::alloc::Global;
 use std::process::Abort;
 use std::test::Fail;
 
-fn one_key(alloc: Global, place: usize, number: i64) -> Result<Option<DescriptionError>, Fail> {
+// Checks the fault, if any, of a text that gives one key a number.
+fn check_key(
+    rt: &impl Abort,
+    alloc: Global,
+    place: usize,
+    number: i64,
+    expected: Option<DescriptionError>,
+) -> Result<(), Fail> {
     let text = format!(in alloc; "{} = {number}", key_name(place))?;
-    Ok(fault(alloc, text.as_str()))
+    check_fault(rt, alloc, text.as_str(), expected);
+    Ok(())
 }
 
 // The numbers at a key's ends are taken, and those beside them are out of range.
@@ -20,16 +28,15 @@ fn is_bounded(
     let low = i64::from(low);
     let high = i64::from(high);
     let outside = Some(DescriptionError::OutOfRange { place });
-    assert_eq!(rt; one_key(alloc, place, low)?, None, "{place}");
-    assert_eq!(rt; one_key(alloc, place, high)?, None, "{place}");
-    assert_eq!(rt; one_key(alloc, place, low - 1)?, outside, "{place}");
-    assert_eq!(rt; one_key(alloc, place, high + 1)?, outside, "{place}");
-    Ok(())
+    check_key(rt, alloc, place, low, None)?;
+    check_key(rt, alloc, place, high, None)?;
+    check_key(rt, alloc, place, low - 1, outside)?;
+    check_key(rt, alloc, place, high + 1, outside)
 }
 
 #[test]
 fn the_least_and_the_greatest_number_of_each_key(rt: HostRuntime) -> Result<(), Fail> {
-    for (place, low, high) in [
+    const BOUNDS: [(usize, u32, u32); 32] = [
         (1, 0, 0xff00_0000),
         (2, 4096, 16_777_216),
         (3, 0, 65_536),
@@ -62,15 +69,16 @@ fn the_least_and_the_greatest_number_of_each_key(rt: HostRuntime) -> Result<(), 
         (36, 1, 4096),
         (37, 0, 0xffff_fffc),
         (38, 0, 256),
-    ] {
-        is_bounded(&rt, rt.alloc(), place, low, high)?;
+    ];
+    for (place, low, high) in &BOUNDS {
+        is_bounded(&rt, rt.alloc(), *place, *low, *high)?;
     }
     Ok(())
 }
 
 #[test]
 fn the_texts_of_keys(rt: HostRuntime) {
-    for (place, key) in [
+    const KEYS: [(usize, &str); 9] = [
         (0, ""),
         (1, "ram_base"),
         (3, "rom_bytes"),
@@ -80,7 +88,8 @@ fn the_texts_of_keys(rt: HostRuntime) {
         (34, "cache.write_back"),
         (38, "report.dump_words"),
         (39, ""),
-    ] {
-        assert!(rt; key_name(place) == key, "{place}");
+    ];
+    for (place, key) in &KEYS {
+        assert!(rt; key_name(*place) == *key, "{place}");
     }
 }

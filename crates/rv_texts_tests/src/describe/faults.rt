@@ -1,10 +1,10 @@
-use super::is_refused;
+use super::{fault, is_refused};
+use rv_describe::DescriptionError;
 use rv_describe::DescriptionError::{NotPowerOfTwo, NotToml, OutOfRange, UnknownKey, WrongKind};
-use rv_describe::read_description;
 
 #[test]
 fn the_first_fault_of_a_value_is_named(rt: HostRuntime) {
-    for (text, error, key) in [
+    const CASES: [(&str, DescriptionError, &str); 28] = [
         ("rob = \"a\"", WrongKind { place: 9 }, "rob"),
         ("rob.x = 1", WrongKind { place: 9 }, "rob"),
         ("[rob]", WrongKind { place: 9 }, "rob"),
@@ -81,35 +81,37 @@ fn the_first_fault_of_a_value_is_named(rt: HostRuntime) {
             OutOfRange { place: 2 },
             "ram_size",
         ),
-    ] {
-        is_refused(&rt, rt.alloc(), text, error, key);
+    ];
+    for (text, error, key) in &CASES {
+        is_refused(&rt, rt.alloc(), text, *error, key);
     }
 }
 
 #[test]
 fn names_that_no_key_has(rt: HostRuntime) {
-    for text in [
+    const TEXTS: [&str; 6] = [
         "sets = 4",
         "\"cache.sets\" = 4",
         "\"\".rob = 4",
         "cache.size = 4",
         "cache.rob = 4",
         "[arrival]",
-    ] {
+    ];
+    for text in &TEXTS {
         is_refused(&rt, rt.alloc(), text, UnknownKey, "");
     }
 }
 
 #[test]
 fn bytes_that_are_no_toml(rt: HostRuntime) {
-    for bytes in [
-        b"rob = 16\nrob = 16".as_slice(),
+    const TEXTS: [&[u8]; 5] = [
+        b"rob = 16\nrob = 16",
         b"rob = 0x",
         b"rob = ",
         b"# \xff",
         b"rob = 16 # \xc3",
-    ] {
-        let answer = read_description(rt.alloc(), bytes);
-        assert_eq!(rt; answer.err(), Some(NotToml));
+    ];
+    for bytes in &TEXTS {
+        assert_eq!(rt; fault(rt.alloc(), bytes), Some(NotToml));
     }
 }

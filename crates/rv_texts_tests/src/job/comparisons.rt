@@ -1,6 +1,8 @@
-use crate::job::helpers::check_comparison_faults;
+use crate::checks::check_count;
+use crate::job::helpers::check_comparison_fault;
 use rv_job::{Comparison, read_comparison};
 use std::alloc::Global;
+use std::process::Abort;
 use std::test::Fail;
 
 // How many bytes RAM has in the machine of a job, and where its image starts.
@@ -9,13 +11,19 @@ fn sizes(comparison: &Comparison, place: usize) -> Option<(u32, u32)> {
     Some((job.description.values().ram_size, job.image.start))
 }
 
+// Checks how many jobs a comparison has, and the sizes of each.
+fn check_sizes(rt: &impl Abort, comparison: &Comparison, expected: &[(u32, u32)]) {
+    check_count(rt, comparison.jobs.len(), expected.len());
+    for (place, place_sizes) in expected.iter().enumerate() {
+        assert_eq!(rt; sizes(comparison, place), Some(*place_sizes), "{place}");
+    }
+}
+
 #[test]
 fn a_program_is_assembled_for_each_description(rt: HostRuntime) -> Result<(), Fail> {
     let text = b"ram_size = 4096\n%%\nram_base = 0\n%%\r\nnop\n_start: ebreak\n";
     let comparison = read_comparison(rt.alloc(), text)?;
-    assert_eq!(rt; comparison.jobs.len(), 2);
-    assert_eq!(rt; sizes(&comparison, 0), Some((4096, 0x8000_0004)));
-    assert_eq!(rt; sizes(&comparison, 1), Some((65536, 4)));
+    check_sizes(&rt, &comparison, &[(4096, 0x8000_0004), (65536, 4)]);
     Ok(())
 }
 
@@ -24,48 +32,55 @@ fn a_text_without_separator_is_a_program_on_the_standard_machine(
     rt: HostRuntime,
 ) -> Result<(), Fail> {
     let comparison = read_comparison(rt.alloc(), b"ebreak\n")?;
-    assert_eq!(rt; comparison.jobs.len(), 1);
-    assert_eq!(rt; sizes(&comparison, 0), Some((65536, 0x8000_0000)));
+    check_sizes(&rt, &comparison, &[(65536, 0x8000_0000)]);
     Ok(())
 }
 
-// So many empty descriptions, and a program.
-fn described(alloc: Global, count: usize, program: &[u8]) -> Result<Vec<u8>, Fail> {
+// A beginning, so many separators, and an end.
+fn described(alloc: Global, beginning: &[u8], count: usize, end: &[u8]) -> Result<Vec<u8>, Fail> {
     let mut text = Vec::new(alloc);
+    text.extend_from_slice(beginning)?;
     for _ in 0..count {
         text.extend_from_slice(b"%%\n")?;
     }
-    text.extend_from_slice(program)?;
+    text.extend_from_slice(end)?;
     Ok(text)
+}
+
+// How many jobs so many empty descriptions and a program are.
+fn job_count(alloc: Global, count: usize) -> Result<usize, Fail> {
+    let text = described(alloc, b"", count, b"ebreak\n")?;
+    let comparison = read_comparison(alloc, text.as_slice())?;
+    Ok(comparison.jobs.len())
+}
+
+// Checks that a text has too many descriptions.
+fn are_too_many(
+    rt: &impl Abort,
+    alloc: Global,
+    beginning: &[u8],
+    count: usize,
+    end: &[u8],
+) -> Result<(), Fail> {
+    let text = described(alloc, beginning, count, end)?;
+    check_comparison_fault(rt, alloc, text.as_slice(), "error: too many descriptions\n")
 }
 
 #[test]
 fn sixty_four_machines_are_compared_and_not_one_more(rt: HostRuntime) -> Result<(), Fail> {
     let alloc = rt.alloc();
-    let most = described(alloc, 64, b"ebreak\n")?;
-    let comparison = read_comparison(alloc, most.as_slice())?;
-    assert_eq!(rt; comparison.jobs.len(), 64);
+    check_count(&rt, job_count(alloc, 64)?, 64);
+    are_too_many(&rt, alloc, b"", 65, b"")?;
     // The descriptions are counted before one of them is read.
-    let more = described(alloc, 65, b"")?;
-    let late = described(alloc, 64, b"rob = 0\n%%")?;
-    let line = "error: too many descriptions\n";
-    let early: &[u8] = b"rob = 0\n";
-    let mut faulty = Vec::new(alloc);
-    faulty.extend_from_slice(early)?;
-    faulty.extend_from_slice(more.as_slice())?;
-    let cases = [
-        (more.as_slice(), line),
-        (late.as_slice(), line),
-        (faulty.as_slice(), line),
-    ];
-    check_comparison_faults(&rt, alloc, &cases)
+    are_too_many(&rt, alloc, b"", 64, b"rob = 0\n%%")?;
+    are_too_many(&rt, alloc, b"rob = 0\n", 65, b"")
 }
 
 #[test]
 fn a_fault_of_one_of_several_descriptions_is_told_with_its_number(
     rt: HostRuntime,
 ) -> Result<(), Fail> {
-    let cases: [(&[u8], &str); 8] = [
+    const CASES: [(&[u8], &str); 8] = [
         (
             b"rob = 0\n%%\n%%\n",
             "error: description 1: OutOfRange rob\n",
@@ -94,5 +109,8 @@ fn a_fault_of_one_of_several_descriptions_is_told_with_its_number(
         ),
         (b"add x1\n", "error: assembly line 1: BadOperands\n"),
     ];
-    check_comparison_faults(&rt, rt.alloc(), &cases)
+    for (text, line) in &CASES {
+        check_comparison_fault(&rt, rt.alloc(), text, line)?;
+    }
+    Ok(())
 }

@@ -1,10 +1,11 @@
-use crate::job::helpers::{check_faults, check_job_faults, image_line, job_fault};
-use rv_job::read_job;
+use crate::job::helpers::{
+    check_faults, check_image_line, check_job_fault, check_job_faults, check_job_image,
+};
 use std::test::Fail;
 
 #[test]
 fn a_fault_of_the_description_is_told_with_its_key(rt: HostRuntime) -> Result<(), Fail> {
-    let cases: [(&[u8], &str); 10] = [
+    const CASES: [(&[u8], &str); 10] = [
         (b"rob = \n%%\n", "error: description: NotToml\n"),
         (b"sets = 4\n%%\n", "error: description: UnknownKey\n"),
         (b"rob = \"a\"\n%%\n", "error: description: WrongKind rob\n"),
@@ -38,12 +39,12 @@ fn a_fault_of_the_description_is_told_with_its_key(rt: HostRuntime) -> Result<()
             "error: description: UnknownKey\n",
         ),
     ];
-    check_faults(&rt, rt.alloc(), &cases)
+    check_faults(&rt, rt.alloc(), &CASES)
 }
 
 #[test]
 fn a_fault_of_the_arrivals_is_told_with_its_entry(rt: HostRuntime) -> Result<(), Fail> {
-    let cases: [(&[u8], &str); 6] = [
+    const CASES: [(&[u8], &str); 6] = [
         (b"%%\narrival\n%%\n", "error: arrivals: NotToml\n"),
         (b"%%\nrob = 16\n%%\n", "error: arrivals: UnknownKey\n"),
         (b"%%\narrival = 3\n%%\n", "error: arrivals: WrongKind 1\n"),
@@ -61,12 +62,12 @@ fn a_fault_of_the_arrivals_is_told_with_its_entry(rt: HostRuntime) -> Result<(),
             "error: arrivals: UnknownKey\n",
         ),
     ];
-    check_job_faults(&rt, rt.alloc(), &cases)
+    check_job_faults(&rt, rt.alloc(), &CASES)
 }
 
 #[test]
 fn only_the_first_two_separators_separate(rt: HostRuntime) -> Result<(), Fail> {
-    let cases: [(&[u8], &str); 7] = [
+    const CASES: [(&[u8], &str); 7] = [
         (b"%%\n%%\n%%\n", "error: assembly line 1: BadToken\n"),
         (b"%%\n%%\nnop\n%%\n", "error: assembly line 2: BadToken\n"),
         // Two carriage returns, a blank before the line and a third sign make another line of it.
@@ -84,12 +85,12 @@ fn only_the_first_two_separators_separate(rt: HostRuntime) -> Result<(), Fail> {
             "error: description: NotToml\n",
         ),
     ];
-    check_faults(&rt, rt.alloc(), &cases)
+    check_faults(&rt, rt.alloc(), &CASES)
 }
 
 #[test]
 fn missing_parts_are_empty_and_lines_may_end_by_a_return(rt: HostRuntime) -> Result<(), Fail> {
-    let cases: [(&[u8], &str); 9] = [
+    const CASES: [(&[u8], &str); 9] = [
         (b"", "ok 0 bytes start 80000000\n"),
         (b"%%\n", "ok 0 bytes start 80000000\n"),
         (b"%%", "ok 0 bytes start 80000000\n"),
@@ -104,9 +105,8 @@ fn missing_parts_are_empty_and_lines_may_end_by_a_return(rt: HostRuntime) -> Res
         // The arrivals of a text that is only checked are not read.
         (b"%%\nrob = 16\n%%\nnop\n", "ok 4 bytes start 80000000\n"),
     ];
-    for (text, line) in cases {
-        let made = image_line(rt.alloc(), text)?;
-        assert_eq!(rt; made.as_slice(), line.as_bytes());
+    for (text, line) in &CASES {
+        check_image_line(&rt, rt.alloc(), text, line)?;
     }
     Ok(())
 }
@@ -114,14 +114,7 @@ fn missing_parts_are_empty_and_lines_may_end_by_a_return(rt: HostRuntime) -> Res
 #[test]
 fn an_image_fits_the_memory_that_is_described(rt: HostRuntime) -> Result<(), Fail> {
     let small = b"ram_size = 4096\n%%\n.zero 4097\n";
-    let errors = job_fault(rt.alloc(), small)?;
-    assert_eq!(rt;
-        errors.as_slice(),
-        b"error: image does not fit\n".as_slice()
-    );
+    check_job_fault(&rt, rt.alloc(), small, "error: image does not fit\n")?;
     let large = b"ram_size = 69632\nram_base = 0\n%%\nebreak\n.zero 69628\n";
-    let job = read_job(rt.alloc(), large)?;
-    assert_eq!(rt; job.image.bytes.len(), 69632);
-    assert_eq!(rt; job.image.start, 0);
-    Ok(())
+    check_job_image(&rt, rt.alloc(), large, (69632, 0))
 }

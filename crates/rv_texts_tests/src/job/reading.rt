@@ -1,6 +1,9 @@
+use crate::checks::{check_bytes, check_told};
 use rv_job::{FaultLines, InputError, read_input};
+use std::alloc::Global;
 use std::io;
 use std::io::Read;
+use std::process::Abort;
 use std::test::Fail;
 
 // A reader that gives so many zeros, and then an error.
@@ -20,27 +23,35 @@ impl Read for Broken {
     }
 }
 
+// Whether reading is told as failed where so many zeros come before the error.
+fn fails_after(alloc: Global, zeros: usize) -> bool {
+    matches!(
+        read_input(alloc, &mut Broken { zeros }),
+        Err(InputError::Failed)
+    )
+}
+
 #[test]
 fn input_is_read_to_its_end_and_a_failed_read_is_told(rt: HostRuntime) -> Result<(), Fail> {
     let mut text: &[u8] = b"ebreak\n";
     let input = read_input(rt.alloc(), &mut text)?;
-    assert_eq!(rt; input.as_slice(), b"ebreak\n".as_slice());
+    check_bytes(&rt, input.as_slice(), b"ebreak\n");
     for zeros in [0, 1, 16_384, 20_000] {
-        let failed = read_input(rt.alloc(), &mut Broken { zeros });
-        assert!(rt; matches!(failed, Err(InputError::Failed)));
+        assert!(rt; fails_after(rt.alloc(), zeros), "{zeros}");
     }
     Ok(())
 }
 
+// Checks how an input that cannot be read is told.
+fn is_told(rt: &impl Abort, alloc: Global, error: InputError, status: u8, line: &str) {
+    let mut errors = FaultLines::new(Vec::new(alloc));
+    let found = errors.tell_unread(error);
+    let told = errors.into_writer();
+    check_told(rt, (found, told.as_slice()), status, line);
+}
+
 #[test]
 fn an_input_that_cannot_be_read_is_told_with_its_status(rt: HostRuntime) {
-    let cases = [
-        (InputError::Failed, 4, "error: input\n"),
-        (InputError::Memory, 5, "error: memory\n"),
-    ];
-    for (error, status, line) in cases {
-        let mut errors = FaultLines::new(Vec::new(rt.alloc()));
-        assert_eq!(rt; errors.tell_unread(error), status);
-        assert_eq!(rt; errors.into_writer().as_slice(), line.as_bytes());
-    }
+    is_told(&rt, rt.alloc(), InputError::Failed, 4, "error: input\n");
+    is_told(&rt, rt.alloc(), InputError::Memory, 5, "error: memory\n");
 }

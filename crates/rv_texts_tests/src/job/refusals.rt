@@ -1,10 +1,9 @@
-use crate::job::helpers::{check_faults, image_line, job_fault};
-use rv_job::read_job;
+use crate::job::helpers::{check_faults, check_image_line, check_job_fault, check_job_image};
 use std::test::Fail;
 
 #[test]
 fn the_first_fault_of_a_text_is_told_with_its_line(rt: HostRuntime) -> Result<(), Fail> {
-    let cases: [(&[u8], &str); 14] = [
+    const CASES: [(&[u8], &str); 14] = [
         (b"nop\n\xff\n", "error: assembly line 2: BadToken\n"),
         (b".ascii \"abc", "error: assembly line 1: BadToken\n"),
         (
@@ -39,31 +38,19 @@ fn the_first_fault_of_a_text_is_told_with_its_line(rt: HostRuntime) -> Result<()
             "error: assembly line 4: OutOfRange\n",
         ),
     ];
-    check_faults(&rt, rt.alloc(), &cases)
+    check_faults(&rt, rt.alloc(), &CASES)
 }
 
 #[test]
 fn a_branch_of_4094_bytes_is_near_enough(rt: HostRuntime) -> Result<(), Fail> {
     let text = b"beq x0,x0,far-2\n.zero 4092\nfar: ebreak\n";
-    let made = image_line(rt.alloc(), text)?;
-    assert_eq!(rt;
-        made.as_slice(),
-        b"ok 4100 bytes start 80000000\n".as_slice()
-    );
-    Ok(())
+    check_image_line(&rt, rt.alloc(), text, "ok 4100 bytes start 80000000\n")
 }
 
 #[test]
 fn an_image_longer_than_memory_is_checked_but_no_job(rt: HostRuntime) -> Result<(), Fail> {
     let text = b".zero 65537\n";
-    let made = image_line(rt.alloc(), text)?;
-    assert_eq!(rt;
-        made.as_slice(),
-        b"ok 65537 bytes start 80000000\n".as_slice()
-    );
-    let fault = job_fault(rt.alloc(), text)?;
-    assert_eq!(rt; fault.as_slice(), b"error: image does not fit\n".as_slice());
-    let whole = read_job(rt.alloc(), b".zero 65536\n")?;
-    assert_eq!(rt; whole.image.bytes.len(), 65536);
-    Ok(())
+    check_image_line(&rt, rt.alloc(), text, "ok 65537 bytes start 80000000\n")?;
+    check_job_fault(&rt, rt.alloc(), text, "error: image does not fit\n")?;
+    check_job_image(&rt, rt.alloc(), b".zero 65536\n", (65536, 0x8000_0000))
 }

@@ -1,12 +1,21 @@
+use crate::checks::check_told;
 use rv_asm::{AsmError, AsmFault};
 use rv_describe::{ArrivalsError, DescriptionError};
 use rv_job::{FaultLines, SimError};
-use std::test::Fail;
+use std::alloc::Global;
+use std::process::Abort;
+
+// Checks how a fault is told.
+fn is_told(rt: &impl Abort, alloc: Global, error: SimError, line: &str, status: u8) {
+    let mut errors = FaultLines::new(Vec::new(alloc));
+    let found = errors.tell(error);
+    let told = errors.into_writer();
+    check_told(rt, (found, told.as_slice()), status, line);
+}
 
 #[test]
-fn each_fault_is_told_in_its_own_words_with_its_status(rt: HostRuntime) -> Result<(), Fail> {
-    let assembly = AsmError::at(AsmFault::BadRegister, 7);
-    let cases: [(SimError, &str, u8); 12] = [
+fn each_fault_is_told_in_its_own_words_with_its_status(rt: HostRuntime) {
+    const CASES: [(SimError, &str, u8); 12] = [
         (SimError::TooLong, "error: job too long\n", 1),
         (
             SimError::TooManyDescriptions,
@@ -42,7 +51,10 @@ fn each_fault_is_told_in_its_own_words_with_its_status(rt: HostRuntime) -> Resul
             1,
         ),
         (
-            SimError::Assembly(assembly),
+            SimError::Assembly(AsmError {
+                fault: AsmFault::BadRegister,
+                line: 7,
+            }),
             "error: assembly line 7: BadRegister\n",
             1,
         ),
@@ -55,10 +67,7 @@ fn each_fault_is_told_in_its_own_words_with_its_status(rt: HostRuntime) -> Resul
         (SimError::Memory, "error: memory\n", 5),
         (SimError::WriteFailed, "error: output\n", 4),
     ];
-    for (error, line, status) in cases {
-        let mut errors = FaultLines::new(Vec::new(rt.alloc()));
-        assert_eq!(&rt; errors.tell(error), status, "{line}");
-        assert_eq!(&rt; errors.into_writer().as_slice(), line.as_bytes());
+    for (error, line, status) in &CASES {
+        is_told(&rt, rt.alloc(), *error, line, *status);
     }
-    Ok(())
 }
