@@ -2,7 +2,8 @@ use crate::machine::listing;
 use rv_isa::{Cause, Reg};
 use rv_passage::{Ending, Passage};
 use rv_picture::{Window, write_picture_svg, write_picture_text};
-use std::str;
+use std::alloc::Global;
+use std::process::Abort;
 use std::test::Fail;
 
 // Ten cycles from cycle 10 on.
@@ -134,37 +135,98 @@ const ROWS: [&str; 6] = [
     "<g class='open' transform='translate(0 134)'><text x='8' y='13'>00000000</text><text x='84' y='13'>-</text>",
 ];
 
-#[test]
-fn each_kind_of_cell_has_a_box_and_a_colour_of_its_own(rt: HostRuntime) -> Result<(), Fail> {
-    let alloc = rt.alloc();
-    let listing = listing(&rt, alloc, &LINES);
+// The SVG of the passages in the window.
+fn drawn(rt: &impl Abort, alloc: Global) -> String {
+    let listing = listing(rt, alloc, &LINES);
     let mut text = Vec::new(alloc);
     let written = write_picture_svg(&passages(), &INTERRUPTS, &listing, WINDOW, &mut text);
-    assert_eq!(&rt; written, Ok(()));
-    let svg = str::from_utf8(text.as_slice()).expect(&rt, "ASCII");
-    for row in ROWS {
-        assert!(&rt; svg.contains(row));
+    assert_eq!(rt; written, Ok(()));
+    String::from_utf8(text).expect(rt, "ASCII")
+}
+
+fn check_shown(rt: &impl Abort, svg: &str, part: &str) {
+    assert!(rt; svg.contains(part), "{part}");
+}
+
+fn check_all_shown(rt: &impl Abort, svg: &str, parts: &[&str]) {
+    for part in parts {
+        check_shown(rt, svg, part);
     }
-    for part in FRAME {
-        assert!(&rt; svg.contains(part), "{part}");
+}
+
+fn check_none_shown(rt: &impl Abort, svg: &str, parts: &[&str]) {
+    for part in parts {
+        assert!(rt; !svg.contains(part), "{part}");
     }
-    assert!(&rt; !svg.contains("cycle 9,") && !svg.contains("cycle 20"));
-    assert!(&rt; !svg.contains("7ffffffc") && !svg.contains("00000004"));
+}
+
+#[test]
+fn each_row_in_the_window_and_each_interrupt_is_drawn(rt: HostRuntime) {
+    let svg = drawn(&rt, rt.alloc());
+    check_all_shown(&rt, svg.as_str(), &ROWS);
+    check_all_shown(&rt, svg.as_str(), &FRAME);
+    let outside = ["cycle 9,", "cycle 20", "7ffffffc", "00000004"];
+    check_none_shown(&rt, svg.as_str(), &outside);
+}
+
+fn check_box(
+    rt: &impl Abort,
+    alloc: Global,
+    svg: &str,
+    (class, column, name, cycle, letter): (&str, u32, &str, u32, &str),
+) -> Result<(), Fail> {
+    let shown = format!(in alloc;
+        "<g class='p {class}' transform='translate({column} 0)'><title>{name} in cycle {cycle}</title><rect width='14' height='18'/><text x='7' y='13'>{letter}</text></g>\n"
+    )?;
+    check_shown(rt, svg, shown.as_str());
+    Ok(())
+}
+
+fn check_meaning(
+    rt: &impl Abort,
+    alloc: Global,
+    svg: &str,
+    (class, _, name, _, letter): (&str, u32, &str, u32, &str),
+) -> Result<(), Fail> {
+    let meaning = format!(in alloc;
+        "<g class='p {class}'><rect width='14' height='18'/><text x='7' y='13'>{letter}</text></g><text x='20' y='13'>{name}</text></g>\n"
+    )?;
+    check_shown(rt, svg, meaning.as_str());
+    Ok(())
+}
+
+#[test]
+fn each_kind_of_cell_has_a_box_and_a_meaning(rt: HostRuntime) -> Result<(), Fail> {
+    let svg = drawn(&rt, rt.alloc());
+    for kind in &BOXES {
+        check_box(&rt, rt.alloc(), svg.as_str(), *kind)?;
+        check_meaning(&rt, rt.alloc(), svg.as_str(), *kind)?;
+    }
+    Ok(())
+}
+
+// What a rule of the style says of a class's boxes.
+fn colour_of<'a>(
+    rt: &impl Abort,
+    alloc: Global,
+    svg: &'a str,
+    class: &str,
+) -> Result<&'a str, Fail> {
+    let rule = format!(in alloc; "\n.{class} rect{{fill:")?;
+    let (_, behind) = svg
+        .split_once(rule.as_str())
+        .expect(rt, "a rule for the class");
+    let (colour, _) = behind.split_once("}").expect(rt, "the end of the rule");
+    Ok(colour)
+}
+
+#[test]
+fn each_kind_of_cell_has_a_colour_of_its_own(rt: HostRuntime) -> Result<(), Fail> {
+    let alloc = rt.alloc();
+    let svg = drawn(&rt, alloc);
     let mut colours = Vec::new(alloc);
-    for (class, column, name, cycle, letter) in BOXES {
-        let shown = format!(in alloc;
-            "<g class='p {class}' transform='translate({column} 0)'><title>{name} in cycle {cycle}</title><rect width='14' height='18'/><text x='7' y='13'>{letter}</text></g>\n"
-        )?;
-        assert!(&rt; svg.contains(shown.as_str()));
-        let meaning = format!(in alloc;
-            "<g class='p {class}'><rect width='14' height='18'/><text x='7' y='13'>{letter}</text></g><text x='20' y='13'>{name}</text></g>\n"
-        )?;
-        assert!(&rt; svg.contains(meaning.as_str()));
-        let rule = format!(in alloc; "\n.{class} rect{{fill:")?;
-        let (_, behind) = svg
-            .split_once(rule.as_str())
-            .expect(&rt, "a rule for the class");
-        let (colour, _) = behind.split_once("}").expect(&rt, "the end of the rule");
+    for (class, ..) in &BOXES {
+        let colour = colour_of(&rt, alloc, svg.as_str(), class)?;
         assert!(&rt; !colours.contains(&colour));
         colours.push(colour)?;
     }

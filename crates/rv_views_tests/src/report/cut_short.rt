@@ -1,7 +1,9 @@
+use crate::machine::{described, no_arrivals};
 use rv_core::{Core, run};
 use rv_front::NotTaken;
 use rv_hardware::Step;
-use rv_isa::{Arrivals, Description, Image, Values};
+use rv_isa::{Arrivals, Image, Values};
+use std::alloc::Global;
 use std::test::Fail;
 
 const LIMIT: u64 = 100;
@@ -15,31 +17,41 @@ fn follow(steps: &[Step], before: usize) -> bool {
     })
 }
 
+// The steps, the cycles, the busy cycles and the waits for fetch of a run, whether memory cut it short or not.
+fn part(
+    alloc: Global,
+    core: &mut Core,
+    arrivals: &Arrivals,
+    limit: u64,
+) -> (Vec<Step>, u64, u64, u64) {
+    match run(alloc, core, arrivals, limit) {
+        Ok(it) => (it.steps, it.cycles, it.busy, it.stalls.fetch),
+        Err(it) => (it.steps, it.cycles, it.busy, it.stalls.fetch),
+    }
+}
+
 // A run without a program traps in every second cycle, and its other cycles dispatch nothing. A second run does what is
 // left: nothing where the first one found its memory.
 #[test]
 fn a_run_that_memory_cut_short_and_a_second_one_are_the_whole(rt: HostRuntime) -> Result<(), Fail> {
     let alloc = rt.alloc();
-    let description = Description::new(Values::standard()).expect(&rt, "a legal description");
+    let description = described(&rt, Values::standard());
     let image = Image::from_bytes(alloc, 0x8000_0000, &[], 0x8000_0000)?;
     let mut core = Core::new(alloc, &description, &image, Box::new(alloc, NotTaken)?)?;
-    let arrivals = Arrivals::new(Vec::new(alloc)).expect(&rt, "no arrivals");
+    let arrivals = no_arrivals(&rt, alloc);
     let (mut steps, mut cycles, mut busy, mut waits) = (0, 0, 0, 0);
     for _ in 0..2 {
-        let (part, more, more_busy, stalls) = match run(
+        let (part, more, more_busy, more_waits) = part(
             alloc,
             &mut core,
             &arrivals,
             LIMIT.saturating_sub(cycles),
-        ) {
-            Ok(outcome) => (outcome.steps, outcome.cycles, outcome.busy, outcome.stalls),
-            Err(done) => (done.steps, done.cycles, done.busy, done.stalls),
-        };
+        );
         assert!(&rt; follow(part.as_slice(), steps));
         steps = part.len().wrapping_add(steps);
         cycles = more.wrapping_add(cycles);
         busy = more_busy.wrapping_add(busy);
-        waits = stalls.fetch.wrapping_add(waits);
+        waits = more_waits.wrapping_add(waits);
     }
     assert_eq!(&rt; (steps, cycles, busy, waits), (49, LIMIT, 50, 50));
     Ok(())
