@@ -1,5 +1,5 @@
 -- The loop of the commit phase.
-use Rattle.std.proofs.Common.{◌≡◌, ℕ, ◌+◌, ◌<◌, ◌≤◌, List, [], ◌∷◌, ◌++◌, append-nil, length, length-append, Option, None, refl, ap, sym, ◌∙◌, arith}
+use Rattle.std.proofs.Common.{◌≡◌, ℕ, ◌+◌, ◌<◌, ◌≤◌, List, [], ◌∷◌, ◌++◌, append-nil, length, length-append, Option, None, Some, refl, ap, sym, ◌∙◌, arith}
 use Rattle.std.specs.FinSet as set
 use Rattle.std.proofs.lemmas.List.{append_assoc}
 use Rattle.rv_arch.specs.Due.{due}
@@ -21,6 +21,10 @@ pub record AreCommitted (start h : Hardware) (old new : List Step) (done left : 
   pub values : h.values ≡ start.values
   pub cycle : h.cycle ≡ start.cycle
   pub retired : h.rob.retired ≤ start.rob.retired + done
+
+-- an interrupt that is due is all that the phase does
+pub interrupted : (h : Hardware) (code : ℕ) → Some code ≡ due h.csrs h.lines → commit_unless set.contains (Some code) h ≡ commit set.contains h
+interrupted h code is = ap (λ (o : Option ℕ). commit_unless set.contains o h) is
 
 -- before the first turn, where no interrupt is due
 unfoldable pub none_committed : (h : Hardware) (old : List Step) (width : ℕ) → width ≡ h.values.commit_width → due h.csrs h.lines ≡ None →

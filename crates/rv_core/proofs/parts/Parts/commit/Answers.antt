@@ -1,13 +1,16 @@
-use Rattle.std.proofs.Common.{◌≡◌, ◌+◌, ◌-◌, [], ◌∷◌, Some, ◌++◌, refl, ap, sym, ◌∙◌, arith}
+use Rattle.std.proofs.Common.{◌≡◌, ◌+◌, ◌-◌, [], ◌∷◌, Some, ◌++◌, refl, ap, subst, sym, ◌∙◌, arith}
 use Rattle.std.specs.FinSet as set
 use Rattle.rv_arch.specs.declared.outcome.Stop.TheVariants.{Stale}
 use Rattle.rv_hardware.specs.Hardware.{Hardware}
-use Rattle.rv_hardware.specs.Commit.{Committing, commit}
-use Rattle.rv_core.proofs.CommitLoop.{none_committed, committed_all, committed_whole, committed_more, steps_with}
-use Rattle.rv_core.proofs.Taught.{taught_all, taught_at_end, taught_whole, teaching_begins, teaching_goes}
+use Rattle.rv_front.specs.Lesson.{AreTaught}
+use Rattle.rv_hardware.specs.Commit.{Committing, commit, commit_unless}
+use Rattle.rv_hardware.specs.declared.step.Step.{Step}
+use Rattle.rv_core.proofs.CommitLoop.{none_committed, committed_all, committed_whole, committed_more, interrupted, steps_with}
+use Rattle.rv_core.proofs.Taught.{none_taught, taught_all, taught_at_end, taught_whole, teaching_begins, teaching_goes}
+use Rattle.rv_core.specs.Lessons.{lessons_of}
 use Rattle.rv_core.specs.HeadTurn.{committing, stop_with, turn_left}
 use Rattle.rv_core.proofs.parts.Parts.commit.Goals as goal
-use Rattle.rv_core.proofs.parts.Parts.commit.Goals.{In-Waits, In-Stale, In-Ends}
+use Rattle.rv_core.proofs.parts.Parts.commit.Goals.{In-Some, In-Waits, In-Stale, In-Ends}
 use Rattle.rv_core.proofs.parts.Parts.commit.Given.{Over}
 
 pub loop-init : goal.loop-init
@@ -19,6 +22,26 @@ loop-init g c = (
   refl,
   teaching_begins c.args.self.now _ c.requires.reached (sym c.due_interrupt.ensures.due ∙ c.in_default.is),
 )
+
+taken : (g : Over) (c : In-Some g) → commit_unless set.contains (Some c.in-Some.code) c.args.self.now ≡ commit set.contains c.args.self.now
+taken g c = interrupted c.args.self.now c.in-Some.code (sym c.in-Some.is ∙ c.due_interrupt.ensures.due)
+
+pub returns-in-Some-clause-hardware : goal.returns-in-Some-clause-hardware
+returns-in-Some-clause-hardware g c = c.interrupt-step.ensures.hardware ∙ ap (λ (x : Committing). x.hardware) (taken g (goal.at.returns-in-Some-clause-hardware g c).In-Some)
+
+pub returns-in-Some-clause-steps : goal.returns-in-Some-clause-steps
+returns-in-Some-clause-steps g c =
+    c.append.ensures.items
+    ∙ ap (λ (s : Step). c.args.steps.now.items ++ s ∷ []) c.interrupt-step.ensures.step
+    ∙ ap (λ (x : Committing). c.args.steps.now.items ++ x.steps) (taken g (goal.at.returns-in-Some-clause-steps g c).In-Some)
+
+pub returns-in-Some-clause-stop : goal.returns-in-Some-clause-stop
+returns-in-Some-clause-stop g c = ap (λ (x : Committing). x.stop) (taken g (goal.at.returns-in-Some-clause-stop g c).In-Some)
+
+pub returns-in-Some-clause-taught : goal.returns-in-Some-clause-taught
+returns-in-Some-clause-taught g c =
+    let learned = (goal.Predictor-dyn g c.args.predictor.now).has_learned c.args.predictor.now.1 in
+    subst (λ l. AreTaught learned (lessons_of l c.interrupt-step.new.self.pc) learned) (ap (λ (x : Committing). x.steps) (taken g (goal.at.returns-in-Some-clause-taught g c).In-Some)) (none_taught learned)
 
 -- a turn that ends the phase leaves what the definition leaves
 waits : (g : Over) (c : In-Waits g) → committing c.commit_head.new.self c.loop.invariant.0.steps ≡ commit set.contains c.args.self.now
