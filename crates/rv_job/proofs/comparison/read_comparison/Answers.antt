@@ -1,4 +1,4 @@
-use Rattle.std.proofs.Common.{subst, arith, ◌∙◌, true, false, sym}
+use Rattle.std.proofs.Common.{subst, arith, ◌∙◌, sym}
 use Rattle.std.proofs.lemmas.Bool.{ltb-false, ltb-true}
 use Rattle.rv_job.specs.Comparison.{AreLoaded, RefusesComparison, RefusesLoading, most_machines, separator_count}
 use Rattle.rv_job.proofs.SeparatorCount.{jobs_few}
