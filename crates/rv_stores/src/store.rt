@@ -1,5 +1,5 @@
-ghost use Rattle.std.specs.Prelude.{◌≡◌};
-ghost use Rattle.rv_stores.specs.Store.{answered, byte_at, draining, is_committed, is_draining, is_known, laid_over, retired, told, access_to_drain};
+ghost use Rattle.std.specs.Prelude.{◌≡◌, ◌<◌};
+ghost use Rattle.rv_stores.specs.Store.{answered, byte_at, draining, is_committed, is_draining, is_known, laid_byte, laid_over, retired, told, access_to_drain};
 
 use rv_isa::StoreAccess;
 
@@ -89,6 +89,25 @@ impl Store {
         access.bytes.as_slice().get(offset as usize).copied()
     }
 
+    // The byte found so far at an offset of an access of `count` bytes, with that of this store laid over it.
+    fn laid_byte(
+        &self,
+        found: &[Option<u8>; 4],
+        address: u32,
+        count: usize,
+        offset: usize,
+    ) -> Option<u8>
+        requires { offset < 4 }
+        ensures { result ≡ laid_byte address count self.now found.now offset }
+    {
+        let own = self.byte_at(u64::from(address) + offset as u64);
+        if offset < count {
+            own.or(found[offset])
+        } else {
+            found[offset]
+        }
+    }
+
     // The bytes found so far for an access of `count` bytes at an address, with those of this store laid over them.
     pub(crate) fn laid_over(
         &self,
@@ -98,15 +117,12 @@ impl Store {
     ) -> [Option<u8>; 4]
         ensures { result ≡ laid_over address count self.now found }
     {
-        let byte = |offset: usize| {
-            let own = self.byte_at(u64::from(address) + offset as u64);
-            if offset < count {
-                own.or(found[offset])
-            } else {
-                found[offset]
-            }
-        };
-        [byte(0), byte(1), byte(2), byte(3)]
+        [
+            self.laid_byte(&found, address, count, 0),
+            self.laid_byte(&found, address, count, 1),
+            self.laid_byte(&found, address, count, 2),
+            self.laid_byte(&found, address, count, 3),
+        ]
     }
 
     // Whether its broadcast has been: it was filled or marked as faulting.
