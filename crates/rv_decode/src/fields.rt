@@ -71,7 +71,7 @@ pub fn i_immediate(word: u32) -> Immediate
 pub fn s_immediate(word: u32) -> Immediate
     ensures { result ≡ s_immediate word }
 {
-    let low = bits(word, 11, 7) | bits(word, 30, 25) << 5;
+    let low = bits(word, 30, 25) * 32 + bits(word, 11, 7);
     let sign = bits(word, 31, 31);
     Immediate::from_field(low as i32 - sign as i32 * 2048)
 }
@@ -80,7 +80,7 @@ pub fn s_immediate(word: u32) -> Immediate
 pub fn b_immediate(word: u32) -> BranchOffset
     ensures { result ≡ b_immediate word }
 {
-    let low = bits(word, 11, 8) << 1 | bits(word, 30, 25) << 5 | bits(word, 7, 7) << 11;
+    let low = bits(word, 7, 7) * 2048 + bits(word, 30, 25) * 32 + bits(word, 11, 8) * 2;
     let sign = bits(word, 31, 31);
     BranchOffset::from_field(low as i32 - sign as i32 * 4096)
 }
@@ -96,7 +96,7 @@ pub fn u_immediate(word: u32) -> UpperImmediate
 pub fn j_immediate(word: u32) -> JumpOffset
     ensures { result ≡ j_immediate word }
 {
-    let low = bits(word, 30, 21) << 1 | bits(word, 20, 20) << 11 | bits(word, 19, 12) << 12;
+    let low = bits(word, 19, 12) * 4096 + bits(word, 20, 20) * 2048 + bits(word, 30, 21) * 2;
     let sign = bits(word, 31, 31);
     JumpOffset::from_field(low as i32 - sign as i32 * 1048576)
 }
