@@ -1,4 +1,4 @@
-ghost use Rattle.std.specs.Prelude.{◌≡◌, ◌+◌, ◌%◌, ◌≤◌, length, IfOk, IfSome};
+ghost use Rattle.std.specs.Prelude.{◌≡◌, ◌+◌, ◌%◌, ◌≤◌, ◌++◌, length, IfSome};
 
 use crate::checks::check_equal;
 use crate::halves::Halves;
@@ -7,7 +7,6 @@ use rv_isa::{Description, Values};
 use rv_memory::{Backing, Ram};
 use std::alloc::Global;
 use std::process::Abort;
-use std::test::Fail;
 
 // Three lines of four bytes.
 const A: u32 = 0x8000_0000;
@@ -60,68 +59,78 @@ fn first_bytes<M: Backing>(cache: &Cache<M>) -> [u8; 8]
     bytes
 }
 
-fn small_cache<M: Backing>(alloc: Global, backing: M, ways: u32) -> Result<Cache<M>, Fail>
+fn small_cache<M: Backing>(rt: &impl Abort, alloc: Global, backing: M, ways: u32) -> Cache<M>
     requires { length (M.bytes backing) ≡ 4096 }
-    ensures base { IfOk result (λ cache. cache.base ≡ A) }
-    ensures size { IfOk result (λ cache. length cache.bytes ≡ 4096) }
+    ensures base { result.base ≡ A }
+    ensures size { length result.bytes ≡ 4096 }
 {
-    let description = one_set(ways).ok_or("legal")?;
-    Ok(Cache::new(alloc, backing, A, &description)?)
+    let description = one_set(ways).expect(rt, "legal");
+    Cache::new(alloc, backing, A, &description).expect(rt, "a cache")
 }
 
-fn check_one_way<M: Backing>(rt: &impl Abort, alloc: Global, backing: M) -> Result<(), Fail>
-    requires { length (M.bytes backing) ≡ 4096 }
+// Checks a cache of one way over 4096 bytes, which are zeros.
+fn check_one_way<M: Backing>(rt: &impl Abort, cache: &mut Cache<M>)
+    requires base { cache.old.base ≡ A }
+    requires size { length cache.old.bytes ≡ 4096 }
 {
-    let mut cache = small_cache(alloc, backing, 1)?;
-    check_equal(rt, read_word(&mut cache, A), ([0, 0, 0, 0], 11));
-    check_equal(rt, read_word(&mut cache, A).1, 1);
-    check_equal(rt, write_word(&mut cache, A, [1, 2, 3, 4]), 1);
+    check_equal(rt, read_word(cache, A), ([0, 0, 0, 0], 11));
+    check_equal(rt, read_word(cache, A).1, 1);
+    check_equal(rt, write_word(cache, A, [1, 2, 3, 4]), 1);
     check_equal(rt, cache.peek(A + 2), 3);
-    check_equal(rt, read_word(&mut cache, B).1, 21);
-    check_equal(rt, first_bytes(&cache), [1, 2, 3, 4, 0, 0, 0, 0]);
-    check_equal(rt, read_word(&mut cache, A), ([1, 2, 3, 4], 11));
+    check_equal(rt, read_word(cache, B).1, 21);
+    check_equal(rt, first_bytes(cache), [1, 2, 3, 4, 0, 0, 0, 0]);
+    check_equal(rt, read_word(cache, A), ([1, 2, 3, 4], 11));
     check_equal(rt, cache.write_back_all(), 0);
-    Ok(())
 }
 
-fn check_two_ways<M: Backing>(rt: &impl Abort, alloc: Global, backing: M) -> Result<(), Fail>
-    requires { length (M.bytes backing) ≡ 4096 }
+// Checks a cache of two ways over 4096 bytes, which are zeros.
+fn check_two_ways<M: Backing>(rt: &impl Abort, cache: &mut Cache<M>)
+    requires base { cache.old.base ≡ A }
+    requires size { length cache.old.bytes ≡ 4096 }
 {
-    let mut cache = small_cache(alloc, backing, 2)?;
-    check_equal(rt, read_word(&mut cache, A).1, 11);
-    check_equal(rt, read_word(&mut cache, B).1, 11);
-    check_equal(rt, read_word(&mut cache, A).1, 1);
-    check_equal(rt, read_word(&mut cache, C).1, 11);
-    check_equal(rt, read_word(&mut cache, A).1, 1);
-    check_equal(rt, read_word(&mut cache, B).1, 11);
-    check_equal(rt, write_word(&mut cache, A, [5, 6, 7, 8]), 1);
+    check_equal(rt, read_word(cache, A).1, 11);
+    check_equal(rt, read_word(cache, B).1, 11);
+    check_equal(rt, read_word(cache, A).1, 1);
+    check_equal(rt, read_word(cache, C).1, 11);
+    check_equal(rt, read_word(cache, A).1, 1);
+    check_equal(rt, read_word(cache, B).1, 11);
+    check_equal(rt, write_word(cache, A, [5, 6, 7, 8]), 1);
     check_equal(rt, cache.write_back_all(), 1);
-    check_equal(rt, first_bytes(&cache), [5, 6, 7, 8, 0, 0, 0, 0]);
-    Ok(())
+    check_equal(rt, first_bytes(cache), [5, 6, 7, 8, 0, 0, 0, 0]);
 }
 
-fn small_ram(alloc: Global) -> Result<Ram, Fail>
-    ensures { IfOk result (λ ram. length ram.bytes ≡ 4096) }
+fn small_ram(rt: &impl Abort, alloc: Global) -> Ram
+    ensures { length result.bytes ≡ 4096 }
 {
-    Ok(Ram::new(alloc, A, 4096, 0)?)
+    Ram::new(alloc, A, 4096, 0).expect(rt, "RAM")
+}
+
+fn small_halves(rt: &impl Abort, alloc: Global) -> Halves
+    ensures { length (result.low.items ++ result.high.items) ≡ 4096 }
+{
+    Halves::new(alloc, 2).expect(rt, "halves")
 }
 
 #[test]
-fn one_way_costs_over_ram(rt: HostRuntime) -> Result<(), Fail> {
-    check_one_way(&rt, rt.alloc(), small_ram(rt.alloc())?)
+fn one_way_costs_over_ram(rt: HostRuntime) {
+    let ram = small_ram(&rt, rt.alloc());
+    check_one_way(&rt, &mut small_cache(&rt, rt.alloc(), ram, 1));
 }
 
 #[test]
-fn two_ways_replace_the_least_recent_over_ram(rt: HostRuntime) -> Result<(), Fail> {
-    check_two_ways(&rt, rt.alloc(), small_ram(rt.alloc())?)
+fn two_ways_replace_the_least_recent_over_ram(rt: HostRuntime) {
+    let ram = small_ram(&rt, rt.alloc());
+    check_two_ways(&rt, &mut small_cache(&rt, rt.alloc(), ram, 2));
 }
 
 #[test]
-fn one_way_costs_over_halves(rt: HostRuntime) -> Result<(), Fail> {
-    check_one_way(&rt, rt.alloc(), Halves::new(rt.alloc(), 2)?)
+fn one_way_costs_over_halves(rt: HostRuntime) {
+    let halves = small_halves(&rt, rt.alloc());
+    check_one_way(&rt, &mut small_cache(&rt, rt.alloc(), halves, 1));
 }
 
 #[test]
-fn two_ways_replace_the_least_recent_over_halves(rt: HostRuntime) -> Result<(), Fail> {
-    check_two_ways(&rt, rt.alloc(), Halves::new(rt.alloc(), 2)?)
+fn two_ways_replace_the_least_recent_over_halves(rt: HostRuntime) {
+    let halves = small_halves(&rt, rt.alloc());
+    check_two_ways(&rt, &mut small_cache(&rt, rt.alloc(), halves, 2));
 }

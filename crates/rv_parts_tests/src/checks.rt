@@ -18,3 +18,22 @@ pub(crate) fn check_true(rt: &impl Abort, condition: bool)
 {
     assert!(rt; condition);
 }
+
+/// Checks that two values are equal, at a word or an address that a failure names.
+pub(crate) fn check_equal_at<T: PartialEq + Debug + Drop>(
+    rt: &impl Abort,
+    word: u32,
+    left: T,
+    right: T,
+)
+    ensures equal { IsTrue (T.eq left right) }
+{
+    assert_eq!(rt; left, right, "at {word:08x}");
+}
+
+/// Checks that a condition holds, at a number that a failure names.
+pub(crate) fn check_true_at(rt: &impl Abort, number: u64, condition: bool)
+    ensures held { IsTrue condition }
+{
+    assert!(rt; condition, "at {number}");
+}

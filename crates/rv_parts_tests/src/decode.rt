@@ -2,7 +2,7 @@
 //! and 3.3.3; Bit-Manipulation ISA-extensions 1.0.0, 1.1), put together by hand from the fields there: rd is x5, rs1 x6
 //! and rs2 x7, or 6 where an immediate is in the place of rs1.
 
-use crate::checks::check_equal;
+use crate::checks::{check_equal, check_equal_at};
 use rv_decode::{decode, encode};
 use rv_isa::{
     AluOp, BranchOffset, Condition, CsrAddress, CsrImmediate, CsrOp, CsrSource, Immediate,
@@ -20,33 +20,33 @@ fn immediate(rt: &impl Abort, value: i32) -> Immediate {
 
 // The word is the instruction, both ways.
 fn same(rt: &impl Abort, word: u32, instruction: Instr) {
-    assert_eq!(rt; decode(word), Some(instruction), "{word:08x}");
-    assert_eq!(rt; encode(&instruction), word, "{word:08x}");
+    check_equal_at(rt, word, decode(word), Some(instruction));
+    check_equal_at(rt, word, encode(&instruction), word);
 }
 
 #[test]
 fn upper_immediates_and_jumps(rt: HostRuntime) {
-    let rd = x(&rt, 5);
-    let immediate = UpperImmediate::new(0x80001).expect(&rt, "twenty bits");
-    same(&rt, 0x8000_12b7, Instr::Lui { rd, immediate });
-    same(&rt, 0x8000_1297, Instr::Auipc { rd, immediate });
     // The places of the offset's bits: bits 19 to 12 and 10 to 1, bit 11, and the sign.
-    for (word, offset) in [
+    const CASES: [(u32, i32); 4] = [
         (0x554a_52ef, 0xa5554),
         (0x0010_02ef, 2048),
         (0xffdf_f2ef, -4),
         (0x8000_02ef, -0x100000),
-    ] {
-        let offset = JumpOffset::new(offset).expect(&rt, "even");
-        same(&rt, word, Instr::Jal { rd, offset });
+    ];
+    let rd = x(&rt, 5);
+    let immediate = UpperImmediate::new(0x80001).expect(&rt, "twenty bits");
+    same(&rt, 0x8000_12b7, Instr::Lui { rd, immediate });
+    same(&rt, 0x8000_1297, Instr::Auipc { rd, immediate });
+    for (word, offset) in &CASES {
+        let offset = JumpOffset::new(*offset).expect(&rt, "even");
+        same(&rt, *word, Instr::Jal { rd, offset });
     }
 }
 
 #[test]
 fn branches(rt: HostRuntime) {
-    let (rs1, rs2) = (x(&rt, 6), x(&rt, 7));
     // By 0x554: bits 10 to 5 are 101010, and bits 4 to 1 are 1010.
-    for (word, condition, offset) in [
+    const CASES: [(u32, Condition, i32); 8] = [
         (0x5473_0a63, Condition::Equal, 0x554),
         (0x5473_1a63, Condition::NotEqual, 0x554),
         (0x5473_4a63, Condition::LessThan, 0x554),
@@ -55,65 +55,68 @@ fn branches(rt: HostRuntime) {
         (0x5473_7a63, Condition::GreaterOrEqualUnsigned, 0x554),
         (0x0073_00e3, Condition::Equal, 2048),
         (0x8073_0063, Condition::Equal, -4096),
-    ] {
-        let offset = BranchOffset::new(offset).expect(&rt, "even");
+    ];
+    let (rs1, rs2) = (x(&rt, 6), x(&rt, 7));
+    for (word, condition, offset) in &CASES {
+        let offset = BranchOffset::new(*offset).expect(&rt, "even");
         let instruction = Instr::Branch {
-            condition,
+            condition: *condition,
             rs1,
             rs2,
             offset,
         };
-        same(&rt, word, instruction);
+        same(&rt, *word, instruction);
     }
 }
 
 #[test]
 fn loads_and_jalr(rt: HostRuntime) {
-    let (rd, rs1) = (x(&rt, 5), x(&rt, 6));
-    let offset = immediate(&rt, 0x7a5);
-    same(&rt, 0x7a53_02e7, Instr::Jalr { rd, rs1, offset });
-    for (word, form) in [
+    const CASES: [(u32, LoadForm); 5] = [
         (0x7a53_0283, LoadForm::Byte),
         (0x7a53_1283, LoadForm::Half),
         (0x7a53_2283, LoadForm::Word),
         (0x7a53_4283, LoadForm::ByteUnsigned),
         (0x7a53_5283, LoadForm::HalfUnsigned),
-    ] {
+    ];
+    let (rd, rs1) = (x(&rt, 5), x(&rt, 6));
+    let offset = immediate(&rt, 0x7a5);
+    same(&rt, 0x7a53_02e7, Instr::Jalr { rd, rs1, offset });
+    for (word, form) in &CASES {
         let instruction = Instr::Load {
-            form,
+            form: *form,
             rd,
             rs1,
             offset,
         };
-        same(&rt, word, instruction);
+        same(&rt, *word, instruction);
     }
 }
 
 #[test]
 fn stores(rt: HostRuntime) {
-    let (rs1, rs2) = (x(&rt, 6), x(&rt, 7));
     // By 0x555: bits 11 to 5 are 0101010, and bits 4 to 0 are 10101.
-    for (word, width, offset) in [
+    const CASES: [(u32, Width, i32); 4] = [
         (0x5473_0aa3, Width::Byte, 0x555),
         (0x5473_1aa3, Width::Half, 0x555),
         (0x5473_2aa3, Width::Word, 0x555),
         (0x8073_2023, Width::Word, -2048),
-    ] {
-        let offset = immediate(&rt, offset);
+    ];
+    let (rs1, rs2) = (x(&rt, 6), x(&rt, 7));
+    for (word, width, offset) in &CASES {
+        let offset = immediate(&rt, *offset);
         let instruction = Instr::Store {
-            width,
+            width: *width,
             rs1,
             rs2,
             offset,
         };
-        same(&rt, word, instruction);
+        same(&rt, *word, instruction);
     }
 }
 
 #[test]
 fn operations_with_an_immediate(rt: HostRuntime) {
-    let (rd, rs1) = (x(&rt, 5), x(&rt, 6));
-    for (word, op, value) in [
+    const CASES: [(u32, ImmediateOp, i32); 7] = [
         (0x7a53_0293, ImmediateOp::Addi, 0x7a5),
         (0x7a53_2293, ImmediateOp::Slti, 0x7a5),
         (0x7a53_3293, ImmediateOp::Sltiu, 0x7a5),
@@ -121,36 +124,38 @@ fn operations_with_an_immediate(rt: HostRuntime) {
         (0x7a53_6293, ImmediateOp::Ori, 0x7a5),
         (0x7a53_7293, ImmediateOp::Andi, 0x7a5),
         (0x8003_0293, ImmediateOp::Addi, -2048),
-    ] {
-        let immediate = immediate(&rt, value);
+    ];
+    const SHIFTS: [(u32, ShiftOp); 3] = [
+        (0x0153_1293, ShiftOp::Slli),
+        (0x0153_5293, ShiftOp::Srli),
+        (0x4153_5293, ShiftOp::Srai),
+    ];
+    let (rd, rs1) = (x(&rt, 5), x(&rt, 6));
+    for (word, op, value) in &CASES {
+        let immediate = immediate(&rt, *value);
         let instruction = Instr::OpImmediate {
-            op,
+            op: *op,
             rd,
             rs1,
             immediate,
         };
-        same(&rt, word, instruction);
+        same(&rt, *word, instruction);
     }
     let amount = ShiftAmount::new(0b10101).expect(&rt, "five bits");
-    for (word, op) in [
-        (0x0153_1293, ShiftOp::Slli),
-        (0x0153_5293, ShiftOp::Srli),
-        (0x4153_5293, ShiftOp::Srai),
-    ] {
+    for (word, op) in &SHIFTS {
         let instruction = Instr::Shift {
-            op,
+            op: *op,
             rd,
             rs1,
             amount,
         };
-        same(&rt, word, instruction);
+        same(&rt, *word, instruction);
     }
 }
 
 #[test]
 fn operations_on_registers(rt: HostRuntime) {
-    let (rd, rs1, rs2) = (x(&rt, 5), x(&rt, 6), x(&rt, 7));
-    for (word, op) in [
+    const CASES: [(u32, AluOp); 21] = [
         (0x0073_02b3, AluOp::Add),
         (0x4073_02b3, AluOp::Sub),
         (0x0073_12b3, AluOp::Sll),
@@ -172,8 +177,19 @@ fn operations_on_registers(rt: HostRuntime) {
         (0x2073_22b3, AluOp::Sh1add),
         (0x2073_42b3, AluOp::Sh2add),
         (0x2073_62b3, AluOp::Sh3add),
-    ] {
-        same(&rt, word, Instr::Op { op, rd, rs1, rs2 });
+    ];
+    let (rd, rs1, rs2) = (x(&rt, 5), x(&rt, 6), x(&rt, 7));
+    for (word, op) in &CASES {
+        same(
+            &rt,
+            *word,
+            Instr::Op {
+                op: *op,
+                rd,
+                rs1,
+                rs2,
+            },
+        );
     }
 }
 
@@ -218,9 +234,14 @@ fn instructions_without_operands(rt: HostRuntime) {
     check_equal(&rt, decode(0xffff_9f8f), Some(Instr::FenceI));
 }
 
+// The word is no instruction.
+fn check_illegal(rt: &impl Abort, word: u32) {
+    check_equal_at(rt, word, decode(word), None);
+}
+
 #[test]
 fn words_in_no_row_are_illegal(rt: HostRuntime) {
-    let illegal: [u32; 28] = [
+    const ILLEGAL: [u32; 28] = [
         0x0000_0000, // all zeros
         0xffff_ffff, // all ones
         0x0000_0001, // c.nop
@@ -250,7 +271,7 @@ fn words_in_no_row_are_illegal(rt: HostRuntime) {
         0x3020_00f3, // mret with rd x1
         0x1050_8073, // wfi with rs1 x1
     ];
-    for word in illegal {
-        assert_eq!(rt; decode(word), None, "{word:08x}");
+    for word in &ILLEGAL {
+        check_illegal(&rt, *word);
     }
 }

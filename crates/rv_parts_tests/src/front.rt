@@ -1,6 +1,7 @@
 ghost use Rattle.std.specs.Prelude.{◌≡◌, ⊤};
 
-use crate::checks::{check_equal, check_true};
+use crate::checks::{check_equal, check_equal_at, check_true};
+use crate::words::bytes_of;
 use rv_decode::decode;
 use rv_front::{
     BackwardTaken, Bimodal, DescribedPredictor, FetchStop, Fetched, Flow, Front, NotTaken,
@@ -8,6 +9,8 @@ use rv_front::{
 };
 use rv_isa::{Description, Instr, PredictorKind, Values};
 use rv_memory::Ram;
+use std::alloc::Global;
+use std::process::Abort;
 use std::test::Fail;
 
 const BASE: u32 = 0x8000_0000;
@@ -60,59 +63,63 @@ fn a_bimodal_target_is_the_last_one_at_its_index(rt: HostRuntime) -> Result<(), 
 
 #[test]
 fn plain_predictors_follow_jumps_and_backward_branches(rt: HostRuntime) {
-    for (word, not_taken, backward_taken) in [
+    // A word, and the next pcs without and with backward branches taken.
+    const CASES: [(u32, u32, u32); 6] = [
         (NOP, BASE + 4, BASE + 4),
         (0, BASE + 4, BASE + 4),
         (JAL, BASE + 8, BASE + 8),
         (JALR, BASE + 4, BASE + 4),
         (BRANCH_FORWARD, BASE + 4, BASE + 4),
         (BRANCH_BACKWARD, BASE + 4, BASE - 4),
-    ] {
-        assert_eq!(rt; NotTaken.predict(BASE, word), not_taken, "{word:x}");
-        assert_eq!(rt;
-            BackwardTaken.predict(BASE, word),
-            backward_taken,
-            "{word:x}"
+    ];
+    for (word, not_taken, backward_taken) in &CASES {
+        check_equal_at(&rt, *word, NotTaken.predict(BASE, *word), *not_taken);
+        check_equal_at(
+            &rt,
+            *word,
+            BackwardTaken.predict(BASE, *word),
+            *backward_taken,
         );
     }
+}
+
+// Checks what a predictor of a kind says of the backward branch, and of the forward one once it was taken.
+fn check_described(
+    rt: &impl Abort,
+    alloc: Global,
+    kind: PredictorKind,
+    backward: u32,
+    forward_since: u32,
+) {
+    let mut predictor = DescribedPredictor::new(alloc, kind, 64).expect(rt, "a predictor");
+    let answer = predictor.predict(BASE, BRANCH_BACKWARD);
+    predictor.learn(BASE, BRANCH_FORWARD, BASE + 8);
+    let since = predictor.predict(BASE, BRANCH_FORWARD);
+    check_equal(rt, (kind, answer, since), (kind, backward, forward_since));
 }
 
 #[test]
-fn a_described_predictor_answers_and_learns_as_its_kind(rt: HostRuntime) -> Result<(), Fail> {
-    for (kind, backward, forward_since) in [
-        (PredictorKind::NotTaken, BASE + 4, BASE + 4),
-        (PredictorKind::BackwardTaken, BASE - 4, BASE + 4),
-        (PredictorKind::Bimodal, BASE + 4, BASE + 8),
-    ] {
-        let mut predictor = DescribedPredictor::new(rt.alloc(), kind, 64)?;
-        assert_eq!(rt;
-            predictor.predict(BASE, BRANCH_BACKWARD),
-            backward,
-            "{kind:?}"
-        );
-        predictor.learn(BASE, BRANCH_FORWARD, BASE + 8);
-        assert_eq!(rt;
-            predictor.predict(BASE, BRANCH_FORWARD),
-            forward_since,
-            "{kind:?}"
-        );
-    }
-    Ok(())
+fn a_described_predictor_answers_and_learns_as_its_kind(rt: HostRuntime) {
+    let alloc = rt.alloc();
+    check_described(&rt, alloc, PredictorKind::NotTaken, BASE + 4, BASE + 4);
+    check_described(&rt, alloc, PredictorKind::BackwardTaken, BASE - 4, BASE + 4);
+    check_described(&rt, alloc, PredictorKind::Bimodal, BASE + 4, BASE + 8);
 }
 
-// RAM with some words at its front, and a front that begins there.
-fn ram_and_front(rt: &HostRuntime, words: &[u32]) -> Result<(Ram, Front), Fail> {
-    let mut bytes = Vec::new(rt.alloc());
-    for word in words {
-        bytes.extend_from_slice(&word.to_le_bytes())?;
-    }
-    let mut ram = Ram::new(rt.alloc(), BASE, 4096, 0)?;
+// RAM with some words at its front.
+fn ram_with(rt: &impl Abort, alloc: Global, words: &[u32]) -> Ram {
+    let bytes = bytes_of(rt, alloc, words);
+    let mut ram = Ram::new(alloc, BASE, 4096, 0).expect(rt, "RAM");
     if bytes.len() <= 4096 {
         ram.load(bytes.as_slice());
     }
-    let description = Description::new(Values::standard()).ok_or("a legal description")?;
-    let front = Front::new(rt.alloc(), &description, BASE)?;
-    Ok((ram, front))
+    ram
+}
+
+// A front that begins with the first word of RAM.
+fn new_front(rt: &impl Abort, alloc: Global) -> Front {
+    let description = Description::new(Values::standard()).expect(rt, "a legal description");
+    Front::new(alloc, &description, BASE).expect(rt, "a front")
 }
 
 // The entry of a word, whose instruction is what the word decodes to.
@@ -126,32 +133,32 @@ fn entry(pc: u32, word: Option<u32>, predicted: u32, cycle: u64) -> Fetched {
     }
 }
 
-#[test]
-fn fetch_follows_the_predictions_until_the_buffer_is_full(rt: HostRuntime) -> Result<(), Fail> {
-    let (ram, mut front) = ram_and_front(&rt, &[NOP, JAL, NOP, NOP, NOP])?;
-    let predictor: Box<dyn Predictor> = Box::new(rt.alloc(), NotTaken)?;
-    check_true(&rt, front.peek().is_none());
-    check_equal(
-        &rt,
-        front.fetch(0, &ram, &*predictor),
-        FetchStop::Prediction,
-    );
-    check_equal(&rt, front.fetch(1, &ram, &*predictor), FetchStop::Width);
-    for (pc, word, predicted, cycle) in [
-        (BASE, NOP, BASE + 4, 0),
-        (BASE + 4, JAL, BASE + 12, 0),
-        (BASE + 12, NOP, BASE + 16, 1),
-    ] {
-        let expected = entry(pc, Some(word), predicted, cycle);
-        check_equal(&rt, front.peek().copied(), Some(expected));
-        front.take();
-    }
+// Checks the oldest word that the front holds, and takes it.
+fn check_taken(rt: &impl Abort, front: &mut Front, expected: Fetched) {
+    check_equal(rt, front.peek().copied(), Some(expected));
+    front.take();
+}
+
+// What stops the last of the fetches in some cycles.
+fn last_stop(front: &mut Front, ram: &Ram, cycles: u64) -> FetchStop {
     let mut stop = FetchStop::Width;
-    for cycle in 2..20 {
-        stop = front.fetch(cycle, &ram, &*predictor);
+    for cycle in 0..cycles {
+        stop = front.fetch(cycle, ram, &NotTaken);
     }
-    check_equal(&rt, stop, FetchStop::Room);
-    Ok(())
+    stop
+}
+
+#[test]
+fn fetch_follows_the_predictions_until_the_buffer_is_full(rt: HostRuntime) {
+    let ram = ram_with(&rt, rt.alloc(), &[NOP, JAL, NOP, NOP, NOP]);
+    let mut front = new_front(&rt, rt.alloc());
+    check_true(&rt, front.peek().is_none());
+    check_equal(&rt, front.fetch(0, &ram, &NotTaken), FetchStop::Prediction);
+    check_equal(&rt, front.fetch(1, &ram, &NotTaken), FetchStop::Width);
+    check_taken(&rt, &mut front, entry(BASE, Some(NOP), BASE + 4, 0));
+    check_taken(&rt, &mut front, entry(BASE + 4, Some(JAL), BASE + 12, 0));
+    check_taken(&rt, &mut front, entry(BASE + 12, Some(NOP), BASE + 16, 1));
+    check_equal(&rt, last_stop(&mut front, &ram, 18), FetchStop::Room);
 }
 
 // A predictor whose answer is always the same.
@@ -171,39 +178,42 @@ impl Predictor for Always {
 }
 
 #[test]
-fn a_prediction_outside_ram_halts_the_fetch_until_a_redirect(rt: HostRuntime) -> Result<(), Fail> {
-    let (ram, mut front) = ram_and_front(&rt, &[NOP, NOP])?;
+fn a_prediction_outside_ram_halts_the_fetch_until_a_redirect(rt: HostRuntime) {
+    let ram = ram_with(&rt, rt.alloc(), &[NOP, NOP]);
+    let mut front = new_front(&rt, rt.alloc());
     let predictor = Always(0xffff_ffff);
     check_equal(&rt, front.fetch(0, &ram, &predictor), FetchStop::Prediction);
     check_equal(&rt, front.fetch(1, &ram, &predictor), FetchStop::Halted);
     check_equal(&rt, front.fetch(2, &ram, &predictor), FetchStop::Halted);
-    let word = entry(BASE, Some(NOP), 0xffff_fffc, 0);
-    let fault = entry(0xffff_fffc, None, 0, 1);
-    for expected in [word, fault] {
-        check_equal(&rt, front.peek().copied(), Some(expected));
-        front.take();
-    }
+    check_taken(&rt, &mut front, entry(BASE, Some(NOP), 0xffff_fffc, 0));
+    check_taken(&rt, &mut front, entry(0xffff_fffc, None, 0, 1));
     check_true(&rt, front.peek().is_none());
     front.redirect(BASE + 4);
     check_equal(&rt, front.fetch(3, &ram, &predictor), FetchStop::Prediction);
-    check_equal(&rt, front.peek().map(|fetched| fetched.pc), Some(BASE + 4));
-    Ok(())
+    check_taken(&rt, &mut front, entry(BASE + 4, Some(NOP), 0xffff_fffc, 3));
+}
+
+// The instruction of the word at a pc, or None where nothing was fetched.
+fn fetched_instruction(front: &mut Front, ram: &Ram, pc: u32) -> Option<Option<Instr>> {
+    front.redirect(pc);
+    front.fetch(0, ram, &NotTaken);
+    match front.peek() {
+        Some(fetched) => Some(fetched.instruction),
+        None => None,
+    }
 }
 
 #[test]
-fn fetch_decodes_each_word(rt: HostRuntime) -> Result<(), Fail> {
-    let (ram, mut front) = ram_and_front(&rt, &[0, 0x0000_0073])?;
-    for (pc, instruction) in [
+fn fetch_decodes_each_word(rt: HostRuntime) {
+    const CASES: [(u32, Option<Instr>); 3] = [
         (BASE, None),
         (BASE + 4, Some(Instr::Ecall)),
         (BASE - 4, None),
-    ] {
-        front.redirect(pc);
-        front.fetch(0, &ram, &NotTaken);
-        assert_eq!(rt;
-            front.peek().map(|fetched| fetched.instruction),
-            Some(instruction)
-        );
+    ];
+    let ram = ram_with(&rt, rt.alloc(), &[0, 0x0000_0073]);
+    let mut front = new_front(&rt, rt.alloc());
+    for (pc, instruction) in &CASES {
+        let found = fetched_instruction(&mut front, &ram, *pc);
+        check_equal_at(&rt, *pc, found, Some(*instruction));
     }
-    Ok(())
 }

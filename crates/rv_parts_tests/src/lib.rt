@@ -28,3 +28,5 @@ mod stations;
 mod stores;
 #[cfg(test)]
 mod units;
+#[cfg(test)]
+mod words;

@@ -1,15 +1,19 @@
+ghost use Rattle.std.specs.Prelude.{◌<◌};
+
 use crate::checks::{check_equal, check_true};
 use rv_isa::{Cause, Description, Fault, Issue, Message, Values};
 use rv_rob::{Entry, Rob, Stage};
+use std::alloc::Global;
 use std::process::Abort;
-use std::test::Fail;
 
-fn description(rt: &impl Abort, rob: u32) -> Description {
+// An empty buffer for so many entries.
+fn empty_rob(rt: &impl Abort, alloc: Global, rob: u32) -> Rob {
     let values = Values {
         rob,
         ..Values::standard()
     };
-    Description::new(values).expect(rt, "a legal description")
+    let description = Description::new(values).expect(rt, "a legal description");
+    Rob::new(alloc, &description).expect(rt, "a buffer")
 }
 
 fn waiting(pc: u32) -> Entry {
@@ -39,90 +43,103 @@ fn message() -> Message {
 }
 
 fn push(rt: &impl Abort, rob: &mut Rob, pc: u32) -> u64 {
-    assert!(rt; !rob.is_full());
-    assert!(rt; rob.next_number() < 1 << 44);
+    check_true(rt, !rob.is_full() && rob.next_number() < 1 << 44);
     rob.push(waiting(pc))
 }
 
-#[test]
-fn numbers_go_on_while_the_ring_wraps_around(rt: HostRuntime) -> Result<(), Fail> {
-    let mut rob = Rob::new(rt.alloc(), &description(&rt, 3))?;
-    check_true(&rt, rob.is_empty());
-    for round in 0..5 {
-        for place in 0..2 {
-            let number = push(&rt, &mut rob, 8 * round + 4 * place);
-            check_equal(&rt, number, u64::from(2 * round + place));
-        }
-        let youngest = u64::from(2 * round + 1);
-        check_equal(&rt, rob.retired(), youngest - 1);
-        check_equal(
-            &rt,
-            rob.get(youngest).map(|entry| entry.pc),
-            Some(8 * round + 4),
-        );
-        check_true(&rt, rob.get(youngest + 1).is_none());
-        check_equal(&rt, rob.head().map(|entry| entry.pc), Some(8 * round));
-        check_equal(
-            &rt,
-            rob.youngest().map(|entry| entry.pc),
-            Some(8 * round + 4),
-        );
-        rob.pop_head();
-        check_true(&rt, rob.get(youngest - 1).is_none());
-        check_equal(&rt, rob.head().map(|entry| entry.pc), Some(8 * round + 4));
-        rob.pop_head();
-        check_true(&rt, rob.is_empty());
-        rob.pop_head();
+// The pc of an entry, if there is one.
+fn pc_of(entry: Option<&Entry>) -> Option<u32> {
+    match entry {
+        Some(entry) => Some(entry.pc),
+        None => None,
     }
-    check_equal(&rt, rob.retired(), 10);
-    Ok(())
+}
+
+// Two entries come and retire, of which the numbers follow those of the rounds before.
+fn check_round(rt: &impl Abort, rob: &mut Rob, round: u32)
+    requires { round < 5 }
+{
+    let (first_pc, second_pc) = (8 * round, 8 * round + 4);
+    let oldest = u64::from(2 * round);
+    let youngest = oldest + 1;
+    check_equal(rt, push(rt, rob, first_pc), oldest);
+    check_equal(rt, push(rt, rob, second_pc), youngest);
+    check_equal(rt, rob.retired(), oldest);
+    check_equal(rt, pc_of(rob.get(youngest)), Some(second_pc));
+    check_equal(rt, pc_of(rob.get(youngest + 1)), None);
+    check_equal(rt, pc_of(rob.head()), Some(first_pc));
+    check_equal(rt, pc_of(rob.youngest()), Some(second_pc));
+    rob.pop_head();
+    check_equal(rt, pc_of(rob.get(oldest)), None);
+    check_equal(rt, pc_of(rob.head()), Some(second_pc));
+    rob.pop_head();
+    check_true(rt, rob.is_empty());
+    rob.pop_head();
 }
 
 #[test]
-fn cut_numbers_are_used_again(rt: HostRuntime) -> Result<(), Fail> {
-    let mut rob = Rob::new(rt.alloc(), &description(&rt, 4))?;
-    for pc in [0, 4, 8, 12] {
-        push(&rt, &mut rob, pc);
+fn numbers_go_on_while_the_ring_wraps_around(rt: HostRuntime) {
+    let mut rob = empty_rob(&rt, rt.alloc(), 3);
+    check_true(&rt, rob.is_empty());
+    for round in 0..5 {
+        check_round(&rt, &mut rob, round);
     }
+    check_equal(&rt, rob.retired(), 10);
+}
+
+#[test]
+fn cut_numbers_are_used_again(rt: HostRuntime) {
+    let mut rob = empty_rob(&rt, rt.alloc(), 4);
+    push(&rt, &mut rob, 0);
+    push(&rt, &mut rob, 4);
+    push(&rt, &mut rob, 8);
+    push(&rt, &mut rob, 12);
     check_true(&rt, rob.is_full());
     rob.pop_head();
     rob.cut(2);
     check_equal(&rt, rob.len(), 1);
     check_equal(&rt, rob.next_number(), 2);
     check_equal(&rt, push(&rt, &mut rob, 100), 2);
-    check_equal(&rt, rob.get(2).map(|entry| entry.pc), Some(100));
+    check_equal(&rt, pc_of(rob.get(2)), Some(100));
     rob.cut(0);
     check_equal(&rt, rob.next_number(), 1);
-    Ok(())
 }
 
-#[test]
-fn entry_keeps_the_issue_and_the_whole_message(rt: HostRuntime) -> Result<(), Fail> {
-    let mut rob = Rob::new(rt.alloc(), &description(&rt, 2))?;
-    let seq = push(&rt, &mut rob, 0x8000_0000);
-    let other = push(&rt, &mut rob, 0x8000_0004);
-    rob.start(seq, issue(), message());
-    let running = Entry {
+// The entry at a pc while it runs.
+fn running(pc: u32) -> Entry {
+    Entry {
         stage: Stage::Running {
             issue: issue(),
             message: message(),
         },
-        ..waiting(0x8000_0000)
-    };
-    check_equal(&rt, rob.head().copied(), Some(running));
-    rob.finish(seq, message(), 3);
-    rob.correct_prediction(seq, 0x8000_0040);
-    rob.finish(9, message(), 3);
-    let finished = Entry {
-        predicted_next: 0x8000_0040,
+        ..waiting(pc)
+    }
+}
+
+// The entry at a pc that finished in cycle 3, and the next pc that it predicts since.
+fn finished(pc: u32, predicted_next: u32) -> Entry {
+    Entry {
+        predicted_next,
         stage: Stage::Finished {
             issue: Some(issue()),
             cycle: 3,
             message: message(),
         },
-        ..waiting(0x8000_0000)
-    };
+        ..waiting(pc)
+    }
+}
+
+#[test]
+fn entry_keeps_the_issue_and_the_whole_message(rt: HostRuntime) {
+    let mut rob = empty_rob(&rt, rt.alloc(), 2);
+    let seq = push(&rt, &mut rob, 0x8000_0000);
+    let other = push(&rt, &mut rob, 0x8000_0004);
+    rob.start(seq, issue(), message());
+    check_equal(&rt, rob.head().copied(), Some(running(0x8000_0000)));
+    rob.finish(seq, message(), 3);
+    rob.correct_prediction(seq, 0x8000_0040);
+    rob.finish(9, message(), 3);
+    let finished = finished(0x8000_0000, 0x8000_0040);
     check_equal(&rt, rob.head().copied(), Some(finished));
     check_equal(&rt, rob.get(other).copied(), Some(waiting(0x8000_0004)));
-    Ok(())
 }

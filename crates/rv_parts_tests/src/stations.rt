@@ -1,7 +1,7 @@
-ghost use Rattle.std.specs.Prelude.{IsTrue};
+ghost use Rattle.std.specs.Prelude.{◌≤◌, IsTrue};
 ghost use Rattle.rv_stations.specs.Waiting.{IsOperand};
 
-use crate::checks::check_equal;
+use crate::checks::{check_equal, check_true, check_true_at};
 use rv_isa::{Description, Instr, Kind, KindValues, PerKind, Values};
 use rv_stations::{Operand, Stations, Waiting};
 use std::alloc::Global;
@@ -26,9 +26,11 @@ fn with_stations(rt: &impl Abort, alloc: Global, stations: u32) -> Box<Stations>
 }
 
 fn put(rt: &impl Abort, stations: &mut Stations, seq: u64, first: Operand, second: Operand) {
-    assert!(rt; !stations.is_full(Kind::Alu));
-    assert!(rt; stations.is_youngest(Kind::Alu, seq));
-    assert!(rt; is_in_range(first) && is_in_range(second));
+    check_true(
+        rt,
+        !stations.is_full(Kind::Alu) && stations.is_youngest(Kind::Alu, seq),
+    );
+    check_true(rt, is_in_range(first) && is_in_range(second));
     stations.insert(
         Kind::Alu,
         Waiting {
@@ -59,48 +61,45 @@ fn issue(rt: &impl Abort, stations: &mut Stations, seq: u64, value: u32) {
     check_equal(rt, issued.second, value);
 }
 
+// Puts instructions with numbers from one on into stations, each of which has an operand twice.
+fn put_each(rt: &impl Abort, stations: &mut Stations, first: u64, end: u64, operand: Operand) {
+    for seq in first..end {
+        put(rt, stations, seq, operand, operand);
+    }
+}
+
+// Checks that no instruction is ready in so many stations.
+fn check_none_ready(rt: &impl Abort, stations: &mut Stations, count: u32) {
+    let ready = stations.take_oldest_ready(Kind::Alu, |_| true);
+    check_true_at(rt, u64::from(count), ready.is_none());
+}
+
+// Checks that each value reaches the instructions that wait for it in so many stations.
+fn check_wakes(rt: &impl Abort, stations: &mut Stations, count: u32)
+    requires { 1 ≤ count }
+{
+    let last = u64::from(count) - 1;
+    put_each(rt, stations, 0, last, Operand::Tag(100));
+    put(rt, stations, last, Operand::Tag(200), Operand::Tag(200));
+    check_true_at(rt, u64::from(count), stations.is_full(Kind::Alu));
+    stations.wake(300, 3);
+    check_none_ready(rt, stations, count);
+    stations.wake(200, 2);
+    issue(rt, stations, last, 2);
+    check_none_ready(rt, stations, count);
+    stations.wake(100, 1);
+    for seq in 0..last {
+        issue(rt, stations, seq, 1);
+    }
+    check_none_ready(rt, stations, count);
+}
+
 // In lanes of eight, with and without a rest.
 #[test]
 fn wake_reaches_all_none_or_the_last(rt: HostRuntime) {
     for count in [1, 7, 8, 9, 63, 64] {
         let mut stations = with_stations(&rt, rt.alloc(), count);
-        let last = u64::from(count) - 1;
-        for seq in 0..last {
-            put(
-                &rt,
-                &mut stations,
-                seq,
-                Operand::Tag(100),
-                Operand::Tag(100),
-            );
-        }
-        put(
-            &rt,
-            &mut stations,
-            last,
-            Operand::Tag(200),
-            Operand::Tag(200),
-        );
-        assert!(rt; stations.is_full(Kind::Alu), "{count} stations");
-        stations.wake(300, 3);
-        assert!(rt;
-            stations.take_oldest_ready(Kind::Alu, |_| true).is_none(),
-            "{count} stations"
-        );
-        stations.wake(200, 2);
-        issue(&rt, &mut stations, last, 2);
-        assert!(rt;
-            stations.take_oldest_ready(Kind::Alu, |_| true).is_none(),
-            "{count} stations"
-        );
-        stations.wake(100, 1);
-        for seq in 0..last {
-            issue(&rt, &mut stations, seq, 1);
-        }
-        assert!(rt;
-            stations.take_oldest_ready(Kind::Alu, |_| true).is_none(),
-            "{count} stations"
-        );
+        check_wakes(&rt, &mut stations, count);
     }
 }
 
@@ -115,24 +114,19 @@ fn one_operand_of_two_is_not_enough(rt: HostRuntime) {
     issue(&rt, &mut stations, 5, 7);
 }
 
+// The number of the oldest ready instruction but one, which is taken out.
+fn take_but(stations: &mut Stations, seq: u64) -> Option<u64> {
+    match stations.take_oldest_ready(Kind::Alu, |waiting| waiting.seq != seq) {
+        Some(ready) => Some(ready.seq),
+        None => None,
+    }
+}
+
 #[test]
 fn the_filter_passes_by_older_instructions(rt: HostRuntime) {
     let mut stations = with_stations(&rt, rt.alloc(), 4);
-    for seq in 5..8 {
-        put(
-            &rt,
-            &mut stations,
-            seq,
-            Operand::Value(1),
-            Operand::Value(1),
-        );
-    }
-    let second = stations.take_oldest_ready(Kind::Alu, |waiting| waiting.seq != 5);
-    let seq = match &second {
-        Some(waiting) => waiting.seq,
-        None => 0,
-    };
-    assert_eq!(rt; seq, 6);
+    put_each(&rt, &mut stations, 5, 8, Operand::Value(1));
+    check_equal(&rt, take_but(&mut stations, 5), Some(6));
     issue(&rt, &mut stations, 5, 1);
     issue(&rt, &mut stations, 7, 1);
 }
@@ -140,18 +134,10 @@ fn the_filter_passes_by_older_instructions(rt: HostRuntime) {
 #[test]
 fn squashed_numbers_come_again(rt: HostRuntime) {
     let mut stations = with_stations(&rt, rt.alloc(), 4);
-    for seq in 5..9 {
-        put(
-            &rt,
-            &mut stations,
-            seq,
-            Operand::Value(1),
-            Operand::Value(1),
-        );
-    }
+    put_each(&rt, &mut stations, 5, 9, Operand::Value(1));
     stations.squash(6);
     put(&rt, &mut stations, 6, Operand::Value(2), Operand::Value(2));
     issue(&rt, &mut stations, 5, 1);
     issue(&rt, &mut stations, 6, 2);
-    assert!(rt; stations.take_oldest_ready(Kind::Alu, |_| true).is_none());
+    check_none_ready(&rt, &mut stations, 4);
 }

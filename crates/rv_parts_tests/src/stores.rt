@@ -1,16 +1,17 @@
 ghost use Rattle.std.specs.Prelude.{◌≤◌, length};
 
-use crate::checks::{check_equal, check_true};
+use crate::checks::{check_equal, check_equal_at, check_true};
 use rv_isa::{Description, StoreAccess, StoreBytes, Values};
 use rv_stores::{Store, StorePhase, StoreQueue, StoreState};
-use std::test::Fail;
+use std::alloc::Global;
+use std::process::Abort;
 
 // A queue for 64 stores.
-fn large_queue(rt: &HostRuntime) -> Result<StoreQueue, Fail> {
+fn large_queue(rt: &impl Abort, alloc: Global) -> StoreQueue {
     let mut values = Values::standard();
     values.store_queue = 64;
-    let description = Description::new(values).ok_or("a legal description")?;
-    Ok(StoreQueue::new(rt.alloc(), &description)?)
+    let description = Description::new(values).expect(rt, "a legal description");
+    StoreQueue::new(alloc, &description).expect(rt, "a queue")
 }
 
 // What a store writes from an address on.
@@ -21,6 +22,13 @@ fn access(address: u32, bytes: &[u8]) -> StoreAccess
         address,
         bytes: StoreBytes::from_slice(bytes),
     }
+}
+
+// Puts a store of some bytes into the queue.
+fn put(rt: &impl Abort, queue: &mut StoreQueue, seq: u64, address: u32, bytes: &[u8]) {
+    check_true(rt, queue.can_enter(seq) && bytes.len() <= 4);
+    queue.enter(seq);
+    queue.fill(seq, access(address, bytes));
 }
 
 // What a plain list of stores gives for one byte: the last that was put in and covers it.
@@ -43,60 +51,71 @@ fn plain_byte(stores: &[PlainStore], seq: u64, address: u32) -> Option<u8> {
     byte
 }
 
+// The store that a random number gives, which begins at a multiple of its width.
+fn random_store(seq: u64, random: u32) -> PlainStore
+    ensures { result.width ≤ 4 }
+{
+    let width = match (random >> 10) % 3 {
+        0 => 1u32,
+        1 => 2,
+        _ => 4,
+    };
+    PlainStore {
+        seq,
+        address: 0x8000_0000 + ((random >> 20) & 7) / width * width,
+        width,
+        data: random,
+    }
+}
+
+// Puts a store that faults into the queue.
+fn put_fault(rt: &impl Abort, queue: &mut StoreQueue, seq: u64) {
+    check_true(rt, queue.can_enter(seq));
+    queue.enter(seq);
+    queue.fill_fault(seq);
+}
+
+// Checks each byte that a load takes of the queue by a plain list of its stores.
+fn check_overlays(rt: &impl Abort, queue: &StoreQueue, plain: &[PlainStore], load: u64) {
+    for address in 0x8000_0000..0x8000_0008 {
+        let [byte, ..] = queue.overlay(load, address, 1);
+        check_equal_at(rt, address, byte, plain_byte(plain, load, address));
+    }
+}
+
 #[test]
-fn mixed_widths_forward_as_a_plain_list_of_stores(rt: HostRuntime) -> Result<(), Fail> {
-    let mut queue = large_queue(&rt)?;
+fn mixed_widths_forward_as_a_plain_list_of_stores(rt: HostRuntime) {
+    let mut queue = large_queue(&rt, rt.alloc());
     let mut plain = Vec::new(rt.alloc());
     let mut random = 1u32;
     for seq in 0..64u64 {
         random = random.wrapping_mul(1_664_525).wrapping_add(1_013_904_223);
-        let data = random;
-        let bytes = data.to_le_bytes();
-        let width = match (random >> 10) % 3 {
-            0 => 1u32,
-            1 => 2,
-            _ => 4,
-        };
-        let address = 0x8000_0000 + ((random >> 20) & 7) / width * width;
-        check_true(&rt, queue.can_enter(seq));
-        queue.enter(seq);
         if seq % 5 == 3 {
-            queue.fill_fault(seq);
+            put_fault(&rt, &mut queue, seq);
         } else {
-            queue.fill(seq, access(address, &bytes[..width as usize]));
-            plain.push(PlainStore {
+            let store = random_store(seq, random);
+            let bytes = store.data.to_le_bytes();
+            put(
+                &rt,
+                &mut queue,
                 seq,
-                address,
-                width,
-                data,
-            })?;
+                store.address,
+                &bytes[..store.width as usize],
+            );
+            plain.push(store).expect(&rt, "room for a store");
         }
-        for load in [seq, seq / 2, seq + 1] {
-            for address in 0x8000_0000..0x8000_0008 {
-                let [byte, ..] = queue.overlay(load, address, 1);
-                assert_eq!(rt;
-                    byte,
-                    plain_byte(plain.as_slice(), load, address),
-                    "at {address:x}"
-                );
-            }
-        }
+        check_overlays(&rt, &queue, plain.as_slice(), seq);
+        check_overlays(&rt, &queue, plain.as_slice(), seq / 2);
+        check_overlays(&rt, &queue, plain.as_slice(), seq + 1);
     }
-    Ok(())
 }
 
 #[test]
-fn a_load_takes_each_byte_from_the_youngest_older_store(rt: HostRuntime) -> Result<(), Fail> {
-    let mut queue = large_queue(&rt)?;
-    for (seq, address, bytes) in [
-        (3, 0x100, [0x11u8, 0x22, 0x33, 0x44].as_slice()),
-        (5, 0x101, &[0x7f]),
-        (9, 0x102, &[1, 2]),
-    ] {
-        check_true(&rt, queue.can_enter(seq) && bytes.len() <= 4);
-        queue.enter(seq);
-        queue.fill(seq, access(address, bytes));
-    }
+fn a_load_takes_each_byte_from_the_youngest_older_store(rt: HostRuntime) {
+    let mut queue = large_queue(&rt, rt.alloc());
+    put(&rt, &mut queue, 3, 0x100, &[0x11, 0x22, 0x33, 0x44]);
+    put(&rt, &mut queue, 5, 0x101, &[0x7f]);
+    put(&rt, &mut queue, 9, 0x102, &[1, 2]);
     check_equal(
         &rt,
         queue.overlay(9, 0x100, 4),
@@ -113,14 +132,11 @@ fn a_load_takes_each_byte_from_the_youngest_older_store(rt: HostRuntime) -> Resu
         [Some(1), Some(2), None, None],
     );
     check_equal(&rt, queue.overlay(3, 0x100, 4), [None; 4]);
-    Ok(())
 }
 
 #[test]
-fn a_store_drains_after_its_commit_and_forwards_until_the_drain_ends(
-    rt: HostRuntime,
-) -> Result<(), Fail> {
-    let mut queue = large_queue(&rt)?;
+fn a_store_drains_after_its_commit_and_forwards_until_the_drain_ends(rt: HostRuntime) {
+    let mut queue = large_queue(&rt, rt.alloc());
     check_true(&rt, queue.is_empty() && queue.can_enter(1));
     queue.enter(1);
     check_true(&rt, queue.first_unknown() == Some(1));
@@ -136,24 +152,19 @@ fn a_store_drains_after_its_commit_and_forwards_until_the_drain_ends(
     check_true(&rt, !queue.can_drain());
     queue.end_drain();
     check_true(&rt, queue.is_empty());
-    Ok(())
 }
 
 #[test]
-fn a_squash_keeps_the_older_stores_and_a_trap_the_committed_ones(
-    rt: HostRuntime,
-) -> Result<(), Fail> {
-    let mut queue = large_queue(&rt)?;
-    for seq in [2, 4, 6, 8] {
-        check_true(&rt, queue.can_enter(seq));
-        queue.enter(seq);
-        queue.fill(seq, access(0x300, &[seq as u8]));
-    }
+fn a_squash_keeps_the_older_stores_and_a_trap_the_committed_ones(rt: HostRuntime) {
+    let mut queue = large_queue(&rt, rt.alloc());
+    put(&rt, &mut queue, 2, 0x300, &[2]);
+    put(&rt, &mut queue, 4, 0x300, &[4]);
+    put(&rt, &mut queue, 6, 0x300, &[6]);
+    put(&rt, &mut queue, 8, 0x300, &[8]);
     queue.commit_oldest();
     queue.squash(7);
     check_equal(&rt, queue.overlay(9, 0x300, 1), [Some(6), None, None, None]);
     queue.squash_uncommitted();
     check_equal(&rt, queue.overlay(9, 0x300, 1), [Some(2), None, None, None]);
     check_true(&rt, !queue.is_full() && queue.can_enter(4));
-    Ok(())
 }

@@ -1,5 +1,7 @@
 //! A program on the reference, and what it leaves.
 
+use crate::checks::{check_equal, check_equal_at, check_true};
+use crate::words::bytes_of;
 use rv_arch::{Observed, Reference, Stop, run_reference};
 use rv_isa::{Arrival, Arrivals, Line, Lines};
 use std::alloc::Global;
@@ -34,14 +36,8 @@ pub(super) fn machine(
     words: &[u32],
     rom_bytes: u32,
 ) -> Box<Reference> {
-    let mut bytes = Vec::new(alloc);
-    for word in words {
-        bytes
-            .extend_from_slice(&word.to_le_bytes())
-            .expect(rt, "room for a word");
-    }
-    assert!(rt; bytes.len() <= SIZE as usize);
-    assert!(rt; rom_bytes <= SIZE);
+    let bytes = bytes_of(rt, alloc, words);
+    check_true(rt, bytes.len() <= SIZE as usize && rom_bytes <= SIZE);
     let reference = Reference::new(alloc, BASE, SIZE, rom_bytes, bytes.as_slice(), BASE).expect(
         rt,
         "room for the machine",
@@ -51,12 +47,13 @@ pub(super) fn machine(
 
 /// Each line has its level from a cycle on.
 pub(super) fn arrivals(rt: &impl Abort, alloc: Global, cycle: u64, lines: Lines) -> Arrivals {
-    let mut items = Vec::new(alloc);
-    for (line, level) in [
+    let levels = [
         (Line::Software, lines.software),
         (Line::Timer, lines.timer),
         (Line::External, lines.external),
-    ] {
+    ];
+    let mut items = Vec::new(alloc);
+    for (line, level) in levels {
         items
             .push(Arrival { cycle, line, level })
             .expect(rt, "room for an arrival");
@@ -90,17 +87,42 @@ pub(super) fn check(rt: &impl Abort, alloc: Global, case: &Case) -> Observed {
     let arrivals = arrivals(rt, alloc, 0, case.lines);
     let mut reference = machine(rt, alloc, case.words, case.rom_bytes);
     let outcome = run_reference(&mut reference, &arrivals, 1000);
-    assert_eq!(rt; outcome.stop, Stop::Breakpoint);
-    assert_eq!(rt; outcome.traps, case.traps);
-    assert_eq!(rt; outcome.interrupts, case.interrupts);
     let seen = reference.observe();
-    for (register, value) in case.registers {
-        holds(rt, &seen, *register, *value);
-    }
+    check_equal(rt, outcome.stop, Stop::Breakpoint);
+    check_equal(
+        rt,
+        (outcome.traps, outcome.interrupts),
+        (case.traps, case.interrupts),
+    );
+    check_registers(rt, &seen, case.registers);
     seen
 }
 
+/// Checks what each program of a list leaves.
+pub(super) fn check_each(rt: &impl Abort, alloc: Global, cases: &[Case]) {
+    for case in cases {
+        check(rt, alloc, case);
+    }
+}
+
+fn check_registers(rt: &impl Abort, seen: &Observed, registers: &[(usize, u32)]) {
+    for (register, value) in registers {
+        holds(rt, seen, *register, *value);
+    }
+}
+
+/// Checks a register. A failure shows its number.
 pub(super) fn holds(rt: &impl Abort, seen: &Observed, register: usize, value: u32) {
-    assert!(rt; register < 32);
-    assert_eq!(rt; seen.regs[register], value, "x{register}");
+    check_true(rt, register < 32);
+    check_equal(rt, (register, seen.regs[register]), (register, value));
+}
+
+/// Checks the control and status register at an address.
+pub(super) fn check_csr(rt: &impl Abort, seen: &Observed, address: u32, value: u32) {
+    check_equal_at(
+        rt,
+        address,
+        seen.csrs.read(address, seen.lines),
+        Some(value),
+    );
 }

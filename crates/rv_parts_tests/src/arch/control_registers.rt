@@ -4,7 +4,7 @@
 ghost use Rattle.std.specs.Prelude.{◌<◌};
 
 use super::cases::{HIGH, LOW, TIMER};
-use crate::checks::check_equal;
+use crate::checks::{check_equal, check_equal_at, check_true};
 use rv_arch::{CsrOperand, Csrs};
 use rv_isa::{CsrAddress, CsrOp, Lines};
 use std::process::Abort;
@@ -29,34 +29,32 @@ fn write(rt: &impl Abort, csrs: &mut Csrs, address: u32, value: u32)
         field_is_zero: false,
     };
     let access = csrs.csr_access(CsrOp::Write, CsrAddress::from_field(address), source, LOW);
-    assert!(rt; access.is_ok());
+    check_true(rt, access.is_ok());
 }
 
 // The addresses, and what is read there once the test has written.
-fn values() -> [(u32, Option<u32>); 20] {
-    [
-        (0x300, Some(0x1880)),
-        (0x301, Some(0x4000_1100)),
-        (0x302, None),
-        (0x304, Some(0x808)),
-        (0x305, Some(0x100)),
-        (0x306, None),
-        (0x310, Some(0)),
-        (0x340, Some(0x340)),
-        (0x341, Some(0x344)),
-        (0x342, Some(0x342)),
-        (0x343, Some(0x343)),
-        (0x344, Some(0x88)),
-        (0xb00, None),
-        (0xf10, None),
-        (0xf11, Some(0)),
-        (0xf12, Some(0)),
-        (0xf13, Some(0)),
-        (0xf14, Some(0)),
-        (0xf15, Some(0)),
-        (0xf16, None),
-    ]
-}
+const VALUES: [(u32, Option<u32>); 20] = [
+    (0x300, Some(0x1880)),
+    (0x301, Some(0x4000_1100)),
+    (0x302, None),
+    (0x304, Some(0x808)),
+    (0x305, Some(0x100)),
+    (0x306, None),
+    (0x310, Some(0)),
+    (0x340, Some(0x340)),
+    (0x341, Some(0x344)),
+    (0x342, Some(0x342)),
+    (0x343, Some(0x343)),
+    (0x344, Some(0x88)),
+    (0xb00, None),
+    (0xf10, None),
+    (0xf11, Some(0)),
+    (0xf12, Some(0)),
+    (0xf13, Some(0)),
+    (0xf14, Some(0)),
+    (0xf15, Some(0)),
+    (0xf16, None),
+];
 
 #[test]
 fn each_register_stands_at_its_address(rt: HostRuntime) {
@@ -73,8 +71,8 @@ fn each_register_stands_at_its_address(rt: HostRuntime) {
         timer: true,
         ..SOFTWARE
     };
-    for (address, value) in values() {
-        assert_eq!(rt; csrs.read(address, lines), value, "{address:03x}");
+    for (address, value) in &VALUES {
+        check_equal_at(&rt, *address, csrs.read(*address, lines), *value);
     }
 }
 
@@ -110,32 +108,30 @@ fn mret_undoes_a_trap(rt: HostRuntime) {
 }
 
 // What mie has, the lines, and the code that is due.
-fn due_interrupts() -> [(u32, Lines, Option<u32>); 12] {
-    [
-        (0x888, HIGH, Some(11)),
-        (0x088, HIGH, Some(3)),
-        (0x080, HIGH, Some(7)),
-        (0x880, HIGH, Some(11)),
-        (0x888, SOFTWARE, Some(3)),
-        (0x888, TIMER, Some(7)),
-        (0x888, EXTERNAL, Some(11)),
-        (0x808, TIMER, None),
-        (0x880, SOFTWARE, None),
-        (0x088, EXTERNAL, None),
-        (0x888, LOW, None),
-        (0x000, HIGH, None),
-    ]
-}
+const DUE_INTERRUPTS: [(u32, Lines, Option<u32>); 12] = [
+    (0x888, HIGH, Some(11)),
+    (0x088, HIGH, Some(3)),
+    (0x080, HIGH, Some(7)),
+    (0x880, HIGH, Some(11)),
+    (0x888, SOFTWARE, Some(3)),
+    (0x888, TIMER, Some(7)),
+    (0x888, EXTERNAL, Some(11)),
+    (0x808, TIMER, None),
+    (0x880, SOFTWARE, None),
+    (0x088, EXTERNAL, None),
+    (0x888, LOW, None),
+    (0x000, HIGH, None),
+];
 
 // An interrupt is due where its bit is 1 in mie and in mip: external first, then software, then
 // timer.
 #[test]
 fn due_interrupt_is_the_first_enabled(rt: HostRuntime) {
-    for (enabled, lines, code) in due_interrupts() {
+    for (enabled, lines, code) in &DUE_INTERRUPTS {
         let mut csrs = Csrs::reset();
-        write(&rt, &mut csrs, 0x304, enabled);
-        check_equal(&rt, csrs.due_interrupt(lines), None);
+        write(&rt, &mut csrs, 0x304, *enabled);
+        check_equal(&rt, csrs.due_interrupt(*lines), None);
         write(&rt, &mut csrs, 0x300, 8);
-        assert_eq!(rt; csrs.due_interrupt(lines), code, "{enabled:03x}");
+        check_equal_at(&rt, *enabled, csrs.due_interrupt(*lines), *code);
     }
 }

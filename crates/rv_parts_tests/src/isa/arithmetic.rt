@@ -1,14 +1,23 @@
+use crate::checks::check_equal;
 use rv_isa::{AluOp, Instr, Kind, Reg, alu, kind};
+use std::process::Abort;
 
 const LEAST: u32 = 0x8000_0000;
 
 const MINUS_ONE: u32 = 0xffff_ffff;
 
+// Checks an operation's value for each pair of operands. A failure shows the operation.
+fn check_values(rt: &impl Abort, cases: &[(AluOp, u32, u32, u32)]) {
+    for (op, a, b, value) in cases {
+        check_equal(rt, (*op, alu(*op, *a, *b)), (*op, *value));
+    }
+}
+
 // Worked by hand from Unprivileged ISA 20191213, 2.4, 7.1 and 7.2, and Zba: 0xffff_fff8 is -8,
 // 0xffff_fff9 is -7, 0xffff_fffd is -3 and 0xffff_fffe is -2.
 #[test]
 fn each_operation_has_its_own_values(rt: HostRuntime) {
-    let cases = [
+    const CASES: [(AluOp, u32, u32, u32); 29] = [
         (AluOp::Add, 0xffff_fff8, 0x10, 8),
         (AluOp::Add, 3, 5, 8),
         (AluOp::Sub, 3, 5, 0xffff_fffe),
@@ -39,15 +48,13 @@ fn each_operation_has_its_own_values(rt: HostRuntime) {
         (AluOp::Sh2add, 0x4000_0003, 10, 22),
         (AluOp::Sh3add, 0x2000_0003, 10, 34),
     ];
-    for (op, a, b, value) in cases {
-        assert_eq!(rt; alu(op, a, b), value);
-    }
+    check_values(&rt, &CASES);
 }
 
 // Unprivileged ISA 20191213, table 7.1, and the products of the least number.
 #[test]
 fn products_and_quotients_at_the_ends_of_the_range(rt: HostRuntime) {
-    let cases = [
+    const CASES: [(AluOp, u32, u32, u32); 14] = [
         (AluOp::Div, LEAST, MINUS_ONE, LEAST),
         (AluOp::Rem, LEAST, MINUS_ONE, 0),
         (AluOp::Divu, LEAST, MINUS_ONE, 0),
@@ -63,14 +70,22 @@ fn products_and_quotients_at_the_ends_of_the_range(rt: HostRuntime) {
         (AluOp::Sra, LEAST, 33, 0xc000_0000),
         (AluOp::Sh3add, 0x8000_0001, 0x10, 0x18),
     ];
-    for (op, a, b, value) in cases {
-        assert_eq!(rt; alu(op, a, b), value);
-    }
+    check_values(&rt, &CASES);
+}
+
+// The kind of the instruction that has an operation.
+fn kind_of(op: AluOp) -> Option<Kind> {
+    kind(&Instr::Op {
+        op,
+        rd: Reg::ZERO,
+        rs1: Reg::ZERO,
+        rs2: Reg::ZERO,
+    })
 }
 
 #[test]
 fn multiplications_and_divisions_have_kinds_of_their_own(rt: HostRuntime) {
-    let cases = [
+    const CASES: [(AluOp, Kind); 21] = [
         (AluOp::Add, Kind::Alu),
         (AluOp::Sub, Kind::Alu),
         (AluOp::Sll, Kind::Alu),
@@ -93,8 +108,7 @@ fn multiplications_and_divisions_have_kinds_of_their_own(rt: HostRuntime) {
         (AluOp::Sh2add, Kind::Alu),
         (AluOp::Sh3add, Kind::Alu),
     ];
-    let (rd, rs1, rs2) = (Reg::ZERO, Reg::ZERO, Reg::ZERO);
-    for (op, unit) in cases {
-        assert_eq!(rt; kind(&Instr::Op { op, rd, rs1, rs2 }), Some(unit));
+    for (op, unit) in &CASES {
+        check_equal(&rt, (*op, kind_of(*op)), (*op, Some(*unit)));
     }
 }

@@ -1,10 +1,11 @@
+use crate::checks::check_equal;
 use rv_isa::{Condition, branch_taken};
 
 // Unprivileged ISA 20191213, 2.5: of -1 (or 2^32 - 1) and 1, of 1 and -1,
 // of 5 and 5, and of 2 and 3.
 #[test]
 fn each_condition_tells_signed_from_unsigned(rt: HostRuntime) {
-    let cases = [
+    const CASES: [(Condition, [bool; 4]); 6] = [
         (Condition::Equal, [false, false, true, false]),
         (Condition::NotEqual, [true, true, false, true]),
         (Condition::LessThan, [true, false, false, true]),
@@ -15,15 +16,13 @@ fn each_condition_tells_signed_from_unsigned(rt: HostRuntime) {
             [true, false, true, false],
         ),
     ];
-    for (condition, taken) in cases {
-        assert_eq!(rt;
-            [
-                branch_taken(condition, 0xffff_ffff, 1),
-                branch_taken(condition, 1, 0xffff_ffff),
-                branch_taken(condition, 5, 5),
-                branch_taken(condition, 2, 3),
-            ],
-            taken
-        );
+    for (condition, taken) in &CASES {
+        let found = [
+            branch_taken(*condition, 0xffff_ffff, 1),
+            branch_taken(*condition, 1, 0xffff_ffff),
+            branch_taken(*condition, 5, 5),
+            branch_taken(*condition, 2, 3),
+        ];
+        check_equal(&rt, (*condition, found), (*condition, *taken));
     }
 }

@@ -1,13 +1,26 @@
-use rv_isa::{CacheValues, Description, Kind, KindValues, PerKind, Recovery, Values};
+use crate::checks::{check_equal, check_true};
+use rv_isa::{CacheValues, Description, KindValues, PerKind, Recovery, Values};
+
+// A kind's values with one station and one unit.
+fn single(kind: KindValues) -> KindValues {
+    KindValues {
+        stations: 1,
+        units: 1,
+        ..kind
+    }
+}
+
+// The gap bound of legal values.
+fn gap_bound(values: Values) -> Option<u64> {
+    match Description::new(values) {
+        Some(description) => Some(description.gap_bound()),
+        None => None,
+    }
+}
 
 #[test]
 fn the_gap_bound_of_three_machines(rt: HostRuntime) {
     let standard = Values::standard();
-    let one = |kind| KindValues {
-        stations: 1,
-        units: 1,
-        ..*standard.kinds.get(kind)
-    };
     let cache = CacheValues {
         sets: 1,
         ways: 1,
@@ -24,10 +37,10 @@ fn the_gap_bound_of_three_machines(rt: HostRuntime) {
         store_queue: 1,
         recovery: Recovery::Early,
         kinds: PerKind {
-            alu: one(Kind::Alu),
-            mul: one(Kind::Mul),
-            div: one(Kind::Div),
-            mem: one(Kind::Mem),
+            alu: single(standard.kinds.alu),
+            mul: single(standard.kinds.mul),
+            div: single(standard.kinds.div),
+            mem: single(standard.kinds.mem),
         },
         cache,
         ..standard
@@ -55,13 +68,9 @@ fn the_gap_bound_of_three_machines(rt: HostRuntime) {
         },
         ..standard
     };
-    let cases = [(standard, 1056), (least, 289), (greatest, 8_337_424)];
-    for (values, bound) in cases {
-        assert_eq!(rt;
-            Description::new(values).map(|d| d.gap_bound()),
-            Some(bound)
-        );
-    }
+    check_equal(&rt, gap_bound(standard), Some(1056));
+    check_equal(&rt, gap_bound(least), Some(289));
+    check_equal(&rt, gap_bound(greatest), Some(8_337_424));
 }
 
 #[test]
@@ -71,5 +80,5 @@ fn a_front_longer_than_ram_is_refused(rt: HostRuntime) {
         rom_bytes: 8192,
         ..Values::standard()
     };
-    assert!(rt; Description::new(values).is_none());
+    check_true(&rt, Description::new(values).is_none());
 }

@@ -1,12 +1,15 @@
+use crate::checks::check_equal;
 use rv_isa::{StoreBytes, Width};
 
 #[test]
 fn the_low_bytes_of_a_word_come_first(rt: HostRuntime) {
-    let word = 0x0403_0281;
-    let bytes = [0x81, 2, 3, 4];
-    let cases = [(Width::Byte, 1), (Width::Half, 2), (Width::Word, 4)];
-    for (width, count) in cases {
-        let stored = StoreBytes::of_word(width, word);
-        assert_eq!(rt; stored.as_slice(), &bytes[..count]);
+    const CASES: [(Width, &[u8]); 3] = [
+        (Width::Byte, &[0x81]),
+        (Width::Half, &[0x81, 2]),
+        (Width::Word, &[0x81, 2, 3, 4]),
+    ];
+    for (width, bytes) in &CASES {
+        let stored = StoreBytes::of_word(*width, 0x0403_0281);
+        check_equal(&rt, stored.as_slice(), *bytes);
     }
 }

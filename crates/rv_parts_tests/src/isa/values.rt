@@ -1,14 +1,22 @@
+use crate::checks::check_equal;
 use rv_isa::{Kind, Values};
 
 #[test]
 fn each_kind_has_its_own_values(rt: HostRuntime) {
+    const CASES: [(Kind, u32, u32, bool); 4] = [
+        (Kind::Alu, 2, 1, true),
+        (Kind::Mul, 1, 3, true),
+        (Kind::Div, 1, 16, false),
+        (Kind::Mem, 1, 1, true),
+    ];
+    check_equal(&rt, Kind::ALL, [Kind::Alu, Kind::Mul, Kind::Div, Kind::Mem]);
     let values = Values::standard();
-    let cases = [(2, 1, true), (1, 3, true), (1, 16, false), (1, 1, true)];
-    for (kind, (units, latency, pipelined)) in Kind::ALL.into_iter().zip(cases) {
-        let found = values.kinds.get(kind);
-        assert_eq!(rt;
-            (found.units, found.latency, found.pipelined),
-            (units, latency, pipelined)
+    for case in &CASES {
+        let found = values.kinds.get(case.0);
+        check_equal(
+            &rt,
+            (case.0, found.units, found.latency, found.pipelined),
+            *case,
         );
     }
 }
