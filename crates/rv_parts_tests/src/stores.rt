@@ -75,11 +75,11 @@ fn put_fault(rt: &impl Abort, queue: &mut StoreQueue, seq: u64) {
     queue.fill_fault(seq);
 }
 
-// Checks each byte that a load takes of the queue by a plain list of its stores.
+// Checks each byte that a load takes of the queue by a plain list of its stores, and that it takes no byte behind it.
 fn check_overlays(rt: &impl Abort, queue: &StoreQueue, plain: &[PlainStore], load: u64) {
     for address in 0x8000_0000..0x8000_0008 {
-        let [byte, ..] = queue.overlay(load, address, 1);
-        check_equal_at(rt, address, byte, plain_byte(plain, load, address));
+        let expected = [plain_byte(plain, load, address), None, None, None];
+        check_equal_at(rt, address, queue.overlay(load, address, 1), expected);
     }
 }
 
