@@ -39,6 +39,10 @@ impl CsrOperand {
 pub struct Illegal;
 
 impl fmt::Display for Illegal {
+    ghost use Rattle.std.specs.Prelude.{Some, codes};
+
+    ghost output = { λ _. Some (codes "illegal access to a control and status register") };
+
     fn fmt<W: fmt::Write>(&self, f: &mut fmt::Formatter<W>) -> fmt::Result {
         f.write_str("illegal access to a control and status register")
     }

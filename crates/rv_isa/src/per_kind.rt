@@ -1,4 +1,4 @@
-ghost use Rattle.std.specs.Prelude.{◌≡◌, Ok, IfOk};
+ghost use Rattle.std.specs.Prelude.{◌≡◌, ◌⊎◌, Ok, Err, IfOk, IfErr};
 ghost use Rattle.std.specs.Borrow.{sem};
 
 use crate::operations::Kind;
@@ -14,14 +14,16 @@ pub struct PerKind<T> {
 }
 
 impl<T: Drop> PerKind<T> {
-    /// The parts of the four kinds, where there was memory for each. The only error is want of memory.
+    /// The parts of the four kinds, where there was memory for each. The error is that of one of the four, which was
+    /// refused memory.
     pub fn try_new(
         alu: Result<T, AllocError>,
         mul: Result<T, AllocError>,
         div: Result<T, AllocError>,
         mem: Result<T, AllocError>,
     ) -> Result<PerKind<T>, AllocError>
-        ensures { IfOk result (λ parts. (alu ≡ Ok parts.alu) × (mul ≡ Ok parts.mul) × (div ≡ Ok parts.div) × (mem ≡ Ok parts.mem)) }
+        ensures made { IfOk result (λ parts. (alu ≡ Ok parts.alu) × (mul ≡ Ok parts.mul) × (div ≡ Ok parts.div) × (mem ≡ Ok parts.mem)) }
+        ensures refused { IfErr result (λ e. (alu ≡ Err e) ⊎ ((mul ≡ Err e) ⊎ ((div ≡ Err e) ⊎ (mem ≡ Err e)))) }
     {
         Ok(PerKind {
             alu: alu?,
