@@ -5,7 +5,7 @@ use Rattle.rv_memory.specs.Bytes.{overwritten}
 use Rattle.rv_cache.specs.declared.line.CacheLine.{CacheLine}
 use Rattle.rv_cache.specs.Line.{is_held}
 use Rattle.rv_cache.specs.Replacement.{accessed, victim}
-use Rattle.rv_cache.specs.WriteBack.{victim_written}
+use Rattle.rv_cache.specs.WriteBack.{sets_written, victim_written}
 
 -- the bytes that a program sees from address base on, for each set its lines, most recently used first, and the backing
 pub record Contents (M : Type 0) : Type 0 where
@@ -59,6 +59,10 @@ module _ {M : Type 0} where
   -- the bytes of memory once the dirty line that an access drops was written there
   abbrev pub memory_after : Contents M → ℕ → List ℕ → List ℕ
   memory_after cache address memory = victim_written cache.base cache.values.line cache.bytes (evicted cache address) memory
+
+  -- the bytes of memory once every dirty line was written there
+  abbrev pub memory_written_back : Contents M → List ℕ → List ℕ
+  memory_written_back cache memory = sets_written cache.base cache.values.line cache.bytes cache.sets memory
 
   -- the address lies in the cached memory
   abbrev pub IsCached : Contents M → ℕ → Type 0

@@ -2,7 +2,7 @@ ghost use Rattle.std.specs.Prelude.{◌≡◌, ◌+◌, ◌-◌, ◌%◌, ◌^�
 ghost use Rattle.rv_isa.specs.Description.{IsLegalCost, IsRamBase};
 ghost use Rattle.rv_memory.specs.Bytes.{overwritten};
 ghost use Rattle.rv_cache.specs.Line.{cleaned, dirty_total};
-ghost use Rattle.rv_cache.specs.Cache.{IsAccess, IsAligned, IsCached, IsInMemory, IsUpdated, IsUpdatedElsewhere, access_cost, accessed_sets, cost_of_access, memory_after, seen, seen_after};
+ghost use Rattle.rv_cache.specs.Cache.{IsAccess, IsAligned, IsCached, IsInMemory, IsUpdated, IsUpdatedElsewhere, access_cost, accessed_sets, cost_of_access, memory_after, memory_written_back, seen, seen_after};
 
 use crate::set::{Access, Set};
 use crate::write_back::{write_back_sets, write_back_victim};
@@ -121,6 +121,7 @@ impl<M: Backing> Cache<M> {
     pub fn write_back_all(&mut self) -> u32
         ensures count { result ≡ dirty_total self.old.sets }
         ensures cleaned { self.new ≡ record self.old { sets = map (map cleaned) self.old.sets; backing = self.new.backing } }
+        ensures by_lines { M.bytes self.new.backing ≡ memory_written_back self.old (M.bytes self.old.backing) }
         ensures written { M.bytes self.new.backing ≡ self.old.bytes }
         ensures kept { M.keeps self.old.backing self.new.backing }
     {

@@ -1,11 +1,13 @@
 -- The drain phase changes nothing that programs see.
-use Rattle.std.proofs.Common.{◌≡◌, ℕ, ◌-◌, Bool, true, false, nat_le, List, [], ◌∷◌, length, get_or, Option, Some, None, refl, sym, ap, ◌∙◌, inl, inr, true≢false}
+use Rattle.std.proofs.Common.{◌≡◌, ℕ, ◌+◌, ◌-◌, ◌≤◌, Bool, true, false, nat_le, List, [], ◌∷◌, length, get_or, Option, Some, None, refl, sym, ap, ◌∙◌, inl, inr, true≢false, arith}
 use Rattle.std.specs.Prelude.{if◌then◌else◌}
 use Rattle.rv_isa.specs.declared.broadcast.StoreAccess.{StoreAccess}
 use Rattle.rv_isa.specs.declared.values.Values.{Values}
 use Rattle.rv_arch.specs.State.{State}
 use Rattle.rv_memory.specs.Bytes.{overwritten}
+use Rattle.rv_cache.specs.Consistent.{IsConsistent}
 use Rattle.rv_cache.specs.WriteBack.{Each}
+use Rattle.rv_cache.proofs.Steps.{consistent_after, consistent_written, dirty_after_access}
 use Rattle.rv_stores.specs.Queue.{oldest_to_drain, without_drained}
 use Rattle.rv_stores.specs.Store.{draining, is_committed_state, is_draining, state_to_drain}
 use Rattle.rv_stores.specs.declared.store.Store.{Store as QueuedStore}
@@ -57,7 +59,7 @@ module _ (values : Values) (cycle : ℕ) (state : State) (h : Hardware) where
         layout = was.layout;
         cache_base = was.cache_base;
         cache_size = was.cache_size;
-        ram_size = was.ram_size;
+        consistent = was.consistent;
         retired = was.retired.1;
         drains = none_first ss was.drains.1;
         fresh = λ i fresh. was.fresh i fresh ∙ ap (λ (xs : List ℕ). get_or xs i 0) (sym same);
@@ -127,16 +129,25 @@ module _ (values : Values) (cycle : ℕ) (state : State) (h : Hardware) where
     same_seen : seen new ≡ seen old
     same_seen = ap (λ (ram : List ℕ). record (seen h) { ram = ram }) same_ram
 
+    -- the line that the access brings is dirty, and so RAM may lack the store's bytes
+    consistent : IsConsistent h.cache.base h.cache.values new.cache.bytes new.cache.sets new.cache.backing.bytes
+    consistent =
+        let above : h.cache.base ≤ access.address = omega (arith, was.cache_base, legal.above) in
+        let below : access.address + length access.bytes ≤ h.cache.base + length h.cache.bytes = omega (arith, was.cache_base, was.cache_size, legal.below) in
+        let accessed = consistent_after h.cache.base h.cache.values h.cache.bytes h.cache.backing.bytes h.cache.sets was.consistent access.address above (omega (arith, legal.some, below)) true in
+        let dirty = dirty_after_access h.cache.base h.cache.values h.cache.bytes new.cache.backing.bytes new.cache.sets accessed h.cache access.address refl refl in
+        consistent_written h.cache.base h.cache.values h.cache.bytes new.cache.backing.bytes new.cache.sets accessed access.address access.bytes legal.aligned.0 legal.aligned.1 above below dirty
+
     start_one : IsSoundAt values cycle state new
     start_one =
-        let mixed = access_mixed h.cache access.address h.cache.backing.bytes (was.ram_size ∙ sym was.cache_size) in
+        let mixed = access_mixed h.cache access.address h.cache.backing.bytes was.consistent.size in
         with_other_memory values cycle state old sound new refl refl refl refl refl refl same_seen (record {
           base_aligned = was.base_aligned;
           size_aligned = was.size_aligned;
           layout = was.layout;
           cache_base = was.cache_base;
           cache_size = ap length bytes_are ∙ length-stored (layout_of h.values) access legal h.cache.bytes was.cache_size;
-          ram_size = mixed.size ∙ was.cache_size;
+          consistent = consistent;
           retired = (
             record {
               access = access;

@@ -80,7 +80,7 @@ pub fresh_words : (h : Hardware) → IsSound h → (pc : ℕ) → pc % 4 ≡ 0 �
 fresh_words h is pc aligned not_stale =
     let was = is.memory in
     ap (λ (layout : Layout). fetched_word layout h.cache.backing.bytes pc) was.layout
-    ∙ fetched_same (layout_of h.values) h.cache.backing.bytes (seen h).ram pc aligned was.ram_size (length-memory_behind (layout_of h.values) h.stale h.committed h.cache.bytes was.retired was.cache_size)
+    ∙ fetched_same (layout_of h.values) h.cache.backing.bytes (seen h).ram pc aligned (was.consistent.size ∙ was.cache_size) (length-memory_behind (layout_of h.values) h.stale h.committed h.cache.bytes was.retired was.cache_size)
     (λ i same. was.fresh i (ap (set.contains h.stale) same ∙ not_stale))
 
 -- the hardware once its words were fetched

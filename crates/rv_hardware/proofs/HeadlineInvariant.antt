@@ -7,6 +7,7 @@ use Rattle.rv_isa.specs.declared.values.Values.{Values}
 use Rattle.rv_arch.specs.State.{State}
 use Rattle.rv_memory.specs.Memory.{Layout, Memory, is_in_ram, word_of}
 use Rattle.rv_cache.specs.Cache.{Contents}
+use Rattle.rv_cache.specs.Consistent.{IsConsistent}
 use Rattle.rv_cache.specs.WriteBack.{Each}
 use Rattle.rv_units.specs.Pool.{Pool}
 use Rattle.rv_front.specs.FetchBuffer.{FetchBuffer}
@@ -36,7 +37,8 @@ pub record HoldsMemory (values : Values) (stale : set.FinSet nat_cmp) (cache : C
   pub layout : cache.backing.layout ≡ layout_of values
   pub cache_base : cache.base ≡ values.ram_base
   pub cache_size : length cache.bytes ≡ values.ram_size
-  pub ram_size : length cache.backing.bytes ≡ values.ram_size
+  -- RAM lacks only what dirty lines hold
+  pub consistent : IsConsistent cache.base cache.values cache.bytes cache.sets cache.backing.bytes
   pub retired : Each (IsRetiredStore (layout_of values) stale) committed
   pub drains : DrainInOrder values.ram_base cache.bytes committed
   pub fresh : IsFreshInRam values.ram_base stale cache.backing.bytes (memory_behind values.ram_base committed cache.bytes)

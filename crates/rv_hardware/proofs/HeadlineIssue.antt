@@ -1,17 +1,20 @@
 -- The issue phase changes nothing that programs see, and what it computes is the one-at-a-time machine's.
-use Rattle.std.proofs.Common.{◌≡◌, ℕ, ◌+◌, ◌&&◌, ◌||◌, not, Bool, true, false, List, [], ◌∷◌, ◌++◌, length, Option, Some, None, refl, sym, ap, subst, ◌∙◌, inl, inr}
+use Rattle.std.proofs.Common.{◌≡◌, ℕ, ◌+◌, ◌<◌, ◌≤◌, ◌&&◌, ◌||◌, not, Bool, true, false, List, [], ◌∷◌, ◌++◌, length, Option, Some, None, refl, sym, ap, subst, ◌∙◌, inl, inr, arith}
 use Rattle.std.specs.Prelude.{if◌then◌else◌}
 use Rattle.std.specs.List.{list_all}
-use Rattle.std.proofs.lemmas.Bool.{and_parts, false≢true}
+use Rattle.std.proofs.lemmas.Bool.{and_parts, false≢true, leb-true}
+use Rattle.rv_isa.specs.Operation.{bytes_of, width_of}
 use Rattle.rv_isa.specs.PerKind.{at_kind, with_kind}
 use Rattle.rv_isa.specs.declared.Issue.{Issue}
 use Rattle.rv_isa.specs.declared.broadcast.Message.{Message}
 use Rattle.rv_isa.specs.declared.instructions.Instr.{Instr}
-use Rattle.rv_isa.specs.declared.instructions.Instr.TheVariants.{FenceI, Csr, Mret}
+use Rattle.rv_isa.specs.declared.instructions.Instr.TheVariants.{FenceI, Csr, Load, Mret}
 use Rattle.rv_isa.specs.declared.operations.Kind.{Kind}
 use Rattle.rv_isa.specs.declared.operations.Kind.TheVariants as kind
 use Rattle.rv_isa.specs.declared.values.Values.{Values}
 use Rattle.rv_arch.specs.State.{State}
+use Rattle.rv_memory.specs.Memory.{is_aligned, is_in_ram}
+use Rattle.rv_cache.proofs.Steps.{consistent_after}
 use Rattle.rv_rob.specs.Entry.{started}
 use Rattle.rv_rob.specs.ReorderBuffer.{changed}
 use Rattle.rv_rob.specs.declared.entry.Entry.{Entry}
@@ -20,13 +23,14 @@ use Rattle.rv_stores.specs.Store.{is_known as is_known_store}
 use Rattle.rv_units.specs.Pool.{is_free, started as started_unit}
 use Rattle.rv_hardware.specs.Hardware.{Hardware}
 use Rattle.rv_hardware.specs.InFlight.{is_serialising, is_waiting}
-use Rattle.rv_hardware.specs.Issue.{Path, Without, FromStores, FromCache, path, cost_of, has_port, is_load, is_of_kind, kind_of_word, sources_of_word, has_operands, may_load, is_ready, oldest, with_access, with_start, issued, issue_oldest, issue_turn, issue_kind, issue}
+use Rattle.rv_hardware.specs.Issue.{Path, Without, FromStores, FromCache, path, path_of, cost_of, has_port, is_load, is_of_kind, kind_of_word, sources_of_word, has_operands, may_load, is_ready, oldest, with_access, with_start, issued, issue_oldest, issue_turn, issue_kind, issue}
 use Rattle.rv_hardware.specs.Repeated.{Ends}
-use Rattle.rv_hardware.specs.Seen.{layout_of, seen, stores_behind}
+use Rattle.rv_hardware.specs.Seen.{layout_of, seen, seen_behind, stores_behind}
 use Rattle.rv_hardware.proofs.HeadlineDrain.{with_other_memory}
 use Rattle.rv_hardware.proofs.HeadlineFold.{result_at, behind, AreInFlight}
 use Rattle.rv_hardware.proofs.HeadlineInvariant.{IsSoundAt, with_other_program}
 use Rattle.rv_hardware.proofs.HeadlineKnown.{issued_result}
+use Rattle.rv_hardware.proofs.HeadlineRetires.{some_bytes}
 use Rattle.rv_hardware.proofs.HeadlineSplit.{IsOldest, oldest_found, with_entry-here, AreInFlight-older}
 use Rattle.rv_hardware.proofs.HeadlineStage.{here_in_flight, FollowsProgram-staged}
 use Rattle.rv_hardware.proofs.HeadlineVictim.{access_mixed}
@@ -44,21 +48,41 @@ loads_known : (load known port : Bool) → (not load || (known && port)) ≡ tru
 loads_known true known port may is = (and_parts known port may).0
 loads_known false known port may is = absurd (false≢true is)
 
+-- a load that accesses the cache does so in RAM
+abbrev IsInRam : Hardware → Path → Type 0
+IsInRam h Without = Unit {0}
+IsInRam h FromStores = Unit {0}
+IsInRam h (FromCache address) = (h.values.ram_base ≤ address) × (address < h.values.ram_base + h.values.ram_size)
+
+load_in_ram : (h : Hardware) (address count : ℕ) (fits covered : Bool) → 1 ≤ count → (is_aligned address count && is_in_ram (layout_of h.values) address count) ≡ fits →
+    IsInRam h (if not fits then Without else (if covered then FromStores else FromCache address))
+load_in_ram h address count false covered some fits = tt
+load_in_ram h address count true true some fits = tt
+load_in_ram h address count true false some fits =
+    let inside = and_parts _ _ (and_parts (is_aligned address count) (is_in_ram (layout_of h.values) address count) fits).1 in
+    let above = leb-true h.values.ram_base address inside.0 in
+    let below = leb-true (address + count) (h.values.ram_base + h.values.ram_size) inside.1 in
+    (above, omega (arith, some, below))
+
+path_in_ram : (h : Hardware) (older : List Entry) (s : State) (instruction : Option Instr) → IsInRam h (path_of h older s instruction)
+path_in_ram h older s (Some (Load form rd rs1 offset)) = load_in_ram h _ _ _ _ (some_bytes (width_of form)) refl
+path_in_ram h older s _ = tt
+
 module _ (values : Values) (cycle : ℕ) (state : State) where
   -- ---- an access to the cache
-  pub access_kept : (p : Path) (h : Hardware) → IsSoundAt values cycle state h → IsSoundAt values cycle state (with_access p h)
-  access_kept Without h is = is
-  access_kept FromStores h is = is
-  access_kept (FromCache address) h is =
+  access_kept : (p : Path) (h : Hardware) → IsInRam h p → IsSoundAt values cycle state h → IsSoundAt values cycle state (with_access p h)
+  access_kept Without h inside is = is
+  access_kept FromStores h inside is = is
+  access_kept (FromCache address) h inside is =
       let was = is.sound.memory in
-      let mixed = access_mixed h.cache address h.cache.backing.bytes (was.ram_size ∙ sym was.cache_size) in
+      let mixed = access_mixed h.cache address h.cache.backing.bytes was.consistent.size in
       with_other_memory values cycle state h is (with_access (FromCache address) h) refl refl refl refl refl refl refl (record {
         base_aligned = was.base_aligned;
         size_aligned = was.size_aligned;
         layout = was.layout;
         cache_base = was.cache_base;
         cache_size = was.cache_size;
-        ram_size = mixed.size ∙ was.cache_size;
+        consistent = consistent_after h.cache.base h.cache.values h.cache.bytes h.cache.backing.bytes h.cache.sets was.consistent address (omega (arith, was.cache_base, inside.0)) (omega (arith, was.cache_base, was.cache_size, inside.1)) false;
         retired = was.retired;
         drains = was.drains;
         fresh = λ i fresh. elim (mixed.either i) [
@@ -79,13 +103,13 @@ module _ (values : Values) (cycle : ℕ) (state : State) where
       (ap (λ (es : List Entry). (changed (started issue message) seq (record h.rob { entries = es })).entries) entries ∙ with_entry-here (started issue message) seq h.rob.retired older e younger at)
       result is.sound.program)
 
-  started_kept : (p : Path) (k : Kind) (cost seq : ℕ) (message : Message) (older : List Entry) (e : Entry) (younger : List Entry) (h : Hardware) → IsSoundAt values cycle state h →
+  started_kept : (p : Path) (k : Kind) (cost seq : ℕ) (message : Message) (older : List Entry) (e : Entry) (younger : List Entry) (h : Hardware) → IsInRam h p → IsSoundAt values cycle state h →
       h.rob.entries ≡ older ++ e ∷ younger → seq ≡ h.rob.retired + length older → message ≡ result_at (layout_of h.values) (behind (layout_of h.values) older (seen h)) e →
       IsSoundAt values cycle state (with_start k seq cost message (with_access p h))
-  started_kept Without k cost seq message older e younger h is entries at result = start_kept k cost seq message older e younger h is entries at result
-  started_kept FromStores k cost seq message older e younger h is entries at result = start_kept k cost seq message older e younger h is entries at result
-  started_kept (FromCache address) k cost seq message older e younger h is entries at result =
-      start_kept k cost seq message older e younger (with_access (FromCache address) h) (access_kept (FromCache address) h is) entries at result
+  started_kept Without k cost seq message older e younger h inside is entries at result = start_kept k cost seq message older e younger h is entries at result
+  started_kept FromStores k cost seq message older e younger h inside is entries at result = start_kept k cost seq message older e younger h is entries at result
+  started_kept (FromCache address) k cost seq message older e younger h inside is entries at result =
+      start_kept k cost seq message older e younger (with_access (FromCache address) h) (access_kept (FromCache address) h inside is) entries at result
 
   issued_kept : (k : Kind) (h : Hardware) (older : List Entry) (e : Entry) → IsSoundAt values cycle state h → IsOldest (is_ready h k) [] h.rob.entries older e → IsSoundAt values cycle state (issued k h older e)
   issued_kept k h older e is found =
@@ -97,7 +121,7 @@ module _ (values : Values) (cycle : ℕ) (state : State) where
       let waits = and_parts (is_waiting e.stage) (is_of_kind k (kind_of_word e.instruction)) ready.0 in
       let result = issued_result h older e (AreInFlight-older (layout_of h.values) (seen h) (seen h) older (e ∷ found.younger) all) here.pc
       (plain_by_kind k e.instruction waits.1) ready.1 (loads_known (is_load e.instruction) (list_all is_known_store (stores_behind h older)) (has_port h (path h older e)) passes.1) in
-      started_kept (path h older e) k (cost_of h k (path h older e)) (h.rob.retired + length older) _ older e found.younger h is entries refl result
+      started_kept (path h older e) k (cost_of h k (path h older e)) (h.rob.retired + length older) _ older e found.younger h (path_in_ram h older (seen_behind h older e.pc) e.instruction) is entries refl result
 
   oldest_kept : (k : Kind) (h : Hardware) (o : Option (List Entry × Entry)) → oldest (is_ready h k) h.rob.entries ≡ o → IsSoundAt values cycle state h → Leaves (IsSoundAt values cycle state) (issue_oldest k h o)
   oldest_kept k h None at is = is

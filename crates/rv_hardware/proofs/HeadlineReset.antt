@@ -1,5 +1,5 @@
 -- At reset programs see the one-at-a-time machine's reset.
-use Rattle.std.proofs.Common.{◌≡◌, ℕ, ◌-◌, ◌≤◌, List, length, replicate, refl, sym, ◌∙◌, arith, length-append}
+use Rattle.std.proofs.Common.{◌≡◌, ℕ, ◌-◌, ◌%◌, ◌<◌, ◌≤◌, List, [], length, replicate, refl, sym, ap, ◌∙◌, arith, length-append}
 use Rattle.std.specs.Ordering.{nat_cmp}
 use Rattle.std.specs.FinSet as set
 use Rattle.std.proofs.lemmas.Bool.{false≢true}
@@ -7,6 +7,9 @@ use Rattle.std.proofs.lemmas.List.{length-replicate}
 use Rattle.rv_isa.specs.Description.{IsLegal}
 use Rattle.rv_isa.specs.declared.values.Values.{Values}
 use Rattle.rv_arch.specs.Reset.{reset}
+use Rattle.rv_cache.proofs.Divided.{base_divides, line_divides}
+use Rattle.rv_cache.proofs.Steps.{consistent_new}
+use Rattle.rv_cache.specs.Consistent.{IsConsistent}
 use Rattle.rv_hardware.specs.Reset.{memory_at_reset, reset_hardware, IsLoadable}
 use Rattle.rv_hardware.specs.Seen.{layout_of, seen}
 use Rattle.rv_hardware.proofs.HeadlineInvariant.{IsSound}
@@ -20,6 +23,22 @@ length-memory_at_reset values image fits =
     let size : length zeros ≡ values.ram_size - length image = length-replicate {A = ℕ} (values.ram_size - length image) 0 in
     omega (arith, length-append image zeros)
 
+-- whole lines fill RAM, and none is held
+consistent_at_reset : (values : Values) (image : List ℕ) → IsLegal values → length (memory_at_reset values image) ≡ values.ram_size →
+    IsConsistent values.ram_base values.cache (memory_at_reset values image) (replicate values.cache.sets []) (memory_at_reset values image)
+consistent_at_reset values image legal size =
+    let shape = legal.cache.0 in
+    let line = values.cache.line in
+    let divides = line_divides line shape.line.0 shape.line.1 shape.line_power in
+    let positive : 0 < line = omega (arith, shape.line.0) in
+    consistent_new values.ram_base values.cache (memory_at_reset values image) (record {
+      legal = legal.cache;
+      words = divides.0;
+      base_aligned = base_divides values.ram_base line positive divides.1 legal.memory.base.1;
+      whole_lines = ap (λ n. n % line) size ∙ base_divides values.ram_size line positive divides.1 legal.memory.size.2;
+      reach = omega (arith, size, legal.memory.base.0, legal.memory.size.1);
+    })
+
 pub reset_sound : (values : Values) (base : ℕ) (image : List ℕ) (start : ℕ) → IsLegal values → IsLoadable values base image start → IsSound (reset_hardware values image start)
 reset_sound values base image start legal loadable =
     let size = length-memory_at_reset values image loadable.fits in
@@ -32,7 +51,7 @@ reset_sound values base image start legal loadable =
         layout = refl;
         cache_base = refl;
         cache_size = size;
-        ram_size = size;
+        consistent = consistent_at_reset values image legal size;
         retired = tt;
         drains = tt;
         fresh = λ i fresh. refl;

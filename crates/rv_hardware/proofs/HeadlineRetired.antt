@@ -70,7 +70,7 @@ module _ (values : Values) (stale : set.FinSet nat_cmp) (cache : Contents Memory
         layout = was.layout;
         cache_base = was.cache_base;
         cache_size = was.cache_size;
-        ram_size = was.ram_size;
+        consistent = was.consistent;
         retired = Each-push (IsRetiredStore layout (set.insert stale word)) committed new (Each-weaker (λ s. IsRetiredStore-more layout stale word s) committed was.retired)
             (record { access = access; phase = Committed; state_is = refl; retired = refl; legal = legal; marked = now_marked stale word });
         drains = drains_push values.ram_base cache.bytes committed new refl was.drains;

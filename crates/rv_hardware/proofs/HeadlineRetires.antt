@@ -61,6 +61,12 @@ aligned_next pc aligned = omega arith
 is_aligned_by_4 : (target : ℕ) → is_aligned target 4 ≡ true → target % 4 ≡ 0
 is_aligned_by_4 target aligned = eqb-true (target % 4) 0 aligned
 
+-- an access has a byte
+pub some_bytes : (width : Width) → 1 ≤ bytes_of width
+some_bytes Byte = omega arith
+some_bytes Half = omega arith
+some_bytes Word = omega arith
+
 module _ (layout : Layout) (s : State) (here : s.pc % 4 ≡ 0) where
   registers_by : (none : Bool) (rd value : ℕ) (message : Message) → nat_eq rd 0 ≡ none → message.value ≡ value_written (cond {A = Option (ℕ × ℕ)} none None (Some (rd, value))) →
       with_value s.registers (cond none None (Some rd)) (Some message) ≡ cond none s.registers (slice_set s.registers rd value)
@@ -112,11 +118,6 @@ module _ (layout : Layout) (s : State) (here : s.pc % 4 ≡ 0) where
   one_word_of Byte address aligned = omega arith
   one_word_of Half address aligned = let even : address % 2 ≡ 0 = eqb-true (address % 2) 0 aligned in omega arith
   one_word_of Word address aligned = let fourth : address % 4 ≡ 0 = eqb-true (address % 4) 0 aligned in omega arith
-
-  some_bytes : (width : Width) → 1 ≤ bytes_of width
-  some_bytes Byte = omega arith
-  some_bytes Half = omega arith
-  some_bytes Word = omega arith
 
   aligned_bytes : (width : Width) (address : ℕ) → is_aligned address (bytes_of width) ≡ true → IsAligned address (bytes_of width)
   aligned_bytes Byte address aligned = (inl refl, eqb-true (address % 1) 0 aligned)

@@ -23,6 +23,8 @@ use Rattle.rv_hardware.specs.Seen.{layout_of, seen}
 use Rattle.rv_hardware.proofs.HeadlineInvariant.{HoldsMemory, IsSound}
 use Rattle.rv_hardware.proofs.HeadlineRetires.{aligned_next}
 use Rattle.rv_hardware.proofs.HeadlineWords.{IsRetiredStore, memory_behind-fresh}
+use Rattle.rv_cache.proofs.Steps.{consistent_cleaned, memory_written}
+use Rattle.rv_cache.specs.Cache.{memory_written_back}
 use Rattle.rv_cache.specs.WriteBack.{Each}
 
 -- ---- what the effect of a serialising instruction leaves
@@ -72,6 +74,10 @@ module _ (h : Hardware) (is : IsSound h) where
   mret_serial lines word = record { ram_is = refl; pc_aligned = is.mepc_aligned; mepc_aligned = is.mepc_aligned; memory = is.memory }
 
   -- ---- FENCE.I
+  -- once every dirty line is written, RAM has all bytes that the cache has
+  all_written : memory_written_back h.cache h.cache.backing.bytes ≡ h.cache.bytes
+  all_written = memory_written h.cache.base h.cache.values h.cache.bytes h.cache.backing.bytes h.cache.sets is.memory.consistent
+
   pub written_back_sound : IsSound (with_write_back h)
   written_back_sound =
       let was = is.memory in
@@ -84,10 +90,10 @@ module _ (h : Hardware) (is : IsSound h) where
           layout = was.layout;
           cache_base = was.cache_base;
           cache_size = was.cache_size;
-          ram_size = was.cache_size;
+          consistent = consistent_cleaned h.cache.base h.cache.values h.cache.bytes h.cache.backing.bytes h.cache.sets was.consistent _ all_written;
           retired = was.retired;
           drains = was.drains;
-          fresh = λ i fresh. sym (memory_behind-fresh (layout_of h.values) h.stale h.committed h.cache.bytes was.retired was.cache_size i fresh);
+          fresh = λ i fresh. ap (λ (xs : List ℕ). get_or xs i 0) all_written ∙ sym (memory_behind-fresh (layout_of h.values) h.stale h.committed h.cache.bytes was.retired was.cache_size i fresh);
           inside = was.inside;
         };
         program = is.program;
@@ -112,10 +118,10 @@ module _ (h : Hardware) (is : IsSound h) where
           layout = was.layout;
           cache_base = was.cache_base;
           cache_size = was.cache_size;
-          ram_size = was.cache_size;
+          consistent = consistent_cleaned h.cache.base h.cache.values h.cache.bytes h.cache.backing.bytes h.cache.sets was.consistent _ all_written;
           retired = subst (Each (IsRetiredStore (layout_of h.values) set.empty)) (sym none) tt;
           drains = was.drains;
-          fresh = λ i fresh. ap (λ (xs : List ℕ). get_or xs i 0) (sym same);
+          fresh = λ i fresh. ap (λ (xs : List ℕ). get_or xs i 0) (all_written ∙ sym same);
           inside = λ other marked. absurd (false≢true (sym (set.contains-empty nat_cmp other) ∙ marked));
         };
       }

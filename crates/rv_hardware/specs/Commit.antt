@@ -11,7 +11,7 @@ use Rattle.rv_arch.specs.Trap.{interrupt_cause}
 use Rattle.rv_arch.specs.declared.outcome.Stop.{Stop}
 use Rattle.rv_arch.specs.declared.outcome.Stop.TheVariants as stop
 use Rattle.rv_memory.specs.Memory.{Memory, word_of}
-use Rattle.rv_cache.specs.Cache.{Contents}
+use Rattle.rv_cache.specs.Cache.{Contents, memory_written_back}
 use Rattle.rv_cache.specs.Line.{cleaned, dirty_total}
 use Rattle.rv_rob.specs.ReorderBuffer.{head_retired}
 use Rattle.rv_rob.specs.declared.entry.Entry.{Entry}
@@ -76,10 +76,12 @@ abbrev pub execute_head : Entry → Instr → Committing → Committing
 execute_head e instruction c =
     take_effect e (effect (layout_of c.hardware.values) (seen c.hardware) c.hardware.lines (unwrap_or e.word 0) instruction) c
 
--- every dirty line of the cache is written to RAM
+-- every dirty line of the cache is written to RAM, and stays, clean
 abbrev pub all_written_back : Contents Memory → Contents Memory
-all_written_back cache =
-    record cache { sets = map (map cleaned) cache.sets; backing = record cache.backing { bytes = cache.bytes } }
+all_written_back cache = record cache {
+  sets = map (map cleaned) cache.sets;
+  backing = record cache.backing { bytes = memory_written_back cache cache.backing.bytes };
+}
 
 -- how long FENCE.I's write-back keeps the port busy
 abbrev pub write_back_time : Hardware → ℕ
