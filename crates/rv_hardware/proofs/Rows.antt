@@ -4,7 +4,7 @@ use Rattle.rv_isa.specs.Bytes.{bytes_of_number}
 use Rattle.rv_isa.specs.Csr as csr
 use Rattle.rv_isa.specs.Standard.{standard_values}
 use Rattle.rv_isa.specs.Word.{pc_plus_4}
-use Rattle.rv_isa.specs.declared.causes.Cause.TheVariants.{InstructionAccessFault, IllegalInstruction, Breakpoint}
+use Rattle.rv_isa.specs.declared.causes.Cause.TheVariants.{InstructionAccessFault, IllegalInstruction, Breakpoint, LoadAccessFault}
 use Rattle.rv_isa.specs.declared.values.Recovery.TheVariants.{Early}
 use Rattle.rv_isa.specs.declared.values.Values.{Values}
 use Rattle.rv_isa.specs.Arrivals.{no_lines}
@@ -139,6 +139,24 @@ load_misses_and_the_next_one_hits : steps_of (machine) (0x800012b7 ∷ 0x0002a38
 unfolding instruction_of table
 load_misses_and_the_next_one_hits = refl
 
+-- a load leaves its line clean: in a cache of one line the next line costs no write-back
+load_drops_a_clean_line : steps_of (record machine { cache = record machine.cache { sets = 1; ways = 1 } }) (0x800012b7 ∷ 0x0002a383 ∷ 0x0402a403 ∷ ebreak ∷ []) 28 ≡
+    executed 0x80000000 0x800012b7 (Some (5, 2147487744)) 0 1 2 1 3 4 ∷
+    executed 0x80000004 0x0002a383 (Some (7, 0)) 0 1 4 11 15 16 ∷
+    executed 0x80000008 0x0402a403 (Some (8, 0)) 1 2 15 11 26 27 ∷
+    breakpoint 0x8000000c 27 ∷
+    []
+unfolding instruction_of table
+load_drops_a_clean_line = refl
+
+-- lui x5,0x80010 and lw x7,0(x5): a load outside RAM costs the latency of its kind
+load_outside_memory_costs_the_latency : steps_of (record machine { forward = 3; kinds = record machine.kinds { mem = record machine.kinds.mem { latency = 7 } } }) (0x800102b7 ∷ 0x0002a383 ∷ ebreak ∷ []) 13 ≡
+    executed 0x80000000 0x800102b7 (Some (5, 0x80010000)) 0 1 2 1 3 4 ∷
+    Trap 0x80000004 LoadAccessFault 0x80010000 12 ∷
+    []
+unfolding instruction_of table
+load_outside_memory_costs_the_latency = refl
+
 -- a load takes its bytes from the store before it
 store_is_forwarded_to_a_load : steps_of (machine) (0x800012b7 ∷ 0x00700313 ∷ 0x0062a023 ∷ 0x0002a383 ∷ ebreak ∷ []) 9 ≡
     executed 0x80000000 0x800012b7 (Some (5, 2147487744)) 0 1 2 1 3 4 ∷
@@ -165,6 +183,15 @@ wrong_prediction_is_mended_at_broadcast : steps_of (record machine { recovery = 
     []
 unfolding instruction_of table
 wrong_prediction_is_mended_at_broadcast = refl
+
+-- lui x5,0x80000 and jalr x0,12(x5), whose target is known at its broadcast
+jump_to_a_register_is_mended_at_broadcast : steps_of (record machine { recovery = Early }) (0x800002b7 ∷ 0x00c28067 ∷ 0 ∷ ebreak ∷ []) 8 ≡
+    executed 0x80000000 0x800002b7 (Some (5, 0x80000000)) 0 1 2 1 3 4 ∷
+    executed 0x80000004 0x00c28067 None 0 1 4 1 5 6 ∷
+    breakpoint 0x8000000c 7 ∷
+    []
+unfolding instruction_of table
+jump_to_a_register_is_mended_at_broadcast = refl
 
 -- no program: an illegal word, and then access faults at 0
 empty_memory_traps_again_and_again : steps_of (machine) ([]) 10 ≡
