@@ -13,7 +13,8 @@ use Rattle.rv_stores.specs.declared.store.Store.{Store as QueuedStore}
 use Rattle.rv_stores.specs.declared.store.StorePhase.TheVariants.{Speculative, Committed, Draining}
 use Rattle.rv_stores.specs.declared.store.StoreState.{StoreState}
 use Rattle.rv_stores.specs.declared.store.StoreState.TheVariants as store
-use Rattle.rv_hardware.specs.InFlight.{broadcast_of, is_store, store_of_broadcast, store_of_message, stores_of}
+use Rattle.rv_hardware.specs.InFlight.{broadcast_of, store_of_broadcast, store_of_message, stores_of}
+use Rattle.rv_isa.specs.Instruction.{is_store}
 use Rattle.rv_core.proofs.RetiredStores.{AreRetired}
 use Rattle.rv_core.specs.Soundness.{IsLegalAccess, IsRetiredStore}
 

@@ -9,7 +9,7 @@ use Rattle.rv_rob.specs.ReorderBuffer.{next_number, pushed}
 use Rattle.rv_hardware.specs.Broadcast.{mends_early}
 use Rattle.rv_hardware.specs.Dispatch.{entry_of_fetched, reason_of}
 use Rattle.rv_hardware.specs.Hardware.{Hardware}
-use Rattle.rv_hardware.specs.InFlight.{is_branch_or_jump, is_store, target_of_word}
+use Rattle.rv_isa.specs.Instruction.{is_branch_or_jump, is_store, target_of_word}
 use Rattle.rv_core.specs.Entering.{with_instruction, with_jump, with_store, with_target}
 use Rattle.rv_core.specs.Parts.{IsSound, hardware_of}
 use Rattle.rv_core.specs.Soundness.{IsDecoded}

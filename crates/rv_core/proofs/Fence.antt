@@ -7,7 +7,8 @@ use Rattle.rv_rob.specs.declared.entry.Entry.{Entry}
 use Rattle.rv_stores.specs.declared.store.Store.{Store as QueuedStore}
 use Rattle.rv_hardware.specs.Commit.{execute_head, fence_instructions, is_drained, with_write_back, write_back_time}
 use Rattle.rv_hardware.specs.Hardware.{Hardware}
-use Rattle.rv_hardware.specs.InFlight.{is_serialising, is_store, broadcast_of, store_of_broadcast, stores_of}
+use Rattle.rv_hardware.specs.InFlight.{broadcast_of, store_of_broadcast, stores_of}
+use Rattle.rv_isa.specs.Instruction.{is_serialising, is_store}
 use Rattle.rv_hardware.specs.declared.step.Step.{Step}
 use Rattle.rv_core.specs.HeadTurn.{committing}
 use Rattle.rv_core.specs.Soundness.{IsSoundHardware}

@@ -29,8 +29,9 @@ use Rattle.rv_stores.specs.declared.store.Store.{Store}
 use Rattle.rv_units.specs.Bus.{Pending, with_result}
 use Rattle.rv_units.specs.Pool.{started as started_unit, Pool as UnitPool}
 use Rattle.rv_hardware.specs.Hardware.{Hardware}
-use Rattle.rv_hardware.specs.InFlight.{is_store, memory_behind}
-use Rattle.rv_hardware.specs.Issue.{Path, Without, FromStores, FromCache, cost_of, issued, kind_of_word, path, path_of as path_of_word, path_of_load, with_start}
+use Rattle.rv_hardware.specs.InFlight.{memory_behind}
+use Rattle.rv_isa.specs.Instruction.{is_store, kind_of_word}
+use Rattle.rv_hardware.specs.Issue.{Path, Without, FromStores, FromCache, cost_of, issued, path, path_of as path_of_word, path_of_load, with_start}
 use Rattle.rv_hardware.specs.Result.{result_in, result_of_word}
 use Rattle.rv_hardware.specs.Seen.{layout_of, seen_behind, stores_behind}
 use Rattle.rv_core.specs.Access.{IsBehind, LieIn, cache_after, load_path, path_cost, port_after}

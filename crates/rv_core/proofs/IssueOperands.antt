@@ -16,7 +16,8 @@ use Rattle.rv_stations.specs.declared.waiting.Operand.{Operand}
 use Rattle.rv_stations.specs.declared.waiting.Operand.TheVariants.{Value, Tag}
 use Rattle.rv_stations.specs.declared.waiting.Ready.{Ready}
 use Rattle.rv_stations.specs.declared.waiting.Waiting.{Waiting}
-use Rattle.rv_hardware.specs.InFlight.{broadcast_of, is_known, is_known_from, is_target, registers_behind, target_of_word, with_value, writes}
+use Rattle.rv_hardware.specs.InFlight.{broadcast_of, is_known, is_known_from, registers_behind, with_value, writes}
+use Rattle.rv_isa.specs.Instruction.{is_target, target_of_word}
 use Rattle.rv_hardware.specs.Issue.{has_operands}
 use Rattle.rv_core.specs.Execution.{Reads, operand_value}
 use Rattle.rv_core.specs.Ties.{RegisterStatus, operand_by, operand_of, status_behind, status_with, values_in, waiting_of}

@@ -24,8 +24,9 @@ use Rattle.rv_stores.specs.Store.{is_known as is_known_store}
 use Rattle.rv_stores.specs.declared.store.Store.{Store}
 use Rattle.rv_hardware.specs.Dispatch.{is_stationed}
 use Rattle.rv_hardware.specs.Hardware.{Hardware}
-use Rattle.rv_hardware.specs.InFlight.{is_waiting, registers_behind, target_of_word}
-use Rattle.rv_hardware.specs.Issue.{has_operands, has_port, is_load, is_of_kind, is_ready as is_ready_entry, kind_of_word, may_load, path_of as path_of_word, path_of_load, sources_of_word}
+use Rattle.rv_hardware.specs.InFlight.{is_waiting, registers_behind}
+use Rattle.rv_isa.specs.Instruction.{target_of_word, is_load, is_of_kind, kind_of_word, sources_of_word}
+use Rattle.rv_hardware.specs.Issue.{has_operands, has_port, is_ready as is_ready_entry, may_load, path_of as path_of_word, path_of_load}
 use Rattle.rv_hardware.specs.Seen.{layout_of, seen_behind, stores_behind}
 use Rattle.rv_core.specs.Execution.{is_operation}
 use Rattle.rv_core.specs.Load.{is_known_before, may_go, needs_port, path_of}

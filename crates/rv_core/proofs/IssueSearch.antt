@@ -14,7 +14,8 @@ use Rattle.rv_stations.specs.Waiting.{is_ready, oldest_ready, without_oldest_rea
 use Rattle.rv_stations.specs.declared.waiting.Waiting.{Waiting as Station}
 use Rattle.rv_hardware.specs.Dispatch.{is_stationed}
 use Rattle.rv_hardware.specs.InFlight.{is_waiting}
-use Rattle.rv_hardware.specs.Issue.{is_of_kind, kind_of_word, oldest_from}
+use Rattle.rv_hardware.specs.Issue.{oldest_from}
+use Rattle.rv_isa.specs.Instruction.{is_of_kind, kind_of_word}
 use Rattle.rv_core.specs.Ties.{RegisterStatus, status_behind, status_with, waiting_at, waiting_from, waiting_of}
 
 -- an instruction that starts gives no value yet, as one that waits

@@ -16,7 +16,8 @@ use Rattle.rv_stores.specs.declared.store.Store.{Store}
 use Rattle.rv_units.specs.Bus.{holds, placed}
 use Rattle.rv_units.specs.declared.bus.PendingResult.{PendingResult}
 use Rattle.rv_hardware.specs.Dispatch.{is_stationed}
-use Rattle.rv_hardware.specs.InFlight.{broadcast_of, is_store, is_waiting, store_of_broadcast, stores_of}
+use Rattle.rv_hardware.specs.InFlight.{broadcast_of, is_waiting, store_of_broadcast, stores_of}
+use Rattle.rv_isa.specs.Instruction.{is_store}
 use Rattle.rv_core.specs.Ties.{RegisterStatus, pending_from, pending_of, status_with, waiting_at, waiting_from, waiting_of}
 use Rattle.rv_core.proofs.IssueSearch.{status_started}
 

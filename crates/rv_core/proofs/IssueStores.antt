@@ -11,7 +11,8 @@ use Rattle.rv_stores.specs.Queue.{first_unknown, older_than}
 use Rattle.rv_stores.specs.Store.{is_known}
 use Rattle.rv_stores.specs.declared.store.Store.{Store}
 use Rattle.rv_hardware.specs.Hardware.{Hardware}
-use Rattle.rv_hardware.specs.InFlight.{broadcast_of, is_store, store_of_broadcast, stores_of}
+use Rattle.rv_hardware.specs.InFlight.{broadcast_of, store_of_broadcast, stores_of}
+use Rattle.rv_isa.specs.Instruction.{is_store}
 use Rattle.rv_hardware.specs.Seen.{stores_behind}
 use Rattle.rv_core.specs.Load.{is_known_before}
 

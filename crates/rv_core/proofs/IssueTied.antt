@@ -22,8 +22,8 @@ use Rattle.rv_units.specs.Bus.{Pending, holds, placed, with_result}
 use Rattle.rv_units.specs.Pool.{Pool as UnitPool}
 use Rattle.rv_hardware.specs.Dispatch.{is_stationed}
 use Rattle.rv_hardware.specs.Hardware.{Hardware}
-use Rattle.rv_hardware.specs.InFlight.{is_serialising, is_store, is_waiting, stores_of}
-use Rattle.rv_hardware.specs.Issue.{is_of_kind, kind_of_word}
+use Rattle.rv_hardware.specs.InFlight.{is_waiting, stores_of}
+use Rattle.rv_isa.specs.Instruction.{is_serialising, is_store, is_of_kind, kind_of_word}
 use Rattle.rv_core.specs.Soundness.{AreSoundEntries, IsDescribedCache, IsLegalWrite, IsSoundEntry, IsSoundHardware}
 use Rattle.rv_core.specs.Ties.{AreTied, bus_of, pending_from, pool_of_kind, stations_of, values_in, waiting_from}
 use Rattle.rv_core.proofs.IssueReady.{kind_there}

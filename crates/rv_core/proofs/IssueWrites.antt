@@ -26,7 +26,8 @@ use Rattle.rv_stores.specs.declared.store.StorePhase.TheVariants.{Speculative, C
 use Rattle.rv_stores.specs.declared.store.StoreState.{StoreState}
 use Rattle.rv_stores.specs.declared.store.StoreState.TheVariants as store
 use Rattle.rv_hardware.specs.Hardware.{Hardware}
-use Rattle.rv_hardware.specs.InFlight.{broadcast_of, is_store, store_of_broadcast, store_of_message, stores_of}
+use Rattle.rv_hardware.specs.InFlight.{broadcast_of, store_of_broadcast, store_of_message, stores_of}
+use Rattle.rv_isa.specs.Instruction.{is_store}
 use Rattle.rv_hardware.specs.Result.{effect_message, result_in}
 use Rattle.rv_hardware.specs.Seen.{layout_of, stores_behind}
 use Rattle.rv_core.specs.Access.{LieIn, LiesIn}

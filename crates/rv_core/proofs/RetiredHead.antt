@@ -20,7 +20,8 @@ use Rattle.rv_stores.specs.Queue.{Queue}
 use Rattle.rv_units.specs.Bus.{Pending}
 use Rattle.rv_hardware.specs.Hardware.{Hardware}
 use Rattle.rv_hardware.specs.Broadcast.{mends_early}
-use Rattle.rv_hardware.specs.InFlight.{broadcast_of, is_target, is_waiting, with_value, target_of_word, is_branch_or_jump, is_store, stores_of}
+use Rattle.rv_hardware.specs.InFlight.{broadcast_of, is_waiting, with_value, stores_of}
+use Rattle.rv_isa.specs.Instruction.{is_target, target_of_word, is_branch_or_jump, is_store}
 use Rattle.rv_hardware.specs.Retirement.{committed_store, with_result}
 use Rattle.rv_core.specs.Ties.{RegisterStatus, operand_by, values_in, status_with, producer_of, producers_of, producers_with, checkpoints_of, renaming_of, waiting_at, waiting_from, stations_of, pending_of, bus_of, AreTied, pool_of_kind}
 use Rattle.rv_core.specs.Soundness.{IsLegalWrite}

@@ -13,7 +13,8 @@ use Rattle.rv_stores.specs.declared.store.Store.{Store as QueuedStore}
 use Rattle.rv_stores.specs.declared.store.StorePhase.TheVariants.{Committed}
 use Rattle.rv_stores.specs.declared.store.StoreState.TheVariants.{Filled}
 use Rattle.rv_hardware.specs.Hardware.{Hardware}
-use Rattle.rv_hardware.specs.InFlight.{is_serialising, is_store, target_of_word, with_value}
+use Rattle.rv_hardware.specs.InFlight.{with_value}
+use Rattle.rv_isa.specs.Instruction.{is_serialising, is_store, target_of_word}
 use Rattle.rv_hardware.specs.Retirement.{committed_store, with_result}
 use Rattle.rv_core.proofs.RetiredHead.{buffer_behind}
 use Rattle.rv_core.proofs.RetiredStores.{AreRetired}

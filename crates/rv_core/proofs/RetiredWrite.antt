@@ -12,7 +12,8 @@ use Rattle.rv_rob.specs.declared.entry.Entry.{Entry}
 use Rattle.rv_rob.specs.declared.entry.Stage.{Stage}
 use Rattle.rv_rob.specs.declared.entry.Stage.TheVariants.{Waiting, Running, Finished}
 use Rattle.rv_hardware.specs.Hardware.{Hardware}
-use Rattle.rv_hardware.specs.InFlight.{broadcast_of, is_store, with_value}
+use Rattle.rv_hardware.specs.InFlight.{broadcast_of, with_value}
+use Rattle.rv_isa.specs.Instruction.{is_store}
 use Rattle.rv_core.proofs.RetiredHead.{IsTarget}
 use Rattle.rv_core.specs.Retiring.{registers_with}
 use Rattle.rv_core.specs.Soundness.{IsLegalAccess, IsLegalWrite, IsSoundEntry, IsSoundHardware, message_of}

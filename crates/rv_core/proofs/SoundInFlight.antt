@@ -4,7 +4,7 @@ use Rattle.std.specs.List.{AllPairs}
 use Rattle.rv_front.specs.FetchBuffer.{FetchBuffer}
 use Rattle.rv_rob.specs.declared.entry.Entry.{Entry}
 use Rattle.rv_hardware.specs.Hardware.{Hardware}
-use Rattle.rv_hardware.specs.InFlight.{is_serialising}
+use Rattle.rv_isa.specs.Instruction.{is_serialising}
 use Rattle.rv_core.specs.Soundness.{IsDecoded, IsSoundEntry, IsSoundHardware}
 
 pub sound_in_flight : (h : Hardware) (es : List Entry) (front : FetchBuffer) → IsSoundHardware h → length es ≤ h.values.rob → All (IsSoundEntry h.values) es

@@ -13,7 +13,8 @@ use Rattle.rv_units.specs.Bus.{Pending, granted_one, is_ready, squashed as squas
 use Rattle.rv_units.specs.declared.bus.PendingResult.{PendingResult}
 use Rattle.rv_hardware.specs.Broadcast.{broadcast_entry, broadcast_oldest, broadcast_result, broadcast_turn, is_mispredicted, mends_early, with_broadcast, with_recovery}
 use Rattle.rv_hardware.specs.Hardware.{Hardware}
-use Rattle.rv_hardware.specs.InFlight.{broadcast_of, is_branch_or_jump, is_serialising, is_store, is_waiting, store_of_message}
+use Rattle.rv_hardware.specs.InFlight.{broadcast_of, is_waiting, store_of_message}
+use Rattle.rv_isa.specs.Instruction.{is_branch_or_jump, is_serialising, is_store}
 use Rattle.rv_hardware.specs.Repeated.{Ends, GoesOn}
 use Rattle.rv_hardware.specs.Squash.{redirected}
 use Rattle.rv_core.specs.Parts.{IsSound, hardware_of}

@@ -28,8 +28,7 @@ use Rattle.rv_units.specs.Bus.{Pending}
 use Rattle.rv_hardware.specs.Broadcast.{mends_early}
 use Rattle.rv_hardware.specs.Dispatch.{entry_of_fetched, has_full_stations, reason_of, stage_by}
 use Rattle.rv_hardware.specs.Hardware.{Hardware}
-use Rattle.rv_hardware.specs.InFlight.{is_branch_or_jump, is_serialising, is_store, target_of_word}
-use Rattle.rv_hardware.specs.Issue.{kind_of_word}
+use Rattle.rv_isa.specs.Instruction.{is_branch_or_jump, is_serialising, is_store, target_of_word, kind_of_word}
 use Rattle.rv_hardware.specs.Result.{effect_message, result_of_word}
 use Rattle.rv_hardware.specs.Seen.{layout_of, seen_behind, stores_behind}
 use Rattle.rv_hardware.specs.declared.report.Stall.{Stall}

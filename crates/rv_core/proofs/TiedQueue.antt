@@ -22,8 +22,8 @@ use Rattle.rv_stores.specs.declared.store.StoreState.{StoreState}
 use Rattle.rv_stores.specs.declared.store.StoreState.TheVariants as store
 use Rattle.rv_hardware.specs.Dispatch.{stage_by}
 use Rattle.rv_hardware.specs.Hardware.{Hardware}
-use Rattle.rv_hardware.specs.InFlight.{broadcast_of, is_store, store_of_broadcast, store_of_message, stores_of}
-use Rattle.rv_hardware.specs.Issue.{kind_of_word}
+use Rattle.rv_hardware.specs.InFlight.{broadcast_of, store_of_broadcast, store_of_message, stores_of}
+use Rattle.rv_isa.specs.Instruction.{is_store, kind_of_word}
 use Rattle.rv_core.specs.Entering.{with_store}
 use Rattle.rv_core.specs.Soundness.{IsRetiredStore}
 use Rattle.rv_core.specs.Ties.{queue_of}

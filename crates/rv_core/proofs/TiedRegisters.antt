@@ -9,7 +9,8 @@ use Rattle.rv_rob.specs.ReorderBuffer.{entry_of}
 use Rattle.rv_rob.specs.declared.entry.Entry.{Entry}
 use Rattle.rv_stations.specs.declared.waiting.Operand.{Operand}
 use Rattle.rv_stations.specs.declared.waiting.Operand.TheVariants.{Value}
-use Rattle.rv_hardware.specs.InFlight.{broadcast_of, is_target, target_of_word}
+use Rattle.rv_hardware.specs.InFlight.{broadcast_of}
+use Rattle.rv_isa.specs.Instruction.{is_target, target_of_word}
 use Rattle.rv_core.specs.Ties.{RegisterStatus, operand_by, producer_of, producers_of, status_behind, status_with}
 use Rattle.rv_core.proofs.TiedRenaming.{producers-below, producers-from}
 

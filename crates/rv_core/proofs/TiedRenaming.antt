@@ -10,7 +10,7 @@ use Rattle.rv_rename.specs.declared.producer.Producer.{Producer}
 use Rattle.rv_rob.specs.ReorderBuffer.{ReorderBuffer, changed, cut_from, entries_below, entry_of, next_number, pushed, with_entry}
 use Rattle.rv_rob.specs.declared.entry.Entry.{Entry}
 use Rattle.rv_hardware.specs.Broadcast.{mends_early}
-use Rattle.rv_hardware.specs.InFlight.{is_branch_or_jump, target_of_word}
+use Rattle.rv_isa.specs.Instruction.{is_branch_or_jump, target_of_word}
 use Rattle.rv_core.specs.Entering.{with_jump, with_target}
 use Rattle.rv_core.specs.Ties.{checkpoints_of, producer_of, producers_of, producers_with, renaming_of}
 use Rattle.rv_core.proofs.TiedEntries.{entries_below-first, entry_of-from}

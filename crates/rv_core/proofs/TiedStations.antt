@@ -23,7 +23,7 @@ use Rattle.rv_stations.specs.declared.waiting.Operand.TheVariants.{Value}
 use Rattle.rv_stations.specs.declared.waiting.Waiting.{Waiting}
 use Rattle.rv_hardware.specs.Dispatch.{is_stationed, stage_by}
 use Rattle.rv_hardware.specs.InFlight.{broadcast_of, is_waiting, writes}
-use Rattle.rv_hardware.specs.Issue.{is_of_kind, kind_of_word}
+use Rattle.rv_isa.specs.Instruction.{is_of_kind, kind_of_word}
 use Rattle.rv_core.specs.Entering.{with_instruction, with_station}
 use Rattle.rv_core.specs.Ties.{RegisterStatus, operand_by, operand_of, pool_of_kind, stations_of, status_behind, status_with, values_in, waiting_at, waiting_from, waiting_of}
 use Rattle.rv_core.proofs.Gathered.{behind, gathered, gathered-below, gathered-cut, gathered-push, gathered-same}

@@ -15,7 +15,7 @@ use Rattle.rv_stores.specs.declared.store.{Store.Store as QueuedStore, StoreStat
 use Rattle.rv_stores.specs.declared.store.StorePhase.TheVariants.{Speculative, Committed, Draining}
 use Rattle.rv_stores.specs.declared.store.StoreState.TheVariants as store
 use Rattle.rv_hardware.specs.Hardware.{Hardware}
-use Rattle.rv_hardware.specs.InFlight.{is_serialising, is_store, target_of_word}
+use Rattle.rv_isa.specs.Instruction.{is_serialising, is_store, target_of_word}
 use Rattle.rv_hardware.specs.Seen.{layout_of}
 
 -- what a store writes: 1, 2 or 4 bytes at a multiple of their number, in RAM

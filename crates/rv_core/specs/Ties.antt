@@ -17,7 +17,8 @@ use Rattle.rv_units.specs.declared.bus.PendingResult.{PendingResult}
 use Rattle.rv_hardware.specs.Broadcast.{mends_early}
 use Rattle.rv_hardware.specs.Dispatch.{is_stationed}
 use Rattle.rv_hardware.specs.Hardware.{Hardware}
-use Rattle.rv_hardware.specs.InFlight.{broadcast_of, is_branch_or_jump, target_of_word, writes}
+use Rattle.rv_hardware.specs.InFlight.{broadcast_of, writes}
+use Rattle.rv_isa.specs.Instruction.{is_branch_or_jump, target_of_word}
 use Rattle.rv_hardware.specs.Seen.{stores_behind}
 
 -- the producer that an instruction is, where it writes a register

@@ -4,7 +4,8 @@ ghost use Rattle.rv_rob.specs.ReorderBuffer.{changed, cut_from, entry_of};
 ghost use Rattle.rv_rob.specs.declared.entry.Entry.{Entry as EntryOf};
 ghost use Rattle.rv_stores.specs.Store.{answered};
 ghost use Rattle.rv_hardware.specs.Broadcast.{broadcast, broadcast_turn, is_mispredicted, mends_early};
-ghost use Rattle.rv_hardware.specs.InFlight.{is_branch_or_jump, store_of_message};
+ghost use Rattle.rv_hardware.specs.InFlight.{store_of_message};
+ghost use Rattle.rv_isa.specs.Instruction.{is_branch_or_jump};
 ghost use Rattle.rv_hardware.specs.Squash.{redirected};
 ghost use Rattle.rv_core.specs.Turns.{turn_of};
 

@@ -16,7 +16,7 @@ use Rattle.rv_front.specs.declared.fetched.Fetched.{Fetched}
 use Rattle.rv_stores.specs.Store.{is_draining}
 use Rattle.rv_stores.specs.declared.store.Store.{Store}
 use Rattle.rv_hardware.specs.Hardware.{Hardware}
-use Rattle.rv_hardware.specs.Issue.{is_load, kind_of_word}
+use Rattle.rv_isa.specs.Instruction.{is_load, kind_of_word}
 use Rattle.rv_hardware.proofs.GapForms.{longest_access, longest_execution, longest_write_back}
 use Rattle.rv_hardware.proofs.GapPatience.{dirty_time, fetch_time, flight_time, free_time, head_time, patience, port_time, stage_time, time_of_stores, unit_time, waiting_time}
 use Rattle.rv_hardware.proofs.GapRunning.{Ending, EndsBy}

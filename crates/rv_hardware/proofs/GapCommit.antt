@@ -18,7 +18,8 @@ use Rattle.rv_rob.specs.ReorderBuffer.{after_head}
 use Rattle.rv_rob.specs.declared.entry.Entry.{Entry}
 use Rattle.rv_hardware.specs.Commit.{Committing, commit, commit_turn, commit_turn_of, commit_unless, execute_head, fence_instructions, finish_broadcast, finish_head, head_turn, is_drained, retire, take_effect, with_write_back, write_back_time}
 use Rattle.rv_hardware.specs.Hardware.{Hardware}
-use Rattle.rv_hardware.specs.InFlight.{broadcast_of, target_of_word, with_value}
+use Rattle.rv_hardware.specs.InFlight.{broadcast_of, with_value}
+use Rattle.rv_isa.specs.Instruction.{target_of_word}
 use Rattle.rv_hardware.specs.Repeated.{GoesOn, Ends}
 use Rattle.rv_hardware.specs.Retirement.{committed_store, row_of, stale_after, with_result, written_of}
 use Rattle.rv_hardware.specs.Seen.{seen, with_state}

@@ -20,7 +20,7 @@ use Rattle.rv_hardware.specs.Issue.{issue}
 use Rattle.rv_hardware.proofs.GapDrain.{drain-keeps}
 use Rattle.rv_hardware.proofs.GapIssue.{issue-keeps}
 use Rattle.rv_hardware.specs.Hardware.{Hardware}
-use Rattle.rv_hardware.specs.InFlight.{is_serialising}
+use Rattle.rv_isa.specs.Instruction.{is_serialising}
 use Rattle.rv_hardware.proofs.GapBroadcast.{IsKeptByBroadcast, broadcast-keeps, broadcast_turn-keeps}
 use Rattle.rv_hardware.proofs.Repeated.{Leaves}
 use Rattle.rv_hardware.proofs.GapCycle.{IsKeptByPhases, execute-keeps}

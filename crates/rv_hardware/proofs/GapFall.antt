@@ -18,8 +18,8 @@ use Rattle.rv_hardware.specs.Cycle.{IsCycle, any_prediction, execute, with_lines
 use Rattle.rv_hardware.specs.Dispatch.{Dispatching}
 use Rattle.rv_hardware.specs.Drain.{drain}
 use Rattle.rv_hardware.specs.Hardware.{Hardware}
-use Rattle.rv_hardware.specs.InFlight.{broadcast_of, is_serialising}
-use Rattle.rv_hardware.specs.Issue.{kind_of_word}
+use Rattle.rv_hardware.specs.InFlight.{broadcast_of}
+use Rattle.rv_isa.specs.Instruction.{is_serialising, kind_of_word}
 use Rattle.rv_hardware.specs.Report.{Report}
 use Rattle.rv_hardware.proofs.GapCommit.{commit-keeps}
 use Rattle.rv_hardware.proofs.GapDrained.{Drains, drains}

@@ -17,8 +17,8 @@ use Rattle.rv_hardware.specs.Cycle.{any_prediction, execute}
 use Rattle.rv_hardware.specs.Dispatch.{Dispatching, dispatch, dispatch_turn, dispatch_turn_of, dispatch_unless, has_full_stations, is_stationed, reason_of, with_dispatched}
 use Rattle.rv_hardware.specs.Drain.{drain}
 use Rattle.rv_hardware.specs.Hardware.{Hardware}
-use Rattle.rv_hardware.specs.InFlight.{is_store}
-use Rattle.rv_hardware.specs.Issue.{issue, kind_of_word}
+use Rattle.rv_isa.specs.Instruction.{is_store, kind_of_word}
+use Rattle.rv_hardware.specs.Issue.{issue}
 use Rattle.rv_hardware.specs.Repeated.{followed_by, repeated}
 use Rattle.rv_hardware.specs.Seen.{stores_behind}
 use Rattle.rv_hardware.specs.declared.report.Stall.{Stall}

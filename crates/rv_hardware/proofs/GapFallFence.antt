@@ -20,7 +20,8 @@ use Rattle.rv_hardware.specs.Commit.{is_drained, with_write_back, write_back_tim
 use Rattle.rv_hardware.specs.Cycle.{execute}
 use Rattle.rv_hardware.specs.Drain.{drain, end_drain, start_drain}
 use Rattle.rv_hardware.specs.Hardware.{Hardware}
-use Rattle.rv_hardware.specs.Issue.{is_of_kind, issue, kind_of_word}
+use Rattle.rv_hardware.specs.Issue.{issue}
+use Rattle.rv_isa.specs.Instruction.{is_of_kind, kind_of_word}
 use Rattle.rv_stores.specs.Queue.{oldest_to_drain}
 use Rattle.rv_hardware.proofs.GapBroadcast.{IsKeptByBroadcast, broadcast-keeps}
 use Rattle.rv_hardware.proofs.GapDispatch.{IsKeptByDispatch, dispatch-keeps}

@@ -14,7 +14,8 @@ use Rattle.rv_hardware.specs.Broadcast.{broadcast, broadcast_oldest, broadcast_r
 use Rattle.rv_hardware.specs.Cycle.{execute}
 use Rattle.rv_hardware.specs.Drain.{drain}
 use Rattle.rv_hardware.specs.Hardware.{Hardware}
-use Rattle.rv_hardware.specs.InFlight.{is_serialising, is_waiting}
+use Rattle.rv_hardware.specs.InFlight.{is_waiting}
+use Rattle.rv_isa.specs.Instruction.{is_serialising}
 use Rattle.rv_hardware.specs.Issue.{issue, oldest, oldest_from}
 use Rattle.rv_hardware.specs.Repeated.{repeated}
 use Rattle.rv_hardware.proofs.GapBroadcast.{IsMadeByBroadcast, result-makes}

@@ -16,8 +16,8 @@ use Rattle.rv_hardware.specs.Broadcast.{broadcast, result_at}
 use Rattle.rv_hardware.specs.Cycle.{execute}
 use Rattle.rv_hardware.specs.Drain.{drain}
 use Rattle.rv_hardware.specs.Hardware.{Hardware}
-use Rattle.rv_hardware.specs.InFlight.{is_serialising}
-use Rattle.rv_hardware.specs.Issue.{is_load, issue, kind_of_word}
+use Rattle.rv_isa.specs.Instruction.{is_serialising, is_load, kind_of_word}
+use Rattle.rv_hardware.specs.Issue.{issue}
 use Rattle.rv_hardware.proofs.GapBound.{free_time-most, no_more, unit_time-most}
 use Rattle.rv_hardware.proofs.GapBroadcast.{IsKeptByBroadcast, broadcast-keeps}
 use Rattle.rv_hardware.proofs.GapDispatch.{IsKeptByDispatch, dispatch-keeps}

@@ -11,7 +11,8 @@ use Rattle.rv_rob.specs.declared.entry.Entry.{Entry}
 use Rattle.rv_units.specs.Pool.{is_free}
 use Rattle.rv_hardware.specs.Hardware.{Hardware}
 use Rattle.rv_hardware.specs.InFlight.{is_waiting}
-use Rattle.rv_hardware.specs.Issue.{Path, Without, FromStores, FromCache, cost_of, has_operands, is_of_kind, is_ready, issue, issue_kind, issue_oldest, issue_turn, issued, kind_of_word, may_load, oldest, path, sources_of_word, with_access, with_start}
+use Rattle.rv_hardware.specs.Issue.{Path, Without, FromStores, FromCache, cost_of, has_operands, is_ready, issue, issue_kind, issue_oldest, issue_turn, issued, may_load, oldest, path, with_access, with_start}
+use Rattle.rv_isa.specs.Instruction.{is_of_kind, kind_of_word, sources_of_word}
 use Rattle.rv_hardware.specs.Repeated.{Ends}
 use Rattle.rv_hardware.specs.Result.{result_of_word}
 use Rattle.rv_hardware.specs.Seen.{layout_of, seen_behind}

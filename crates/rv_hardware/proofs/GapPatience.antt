@@ -13,7 +13,7 @@ use Rattle.rv_stores.specs.Store.{is_draining}
 use Rattle.rv_stores.specs.declared.store.Store.{Store}
 use Rattle.rv_hardware.specs.Commit.{write_back_time}
 use Rattle.rv_hardware.specs.Hardware.{Hardware}
-use Rattle.rv_hardware.specs.Issue.{is_load, kind_of_word}
+use Rattle.rv_isa.specs.Instruction.{is_load, kind_of_word}
 use Rattle.rv_hardware.proofs.GapForms.{longest_access, longest_execution, longest_write_back}
 
 -- the accesses of the stores that have not begun theirs, and the cycle in which the last leaves

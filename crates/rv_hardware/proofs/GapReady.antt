@@ -14,7 +14,8 @@ use Rattle.rv_stores.specs.Store.{is_known as is_known_store}
 use Rattle.rv_stores.specs.declared.store.Store.{Store as QueuedStore}
 use Rattle.rv_hardware.specs.Hardware.{Hardware}
 use Rattle.rv_hardware.specs.InFlight.{is_waiting, stores_of}
-use Rattle.rv_hardware.specs.Issue.{Path, Without, FromStores, FromCache, has_operands, has_port, is_load, is_of_kind, is_ready, kind_of_word, may_load, path, path_of, sources_of_word}
+use Rattle.rv_hardware.specs.Issue.{Path, Without, FromStores, FromCache, has_operands, has_port, is_ready, may_load, path, path_of}
+use Rattle.rv_isa.specs.Instruction.{is_load, is_of_kind, kind_of_word, sources_of_word}
 use Rattle.rv_hardware.specs.Seen.{seen_behind, stores_behind}
 use Rattle.rv_hardware.proofs.GapIssue.{ready-parts}
 

@@ -5,8 +5,7 @@ use Rattle.rv_rob.specs.declared.entry.Entry.{Entry}
 use Rattle.rv_front.specs.declared.fetched.Fetched.{Fetched}
 use Rattle.rv_hardware.specs.Dispatch.{has_full_stations, reason_of}
 use Rattle.rv_hardware.specs.Hardware.{Hardware}
-use Rattle.rv_hardware.specs.InFlight.{is_serialising, is_store}
-use Rattle.rv_hardware.specs.Issue.{kind_of_word}
+use Rattle.rv_isa.specs.Instruction.{is_serialising, is_store, kind_of_word}
 use Rattle.rv_hardware.specs.Seen.{stores_behind}
 use Rattle.rv_hardware.specs.declared.report.Stall.{Stall}
 use Rattle.rv_hardware.specs.declared.report.Stall.TheVariants as stall

@@ -15,7 +15,8 @@ use Rattle.rv_stores.specs.Store.{is_draining}
 use Rattle.rv_stores.specs.declared.store.Store.{Store}
 use Rattle.rv_hardware.specs.Dispatch.{entry_of_fetched, reason_of}
 use Rattle.rv_hardware.specs.Hardware.{Hardware}
-use Rattle.rv_hardware.specs.InFlight.{broadcast_of, is_store, stores_of}
+use Rattle.rv_hardware.specs.InFlight.{broadcast_of, stores_of}
+use Rattle.rv_isa.specs.Instruction.{is_store}
 use Rattle.rv_hardware.specs.Reset.{reset_hardware}
 use Rattle.rv_hardware.specs.Retirement.{committed_store}
 use Rattle.rv_hardware.specs.Seen.{stores_behind}

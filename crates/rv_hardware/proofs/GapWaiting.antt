@@ -12,7 +12,8 @@ use Rattle.rv_rob.specs.ReorderBuffer.{with_entry}
 use Rattle.rv_rob.specs.declared.entry.Entry.{Entry}
 use Rattle.rv_units.specs.Pool.{Pool, is_free}
 use Rattle.rv_hardware.specs.Hardware.{Hardware}
-use Rattle.rv_hardware.specs.Issue.{Path, Without, FromStores, FromCache, is_load, is_of_kind, is_ready, issue, issue_kind, issue_oldest, issue_turn, issued, kind_of_word, oldest, oldest_from, path, with_access, with_start}
+use Rattle.rv_hardware.specs.Issue.{Path, Without, FromStores, FromCache, is_ready, issue, issue_kind, issue_oldest, issue_turn, issued, oldest, oldest_from, path, with_access, with_start}
+use Rattle.rv_isa.specs.Instruction.{is_load, is_of_kind, kind_of_word}
 use Rattle.rv_hardware.specs.Repeated.{Turn, GoesOn, Ends, followed_by, repeated}
 use Rattle.rv_hardware.proofs.GapHead.{HasBegun, HeadIs, Waits, head-change}
 use Rattle.rv_hardware.proofs.GapIssue.{IsKeptByIssue, issue_kind-keeps, issue_turn-keeps}

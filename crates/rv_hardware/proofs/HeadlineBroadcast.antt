@@ -20,7 +20,7 @@ use Rattle.rv_isa.specs.Operands.{target_of}
 use Rattle.rv_isa.specs.declared.broadcast.StoreAccess.{StoreAccess}
 use Rattle.rv_hardware.specs.Broadcast.{result_at as result_by, has_result, mends_early, is_mispredicted, with_broadcast, with_recovery, broadcast_result, broadcast_oldest, broadcast_turn, broadcast}
 use Rattle.rv_hardware.specs.Hardware.{Hardware}
-use Rattle.rv_hardware.specs.InFlight.{is_serialising, is_branch_or_jump}
+use Rattle.rv_isa.specs.Instruction.{is_serialising, is_branch_or_jump}
 use Rattle.rv_hardware.specs.Issue.{oldest}
 use Rattle.rv_hardware.specs.Repeated.{GoesOn, Ends}
 use Rattle.rv_hardware.specs.Result.{access_of, effect_message, result_of_word}

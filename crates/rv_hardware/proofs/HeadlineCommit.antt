@@ -25,7 +25,8 @@ use Rattle.rv_rob.specs.declared.entry.Entry.{Entry}
 use Rattle.rv_hardware.specs.Commit.{Committing, stop_of, with_fault, finish_head, finish_broadcast, take_effect, execute_head, with_write_back, write_back_time, is_drained, head_turn, commit_turn_of, commit_turn, commit_unless, commit}
 use Rattle.rv_hardware.specs.Headline.{told, Lead, nowhere, IsTrueCycle}
 use Rattle.rv_hardware.specs.Hardware.{Hardware}
-use Rattle.rv_hardware.specs.InFlight.{is_serialising, broadcast_of}
+use Rattle.rv_hardware.specs.InFlight.{broadcast_of}
+use Rattle.rv_isa.specs.Instruction.{is_serialising}
 use Rattle.rv_hardware.specs.Repeated.{GoesOn, Ends}
 use Rattle.rv_hardware.specs.Retirement.{row_of, with_result, written_of}
 use Rattle.rv_hardware.specs.Seen.{layout_of, seen, with_state}

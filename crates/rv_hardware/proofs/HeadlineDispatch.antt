@@ -13,8 +13,7 @@ use Rattle.rv_rob.specs.declared.entry.Entry.{Entry}
 use Rattle.rv_rob.specs.declared.entry.Stage.TheVariants.{Finished}
 use Rattle.rv_hardware.specs.Dispatch.{Dispatching, reason_of, stage_by, entry_of_fetched, dispatch_unless, dispatch_turn_of, dispatch_turn, dispatch}
 use Rattle.rv_hardware.specs.Hardware.{Hardware}
-use Rattle.rv_hardware.specs.InFlight.{is_serialising}
-use Rattle.rv_hardware.specs.Issue.{is_load, kind_of_word, sources_of_word}
+use Rattle.rv_isa.specs.Instruction.{is_serialising, is_load, kind_of_word, sources_of_word}
 use Rattle.rv_hardware.specs.Result.{result_of_word}
 use Rattle.rv_hardware.specs.Seen.{layout_of, seen, seen_behind}
 use Rattle.rv_hardware.specs.declared.report.Stall.{Stall}

@@ -10,7 +10,8 @@ use Rattle.rv_front.specs.declared.fetched.Fetched.{Fetched}
 use Rattle.rv_rob.specs.declared.entry.Entry.{Entry}
 use Rattle.rv_rob.specs.declared.entry.Stage.{Stage}
 use Rattle.rv_rob.specs.declared.entry.Stage.TheVariants.{Waiting, Running, Finished}
-use Rattle.rv_hardware.specs.InFlight.{target_of_word, with_value, with_store, store_of_message}
+use Rattle.rv_hardware.specs.InFlight.{with_value, with_store, store_of_message}
+use Rattle.rv_isa.specs.Instruction.{target_of_word}
 use Rattle.rv_hardware.specs.Result.{result_of_word}
 use Rattle.rv_hardware.specs.Retirement.{stale_after}
 

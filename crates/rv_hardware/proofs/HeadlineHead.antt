@@ -19,8 +19,7 @@ use Rattle.rv_arch.specs.declared.outcome.RefStep.TheVariants.{Retired, Trap}
 use Rattle.rv_decode.proofs.Relation.{Decodes-instruction_of, IsIllegal-instruction_of}
 use Rattle.rv_decode.specs.Decodes.{Decodes, instruction_of}
 use Rattle.rv_memory.specs.Memory.{Layout, fetched_word, is_in_ram, number_at, word_of}
-use Rattle.rv_hardware.specs.InFlight.{is_serialising, target_of_word}
-use Rattle.rv_hardware.specs.Issue.{sources_of_word}
+use Rattle.rv_isa.specs.Instruction.{is_serialising, target_of_word, sources_of_word}
 use Rattle.rv_hardware.specs.Result.{access_of, effect_message, result_of_word}
 use Rattle.rv_hardware.proofs.HeadlineResult.{ReadsSame, same_result}
 use Rattle.rv_hardware.proofs.HeadlineRetires.{IsRetirement, IsTold, effect_told}

@@ -22,8 +22,9 @@ use Rattle.rv_rob.specs.declared.entry.Stage.TheVariants.{Running}
 use Rattle.rv_stores.specs.Store.{is_known as is_known_store}
 use Rattle.rv_units.specs.Pool.{is_free, started as started_unit}
 use Rattle.rv_hardware.specs.Hardware.{Hardware}
-use Rattle.rv_hardware.specs.InFlight.{is_serialising, is_waiting}
-use Rattle.rv_hardware.specs.Issue.{Path, Without, FromStores, FromCache, path, path_of, cost_of, has_port, is_load, is_of_kind, kind_of_word, sources_of_word, has_operands, may_load, is_ready, oldest, with_access, with_start, issued, issue_oldest, issue_turn, issue_kind, issue}
+use Rattle.rv_hardware.specs.InFlight.{is_waiting}
+use Rattle.rv_isa.specs.Instruction.{is_serialising, is_load, is_of_kind, kind_of_word, sources_of_word}
+use Rattle.rv_hardware.specs.Issue.{Path, Without, FromStores, FromCache, path, path_of, cost_of, has_port, has_operands, may_load, is_ready, oldest, with_access, with_start, issued, issue_oldest, issue_turn, issue_kind, issue}
 use Rattle.rv_hardware.specs.Repeated.{Ends}
 use Rattle.rv_hardware.specs.Seen.{layout_of, seen, seen_behind, stores_behind}
 use Rattle.rv_hardware.proofs.HeadlineDrain.{with_other_memory}

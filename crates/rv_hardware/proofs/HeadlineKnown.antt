@@ -21,8 +21,9 @@ use Rattle.rv_rob.specs.declared.entry.Stage.TheVariants.{Waiting, Running, Fini
 use Rattle.rv_stores.specs.Store.{is_known as is_known_store, is_known_state}
 use Rattle.rv_stores.specs.declared.store.Store.{Store as QueuedStore}
 use Rattle.rv_hardware.specs.Hardware.{Hardware}
-use Rattle.rv_hardware.specs.InFlight.{is_serialising, is_store, broadcast_of, target_of_word, is_target, writes, is_known_from, is_known, with_value, registers_behind, store_of_message, store_of_broadcast, stores_of, with_store, memory_behind}
-use Rattle.rv_hardware.specs.Issue.{has_operands, is_load, sources_of_word}
+use Rattle.rv_hardware.specs.InFlight.{broadcast_of, writes, is_known_from, is_known, with_value, registers_behind, store_of_message, store_of_broadcast, stores_of, with_store, memory_behind}
+use Rattle.rv_isa.specs.Instruction.{is_serialising, is_store, target_of_word, is_target, is_load, sources_of_word}
+use Rattle.rv_hardware.specs.Issue.{has_operands}
 use Rattle.rv_hardware.specs.Result.{access_of, effect_message, result_of_word}
 use Rattle.rv_hardware.specs.Seen.{layout_of, seen, seen_behind, stores_behind}
 use Rattle.rv_hardware.proofs.HeadlineFold.{result_at, executed, behind, IsResult, AreInFlight}

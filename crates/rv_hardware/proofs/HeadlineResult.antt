@@ -18,8 +18,7 @@ use Rattle.rv_isa.specs.declared.operations.Width.{Width}
 use Rattle.rv_arch.specs.Effect.{Retires, Faults, writes, goes_to, jumps, branches, loads, stores, extended}
 use Rattle.rv_arch.specs.State.{State, register_of, write_of}
 use Rattle.rv_memory.specs.Memory.{Layout, is_aligned, is_in_ram, is_writable, number_at}
-use Rattle.rv_hardware.specs.InFlight.{is_serialising}
-use Rattle.rv_hardware.specs.Issue.{is_load, sources_of_word}
+use Rattle.rv_isa.specs.Instruction.{is_serialising, is_load, sources_of_word}
 use Rattle.rv_hardware.specs.Result.{effect_message, fault_message, value_written, result_in, result_of_word}
 
 -- the registers of some operands are the same in two states

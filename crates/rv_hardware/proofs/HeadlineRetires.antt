@@ -23,7 +23,8 @@ use Rattle.rv_arch.specs.Effect.{Effect, Retires, Faults, effect, writes, goes_t
 use Rattle.rv_arch.specs.State.{State, register_of}
 use Rattle.rv_memory.specs.Memory.{Layout, is_aligned, is_in_ram, is_writable, number_at}
 use Rattle.rv_cache.specs.Cache.{IsAligned}
-use Rattle.rv_hardware.specs.InFlight.{is_serialising, with_value, with_store, store_of_message}
+use Rattle.rv_hardware.specs.InFlight.{with_value, with_store, store_of_message}
+use Rattle.rv_isa.specs.Instruction.{is_serialising}
 use Rattle.rv_hardware.specs.Result.{access_of, effect_message, value_written}
 use Rattle.rv_hardware.specs.Retirement.{stale_after}
 

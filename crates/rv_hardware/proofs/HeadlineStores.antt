@@ -17,7 +17,8 @@ use Rattle.rv_rob.specs.declared.entry.Entry.{Entry}
 use Rattle.rv_rob.specs.declared.entry.Stage.{Stage}
 use Rattle.rv_rob.specs.declared.entry.Stage.TheVariants.{Waiting, Running, Finished}
 use Rattle.rv_hardware.specs.Hardware.{Hardware}
-use Rattle.rv_hardware.specs.InFlight.{is_serialising, is_store, broadcast_of, store_of_message, store_of_broadcast, stores_of}
+use Rattle.rv_hardware.specs.InFlight.{broadcast_of, store_of_message, store_of_broadcast, stores_of}
+use Rattle.rv_isa.specs.Instruction.{is_serialising, is_store}
 use Rattle.rv_hardware.specs.Result.{access_of, effect_message, result_of_word}
 use Rattle.rv_hardware.specs.Run.{Reachable}
 use Rattle.rv_hardware.specs.Seen.{layout_of, seen, stores_behind}

@@ -3,8 +3,7 @@ use Rattle.std.proofs.Common.{◌≡◌, ℕ, ◌+◌, ◌≤◌, ◌<◌, ◌&&
 use Rattle.rv_isa.specs.PerKind.{at_kind}
 use Rattle.rv_isa.specs.declared.operations.Kind.{Kind}
 use Rattle.rv_isa.specs.declared.values.Values.{Values}
-use Rattle.rv_hardware.specs.InFlight.{is_store, is_target, target_of_word}
-use Rattle.rv_hardware.specs.Issue.{is_load, is_of_kind, kind_of_word, sources_of_word}
+use Rattle.rv_isa.specs.Instruction.{is_store, is_target, target_of_word, is_load, is_of_kind, kind_of_word, sources_of_word}
 use Rattle.rv_hardware.specs.Stamps.{last_that}
 use Rattle.rv_hardware.proofs.LawsLists.{Every, count}
 use Rattle.rv_hardware.proofs.LawsMarks.{Start, Mark, Agree, Extends, Extends-trans, Extends-cut, Extends-change, at_end, until, until_now, start_until, start_until_now}

@@ -21,8 +21,8 @@ use Rattle.rv_hardware.specs.Cycle.{IsCycle, any_prediction, execute, with_lines
 use Rattle.rv_hardware.specs.Dispatch.{Dispatching, dispatch, has_full_stations, is_stationed}
 use Rattle.rv_hardware.specs.Drain.{drain}
 use Rattle.rv_hardware.specs.Hardware.{Hardware}
-use Rattle.rv_hardware.specs.InFlight.{is_serialising, is_store}
-use Rattle.rv_hardware.specs.Issue.{issue, kind_of_word}
+use Rattle.rv_isa.specs.Instruction.{is_serialising, is_store, kind_of_word}
+use Rattle.rv_hardware.specs.Issue.{issue}
 use Rattle.rv_hardware.specs.Laws.{DoesNotWait, IsFetchedAhead, IsTrappedSoon}
 use Rattle.rv_hardware.specs.Report.{Report}
 use Rattle.rv_hardware.specs.Repeated.{Turn}

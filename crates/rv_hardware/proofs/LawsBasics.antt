@@ -17,8 +17,9 @@ use Rattle.rv_rob.specs.declared.entry.Stage.{Stage}
 use Rattle.rv_rob.specs.declared.entry.Stage.TheVariants.{Waiting, Running, Finished}
 use Rattle.rv_hardware.specs.Dispatch.{stage_by, entry_of_fetched}
 use Rattle.rv_hardware.specs.Hardware.{Hardware}
-use Rattle.rv_hardware.specs.InFlight.{is_serialising, is_waiting}
-use Rattle.rv_hardware.specs.Issue.{has_operands, is_of_kind, is_ready, kind_of_word, may_load, sources_of_word}
+use Rattle.rv_hardware.specs.InFlight.{is_waiting}
+use Rattle.rv_isa.specs.Instruction.{is_serialising, is_of_kind, kind_of_word, sources_of_word}
+use Rattle.rv_hardware.specs.Issue.{has_operands, is_ready, may_load}
 use Rattle.rv_hardware.specs.Result.{result_of_word}
 use Rattle.rv_hardware.specs.Seen.{layout_of, seen_behind}
 use Rattle.rv_hardware.specs.Stamps.{rows_of}

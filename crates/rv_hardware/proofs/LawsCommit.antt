@@ -19,7 +19,8 @@ use Rattle.rv_rob.specs.declared.entry.Stage.{Stage}
 use Rattle.rv_rob.specs.declared.entry.Stage.TheVariants.{Waiting, Running, Finished}
 use Rattle.rv_rob.specs.ReorderBuffer.{head_retired}
 use Rattle.rv_hardware.specs.Commit.{Committing, with_fault, finish_head, finish_broadcast, take_effect, execute_head, with_write_back, write_back_time, is_drained, head_turn, commit_turn_of, commit_turn}
-use Rattle.rv_hardware.specs.InFlight.{is_serialising, broadcast_of}
+use Rattle.rv_hardware.specs.InFlight.{broadcast_of}
+use Rattle.rv_isa.specs.Instruction.{is_serialising}
 use Rattle.rv_hardware.specs.Repeated.{Turn, GoesOn, Ends}
 use Rattle.rv_hardware.specs.Retirement.{row_of, with_result, written_of}
 use Rattle.rv_hardware.specs.Seen.{layout_of, seen, with_state}

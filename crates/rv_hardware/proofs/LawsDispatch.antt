@@ -4,8 +4,7 @@ use Rattle.std.specs.List.{list_any}
 use Rattle.rv_front.specs.declared.fetched.Fetched.{Fetched}
 use Rattle.rv_hardware.specs.Dispatch.{Dispatching, has_full_stations, with_dispatched, dispatch_unless, dispatch_turn, dispatch_turn_of}
 use Rattle.rv_hardware.specs.Hardware.{Hardware}
-use Rattle.rv_hardware.specs.InFlight.{is_serialising, is_store}
-use Rattle.rv_hardware.specs.Issue.{kind_of_word}
+use Rattle.rv_isa.specs.Instruction.{is_serialising, is_store, kind_of_word}
 use Rattle.rv_hardware.specs.Repeated.{Turn, GoesOn, Ends}
 use Rattle.rv_hardware.specs.Seen.{stores_behind}
 use Rattle.rv_hardware.specs.declared.report.Stall.{Stall}

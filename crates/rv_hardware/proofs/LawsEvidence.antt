@@ -17,8 +17,9 @@ use Rattle.rv_stores.specs.declared.store.Store.{Store as QueuedStore}
 use Rattle.rv_stores.specs.Store.{is_known as is_known_store}
 use Rattle.rv_hardware.specs.Broadcast.{has_result, result_at}
 use Rattle.rv_hardware.specs.Dispatch.{is_stationed}
-use Rattle.rv_hardware.specs.InFlight.{broadcast_of, is_known, is_known_from, is_store, is_waiting, stores_of, store_of_broadcast, writes}
-use Rattle.rv_hardware.specs.Issue.{has_operands, is_of_kind, kind_of_word}
+use Rattle.rv_hardware.specs.InFlight.{broadcast_of, is_known, is_known_from, is_waiting, stores_of, store_of_broadcast, writes}
+use Rattle.rv_isa.specs.Instruction.{is_store, is_of_kind, kind_of_word}
+use Rattle.rv_hardware.specs.Issue.{has_operands}
 use Rattle.rv_hardware.specs.Stamps.{last_from, last_that}
 use Rattle.rv_hardware.specs.declared.step.Execution.{Execution}
 use Rattle.rv_hardware.specs.declared.step.Row.{Row}

@@ -21,12 +21,12 @@ use Rattle.rv_rob.specs.declared.entry.Stage.{Stage}
 use Rattle.rv_rob.specs.declared.entry.Stage.TheVariants.{Waiting, Running, Finished}
 use Rattle.rv_hardware.specs.Commit.{Committing, commit_unless, commit_turn, commit_turn_of, execute_head, fence_instructions, head_turn, is_drained, with_fault, write_back_time}
 use Rattle.rv_hardware.specs.Hardware.{Hardware}
-use Rattle.rv_hardware.specs.InFlight.{broadcast_of, is_serialising, is_store}
-use Rattle.rv_hardware.specs.Issue.{kind_of_word}
+use Rattle.rv_hardware.specs.InFlight.{broadcast_of}
+use Rattle.rv_isa.specs.Instruction.{is_serialising, is_store, kind_of_word, is_fence_i}
 use Rattle.rv_hardware.specs.Laws.{DoesNotWait, IsTrappedSoon}
 use Rattle.rv_hardware.specs.Repeated.{Turn, GoesOn, Ends}
 use Rattle.rv_hardware.specs.Retirement.{execution_of, written_of}
-use Rattle.rv_hardware.specs.Stamps.{last_that, is_fence_i, needs_no_unit, is_store_row}
+use Rattle.rv_hardware.specs.Stamps.{last_that, needs_no_unit, is_store_row}
 use Rattle.rv_hardware.specs.Step.{stamp_of}
 use Rattle.rv_hardware.specs.declared.step.Execution.{Execution}
 use Rattle.rv_hardware.specs.declared.step.Row.{Row}

@@ -14,8 +14,8 @@ use Rattle.rv_rob.specs.declared.entry.Stage.{Stage}
 use Rattle.rv_rob.specs.declared.entry.Stage.TheVariants.{Waiting, Running, Finished}
 use Rattle.rv_hardware.specs.Dispatch.{Dispatching, dispatch, dispatch_turn, entry_of_fetched, has_full_stations, is_stationed}
 use Rattle.rv_hardware.specs.Hardware.{Hardware}
-use Rattle.rv_hardware.specs.InFlight.{is_serialising, is_store, is_waiting}
-use Rattle.rv_hardware.specs.Issue.{is_of_kind, kind_of_word}
+use Rattle.rv_hardware.specs.InFlight.{is_waiting}
+use Rattle.rv_isa.specs.Instruction.{is_serialising, is_store, is_of_kind, kind_of_word}
 use Rattle.rv_hardware.specs.Repeated.{Turn}
 use Rattle.rv_hardware.specs.Stamps.{rows_of, EachBehind, instruction_of_row, passes, is_store_row, is_row_of_kind, is_dispatched_in, is_in_flight_in, is_stationed_in}
 use Rattle.rv_hardware.specs.declared.step.Execution.{Execution}

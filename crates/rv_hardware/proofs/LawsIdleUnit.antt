@@ -8,8 +8,9 @@ use Rattle.rv_rob.specs.declared.entry.Entry.{Entry}
 use Rattle.rv_rob.specs.declared.entry.Stage.{Stage}
 use Rattle.rv_rob.specs.declared.entry.Stage.TheVariants.{Waiting, Running, Finished}
 use Rattle.rv_hardware.specs.Hardware.{Hardware}
-use Rattle.rv_hardware.specs.InFlight.{broadcast_of, is_known, is_known_from, is_serialising, is_target, is_waiting, target_of_word, writes}
-use Rattle.rv_hardware.specs.Issue.{has_operands, is_load, is_of_kind, is_ready, kind_of_word, may_load, sources_of_word}
+use Rattle.rv_hardware.specs.InFlight.{broadcast_of, is_known, is_known_from, is_waiting, writes}
+use Rattle.rv_isa.specs.Instruction.{is_serialising, is_target, target_of_word, is_load, is_of_kind, kind_of_word, sources_of_word}
+use Rattle.rv_hardware.specs.Issue.{has_operands, is_ready, may_load}
 use Rattle.rv_hardware.specs.Stamps.{last_from, last_that}
 use Rattle.rv_hardware.specs.declared.step.Execution.{Execution}
 use Rattle.rv_hardware.specs.declared.step.Row.{Row}

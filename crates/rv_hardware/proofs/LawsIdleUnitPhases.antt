@@ -21,7 +21,8 @@ use Rattle.rv_hardware.specs.Commit.{Committing, commit_unless, commit_turn}
 use Rattle.rv_hardware.specs.Cycle.{with_lines}
 use Rattle.rv_hardware.specs.Dispatch.{Dispatching, dispatch_turn}
 use Rattle.rv_hardware.specs.Hardware.{Hardware}
-use Rattle.rv_hardware.specs.Issue.{path, cost_of, is_of_kind, is_ready, issue, issue_kind, issue_turn, issued, kind_of_word}
+use Rattle.rv_hardware.specs.Issue.{path, cost_of, is_ready, issue, issue_kind, issue_turn, issued}
+use Rattle.rv_isa.specs.Instruction.{is_of_kind, kind_of_word}
 use Rattle.rv_hardware.specs.Repeated.{Turn}
 use Rattle.rv_hardware.specs.Report.{Report}
 use Rattle.rv_hardware.specs.Stamps.{rows_of}

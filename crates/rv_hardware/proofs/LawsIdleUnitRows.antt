@@ -4,8 +4,7 @@ use Rattle.rv_isa.specs.PerKind.{at_kind}
 use Rattle.rv_isa.specs.declared.operations.Kind.{Kind}
 use Rattle.rv_isa.specs.declared.values.Values.{Values}
 use Rattle.rv_hardware.specs.Hardware.{Hardware}
-use Rattle.rv_hardware.specs.InFlight.{is_serialising}
-use Rattle.rv_hardware.specs.Issue.{kind_of_word}
+use Rattle.rv_isa.specs.Instruction.{is_serialising, kind_of_word}
 use Rattle.rv_hardware.specs.Laws.{HasOperandsIn}
 use Rattle.rv_hardware.specs.Stamps.{rows_of, EachBehind, last_from, last_that, instruction_of_row, is_load_row, is_row_of_kind, passes, producer_among, sources_of_row, writes_register, is_issued_in}
 use Rattle.rv_hardware.specs.declared.step.Execution.{Execution}

@@ -16,11 +16,10 @@ use Rattle.rv_hardware.specs.Cycle.{execute}
 use Rattle.rv_hardware.specs.Dispatch.{entry_of_fetched, stage_by}
 use Rattle.rv_hardware.specs.Drain.{drain}
 use Rattle.rv_hardware.specs.Hardware.{Hardware}
-use Rattle.rv_hardware.specs.InFlight.{is_serialising, is_store}
-use Rattle.rv_hardware.specs.Issue.{issue, kind_of_word}
+use Rattle.rv_isa.specs.Instruction.{is_serialising, is_store, kind_of_word, is_fence_i}
+use Rattle.rv_hardware.specs.Issue.{issue}
 use Rattle.rv_hardware.specs.Result.{result_of_word}
 use Rattle.rv_hardware.specs.Seen.{layout_of, seen_behind}
-use Rattle.rv_hardware.specs.Stamps.{is_fence_i}
 use Rattle.rv_hardware.proofs.GapBroadcast.{IsKeptByBroadcast, broadcast-keeps}
 use Rattle.rv_hardware.proofs.GapDispatch.{IsKeptByDispatch, dispatch-keeps}
 use Rattle.rv_hardware.proofs.GapDrain.{IsKeptByDrain, drain-keeps}

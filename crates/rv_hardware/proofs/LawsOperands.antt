@@ -4,8 +4,7 @@ use Rattle.rv_isa.specs.declared.instructions.Instr.{Instr}
 use Rattle.rv_isa.specs.declared.values.Values.{Values}
 use Rattle.rv_front.specs.declared.fetched.Fetched.{Fetched}
 use Rattle.rv_hardware.specs.Hardware.{Hardware}
-use Rattle.rv_hardware.specs.InFlight.{is_store, is_target, target_of_word}
-use Rattle.rv_hardware.specs.Issue.{is_load, kind_of_word, sources_of_word}
+use Rattle.rv_isa.specs.Instruction.{is_store, is_target, target_of_word, is_load, kind_of_word, sources_of_word}
 use Rattle.rv_hardware.specs.Stamps.{last_from, last_that}
 use Rattle.rv_hardware.specs.declared.step.Step.{Step}
 use Rattle.rv_hardware.proofs.LawsAdvance.{IsBefore, Advances, retires, starts, is_sent, enters, Starts, writes_mark, IsKnownMark, OperandsKnown, IsKnownStore}

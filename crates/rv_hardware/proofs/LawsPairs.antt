@@ -4,8 +4,7 @@ use Rattle.rv_isa.specs.declared.instructions.Instr.{Instr}
 use Rattle.rv_isa.specs.declared.instructions.Instr.TheVariants.{Csr, FenceI, Mret}
 use Rattle.rv_isa.specs.declared.values.Values.{Values}
 use Rattle.rv_hardware.specs.Hardware.{Hardware}
-use Rattle.rv_hardware.specs.InFlight.{is_serialising, is_target, target_of_word}
-use Rattle.rv_hardware.specs.Issue.{is_load, kind_of_word}
+use Rattle.rv_isa.specs.Instruction.{is_serialising, is_target, target_of_word, is_load, kind_of_word}
 use Rattle.rv_hardware.specs.Laws.{IsKnownBefore}
 use Rattle.rv_hardware.specs.Stamps.{rows_of, EachBehind, last_from, last_that, instruction_of_row, is_store_row, is_load_row, sources_of_row, writes_register, producer_among}
 use Rattle.rv_hardware.specs.declared.step.Execution.{Execution}

@@ -26,8 +26,8 @@ use Rattle.rv_hardware.specs.Commit.{Committing, commit, commit_unless, commit_t
 use Rattle.rv_hardware.specs.Dispatch.{Dispatching, dispatch, dispatch_turn, entry_of_fetched, has_full_stations, is_stationed, with_dispatched}
 use Rattle.rv_hardware.specs.Drain.{drain, start_drain, end_drain}
 use Rattle.rv_hardware.specs.Hardware.{Hardware}
-use Rattle.rv_hardware.specs.InFlight.{is_serialising}
-use Rattle.rv_hardware.specs.Issue.{path, cost_of, has_port, is_ready, is_load, is_of_kind, kind_of_word, may_load, sources_of_word, with_access, issue, issue_kind, issue_turn, issued}
+use Rattle.rv_isa.specs.Instruction.{is_serialising, is_load, is_of_kind, kind_of_word, sources_of_word}
+use Rattle.rv_hardware.specs.Issue.{path, cost_of, has_port, is_ready, may_load, with_access, issue, issue_kind, issue_turn, issued}
 use Rattle.rv_hardware.specs.Retirement.{written_of}
 use Rattle.rv_hardware.specs.Repeated.{Turn}
 use Rattle.rv_hardware.specs.Seen.{stores_behind}

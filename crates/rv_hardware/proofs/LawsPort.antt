@@ -15,7 +15,8 @@ use Rattle.rv_rob.specs.declared.entry.Entry.{Entry}
 use Rattle.rv_stores.specs.Queue.{forwarded}
 use Rattle.rv_stores.specs.Store.{is_known as is_known_store}
 use Rattle.rv_hardware.specs.Hardware.{Hardware}
-use Rattle.rv_hardware.specs.Issue.{Path, Without, FromStores, FromCache, path, path_of, cost_of, has_port, is_load, may_load, with_access}
+use Rattle.rv_hardware.specs.Issue.{Path, Without, FromStores, FromCache, path, path_of, cost_of, has_port, may_load, with_access}
+use Rattle.rv_isa.specs.Instruction.{is_load}
 use Rattle.rv_hardware.specs.Result.{result_of_word}
 use Rattle.rv_hardware.specs.Seen.{layout_of, seen_behind, stores_behind}
 use Rattle.rv_hardware.proofs.LawsMarks.{Mark, Start}

@@ -22,7 +22,8 @@ use Rattle.rv_hardware.specs.Cycle.{with_lines}
 use Rattle.rv_hardware.specs.Dispatch.{Dispatching, dispatch_turn, entry_of_fetched}
 use Rattle.rv_hardware.specs.Drain.{drain, start_drain, end_drain}
 use Rattle.rv_hardware.specs.Hardware.{Hardware}
-use Rattle.rv_hardware.specs.Issue.{has_port, path, cost_of, is_load, issue, issue_kind, issue_turn, issued, with_access}
+use Rattle.rv_hardware.specs.Issue.{has_port, path, cost_of, issue, issue_kind, issue_turn, issued, with_access}
+use Rattle.rv_isa.specs.Instruction.{is_load}
 use Rattle.rv_hardware.specs.Repeated.{Turn}
 use Rattle.rv_hardware.specs.Report.{Report}
 use Rattle.rv_hardware.specs.Seen.{seen_behind}

@@ -9,8 +9,7 @@ use Rattle.rv_isa.specs.declared.values.Values.{Values}
 use Rattle.rv_rob.specs.declared.entry.Entry.{Entry}
 use Rattle.rv_rob.specs.declared.entry.Stage.{Stage}
 use Rattle.rv_rob.specs.declared.entry.Stage.TheVariants.{Waiting, Running, Finished}
-use Rattle.rv_hardware.specs.InFlight.{is_serialising}
-use Rattle.rv_hardware.specs.Issue.{is_load, kind_of_word}
+use Rattle.rv_isa.specs.Instruction.{is_serialising, is_load, kind_of_word}
 use Rattle.rv_hardware.specs.Laws.{HasOrderedStamps, HasCost, IsCost}
 use Rattle.rv_hardware.specs.Retirement.{execution_of}
 use Rattle.rv_hardware.specs.declared.step.Row.{Row}

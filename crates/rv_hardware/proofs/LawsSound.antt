@@ -24,8 +24,8 @@ use Rattle.rv_rob.specs.declared.entry.Stage.{Stage}
 use Rattle.rv_rob.specs.declared.entry.Stage.TheVariants.{Waiting, Running, Finished}
 use Rattle.rv_stores.specs.Queue.{forwarded}
 use Rattle.rv_hardware.specs.Hardware.{Hardware}
-use Rattle.rv_hardware.specs.InFlight.{is_serialising}
-use Rattle.rv_hardware.specs.Issue.{Path, Without, FromStores, FromCache, path, path_of, cost_of, is_load, is_of_kind, kind_of_word}
+use Rattle.rv_isa.specs.Instruction.{is_serialising, is_load, is_of_kind, kind_of_word}
+use Rattle.rv_hardware.specs.Issue.{Path, Without, FromStores, FromCache, path, path_of, cost_of}
 use Rattle.rv_hardware.specs.Laws.{IsCost, IsLoadCost}
 use Rattle.rv_hardware.specs.Result.{result_of_word}
 use Rattle.rv_hardware.specs.Seen.{layout_of, seen_behind, stores_behind}

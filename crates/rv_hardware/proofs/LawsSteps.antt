@@ -16,7 +16,7 @@ use Rattle.rv_rob.specs.declared.entry.Stage.TheVariants.{Finished}
 use Rattle.rv_hardware.specs.Commit.{Committing, commit_unless, commit_turn, with_fault}
 use Rattle.rv_hardware.specs.Cycle.{IsCycle, any_prediction, with_lines}
 use Rattle.rv_hardware.specs.Hardware.{Hardware}
-use Rattle.rv_hardware.specs.InFlight.{is_serialising}
+use Rattle.rv_isa.specs.Instruction.{is_serialising}
 use Rattle.rv_hardware.specs.Laws.{IsFetchedSince}
 use Rattle.rv_hardware.specs.Report.{Report}
 use Rattle.rv_hardware.specs.Repeated.{Turn, GoesOn, Ends}

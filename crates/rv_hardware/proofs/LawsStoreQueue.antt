@@ -23,7 +23,7 @@ use Rattle.rv_hardware.specs.Cycle.{with_lines}
 use Rattle.rv_hardware.specs.Dispatch.{dispatch}
 use Rattle.rv_hardware.specs.Drain.{drain}
 use Rattle.rv_hardware.specs.Hardware.{Hardware}
-use Rattle.rv_hardware.specs.InFlight.{is_serialising, is_store}
+use Rattle.rv_isa.specs.Instruction.{is_serialising, is_store}
 use Rattle.rv_hardware.specs.Issue.{issue, FromCache, has_port}
 use Rattle.rv_hardware.specs.Report.{Report}
 use Rattle.rv_hardware.specs.Repeated.{Turn}

@@ -17,8 +17,7 @@ use Rattle.rv_rob.specs.declared.entry.Stage.TheVariants.{Waiting, Running, Fini
 use Rattle.rv_hardware.specs.Broadcast.{result_at}
 use Rattle.rv_hardware.specs.Dispatch.{entry_of_fetched, stage_by}
 use Rattle.rv_hardware.specs.Hardware.{Hardware}
-use Rattle.rv_hardware.specs.InFlight.{is_serialising, is_store}
-use Rattle.rv_hardware.specs.Issue.{kind_of_word}
+use Rattle.rv_isa.specs.Instruction.{is_serialising, is_store, kind_of_word}
 use Rattle.rv_hardware.specs.Result.{access_of, effect_message, result_of_word}
 use Rattle.rv_hardware.specs.Seen.{layout_of, seen_behind}
 use Rattle.rv_hardware.proofs.GapCycle.{IsKept}

@@ -19,7 +19,8 @@ use Rattle.rv_isa.specs.declared.values.Values.{Values}
 use Rattle.rv_rob.specs.declared.entry.Entry.{Entry}
 use Rattle.rv_units.specs.Pool.{Pool, held_for, holds_unit, holding, is_free, started as started_unit, free_pool}
 use Rattle.rv_hardware.specs.Hardware.{Hardware}
-use Rattle.rv_hardware.specs.Issue.{path, cost_of, is_of_kind, issue, issue_kind, issue_turn, issued, kind_of_word}
+use Rattle.rv_hardware.specs.Issue.{path, cost_of, issue, issue_kind, issue_turn, issued}
+use Rattle.rv_isa.specs.Instruction.{is_of_kind, kind_of_word}
 use Rattle.rv_hardware.specs.Broadcast.{broadcast_turn, with_broadcast, with_recovery}
 use Rattle.rv_hardware.specs.Cycle.{with_lines}
 use Rattle.rv_hardware.specs.Dispatch.{Dispatching, dispatch_turn, entry_of_fetched, with_dispatched}

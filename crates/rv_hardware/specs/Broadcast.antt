@@ -7,7 +7,7 @@ use Rattle.rv_rob.specs.ReorderBuffer.{changed, cut_from}
 use Rattle.rv_rob.specs.declared.entry.{Entry.Entry, Stage.Stage}
 use Rattle.rv_rob.specs.declared.entry.Stage.TheVariants.{Waiting, Running, Finished}
 use Rattle.rv_hardware.specs.Hardware.{Hardware}
-use Rattle.rv_hardware.specs.InFlight.{is_branch_or_jump}
+use Rattle.rv_isa.specs.Instruction.{is_branch_or_jump}
 use Rattle.rv_hardware.specs.Issue.{oldest}
 use Rattle.rv_hardware.specs.Repeated.{Turn, GoesOn, Ends, repeated}
 use Rattle.rv_hardware.specs.Squash.{redirected}

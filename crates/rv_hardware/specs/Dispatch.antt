@@ -8,8 +8,8 @@ use Rattle.rv_rob.specs.ReorderBuffer.{pushed}
 use Rattle.rv_rob.specs.declared.entry.{Entry.Entry, Stage.Stage}
 use Rattle.rv_rob.specs.declared.entry.Stage.TheVariants.{Waiting, Finished}
 use Rattle.rv_hardware.specs.Hardware.{Hardware}
-use Rattle.rv_hardware.specs.InFlight.{is_serialising, is_store, is_waiting}
-use Rattle.rv_hardware.specs.Issue.{is_of_kind, kind_of_word}
+use Rattle.rv_hardware.specs.InFlight.{is_waiting}
+use Rattle.rv_isa.specs.Instruction.{is_serialising, is_store, is_of_kind, kind_of_word}
 use Rattle.rv_hardware.specs.Repeated.{Turn, GoesOn, Ends, repeated}
 use Rattle.rv_hardware.specs.Result.{result_of_word}
 use Rattle.rv_hardware.specs.Seen.{layout_of, seen_behind, stores_behind}

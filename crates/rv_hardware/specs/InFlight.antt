@@ -1,8 +1,7 @@
 -- What the instructions in flight have done so far, oldest first.
-use Rattle.std.specs.Prelude.{ℕ, ◌+◌, ◌-◌, ◌==◌, Bool, true, false, if◌then◌else◌, List, [], ◌∷◌, Option, Some, None, is_some}
-use Rattle.rv_isa.specs.Operands.{target_of}
-use Rattle.rv_isa.specs.declared.{broadcast.Message.Message, broadcast.StoreAccess.StoreAccess, instructions.Instr.Instr}
-use Rattle.rv_isa.specs.declared.instructions.Instr.TheVariants.{FenceI, Csr, Mret, Store, Jal, Jalr, Branch}
+use Rattle.std.specs.Prelude.{ℕ, ◌+◌, ◌-◌, Bool, true, false, if◌then◌else◌, List, [], ◌∷◌, Option, Some, None, is_some}
+use Rattle.rv_isa.specs.Instruction.{is_store, is_target, target_of_word}
+use Rattle.rv_isa.specs.declared.{broadcast.Message.Message, broadcast.StoreAccess.StoreAccess}
 use Rattle.rv_arch.specs.State.{with_register}
 use Rattle.rv_memory.specs.Bytes.{overwritten}
 use Rattle.rv_rob.specs.declared.entry.{Entry.Entry, Stage.Stage}
@@ -10,25 +9,6 @@ use Rattle.rv_rob.specs.declared.entry.Stage.TheVariants.{Waiting, Running, Fini
 use Rattle.rv_stores.specs.declared.store.{Store.Store as QueuedStore, StoreState.StoreState}
 use Rattle.rv_stores.specs.declared.store.StoreState.TheVariants as store
 use Rattle.rv_stores.specs.declared.store.StorePhase.TheVariants.{Speculative}
-
--- an instruction that waits to be the oldest, and beside which nothing younger is in flight
-abbrev pub is_serialising : Option Instr → Bool
-is_serialising (Some FenceI) = true
-is_serialising (Some (Csr op rd csr source)) = true
-is_serialising (Some Mret) = true
-is_serialising _ = false
-
--- the instruction is a store
-abbrev pub is_store : Option Instr → Bool
-is_store (Some (Store width rs1 rs2 offset)) = true
-is_store _ = false
-
--- an instruction whose next pc its execution tells
-abbrev pub is_branch_or_jump : Option Instr → Bool
-is_branch_or_jump (Some (Jal rd offset)) = true
-is_branch_or_jump (Some (Jalr rd rs1 offset)) = true
-is_branch_or_jump (Some (Branch condition rs1 rs2 offset)) = true
-is_branch_or_jump _ = false
 
 -- the stage is that of waiting
 abbrev pub is_waiting : Stage → Bool
@@ -41,16 +21,6 @@ abbrev pub broadcast_of : Stage → Option Message
 broadcast_of Waiting = None
 broadcast_of (Running issue message) = None
 broadcast_of (Finished issue cycle message) = Some message
-
--- the register that an instruction writes, if it is one and writes any
-abbrev pub target_of_word : Option Instr → Option ℕ
-target_of_word None = None
-target_of_word (Some instruction) = target_of instruction
-
--- the instruction writes the register
-abbrev pub is_target : ℕ → Option ℕ → Bool
-is_target register None = false
-is_target register (Some target) = target == register
 
 -- an entry writes a register
 abbrev pub writes : Entry → ℕ → Bool

@@ -1,9 +1,9 @@
 -- The issue phase: for each kind of unit, the oldest instructions that are ready leave for the units that are free.
 use Rattle.std.specs.Prelude.{ℕ, ◌+◌, ◌&&◌, ◌||◌, not, nat_le, Bool, true, false, if◌then◌else◌, List, [], ◌∷◌, ◌++◌, length, take, Option, Some, None, is_some}
 use Rattle.std.specs.List.{list_all}
-use Rattle.rv_isa.specs.Operands.{sources_of, kind_of}
+use Rattle.rv_isa.specs.Instruction.{is_load, is_of_kind, kind_of_word, sources_of_word}
 use Rattle.rv_isa.specs.Operation.{bytes_of, width_of}
-use Rattle.rv_isa.specs.PerKind.{at_kind, is_same, with_kind}
+use Rattle.rv_isa.specs.PerKind.{at_kind, with_kind}
 use Rattle.rv_isa.specs.Word.{sum, modulo_word}
 use Rattle.rv_isa.specs.declared.{broadcast.Message.Message, instructions.Instr.Instr, operations.Kind.Kind}
 use Rattle.rv_isa.specs.declared.instructions.Instr.TheVariants.{Load}
@@ -60,26 +60,6 @@ abbrev pub has_port : Hardware → Path → Bool
 has_port h Without = true
 has_port h FromStores = true
 has_port h (FromCache address) = nat_le h.port_free h.cycle
-
--- the word is a load
-abbrev pub is_load : Option Instr → Bool
-is_load (Some (Load form rd rs1 offset)) = true
-is_load _ = false
-
--- the kind, if there is one, is this one
-abbrev pub is_of_kind : Kind → Option Kind → Bool
-is_of_kind kind None = false
-is_of_kind kind (Some other) = is_same kind other
-
--- the kind of unit that a word uses, if it uses one
-abbrev pub kind_of_word : Option Instr → Option Kind
-kind_of_word None = None
-kind_of_word (Some instruction) = kind_of instruction
-
--- the registers that a word reads
-abbrev pub sources_of_word : Option Instr → List (Option ℕ)
-sources_of_word None = []
-sources_of_word (Some instruction) = sources_of instruction
 
 -- every register that an instruction reads is known behind the older ones
 abbrev pub has_operands : List Entry → List (Option ℕ) → Bool

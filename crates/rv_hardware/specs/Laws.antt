@@ -2,6 +2,7 @@
 use Rattle.std.specs.Prelude.{◌≡◌, ℕ, ◌+◌, ◌-◌, ◌<◌, ◌≤◌, ◌==◌, ◌⊎◌, max, Bool, true, false, List, [], ◌∷◌, map, Some, is_some, IfSome, MatchOption, All, AllPairs, count_by}
 use Rattle.std.specs.List.{list_any, range_with_len}
 use Rattle.rv_isa.specs.Arrivals.{lines_at}
+use Rattle.rv_isa.specs.Instruction.{kind_of_word}
 use Rattle.rv_isa.specs.PerKind.{at_kind}
 use Rattle.rv_isa.specs.declared.{lines.Arrival.Arrival, operations.Kind.Kind, values.CacheValues.CacheValues, values.Values.Values}
 use Rattle.rv_isa.specs.declared.values.Recovery.TheVariants.{Early}
@@ -11,7 +12,6 @@ use Rattle.rv_arch.specs.State.{State}
 use Rattle.rv_arch.specs.Trap.{interrupt_cause}
 use Rattle.rv_memory.specs.Memory.{Layout}
 use Rattle.rv_hardware.specs.Headline.{told}
-use Rattle.rv_hardware.specs.Issue.{kind_of_word}
 use Rattle.rv_hardware.specs.Stamps.{rows_of, steps_below, steps_in, EachBehind, EachNext, instruction_of_row, is_store_row, is_load_row, is_fence_i_row, known_in, needs_no_unit, is_row_of_kind, sources_of_row, producer_among, flushes, is_fetched_in, is_dispatched_in, is_issued_in, is_broadcast_in, is_buffered_in, is_in_flight_in, is_stationed_in, is_executing_in, is_queued_in, uses_port}
 use Rattle.rv_hardware.specs.Step.{stamp_of, is_interrupt}
 use Rattle.rv_hardware.specs.declared.{report.StallCounts.StallCounts, step.Execution.Execution, step.Row.Row, step.Step.Step}

@@ -11,7 +11,8 @@ use Rattle.rv_stores.specs.declared.store.Store.{Store as QueuedStore}
 use Rattle.rv_stores.specs.declared.store.StorePhase.TheVariants.{Committed}
 use Rattle.rv_stores.specs.declared.store.StoreState.TheVariants.{Filled}
 use Rattle.rv_hardware.specs.Hardware.{Hardware}
-use Rattle.rv_hardware.specs.InFlight.{target_of_word, with_value}
+use Rattle.rv_hardware.specs.InFlight.{with_value}
+use Rattle.rv_isa.specs.Instruction.{target_of_word}
 use Rattle.rv_hardware.specs.declared.step.{Execution.Execution, Step.Step}
 use Rattle.rv_hardware.specs.declared.step.Step.TheVariants as step
 

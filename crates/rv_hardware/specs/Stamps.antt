@@ -2,11 +2,9 @@
 use Rattle.std.specs.Prelude.{◌≡◌, ℕ, ◌+◌, ◌==◌, ◌&&◌, not, nat_le, nat_lt, Bool, true, false, if◌then◌else◌, List, [], ◌∷◌, ◌++◌, filter, Option, Some, None}
 use Rattle.std.specs.Option.{option_map, unwrap_or}
 use Rattle.rv_decode.specs.Decodes.{instruction_of}
+use Rattle.rv_isa.specs.Instruction.{is_serialising, is_fence_i, is_load, is_store, kind_of_word, is_of_kind, sources_of_word, target_of_word, is_target}
 use Rattle.rv_isa.specs.declared.{causes.Cause.Cause, instructions.Instr.Instr, operations.Kind.Kind}
 use Rattle.rv_isa.specs.declared.causes.Cause.TheVariants.{InstructionAccessFault, IllegalInstruction, Breakpoint, EnvironmentCall}
-use Rattle.rv_isa.specs.declared.instructions.Instr.TheVariants.{FenceI}
-use Rattle.rv_hardware.specs.InFlight.{is_serialising, is_store, is_target, target_of_word}
-use Rattle.rv_hardware.specs.Issue.{is_load, is_of_kind, kind_of_word, sources_of_word}
 use Rattle.rv_hardware.specs.Step.{stamp_of}
 use Rattle.rv_hardware.specs.declared.step.{Execution.Execution, Row.Row, Step.Step}
 use Rattle.rv_hardware.specs.declared.step.Step.TheVariants.{Retired, Trap, Interrupt}
@@ -54,11 +52,6 @@ is_store_row row = is_store (instruction_of_row row)
 -- the row is a load
 abbrev pub is_load_row : Row → Bool
 is_load_row row = is_load (instruction_of_row row)
-
--- the instruction is FENCE.I
-abbrev pub is_fence_i : Option Instr → Bool
-is_fence_i (Some FenceI) = true
-is_fence_i _ = false
 
 -- the row is FENCE.I
 abbrev pub is_fence_i_row : Row → Bool

@@ -8,6 +8,7 @@ pub mod Comparison
 pub mod Csr
 pub mod Description
 pub mod Field
+pub mod Instruction
 pub mod Key
 pub mod Levels
 pub mod Numbered

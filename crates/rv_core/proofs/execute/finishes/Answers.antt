@@ -7,8 +7,7 @@ use Rattle.rv_isa.specs.declared.lines.Lines.{Lines}
 use Rattle.rv_arch.specs.Effect.{goes_to}
 use Rattle.rv_arch.specs.State.{State}
 use Rattle.rv_memory.specs.Memory.{Layout}
-use Rattle.rv_hardware.specs.InFlight.{is_serialising}
-use Rattle.rv_hardware.specs.Issue.{kind_of_word}
+use Rattle.rv_isa.specs.Instruction.{is_serialising, kind_of_word}
 use Rattle.rv_hardware.specs.Result.{effect_message, result_in, result_of_word}
 use Rattle.rv_core.proofs.execute.finishes.Goals as goal
 

@@ -4,8 +4,7 @@ use Rattle.rv_rob.specs.ReorderBuffer.{pushed}
 use Rattle.rv_hardware.specs.Broadcast.{mends_early}
 use Rattle.rv_hardware.specs.Dispatch.{entry_of_fetched, reason_of}
 use Rattle.rv_hardware.specs.Hardware.{Hardware}
-use Rattle.rv_hardware.specs.InFlight.{is_branch_or_jump, is_store, target_of_word}
-use Rattle.rv_hardware.specs.Issue.{kind_of_word}
+use Rattle.rv_isa.specs.Instruction.{is_branch_or_jump, is_store, target_of_word, kind_of_word}
 use Rattle.rv_core.specs.Entering.{are_full_for, with_instruction, with_jump, with_store, with_target}
 use Rattle.rv_core.specs.Parts.{IsSound, hardware_of}
 use Rattle.rv_core.specs.Ties.{status_behind, values_in}

@@ -1,7 +1,6 @@
 use Rattle.std.proofs.Common.{◌≡◌, ◌&&◌, true, false, length, nat_le, refl, sym, ap, ◌∙◌}
 use Rattle.rv_hardware.specs.Dispatch.{has_full_stations}
-use Rattle.rv_hardware.specs.InFlight.{is_store}
-use Rattle.rv_hardware.specs.Issue.{kind_of_word}
+use Rattle.rv_isa.specs.Instruction.{is_store, kind_of_word}
 use Rattle.rv_hardware.specs.Seen.{stores_behind}
 use Rattle.rv_core.specs.Entering.{are_full_for}
 use Rattle.rv_core.specs.Parts.{hardware_of}

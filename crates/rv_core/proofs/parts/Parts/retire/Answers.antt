@@ -5,7 +5,8 @@ use Rattle.rv_rename.specs.Renaming.{without_checkpoint}
 use Rattle.rv_rob.specs.declared.entry.Entry.{Entry}
 use Rattle.rv_memory.specs.Stale.{StaleWords}
 use Rattle.rv_hardware.specs.Hardware.{Hardware}
-use Rattle.rv_hardware.specs.InFlight.{broadcast_of, is_store, target_of_word}
+use Rattle.rv_hardware.specs.InFlight.{broadcast_of}
+use Rattle.rv_isa.specs.Instruction.{is_store, target_of_word}
 use Rattle.rv_hardware.specs.Retirement.{with_result}
 use Rattle.rv_core.proofs.Closed.{closed-is, closed-sound}
 use Rattle.rv_core.proofs.RetiredHead.{IsTarget, tied_behind_head}
