@@ -63,6 +63,11 @@ same_lengths p sound = record {
 pub length-pool : (p : Inside) → IsSoundPool p → length (joined p.seqs.items p.dispatched.items p.first.operands p.second.operands) ≡ vec_len p.seqs
 length-pool p sound = omega (arith, length-joined _ _ _ _ (same_lengths p sound))
 
+-- a list without an element is the empty one
+pub none_waits : (ws : List Waiting) → length ws ≡ 0 → ws ≡ []
+none_waits [] none = refl
+none_waits (w ∷ ws) none = absurd (omega arith)
+
 -- the parts in a place make the instruction in it
 pub slice_get-joined : (ns : List ℕ) (fs : List Dispatched) (xs ys : List Operand) (i n : ℕ) (f : Dispatched) (x y : Operand) → slice_get ns i ≡ Some n → slice_get fs i ≡ Some f → slice_get xs i ≡ Some x → slice_get ys i ≡ Some y → slice_get (joined ns fs xs ys) i ≡ Some (instruction_of (n, f) (x, y))
 slice_get-joined ns fs xs ys i n f x y at_n at_f at_x at_y =

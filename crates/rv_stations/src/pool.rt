@@ -1,4 +1,4 @@
-ghost use Rattle.std.specs.Prelude.{◌≡◌, ◌<◌, ◌≤◌, ◌↔◌, Bool, Some, length, nat_le, slice_get, IsTrue, IfOk, IfSome, option_and_then};
+ghost use Rattle.std.specs.Prelude.{◌≡◌, ◌<◌, ◌≤◌, ◌↔◌, Bool, [], Some, length, nat_le, slice_get, IsTrue, IfOk, IfSome, option_and_then};
 ghost use Rattle.rv_isa.specs.Numbered.{AreBelow, IsInOrder};
 ghost use Rattle.rv_stations.specs.Waiting.{seq_of, IsOperand, is_ready, ready_of, oldest_ready};
 ghost use Rattle.std.specs.Option.{option_map};
@@ -62,6 +62,13 @@ impl StationPool {
         ensures within { length self.now.waiting ≤ self.now.capacity }
     {
         self.seqs.len() >= self.capacity
+    }
+
+    /// Whether no instruction waits.
+    pub fn is_empty(&self) -> bool
+        ensures { IsTrue result ↔ (self.now.waiting ≡ []) }
+    {
+        self.seqs.is_empty()
     }
 
     /// Whether a sequence number is above all that wait.

@@ -1,4 +1,4 @@
-ghost use Rattle.std.specs.Prelude.{◌≡◌, ◌<◌, ◌≤◌, ◌↔◌, Bool, length, nat_le, IsTrue, IfOk, option_and_then};
+ghost use Rattle.std.specs.Prelude.{◌≡◌, ◌<◌, ◌≤◌, ◌↔◌, Bool, [], length, nat_le, IsTrue, IfOk, option_and_then};
 ghost use Rattle.rv_isa.specs.Numbered.{AreBelow, IsInOrder};
 ghost use Rattle.rv_stations.specs.Waiting.{seq_of, IsOperand, ready_of, oldest_ready};
 ghost use Rattle.rv_isa.specs.PerKind.{at_kind, with_kind, for_each};
@@ -46,6 +46,13 @@ impl Stations {
         ensures within { length (at_kind kind self.now).waiting ≤ (at_kind kind self.now).capacity }
     {
         self.pools.get(kind).is_full()
+    }
+
+    /// Whether no instruction of a kind waits.
+    pub fn is_empty(&self, kind: Kind) -> bool
+        ensures { IsTrue result ↔ ((at_kind kind self.now).waiting ≡ []) }
+    {
+        self.pools.get(kind).is_empty()
     }
 
     /// Whether a sequence number is above those of all instructions of a kind that wait.
