@@ -18,7 +18,7 @@ reset_csrs = record {
   mtval = 0;
 }
 
--- The state at reset: the registers are 0, RAM holds the image at its front and zeros behind it, no word is stale, and
+-- The state at reset: the registers are 0, RAM holds the image at its front and zeros after it, no word is stale, and
 -- execution begins at the image's start.
 abbrev pub reset : Layout → List ℕ → ℕ → State
 reset layout image start = record {

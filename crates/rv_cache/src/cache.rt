@@ -60,7 +60,7 @@ impl<M: Backing> Cache<M> {
         })
     }
 
-    /// Reads 1, 2 or 4 bytes at a multiple of their number, and answers them, with zeros behind
+    /// Reads 1, 2 or 4 bytes at a multiple of their number, and answers them, with zeros after
     /// them, and what the access costs in cycles.
     pub fn read(&mut self, address: u32, count: usize) -> ([u8; 4], u32)
         requires access { IsAccess self.old address count }

@@ -24,7 +24,7 @@ faulty (k ∷ ks) words e is among =
     let some : is_empty (k ∷ ks) ≡ false = ne_eqb (length (k ∷ ks)) 0 (λ none. omega arith) in
     rw (is, some) refl
 
--- words that are refused, but for want of memory, ask for no command
+-- words that are refused, except when out of memory, ask for no command
 pub refused_words : (parser : Parser) (words : List Text) (e : Error) → app_of parser ≡ program_arguments
     → (is_simple_and_free (app_of parser) ≡ true → HasKind (fault_of (app_of parser) words) e)
     → (command_of words ≡ None) ⊎ (kind_of e ≡ OutOfMemory)

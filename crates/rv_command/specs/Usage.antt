@@ -15,29 +15,29 @@ IsMistake kind = (kind ≢ DisplayHelp) × (kind ≢ DisplayVersion)
 unfoldable pub job_hint : List ℕ
 job_hint = codes "A job comes on standard input, as in 'rv_sim run < FILE'.\n"
 
--- what stands behind clap's text: the hint, where a word is no argument or no command
+-- what stands after clap's text: the hint, where a word is no argument or no command
 unfoldable pub hint_of : ErrorKind → List ℕ
 hint_of UnknownArgument = job_hint
 hint_of InvalidSubcommand = job_hint
 hint_of _ = []
 
--- a text is some text that is not empty, and behind it the hint for a kind of error
+-- a text is some text that is not empty, and after it the hint for a kind of error
 pub record HasHint (kind : ErrorKind) (text : List ℕ) : Type 0 where
   pub said : List ℕ
   pub nonempty : 0 < length said
   pub hinted : text ≡ said ++ hint_of kind
 
--- a mistake: the text is told, and the status is 2 even where it can't be written
+-- a mistake: the text is reported, and the status is 2 even where it can't be written
 abbrev pub TellsMistake : List ℕ → Option (List ℕ) → Option (List ℕ) → FaultStream → FaultStream → ℕ → Type 0
 TellsMistake text old-output new-output old new status = (new-output ≡ old-output) × Tells old new text × (status ≡ 2)
 
--- help or the version: the text is written whole, or a beginning of it, which is told
+-- help or the version: the text is written whole, or a beginning of it, which is reported
 abbrev pub ShowsHelp : List ℕ → Option (List ℕ) → Option (List ℕ) → FaultStream → FaultStream → ℕ → Type 0
 ShowsHelp text old-output new-output old new status =
     (Appends old-output new-output text × (new ≡ old) × (status ≡ 0))
     ⊎ (AppendsBeginning old-output new-output text × TellsError WriteFailed old new status)
 
--- what is shown of clap's error of a kind, and the exit status: some text with its hint, unless memory is wanting
+-- what is shown of clap's error of a kind, and the exit status: some text with its hint, unless memory ran out
 abbrev pub ShowsUsage : ErrorKind → Option (List ℕ) → Option (List ℕ) → FaultStream → FaultStream → ℕ → Type 0
 ShowsUsage kind old-output new-output old new status =
     TellsWantOfMemory old-output new-output old new status

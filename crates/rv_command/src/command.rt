@@ -109,7 +109,7 @@ fn command_given(matches: &ArgMatches) -> Option<Command>
 }
 
 /// What the words of a command line ask for; the first word is the program's name. Fails where
-/// they are no command, where they ask for help or the version, and for want of memory: `clap`'s error says
+/// they are no command, where they ask for help or the version, and when out of memory: `clap`'s error says
 /// which, and has the text to show.
 pub fn parse_words(alloc: Global, words: &[String]) -> Result<Command, Error>
     ensures command { IfOk result (λ c.

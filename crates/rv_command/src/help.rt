@@ -86,7 +86,7 @@ pub(crate) const EXPLAIN: CommandHelp = CommandHelp {
 
 pub(crate) const COMPARE: CommandHelp = CommandHelp {
     about: "Runs one program on several machines, and compares their totals",
-    ending: "Reads from standard input up to 64 descriptions of machines in TOML, a line %% behind each, and a program,
+    ending: "Reads from standard input up to 64 descriptions of machines in TOML, a line %% after each, and a program,
 as in:
   rv_sim compare < FILE
 

@@ -23,7 +23,7 @@ fn hint_of(kind: ErrorKind) -> &'static str
     }
 }
 
-// What is said of words that are no command: `clap`'s text and a hint. `None` for want of memory, of which `clap` says
+// What is said of words that are no command: `clap`'s text and a hint. `None` when out of memory, of which `clap` says
 // nothing.
 fn text_of(alloc: Global, error: &Error) -> Option<String>
     ensures text { IfSome result (λ text. HasHint (kind_of error.now) text.bytes.items) }
@@ -41,9 +41,9 @@ fn text_of(alloc: Global, error: &Error) -> Option<String>
 }
 
 /// Shows what `clap` says of words that are no command: help and the version on `output`, and else on
-/// `errors`, with a hint behind it where a word may be meant as the name of a job's file. The answer is the
+/// `errors`, with a hint after it where a word may be meant as the name of a job's file. The answer is the
 /// exit status: 0 for help and the version, 2 for a fault of usage, 4 where help or the version could not be
-/// written, 5 for want of memory.
+/// written, 5 when out of memory.
 pub fn show_usage<W: Write, E: Write>(
     alloc: Global,
     error: &Error,

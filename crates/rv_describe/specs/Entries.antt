@@ -69,7 +69,7 @@ entry_fault entries =
     (option_or (first_with fault.WrongKind WrongKind entries)
     (first_with fault.OutOfRange OutOfRange (take 100000 entries)))
 
--- the number of the first arrival with a cycle below the one before, where the first has this number and stands behind this cycle
+-- the number of the first arrival with a cycle below the one before, where the first has this number and stands after this cycle
 abbrev pub first_fall : ℕ → ℕ → List Arrival → Option ℕ
 first_fall number before [] = None
 first_fall number before (arrival ∷ later) =

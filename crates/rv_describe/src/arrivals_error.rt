@@ -17,7 +17,7 @@ pub enum ArrivalsError {
     /// where `arrival` is no array.
     #[error("WrongKind {entry}")]
     WrongKind { entry: usize },
-    /// An entry whose cycle, line or level is not one of those allowed, or that stands behind the
+    /// An entry whose cycle, line or level is not one of those allowed, or that stands after the
     /// 100,000th.
     #[error("OutOfRange {entry}")]
     OutOfRange { entry: usize },

@@ -9,7 +9,7 @@ use Rattle.rv_job.specs.Parts.{halves_of}
 use Rattle.rv_job.specs.declared.errors.SimError.{SimError}
 use Rattle.rv_job.specs.declared.job.Job.{Job}
 
--- behind no description stands the whole text
+-- after no description stands the whole text
 behind_none : {text rest : List ℕ} {machines : List Values} → IsBehind text machines rest → length machines ≡ 0 → rest ≡ text
 behind_none IsBehind.nothing none = refl
 behind_none (IsBehind.another {machines = machines} {machine = machine} front is described) none =

@@ -1,4 +1,4 @@
--- What stands behind a separator is shorter than the text.
+-- What stands after a separator is shorter than the text.
 use Rattle.std.proofs.Common.{◌≡◌, ℕ, suc, ◌+◌, ◌<◌, List, [], ◌∷◌, length, Option, Some, None, Bool, true, false, subst, option_map, arith}
 use Rattle.std.specs.Prelude.{if◌then◌else◌, IfSome}
 use Rattle.std.specs.List.{after_first, before_first, position_or_len}

@@ -11,7 +11,7 @@ preceded_twice before byte None = refl
 preceded_twice before byte (Some halves) =
     ap (λ bytes. Some (record { before = bytes; behind = halves.behind })) (sym (append_assoc before (byte ∷ []) halves.before))
 
--- no separator stands right behind a byte
+-- no separator stands right after a byte
 no_separator : (byte : ℕ) (later : List ℕ) → (if is_line_feed byte then halves_at_front later else None) ≡ None
     → later_halves (byte ∷ later) ≡ option_map (preceded (byte ∷ [])) (later_halves later)
 unfolding later_halves
@@ -23,7 +23,7 @@ pub no_separator_at_front : (at_line_feed : Bool) (later : List ℕ) → behind_
 no_separator_at_front true later none = rw none refl
 no_separator_at_front false later none = refl
 
--- a place behind which no separator stands
+-- a place after which no separator stands
 pub next_place : (text : List ℕ) (place : ℕ) → place < length text
     → later_halves text ≡ option_map (preceded (take place text)) (later_halves (drop place text))
     → (if is_line_feed (get_or text place 0) then halves_at_front (drop (place + 1) text) else None) ≡ None

@@ -1,4 +1,4 @@
--- How many separators a text has, told from its halves.
+-- How many separators a text has, by its halves.
 use Rattle.std.proofs.Common.{◌≡◌, ◌∙◌, ℕ, suc, ◌+◌, ◌≤◌, List, [], ◌∷◌, Bool, true, false, Option, Some, None, count_by, length, option_map, refl, sym, ap, arith, length-append}
 use Rattle.std.proofs.lemmas.Bool.{le-ltb, lt-ltb}
 use Rattle.std.specs.Prelude.{if◌then◌else◌, is_some, nat_lt}
@@ -12,12 +12,12 @@ use Rattle.rv_job.specs.ReadParts.{halves_in}
 use Rattle.rv_job.specs.declared.job.Job.{Job}
 use Rattle.rv_job.specs.declared.parts.Halves as read
 
--- a separator, and those behind it
+-- a separator, and those after it
 abbrev pub count_from : Option Halves → ℕ
 count_from None = 0
 count_from (Some halves) = 1 + separator_count halves.behind
 
--- the lines behind the first one
+-- the lines after the first one
 abbrev later_lines : List ℕ → List (List ℕ)
 later_lines [] = []
 later_lines (byte ∷ later) = if is_line_feed byte then slice_split is_line_feed later else later_lines later
@@ -95,7 +95,7 @@ pub another : (rest : List ℕ) (found : Option read.Halves) (count : ℕ) → o
 another rest None count is all = sym (le-ltb most_machines count (omega (arith, all, none_more rest (sym is))))
 another rest (Some halves) count is all = sym (lt-ltb most_machines count (omega (arith, all, one_more rest (halves_in halves) (sym is))))
 
--- behind descriptions stand the other separators
+-- after descriptions stand the other separators
 pub counted_behind : {text rest : List ℕ} {machines : List Values} → IsBehind text machines rest
     → separator_count text ≡ length machines + separator_count rest
 counted_behind IsBehind.nothing = omega arith

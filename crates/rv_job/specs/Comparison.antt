@@ -1,4 +1,4 @@
--- What a text says as a comparison: descriptions, each with a separator behind it, and a program; and why it is refused.
+-- What a text says as a comparison: descriptions, each with a separator after it, and a program; and why it is refused.
 use Rattle.std.specs.Prelude.{◌≡◌, ◌≤◌, ◌<◌, count_by, ℕ, ◌+◌, List, [], ◌∷◌, ◌++◌, length, ⊤, Some, None, Ok, Err}
 use Rattle.std.specs.List.{slice_split}
 use Rattle.rv_isa.specs.declared.{images.Image.Image, values.Values.Values}
@@ -18,7 +18,7 @@ most_machines = 64
 abbrev pub separator_count : List ℕ → ℕ
 separator_count text = count_by is_separator (slice_split is_line_feed text)
 
--- the front of a text describes machines, with a separator behind each description, and the rest stands behind the last of them
+-- the front of a text describes machines, with a separator after each description, and the rest stands after the last of them
 pub data IsBehind (text : List ℕ) : List Values → List ℕ → Type 0 where
   nothing : IsBehind text [] text
   another : {machines : List Values} {rest : List ℕ} {machine : Values} {halves : Halves} → IsBehind text machines rest →

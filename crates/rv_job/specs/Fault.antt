@@ -1,4 +1,4 @@
--- What is told of a fault, and the status that the program ends with.
+-- What is reported of a fault, and the status that the program ends with.
 use Rattle.std.specs.Prelude.{ℕ, ◌==◌, if◌then◌else◌, List, [], ◌++◌, codes, decimal, Result, Ok, Err}
 use Rattle.rv_asm.specs.declared.fault.AsmFault.{AsmFault}
 use Rattle.rv_asm.specs.declared.fault.AsmFault.TheVariants as asm
@@ -25,7 +25,7 @@ fault_name asm.OutOfRange = codes "OutOfRange"
 fault_name asm.Misaligned = codes "Misaligned"
 fault_name asm.Memory = codes "Memory"
 
--- the name of a description's fault, and a space where a key stands behind it
+-- the name of a description's fault, and a space where a key stands after it
 unfoldable pub description_kind : DescriptionError → List ℕ
 description_kind described.NotToml = codes "NotToml"
 description_kind described.UnknownKey = codes "UnknownKey"
@@ -43,7 +43,7 @@ unfoldable pub described_line : ℕ → DescriptionError → List ℕ
 described_line number error =
     codes "error: description " ++ (decimal number ++ (codes ": " ++ (description_kind error ++ (text_at (place_of error) ++ codes "\n"))))
 
--- the name of a fault of arrivals, and a space where a number stands behind it
+-- the name of a fault of arrivals, and a space where a number stands after it
 unfoldable pub arrivals_kind : ArrivalsError → List ℕ
 arrivals_kind listed.NotToml = codes "NotToml"
 arrivals_kind listed.UnknownKey = codes "UnknownKey"
@@ -64,7 +64,7 @@ arrivals_line error = codes "error: arrivals: " ++ (arrivals_kind error ++ (entr
 unfoldable pub unfit_line : ℕ → List ℕ
 unfit_line number = codes "error: image does not fit description " ++ (decimal number ++ codes "\n")
 
--- the line that tells a fault
+-- the line that reports a fault
 unfoldable pub fault_line : SimError → List ℕ
 fault_line TooLong = codes "error: job too long\n"
 fault_line TooManyDescriptions = codes "error: too many descriptions\n"
@@ -77,18 +77,18 @@ fault_line (DoesNotFit number) = unfit_line number
 fault_line Memory = codes "error: memory\n"
 fault_line WriteFailed = codes "error: output\n"
 
--- the exit status of a fault: 1 for a job that is refused, 4 where output failed, 5 for want of memory
+-- the exit status of a fault: 1 for a job that is refused, 4 where output failed, 5 when out of memory
 unfoldable pub fault_status : SimError → ℕ
 fault_status Memory = 5
 fault_status WriteFailed = 4
 fault_status refused = 1
 
--- the line that tells why the input could not be read
+-- the line that says why the input could not be read
 unfoldable pub input_fault_line : InputError → List ℕ
 input_fault_line unread.Failed = codes "error: input\n"
 input_fault_line unread.Memory = fault_line Memory
 
--- the exit status where the input could not be read: 4 where a read failed, 5 for want of memory
+-- the exit status where the input could not be read: 4 where a read failed, 5 when out of memory
 unfoldable pub input_fault_status : InputError → ℕ
 input_fault_status unread.Failed = 4
 input_fault_status unread.Memory = fault_status Memory

@@ -1,4 +1,4 @@
--- Where the lines that tell faults go.
+-- Where the lines that report faults go.
 use Rattle.std.specs.Prelude.{◌≡◌, ◌⊎◌, ℕ, List, Bool, true, Option, Result, Ok, Err}
 use Rattle.std.specs.Io.KnownBytes.{Appends}
 use Rattle.rv_job.specs.Fault.{fault_line, fault_status}
@@ -16,15 +16,15 @@ abbrev pub Tells : FaultStream → FaultStream → List ℕ → Type 0
 Tells old new line =
     (Appends old.known new.known line × (new.has_failed ≡ old.has_failed)) ⊎ (AppendsBeginning old.known new.known line × (new.has_failed ≡ true))
 
--- an error is told, and else nothing
+-- an error is reported, and else nothing
 abbrev pub TellsOf : {T : Type 0} → FaultStream → FaultStream → Result T SimError → Type 0
 TellsOf old new (Ok value) = new ≡ old
 TellsOf old new (Err error) = Tells old new (fault_line error)
 
--- the line of an error is told, with its exit status
+-- the line of an error is reported, with its exit status
 abbrev pub TellsError : SimError → FaultStream → FaultStream → ℕ → Type 0
 TellsError error old new status = Tells old new (fault_line error) × (status ≡ fault_status error)
 
--- want of memory is told, and else nothing
+-- that memory ran out is reported, and else nothing
 abbrev pub TellsWantOfMemory : Option (List ℕ) → Option (List ℕ) → FaultStream → FaultStream → ℕ → Type 0
 TellsWantOfMemory old-output new-output old new status = (new-output ≡ old-output) × TellsError Memory old new status

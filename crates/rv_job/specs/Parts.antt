@@ -6,16 +6,16 @@ use Rattle.std.specs.{List.before_first, List.after_first, Option.option_map, Op
 abbrev pub is_line_feed : ℕ → Bool
 is_line_feed byte = byte == 10
 
--- a line is `%%`, behind which a carriage return may stand
+-- a line is `%%`, after which a carriage return may stand
 abbrev pub is_separator : List ℕ → Bool
 is_separator line = bytes_eq line (codes "%%") || bytes_eq line (codes "%%\r")
 
--- what stands behind the first line of a text, where that line is a separator
+-- what stands after the first line of a text, where that line is a separator
 unfoldable pub behind_separator : List ℕ → Option (List ℕ)
 behind_separator text =
     if is_separator (before_first is_line_feed text) then Some (after_first is_line_feed text) else None
 
--- what stands before a separator, and behind it
+-- what stands before a separator, and after it
 pub record Halves : Type 0 where
   pub before : List ℕ
   pub behind : List ℕ
@@ -28,7 +28,7 @@ preceded bytes halves = record { before = bytes ++ halves.before; behind = halve
 abbrev pub halves_at_front : List ℕ → Option Halves
 halves_at_front text = option_map (λ behind. record { before = []; behind = behind }) (behind_separator text)
 
--- the halves of a text at the first separator behind one of its line feeds
+-- the halves of a text at the first separator after one of its line feeds
 unfoldable pub later_halves : List ℕ → Option Halves
 later_halves [] = None
 later_halves (byte ∷ later) =
@@ -48,7 +48,7 @@ pub record Parts : Type 0 where
 abbrev pub assembly_alone : List ℕ → Parts
 assembly_alone text = record { description = []; arrivals = []; assembly = text }
 
--- what stands behind the first separator: arrivals and assembly, or assembly where there is no other separator
+-- what stands after the first separator: arrivals and assembly, or assembly where there is no other separator
 abbrev pub parts_behind : List ℕ → List ℕ → Parts
 parts_behind description behind =
     option_map_or (λ halves. record { description = description; arrivals = halves.before; assembly = halves.behind })

@@ -74,7 +74,7 @@ fn read_machines(alloc: Global, text: &[u8]) -> Result<(Vec<Description>, &[u8])
 {
     let (mut descriptions, program) = read_descriptions(alloc, text)?;
     if descriptions.is_empty() {
-        // An empty description has no fault, so that memory alone can be wanting.
+        // An empty description has no fault, so that only memory can run out.
         let Ok(standard) = read_description(alloc, b"") else {
             return Err(SimError::Memory);
         };
@@ -134,7 +134,7 @@ fn load_each(
     Ok(jobs)
 }
 
-/// Reads a comparison: descriptions, with a line `%%` behind each one, and a program, which is assembled for each machine.
+/// Reads a comparison: descriptions, with a line `%%` after each one, and a program, which is assembled for each machine.
 /// A text without such a line is a program on the standard machine.
 ///
 /// Fails by `TooLong` for more than 33,554,432 bytes, by `TooManyDescriptions` for more than 64 lines `%%`, by `Described`

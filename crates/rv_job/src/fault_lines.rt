@@ -9,7 +9,7 @@ use rv_text::put;
 use std::io::Write;
 use std::marker::Model;
 
-/// A writer for the lines that tell faults. A write that fails is remembered, and nothing else comes
+/// A writer for the lines that report faults. A write that fails is remembered, and nothing else comes
 /// of it.
 #[derive(Drop)]
 pub struct FaultLines<E: Write> {
@@ -37,14 +37,14 @@ impl<E: Write> FaultLines<E> {
         }
     }
 
-    /// Whether each line that was told was written whole.
+    /// Whether each line that was reported was written whole.
     pub fn is_whole(&self) -> bool
         ensures { result ≡ not self.now.has_failed }
     {
         !self.has_failed
     }
 
-    /// What stands behind the lines.
+    /// What stands after the lines.
     pub fn into_writer(self) -> E
         ensures { E.contents result ≡ self.known }
     {
@@ -62,7 +62,7 @@ impl<E: Write> FaultLines<E> {
         fault_status(error)
     }
 
-    /// Writes a text that tells a fault.
+    /// Writes a text that reports a fault.
     pub fn tell_text(&mut self, text: &[u8])
         ensures { Tells self.old self.new text.now }
     {
@@ -70,7 +70,7 @@ impl<E: Write> FaultLines<E> {
         self.has_failed = self.has_failed || told.is_err();
     }
 
-    /// Writes the line of an input that can't be read, and answers its exit status: 4 where a read failed, 5 for want of
+    /// Writes the line of an input that can't be read, and answers its exit status: 4 where a read failed, 5 when out of
     /// memory.
     #[tactic(auto, unfolding(crate::specs::Fault::input_fault_line, crate::specs::Fault::input_fault_status))]
     pub fn tell_unread(&mut self, error: InputError) -> u8

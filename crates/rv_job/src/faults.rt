@@ -41,7 +41,7 @@ fn description_kind(error: DescriptionError) -> &'static str
     }
 }
 
-// The line that tells a description's fault, with the key that it names.
+// The line that reports a description's fault, with the key that it names.
 #[tactic(auto, unfolding(crate::specs::Fault::description_line))]
 fn write_description_fault<W: Write>(
     writer: &mut W,
@@ -54,7 +54,7 @@ fn write_description_fault<W: Write>(
     put_all(writer, &[b"error: description: ", kind, key, b"\n"])
 }
 
-// The line that tells the fault of one of several descriptions, with its number and the key that the fault names.
+// The line that reports the fault of one of several descriptions, with its number and the key that the fault names.
 #[tactic(auto, unfolding(crate::specs::Fault::described_line))]
 fn write_described_fault<W: Write>(
     writer: &mut W,
@@ -73,7 +73,7 @@ fn write_described_fault<W: Write>(
     )
 }
 
-// The line that tells that an image does not fit one of several descriptions, with its number.
+// The line that reports that an image does not fit one of several descriptions, with its number.
 #[tactic(auto, unfolding(crate::specs::Fault::unfit_line))]
 fn write_unfit<W: Write>(writer: &mut W, number: usize) -> Result<(), ReportError>
     ensures { IsWritten result (W.contents writer.old) (W.contents writer.new) (unfit_line number) }
@@ -100,7 +100,7 @@ fn arrivals_kind(error: ArrivalsError) -> &'static str
     }
 }
 
-// The line that tells a fault of arrivals, with the number of the entry that it names.
+// The line that reports a fault of arrivals, with the number of the entry that it names.
 #[tactic(auto, unfolding(crate::specs::Fault::arrivals_line, crate::specs::Fault::entry_text))]
 fn write_arrivals_fault<W: Write>(writer: &mut W, error: ArrivalsError) -> Result<(), ReportError>
     ensures { IsWritten result (W.contents writer.old) (W.contents writer.new) (arrivals_line error) }
@@ -115,7 +115,7 @@ fn write_arrivals_fault<W: Write>(writer: &mut W, error: ArrivalsError) -> Resul
     put_all(writer, &[b"error: arrivals: ", kind, number, b"\n"])
 }
 
-/// Writes the line that tells a fault.
+/// Writes the line that reports a fault.
 #[tactic(auto, unfolding(crate::specs::Fault::fault_line))]
 pub(crate) fn write_fault<W: Write>(writer: &mut W, error: SimError) -> Result<(), ReportError>
     ensures { IsWritten result (W.contents writer.old) (W.contents writer.new) (fault_line error) }
@@ -142,7 +142,7 @@ pub(crate) fn write_fault<W: Write>(writer: &mut W, error: SimError) -> Result<(
     }
 }
 
-/// The exit status of a fault: 1 for a job that is refused, 4 where output failed, 5 for want of
+/// The exit status of a fault: 1 for a job that is refused, 4 where output failed, 5 when out of
 /// memory.
 #[tactic(auto, unfolding(crate::specs::Fault::fault_status))]
 pub(crate) fn fault_status(error: SimError) -> u8

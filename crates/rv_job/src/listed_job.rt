@@ -28,7 +28,7 @@ pub fn read_listed_job(alloc: Global, text: &[u8]) -> Result<ListedJob, SimError
     let job = read_job(alloc, text)?;
     let parts = read_parts(text)?;
     let base = job.description.values().ram_base;
-    // The program of a job has no fault, so that memory alone can be wanting.
+    // The program of a job has no fault, so that only memory can run out.
     let Ok(listing) = list_text(alloc, parts.assembly, base) else {
         return Err(SimError::Memory);
     };

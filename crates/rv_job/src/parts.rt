@@ -8,7 +8,7 @@ const SEPARATOR: &[u8] = b"%%";
 
 const SEPARATOR_RETURNED: &[u8] = b"%%\r";
 
-/// What stands before a separator, and behind it.
+/// What stands before a separator, and after it.
 #[derive(Clone, Copy)]
 pub(crate) struct Halves<'a> {
     pub(crate) before: &'a [u8],
@@ -36,7 +36,7 @@ fn count_before_line_feed(text: &[u8]) -> usize
     text.len()
 }
 
-// What stands behind the first line of a text, where that line is a separator.
+// What stands after the first line of a text, where that line is a separator.
 #[tactic(auto, unfolding(crate::specs::Parts::behind_separator))]
 fn behind_separator(text: &[u8]) -> Option<&[u8]>
     ensures { option_copied result ≡ behind_separator text.entry.now }
@@ -52,7 +52,7 @@ fn behind_separator(text: &[u8]) -> Option<&[u8]>
     }
 }
 
-// The halves of a text at the first separator behind one of its line feeds.
+// The halves of a text at the first separator after one of its line feeds.
 #[tactic(auto, unfolding(crate::specs::Parts::later_halves))]
 fn later_halves(text: &[u8]) -> Option<Halves<'_>>
     ensures { option_map halves_in result ≡ later_halves text.entry.now }
@@ -82,7 +82,7 @@ pub(crate) fn cut_at_separator(text: &[u8]) -> Option<Halves<'_>>
     }
 }
 
-/// The parts of a job's text: what stands before, between and behind its first two lines `%%`. With
+/// The parts of a job's text: what stands before, between and after its first two lines `%%`. With
 /// one such line there are no arrivals, and with none there is assembly alone.
 #[tactic(auto, unfolding(crate::specs::Parts::parts_of))]
 pub fn cut_into_parts(text: &[u8]) -> Parts<'_>

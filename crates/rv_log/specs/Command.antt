@@ -1,4 +1,4 @@
--- The lines of a log in Konata's format: fields behind tabs, the first of which tells what the line says. An instruction is told by
+-- The lines of a log in Konata's format: fields after tabs, the first of which says what the line says. An instruction is reported by
 -- its number in order of fetch.
 use Rattle.std.specs.Prelude.{ℕ, List, ◌++◌, codes, decimal}
 use Rattle.rv_passage.specs.declared.passage.Passage.{Passage}

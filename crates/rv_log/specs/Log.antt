@@ -34,16 +34,16 @@ pub record Moment : Type 0 where
   pub cycle : ℕ
   pub rows : List Passage
 
--- the cycles from some hardware on, one behind the other
+-- the cycles from some hardware on, one after the other
 unfoldable pub log_text : Listed → Hardware → List Moment → List ℕ
 log_text listing first moments =
     begin_text listing first.cycle (table_at first).rows ++ flat_map (λ moment. cycle_text listing moment.cycle moment.rows) moments
 
--- a cycle by its number, and the passages behind it
+-- a cycle by its number, and the passages after it
 abbrev pub moment_of : ℕ → Passages → Moment
 moment_of cycle table = record { cycle = cycle; rows = table.rows }
 
--- cycles from some hardware on, each with the lines of its number; what left the hardware in one is forgotten behind it
+-- cycles from some hardware on, each with the lines of its number; what left the hardware in one is forgotten after it
 pub data Passes (arrivals : List Arrival) (first : Hardware) : List Report → List Moment → Hardware → Passages → Type 0 where
   begun : Passes arrivals first [] [] first (table_at first)
   passed : {reports : List Report} {moments : List Moment} {old new : Hardware} {table : Passages} {report : Report} →

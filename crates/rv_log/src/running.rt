@@ -26,7 +26,7 @@ fn finished(stop: Stop, written: Result<(), ReportError>) -> Ended
     Ended { stop, written }
 }
 
-// Writes what a cycle did behind what was written before, unless a write failed there.
+// Writes what a cycle did after what was written before, unless a write failed there.
 fn write_next<W: Write>(
     written: Result<(), ReportError>,
     writer: &mut W,

@@ -20,7 +20,7 @@ use std::io::Write;
 ///
 /// # Errors
 ///
-/// `Memory` for want of memory: then nothing was run and nothing was written. `WriteFailed` where a write fails: then what was
+/// `Memory` when out of memory: then nothing was run and nothing was written. `WriteFailed` where a write fails: then what was
 /// written is a beginning of the log, and the run is done to its end.
 pub fn write_log<W: Write>(
     alloc: Global,

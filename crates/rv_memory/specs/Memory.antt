@@ -21,7 +21,7 @@ IsSized memory = length memory.bytes ≡ memory.layout.size
 abbrev pub is_in_ram : Layout → ℕ → ℕ → Bool
 is_in_ram layout address count = nat_le layout.base address && nat_le (address + count) (layout.base + layout.size)
 
--- the bytes of a store lie in RAM, behind its read-only front
+-- the bytes of a store lie in RAM, after its read-only front
 abbrev pub is_writable : Layout → ℕ → ℕ → Bool
 is_writable layout address count = nat_le (layout.base + layout.rom_bytes) address && nat_le (address + count) (layout.base + layout.size)
 

@@ -1,10 +1,10 @@
--- How a stale map keeps its words, and how they are told apart; no public clause names these.
+-- How a stale map keeps its words, and how they are distinguished; no public clause names these.
 use Rattle.std.specs.Prelude.{ℕ, ◌+◌, ◌==◌, Bool, true, false, List, [], ◌∷◌, map, refl}
 use Rattle.std.specs.{Coded.Coded, Coded.code_by, Coded.coded×, Coded.coded_ℕ, Ordering.nat_cmp}
 use Rattle.std.specs.FinSet as set
 use Rattle.rv_memory.specs.Stale.{StaleWords}
 
--- stale words are told apart as the tuple of their fields
+-- stale words are distinguished as the tuple of their fields
 abbrev pub stale_words_code : Coded StaleWords
 stale_words_code =
     code_by (ℕ × (ℕ × set.FinSet nat_cmp)) (coded× coded_ℕ (coded× coded_ℕ (set.code coded_ℕ))) (λ s. (s.base, (s.size, s.words))) (λ p. record { base = p.0; size = p.1.0; words = p.1.1 }) (λ _. refl)

@@ -1,4 +1,4 @@
-//! What lies behind the cache: RAM as a list of bytes, and the set of words that were stored to
+//! What lies below the cache: RAM as a list of bytes, and the set of words that were stored to
 //! since the last FENCE.I. The cache and the front of the core stand on it.
 #![tactic(auto)]
 

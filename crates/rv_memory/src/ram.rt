@@ -72,7 +72,7 @@ impl Ram {
         address >= self.base && count <= self.size && address - self.base <= self.size - count
     }
 
-    /// Whether a store may write the `count` bytes from `address` on: they lie in RAM, behind the
+    /// Whether a store may write the `count` bytes from `address` on: they lie in RAM, after the
     /// part that is only read.
     pub fn writable(&self, address: u32, count: u32) -> bool
         ensures { result ≡ is_writable self.now.layout address count }

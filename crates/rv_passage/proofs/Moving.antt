@@ -187,7 +187,7 @@ pub length-numbered_from : (number : ℕ) (ps : List Passage) → length (number
 length-numbered_from number [] = refl
 length-numbered_from number (p ∷ ps) = ap suc (length-numbered_from (number + 1) ps)
 
--- The end of a cycle, where the rows are moved on and those that were fetched in it stand behind.
+-- The end of a cycle, where the rows are moved on and those that were fetched in it stand after.
 pub ended-with : (cycle : ℕ) (now : List Passage) (middle after : Passages) (kept added : List Passage) → ((number : ℕ) → moved_on cycle number middle.rows now ≡ kept ++ numbered_from number added) → length kept ≡ length middle.rows
     → after.rows ≡ kept ++ numbered_from middle.fetched added → after.interrupts ≡ middle.interrupts → after.fetched ≡ middle.fetched + length added → after.retired ≡ middle.retired → after ≡ at_the_end cycle now middle
 ended-with cycle now middle after kept added moved same rows interrupts fetched retired =

@@ -60,7 +60,7 @@ of_fetched f = record {
 abbrev pub in_flight : Hardware → List Passage
 in_flight h = map of_entry h.rob.entries ++ map of_fetched h.front.entries
 
--- it retired, so many before it, as its row tells
+-- it retired, so many before it, as its row reports
 abbrev pub retired_by : Row → ℕ → Passage → Passage
 retired_by row order p = record {
   number = p.number;

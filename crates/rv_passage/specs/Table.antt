@@ -43,7 +43,7 @@ with_steps [] t = t
 with_steps (s ∷ ss) t = with_steps ss (with_step s t)
 
 -- Passages at the end of a cycle in which no further one ends by a step, where `now` is in flight then: what was in flight goes
--- on as it stands now, or was squashed, where what comes next was fetched in the cycle. That stands behind, numbered on.
+-- on as it stands now, or was squashed, where what comes next was fetched in the cycle. That stands after, numbered on.
 abbrev pub moved_on : ℕ → ℕ → List Passage → List Passage → List Passage
 moved_on cycle number [] now = numbered_from number now
 moved_on cycle number (p ∷ ps) [] = (if is_in_flight p then squashed_in cycle p else p) ∷ moved_on cycle number ps []

@@ -22,7 +22,7 @@ pub enum Ending {
         cycle: u64,
         cause: Cause,
     },
-    /// It was on a path that the program did not take, or behind a trap, an interrupt or a serialising instruction.
+    /// It was on a path that the program did not take, or after a trap, an interrupt or a serialising instruction.
     Squashed {
         cycle: u64,
     },

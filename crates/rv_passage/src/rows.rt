@@ -16,7 +16,7 @@ fn oldest_in_flight(rows: &[Passage]) -> Option<usize>
     rows.iter().position(|row| row.is_in_flight())
 }
 
-// The oldest in flight, if one is, retires as its row tells, so many before it.
+// The oldest in flight, if one is, retires as its row reports, so many before it.
 pub(crate) fn retire_oldest(rows: &mut [Passage], row: &Row, order: u64)
     ensures { rows.new ≡ with_oldest (retired_by row.now order) rows.old }
 {

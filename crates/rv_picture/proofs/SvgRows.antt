@@ -21,7 +21,7 @@ module _ (listing : Listed) (window : Window) where
   abbrev pub count : List Passage → ℕ
   count passages = count_by (has_cell window) passages
 
-  -- rows one behind the other
+  -- rows one after the other
   svg_rows-append : (place : ℕ) (xs ys : List Passage) → rows_from place (xs ++ ys) ≡ rows_from place xs ++ rows_from (place + count xs) ys
   unfolding svg_rows
   svg_rows-append place [] ys = let same : place ≡ place + 0 = omega arith in ap (λ n. rows_from n ys) same

@@ -43,7 +43,7 @@ pub on_err_by : {T E P Q : Type 0} (r : Result T E) → (P → Q) → OnErr r P 
 on_err_by (Ok value) then holds = tt
 on_err_by (Err error) then holds = then holds
 
--- cycles, and more behind them
+-- cycles, and more after them
 cycles_on : {arrivals : List Arrival} {old middle new : Hardware} {reports more : List Report} → Cycles arrivals old reports middle → Cycles arrivals middle more new → Cycles arrivals old (reports ++ more) new
 cycles_on ended behind = behind
 cycles_on (cycled cycle rest) behind = cycled cycle (cycles_on rest behind)

@@ -39,7 +39,7 @@ phase_of passage cycle =
     else if is_past cycle passage.issued && not (is_past cycle passage.broadcast) then cell.Execution
     else cell.Wait
 
--- nothing before the fetch and behind the end
+-- nothing before the fetch and after the end
 unfoldable pub cell_of : Passage → ℕ → Option Cell
 cell_of passage cycle =
     if nat_lt cycle passage.fetched || is_past cycle (left_in passage.ending) then None

@@ -16,7 +16,7 @@ abbrev pub picture_of : Form → Passages → Listed → Window → List ℕ
 picture_of Text table listing window = text_picture table.rows table.interrupts listing window
 picture_of Svg table listing window = svg_picture table.rows table.interrupts listing window
 
--- a text is the picture of the cycles behind the first `from` of a run that ended for a reason
+-- a text is the picture of the cycles after the first `from` of a run that ended for a reason
 pub record IsPicture (arrivals : List Arrival) (from limit : ℕ) (form : Form) (listing : Listed) (old new : Hardware) (stop : Stop) (text : List ℕ) : Type 0 where
   pub table : Passages
   pub window : Window

@@ -43,7 +43,7 @@ abbrev pub IsShownIf : Bool → List Arrival → ℕ → Stop → Hardware → H
 IsShownIf true arrivals limit reason old new table window stop = IsFollowed arrivals limit old new table window stop
 IsShownIf false arrivals limit reason old new table window stop = IsOver reason old new table window stop
 
--- `from` cycles, and the window behind them
+-- `from` cycles, and the window after them
 pub record IsRecording (arrivals : List Arrival) (from limit : ℕ) (old new : Hardware) (table : Passages) (window : Window) (stop : Stop) : Type 0 where
   pub reports : List Report
   pub start : Hardware

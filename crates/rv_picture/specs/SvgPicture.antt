@@ -59,7 +59,7 @@ box_of (Some cell) column cycle = cell_box (class_of cell) (decimal (column_x co
 unfoldable pub box_at : Window → Passage → ℕ → List ℕ
 box_at window passage column = box_of (cell_of passage (window.first + column)) column (window.first + column)
 
--- the class of a row tells how its instruction ended
+-- the class of a row says how its instruction ended
 unfoldable pub row_class : Ending → List ℕ
 row_class InFlight = codes "open"
 row_class (Retired order cycle written) = codes "done"

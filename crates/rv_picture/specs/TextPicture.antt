@@ -31,7 +31,7 @@ unfoldable pub room_behind : Option (ℕ × ℕ) → List ℕ
 room_behind None = blanks 12
 room_behind (Some written) = blanks (3 - length (decimal written.0))
 
--- what was written, and blanks behind it
+-- what was written, and blanks after it
 unfoldable pub written_field : Option (ℕ × ℕ) → List ℕ
 written_field written = written_text written ++ room_behind written
 

@@ -104,7 +104,7 @@ fn nothing_shown(alloc: Global, core: &Core, stop: Stop) -> Result<Recording, Al
 /// the instructions. A breakpoint, a stale word or exhaustion ends the run; where that is before the window begins, no
 /// cycle is recorded.
 ///
-/// Fails by want of memory alone; memory is asked for before each cycle, and the core stands at the end of a cycle then.
+/// Fails only when out of memory; memory is asked for before each cycle, and the core stands at the end of a cycle then.
 pub(crate) fn record_window(
     alloc: Global,
     core: &mut Core,

@@ -23,7 +23,7 @@ use std::io::Write;
 ///
 /// # Errors
 ///
-/// `Memory` for want of memory: then nothing was written, and the core stands behind some of the cycles. `WriteFailed` where a write fails: then what was written is a
+/// `Memory` when out of memory: then nothing was written, and the core stands after some of the cycles. `WriteFailed` where a write fails: then what was written is a
 /// beginning of the picture.
 pub fn write_picture<W: Write>(
     alloc: Global,

@@ -101,7 +101,7 @@ producers_at-none n (m ∷ ns) ps now none =
     ] in
     go (m == n) refl
 
--- the numbers tell whether every checkpoint is below n
+-- the numbers say whether every checkpoint is below n
 pub AreBelow-checkpoints : (n : ℕ) (ns : List ℕ) (ps : List Producer)
     → (AreBelow (λ m. m) n ns → AreBelow checkpoint_seq n (map (checkpoint_of ps) ns)) × (AreBelow checkpoint_seq n (map (checkpoint_of ps) ns) → AreBelow (λ m. m) n ns)
 AreBelow-checkpoints n [] ps = (λ are. All-nil (λ c. checkpoint_seq c < n), λ are. All-nil (λ m. m < n))

@@ -114,7 +114,7 @@ IsTable-keep table register n (p ∷ ps) oldest is other =
           (λ ne. let others : r ≢ p.register = λ e. ne (e ∙ sym parts.1) in is.producers r h ∙ youngest-others r p ps others);
     }
 
--- what a comparison of options tells
+-- what a comparison of options reports
 pub option_eq-true : (x : Option ℕ) (n : ℕ) → option_eq nat_eq x (Some n) ≡ true → x ≡ Some n
 option_eq-true None n e = absurd (cc)
 option_eq-true (Some m) n e = ap (λ k. Some k) (eqb-true m n e)

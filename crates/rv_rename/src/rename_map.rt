@@ -148,7 +148,7 @@ impl RenameMap {
         self.has_checkpoint_room() && self.are_producers_up_to(seq)
     }
 
-    /// Notes the producers as they are, for a return to just behind the instruction `seq`.
+    /// Notes the producers as they are, for a return to just after the instruction `seq`.
     pub fn checkpoint(&mut self, seq: u64)
         requires { CanCheckpoint seq self.old }
         ensures { self.new ≡ checkpointed seq self.old }

@@ -28,7 +28,7 @@ use Rattle.rv_report.specs.declared.totals.StepCounts.{StepCounts}
 use Rattle.rv_report.specs.declared.totals.Totals.{Totals}
 use Rattle.rv_text.proofs.Writing.{Appends-both, Appends-nothing, Appends-same, beginning-both, beginning-longer, written_behind}
 
--- more is written behind a text that was written whole
+-- more is written after a text that was written whole
 pub written_on : {T E T' E' : Type 0} (old : Result T E) (new : Result T' E') (a b c : Option (List ℕ)) (text more : List ℕ) → is_ok old ≡ true → IsWritten new b c more → IsWritten old a b text → IsWritten new a c (text ++ more)
 written_on (Ok done) new a b c text more ok next is = written_behind new a b c text more is next
 written_on (Err error) new a b c text more ok next is = absurd (true≢false (sym ok))
@@ -59,7 +59,7 @@ pub reports_in_part : {E : Type 0} (IsReport : Stop → List ℕ → Type 0) (r 
 reports_in_part IsReport (Ok stop) error old new failed beginning = absurd failed
 reports_in_part IsReport (Err e) error old new failed beginning = beginning
 
--- what is told of a run by the values that its end hands on
+-- what is reported of a run by the values that its end hands on
 pub traced_by : {T E : Type 0} (arrivals : List Arrival) (options : Options) (old new new' : Hardware) (totals totals' : Totals) (written written' : Result T E) (before after : Option (List ℕ))
     → new' ≡ new → totals' ≡ totals → written' ≡ written → IsTraced arrivals options old new totals written before after → IsTraced arrivals options old new' totals' written' before after
 traced_by arrivals options old new new' totals totals' written written' before after core_is totals_are written_is traced =

@@ -18,7 +18,7 @@ unfoldable pub end_lines : Totals → State → Lines → List ℕ
 end_lines totals state lines =
     stop_line totals.stop ++ (total_lines totals ++ state_lines state.pc state.registers state.csrs lines)
 
--- what a report shows behind the trace: the words of memory that are asked for are those that programs see
+-- what a report shows after the trace: the words of memory that are asked for are those that programs see
 unfoldable pub end_text : Totals → Layout → State → Lines → Options → List ℕ
 end_text totals layout state lines options =
     end_lines totals state lines ++ seen_memory_lines layout state.ram options.dump_address options.dump_words
@@ -32,7 +32,7 @@ unfoldable pub run_report : List Step → Totals → Layout → State → Lines 
 run_report steps totals layout state lines options =
     trace_of options.trace steps ++ end_text totals layout state lines options
 
--- the text behind the trace, of hardware as programs see it
+-- the text after the trace, of hardware as programs see it
 abbrev pub end_of : Totals → Hardware → Options → List ℕ
 end_of totals h options = end_text totals (layout_of h.values) (seen h) h.lines options
 

@@ -56,7 +56,7 @@ struct Traced {
 }
 
 /// Runs a core, each cycle with the lines of its number, up to a breakpoint, a stale word, exhaustion or the options' limit
-/// of cycles, and writes the report of the run: where a trace is asked for, the lines of a cycle's steps behind the cycle.
+/// of cycles, and writes the report of the run: where a trace is asked for, the lines of a cycle's steps after the cycle.
 /// `steps` is a list with room for the eight steps of a cycle. Asks for no memory. Answers why the run ended.
 ///
 /// Fails by `WriteFailed` alone, and what was written is then a beginning of the report: the run is done to its end, but

@@ -85,7 +85,7 @@ fn write_end<W: Write>(writer: &mut W, totals: &Totals, core: &Core) -> Result<(
     write_state(writer, &core.observe())
 }
 
-/// Writes what the report of a run shows behind the trace: why it ended, its counts, the pc, the registers and the control
+/// Writes what the report of a run shows after the trace: why it ended, its counts, the pc, the registers and the control
 /// and status registers, and the words of memory that the options ask for. Asks for no memory. Fails by `WriteFailed`
 /// alone, and what was written is then a beginning of that text.
 pub fn write_totals<W: Write>(

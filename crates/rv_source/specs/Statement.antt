@@ -1,4 +1,4 @@
--- How an instruction is told: by the line that it comes from.
+-- How an instruction is reported: by the line that it comes from.
 use Rattle.std.specs.Prelude.{ℕ, List, codes, Option, Some, None, option_map}
 use Rattle.rv_source.specs.Listing.{Listed, line_at}
 use Rattle.rv_text.specs.Line.{word_text}

@@ -57,7 +57,7 @@ impl Listing {
         }
     }
 
-    /// Appends words that come from a line. The only error is want of memory, and changes nothing.
+    /// Appends words that come from a line. The only error is that memory ran out, which changes nothing.
     #[tactic(auto, using(crate::proofs::Places::lines_at_append))]
     pub fn push_line(&mut self, line: SourceLine, words: usize) -> Result<(), AllocError>
         ensures pushed { IfOk result (λ _. self.new ≡ record self.old { words = self.old.words ++ replicate words (Some line) }) }
@@ -69,7 +69,7 @@ impl Listing {
         Ok(())
     }
 
-    /// Appends words that come from no line. The only error is want of memory, and changes nothing.
+    /// Appends words that come from no line. The only error is that memory ran out, which changes nothing.
     pub fn push_gap(&mut self, words: usize) -> Result<(), AllocError>
         ensures pushed { IfOk result (λ _. self.new ≡ record self.old { words = self.old.words ++ replicate words None }) }
         ensures kept { OnErr result (self.new ≡ self.old) }

@@ -35,7 +35,7 @@ pub keep_last-room : (capacity : ℕ) (ss : List Store) (t : Store) → length s
 keep_last-room capacity ss t h =
     let none : length (ss ++ t ∷ []) - capacity ≡ 0 = omega (arith, length-append ss (t ∷ [])) in rw none refl
 
--- ---- the youngest store tells of all
+-- ---- the youngest store decides for all
 pub AreBelow-none : (n : ℕ) (ss : List Store) → last_item ss ≡ None → AreBelow (λ s. s.seq) n ss
 AreBelow-none n ss h k d lt = absurd (none-some _ (sym h ∙ slice_get-get_or ss (length ss - 1) d (omega arith)))
 

@@ -9,7 +9,7 @@ module _ {X : Type 0} (p : X → Bool) where
   pub ComeFirst-tail : (x : X) (xs : List X) → ComeFirst p (x ∷ xs) → ComeFirst p xs
   ComeFirst-tail x xs h i j d lt within = h (suc i) (suc j) d (omega arith) (omega arith)
 
-  -- behind one that does not pass, none does
+  -- after one that does not pass, none does
   pub ComeFirst-fails : (x : X) (xs : List X) → ComeFirst p (x ∷ xs) → p x ≡ false → All (λ y. p y ≡ true → p x ≡ true) xs
   ComeFirst-fails x xs h e k d lt = h 0 (suc k) d (omega arith) (omega arith)
 

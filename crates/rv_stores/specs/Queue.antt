@@ -1,4 +1,4 @@
--- The store queue as a list of stores, oldest first, and what the calls make and tell of it.
+-- The store queue as a list of stores, oldest first, and what the calls make and say of it.
 use Rattle.std.specs.Prelude.{◌≡◌, ℕ, ◌+◌, ◌<◌, Bool, true, false, nat_lt, length, List, [], ◌∷◌, find, map, not, AllPairs, Option, None, if◌then◌else◌}
 use Rattle.std.specs.Option.{option_map, option_or}
 use Rattle.rv_isa.specs.declared.broadcast.StoreAccess.{StoreAccess}
@@ -11,7 +11,7 @@ pub record Queue : Type 0 where
   pub stores : List Store
   pub capacity : ℕ
 
--- those that pass a test come first: none stands behind one that does not
+-- those that pass a test come first: none stands after one that does not
 abbrev pub ComeFirst : {X : Type 0} → (X → Bool) → List X → Type 0
 ComeFirst passes xs = AllPairs (λ x y. passes y ≡ true → passes x ≡ true) xs
 
@@ -58,7 +58,7 @@ abbrev pub youngest_byte : ℕ → List Store → Option ℕ
 youngest_byte place [] = None
 youngest_byte place (s ∷ ss) = option_or (youngest_byte place ss) (byte_at place s)
 
--- the byte that stores forward to one place of an access of `count` bytes, None behind its end
+-- the byte that stores forward to one place of an access of `count` bytes, None after its end
 abbrev pub forwarded_byte : List Store → ℕ → ℕ → ℕ → Option ℕ
 forwarded_byte stores address count offset =
     if nat_lt offset count then youngest_byte (address + offset) stores else None

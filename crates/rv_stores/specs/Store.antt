@@ -70,7 +70,7 @@ access_to_drain store = state_to_drain store.state
 abbrev pub entered : ℕ → Store
 entered seq = record { seq = seq; state = Waiting }
 
--- what the broadcast tells of a store that writes this
+-- what the broadcast says of a store that writes this
 abbrev pub filled_with : StoreAccess → StoreState
 filled_with access = Filled access Speculative
 

@@ -92,7 +92,7 @@ impl StoreQueue {
         self.ring.front().is_some_and(|store| store.is_draining())
     }
 
-    /// Enters a store at its dispatch, behind all others.
+    /// Enters a store at its dispatch, after all others.
     pub fn enter(&mut self, seq: u64)
         requires { CanEnter seq self.old }
         ensures { self.new ≡ record self.old { stores = self.old.stores ++ entered seq ∷ [] } }
@@ -123,7 +123,7 @@ impl StoreQueue {
         self.answer(seq, StoreState::Faulted);
     }
 
-    // What a broadcast tells of the waiting store with this number.
+    // What a broadcast says of the waiting store with this number.
     fn answer(&mut self, seq: u64, news: StoreState)
         requires { is_committed_state news ≡ false }
         ensures { self.new ≡ record self.old { stores = map (answered seq news) self.old.stores } }
@@ -206,7 +206,7 @@ impl StoreQueue {
     }
 
     /// The bytes that the stores below a number forward to an access of `count` bytes at an address: each is that of the
-    /// youngest such store that covers it, None where none does, and behind the end of the access.
+    /// youngest such store that covers it, None where none does, and after the end of the access.
     pub fn overlay(&self, seq: u64, address: u32, count: usize) -> [Option<u8>; 4]
         ensures { result ≡ forwarded (older_than seq self.now.stores) address count }
     {

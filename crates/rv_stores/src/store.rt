@@ -19,9 +19,9 @@ pub enum StorePhase {
 pub enum StoreState {
     /// Its result has not been broadcast: address and data are unknown.
     Waiting,
-    /// Its broadcast told a fault: it covers no byte, and never commits.
+    /// Its broadcast reported a fault: it covers no byte, and never commits.
     Faulted,
-    /// Its broadcast told what it writes.
+    /// Its broadcast reported what it writes.
     Filled {
         /// What it writes.
         access: StoreAccess,

@@ -60,7 +60,7 @@ pub written_behind : {T E : Type 0} (r : Result T E) (a b c : Option (List ℕ))
 written_behind (Ok value) a b c xs ys first second = Appends-both a b c xs ys first second
 written_behind (Err error) a b c xs ys first second = beginning-both a b c xs ys first second
 
--- texts that are written one behind the other, at the place of one of them
+-- texts that are written one after the other, at the place of one of them
 module _ {X : Type 0} (text : X → List ℕ) (items : List X) (place : ℕ) (other : X) (here : place < length items) where
   pub flat_map-more : flat_map text (take (place + 1) items) ≡ flat_map text (take place items) ++ text (get_or items place other)
   flat_map-more =
@@ -100,7 +100,7 @@ texts_below-split text place (suc bound) below =
     (λ last. let same : place ≡ bound = omega arith in ([], append-nil _ ∙ ap (λ n. texts_below text n ++ text n) same ∙ sym (texts_below-more text bound)))
     (order place bound)
 
--- the texts of numbers that are written one behind the other, at one of them
+-- the texts of numbers that are written one after the other, at one of them
 module _ (text : ℕ → List ℕ) (place bound : ℕ) (below : place < bound) where
   pub beginning-below : (a b c : Option (List ℕ)) → Appends a b (texts_below text place) → AppendsBeginning b c (text place) → AppendsBeginning a c (texts_below text bound)
   beginning-below a b c front last =

@@ -31,7 +31,7 @@ word_line name word = line_of name (word_text word)
 unfoldable pub three_digits : ℕ → List ℕ
 three_digits number = digit_char (number / 100) ∷ digit_char (number / 10 % 10) ∷ digit_char (number % 10) ∷ []
 
--- how many of one there are to each of another, rounded down to three digits behind the point, or a hyphen to none
+-- how many of one there are to each of another, rounded down to three digits after the point, or a hyphen to none
 unfoldable pub ratio_text : ℕ → ℕ → List ℕ
 ratio_text count each =
     if each == 0 then codes "-" else decimal (count / each) ++ (codes "." ++ three_digits (count * 1000 / each % 1000))

@@ -9,7 +9,7 @@ value_text (Count count) = decimal count
 value_text (Word word) = word_text word
 value_text (Ratio count each) = ratio_text count each
 
--- a cell of a table, behind which a tab stands
+-- a cell of a table, after which a tab stands
 abbrev pub cell_text : Value → List ℕ
 cell_text value = value_text value ++ codes "\t"
 

@@ -9,7 +9,7 @@ use crate::output::{ReportError, put_all};
 use itoa::Buffer;
 use std::io::Write;
 
-/// What a line of a report gives behind its name, or a cell of a table.
+/// What a line of a report gives after its name, or a cell of a table.
 #[derive(Clone, Copy, Debug)]
 pub enum Value {
     Count(u64),
@@ -64,7 +64,7 @@ fn write_field<W: Write>(writer: &mut W, field: Field<'_>) -> Result<(), ReportE
     }
 }
 
-/// Writes lines one behind the other.
+/// Writes lines one after the other.
 pub fn write_fields<W: Write>(writer: &mut W, fields: &[Field<'_>]) -> Result<(), ReportError>
     ensures { IsWritten result (W.contents writer.old) (W.contents writer.new) (flat_map field_line fields.now) }
 {
@@ -100,7 +100,7 @@ fn write_ratio_cell<W: Write>(writer: &mut W, count: u64, each: u64) -> Result<(
     put_all(writer, &[whole, b".", digits.as_slice(), b"\t"])
 }
 
-/// Writes cells of a table's line, a tab behind each one.
+/// Writes cells of a table's line, a tab after each one.
 pub fn write_cells<W: Write>(writer: &mut W, values: &[Value]) -> Result<(), ReportError>
     ensures { IsWritten result (W.contents writer.old) (W.contents writer.new) (flat_map cell_text values.now) }
 {

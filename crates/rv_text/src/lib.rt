@@ -1,5 +1,5 @@
 //! Texts that are written whole, or a beginning of them where a write fails: bytes, words in hexadecimal digits, and lines of a
-//! name and a value. Its model is the text. The reports of runs and the lines that tell faults stand on it.
+//! name and a value. Its model is the text. The reports of runs and the lines that report faults stand on it.
 #![tactic(auto)]
 
 mod digits;

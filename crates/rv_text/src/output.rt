@@ -38,7 +38,7 @@ pub fn put<W: Write>(writer: &mut W, text: &[u8]) -> Result<(), ReportError>
     Ok(())
 }
 
-/// Writes texts one behind the other, and asks for no memory.
+/// Writes texts one after the other, and asks for no memory.
 pub fn put_all<W: Write>(writer: &mut W, texts: &[&[u8]]) -> Result<(), ReportError>
     ensures { IsWritten result (W.contents writer.old) (W.contents writer.new) (flat_map (λ t. t.now) texts.now) }
 {

@@ -64,7 +64,7 @@ impl Reference {
         Ok(Some((rd, value)))
     }
 
-    /// Writes a register and goes on behind the instruction.
+    /// Writes a register and goes on after the instruction.
     fn compute(&mut self, rd: Reg, value: u32) -> Performed
         ensures { IsPerformed (writes self.old.state rd value (pc_plus_4 self.old.state.pc)) result self.old self.new }
     {
@@ -72,7 +72,7 @@ impl Reference {
         self.write(rd, value, next)
     }
 
-    /// Goes on behind the instruction.
+    /// Goes on after the instruction.
     fn pass(&mut self) -> Performed
         ensures { IsPerformed (goes_to self.old.state (pc_plus_4 self.old.state.pc)) result self.old self.new }
     {

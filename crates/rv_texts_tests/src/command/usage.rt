@@ -153,7 +153,7 @@ Options:
       --limit <N>  The most cycles of each run, 1 to 1000000 [default: 100000]
   -h, --help       Print help
 
-Reads from standard input up to 64 descriptions of machines in TOML, a line %% behind each, and a program,
+Reads from standard input up to 64 descriptions of machines in TOML, a line %% after each, and a program,
 as in:
   rv_sim compare < FILE
 

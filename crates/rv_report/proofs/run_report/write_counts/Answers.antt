@@ -5,7 +5,7 @@ use Rattle.rv_report.specs.declared.totals.Totals.{Totals}
 use Rattle.rv_text.proofs.Writing.{written_same}
 use Rattle.rv_report.proofs.run_report.write_counts.Goals as goal
 
--- the lines of the counts, with what comes behind them
+-- the lines of the counts, with what comes after them
 abbrev lines_before : Totals → List ℕ → List ℕ
 lines_before t rest =
     count_line (codes "cycles") t.cycles ++

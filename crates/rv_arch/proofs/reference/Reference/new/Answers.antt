@@ -2,7 +2,7 @@ use Rattle.std.proofs.Common.{◌≡◌, ℕ, ◌+◌, ◌-◌, List, ◌++◌, 
 use Rattle.std.proofs.lemmas.List.{drop-replicate}
 use Rattle.rv_arch.proofs.reference.Reference.new.Goals as goal
 
--- an image that is written over zeros has zeros behind it
+-- an image that is written over zeros has zeros after it
 image_over_zeros : (size : ℕ) (image : List ℕ) → image ++ drop (0 + length image) (replicate size 0) ≡ image ++ replicate (size - length image) 0
 image_over_zeros size image =
     let none : 0 + length image ≡ length image = omega arith in
