@@ -1,6 +1,6 @@
 -- What the parts answer to a search in the stations, in the definition's words.
-use Rattle.std.proofs.Common.{◌≡◌, ℕ, ◌+◌, ◌<◌, Bool, true, false, nat_le, List, length, Option, None, Some, is_some, option_and_then, sym, ap, ◌∙◌, subst}
-use Rattle.std.proofs.lemmas.Bool.{cond-true}
+use Rattle.std.proofs.Common.{◌≡◌, ℕ, ◌+◌, ◌<◌, Bool, true, false, nat_le, List, [], length, Option, None, Some, is_some, option_and_then, inl, inr, refl, sym, ap, ◌∙◌, subst}
+use Rattle.std.proofs.lemmas.Bool.{cases_Bool, cond-true, cond-false}
 use Rattle.rv_isa.proofs.WithKind.{at_kind-by_kind, with_kind-back}
 use Rattle.rv_isa.specs.Operands.{kind_of}
 use Rattle.rv_isa.specs.PerKind.{at_kind, with_kind}
@@ -145,3 +145,12 @@ module _ (parts : Inside) (sound : IsSound parts) (kind : Kind) (idle : Bool) (p
 
     pub sound_still : result ≡ None → (stations : PerKind Pool) → stations ≡ with_kind kind (taken_from code_test (at_kind kind parts.stations)) parts.stations → IsSound (record parts { stations = stations })
     sound_still is stations left = subst (λ (ps : PerKind Pool). IsSound (record parts { stations = ps })) (sym (left ∙ stations_stay is)) sound
+
+  -- where no instruction of the kind waits, a turn ends the phase and changes nothing
+  pub turn_empty : (at_kind kind parts.stations).waiting ≡ [] → Ends h ≡ issue_turn kind h
+  turn_empty empty = elim (cases_Bool (is_free parts.cycle (at_kind kind parts.units))) [
+    | inl free ↦
+        let answer : None ≡ option_and_then ready_of (oldest_ready code_test (at_kind kind parts.stations).waiting) = sym (ap (λ ws. option_and_then ready_of (oldest_ready code_test ws)) empty) in
+        turn_ends None answer free refl
+    | inr held ↦ sym (cond-false (is_free parts.cycle (at_kind kind parts.units)) (issue_oldest kind h (oldest (is_ready_entry h kind) h.rob.entries)) (Ends h) held)
+  ]

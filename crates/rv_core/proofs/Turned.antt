@@ -1,5 +1,5 @@
 -- A loop that takes turns: what is still to come leads to the same.
-use Rattle.std.proofs.Common.{◌≡◌, ℕ, zero, suc, ◌+◌, ◌<◌, sym, ap, ◌∙◌, arith}
+use Rattle.std.proofs.Common.{◌≡◌, ℕ, zero, suc, ◌+◌, ◌<◌, refl, sym, ap, ◌∙◌, arith}
 use Rattle.rv_hardware.specs.Repeated.{Turn, GoesOn, Ends, followed_by, repeated}
 
 module _ {S : Type 0} (turn : S → Turn S) (final : S) where
@@ -14,3 +14,8 @@ module _ {S : Type 0} (turn : S → Turn S) (final : S) where
   turned-goes (suc n) rest s new more to goes =
       let same : rest ≡ n = omega (arith, more) in
       ap (λ k. repeated turn k new) same ∙ sym (ap (followed_by (repeated turn n)) goes) ∙ to
+
+-- a phase whose first turn ends it and changes nothing
+pub turned-none : {S : Type 0} (turn : S → Turn S) (width : ℕ) (s : S) → Ends s ≡ turn s → s ≡ repeated turn width s
+turned-none turn zero s ends = refl
+turned-none turn (suc n) s ends = ap (followed_by (repeated turn n)) ends

@@ -42,6 +42,10 @@ impl Parts {
     fn issue_kind(&mut self, kind: Kind)
         ensures { self.new ≡ issue_kind kind self.old }
     {
+        // Mostly nothing of a kind waits.
+        if self.stations.is_empty(kind) {
+            return;
+        }
         for _ in 0..self.values.kinds.get(kind).units {
             if !self.issue_one(kind) {
                 return;

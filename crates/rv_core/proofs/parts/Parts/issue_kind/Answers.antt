@@ -1,8 +1,19 @@
-use Rattle.std.proofs.Common.{◌+◌, ◌-◌, sym, ap, ◌∙◌, arith}
+use Rattle.std.proofs.Common.{◌+◌, ◌-◌, nat_le, refl, sym, ap, ◌∙◌, arith}
+use Rattle.rv_isa.specs.PerKind.{at_kind}
+use Rattle.rv_hardware.specs.Hardware.{Hardware}
 use Rattle.rv_hardware.specs.Issue.{issue_kind, issue_turn}
+use Rattle.rv_hardware.specs.Repeated.{Ends}
 use Rattle.rv_core.specs.Turns.{turn_of}
-use Rattle.rv_core.proofs.Turned.{turned-ends, turned-goes}
+use Rattle.rv_core.proofs.IssueParts.{turn_empty}
+use Rattle.rv_core.proofs.Turned.{turned-ends, turned-goes, turned-none}
 use Rattle.rv_core.proofs.parts.Parts.issue_kind.Goals as goal
+
+pub returns-then-is_empty : goal.returns-then-is_empty
+returns-then-is_empty c =
+    let parts = c.self.inside in
+    let ends = turn_empty parts c.self.invariant c.args.kind (nat_le parts.port_free parts.cycle) refl (c.is_empty.ensures.0 c.if-is_empty.true) in
+    turned-none (issue_turn c.args.kind) (at_kind c.args.kind c.args.self.now.values.kinds).units c.args.self.now
+    (ap (λ (h : Hardware). Ends h) (sym c.self.view_is) ∙ ends ∙ ap (issue_turn c.args.kind) c.self.view_is)
 
 pub returns-then-not-issue_one : goal.returns-then-not-issue_one
 returns-then-not-issue_one c =
