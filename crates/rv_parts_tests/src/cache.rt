@@ -134,3 +134,16 @@ fn two_ways_replace_the_least_recent_over_halves(rt: HostRuntime) {
     let halves = small_halves(&rt, rt.alloc());
     check_two_ways(&rt, &mut small_cache(&rt, rt.alloc(), halves, 2));
 }
+
+#[test]
+fn an_access_is_aligned_and_lies_in_the_cached_memory(rt: HostRuntime) {
+    let alloc = rt.alloc();
+    let cache = small_cache(&rt, alloc, small_ram(&rt, alloc), 1);
+    let end = A + 4096;
+    for (address, count) in [(A, 4), (A + 2, 2), (end - 1, 1), (end - 4, 4)] {
+        check_equal(&rt, cache.can_access(address, count), true);
+    }
+    for (address, count) in [(A + 2, 4), (A + 1, 2), (A - 4, 4), (end, 1), (A, 3)] {
+        check_equal(&rt, cache.can_access(address, count), false);
+    }
+}

@@ -1,3 +1,4 @@
 mod cut_short;
+mod outcome;
 mod reports;
 mod tables;
