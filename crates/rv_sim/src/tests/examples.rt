@@ -52,7 +52,7 @@ const FIBONACCI: &str =
     "# The tenth Fibonacci number, where the first two are 1. At the end a0, which is x10, is 55 (00000037).
 # A test runs this text too: crates/rv_sim/src/tests/examples.rt.
         li a0, 0                # one number, the zeroth
-        li a1, 1                # the number behind it
+        li a1, 1                # the number after it
         li t0, 10               # how many steps are left
 next:   add t1, a0, a1
         mv a0, a1
@@ -66,7 +66,7 @@ const LARGEST: &str =
     "# The largest of five signed words. At the end a1, which is x11, is 42 (0000002a).
 # A test runs this text too: crates/rv_sim/src/tests/examples.rt.
         la a0, numbers
-        li t0, 4                # how many are left behind the first
+        li t0, 4                # how many are left after the first
         lw a1, 0(a0)            # the largest so far
 next:   addi a0, a0, 4
         lw t1, 0(a0)
@@ -110,7 +110,7 @@ dump_words = 4
 %%
         li t0, 1                # the number
         li t1, 0x100            # where its square goes
-        li t2, 5                # the number behind the last
+        li t2, 5                # the number after the last
 next:   mul t3, t0, t0
         sw t3, 0(t1)
         addi t1, t1, 4
