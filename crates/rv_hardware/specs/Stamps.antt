@@ -69,9 +69,13 @@ needs_no_unit Breakpoint = true
 needs_no_unit EnvironmentCall = true
 needs_no_unit _ = false
 
+-- the kind of unit that a row used, if it used one
+abbrev pub kind_of_row : Row → Option Kind
+kind_of_row row = kind_of_word (instruction_of_row row)
+
 -- the row used a unit of a kind
 abbrev pub is_row_of_kind : Kind → Row → Bool
-is_row_of_kind kind row = is_of_kind kind (kind_of_word (instruction_of_row row))
+is_row_of_kind kind row = is_of_kind kind (kind_of_row row)
 
 -- the registers that it read
 abbrev pub sources_of_row : Row → List (Option ℕ)
