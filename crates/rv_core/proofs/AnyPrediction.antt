@@ -1,11 +1,14 @@
--- A fetch by what a predictor answers is one by any of the predictions that there may be.
+-- A cycle by what a predictor answers is one by any of the predictions that there may be.
 use Rattle.std.proofs.Common.{◌≡◌, ℕ, zero, suc, ◌-◌, Bool, true, false, List, [], ◌∷◌, ◌++◌, length, Option, Some, None, MatchBool, MatchOption}
+use Rattle.rv_isa.specs.declared.lines.Lines.{Lines}
 use Rattle.rv_memory.specs.Memory.{Memory}
 use Rattle.rv_front.specs.FetchBuffer.{Answers, FetchBuffer, Fetches, FetchesInto, IsFetchedAt, IsGuess, is_halted, stop_behind}
 use Rattle.rv_front.specs.declared.fetched.Fetched.{Fetched}
 use Rattle.rv_front.specs.declared.fetched.FetchStop.{FetchStop}
 use Rattle.rv_front.specs.declared.fetched.FetchStop.TheVariants.{Halted}
-use Rattle.rv_hardware.specs.Cycle.{any_prediction}
+use Rattle.rv_hardware.specs.Cycle.{IsCycle, any_prediction}
+use Rattle.rv_hardware.specs.Hardware.{Hardware}
+use Rattle.rv_hardware.specs.Report.{Report}
 
 module _ (answers : Answers) (ram : Memory) (cycle : ℕ) where
   any-guess : (pc : ℕ) (word : Option ℕ) (next : ℕ) → IsGuess answers pc word next → IsGuess any_prediction pc word next
@@ -48,6 +51,18 @@ module _ (answers : Answers) (ram : Memory) (cycle : ℕ) where
   any-into_at false old new stop (added, fetches, news) =
       (added, any-fetches old.width (old.capacity - length old.entries) old.next_pc added new.next_pc stop fetches, news)
 
-  -- what a predictor answers is one of the predictions that there may be
-  pub any-into : (old new : FetchBuffer) (stop : FetchStop) → FetchesInto answers ram cycle old new stop → FetchesInto any_prediction ram cycle old new stop
+  any-into : (old new : FetchBuffer) (stop : FetchStop) → FetchesInto answers ram cycle old new stop → FetchesInto any_prediction ram cycle old new stop
   any-into old new stop is = any-into_at old.halted old new stop is
+
+-- whoever asks what a cycle does need not know which predictions it went by
+pub any_cycle : {answers : Answers} {lines : Lines} {old new : Hardware} {report : Report} → IsCycle answers lines old report new → IsCycle any_prediction lines old report new
+any_cycle {answers} {lines} {old} {new} {report} cycle = record {
+  committing = cycle.committing;
+  commits = cycle.commits;
+  dispatching = cycle.dispatching;
+  executes = cycle.executes;
+  fetch_stop = cycle.fetch_stop;
+  fetches = any-into answers cycle.dispatching.hardware.cache.backing old.cycle cycle.dispatching.hardware.front new.front cycle.fetch_stop cycle.fetches;
+  others_stay = cycle.others_stay;
+  reports = cycle.reports;
+}

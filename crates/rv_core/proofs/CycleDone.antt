@@ -3,11 +3,11 @@ use Rattle.std.proofs.Common.{◌≡◌, ℕ, ◌+◌, ◌≤◌, Option, refl, 
 use Rattle.std.specs.FinSet as set
 use Rattle.rv_isa.specs.declared.lines.Lines.{Lines}
 use Rattle.rv_arch.specs.declared.outcome.Stop.{Stop}
-use Rattle.rv_front.specs.FetchBuffer.{FetchesInto}
+use Rattle.rv_front.specs.FetchBuffer.{Answers, FetchesInto}
 use Rattle.rv_front.specs.declared.fetched.FetchStop.{FetchStop}
 use Rattle.rv_hardware.specs.Broadcast.{broadcast}
 use Rattle.rv_hardware.specs.Commit.{Committing}
-use Rattle.rv_hardware.specs.Cycle.{IsCycle, any_prediction, commit_with, execute, with_lines}
+use Rattle.rv_hardware.specs.Cycle.{IsCycle, commit_with, execute, with_lines}
 use Rattle.rv_hardware.specs.Dispatch.{Dispatching, stall_of}
 use Rattle.rv_hardware.specs.Drain.{drain}
 use Rattle.rv_hardware.specs.Hardware.{Hardware}
@@ -42,18 +42,18 @@ module _ (lines : Lines) (old committed : Hardware) (width : 1 ≤ old.values.co
     dispatched-now = ap (λ (h : Hardware). h.cycle) dispatched-is ∙ executing-now
 
     -- with what the dispatch told, the stop and the fetch
-    pub cycle-done : (new : Hardware) (why : FetchStop) (count : ℕ) (stall : Option Stall) (stop : Option Stop) → count ≡ (execute committed).dispatched → stall ≡ stall_of (execute committed) → stop ≡ committing.stop
-        → FetchesInto any_prediction dispatched.cache.backing dispatched.cycle dispatched.front new.front why → new ≡ record dispatched { front = new.front }
-        → IsCycle any_prediction lines old (report_with committing.steps (record { dispatched = count; stall = stall; stop = stop })) (record new { cycle = old.cycle + 1 })
-    cycle-done new why count stall stop counts stalls stops fetches others = record {
+    pub cycle-done : (answers : Answers) (new : Hardware) (why : FetchStop) (count : ℕ) (stall : Option Stall) (stop : Option Stop) → count ≡ (execute committed).dispatched → stall ≡ stall_of (execute committed) → stop ≡ committing.stop
+        → FetchesInto answers dispatched.cache.backing dispatched.cycle dispatched.front new.front why → new ≡ record dispatched { front = new.front }
+        → IsCycle answers lines old (report_with committing.steps (record { dispatched = count; stall = stall; stop = stop })) (record new { cycle = old.cycle + 1 })
+    cycle-done answers new why count stall stop counts stalls stops fetches others = record {
       committing = committing;
       commits = refl;
       dispatching = executing;
       executes = refl;
       fetch_stop = why;
       fetches =
-          subst (λ (n : ℕ). FetchesInto any_prediction executing.hardware.cache.backing n executing.hardware.front new.front why) dispatched-now
-          (subst (λ (h : Hardware). FetchesInto any_prediction h.cache.backing dispatched.cycle h.front new.front why) dispatched-is fetches);
+          subst (λ (n : ℕ). FetchesInto answers executing.hardware.cache.backing n executing.hardware.front new.front why) dispatched-now
+          (subst (λ (h : Hardware). FetchesInto answers h.cache.backing dispatched.cycle h.front new.front why) dispatched-is fetches);
       others_stay = ap {A = Hardware} (λ h. record h { cycle = old.cycle + 1 }) (others ∙ ap {A = Hardware} (λ h. record h { front = new.front }) dispatched-is);
       reports = λ i. record {
         steps = committing.steps;

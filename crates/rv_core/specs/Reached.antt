@@ -5,11 +5,11 @@ use Rattle.rv_hardware.specs.Cycle.{with_lines}
 use Rattle.rv_hardware.specs.Hardware.{Hardware}
 use Rattle.rv_hardware.specs.Run.{Reachable}
 
--- its hardware is one that a reset and cycles lead to, and its list of steps has room for a cycle's
+-- its hardware is one that a reset and cycles lead to, and its list of steps has the room for a cycle's that it was made with
 pub record IsReached (h : Hardware) (room : ℕ) : Type 0 where
   pub reached : Reachable h
   pub numbers : h.rob.retired ≤ 8 * h.cycle
-  pub has_room : 8 ≤ room
+  pub has_room : room ≡ 8
 
 -- such hardware in a further cycle, in which the lines have their levels
 pub record IsBegun (h : Hardware) : Type 0 where

@@ -9,7 +9,7 @@ ghost use Rattle.rv_stores.specs.Queue.{older_than};
 ghost use Rattle.rv_units.specs.Bus.{holds, with_result};
 ghost use Rattle.rv_units.specs.Pool.{is_free, started as started_unit};
 ghost use Rattle.rv_hardware.specs.Result.{result_in};
-ghost use Rattle.rv_core.specs.Access.{IsBehind, IsOverRam, cache_after, load_path, path_cost, port_after};
+ghost use Rattle.rv_core.specs.Access.{IsExecuted, IsOverRam, cache_after, cost_by, path_of_ready, port_free_by};
 ghost use Rattle.rv_core.specs.Execution.{Reads};
 ghost use Rattle.rv_core.specs.Load.{goes};
 
@@ -94,10 +94,10 @@ impl Parts {
 fn execute(cache: &mut Cache<Ram>, queue: &StoreQueue, times: &Times, ready: &Ready) -> Executed
     requires over_ram { IsOverRam cache.old }
     requires cycle { times.now.cycle ≤ 2 ^ 40 }
-    ensures cost { result.cost ≡ path_cost times.now.latency times.now.forward cache.old (load_path cache.old.backing.layout (older_than ready.now.seq queue.now.stores) ready.now.first ready.now.instruction) }
-    ensures port { result.port_free ≡ port_after times.now.cycle times.now.port_free cache.old (load_path cache.old.backing.layout (older_than ready.now.seq queue.now.stores) ready.now.first ready.now.instruction) }
-    ensures cache { cache.new ≡ cache_after cache.old (load_path cache.old.backing.layout (older_than ready.now.seq queue.now.stores) ready.now.first ready.now.instruction) }
-    ensures message { is_some (kind_of ready.now.instruction) ≡ true → (s : State) (lines : Lines) (word : ℕ) → Reads s ready.now.pc ready.now.first ready.now.second ready.now.instruction → IsBehind cache.old (older_than ready.now.seq queue.now.stores) s → result.message ≡ result_in cache.old.backing.layout s lines word ready.now.instruction }
+    ensures cost { result.cost ≡ cost_by times.now cache.old (path_of_ready cache.old queue.now ready.now) }
+    ensures port { result.port_free ≡ port_free_by times.now cache.old (path_of_ready cache.old queue.now ready.now) }
+    ensures cache { cache.new ≡ cache_after cache.old (path_of_ready cache.old queue.now ready.now) }
+    ensures message { IsExecuted cache.old queue.now ready.now result.message }
 {
     match ready.instruction {
         Instr::Load {

@@ -6,7 +6,7 @@ ghost use Rattle.rv_arch.specs.Effect.{extended, loads};
 ghost use Rattle.rv_arch.specs.State.{State};
 ghost use Rattle.rv_stores.specs.Queue.{older_than};
 ghost use Rattle.rv_hardware.specs.Result.{effect_message};
-ghost use Rattle.rv_core.specs.Access.{IsBehind, IsOverRam, cache_after, defined_path, path_cost, port_after};
+ghost use Rattle.rv_core.specs.Access.{IsLoaded, IsOverRam, cache_after, cost_by, path_of_load, port_free_by};
 ghost use Rattle.rv_core.specs.Load.{load_fault, is_forwarded, path_of, bytes_over, may_go, needs_port};
 
 use crate::execute::{address, computes, faults};
@@ -169,10 +169,10 @@ pub(crate) fn load(
 ) -> Executed
     requires over_ram { IsOverRam cache.old }
     requires cycle { times.now.cycle ≤ 2 ^ 40 }
-    ensures cost { result.cost ≡ path_cost times.now.latency times.now.forward cache.old (defined_path (sum ready.now.first (modulo_word offset)) (path_of cache.old.backing.layout (older_than ready.now.seq queue.now.stores) (sum ready.now.first (modulo_word offset)) (bytes_of (width_of form)))) }
-    ensures port { result.port_free ≡ port_after times.now.cycle times.now.port_free cache.old (defined_path (sum ready.now.first (modulo_word offset)) (path_of cache.old.backing.layout (older_than ready.now.seq queue.now.stores) (sum ready.now.first (modulo_word offset)) (bytes_of (width_of form)))) }
-    ensures cache { cache.new ≡ cache_after cache.old (defined_path (sum ready.now.first (modulo_word offset)) (path_of cache.old.backing.layout (older_than ready.now.seq queue.now.stores) (sum ready.now.first (modulo_word offset)) (bytes_of (width_of form)))) }
-    ensures message { (s : State) → s.pc ≡ ready.now.pc → IsBehind cache.old (older_than ready.now.seq queue.now.stores) s → result.message ≡ effect_message None (loads cache.old.backing.layout s form rd (sum ready.now.first (modulo_word offset))) }
+    ensures cost { result.cost ≡ cost_by times.now cache.old (path_of_load cache.old queue.now ready.now form offset) }
+    ensures port { result.port_free ≡ port_free_by times.now cache.old (path_of_load cache.old queue.now ready.now form offset) }
+    ensures cache { cache.new ≡ cache_after cache.old (path_of_load cache.old queue.now ready.now form offset) }
+    ensures message { IsLoaded cache.old queue.now ready.now form rd offset result.message }
 {
     let place = address(ready.first, offset);
     let width = form.width();

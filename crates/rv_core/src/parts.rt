@@ -9,7 +9,7 @@ ghost use Rattle.rv_stations.specs.Pool.{squashed as squashed_pool, empty_pool};
 ghost use Rattle.rv_stores.specs.Store.{is_committed};
 ghost use Rattle.rv_units.specs.Bus.{empty_bus, squashed as squashed_bus};
 ghost use Rattle.rv_units.specs.Pool.{free_pool};
-ghost use Rattle.rv_hardware.specs.Cycle.{IsCycle, any_prediction, execute};
+ghost use Rattle.rv_hardware.specs.Cycle.{IsCycle, execute};
 ghost use Rattle.rv_hardware.specs.Dispatch.{stall_of};
 ghost use Rattle.rv_hardware.specs.Run.{Reachable};
 ghost use Rattle.rv_hardware.specs.Reset.{reset_hardware};
@@ -116,7 +116,7 @@ impl Parts {
         requires numbers { self.old.rob.retired ≤ 8 * self.old.cycle }
         requires room { vec_len steps.old + 8 ≤ vec_capacity steps.old }
         requires reached { Reachable self.old }
-        ensures cycle { (done : List StepOf) × (steps.new.items ≡ steps.old.items ++ done) × (length done ≤ 8) × IsCycle any_prediction lines self.old (report_with done result) self.new }
+        ensures cycle { (done : List StepOf) × (steps.new.items ≡ steps.old.items ++ done) × (length done ≤ 8) × IsCycle (answers predictor.new) lines self.old (report_with done result) self.new }
         ensures stop { IsCommitStop result.stop }
         ensures numbers { self.new.rob.retired ≤ 8 * self.new.cycle }
         ensures capacity { vec_capacity steps.new ≡ vec_capacity steps.old }

@@ -8,5 +8,5 @@ invariant_of-result g c =
     record {
       reached = subst Reachable (sym boxed) (at_reset c.fits.ensures.legal (c.fits.ensures.fits.0 c.if-not-fits.false));
       numbers = rw boxed (omega arith);
-      has_room = omega (arith, c.in_ok-steps.ensures.capacity);
+      has_room = c.in_ok-steps.ensures.exact;
     }

@@ -2,12 +2,11 @@ use Rattle.std.proofs.Common.{◌≡◌, ◌+◌, ◌++◌, refl, sym, ap, subst
 use Rattle.std.specs.FinSet as set
 use Rattle.rv_isa.specs.Description.{IsLegal}
 use Rattle.rv_hardware.specs.Commit.{commit}
-use Rattle.rv_hardware.specs.Cycle.{IsCycle, any_prediction, commit_with, with_lines}
+use Rattle.rv_hardware.specs.Cycle.{IsCycle, commit_with, with_lines}
 use Rattle.rv_hardware.specs.Hardware.{Hardware}
 use Rattle.rv_hardware.specs.Run.{Reachable}
 use Rattle.rv_core.specs.Parts.{hardware_of}
 use Rattle.rv_core.specs.Told.{IsCommitStop, report_with}
-use Rattle.rv_core.proofs.AnyPrediction.{any-into}
 use Rattle.rv_core.proofs.CycleDone.{committing-now, cycle-done, dispatched-now}
 use Rattle.rv_core.proofs.CyclesKept.{Commits}
 use Rattle.rv_core.proofs.Numbered.{sound-numbered}
@@ -54,17 +53,16 @@ returns-clause-cycle g c =
     let lines = c.args.lines in
     let steps = c.commit-stop.ensures.steps ∙ ap (λ h. c.args.steps.now.items ++ (commit set.contains (with_lines lines h)).steps) c.self.view_is in
     let done =
-    cycle-done lines old c.commit-stop.new.self (legal g at).pipeline.commit_width.0 (commits g at) c.execute-dispatched.new.self c.execute-dispatched.ensures.hardware c.fetch.new.self c.fetch.result
+    cycle-done lines old c.commit-stop.new.self (legal g at).pipeline.commit_width.0 (commits g at) c.execute-dispatched.new.self c.execute-dispatched.ensures.hardware _ c.fetch.new.self c.fetch.result
     c.execute-dispatched.result.0 c.execute-dispatched.result.1 c.commit-stop.result c.execute-dispatched.ensures.dispatched c.execute-dispatched.ensures.stall (stops g at)
-    (any-into _ c.execute-dispatched.new.self.cache.backing c.execute-dispatched.new.self.cycle c.execute-dispatched.new.self.front c.fetch.new.self.front c.fetch.result c.fetch.ensures.fetched)
-    c.fetch.ensures.others in
+    c.fetch.ensures.fetched c.fetch.ensures.others in
     let report = report_with (commit_with set.contains lines old).steps (record { dispatched = c.execute-dispatched.result.0; stall = c.execute-dispatched.result.1; stop = c.commit-stop.result }) in
     let new : record c.fetch.new.self { cycle = old.cycle + 1 } ≡ _ =
     λ i. record (sym c.self-2.view_is i) { cycle = (sym c.self.view_is i).cycle + 1 } in (
       (commit_with set.contains lines old).steps,
       steps,
       omega (arith, (counted g at).steps, (legal g at).pipeline.commit_width.1),
-      subst (IsCycle any_prediction lines old report) new done,
+      subst (IsCycle _ lines old report) new done,
     )
 
 pub returns-clause-numbers : goal.returns-clause-numbers
