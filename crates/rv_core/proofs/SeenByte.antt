@@ -1,10 +1,10 @@
 -- The byte that programs see is the youngest retired store's, else the cache's.
-use Rattle.std.proofs.Common.{◌≡◌, ℕ, ◌+◌, ◌-◌, ◌≤◌, nat_le, get_or, slice_get, Option, Some, None, inl, inr, sym, ap, ◌∙◌, arith}
+use Rattle.std.proofs.Common.{◌≡◌, ℕ, ◌+◌, ◌-◌, ◌≤◌, true, false, nat_le, get_or, slice_get, Option, Some, None, inl, inr, sym, ap, ◌∙◌, arith}
 use Rattle.std.specs.Option.{unwrap_or}
-use Rattle.std.proofs.lemmas.Bool.{cases_lt, cond-true, cond-false, le-leb, lt-leb}
+use Rattle.std.proofs.lemmas.Bool.{and_from, cases_lt, cond-true, cond-false, false≢true, le-leb, lt-leb}
 use Rattle.std.proofs.lemmas.Option.{slice_get_past}
 use Rattle.rv_cache.specs.Cache.{IsCached}
-use Rattle.rv_memory.specs.Memory.{byte_seen}
+use Rattle.rv_memory.specs.Memory.{byte_seen, is_in_ram}
 use Rattle.rv_stores.specs.Queue.{youngest_byte}
 use Rattle.rv_hardware.specs.Hardware.{Hardware}
 use Rattle.rv_hardware.specs.Seen.{layout_of, seen}
@@ -42,3 +42,10 @@ module _ (h : Hardware) (sound : IsSoundHardware h) (address : ℕ) where
       ∙ sym (from_base (omega (arith, cached.0, sound.cache.base))
       ∙ slice_get-memory_behind h.values.ram_base h.values.ram_size address h.committed h.cache.bytes sound.cache.bytes inside
       (omega (arith, cached.0, sound.cache.base)) (omega (arith, cached.1, sound.cache.base, sound.cache.bytes)))
+
+  -- no byte outside RAM is cached
+  pub outside_by : (Found : Type 0) → IsCached h.cache address → is_in_ram (layout_of h.values) address 1 ≡ false → Found
+  outside_by Found cached outside =
+      let above = le-leb h.values.ram_base address (omega (arith, cached.0, sound.cache.base)) in
+      let below = le-leb (address + 1) (h.values.ram_base + h.values.ram_size) (omega (arith, cached.1, sound.cache.base, sound.cache.bytes)) in
+      absurd (false≢true (sym outside ∙ and_from (nat_le h.values.ram_base address) (nat_le (address + 1) (h.values.ram_base + h.values.ram_size)) above below))

@@ -1,7 +1,7 @@
-ghost use Rattle.std.specs.Prelude.{◌≡◌, ◌+◌, ◌^◌, ◌<◌, ◌≤◌, ◌↔◌, ◌==◌, List, ◌++◌, is_some, length, nat_le, vec_len, vec_capacity, IsTrue, IfOk, IfErr};
+ghost use Rattle.std.specs.Prelude.{◌≡◌, ◌+◌, ◌^◌, ◌<◌, ◌≤◌, ◌↔◌, ◌==◌, false, None, List, ◌++◌, is_some, length, nat_le, vec_len, vec_capacity, IsTrue, IfOk, IfErr};
 ghost use Rattle.std.specs.FinSet as set;
 ghost use Rattle.rv_isa.specs.Description.{IsLegal};
-ghost use Rattle.rv_memory.specs.Memory.{byte_seen, word_of};
+ghost use Rattle.rv_memory.specs.Memory.{byte_seen, is_in_ram, word_of};
 ghost use Rattle.rv_hardware.specs.Cycle.{IsCycle, any_prediction};
 ghost use Rattle.rv_hardware.specs.Drain.{drain_end};
 ghost use Rattle.rv_hardware.specs.Headline.{IsTrueCycle};
@@ -190,14 +190,16 @@ impl Core {
     /// The byte that programs see at an address, or `None` outside RAM: that of the youngest retired store that the
     /// cache does not hold yet, else the cache's.
     pub fn byte(&self, address: u32) -> Option<u8>
-        ensures { result ≡ byte_seen (layout_of self.now.values) (seen self.now).ram address }
+        ensures seen { result ≡ byte_seen (layout_of self.now.values) (seen self.now).ram address }
+        ensures none_outside { is_in_ram (layout_of self.now.values) address 1 ≡ false → result ≡ None }
     {
         self.parts.byte(address)
     }
 
     /// Whether the word that holds an address was stored to since the last FENCE.I, which no word outside RAM was.
     pub fn is_stale(&self, address: u32) -> bool
-        ensures { result ≡ set.contains self.now.stale (word_of address) }
+        ensures stale { result ≡ set.contains self.now.stale (word_of address) }
+        ensures none_outside { is_in_ram (layout_of self.now.values) address 1 ≡ false → result ≡ false }
     {
         self.parts.stale.is_stale(address)
     }

@@ -1,28 +1,38 @@
 use Rattle.std.proofs.Common.{◌-◌, get_or, refl, sym, ap, ◌∙◌}
 use Rattle.std.specs.Option.{unwrap_or}
 use Rattle.std.proofs.lemmas.Bool.{false≢true}
-use Rattle.rv_memory.specs.Memory.{byte_seen}
+use Rattle.rv_memory.specs.Memory.{byte_seen, is_in_ram}
 use Rattle.rv_hardware.specs.Hardware.{Hardware}
 use Rattle.rv_hardware.specs.Seen.{layout_of, seen}
 use Rattle.rv_core.specs.Parts.{hardware_of}
-use Rattle.rv_core.proofs.SeenByte.{none_outside, some_inside}
+use Rattle.rv_core.proofs.SeenByte.{none_outside, outside_by, some_inside}
 use Rattle.rv_core.proofs.parts.Parts.byte.Goals as goal
 
-pub returns-then-not-is_cached : goal.returns-then-not-is_cached
-returns-then-not-is_cached c =
+pub returns-then-not-is_cached-clause-seen : goal.returns-then-not-is_cached-clause-seen
+returns-then-not-is_cached-clause-seen c =
     none_outside (hardware_of c.self.inside) c.self.invariant.sound c.args.address (λ cached. false≢true (c.if-not-is_cached.ensures.1 cached))
     ∙ ap (λ (h : Hardware). byte_seen (layout_of h.values) (seen h).ram c.args.address) c.self.view_is
 
-pub returns-in-Some : goal.returns-in-Some
-returns-in-Some c =
+pub returns-in-Some-clause-seen : goal.returns-in-Some-clause-seen
+returns-in-Some-clause-seen c =
     let cache = c.self.inside.cache in
     some_inside (hardware_of c.self.inside) c.self.invariant.sound c.args.address (c.if-not-is_cached.ensures.0 refl) c.in-Some.byte
     (sym (ap (λ o. unwrap_or o (get_or cache.bytes (c.args.address - cache.base) 0)) (sym c.committed_byte.ensures ∙ c.in-Some.is)))
     ∙ ap (λ (h : Hardware). byte_seen (layout_of h.values) (seen h).ram c.args.address) c.self.view_is
 
-pub returns-in-None : goal.returns-in-None
-returns-in-None c =
+pub returns-in-None-clause-seen : goal.returns-in-None-clause-seen
+returns-in-None-clause-seen c =
     let cache = c.self.inside.cache in
     some_inside (hardware_of c.self.inside) c.self.invariant.sound c.args.address (c.if-not-is_cached.ensures.0 refl) c.peek.result
     (c.peek.ensures ∙ sym (ap (λ o. unwrap_or o (get_or cache.bytes (c.args.address - cache.base) 0)) (sym c.committed_byte.ensures ∙ c.in-None.is)))
     ∙ ap (λ (h : Hardware). byte_seen (layout_of h.values) (seen h).ram c.args.address) c.self.view_is
+
+pub returns-in-Some-clause-none_outside : goal.returns-in-Some-clause-none_outside
+returns-in-Some-clause-none_outside c outside =
+    outside_by (hardware_of c.self.inside) c.self.invariant.sound c.args.address _ (c.if-not-is_cached.ensures.0 refl)
+    (ap (λ (h : Hardware). is_in_ram (layout_of h.values) c.args.address 1) c.self.view_is ∙ outside)
+
+pub returns-in-None-clause-none_outside : goal.returns-in-None-clause-none_outside
+returns-in-None-clause-none_outside c outside =
+    outside_by (hardware_of c.self.inside) c.self.invariant.sound c.args.address _ (c.if-not-is_cached.ensures.0 refl)
+    (ap (λ (h : Hardware). is_in_ram (layout_of h.values) c.args.address 1) c.self.view_is ∙ outside)
