@@ -23,15 +23,12 @@ use Rattle.rv_hardware.specs.Drain.{drain}
 use Rattle.rv_hardware.specs.Hardware.{Hardware}
 use Rattle.rv_isa.specs.Instruction.{is_serialising, is_store, kind_of_word}
 use Rattle.rv_hardware.specs.Issue.{issue}
-use Rattle.rv_hardware.specs.Laws.{DoesNotWait, IsFetchedAhead, IsTrappedSoon}
 use Rattle.rv_hardware.specs.Report.{Report}
 use Rattle.rv_hardware.specs.Repeated.{Turn}
 use Rattle.rv_hardware.specs.Seen.{stores_behind}
-use Rattle.rv_hardware.specs.Stamps.{EachNext, last_from, rows_of}
+use Rattle.rv_hardware.specs.Stamps.{last_from}
 use Rattle.rv_hardware.specs.Step.{stamp_of}
-use Rattle.rv_hardware.specs.declared.step.Row.{Row}
 use Rattle.rv_hardware.specs.declared.step.Step.{Step}
-use Rattle.rv_hardware.specs.declared.step.Step.TheVariants.{Retired, Trap, Interrupt}
 use Rattle.rv_hardware.proofs.GapBroadcast.{IsKeptByBroadcast, broadcast-keeps}
 use Rattle.rv_hardware.proofs.GapCycle.{cycle-keeps, phases-keep}
 use Rattle.rv_hardware.proofs.GapDispatch.{IsKeptByDispatch, dispatch-keeps}
@@ -44,15 +41,12 @@ use Rattle.rv_hardware.proofs.LawsCycle.{Anything, anything_is_kept, Passed, His
 use Rattle.rv_hardware.proofs.LawsDispatch.{has_full_queue, WaitsFor, for_serial, for_buffer, for_station, for_queue}
 use Rattle.rv_hardware.proofs.LawsFaults.{HasFaults, faults-kept, faults-at_reset}
 use Rattle.rv_hardware.proofs.LawsFetch.{IsNew}
-use Rattle.rv_hardware.proofs.LawsFollow.{last_stamp, last_stamp-push, has_step, has_step-push, IsAhead, Follows, AllFollow, Committed, commit_leads_by}
-use Rattle.rv_hardware.proofs.LawsIdleDispatch.{dispatch_leaves}
+use Rattle.rv_hardware.proofs.LawsFollow.{last_stamp, last_stamp-push, has_step, has_step-push, Follows, AllFollow, Committed, commit_leads_by}
+use Rattle.rv_hardware.proofs.Laws.NoIdleDispatch.{dispatch_leaves}
 use Rattle.rv_hardware.proofs.LawsLists.{Every, EveryBehind-at, count}
 use Rattle.rv_hardware.proofs.LawsNext.{Next, HasNext, next_executed}
-use Rattle.rv_hardware.proofs.LawsRow.{SoundRow}
 use Rattle.rv_hardware.proofs.LawsShape.{HasShape}
 use Rattle.rv_hardware.proofs.LawsTurns.{Leads, turns_keep}
-
--- ---- the end of a cycle
 
 some_station : (v : Values) → IsLegal v → (k : Kind) → 0 < (at_kind k v.kinds).stations
 some_station v legal k = omega (arith, (legal.kinds k).stations)
@@ -119,8 +113,6 @@ module _ (v : Values) (legal : IsLegal v) where
     next_fetched [] (f ∷ fs) at behind stores next = (next.0, λ plain. absurd (true≢false (sym (stores f fs refl refl) ∙ plain)))
     next_fetched [] [] at behind stores next = next_added added new (λ none. fetches_one front.halted refl behind (ap (λ (l : List Fetched). length l) at) none) next
 
--- ---- over all cycles
-
 pub history_has_faults : (v : Values) {steps : List Step} {h : Hardware} → History v steps h → HasFaults h
 history_has_faults v (began image start legal) = faults-at_reset v image start
 history_has_faults v (went_on before is) = cycle-keeps faults-kept is (history_has_faults v before)
@@ -128,8 +120,6 @@ history_has_faults v (went_on before is) = cycle-keeps faults-kept is (history_h
 history_is_halted : (v : Values) {steps : List Step} {h : Hardware} → History v steps h → IsHalted h
 history_is_halted v (began image start legal) = halted-at_reset v image start
 history_is_halted v (went_on before is) = cycle-keeps halted-kept is (history_is_halted v before)
-
--- ---- until a step, no store has retired
 
 both_empty : (xs ys : List Step) → xs ++ ys ≡ [] → (xs ≡ []) × (ys ≡ [])
 both_empty [] ys none = (refl, none)
@@ -252,32 +242,13 @@ history_has_next : (v : Values) {steps : List Step} {h : Hardware} → History v
 history_has_next v (began image start legal) = record { follow = tt; next = omega arith; unused = λ none. refl }
 history_has_next v (went_on before is) = next_goes_on v before (history_has_next v before) is
 
--- ---- so of any two steps that follow one another
+-- each step follows the one before it as the laws say
+pub all_follow : (v : Values) {steps : List Step} {h : Hardware} → History v steps h → AllFollow steps
+all_follow v history = (history_has_next v history).follow
 
 module _ (v : Values) {steps : List Step} {h : Hardware} (history : History v steps h) where
-  follows : (first rest : List Step) (a b : Step) → steps ≡ first ++ a ∷ b ∷ rest → Follows (stamp_of a) true b
+  pub follows : (first rest : List Step) (a b : Step) → steps ≡ first ++ a ∷ b ∷ rest → Follows (stamp_of a) true b
   follows first rest a b at =
-      let all : AllFollow ((first ++ a ∷ []) ++ b ∷ rest) = subst AllFollow (at ∙ sym (append_assoc first (a ∷ []) (b ∷ rest))) (history_has_next v history).follow in
+      let all : AllFollow ((first ++ a ∷ []) ++ b ∷ rest) = subst AllFollow (at ∙ sym (append_assoc first (a ∷ []) (b ∷ rest))) (all_follow v history) in
       subst (λ w. Follows (stamp_of a) w b) (has_step-push first a)
       (subst (λ n. Follows n (has_step (first ++ a ∷ [])) b) (last_stamp-push first a) (EveryBehind-at (λ before x. Follows (last_stamp before) (has_step before) x) (first ++ a ∷ []) rest b all))
-
-  pub law_of_heads : EachNext (λ a b. DoesNotWait (stamp_of a) b) steps
-  law_of_heads first rest a b at = (follows first rest a b at).waits
-
-  pub law_of_the_front : EachNext (λ a b. IsFetchedAhead (stamp_of a) b) steps
-  law_of_the_front first rest a b at = by_step b (follows first rest a b at).ahead
-    where
-      by_step : (x : Step) → IsAhead (stamp_of a) true x → IsFetchedAhead (stamp_of a) x
-      by_step (Retired row) h = h
-      by_step (Trap pc cause value cycle) h = tt
-      by_step (Interrupt pc cause cycle) h = tt
-
-  -- the first instruction
-  pub law_of_the_first : (row : Row) (rest : List Step) → steps ≡ Retired row ∷ rest → (row.fetched ≡ 0) × (row.dispatched ≡ 1)
-  law_of_the_first row rest at =
-      let first = EveryBehind-at (λ before x. Follows (last_stamp before) (has_step before) x) [] rest (Retired row) (subst AllFollow at (history_has_next v history).follow) in
-      let sound : SoundRow v h.cycle row = (subst (λ l. Every (SoundRow v h.cycle) (rows_of l)) at (history_is_sound v history).rows).0 in
-      (omega (arith, first.ahead.0), omega (arith, first.ahead.1 refl, sound.stamps.dispatched_after_fetch))
-
-  pub law_of_prompt_traps : EachNext (λ a b. IsTrappedSoon (stamp_of a) b) steps
-  law_of_prompt_traps first rest a b at = (follows first rest a b at).soon

@@ -1,39 +1,59 @@
 -- The laws hold of every run of the hardware, on hardware that was just reset and on hardware that has run.
-use Rattle.std.proofs.Common.{◌≡◌, ℕ, suc, ◌+◌, ◌≤◌, ◌<◌, ◌⊎◌, ◌==◌, Bool, true, false, cond, List, [], ◌∷◌, ◌++◌, count_by, All, AllPairs, Option, Some, None, IfSome, inl, inr, refl, sym, subst, ap, ◌∙◌, arith, append_assoc, append-nil}
+use Rattle.std.proofs.Common.{◌≡◌, ℕ, suc, ◌+◌, ◌≤◌, ◌<◌, ◌==◌, Bool, true, false, cond, List, [], ◌∷◌, ◌++◌, count_by, All, AllPairs, Option, Some, None, IfSome, inl, inr, refl, sym, subst, ap, ◌∙◌, arith, append_assoc, append-nil}
 use Rattle.std.proofs.lemmas.List.Elements.{All-tail, All-append, All-weaker}
 use Rattle.rv_isa.specs.PerKind.{at_kind}
 use Rattle.rv_isa.specs.declared.lines.Arrival.{Arrival}
 use Rattle.rv_isa.specs.declared.operations.Kind.{Kind}
 use Rattle.rv_isa.specs.declared.values.Values.{Values}
 use Rattle.rv_hardware.specs.Hardware.{Hardware}
-use Rattle.rv_hardware.specs.Laws.{Laws, DoesNotWait, IsFetchedAhead, IsTrappedSoon, HasOperandsIn, HasOrderedStamps, HasCost, IsKnownBefore, IsFetchedBehind, IsFetchedSince}
+use Rattle.rv_hardware.specs.Laws.{Laws, IssuesWithOperands, EachProducer, LeavesNoBusIdle, WaitsForBus, is_pipelined, units_of, LeaveNoUnitIdle, LeavesNoUnitIdle, WaitsForUnits, WaitsForRoom, LacksRoom, LoadsAfterStore, IsBroadcastFirst, AreApartAtPort, DoesNotWait, IsFetchedAhead, IsTrappedSoon, HasOperandsIn, HasOrderedStamps, HasCost, IsKnownBefore, IsFetchedBehind, IsFetchedSince}
 use Rattle.rv_hardware.specs.Report.{Report}
 use Rattle.rv_hardware.specs.Run.{Reachable, Cycles, ended, cycled, steps_of}
-use Rattle.rv_hardware.specs.Stamps.{rows_of, EachBehind, EachNext, last_from, sources_of_row, writes_register, producer_among, flushes, is_store_row, is_load_row, is_row_of_kind, is_fetched_in, is_dispatched_in, is_issued_in, is_broadcast_in, is_buffered_in, is_in_flight_in, is_stationed_in, is_executing_in, is_queued_in, uses_port}
+use Rattle.rv_hardware.specs.Stamps.{rows_of, EachBehind, EachNext, last_from, sources_of_row, writes_register, producer_among, flushes, is_fetched_in, is_dispatched_in, is_issued_in, is_broadcast_in, is_buffered_in, is_in_flight_in, is_stationed_in, is_executing_in, is_queued_in}
 use Rattle.rv_hardware.specs.Step.{stamp_of, is_interrupt}
 use Rattle.rv_hardware.specs.declared.step.Execution.{Execution}
 use Rattle.rv_hardware.specs.declared.step.Row.{Row}
 use Rattle.rv_hardware.specs.declared.step.Step.{Step}
-use Rattle.rv_hardware.proofs.LawsAhead.{law_of_heads, law_of_the_front, law_of_prompt_traps, law_of_the_first}
+use Rattle.rv_hardware.proofs.Laws.HeadsDoNotWait.{law_of_heads_do_not_wait}
+use Rattle.rv_hardware.proofs.Laws.FetchedAhead.{law_of_fetched_ahead}
+use Rattle.rv_hardware.proofs.Laws.TrapsSoon.{law_of_traps_soon}
+use Rattle.rv_hardware.proofs.Laws.FirstRow.{law_of_first_row}
 use Rattle.rv_hardware.specs.declared.step.Step.TheVariants.{Retired, Trap, Interrupt}
 use Rattle.rv_hardware.proofs.LawsCounted.{Shows, fails_later}
 use Rattle.rv_hardware.proofs.LawsCycle.{History, went_on, reachable_has_history, history_is_sound, history_is_legal}
 use Rattle.rv_hardware.proofs.LawsOfCycles.{passes_here}
 use Rattle.rv_hardware.proofs.LawsEvidence.{last_from-append, last_from-Every}
-use Rattle.rv_hardware.proofs.LawsIdleBus.{law_of_no_idle_bus}
-use Rattle.rv_hardware.proofs.LawsIdleDispatch.{law_of_no_idle_dispatch}
-use Rattle.rv_hardware.proofs.LawsIdleFetch.{law_of_no_idle_fetch}
-use Rattle.rv_hardware.proofs.LawsIdleUnitRows.{law_of_no_idle_unit}
+use Rattle.rv_hardware.proofs.Laws.Within.{law_of_within}
+use Rattle.rv_hardware.proofs.Laws.NoIdleBus.{law_of_no_idle_bus}
+use Rattle.rv_hardware.proofs.Laws.NoIdleDispatch.{law_of_no_idle_dispatch}
+use Rattle.rv_hardware.proofs.Laws.NoIdleFetch.{law_of_no_idle_fetch}
+use Rattle.rv_hardware.proofs.Laws.NoIdleUnit.{law_of_no_idle_unit}
 use Rattle.rv_hardware.proofs.LawsLists.{Every, Every-weaker, All-Every, count-append, count-none, count-count_by, Every-append, Every-both, Every-right}
 use Rattle.rv_hardware.proofs.LawsMarks.{Mark, rows_append}
-use Rattle.rv_hardware.proofs.LawsPairs.{law_of_oldest_results, law_of_loads, law_of_operands}
-use Rattle.rv_hardware.proofs.LawsPortRows.{law_of_the_port}
-use Rattle.rv_hardware.proofs.LawsRooms.{law_of_stamps, law_of_costs, law_of_fetch_order, law_of_dispatch_order, law_of_the_reorder_buffer, law_of_stations, in_flight_shows, stationed_shows}
+use Rattle.rv_hardware.proofs.Laws.OldestResultFirst.{law_of_oldest_result_first}
+use Rattle.rv_hardware.proofs.Laws.LoadsAfterStores.{law_of_loads_after_stores}
+use Rattle.rv_hardware.proofs.Laws.Operands.{law_of_operands}
+use Rattle.rv_hardware.proofs.Laws.Port.{law_of_port}
+use Rattle.rv_hardware.proofs.Laws.StampsInOrder.{law_of_stamps_in_order}
+use Rattle.rv_hardware.proofs.Laws.Costs.{law_of_costs}
+use Rattle.rv_hardware.proofs.Laws.FetchedInOrder.{law_of_fetched_in_order}
+use Rattle.rv_hardware.proofs.Laws.DispatchedInOrder.{law_of_dispatched_in_order}
+use Rattle.rv_hardware.proofs.Laws.ReorderBuffer.{law_of_reorder_buffer, in_flight_shows}
+use Rattle.rv_hardware.proofs.Laws.Stations.{law_of_stations, stationed_shows}
 use Rattle.rv_hardware.proofs.LawsRow.{SoundRow}
-use Rattle.rv_hardware.proofs.LawsSteps.{law_of_steps_in_order, law_of_commit_width, law_of_interrupts, law_of_flushes, law_of_fetching_anew, history_has_steps, steps_of_cycle}
-use Rattle.rv_hardware.proofs.LawsStoreQueue.{law_of_the_store_queue}
-use Rattle.rv_hardware.proofs.LawsUnitRows.{begun_shows, law_of_pipelined_units, law_of_other_units}
-use Rattle.rv_hardware.proofs.LawsWidths.{law_of_fetch_width, law_of_the_fetch_buffer, law_of_dispatch_width, law_of_bus_width, buffered_shows, dispatched_shows, sent_shows}
+use Rattle.rv_hardware.proofs.Laws.StepsInOrder.{law_of_steps_in_order}
+use Rattle.rv_hardware.proofs.Laws.CommitWidth.{law_of_commit_width}
+use Rattle.rv_hardware.proofs.Laws.InterruptsAlone.{law_of_interrupts_alone}
+use Rattle.rv_hardware.proofs.Laws.FlushesEndTheCycle.{law_of_flushes_end_the_cycle}
+use Rattle.rv_hardware.proofs.Laws.FetchedAnew.{law_of_fetched_anew}
+use Rattle.rv_hardware.proofs.LawsSteps.{history_has_steps, steps_of_cycle}
+use Rattle.rv_hardware.proofs.Laws.StoreQueue.{law_of_store_queue}
+use Rattle.rv_hardware.proofs.Laws.PipelinedUnits.{begun_shows, law_of_pipelined_units}
+use Rattle.rv_hardware.proofs.Laws.OtherUnits.{law_of_other_units}
+use Rattle.rv_hardware.proofs.Laws.FetchWidth.{law_of_fetch_width}
+use Rattle.rv_hardware.proofs.Laws.FetchBuffer.{law_of_fetch_buffer, buffered_shows}
+use Rattle.rv_hardware.proofs.Laws.DispatchWidth.{law_of_dispatch_width, dispatched_shows}
+use Rattle.rv_hardware.proofs.Laws.BusWidth.{law_of_bus_width, sent_shows}
 
 -- a history goes on by the cycles of a run
 pub history_runs : (v : Values) {arrivals : List Arrival} (steps : List Step) {old new : Hardware} {reports : List Report} → Cycles arrivals old reports new → History v steps old → History v (steps ++ steps_of reports) new
@@ -122,19 +142,19 @@ module _ (v : Values) (earlier steps : List Step) (old new : Hardware) (before_r
       count_by-rest (row_test c) (rows_of earlier) before
       (Every-weaker (SoundRow v old.cycle) (λ row. row_test c row ≡ false) (λ row sound. fails_later row_test test shows c old.cycle row le sound (row_test c row) refl) (rows_of earlier) (history_is_sound v before_run).rows)
 
-  operands_of_run : EachBehind (λ before row. IfSome row.execution (λ x. All (λ source. IfSome (producer_among before source) (IsKnownBefore row x)) (sources_of_row row))) (rows_of steps)
-  operands_of_run before after row at = by_execution row.execution (rows_behind (λ b r. IfSome r.execution (λ x. All (λ source. IfSome (producer_among b source) (IsKnownBefore r x)) (sources_of_row r))) (law_of_operands v history) before after row at)
+  operands_of_run : EachBehind IssuesWithOperands (rows_of steps)
+  operands_of_run before after row at = by_execution row.execution (rows_behind IssuesWithOperands (law_of_operands v history) before after row at)
     where
-      by_execution : (o : Option Execution) → IfSome o (λ x. All (λ source. IfSome (producer_among (rows_of earlier ++ before) source) (IsKnownBefore row x)) (sources_of_row row)) → IfSome o (λ x. All (λ source. IfSome (producer_among before source) (IsKnownBefore row x)) (sources_of_row row))
+      by_execution : (o : Option Execution) → IfSome o (λ x. EachProducer (IsKnownBefore row x) (rows_of earlier ++ before) row) → IfSome o (λ x. EachProducer (IsKnownBefore row x) before row)
       by_execution None h = tt
       by_execution (Some x) h =
           All-weaker (λ source. IfSome (producer_among (rows_of earlier ++ before) source) (IsKnownBefore row x)) (λ source. IfSome (producer_among before source) (IsKnownBefore row x))
           (λ source k. producer_of_all (IsKnownBefore row x) (rows_of earlier) before source k) (sources_of_row row) h
 
-  bus_of_run : EachBehind (λ before row. IfSome row.execution (λ x. (c : ℕ) → old.cycle ≤ c → x.issued + x.cost ≤ c → c < x.broadcast → v.bus_width ≤ count_by (is_broadcast_in c) before)) (rows_of steps)
-  bus_of_run before after row at = by_execution row.execution (rows_behind (λ b r. IfSome r.execution (λ x. (c : ℕ) → 0 ≤ c → x.issued + x.cost ≤ c → c < x.broadcast → v.bus_width ≤ count_by (is_broadcast_in c) b)) (law_of_no_idle_bus v history) before after row at)
+  bus_of_run : EachBehind (LeavesNoBusIdle v.bus_width old.cycle) (rows_of steps)
+  bus_of_run before after row at = by_execution row.execution (rows_behind (LeavesNoBusIdle v.bus_width 0) (law_of_no_idle_bus v history) before after row at)
     where
-      by_execution : (o : Option Execution) → IfSome o (λ x. (c : ℕ) → 0 ≤ c → x.issued + x.cost ≤ c → c < x.broadcast → v.bus_width ≤ count_by (is_broadcast_in c) (rows_of earlier ++ before)) → IfSome o (λ x. (c : ℕ) → old.cycle ≤ c → x.issued + x.cost ≤ c → c < x.broadcast → v.bus_width ≤ count_by (is_broadcast_in c) before)
+      by_execution : (o : Option Execution) → IfSome o (WaitsForBus v.bus_width 0 (rows_of earlier ++ before)) → IfSome o (WaitsForBus v.bus_width old.cycle before)
       by_execution None h = tt
       by_execution (Some x) h = λ c from ready later. let all = h c (omega arith) ready later in let same = none_earlier is_broadcast_in _ (sent_shows v) c from before in omega (arith, all, same)
 
@@ -157,24 +177,23 @@ module _ (v : Values) (earlier steps : List Step) (old new : Hardware) (before_r
           (last_stays (λ p. IfSome p.execution (λ y. y.broadcast < c)) None (last_from None (writes_register register) (rows_of earlier)) (writes_register register) before
           (λ u. last_from-Every (λ p. IfSome p.execution (λ y. y.broadcast < c)) None (writes_register register) (rows_of earlier) tt all_sent) k)
 
-  units_of_run : (kind : Kind) → (at_kind kind v.kinds).pipelined ≡ true → EachBehind (λ before row. is_row_of_kind kind row ≡ true → is_load_row row ≡ false → IfSome row.execution (λ x. (c : ℕ) → old.cycle ≤ c → row.dispatched < c → c < x.issued → HasOperandsIn c before row → (at_kind kind v.kinds).units ≤ count_by (is_issued_in kind c) before)) (rows_of steps)
-  units_of_run kind line before after row at is plain = by_execution row.execution (rows_behind (λ b r. is_row_of_kind kind r ≡ true → is_load_row r ≡ false → IfSome r.execution (λ x. (c : ℕ) → 0 ≤ c → r.dispatched < c → c < x.issued → HasOperandsIn c b r → (at_kind kind v.kinds).units ≤ count_by (is_issued_in kind c) b)) (law_of_no_idle_unit v history kind line) before after row at is plain)
+  units_of_run : (kind : Kind) → is_pipelined v kind ≡ true → LeaveNoUnitIdle v kind old.cycle (rows_of steps)
+  units_of_run kind line before after row at is plain = by_execution row.execution (rows_behind (LeavesNoUnitIdle kind (units_of v kind) 0) (law_of_no_idle_unit v history kind line) before after row at is plain)
     where
-      by_execution : (o : Option Execution) → IfSome o (λ x. (c : ℕ) → 0 ≤ c → row.dispatched < c → c < x.issued → HasOperandsIn c (rows_of earlier ++ before) row → (at_kind kind v.kinds).units ≤ count_by (is_issued_in kind c) (rows_of earlier ++ before)) →
-          IfSome o (λ x. (c : ℕ) → old.cycle ≤ c → row.dispatched < c → c < x.issued → HasOperandsIn c before row → (at_kind kind v.kinds).units ≤ count_by (is_issued_in kind c) before)
+      by_execution : (o : Option Execution) → IfSome o (WaitsForUnits kind (units_of v kind) 0 (rows_of earlier ++ before) row) →
+          IfSome o (WaitsForUnits kind (units_of v kind) old.cycle before row)
       by_execution None h = tt
       by_execution (Some x) h = λ c from dispatched later operands.
           let all = h c (omega arith) dispatched later (operands_of_all c from before row operands) in
           let same = none_earlier (is_issued_in kind) _ (begun_shows v kind) c from before in
           omega (arith, all, same)
 
-  dispatch_of_run : EachBehind (λ before row. is_store_row row ≡ false → (c : ℕ) → old.cycle ≤ c → row.fetched < c → c < row.dispatched → All (λ earlier. earlier.dispatched ≤ c) before → (v.dispatch_width ≤ count_by (is_dispatched_in c) before) ⊎ (v.rob ≤ count_by (is_in_flight_in c) before) ⊎ ((kind : Kind) × (is_row_of_kind kind row ≡ true) × ((at_kind kind v.kinds).stations ≤ count_by (is_stationed_in kind c) before))) (rows_of steps)
+  dispatch_of_run : EachBehind (WaitsForRoom v old.cycle) (rows_of steps)
   dispatch_of_run before after row at plain c from fetched later all =
-      by_cases (rows_behind (λ b r. is_store_row r ≡ false → (c : ℕ) → 0 ≤ c → r.fetched < c → c < r.dispatched → All (λ e. e.dispatched ≤ c) b → (v.dispatch_width ≤ count_by (is_dispatched_in c) b) ⊎ (v.rob ≤ count_by (is_in_flight_in c) b) ⊎ ((kind : Kind) × (is_row_of_kind kind r ≡ true) × ((at_kind kind v.kinds).stations ≤ count_by (is_stationed_in kind c) b))) (law_of_no_idle_dispatch v history) before after row at plain c (omega arith) fetched later
+      by_cases (rows_behind (WaitsForRoom v 0) (law_of_no_idle_dispatch v history) before after row at plain c (omega arith) fetched later
       (All-append (λ e. e.dispatched ≤ c) (rows_of earlier) before (All-Every (λ e. e.dispatched ≤ c) (rows_of earlier) (Every-weaker (SoundRow v old.cycle) (λ e. e.dispatched ≤ c) (λ e s. omega (arith, s.stamps.retired_after_dispatch, s.below, from)) (rows_of earlier) (history_is_sound v before_run).rows)) all))
     where
-      by_cases : (v.dispatch_width ≤ count_by (is_dispatched_in c) (rows_of earlier ++ before)) ⊎ (v.rob ≤ count_by (is_in_flight_in c) (rows_of earlier ++ before)) ⊎ ((kind : Kind) × (is_row_of_kind kind row ≡ true) × ((at_kind kind v.kinds).stations ≤ count_by (is_stationed_in kind c) (rows_of earlier ++ before))) →
-          (v.dispatch_width ≤ count_by (is_dispatched_in c) before) ⊎ (v.rob ≤ count_by (is_in_flight_in c) before) ⊎ ((kind : Kind) × (is_row_of_kind kind row ≡ true) × ((at_kind kind v.kinds).stations ≤ count_by (is_stationed_in kind c) before))
+      by_cases : LacksRoom v c (rows_of earlier ++ before) row → LacksRoom v c before row
       by_cases (inl wide) = let same = none_earlier is_dispatched_in _ (dispatched_shows v) c from before in inl (omega (arith, wide, same))
       by_cases (inr (inl full)) = let same = none_earlier is_in_flight_in _ (in_flight_shows v) c from before in inr (inl (omega (arith, full, same)))
       by_cases (inr (inr full)) = let same = none_earlier (is_stationed_in full.0) _ (stationed_shows v full.0) c from before in inr (inr (full.0, full.1, omega (arith, full.2, same)))
@@ -202,35 +221,35 @@ module _ (v : Values) (earlier steps : List Step) (old new : Hardware) (before_r
   pub laws_of_steps : Laws v old.cycle new.cycle steps
   laws_of_steps = record {
     within = All-Every (λ step. (old.cycle ≤ stamp_of step) × (stamp_of step < new.cycle)) steps
-        (Every-both (λ s. old.cycle ≤ stamp_of s) (λ s. stamp_of s < new.cycle) (λ s. (old.cycle ≤ stamp_of s) × (stamp_of s < new.cycle)) (λ s le lt. (le, lt)) steps since (Every-right (λ s. stamp_of s < new.cycle) earlier steps (history_has_steps v history).before));
-    stamps_in_order = rows_all HasOrderedStamps (law_of_stamps v history);
+        (Every-both (λ s. old.cycle ≤ stamp_of s) (λ s. stamp_of s < new.cycle) (λ s. (old.cycle ≤ stamp_of s) × (stamp_of s < new.cycle)) (λ s le lt. (le, lt)) steps since (Every-right (λ s. stamp_of s < new.cycle) earlier steps (law_of_within v history)));
+    stamps_in_order = rows_all HasOrderedStamps (law_of_stamps_in_order v history);
     costs = rows_all (HasCost v) (law_of_costs v history);
     steps_in_order = AllPairs-last (λ a b. stamp_of a ≤ stamp_of b) earlier steps (law_of_steps_in_order v history);
     commit_width = λ c. count_by-last (λ step. stamp_of step == c) earlier steps v.commit_width (law_of_commit_width v history c);
-    interrupts_alone = AllPairs-last (λ a b. is_interrupt b ≡ true → stamp_of a < stamp_of b) earlier steps (law_of_interrupts v history);
-    flushes_end_the_cycle = AllPairs-last (λ a b. flushes a ≡ true → stamp_of a < stamp_of b) earlier steps (law_of_flushes v history);
-    heads_do_not_wait = EachNext-last (λ a b. DoesNotWait (stamp_of a) b) earlier steps (law_of_heads v history);
-    traps_soon = EachNext-last (λ a b. IsTrappedSoon (stamp_of a) b) earlier steps (law_of_prompt_traps v history);
-    fetched_ahead = EachNext-last (λ a b. IsFetchedAhead (stamp_of a) b) earlier steps (law_of_the_front v history);
-    first_row = λ new_core row rest at. law_of_the_first v history row rest (ap (λ l. l ++ steps) (none_below_zero earlier old.cycle new_core (history_has_steps v before_run).before) ∙ at);
-    fetched_in_order = rows_pairs (λ a b. a.fetched ≤ b.fetched) (law_of_fetch_order v history);
-    dispatched_in_order = rows_pairs (λ a b. a.dispatched ≤ b.dispatched) (law_of_dispatch_order v history);
+    interrupts_alone = AllPairs-last (λ a b. is_interrupt b ≡ true → stamp_of a < stamp_of b) earlier steps (law_of_interrupts_alone v history);
+    flushes_end_the_cycle = AllPairs-last (λ a b. flushes a ≡ true → stamp_of a < stamp_of b) earlier steps (law_of_flushes_end_the_cycle v history);
+    heads_do_not_wait = EachNext-last (λ a b. DoesNotWait (stamp_of a) b) earlier steps (law_of_heads_do_not_wait v history);
+    traps_soon = EachNext-last (λ a b. IsTrappedSoon (stamp_of a) b) earlier steps (law_of_traps_soon v history);
+    fetched_ahead = EachNext-last (λ a b. IsFetchedAhead (stamp_of a) b) earlier steps (law_of_fetched_ahead v history);
+    first_row = λ new_core row rest at. law_of_first_row v history row rest (ap (λ l. l ++ steps) (none_below_zero earlier old.cycle new_core (law_of_within v before_run)) ∙ at);
+    fetched_in_order = rows_pairs (λ a b. a.fetched ≤ b.fetched) (law_of_fetched_in_order v history);
+    dispatched_in_order = rows_pairs (λ a b. a.dispatched ≤ b.dispatched) (law_of_dispatched_in_order v history);
     fetch_width = λ c. rows_count (is_fetched_in c) v.fetch_width (law_of_fetch_width v history c);
     dispatch_width = λ c. rows_count (is_dispatched_in c) v.dispatch_width (law_of_dispatch_width v history c);
     operands = operands_of_run;
-    loads_after_stores = rows_pairs (λ a b. is_store_row a ≡ true → is_load_row b ≡ true → IfSome a.execution (λ x. IfSome b.execution (λ y. x.broadcast < y.issued))) (law_of_loads v history);
+    loads_after_stores = rows_pairs LoadsAfterStore (law_of_loads_after_stores v history);
     bus_width = λ c. rows_count (is_broadcast_in c) v.bus_width (law_of_bus_width v history c);
-    oldest_result_first = rows_pairs (λ a b. IfSome a.execution (λ x. IfSome b.execution (λ y. x.issued + x.cost ≤ y.broadcast → x.broadcast ≤ y.broadcast))) (law_of_oldest_results v history);
+    oldest_result_first = rows_pairs IsBroadcastFirst (law_of_oldest_result_first v history);
     no_idle_bus = bus_of_run;
-    reorder_buffer = λ c. rows_count (is_in_flight_in c) v.rob (law_of_the_reorder_buffer v history c);
-    fetch_buffer = λ c. rows_count (is_buffered_in c) v.fetch_buffer (law_of_the_fetch_buffer v history c);
+    reorder_buffer = λ c. rows_count (is_in_flight_in c) v.rob (law_of_reorder_buffer v history c);
+    fetch_buffer = λ c. rows_count (is_buffered_in c) v.fetch_buffer (law_of_fetch_buffer v history c);
     stations = λ kind c. rows_count (is_stationed_in kind c) (at_kind kind v.kinds).stations (law_of_stations v history kind c);
-    store_queue = λ c. rows_count (is_queued_in v.cache.hit c) v.store_queue (law_of_the_store_queue v history c);
+    store_queue = λ c. rows_count (is_queued_in v.cache.hit c) v.store_queue (law_of_store_queue v history c);
     pipelined_units = λ kind is c. rows_count (is_issued_in kind c) (at_kind kind v.kinds).units (law_of_pipelined_units v history kind is c);
     other_units = λ kind is c. rows_count (is_executing_in kind c) (at_kind kind v.kinds).units (law_of_other_units v history kind is c);
     no_idle_unit = units_of_run;
-    port = rows_pairs (λ a b. uses_port v.forward a ≡ true → uses_port v.forward b ≡ true → IfSome a.execution (λ x. IfSome b.execution (λ y. (x.issued + x.cost ≤ y.issued) ⊎ (y.issued + y.cost ≤ x.issued)))) (law_of_the_port v history);
-    fetched_anew = AllPairs-last (λ a b. flushes a ≡ true → IsFetchedSince a b) earlier steps (law_of_fetching_anew v history);
+    port = rows_pairs (AreApartAtPort v.forward) (law_of_port v history);
+    fetched_anew = AllPairs-last (λ a b. flushes a ≡ true → IsFetchedSince a b) earlier steps (law_of_fetched_anew v history);
     no_idle_fetch = fetch_of_run;
     no_idle_dispatch = dispatch_of_run;
   }

@@ -1,5 +1,5 @@
 -- Steps come in order, within the width; interrupts alone, flushes last; behind a flush everything is fetched anew.
-use Rattle.std.proofs.Common.{◌≡◌, ℕ, suc, ◌+◌, ◌≤◌, ◌<◌, Bool, true, false, List, [], ◌∷◌, ◌++◌, map, length, length-append, unwrap_or, count_by, AllPairs, eqb, ◌==◌, append-nil, ne_eqb, eqb-true, Option, Some, None, refl, sym, subst, ap, ◌∙◌, arith, append_assoc, true≢false}
+use Rattle.std.proofs.Common.{◌≡◌, ℕ, suc, ◌+◌, ◌≤◌, ◌<◌, Bool, true, false, List, [], ◌∷◌, ◌++◌, map, length, length-append, unwrap_or, eqb, ◌==◌, append-nil, ne_eqb, eqb-true, Option, Some, None, refl, sym, subst, ap, ◌∙◌, arith, append_assoc, true≢false}
 use Rattle.std.specs.Ordering.{nat_cmp}
 use Rattle.std.specs.FinSet as set
 use Rattle.rv_decode.specs.Decodes.{instruction_of}
@@ -31,7 +31,7 @@ use Rattle.rv_hardware.proofs.LawsFetch.{IsNew}
 use Rattle.rv_hardware.proofs.LawsMarks.{Mark, mark_of_row, mark_of_entry, mark_of_fetched, marks_in}
 use Rattle.rv_hardware.proofs.LawsCommit.{CommitTurn, no_head, stale_head, unfinished, fence_waits, fence_writes, fence_retires, executes, serial_faults, traps, retires, retires_last, executed, written_back, retired_with, retired_and_flushed, commit_turn_is}
 use Rattle.rv_hardware.proofs.LawsCycle.{Anything, anything_is_kept, Sound, Passed, History, began, went_on, begin, committing, dispatching, cycle_passes, history_is_legal, history_is_sound}
-use Rattle.rv_hardware.proofs.LawsLists.{Every, EveryPair, Every-append, Every-both, Every-left, Every-right, Every-weaker, Every-all, Every-map, Every-unmap, Every-place, Every-set, EveryPair-append, EveryPair-weaker, AllPairs-EveryPair, count, count-append, count-none, count-length, count-count_by}
+use Rattle.rv_hardware.proofs.LawsLists.{Every, EveryPair, Every-append, Every-both, Every-left, Every-right, Every-weaker, Every-all, Every-map, Every-unmap, Every-place, Every-set, EveryPair-append, count, count-append, count-none, count-length}
 use Rattle.rv_hardware.proofs.LawsPhases.{Goes, Commits, commit_turn_keeps, commit_keeps, execute_keeps, with_marks}
 use Rattle.rv_hardware.proofs.LawsRow.{retiring_is_one, row_at, may_retire_finished}
 use Rattle.rv_hardware.proofs.LawsShape.{head_retired_entries}
@@ -194,8 +194,6 @@ module _ (v : Values) (now : ℕ) (earlier : List Step) (before : Every (λ s. s
       joined (Commits v now Anything (anything_is_kept v now) earlier is_stale) (Going (suc k)) (Steps v now earlier total) (commit_turn is_stale c) goes_on (turn_leads total k c (commit_turn is_stale c) lt (commit_turn_is is_stale c) p.0 p.1 goes_on))
       (λ c p. p.1.steps) h.values.commit_width 0 first (omega (arith, width)) (goes, record { steps = record { goes = goes; pairs = pairs; of_now = tt; within = omega arith; entries = entries; words = words }; plain = tt })
 
--- all steps so far
-
 pub record StepsPast (v : Values) (steps : List Step) (h : Hardware) : Type 0 where
   pub before : Every (λ s. stamp_of s < h.cycle) steps
   pub pairs : EveryPair InOrder steps
@@ -308,19 +306,3 @@ pub history_has_steps : (v : Values) {steps : List Step} {h : Hardware} → Hist
 history_has_steps v (began image start legal) = record { before = tt; pairs = tt; width = λ c. omega arith; entries = tt; words = tt }
 history_has_steps v (went_on {earlier} {old} {new} {lines} {report} before is) =
     steps_go_on v (history_is_legal v before) earlier old new lines report (history_is_sound v before) (history_has_steps v before) is
-
-module _ (v : Values) {steps : List Step} {h : Hardware} (history : History v steps h) where
-  pub law_of_steps_in_order : AllPairs (λ a b. stamp_of a ≤ stamp_of b) steps
-  law_of_steps_in_order = AllPairs-EveryPair (λ a b. stamp_of a ≤ stamp_of b) steps (EveryPair-weaker InOrder (λ a b. stamp_of a ≤ stamp_of b) (λ a b o. o.order) steps (history_has_steps v history).pairs)
-
-  pub law_of_commit_width : (c : ℕ) → count_by (λ step. stamp_of step == c) steps ≤ v.commit_width
-  law_of_commit_width c = let same = count-count_by (λ step. stamp_of step == c) steps in let le = (history_has_steps v history).width c in omega (arith, same, le)
-
-  pub law_of_interrupts : AllPairs (λ a b. is_interrupt b ≡ true → stamp_of a < stamp_of b) steps
-  law_of_interrupts = AllPairs-EveryPair (λ a b. is_interrupt b ≡ true → stamp_of a < stamp_of b) steps (EveryPair-weaker InOrder (λ a b. is_interrupt b ≡ true → stamp_of a < stamp_of b) (λ a b o. o.alone) steps (history_has_steps v history).pairs)
-
-  pub law_of_flushes : AllPairs (λ a b. flushes a ≡ true → stamp_of a < stamp_of b) steps
-  law_of_flushes = AllPairs-EveryPair (λ a b. flushes a ≡ true → stamp_of a < stamp_of b) steps (EveryPair-weaker InOrder (λ a b. flushes a ≡ true → stamp_of a < stamp_of b) (λ a b o. o.last) steps (history_has_steps v history).pairs)
-
-  pub law_of_fetching_anew : AllPairs (λ a b. flushes a ≡ true → IsFetchedSince a b) steps
-  law_of_fetching_anew = AllPairs-EveryPair (λ a b. flushes a ≡ true → IsFetchedSince a b) steps (EveryPair-weaker InOrder (λ a b. flushes a ≡ true → IsFetchedSince a b) (λ a b o. o.anew) steps (history_has_steps v history).pairs)

@@ -7,6 +7,7 @@ use Rattle.rv_front.specs.declared.fetched.Fetched.{Fetched}
 use Rattle.rv_rob.specs.declared.entry.Entry.{Entry}
 use Rattle.rv_rob.specs.declared.entry.Stage.{Stage}
 use Rattle.rv_rob.specs.declared.entry.Stage.TheVariants.{Waiting, Running, Finished}
+use Rattle.rv_hardware.specs.Laws.{AreApartAtPort}
 use Rattle.rv_hardware.specs.Hardware.{Hardware}
 use Rattle.rv_hardware.specs.Stamps.{rows_of, EachBehind, instruction_of_row, is_load_row, passes, uses_port}
 use Rattle.rv_hardware.specs.declared.step.Execution.{Execution}
@@ -182,8 +183,7 @@ each_behind : {X : Type 0} (P : List X → X → Type 0) (before xs all : List X
 each_behind P before [] all at h = tt
 each_behind P before (x ∷ xs) all at h = (h before xs x at, each_behind P (before ++ x ∷ []) xs all (at ∙ sym (append_assoc before (x ∷ []) xs)) h)
 
-pub law_of_the_port : (v : Values) {steps : List Step} {h : Hardware} → History v steps h →
-    AllPairs (λ a b. uses_port v.forward a ≡ true → uses_port v.forward b ≡ true → IfSome a.execution (λ x. IfSome b.execution (λ y. (x.issued + x.cost ≤ y.issued) ⊎ (y.issued + y.cost ≤ x.issued)))) (rows_of steps)
-law_of_the_port v {steps} history =
+pub law_of_port : (v : Values) {steps : List Step} {h : Hardware} → History v steps h → AllPairs (AreApartAtPort v.forward) (rows_of steps)
+law_of_port v {steps} history =
     AllPairs-EveryPair (PortApart v) (rows_of steps)
     (EveryPair-EveryBehind (PortApart v) [] (rows_of steps) (each_behind (λ before b. Every (λ a. PortApart v a b) before) [] (rows_of steps) (rows_of steps) refl (rows_apart v history)))

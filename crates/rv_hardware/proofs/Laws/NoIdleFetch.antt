@@ -11,7 +11,7 @@ use Rattle.rv_hardware.specs.declared.step.Step.{Step}
 use Rattle.rv_hardware.specs.declared.step.Step.TheVariants.{Retired, Trap, Interrupt}
 use Rattle.rv_hardware.proofs.LawsBasics.{and_first, and_second, and_both}
 use Rattle.rv_hardware.proofs.LawsCycle.{History}
-use Rattle.rv_hardware.proofs.LawsIdleDispatch.{none_until}
+use Rattle.rv_hardware.proofs.Laws.NoIdleDispatch.{none_until}
 use Rattle.rv_hardware.proofs.LawsLinked.{is_word, with_word, Followed, IsOpen, Linked, held_behind, held_count}
 use Rattle.rv_hardware.proofs.LawsLinkedRows.{marks_are_linked}
 use Rattle.rv_hardware.proofs.LawsLists.{Every-all, count-append, count-count_by, count-le, count-map}

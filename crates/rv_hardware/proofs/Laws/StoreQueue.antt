@@ -1,5 +1,5 @@
 -- Every cycle keeps the store queue's tie to the rows, and so it holds no more stores than it has room for.
-use Rattle.std.proofs.Common.{◌≡◌, ℕ, zero, suc, ◌+◌, ◌≤◌, ◌<◌, ◌&&◌, Bool, true, false, cond, is_some, nat_le, nat_lt, List, [], ◌∷◌, ◌++◌, map, filter, length, count_by, Option, Some, None, inl, inr, refl, sym, subst, ap, ◌∙◌, arith, append_assoc, append-nil, le-leb, lt-ltb}
+use Rattle.std.proofs.Common.{◌≡◌, ℕ, zero, suc, ◌+◌, ◌≤◌, ◌<◌, ◌&&◌, Bool, true, false, cond, is_some, nat_le, nat_lt, List, [], ◌∷◌, ◌++◌, map, filter, length, Option, Some, None, inl, inr, refl, sym, subst, ap, ◌∙◌, arith, append_assoc, append-nil, le-leb, lt-ltb}
 use Rattle.std.proofs.lemmas.Bool.{leb-true, ltb-true, cases_lt, le-ltb}
 use Rattle.std.specs.Ordering.{nat_cmp}
 use Rattle.std.specs.FinSet as set
@@ -17,6 +17,7 @@ use Rattle.rv_rob.specs.declared.entry.Entry.{Entry}
 use Rattle.rv_rob.specs.declared.entry.Stage.{Stage}
 use Rattle.rv_rob.specs.declared.entry.Stage.TheVariants.{Finished}
 use Rattle.rv_stores.specs.declared.store.Store.{Store}
+use Rattle.rv_hardware.specs.Laws.{NeverMoreThan}
 use Rattle.rv_hardware.specs.Broadcast.{broadcast}
 use Rattle.rv_hardware.specs.Commit.{Committing, commit_unless, with_fault}
 use Rattle.rv_hardware.specs.Cycle.{with_lines}
@@ -282,8 +283,8 @@ module _ (v : Values) {steps : List Step} {h : Hardware} (history : History v st
       let law = queued_before now (omega (arith, at)) in
       omega (arith, fewer, law)
 
-  pub law_of_the_store_queue : (c : ℕ) → count_by (is_queued_in v.cache.hit c) (rows_of steps) ≤ v.store_queue
-  law_of_the_store_queue c =
+  pub law_of_store_queue : NeverMoreThan v.store_queue (is_queued_in v.cache.hit) (rows_of steps)
+  law_of_store_queue c =
       let same = count-count_by (is_queued_in v.cache.hit c) (rows_of steps) in
       elim (cases_lt c h.cycle) [
         | inl before ↦ let le = queued_before c before in omega (arith, same, le)

@@ -12,6 +12,7 @@ use Rattle.rv_front.specs.declared.fetched.Fetched.{Fetched}
 use Rattle.rv_rob.specs.declared.entry.Entry.{Entry}
 use Rattle.rv_rob.specs.declared.entry.Stage.{Stage}
 use Rattle.rv_rob.specs.declared.entry.Stage.TheVariants.{Waiting, Running, Finished}
+use Rattle.rv_hardware.specs.Laws.{WaitsForRoom}
 use Rattle.rv_hardware.specs.Dispatch.{Dispatching, dispatch, dispatch_turn, entry_of_fetched, has_full_stations, is_stationed}
 use Rattle.rv_hardware.specs.Hardware.{Hardware}
 use Rattle.rv_hardware.specs.InFlight.{is_waiting}
@@ -259,8 +260,7 @@ module _ (v : Values) (bound c : ℕ) (before : List Row) (row : Row) (older : E
         (λ a o is. let late = o.serial is in ap is_some (until_by c a.retired (omega (arith, late, after)))) before older);
   }
 
-pub law_of_no_idle_dispatch : (v : Values) {steps : List Step} {h : Hardware} → History v steps h →
-    EachBehind (λ before row. is_store_row row ≡ false → (c : ℕ) → 0 ≤ c → row.fetched < c → c < row.dispatched → All (λ earlier. earlier.dispatched ≤ c) before → (v.dispatch_width ≤ count_by (is_dispatched_in c) before) ⊎ (v.rob ≤ count_by (is_in_flight_in c) before) ⊎ ((kind : Kind) × (is_row_of_kind kind row ≡ true) × ((at_kind kind v.kinds).stations ≤ count_by (is_stationed_in kind c) before))) (rows_of steps)
+pub law_of_no_idle_dispatch : (v : Values) {steps : List Step} {h : Hardware} → History v steps h → EachBehind (WaitsForRoom v 0) (rows_of steps)
 law_of_no_idle_dispatch v {steps} {h} history before after row at plain c from fetched later all =
     let sound : SoundRow v h.cycle row = Every-place (SoundRow v h.cycle) before after row (subst (Every (SoundRow v h.cycle)) at (history_is_sound v history).rows) in
     let older = EachBehind-EveryBehind (λ b r. Every (Older v h.cycle r) b) (rows_of steps) (rows_are_older v history) before after row at in

@@ -6,6 +6,7 @@ use Rattle.rv_rob.specs.Entry.{finished, predicting}
 use Rattle.rv_rob.specs.declared.entry.Entry.{Entry}
 use Rattle.rv_isa.specs.declared.broadcast.Message.{Message}
 use Rattle.rv_isa.specs.declared.issues.Issue.{Issue}
+use Rattle.rv_hardware.specs.Laws.{LeavesNoBusIdle}
 use Rattle.rv_hardware.specs.Broadcast.{broadcast, broadcast_turn, has_result, with_broadcast}
 use Rattle.rv_hardware.specs.Hardware.{Hardware}
 use Rattle.rv_hardware.specs.Repeated.{Turn}
@@ -191,8 +192,7 @@ in_cycle v c bound row (Some x) at sound = λ ready later.
 abbrev BusOf : Values → ℕ → List Row → Row → Type 0
 BusOf v from before row = IfSome row.execution (λ x. (c : ℕ) → from ≤ c → x.issued + x.cost ≤ c → c < x.broadcast → v.bus_width ≤ count_by (is_broadcast_in c) before)
 
-pub law_of_no_idle_bus : (v : Values) {steps : List Step} {h : Hardware} → History v steps h →
-    EachBehind (λ before row. IfSome row.execution (λ x. (c : ℕ) → 0 ≤ c → x.issued + x.cost ≤ c → c < x.broadcast → v.bus_width ≤ count_by (is_broadcast_in c) before)) (rows_of steps)
+pub law_of_no_idle_bus : (v : Values) {steps : List Step} {h : Hardware} → History v steps h → EachBehind (LeavesNoBusIdle v.bus_width 0) (rows_of steps)
 law_of_no_idle_bus v {steps} {h} history before after row at = by_execution row.execution refl
   where
     sound : SoundRow v h.cycle row

@@ -3,10 +3,10 @@ use Rattle.std.proofs.Common.{◌≡◌, ℕ, ◌+◌, ◌≤◌, ◌<◌, ◌&&
 use Rattle.rv_isa.specs.PerKind.{at_kind}
 use Rattle.rv_isa.specs.declared.operations.Kind.{Kind}
 use Rattle.rv_isa.specs.declared.values.Values.{Values}
+use Rattle.rv_hardware.specs.Laws.{is_pipelined, LeaveNoUnitIdle, HasOperandsIn}
 use Rattle.rv_hardware.specs.Hardware.{Hardware}
 use Rattle.rv_isa.specs.Instruction.{is_serialising, kind_of_word}
-use Rattle.rv_hardware.specs.Laws.{HasOperandsIn}
-use Rattle.rv_hardware.specs.Stamps.{rows_of, EachBehind, last_from, last_that, instruction_of_row, is_load_row, is_row_of_kind, passes, producer_among, sources_of_row, writes_register, is_issued_in}
+use Rattle.rv_hardware.specs.Stamps.{rows_of, last_from, last_that, instruction_of_row, is_row_of_kind, passes, producer_among, sources_of_row, writes_register, is_issued_in}
 use Rattle.rv_hardware.specs.declared.step.Execution.{Execution}
 use Rattle.rv_hardware.specs.declared.step.Row.{Row}
 use Rattle.rv_hardware.specs.declared.step.Step.{Step}
@@ -14,15 +14,14 @@ use Rattle.rv_hardware.proofs.LawsAdvance.{IsBefore, writes_mark, IsKnownMark, O
 use Rattle.rv_hardware.proofs.LawsBasics.{and_first, and_second, and_both}
 use Rattle.rv_hardware.proofs.LawsCounted.{behind_law, behind_count, until_by}
 use Rattle.rv_hardware.proofs.LawsCycle.{History, history_is_sound}
-use Rattle.rv_hardware.proofs.LawsIdleDispatch.{Every-All, as_of_rows}
+use Rattle.rv_hardware.proofs.Laws.NoIdleDispatch.{Every-All, as_of_rows}
 use Rattle.rv_hardware.proofs.LawsIdleUnit.{MayStart, BusyUnits}
 use Rattle.rv_hardware.proofs.LawsIdleUnitPhases.{units_are_busy}
 use Rattle.rv_hardware.proofs.LawsLists.{Every, Every-place, Every-weaker, EveryBehind, EachBehind-EveryBehind, EveryBehind-EveryPair, Beginning-EveryBehind}
 use Rattle.rv_hardware.proofs.LawsMarks.{Mark, mark_of_row, as_of, as_of-cons, at_end, was_fetched, until, start_until, start_until_now, start_of_execution, broadcast_of_execution}
 use Rattle.rv_hardware.proofs.LawsOrder.{history_is_orderly}
-use Rattle.rv_hardware.proofs.LawsPairs.{Older, rows_are_older}
+use Rattle.rv_hardware.proofs.LawsPairs.{Older, rows_are_older, row_pairs}
 use Rattle.rv_hardware.proofs.LawsPast.{rows_obey}
-use Rattle.rv_hardware.proofs.LawsRooms.{row_pairs}
 use Rattle.rv_hardware.proofs.LawsRow.{SoundRow}
 use Rattle.rv_hardware.proofs.LawsUnitRows.{starts_at, begins_mark}
 
@@ -85,8 +84,7 @@ begun_at c (Some x) h = by_stamp (nat_le x.issued c) h
     by_stamp true h' = h'
     by_stamp false h' = absurd (cc)
 
-pub law_of_no_idle_unit : (v : Values) {steps : List Step} {h : Hardware} → History v steps h → (kind : Kind) → (at_kind kind v.kinds).pipelined ≡ true →
-    EachBehind (λ before row. is_row_of_kind kind row ≡ true → is_load_row row ≡ false → IfSome row.execution (λ x. (c : ℕ) → 0 ≤ c → row.dispatched < c → c < x.issued → HasOperandsIn c before row → (at_kind kind v.kinds).units ≤ count_by (is_issued_in kind c) before)) (rows_of steps)
+pub law_of_no_idle_unit : (v : Values) {steps : List Step} {h : Hardware} → History v steps h → (k : Kind) → is_pipelined v k ≡ true → LeaveNoUnitIdle v k 0 (rows_of steps)
 law_of_no_idle_unit v {steps} {h} history k line before after row at kind plain = by_execution row.execution refl
   where
     sound : SoundRow v h.cycle row

@@ -1,0 +1,104 @@
+-- At most `bus_width` results are broadcast in a cycle.
+use Rattle.std.proofs.Common.{◌≡◌, ℕ, suc, ◌+◌, ◌≤◌, ◌<◌, ◌==◌, Bool, true, false, nat_le, List, ◌∷◌, ◌++◌, map, Option, Some, None, IfSome, refl, ap, ◌∙◌, arith, le-leb, eqb-true, ne_eqb}
+use Rattle.rv_isa.specs.declared.instructions.Instr.{Instr}
+use Rattle.rv_isa.specs.declared.values.Values.{Values}
+use Rattle.rv_rob.specs.Entry.{finished, predicting}
+use Rattle.rv_rob.specs.declared.entry.Entry.{Entry}
+use Rattle.rv_rob.specs.declared.entry.Stage.{Stage}
+use Rattle.rv_rob.specs.declared.entry.Stage.TheVariants.{Waiting, Running, Finished}
+use Rattle.rv_hardware.specs.Broadcast.{broadcast, broadcast_turn}
+use Rattle.rv_hardware.specs.Dispatch.{Dispatching, dispatch, dispatch_turn, entry_of_fetched}
+use Rattle.rv_hardware.specs.Hardware.{Hardware}
+use Rattle.rv_hardware.specs.Repeated.{Turn}
+use Rattle.rv_hardware.specs.Stamps.{rows_of, passes, is_broadcast_in}
+use Rattle.rv_hardware.specs.declared.step.Execution.{Execution}
+use Rattle.rv_hardware.specs.declared.step.Step.{Step}
+use Rattle.rv_hardware.proofs.LawsBasics.{and_both, dispatched_mark}
+use Rattle.rv_hardware.proofs.LawsBroadcast.{BroadcastTurn, none_ready, sends, mends, broadcast_turn_is, sent_entries, mended_entries}
+use Rattle.rv_hardware.proofs.LawsCounted.{Shows, counted_law, until_by}
+use Rattle.rv_hardware.proofs.LawsCycle.{History, dispatching, issued_all, sent_all}
+use Rattle.rv_hardware.proofs.LawsDispatch.{DispatchTurn, buffer_empty, waits, dispatches, dispatch_turn_is}
+use Rattle.rv_hardware.proofs.LawsLists.{Every-weaker, Every-all, count, count-append, count-none, count-map, count-push, count-push-no, count-left, count-set-more}
+use Rattle.rv_hardware.proofs.LawsMarks.{Mark, mark_of_row, mark_of_fetched, marks_in, until, broadcast_of_stage, broadcast_of_execution}
+use Rattle.rv_hardware.proofs.LawsRow.{SoundRow}
+use Rattle.rv_hardware.proofs.LawsSound.{SoundEntry, SoundStage}
+use Rattle.rv_hardware.proofs.LawsTurns.{Leads, turns_within, turns_keep}
+use Rattle.rv_hardware.specs.Laws.{NeverMoreThan}
+use Rattle.rv_hardware.proofs.LawsWidths.{is_at, count_marks}
+
+sent_shows_by : (c D C : ℕ) (x : Option Execution) → IfSome x (λ x. (D < x.issued) × (x.issued + x.cost ≤ x.broadcast) × (x.broadcast < C)) → passes (λ y. y.broadcast == c) x ≡ true →
+    (is_at c (until c (broadcast_of_execution x)) ≡ true) × (D < c) × (c < C)
+sent_shows_by c D C None h is = absurd (cc)
+sent_shows_by c D C (Some x) h is =
+    let same : x.broadcast ≡ c = eqb-true x.broadcast c is in
+    (rw (until_by c x.broadcast (omega (arith, same))) is, omega (arith, same, h.0, h.1), omega (arith, same, h.2))
+
+pub sent_shows : (v : Values) → Shows v is_broadcast_in (λ c m. is_at c m.broadcast)
+sent_shows v = record {
+  mark = λ c bound row sound h.
+      let x = sent_shows_by c row.dispatched row.retired row.execution sound.stamps.executed_between h in
+      and_both (nat_le row.fetched c) (is_at c (until c (broadcast_of_execution row.execution))) (le-leb row.fetched c (omega (arith, x.1, sound.stamps.dispatched_after_fetch))) x.0;
+  ends = λ c bound row sound h. (sent_shows_by c row.dispatched row.retired row.execution sound.stamps.executed_between h).2;
+}
+
+module _ (now total : ℕ) where
+  abbrev is_sent_now : Entry → Bool
+  is_sent_now e = is_at now (broadcast_of_stage e.stage)
+
+  abbrev SentNow : ℕ → Hardware → Type 0
+  SentNow k h = count is_sent_now h.rob.entries ≤ k
+
+  broadcast_leads : (k : ℕ) (h : Hardware) (t : Turn Hardware) → k < total → BroadcastTurn h t → SentNow k h → Leads (SentNow (suc k)) (SentNow total) t
+  broadcast_leads k h _ lt (none_ready none) p = omega (arith, p, lt)
+  broadcast_leads k h _ lt (sends older younger e issue message sent late) p =
+      let x : Entry = finished message h.cycle e in
+      let more = count-set-more is_sent_now older younger e x in
+      let old = ap (count is_sent_now) sent.place in
+      let new = ap (count is_sent_now) (sent_entries h older younger e message sent.place) in
+      omega (arith, more, old, new, p)
+  broadcast_leads k h _ lt (mends older younger e issue message sent early) p =
+      let y : Entry = predicting message.next_pc (finished message h.cycle e) in
+      let more = count-push is_sent_now older y in
+      let less = count-left is_sent_now older (e ∷ younger) in
+      let old = ap (count is_sent_now) sent.place in
+      let new = ap (count is_sent_now) (mended_entries h older younger e message sent.place) in
+      omega (arith, more, less, old, new, p, lt)
+
+  pub broadcast_within : (h : Hardware) → h.values.bus_width ≡ total → count is_sent_now h.rob.entries ≤ 0 → count is_sent_now (broadcast h).rob.entries ≤ total
+  broadcast_within h width none =
+      turns_within total SentNow (SentNow total) broadcast_turn (λ k g lt p. broadcast_leads k g (broadcast_turn g) lt (broadcast_turn_is g) p) (λ g p. p) h.values.bus_width 0 h (omega (arith, width)) none
+
+  dispatch_sends_none : (d : Dispatching) (t : Turn Dispatching) → DispatchTurn d t → SentNow total d.hardware → Leads (λ x. SentNow total x.hardware) (λ x. SentNow total x.hardware) t
+  dispatch_sends_none d _ (buffer_empty none) p = p
+  dispatch_sends_none d _ (waits f fs reason at why) p = p
+  dispatch_sends_none d _ (dispatches f fs at nothing) p =
+      let same = count-push-no is_sent_now d.hardware.rob.entries (entry_of_fetched d.hardware f) (ap (λ (m : Mark). is_at now m.broadcast) (dispatched_mark d.hardware f)) in
+      omega (arith, same, p)
+
+  pub dispatch_keeps_sent : (h : Hardware) → SentNow total h → SentNow total (dispatch h).hardware
+  dispatch_keeps_sent h p =
+      turns_keep (λ d. SentNow total d.hardware) dispatch_turn (λ d q. dispatch_sends_none d (dispatch_turn d) (dispatch_turn_is d) q) h.values.dispatch_width (record { hardware = h; dispatched = 0; waits_for = None }) p
+
+sent_earlier : (v : Values) (i : Option Instr) (D a now : ℕ) (st : Stage) → SoundStage v i D a now st → is_at now (broadcast_of_stage st) ≡ false
+sent_earlier v i D a now Waiting h = refl
+sent_earlier v i D a now (Running issue message) h = refl
+sent_earlier v i D a now (Finished None cycle message) h = refl
+sent_earlier v i D a now (Finished (Some issue) cycle message) h = ne_eqb cycle now (omega (arith, h.3))
+
+row_sent_earlier : (D C now : ℕ) (x : Option Execution) → C ≤ now → IfSome x (λ x. (D < x.issued) × (x.issued + x.cost ≤ x.broadcast) × (x.broadcast < C)) → is_at now (broadcast_of_execution x) ≡ false
+row_sent_earlier D C now None le h = refl
+row_sent_earlier D C now (Some x) le h = ne_eqb x.broadcast now (omega (arith, le, h.2))
+
+pub law_of_bus_width : (v : Values) {steps : List Step} {h : Hardware} → History v steps h → NeverMoreThan v.bus_width is_broadcast_in (rows_of steps)
+law_of_bus_width v history =
+    counted_law v is_broadcast_in (λ c m. is_at c m.broadcast) (sent_shows v) v.bus_width (λ earlier old new lines report before after passed.
+    let p : Mark → Bool = λ m. is_at old.cycle m.broadcast in
+    let d : Hardware = (dispatching lines old).hardware in
+    let all = ap (count p) passed.new_marks ∙ count-append p (marks_in (earlier ++ report.steps) d) (map mark_of_fetched passed.fetches.added) in
+    let parts = count_marks p (earlier ++ report.steps) d.rob.entries d.front.entries in
+    let rows = count-none (λ row. p (mark_of_row row)) (rows_of (earlier ++ report.steps)) (Every-weaker (SoundRow v (old.cycle + 1)) (λ row. p (mark_of_row row) ≡ false) (λ row w. row_sent_earlier row.dispatched row.retired old.cycle row.execution (omega (arith, w.below)) w.stamps.executed_between) (rows_of (earlier ++ report.steps)) passed.dispatches.basics.rows) in
+    let words = count-none (λ f. p (mark_of_fetched f)) d.front.entries (Every-all (λ f. p (mark_of_fetched f) ≡ false) (λ f. refl) d.front.entries) in
+    let added = count-map p mark_of_fetched passed.fetches.added ∙ count-none (λ f. p (mark_of_fetched f)) passed.fetches.added (Every-all (λ f. p (mark_of_fetched f) ≡ false) (λ f. refl) passed.fetches.added) in
+    let at_start = count-none (is_sent_now old.cycle v.bus_width) (issued_all lines old).rob.entries (Every-weaker (SoundEntry v old.cycle (old.cycle + 1) old.cycle) (λ e. is_at old.cycle (broadcast_of_stage e.stage) ≡ false) (λ e w. sent_earlier v e.instruction e.dispatched (old.cycle + 1) old.cycle e.stage w.stage) (issued_all lines old).rob.entries passed.issues.basics.entries) in
+    let within = dispatch_keeps_sent old.cycle v.bus_width (sent_all lines old) (broadcast_within old.cycle v.bus_width (issued_all lines old) (ap (λ (w : Values). w.bus_width) passed.issues.basics.shape.values) (omega (arith, at_start))) in
+    omega (arith, all, parts, rows, words, added, within)) history

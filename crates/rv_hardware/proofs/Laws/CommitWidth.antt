@@ -1,0 +1,14 @@
+-- At most `commit_width` steps come in a cycle.
+use Rattle.std.proofs.Common.{List, ◌==◌, arith}
+use Rattle.rv_isa.specs.declared.values.Values.{Values}
+use Rattle.rv_hardware.specs.Hardware.{Hardware}
+use Rattle.rv_hardware.specs.Laws.{NeverMoreThan}
+use Rattle.rv_hardware.specs.Step.{stamp_of}
+use Rattle.rv_hardware.specs.declared.step.Step.{Step}
+use Rattle.rv_hardware.proofs.LawsCycle.{History}
+use Rattle.rv_hardware.proofs.LawsLists.{count-count_by}
+use Rattle.rv_hardware.proofs.LawsSteps.{history_has_steps}
+
+pub law_of_commit_width : (v : Values) {steps : List Step} {h : Hardware} → History v steps h → NeverMoreThan v.commit_width (λ c step. stamp_of step == c) steps
+law_of_commit_width v {steps} history c =
+    let same = count-count_by (λ step. stamp_of step == c) steps in let le = (history_has_steps v history).width c in omega (arith, same, le)

@@ -1,0 +1,14 @@
+-- Each row that used a unit took one of the described costs.
+use Rattle.std.proofs.Common.{List, All}
+use Rattle.rv_isa.specs.declared.values.Values.{Values}
+use Rattle.rv_hardware.specs.Hardware.{Hardware}
+use Rattle.rv_hardware.specs.Laws.{HasCost}
+use Rattle.rv_hardware.specs.Stamps.{rows_of}
+use Rattle.rv_hardware.specs.declared.step.Step.{Step}
+use Rattle.rv_hardware.proofs.LawsCycle.{History, history_is_sound}
+use Rattle.rv_hardware.proofs.LawsLists.{Every-weaker, All-Every}
+use Rattle.rv_hardware.proofs.LawsRow.{SoundRow}
+
+pub law_of_costs : (v : Values) {steps : List Step} {h : Hardware} → History v steps h → All (HasCost v) (rows_of steps)
+law_of_costs v {steps} {h} history =
+    All-Every (HasCost v) (rows_of steps) (Every-weaker (SoundRow v h.cycle) (HasCost v) (λ row sound. sound.cost) (rows_of steps) (history_is_sound v history).rows)

@@ -1,0 +1,56 @@
+-- At most `dispatch_width` instructions are dispatched in a cycle.
+use Rattle.std.proofs.Common.{◌≡◌, ℕ, suc, ◌+◌, ◌≤◌, ◌<◌, ◌==◌, Bool, false, nat_le, List, ◌++◌, map, Some, None, refl, ap, ◌∙◌, arith, le-leb, eqb-true, ne_eqb}
+use Rattle.rv_isa.specs.declared.values.Values.{Values}
+use Rattle.rv_hardware.specs.Dispatch.{Dispatching, dispatch, dispatch_turn, entry_of_fetched}
+use Rattle.rv_hardware.specs.Hardware.{Hardware}
+use Rattle.rv_hardware.specs.Repeated.{Turn}
+use Rattle.rv_hardware.specs.Stamps.{rows_of, is_dispatched_in}
+use Rattle.rv_hardware.specs.declared.step.Step.{Step}
+use Rattle.rv_hardware.proofs.LawsBasics.{and_both}
+use Rattle.rv_hardware.proofs.LawsCounted.{Shows, counted_law, until_by}
+use Rattle.rv_hardware.proofs.LawsCycle.{History, dispatching, sent_all}
+use Rattle.rv_hardware.proofs.LawsDispatch.{DispatchTurn, buffer_empty, waits, dispatches, dispatch_turn_is}
+use Rattle.rv_hardware.proofs.LawsLists.{Every-weaker, Every-all, count, count-append, count-none, count-map, count-push}
+use Rattle.rv_hardware.proofs.LawsMarks.{Mark, mark_of_row, mark_of_fetched, marks_in, until}
+use Rattle.rv_hardware.proofs.LawsRow.{SoundRow}
+use Rattle.rv_hardware.proofs.LawsSound.{SoundEntry}
+use Rattle.rv_hardware.proofs.LawsTurns.{Leads, turns_within}
+use Rattle.rv_hardware.specs.Laws.{NeverMoreThan}
+use Rattle.rv_hardware.proofs.LawsWidths.{is_at, count_marks}
+
+pub dispatched_shows : (v : Values) → Shows v is_dispatched_in (λ c m. is_at c m.dispatched)
+dispatched_shows v = record {
+  mark = λ c bound row sound h.
+      let same : row.dispatched ≡ c = eqb-true row.dispatched c h in
+      and_both (nat_le row.fetched c) (is_at c (until c (Some row.dispatched))) (le-leb row.fetched c (omega (arith, same, sound.stamps.dispatched_after_fetch))) (rw (until_by c row.dispatched (omega (arith, same))) h);
+  ends = λ c bound row sound h. let same : row.dispatched ≡ c = eqb-true row.dispatched c h in omega (arith, same, sound.stamps.retired_after_dispatch);
+}
+
+module _ (now total : ℕ) where
+  abbrev DispatchedNow : ℕ → Dispatching → Type 0
+  DispatchedNow k d = count (λ e. e.dispatched == now) d.hardware.rob.entries ≤ k
+
+  dispatch_leads : (k : ℕ) (d : Dispatching) (t : Turn Dispatching) → k < total → DispatchTurn d t → DispatchedNow k d → Leads (DispatchedNow (suc k)) (DispatchedNow total) t
+  dispatch_leads k d _ lt (buffer_empty none) h = omega (arith, h, lt)
+  dispatch_leads k d _ lt (waits f fs reason at why) h = omega (arith, h, lt)
+  dispatch_leads k d _ lt (dispatches f fs at nothing) h =
+      let more = count-push (λ e. e.dispatched == now) d.hardware.rob.entries (entry_of_fetched d.hardware f) in omega (arith, more, h)
+
+  pub dispatch_within : (h : Hardware) → h.values.dispatch_width ≡ total → count (λ e. e.dispatched == now) h.rob.entries ≤ 0 → count (λ e. e.dispatched == now) (dispatch h).hardware.rob.entries ≤ total
+  dispatch_within h width none =
+      turns_within total DispatchedNow (DispatchedNow total) dispatch_turn (λ k d lt p. dispatch_leads k d (dispatch_turn d) lt (dispatch_turn_is d) p) (λ d p. p)
+      h.values.dispatch_width 0 (record { hardware = h; dispatched = 0; waits_for = None }) (omega (arith, width)) none
+
+pub law_of_dispatch_width : (v : Values) {steps : List Step} {h : Hardware} → History v steps h → NeverMoreThan v.dispatch_width is_dispatched_in (rows_of steps)
+law_of_dispatch_width v history =
+    counted_law v is_dispatched_in (λ c m. is_at c m.dispatched) (dispatched_shows v) v.dispatch_width (λ earlier old new lines report before after passed.
+    let p : Mark → Bool = λ m. is_at old.cycle m.dispatched in
+    let d : Hardware = (dispatching lines old).hardware in
+    let all = ap (count p) passed.new_marks ∙ count-append p (marks_in (earlier ++ report.steps) d) (map mark_of_fetched passed.fetches.added) in
+    let parts = count_marks p (earlier ++ report.steps) d.rob.entries d.front.entries in
+    let rows = count-none (λ row. p (mark_of_row row)) (rows_of (earlier ++ report.steps)) (Every-weaker (SoundRow v (old.cycle + 1)) (λ row. p (mark_of_row row) ≡ false) (λ row w. ne_eqb row.dispatched old.cycle (omega (arith, w.stamps.retired_after_dispatch, w.below))) (rows_of (earlier ++ report.steps)) passed.dispatches.basics.rows) in
+    let words = count-none (λ f. p (mark_of_fetched f)) d.front.entries (Every-all (λ f. p (mark_of_fetched f) ≡ false) (λ f. refl) d.front.entries) in
+    let added = count-map p mark_of_fetched passed.fetches.added ∙ count-none (λ f. p (mark_of_fetched f)) passed.fetches.added (Every-all (λ f. p (mark_of_fetched f) ≡ false) (λ f. refl) passed.fetches.added) in
+    let at_start = count-none (λ e. e.dispatched == old.cycle) (sent_all lines old).rob.entries (Every-weaker (SoundEntry v old.cycle (old.cycle + 1) (old.cycle + 1)) (λ e. (e.dispatched == old.cycle) ≡ false) (λ e w. ne_eqb e.dispatched old.cycle (omega (arith, w.by_now))) (sent_all lines old).rob.entries passed.sends.basics.entries) in
+    let within = dispatch_within old.cycle v.dispatch_width (sent_all lines old) (ap (λ (w : Values). w.dispatch_width) passed.sends.basics.shape.values) (omega (arith, at_start)) in
+    omega (arith, all, parts, rows, words, added, within)) history

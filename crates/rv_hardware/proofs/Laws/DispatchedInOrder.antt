@@ -1,0 +1,14 @@
+-- Instructions are dispatched in order.
+use Rattle.std.proofs.Common.{◌≤◌, List, AllPairs, arith}
+use Rattle.rv_isa.specs.declared.values.Values.{Values}
+use Rattle.rv_hardware.specs.Hardware.{Hardware}
+use Rattle.rv_hardware.specs.Stamps.{rows_of}
+use Rattle.rv_hardware.specs.declared.step.Step.{Step}
+use Rattle.rv_hardware.proofs.LawsCycle.{History}
+use Rattle.rv_hardware.proofs.LawsLists.{AllPairs-EveryPair}
+use Rattle.rv_hardware.proofs.LawsOrder.{Dispatched, history_is_orderly}
+use Rattle.rv_hardware.proofs.LawsPairs.{row_pairs}
+
+pub law_of_dispatched_in_order : (v : Values) {steps : List Step} {h : Hardware} → History v steps h → AllPairs (λ a b. a.dispatched ≤ b.dispatched) (rows_of steps)
+law_of_dispatched_in_order v {steps} {h} history =
+    AllPairs-EveryPair (λ a b. a.dispatched ≤ b.dispatched) (rows_of steps) (row_pairs Dispatched (λ a b. a.dispatched ≤ b.dispatched) (λ a b lt. omega (arith, lt)) steps h (history_is_orderly v history).dispatched)

@@ -1,0 +1,25 @@
+-- The fetch buffer holds no more words than it has room for.
+use Rattle.std.proofs.Common.{is_none, nat_le, nat_lt, List, Some, refl, arith}
+use Rattle.std.proofs.lemmas.Bool.{ltb-true}
+use Rattle.rv_isa.specs.declared.values.Values.{Values}
+use Rattle.rv_hardware.specs.Hardware.{Hardware}
+use Rattle.rv_hardware.specs.Stamps.{rows_of, is_buffered_in}
+use Rattle.rv_hardware.specs.declared.step.Step.{Step}
+use Rattle.rv_hardware.proofs.LawsBasics.{and_first, and_second, and_both}
+use Rattle.rv_hardware.proofs.LawsCounted.{Shows, counted_law, until_not}
+use Rattle.rv_hardware.proofs.LawsCycle.{History, is_buffered_mark}
+use Rattle.rv_hardware.proofs.LawsMarks.{until}
+use Rattle.rv_hardware.proofs.LawsOrder.{history_is_orderly}
+use Rattle.rv_hardware.specs.Laws.{NeverMoreThan}
+
+pub buffered_shows : (v : Values) → Shows v is_buffered_in (λ c. is_buffered_mark)
+buffered_shows v = record {
+  mark = λ c bound row sound h.
+      let lt = ltb-true c row.dispatched (and_second (nat_le row.fetched c) (nat_lt c row.dispatched) h) in
+      and_both (nat_le row.fetched c) (is_none (until c (Some row.dispatched))) (and_first (nat_le row.fetched c) (nat_lt c row.dispatched) h) (rw (until_not c row.dispatched lt) refl);
+  ends = λ c bound row sound h. let lt = ltb-true c row.dispatched (and_second (nat_le row.fetched c) (nat_lt c row.dispatched) h) in omega (arith, lt, sound.stamps.retired_after_dispatch);
+}
+
+pub law_of_fetch_buffer : (v : Values) {steps : List Step} {h : Hardware} → History v steps h → NeverMoreThan v.fetch_buffer is_buffered_in (rows_of steps)
+law_of_fetch_buffer v history =
+    counted_law v is_buffered_in (λ c. is_buffered_mark) (buffered_shows v) v.fetch_buffer (λ earlier old new lines report before after passed. (history_is_orderly v after).words) history

@@ -1,0 +1,31 @@
+-- At most `fetch_width` words are fetched in a cycle.
+use Rattle.std.proofs.Common.{◌≡◌, ◌<◌, ◌==◌, Bool, false, nat_le, List, ◌++◌, map, ap, ◌∙◌, arith, le-leb, eqb-true, ne_eqb}
+use Rattle.rv_isa.specs.declared.values.Values.{Values}
+use Rattle.rv_hardware.specs.Hardware.{Hardware}
+use Rattle.rv_hardware.specs.Stamps.{rows_of, is_fetched_in}
+use Rattle.rv_hardware.specs.declared.step.Step.{Step}
+use Rattle.rv_hardware.proofs.LawsBasics.{and_both}
+use Rattle.rv_hardware.proofs.LawsCounted.{Shows, counted_law}
+use Rattle.rv_hardware.proofs.LawsCycle.{History, new_words, dispatching}
+use Rattle.rv_hardware.proofs.LawsLists.{Every-weaker, count, count-append, count-none, count-length, count-map}
+use Rattle.rv_hardware.proofs.LawsMarks.{Mark, mark_of_fetched, marks_in}
+use Rattle.rv_hardware.specs.Laws.{NeverMoreThan}
+
+fetched_shows : (v : Values) → Shows v is_fetched_in (λ c m. m.fetched == c)
+fetched_shows v = record {
+  mark = λ c bound row sound h. and_both (nat_le row.fetched c) (row.fetched == c) (le-leb row.fetched c (let same : row.fetched ≡ c = eqb-true row.fetched c h in omega (arith, same))) h;
+  ends = λ c bound row sound h. let same : row.fetched ≡ c = eqb-true row.fetched c h in omega (arith, same, sound.stamps.dispatched_after_fetch, sound.stamps.retired_after_dispatch);
+}
+
+pub law_of_fetch_width : (v : Values) {steps : List Step} {h : Hardware} → History v steps h → NeverMoreThan v.fetch_width is_fetched_in (rows_of steps)
+law_of_fetch_width v history =
+    counted_law v is_fetched_in (λ c m. m.fetched == c) (fetched_shows v) v.fetch_width (λ earlier old new lines report before after passed.
+    let p : Mark → Bool = λ m. m.fetched == old.cycle in
+    let d : Hardware = (dispatching lines old).hardware in
+    let ms : List Mark = marks_in (earlier ++ report.steps) d in
+    let words = new_words v _ earlier lines old new report passed in
+    let all = ap (count p) passed.new_marks ∙ count-append p ms (map mark_of_fetched passed.fetches.added) in
+    let none = count-none p ms (Every-weaker (λ m. m.fetched < old.cycle) (λ m. p m ≡ false) (λ m lt. ne_eqb m.fetched old.cycle (omega (arith, lt))) ms words.by_now) in
+    let some = count-map p mark_of_fetched passed.fetches.added in
+    let most = count-length (λ f. p (mark_of_fetched f)) passed.fetches.added in
+    omega (arith, all, none, some, most, words.within_width)) history

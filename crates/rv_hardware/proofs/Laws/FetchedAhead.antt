@@ -1,0 +1,20 @@
+-- The front keeps ahead of the head.
+use Rattle.std.proofs.Common.{ℕ, true, List}
+use Rattle.rv_isa.specs.declared.values.Values.{Values}
+use Rattle.rv_hardware.specs.Hardware.{Hardware}
+use Rattle.rv_hardware.specs.Laws.{IsFetchedAhead}
+use Rattle.rv_hardware.specs.Stamps.{EachNext}
+use Rattle.rv_hardware.specs.Step.{stamp_of}
+use Rattle.rv_hardware.specs.declared.step.Step.{Step}
+use Rattle.rv_hardware.specs.declared.step.Step.TheVariants.{Retired, Trap, Interrupt}
+use Rattle.rv_hardware.proofs.LawsCycle.{History}
+use Rattle.rv_hardware.proofs.LawsFollow.{IsAhead}
+use Rattle.rv_hardware.proofs.LawsAhead.{follows}
+
+by_step : (c : ℕ) (x : Step) → IsAhead c true x → IsFetchedAhead c x
+by_step c (Retired row) h = h
+by_step c (Trap pc cause value cycle) h = tt
+by_step c (Interrupt pc cause cycle) h = tt
+
+pub law_of_fetched_ahead : (v : Values) {steps : List Step} {h : Hardware} → History v steps h → EachNext (λ a b. IsFetchedAhead (stamp_of a) b) steps
+law_of_fetched_ahead v history first rest a b at = by_step (stamp_of a) b (follows v history first rest a b at).ahead

@@ -1,0 +1,14 @@
+-- A trap or a serialising instruction is the last step of its cycle.
+use Rattle.std.proofs.Common.{◌≡◌, ◌<◌, true, List, AllPairs}
+use Rattle.rv_isa.specs.declared.values.Values.{Values}
+use Rattle.rv_hardware.specs.Hardware.{Hardware}
+use Rattle.rv_hardware.specs.Stamps.{flushes}
+use Rattle.rv_hardware.specs.Step.{stamp_of}
+use Rattle.rv_hardware.specs.declared.step.Step.{Step}
+use Rattle.rv_hardware.proofs.LawsCycle.{History}
+use Rattle.rv_hardware.proofs.LawsLists.{EveryPair-weaker, AllPairs-EveryPair}
+use Rattle.rv_hardware.proofs.LawsSteps.{InOrder, history_has_steps}
+
+pub law_of_flushes_end_the_cycle : (v : Values) {steps : List Step} {h : Hardware} → History v steps h → AllPairs (λ a b. flushes a ≡ true → stamp_of a < stamp_of b) steps
+law_of_flushes_end_the_cycle v {steps} history =
+    AllPairs-EveryPair (λ a b. flushes a ≡ true → stamp_of a < stamp_of b) steps (EveryPair-weaker InOrder (λ a b. flushes a ≡ true → stamp_of a < stamp_of b) (λ a b o. o.last) steps (history_has_steps v history).pairs)

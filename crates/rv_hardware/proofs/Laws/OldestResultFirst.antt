@@ -1,0 +1,24 @@
+-- Of the results that are ready the oldest is broadcast first.
+use Rattle.std.proofs.Common.{◌+◌, ◌≤◌, List, AllPairs, Option, Some, None, IfSome, arith}
+use Rattle.rv_isa.specs.declared.values.Values.{Values}
+use Rattle.rv_hardware.specs.Hardware.{Hardware}
+use Rattle.rv_hardware.specs.Laws.{IsBroadcastFirst}
+use Rattle.rv_hardware.specs.Stamps.{rows_of}
+use Rattle.rv_hardware.specs.declared.step.Execution.{Execution}
+use Rattle.rv_hardware.specs.declared.step.Step.{Step}
+use Rattle.rv_hardware.proofs.LawsBus.{OldestFirst, ReadyFirst, history_has_bus_order}
+use Rattle.rv_hardware.proofs.LawsCycle.{History}
+use Rattle.rv_hardware.proofs.LawsLists.{AllPairs-EveryPair}
+use Rattle.rv_hardware.proofs.LawsMarks.{start_of_execution, broadcast_of_execution}
+use Rattle.rv_hardware.proofs.LawsPairs.{row_pairs}
+
+oldest_by : (x y : Option Execution) → IfSome (broadcast_of_execution y) (λ b. ReadyFirst (start_of_execution x) (broadcast_of_execution x) b) →
+    IfSome x (λ s. IfSome y (λ t. s.issued + s.cost ≤ t.broadcast → s.broadcast ≤ t.broadcast))
+oldest_by None y h = tt
+oldest_by (Some s) None h = tt
+oldest_by (Some s) (Some t) h = λ ready. let sent = h ready in omega (arith, sent)
+
+pub law_of_oldest_result_first : (v : Values) {steps : List Step} {h : Hardware} → History v steps h → AllPairs IsBroadcastFirst (rows_of steps)
+law_of_oldest_result_first v {steps} {h} history =
+    AllPairs-EveryPair IsBroadcastFirst (rows_of steps)
+    (row_pairs OldestFirst IsBroadcastFirst (λ a b p. oldest_by a.execution b.execution p) steps h (history_has_bus_order v history).oldest_first)

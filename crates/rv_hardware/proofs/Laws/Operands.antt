@@ -1,0 +1,80 @@
+-- An instruction issues after the broadcasts of its operands.
+use Rattle.std.proofs.Common.{◌≡◌, ℕ, ◌≤◌, ◌<◌, Bool, true, false, cond, is_some, List, [], ◌∷◌, map, All, Option, Some, None, IfSome, MatchOption, option_map, refl, sym, subst, ap, ◌∙◌, arith}
+use Rattle.rv_isa.specs.declared.instructions.Instr.{Instr}
+use Rattle.rv_isa.specs.declared.values.Values.{Values}
+use Rattle.rv_hardware.specs.Hardware.{Hardware}
+use Rattle.rv_isa.specs.Instruction.{is_serialising, kind_of_word}
+use Rattle.rv_hardware.specs.Laws.{IsKnownBefore, IssuesWithOperands}
+use Rattle.rv_hardware.specs.Stamps.{rows_of, EachBehind, last_from, last_that, instruction_of_row, sources_of_row, writes_register, producer_among}
+use Rattle.rv_hardware.specs.declared.step.Execution.{Execution}
+use Rattle.rv_hardware.specs.declared.step.Row.{Row}
+use Rattle.rv_hardware.specs.declared.step.Step.{Step}
+use Rattle.rv_hardware.proofs.LawsAdvance.{IsBefore, writes_mark, IsKnownMark, OperandsKnown}
+use Rattle.rv_hardware.proofs.LawsCycle.{History, history_is_sound}
+use Rattle.rv_hardware.proofs.LawsLists.{Every, Every-weaker, EveryBehind-both, EachBehind-EveryBehind, All-Every}
+use Rattle.rv_hardware.proofs.LawsMarks.{mark_of_row, start_of_execution, broadcast_of_execution}
+use Rattle.rv_hardware.proofs.LawsOperands.{Found, StartsBehind}
+use Rattle.rv_hardware.proofs.LawsPairs.{Older, rows_start_behind, rows_are_older, two_behind, writer_serialises}
+use Rattle.rv_hardware.proofs.LawsRow.{SoundRow}
+
+map_either : (b : Bool) (row : Row) (o : Option Row) → option_map mark_of_row (cond b (Some row) o) ≡ cond b (Some (mark_of_row row)) (option_map mark_of_row o)
+map_either true row o = refl
+map_either false row o = refl
+
+last_of_rows : (register : ℕ) (o : Option Row) (rows : List Row) → last_from (option_map mark_of_row o) (writes_mark register) (map mark_of_row rows) ≡ option_map mark_of_row (last_from o (writes_register register) rows)
+last_of_rows register o [] = refl
+last_of_rows register o (row ∷ rows) =
+    ap (λ q. last_from q (writes_mark register) (map mark_of_row rows)) (sym (map_either (writes_register register row) row o)) ∙
+    last_of_rows register (cond (writes_register register row) (Some row) o) rows
+
+-- the last one passes the test and is one of them
+either_passes : (G : Row → Type 0) (test : Row → Bool) (b : Bool) (row : Row) (o : Option Row) → test row ≡ b → (test row ≡ true → G row) → IfSome o G → IfSome (cond b (Some row) o) G
+either_passes G test true row o is f h = f is
+either_passes G test false row o is f h = h
+
+last_passes : (G : Row → Type 0) (test : Row → Bool) (o : Option Row) (rows : List Row) → IfSome o G → Every (λ row. test row ≡ true → G row) rows → IfSome (last_from o test rows) G
+last_passes G test o [] h are = h
+last_passes G test o (row ∷ rows) h are = last_passes G test (cond (test row) (Some row) o) rows (either_passes G test (test row) row o refl are.0 h) are.1
+
+no_kind : (o : Option Execution) (i : Option Instr) → o ≡ None → is_some o ≡ is_some (kind_of_word i) → kind_of_word i ≡ None
+no_kind o i none same = by_kind (kind_of_word i) (sym same ∙ ap is_some none)
+  where
+    by_kind : {K : Type 0} (k : Option K) → is_some k ≡ false → k ≡ None
+    by_kind None h = refl
+    by_kind (Some k) h = absurd (cc)
+
+producer_known : (register : ℕ) (row : Row) (x : Execution) (p : Row) (y : Option Execution) → row.fetched < row.dispatched → is_some y ≡ is_some (kind_of_word (instruction_of_row p)) →
+    (is_serialising (instruction_of_row p) ≡ true → p.retired ≤ row.fetched) → writes_register register p ≡ true →
+    (is_some (kind_of_word (instruction_of_row p)) ≡ true → IsBefore x.issued (broadcast_of_execution y)) → MatchOption y (p.retired < row.dispatched) (λ t. t.broadcast < x.issued)
+producer_known register row x p None after unit serial writes known =
+    let late = serial (writer_serialises register (instruction_of_row p) (no_kind None (instruction_of_row p) refl unit) writes) in omega (arith, late, after)
+producer_known register row x p (Some t) after unit serial writes known = known (sym unit)
+
+source_known : (v : Values) (bound : ℕ) (before : List Row) (row : Row) (x : Execution) (sound : SoundRow v bound row) → Every (Older v bound row) before → (register : ℕ) →
+    IfSome (last_that (writes_mark register) (map mark_of_row before)) (IsKnownMark x.issued) → IfSome (last_that (writes_register register) before) (IsKnownBefore row x)
+source_known v bound before row x sound older register known =
+    by_found (last_that (writes_register register) before) (subst (λ o. IfSome o (IsKnownMark x.issued)) (last_of_rows register None before) known)
+    (last_passes (λ p. Older v bound row p × (writes_register register p ≡ true)) (writes_register register) None before tt (Every-weaker (Older v bound row) (λ p. writes_register register p ≡ true → Older v bound row p × (writes_register register p ≡ true)) (λ p o w. (o, w)) before older))
+  where
+    by_found : (o : Option Row) → IfSome (option_map mark_of_row o) (IsKnownMark x.issued) → IfSome o (λ p. Older v bound row p × (writes_register register p ≡ true)) → IfSome o (IsKnownBefore row x)
+    by_found None k f = tt
+    by_found (Some p) k f = producer_known register row x p p.execution sound.stamps.dispatched_after_fetch f.0.sound.stamps.executed_by_a_unit f.0.serial f.1 k
+
+sources_known : (v : Values) (bound : ℕ) (before : List Row) (row : Row) (x : Execution) (sound : SoundRow v bound row) → Every (Older v bound row) before → (sources : List (Option ℕ)) →
+    OperandsKnown x.issued (map mark_of_row before) sources → Every (λ source. IfSome (producer_among before source) (IsKnownBefore row x)) sources
+sources_known v bound before row x sound older [] h = tt
+sources_known v bound before row x sound older (None ∷ sources) h = (tt, sources_known v bound before row x sound older sources h.1)
+sources_known v bound before row x sound older (Some register ∷ sources) h = (source_known v bound before row x sound older register h.0, sources_known v bound before row x sound older sources h.1)
+
+operands_by : (v : Values) (bound : ℕ) (before : List Row) (row : Row) (y : Option Execution) → SoundRow v bound row → Every (Older v bound row) before →
+    IfSome (start_of_execution y) (λ s. Found (map mark_of_row before) (instruction_of_row row) s.cycle) → IfSome y (λ x. All (λ source. IfSome (producer_among before source) (IsKnownBefore row x)) (sources_of_row row))
+operands_by v bound before row None sound older h = tt
+operands_by v bound before row (Some x) sound older h =
+    All-Every (λ source. IfSome (producer_among before source) (IsKnownBefore row x)) (sources_of_row row) (sources_known v bound before row x sound older (sources_of_row row) h.operands)
+
+pub law_of_operands : (v : Values) {steps : List Step} {h : Hardware} → History v steps h → EachBehind IssuesWithOperands (rows_of steps)
+law_of_operands v {steps} {h} history =
+    EachBehind-EveryBehind IssuesWithOperands (rows_of steps)
+    (EveryBehind-both (SoundRow v h.cycle) (λ before row. StartsBehind (map mark_of_row before) (mark_of_row row) × Every (Older v h.cycle row) before) IssuesWithOperands
+    (λ before row sound both. operands_by v h.cycle before row row.execution sound both.1 both.0) [] (rows_of steps) (history_is_sound v history).rows
+    (two_behind (λ before row. StartsBehind (map mark_of_row before) (mark_of_row row)) (λ before row. Every (Older v h.cycle row) before) (λ before row. StartsBehind (map mark_of_row before) (mark_of_row row) × Every (Older v h.cycle row) before) (λ b x p q. (p, q)) [] (rows_of steps) (rows_start_behind v history) (rows_are_older v history)))

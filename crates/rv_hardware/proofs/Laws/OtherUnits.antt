@@ -1,0 +1,45 @@
+-- A unit that is not pipelined executes one instruction at a time.
+use Rattle.std.proofs.Common.{◌≡◌, ℕ, ◌+◌, ◌≤◌, ◌<◌, ◌&&◌, Bool, true, false, nat_le, nat_lt, List, Option, Some, None, refl, sym, subst, arith, le-leb}
+use Rattle.std.proofs.lemmas.Bool.{leb-true, ltb-true, le-ltb, and_right}
+use Rattle.rv_isa.specs.declared.operations.Kind.{Kind}
+use Rattle.rv_isa.specs.declared.values.Values.{Values}
+use Rattle.rv_hardware.specs.Hardware.{Hardware}
+use Rattle.rv_isa.specs.Instruction.{is_of_kind, kind_of_word}
+use Rattle.rv_hardware.specs.Stamps.{rows_of, passes, is_row_of_kind, is_executing_in}
+use Rattle.rv_hardware.specs.declared.step.Execution.{Execution}
+use Rattle.rv_hardware.specs.declared.step.Step.{Step}
+use Rattle.rv_hardware.proofs.LawsBasics.{and_first, and_second, and_both}
+use Rattle.rv_hardware.proofs.LawsCycle.{History}
+use Rattle.rv_hardware.proofs.LawsMarks.{Mark, start_until, start_of_execution}
+use Rattle.rv_hardware.proofs.LawsUnits.{start_holds}
+use Rattle.rv_hardware.specs.Laws.{FitUnits, is_pipelined}
+use Rattle.rv_hardware.proofs.LawsUnitRows.{Between, units_law}
+
+abbrev executes_mark : Kind → ℕ → Mark → Bool
+executes_mark k c m = is_of_kind k (kind_of_word m.instruction) && start_holds false c m.start
+
+not_executing : (now D C : ℕ) (x : Option Execution) → C ≤ now → Between D C x → start_holds false now (start_of_execution x) ≡ false
+not_executing now D C None le h = refl
+not_executing now D C (Some x) le h = and_right (nat_le x.issued now) (nat_lt now (x.issued + x.cost)) (le-ltb now (x.issued + x.cost) (omega (arith, le, h.1, h.2)))
+
+executing_row : (c D C : ℕ) (x : Option Execution) → Between D C x → passes (λ y. nat_le y.issued c && nat_lt c (y.issued + y.cost)) x ≡ true → (start_holds false c (start_until c (start_of_execution x)) ≡ true) × (D < c) × (c < C)
+executing_row c D C None h is = absurd (cc)
+executing_row c D C (Some x) h is =
+    let begun = and_first (nat_le x.issued c) (nat_lt c (x.issued + x.cost)) is in
+    let le = leb-true x.issued c begun in
+    let lt = ltb-true c (x.issued + x.cost) (and_second (nat_le x.issued c) (nat_lt c (x.issued + x.cost)) is) in
+    (rw begun (is), omega (arith, le, h.0), omega (arith, lt, h.1, h.2))
+
+pub law_of_other_units : (v : Values) {steps : List Step} {h : Hardware} → History v steps h → (k : Kind) → is_pipelined v k ≡ false → FitUnits v k is_executing_in (rows_of steps)
+law_of_other_units v history k pipelined =
+    units_law v k (executes_mark k)
+    (λ c m h. subst (λ b. (is_of_kind k (kind_of_word m.instruction) && start_holds b c m.start) ≡ true) (sym pipelined) h)
+    (λ now row sound. and_right (is_row_of_kind k row) (start_holds false now (start_of_execution row.execution)) (not_executing now row.dispatched row.retired row.execution (omega (arith, sound.below)) sound.stamps.executed_between))
+    (λ now f. and_right (is_of_kind k (kind_of_word f.instruction)) false refl)
+    (is_executing_in k) (record {
+      mark = λ c bound row sound h.
+          let x = executing_row c row.dispatched row.retired row.execution sound.stamps.executed_between (and_second (is_row_of_kind k row) (passes (λ y. nat_le y.issued c && nat_lt c (y.issued + y.cost)) row.execution) h) in
+          and_both (nat_le row.fetched c) (is_row_of_kind k row && start_holds false c (start_until c (start_of_execution row.execution))) (le-leb row.fetched c (omega (arith, x.1, sound.stamps.dispatched_after_fetch)))
+          (and_both (is_row_of_kind k row) (start_holds false c (start_until c (start_of_execution row.execution))) (and_first (is_row_of_kind k row) (passes (λ y. nat_le y.issued c && nat_lt c (y.issued + y.cost)) row.execution) h) x.0);
+      ends = λ c bound row sound h. (executing_row c row.dispatched row.retired row.execution sound.stamps.executed_between (and_second (is_row_of_kind k row) (passes (λ y. nat_le y.issued c && nat_lt c (y.issued + y.cost)) row.execution) h)).2;
+    }) history

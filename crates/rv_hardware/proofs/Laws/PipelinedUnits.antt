@@ -1,0 +1,52 @@
+-- A pipelined unit begins at most one instruction a cycle.
+use Rattle.std.proofs.Common.{◌≡◌, ℕ, ◌+◌, ◌≤◌, ◌<◌, ◌&&◌, ◌==◌, true, false, nat_le, nat_lt, List, Option, Some, None, refl, sym, subst, arith, le-leb, eqb-true, ne_eqb}
+use Rattle.std.proofs.lemmas.Bool.{lt-ltb, and_right}
+use Rattle.rv_isa.specs.PerKind.{at_kind}
+use Rattle.rv_isa.specs.declared.operations.Kind.{Kind}
+use Rattle.rv_isa.specs.declared.values.Values.{Values}
+use Rattle.rv_hardware.specs.Hardware.{Hardware}
+use Rattle.rv_isa.specs.Instruction.{is_of_kind, kind_of_word}
+use Rattle.rv_hardware.specs.Stamps.{rows_of, passes, is_row_of_kind, is_issued_in}
+use Rattle.rv_hardware.specs.declared.step.Execution.{Execution}
+use Rattle.rv_hardware.specs.declared.step.Step.{Step}
+use Rattle.rv_hardware.proofs.LawsBasics.{and_first, and_second, and_both}
+use Rattle.rv_hardware.proofs.LawsCounted.{Shows}
+use Rattle.rv_hardware.proofs.LawsCycle.{History}
+use Rattle.rv_hardware.proofs.LawsMarks.{Start, start_until, start_of_execution}
+use Rattle.rv_hardware.proofs.LawsUnits.{start_holds}
+use Rattle.rv_hardware.specs.Laws.{FitUnits, is_pipelined}
+use Rattle.rv_hardware.proofs.LawsUnitRows.{Between, units_law, starts_at, begins_mark}
+
+begins_holds : (c : ℕ) (o : Option Start) → starts_at c o ≡ true → start_holds true c o ≡ true
+begins_holds c None h = absurd (cc)
+begins_holds c (Some s) h =
+    let same : s.cycle ≡ c = eqb-true s.cycle c h in
+    and_both (nat_le s.cycle c) (nat_lt c (s.cycle + 1)) (le-leb s.cycle c (omega (arith, same))) (lt-ltb c (s.cycle + 1) (omega (arith, same)))
+
+not_begun : (now D C : ℕ) (x : Option Execution) → C ≤ now → Between D C x → starts_at now (start_of_execution x) ≡ false
+not_begun now D C None le h = refl
+not_begun now D C (Some x) le h = ne_eqb x.issued now (omega (arith, le, h.1, h.2))
+
+begun_row : (c D C : ℕ) (x : Option Execution) → Between D C x → passes (λ y. y.issued == c) x ≡ true → (starts_at c (start_until c (start_of_execution x)) ≡ true) × (D < c) × (c < C)
+begun_row c D C None h is = absurd (cc)
+begun_row c D C (Some x) h is =
+    let same : x.issued ≡ c = eqb-true x.issued c is in
+    (rw (le-leb x.issued c (omega (arith, same))) is, omega (arith, same, h.0), omega (arith, same, h.1, h.2))
+
+pub begun_shows : (v : Values) (k : Kind) → Shows v (is_issued_in k) (begins_mark k)
+begun_shows v k = record {
+  mark = λ c bound row sound h.
+      let x = begun_row c row.dispatched row.retired row.execution sound.stamps.executed_between (and_second (is_row_of_kind k row) (passes (λ y. y.issued == c) row.execution) h) in
+      and_both (nat_le row.fetched c) (is_row_of_kind k row && starts_at c (start_until c (start_of_execution row.execution))) (le-leb row.fetched c (omega (arith, x.1, sound.stamps.dispatched_after_fetch)))
+      (and_both (is_row_of_kind k row) (starts_at c (start_until c (start_of_execution row.execution))) (and_first (is_row_of_kind k row) (passes (λ y. y.issued == c) row.execution) h) x.0);
+  ends = λ c bound row sound h. (begun_row c row.dispatched row.retired row.execution sound.stamps.executed_between (and_second (is_row_of_kind k row) (passes (λ y. y.issued == c) row.execution) h)).2;
+}
+
+pub law_of_pipelined_units : (v : Values) {steps : List Step} {h : Hardware} → History v steps h → (k : Kind) → is_pipelined v k ≡ true → FitUnits v k is_issued_in (rows_of steps)
+law_of_pipelined_units v history k pipelined =
+    units_law v k (begins_mark k)
+    (λ c m h. and_both (is_of_kind k (kind_of_word m.instruction)) (start_holds (at_kind k v.kinds).pipelined c m.start) (and_first (is_of_kind k (kind_of_word m.instruction)) (starts_at c m.start) h)
+    (subst (λ b. start_holds b c m.start ≡ true) (sym pipelined) (begins_holds c m.start (and_second (is_of_kind k (kind_of_word m.instruction)) (starts_at c m.start) h))))
+    (λ now row sound. and_right (is_row_of_kind k row) (starts_at now (start_of_execution row.execution)) (not_begun now row.dispatched row.retired row.execution (omega (arith, sound.below)) sound.stamps.executed_between))
+    (λ now f. and_right (is_of_kind k (kind_of_word f.instruction)) false refl)
+    (is_issued_in k) (begun_shows v k) history

@@ -1,0 +1,28 @@
+-- The reorder buffer holds no more instructions than it has room for.
+use Rattle.std.proofs.Common.{◌&&◌, is_some, is_none, nat_le, nat_lt, List, Some, refl, arith, le-leb}
+use Rattle.std.proofs.lemmas.Bool.{leb-true, ltb-true}
+use Rattle.rv_isa.specs.declared.values.Values.{Values}
+use Rattle.rv_hardware.specs.Hardware.{Hardware}
+use Rattle.rv_hardware.specs.Laws.{NeverMoreThan}
+use Rattle.rv_hardware.specs.Stamps.{rows_of, is_in_flight_in}
+use Rattle.rv_hardware.specs.declared.step.Step.{Step}
+use Rattle.rv_hardware.proofs.LawsAdvance.{is_in_flight_mark}
+use Rattle.rv_hardware.proofs.LawsBasics.{and_first, and_second, and_both}
+use Rattle.rv_hardware.proofs.LawsCounted.{Shows, counted_law, until_by, until_not}
+use Rattle.rv_hardware.proofs.LawsCycle.{History}
+use Rattle.rv_hardware.proofs.LawsMarks.{until}
+use Rattle.rv_hardware.proofs.LawsOrder.{history_is_orderly}
+
+pub in_flight_shows : (v : Values) → Shows v is_in_flight_in (λ c. is_in_flight_mark)
+in_flight_shows v = record {
+  mark = λ c bound row sound h.
+      let le = leb-true row.dispatched c (and_first (nat_le row.dispatched c) (nat_lt c row.retired) h) in
+      let lt = ltb-true c row.retired (and_second (nat_le row.dispatched c) (nat_lt c row.retired) h) in
+      and_both (nat_le row.fetched c) (is_some (until c (Some row.dispatched)) && is_none (until c (Some row.retired))) (le-leb row.fetched c (omega (arith, le, sound.stamps.dispatched_after_fetch)))
+      (rw (until_by c row.dispatched le, until_not c row.retired lt) refl);
+  ends = λ c bound row sound h. ltb-true c row.retired (and_second (nat_le row.dispatched c) (nat_lt c row.retired) h);
+}
+
+pub law_of_reorder_buffer : (v : Values) {steps : List Step} {h : Hardware} → History v steps h → NeverMoreThan v.rob is_in_flight_in (rows_of steps)
+law_of_reorder_buffer v history =
+    counted_law v is_in_flight_in (λ c. is_in_flight_mark) (in_flight_shows v) v.rob (λ earlier old new lines report before after passed. (history_is_orderly v after).buffer) history

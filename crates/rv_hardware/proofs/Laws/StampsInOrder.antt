@@ -1,0 +1,14 @@
+-- Each instruction passes through the stages in order.
+use Rattle.std.proofs.Common.{List, All}
+use Rattle.rv_isa.specs.declared.values.Values.{Values}
+use Rattle.rv_hardware.specs.Hardware.{Hardware}
+use Rattle.rv_hardware.specs.Laws.{HasOrderedStamps}
+use Rattle.rv_hardware.specs.Stamps.{rows_of}
+use Rattle.rv_hardware.specs.declared.step.Step.{Step}
+use Rattle.rv_hardware.proofs.LawsCycle.{History, history_is_sound}
+use Rattle.rv_hardware.proofs.LawsLists.{Every-weaker, All-Every}
+use Rattle.rv_hardware.proofs.LawsRow.{SoundRow}
+
+pub law_of_stamps_in_order : (v : Values) {steps : List Step} {h : Hardware} → History v steps h → All HasOrderedStamps (rows_of steps)
+law_of_stamps_in_order v {steps} {h} history =
+    All-Every HasOrderedStamps (rows_of steps) (Every-weaker (SoundRow v h.cycle) HasOrderedStamps (λ row sound. sound.stamps) (rows_of steps) (history_is_sound v history).rows)

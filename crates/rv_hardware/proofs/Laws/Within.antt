@@ -1,0 +1,12 @@
+-- Each step is of a cycle of the run.
+use Rattle.std.proofs.Common.{◌<◌, List}
+use Rattle.rv_isa.specs.declared.values.Values.{Values}
+use Rattle.rv_hardware.specs.Hardware.{Hardware}
+use Rattle.rv_hardware.specs.Step.{stamp_of}
+use Rattle.rv_hardware.specs.declared.step.Step.{Step}
+use Rattle.rv_hardware.proofs.LawsCycle.{History}
+use Rattle.rv_hardware.proofs.LawsLists.{Every}
+use Rattle.rv_hardware.proofs.LawsSteps.{history_has_steps}
+
+pub law_of_within : (v : Values) {steps : List Step} {h : Hardware} → History v steps h → Every (λ step. stamp_of step < h.cycle) steps
+law_of_within v history = (history_has_steps v history).before
