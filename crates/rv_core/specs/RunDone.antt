@@ -2,8 +2,10 @@
 use Rattle.std.specs.Prelude.{◌≡◌, ℕ, ◌<◌, List, length}
 use Rattle.rv_isa.specs.declared.lines.Arrival.{Arrival}
 use Rattle.rv_hardware.specs.Hardware.{Hardware}
+use Rattle.rv_hardware.specs.Promise.{IsPromised, Reported}
 use Rattle.rv_hardware.specs.Report.{Report}
 use Rattle.rv_hardware.specs.Run.{Cycles, IsStop, NoneStops, busy_of, longest_gap_of, stalls_of, steps_of}
+use Rattle.rv_hardware.specs.Seen.{seen}
 use Rattle.rv_hardware.specs.declared.{report.StallCounts.StallCounts, step.Step.Step}
 use Rattle.rv_core.specs.declared.{errors.OutOfMemory.OutOfMemory, outcome.Outcome.Outcome}
 
@@ -25,3 +27,27 @@ IsOutcome arrivals limit old new outcome =
 abbrev pub IsCutShort : List Arrival → ℕ → Hardware → Hardware → OutOfMemory → Type 0
 IsCutShort arrivals limit old new done =
     (reports : List Report) × IsRun arrivals old new reports done.steps.items done.stalls done.busy done.cycles done.longest_gap × NoneStops reports × (length reports < limit)
+
+-- what a run reports that ended
+abbrev pub reported : Outcome → Reported
+reported outcome = record {
+  steps = outcome.steps.items;
+  stalls = outcome.stalls;
+  busy = outcome.busy;
+  cycles = outcome.cycles;
+  longest_gap = outcome.longest_gap;
+}
+
+-- what one reports that ended for want of memory
+abbrev pub reported_so_far : OutOfMemory → Reported
+reported_so_far done = record {
+  steps = done.steps.items;
+  stalls = done.stalls;
+  busy = done.busy;
+  cycles = done.cycles;
+  longest_gap = done.longest_gap;
+}
+
+-- what is promised of a run of hardware
+abbrev pub KeepsPromise : List Arrival → Hardware → Hardware → Reported → Type 0
+KeepsPromise arrivals old new run = IsPromised old.values arrivals old.cycle new.cycle (seen old) run (seen new)

@@ -1,11 +1,8 @@
-ghost use Rattle.std.specs.Prelude.{◌≡◌, ◌+◌, ◌^◌, ◌<◌, ◌≤◌, [], vec_len, vec_capacity, IfErr, IfOk, MatchResult};
-ghost use Rattle.rv_isa.specs.Description.{gap_bound_of};
-ghost use Rattle.rv_hardware.specs.Headline.{IsTrueRun, IsTrueStop};
-ghost use Rattle.rv_hardware.specs.Laws.{AreCounted, Laws, TakesDueInterrupts};
-ghost use Rattle.rv_hardware.specs.LongestGap.{IsLongestGap};
+ghost use Rattle.std.specs.Prelude.{◌≡◌, ◌+◌, ◌^◌, ◌<◌, ◌≤◌, [], vec_len, vec_capacity, IfOk, MatchResult};
+ghost use Rattle.rv_hardware.specs.Headline.{IsTrueStop};
 ghost use Rattle.rv_hardware.specs.Seen.{layout_of, seen};
 ghost use Rattle.rv_core.specs.Progress.{IsBounded, IsNextCycle, progress_after, progress_of};
-ghost use Rattle.rv_core.specs.RunDone.{IsCutShort, IsOutcome};
+ghost use Rattle.rv_core.specs.RunDone.{IsCutShort, IsOutcome, KeepsPromise, reported, reported_so_far};
 ghost use Rattle.rv_core.specs.Told.{report_with};
 ghost use Rattle.rv_hardware.specs.Report.{counted};
 
@@ -31,21 +28,10 @@ pub fn run(
     limit: u64,
 ) -> Result<Outcome, OutOfMemory>
     ensures cycles { MatchResult result (λ outcome. IsOutcome arrivals.now limit core.old core.new outcome) (λ done. IsCutShort arrivals.now limit core.old core.new done) }
-    ensures true_run { IfOk result (λ outcome. IsTrueRun (layout_of core.old.values) arrivals.now core.old.cycle core.new.cycle (seen core.old) outcome.steps.items (seen core.new)) }
-    ensures true_stop { IfOk result (λ outcome. IsTrueStop (layout_of core.old.values) arrivals.now limit core.old.cycle core.new.cycle outcome.steps.items (seen core.new) outcome.stop) }
-    ensures true_so_far { IfErr result (λ done. IsTrueRun (layout_of core.old.values) arrivals.now core.old.cycle core.new.cycle (seen core.old) done.steps.items (seen core.new)) }
-    ensures laws { IfOk result (λ outcome. Laws core.old.values core.old.cycle core.new.cycle outcome.steps.items) }
-    ensures laws_so_far { IfErr result (λ done. Laws core.old.values core.old.cycle core.new.cycle done.steps.items) }
-    ensures due { IfOk result (λ outcome. TakesDueInterrupts (layout_of core.old.values) arrivals.now core.old.cycle core.new.cycle (seen core.old) outcome.steps.items) }
-    ensures due_so_far { IfErr result (λ done. TakesDueInterrupts (layout_of core.old.values) arrivals.now core.old.cycle core.new.cycle (seen core.old) done.steps.items) }
-    ensures counts { IfOk result (λ outcome. AreCounted core.old.cycle core.new.cycle outcome.steps.items outcome.busy outcome.stalls outcome.cycles) }
-    ensures counts_so_far { IfErr result (λ done. AreCounted core.old.cycle core.new.cycle done.steps.items done.busy done.stalls done.cycles) }
-    ensures gap { IfOk result (λ outcome. outcome.longest_gap < gap_bound_of core.old.values) }
-    ensures gap_so_far { IfErr result (λ done. done.longest_gap < gap_bound_of core.old.values) }
-    ensures longest_gap { IfOk result (λ outcome. IsLongestGap core.old.cycle core.new.cycle outcome.steps.items outcome.longest_gap) }
-    ensures longest_gap_so_far { IfErr result (λ done. IsLongestGap core.old.cycle core.new.cycle done.steps.items done.longest_gap) }
+    ensures promised { MatchResult result (λ outcome. KeepsPromise arrivals.now core.old core.new (reported outcome)) (λ done. KeepsPromise arrivals.now core.old core.new (reported_so_far done)) }
+    ensures stopped { IfOk result (λ outcome. IsTrueStop (layout_of core.old.values) arrivals.now limit core.old.cycle core.new.cycle outcome.steps.items (seen core.new) outcome.stop) }
 {
-    // Of hardware that a reset and cycles lead to, the headline, the laws and the bound hold.
+    // Of hardware that a reset and cycles lead to, the promise holds.
     let _ = core.cycles_done();
     run_cycles(alloc, core, arrivals, limit)
 }

@@ -115,3 +115,4 @@ pub mod LawsOfRuns
 pub mod LawsDue
 pub mod LawsBusy
 pub mod HeadlineTurn
+pub mod Promise

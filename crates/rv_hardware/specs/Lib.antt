@@ -20,3 +20,4 @@ pub mod Gap
 pub mod LongestGap
 pub mod Stamps
 pub mod Laws
+pub mod Promise

@@ -3,33 +3,27 @@ use Rattle.std.proofs.Common.{◌≡◌, ℕ, List, length, refl, sym, subst, ap
 use Rattle.rv_isa.specs.Arrivals.{lines_at}
 use Rattle.rv_isa.specs.Description.{IsLegal}
 use Rattle.rv_isa.specs.declared.{lines.Arrival.Arrival, lines.Lines.Lines, values.Values.Values}
-use Rattle.rv_arch.specs.Reset.{reset}
 use Rattle.rv_arch.specs.declared.outcome.Stop.{Stop}
 use Rattle.rv_hardware.specs.Hardware.{Hardware}
-use Rattle.rv_hardware.specs.Headline.{IsTrueRun, IsTrueStop}
-use Rattle.rv_hardware.specs.Laws.{AreCounted, Laws, TakesDueInterrupts}
-use Rattle.rv_hardware.specs.LongestGap.{IsLongestGap}
+use Rattle.rv_hardware.specs.Headline.{IsTrueStop}
+use Rattle.rv_hardware.specs.Promise.{IsPromised, reported_of}
 use Rattle.rv_hardware.specs.Report.{Report}
 use Rattle.rv_hardware.specs.Reset.{IsLoadable}
-use Rattle.rv_hardware.specs.Run.{Cycles, ended, cycled, IsStop, Reachable, at_reset, busy_of, longest_gap_of, stalls_of, steps_of}
+use Rattle.rv_hardware.specs.Run.{Cycles, ended, cycled, IsStop, Reachable, at_reset, steps_of}
 use Rattle.rv_hardware.specs.Seen.{seen}
-use Rattle.rv_hardware.proofs.GapRun.{no_silence, is_stop-only_last}
+use Rattle.rv_hardware.proofs.GapRun.{is_stop-only_last}
 use Rattle.rv_hardware.proofs.HeadlineCycle.{always_sound, cycle_true}
 use Rattle.rv_hardware.proofs.HeadlineInvariant.{IsSound}
 use Rattle.rv_hardware.proofs.HeadlineReached.{cycles_counted}
-use Rattle.rv_hardware.proofs.HeadlineRun.{headline_from_reset}
 use Rattle.rv_hardware.proofs.HeadlineStops.{headline_of_stop}
-use Rattle.rv_hardware.proofs.LawsBusy.{counts_hold}
-use Rattle.rv_hardware.proofs.LawsDue.{due_interrupts_of_runs}
-use Rattle.rv_hardware.proofs.LawsOfRuns.{laws_of_runs}
-use Rattle.rv_hardware.proofs.LongestGap.{longest_gap_of_run}
+use Rattle.rv_hardware.proofs.Promise.{promise_of_run}
 use Rattle.rv_report.specs.LiveReport.{IsRunReport}
 use Rattle.rv_report.specs.RunReport.{run_report}
 use Rattle.rv_report.specs.Totals.{totals_at}
 use Rattle.rv_report.specs.declared.options.Options.{Options}
 use Rattle.rv_sim.specs.CoreReport.{IsSimulation, hardware_of, text_of}
 use Rattle.rv_sim.specs.ReferenceReport.{layout_of, shown}
-use Rattle.rv_sim.specs.SimulationReport.{IsSimulationReport, lines_after}
+use Rattle.rv_sim.specs.SimulationReport.{IsSimulationReport, lines_after, state_at_reset}
 use Rattle.rv_job.specs.declared.job.Job.{Job}
 use Rattle.rv_sim.proofs.LinesAfter.{lines_are}
 
@@ -41,7 +35,7 @@ module _ (job : Job) (options : Options) (stop : Stop) (reports : List Report) (
       let reached : Reachable (hardware_of job) = at_reset legal loadable in
       let number : new.cycle ≡ length reports = omega (arith, cycles_counted cycles) in
       let layout = layout_of job.description in
-      let start = reset layout job.image.bytes job.image.start in
+      let start = state_at_reset job in
       let totals = totals_at reports stop in
       let steps = steps_of reports in
       let lines : new.lines ≡ lines_after job.arrivals (length reports) = lines_are cycles refl refl ∙ ap (lines_after job.arrivals) number in
@@ -49,15 +43,10 @@ module _ (job : Job) (options : Options) (stop : Stop) (reports : List Report) (
         steps = steps;
         totals = totals;
         end = seen new;
-        runs = subst (λ n. IsTrueRun layout job.arrivals 0 n start steps (seen new)) number (headline_from_reset job.arrivals job.description job.image.base job.image.bytes job.image.start new reports legal loadable cycles);
+        promised = subst (λ n. IsPromised job.description job.arrivals 0 n start (reported_of reports) (seen new)) number (promise_of_run reached cycles (is_stop-only_last options.limit reports new stop stopped));
         stopped = refl;
         ends = subst (λ n. IsTrueStop layout job.arrivals options.limit 0 n steps (seen new) stop) number (headline_of_stop job.arrivals options.limit (hardware_of job) new reports stop reached cycles stopped);
-        laws = subst (λ n. Laws job.description 0 n steps) number (laws_of_runs reached cycles);
-        due = subst (λ n. TakesDueInterrupts layout job.arrivals 0 n start steps) number (due_interrupts_of_runs reached cycles);
-        longest_gap = subst (λ n. IsLongestGap 0 n steps (longest_gap_of reports)) number (longest_gap_of_run reached cycles);
-        gap_bounded = (no_silence job.arrivals (hardware_of job) new reports reached cycles (is_stop-only_last options.limit reports new stop stopped)).longest;
         counts = refl;
-        counted = subst (λ n. AreCounted 0 n steps (busy_of reports) (stalls_of reports) (length reports)) number (counts_hold reached cycles);
         text_is = ap (λ (levels : Lines). run_report steps totals layout (seen new) levels (shown job.description.report options)) lines;
       }
 

@@ -1,0 +1,26 @@
+-- The promise is true of every run of hardware that a reset and cycles lead to, where no cycle but the last stops it.
+use Rattle.rv_isa.specs.declared.lines.Arrival.{Arrival}
+use Rattle.std.proofs.Common.{List}
+use Rattle.rv_hardware.specs.Gap.{OnlyLastStops}
+use Rattle.rv_hardware.specs.Hardware.{Hardware}
+use Rattle.rv_hardware.specs.Promise.{IsPromised, reported_of}
+use Rattle.rv_hardware.specs.Report.{Report}
+use Rattle.rv_hardware.specs.Run.{Cycles, Reachable}
+use Rattle.rv_hardware.specs.Seen.{seen}
+use Rattle.rv_hardware.proofs.GapRun.{no_silence}
+use Rattle.rv_hardware.proofs.HeadlineRun.{headline_of_run}
+use Rattle.rv_hardware.proofs.LawsBusy.{counts_hold}
+use Rattle.rv_hardware.proofs.LawsDue.{due_interrupts_of_runs}
+use Rattle.rv_hardware.proofs.LawsOfRuns.{laws_of_runs}
+use Rattle.rv_hardware.proofs.LongestGap.{longest_gap_of_run}
+
+pub promise_of_run : {arrivals : List Arrival} {old new : Hardware} {reports : List Report} → Reachable old → Cycles arrivals old reports new → OnlyLastStops reports →
+    IsPromised old.values arrivals old.cycle new.cycle (seen old) (reported_of reports) (seen new)
+promise_of_run {arrivals} {old} {new} {reports} reached cycles only = record {
+  runs = headline_of_run arrivals old new reports reached cycles;
+  laws = laws_of_runs reached cycles;
+  due = due_interrupts_of_runs reached cycles;
+  counted = counts_hold reached cycles;
+  longest_gap = longest_gap_of_run reached cycles;
+  gap_bounded = (no_silence arrivals old new reports reached cycles only).longest;
+}
