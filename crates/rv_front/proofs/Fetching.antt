@@ -2,7 +2,6 @@
 use Rattle.std.proofs.Common.{◌≡◌, ℕ, suc, ◌-◌, ◌<◌, Bool, true, false, nat_eq, nat_lt, is_none, List, [], ◌∷◌, ◌++◌, length, Option, Some, None, MatchBool, MatchOption, refl, sym, ap, subst, ◌∙◌, arith, append_assoc, length-append}
 use Rattle.std.proofs.lemmas.List.{append-nil}
 use Rattle.std.proofs.lemmas.Bool.{ltb-true, ltb-false}
-use Rattle.circular_buffer.specs.Buffer.{keep_last}
 use Rattle.rv_isa.specs.Word.{pc_plus_4}
 use Rattle.rv_memory.specs.Memory.{Memory}
 use Rattle.rv_front.specs.declared.fetched.Fetched.{Fetched}
@@ -111,8 +110,3 @@ pub IsLinked-push : (es : List Fetched) (e : Fetched) (pc : ℕ) → e.pc ≡ pc
 IsLinked-push [] e pc at h = (refl, tt)
 IsLinked-push (a ∷ []) e pc at h = (at ∙ h.0, (refl, tt))
 IsLinked-push (a ∷ b ∷ es) e pc at h = (h.0, IsLinked-push (b ∷ es) e pc at h.1)
-
--- one more entry, where there is room
-pub keep_last-room : (capacity : ℕ) (es : List Fetched) (e : Fetched) → length es < capacity → keep_last capacity (es ++ e ∷ []) ≡ es ++ e ∷ []
-keep_last-room capacity es e h =
-    let none : length (es ++ e ∷ []) - capacity ≡ 0 = omega (arith, length-append es (e ∷ [])) in rw none refl

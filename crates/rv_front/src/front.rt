@@ -1,10 +1,11 @@
-ghost use Rattle.std.specs.Prelude.{◌≡◌, ◌<◌, ◌≤◌, [], ◌∷◌, length, drop, slice_get, Some, option_copied, IfOk, false};
+ghost use Rattle.std.specs.Prelude.{◌≡◌, ◌<◌, ◌≤◌, [], ◌∷◌, ◌++◌, length, drop, slice_get, Some, option_copied, IfOk, false};
+ghost use Rattle.circular_buffer.specs.Buffer.{buffer};
 ghost use Rattle.rv_front.specs.FetchBuffer.{FetchesInto, FetchesOne, IsChain, IsFetchedAt, head_pc};
 
+use crate::decoded::DecodedWords;
 use crate::fetched::{FetchStop, Fetched};
 use crate::predictor::Predictor;
 use circular_buffer::HeapCircularBuffer;
-use rv_decode::decode;
 use rv_isa::Description;
 use rv_memory::Ram;
 use std::alloc::{AllocError, Global};
@@ -16,6 +17,7 @@ use std::marker::Model;
 #[derive(Drop)]
 pub struct Front {
     ring: HeapCircularBuffer<Fetched>,
+    decoded: DecodedWords,
     width: u32,
     next_pc: u32,
     halted: bool,
@@ -39,6 +41,7 @@ impl Front {
         let values = description.values();
         Ok(Front {
             ring: HeapCircularBuffer::with_capacity(alloc, values.fetch_buffer as usize)?,
+            decoded: DecodedWords::new(alloc)?,
             width: values.fetch_width,
             next_pc: start,
             halted: false,
@@ -73,8 +76,8 @@ impl Front {
         if self.ring.len() >= self.ring.capacity() {
             return Some(FetchStop::Room);
         }
-        let fetched = fetch_word(self.next_pc, cycle, ram, predictor);
-        self.ring.extend_from_slice(&[fetched]);
+        let fetched = fetch_word(&mut self.decoded, self.next_pc, cycle, ram, predictor);
+        append(&mut self.ring, fetched);
         self.next_pc = fetched.predicted;
         self.halted = fetched.word.is_none();
         fetched.stop()
@@ -126,7 +129,13 @@ impl Front {
 }
 
 // The word at a pc, and where the predictor says that the program goes on.
-fn fetch_word(pc: u32, cycle: u64, ram: &Ram, predictor: &dyn Predictor) -> Fetched
+fn fetch_word(
+    decoded: &mut DecodedWords,
+    pc: u32,
+    cycle: u64,
+    ram: &Ram,
+    predictor: &dyn Predictor,
+) -> Fetched
     ensures { IsFetchedAt (answers predictor.now) ram.now cycle pc result }
 {
     let word = ram.fetch(pc);
@@ -134,11 +143,23 @@ fn fetch_word(pc: u32, cycle: u64, ram: &Ram, predictor: &dyn Predictor) -> Fetc
         Some(word) => predictor.predict(pc, word),
         None => pc.wrapping_add(4),
     };
+    let instruction = match word {
+        Some(word) => decoded.instruction_at(pc, word),
+        None => None,
+    };
     Fetched {
         pc,
         word,
-        instruction: word.and_then(|word| decode(word)),
+        instruction,
         predicted: next / 4 * 4,
         cycle,
     }
+}
+
+// Over any type, since at `Fetched` itself the checker has no proof for `push_back`.
+fn append<T: Copy>(ring: &mut HeapCircularBuffer<T>, item: T)
+    requires { length ring.old.items < ring.old.capacity }
+    ensures { ring.new ≡ buffer (ring.old.items ++ item ∷ []) ring.old.capacity }
+{
+    ring.push_back(item);
 }

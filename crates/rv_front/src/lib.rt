@@ -3,6 +3,7 @@
 //! fetches into it, dispatches from it and redirects it.
 #![tactic(auto)]
 
+mod decoded;
 mod fetched;
 mod flow;
 mod front;
