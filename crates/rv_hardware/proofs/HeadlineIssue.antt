@@ -3,7 +3,7 @@ use Rattle.std.proofs.Common.{◌≡◌, ℕ, ◌+◌, ◌<◌, ◌≤◌, ◌&&
 use Rattle.std.specs.Prelude.{if◌then◌else◌}
 use Rattle.std.specs.List.{list_all}
 use Rattle.std.proofs.lemmas.Bool.{and_parts, false≢true, leb-true}
-use Rattle.rv_isa.specs.Operation.{bytes_of, width_of}
+use Rattle.rv_isa.specs.Operation.{width_of}
 use Rattle.rv_isa.specs.PerKind.{at_kind, with_kind}
 use Rattle.rv_isa.specs.declared.Issue.{Issue}
 use Rattle.rv_isa.specs.declared.broadcast.Message.{Message}
