@@ -1,4 +1,4 @@
-# crc32-O0.elf: 1196 bytes of text, 98 of data, 1038 of zeros
+# crc32-O0.elf: 792 bytes of text, 98 of data, 1038 of zeros
 _start:
         auipc sp, 0x10                  # _start start.S:5
         mv sp, sp                       # _start start.S:5
@@ -96,7 +96,7 @@ by_table$1:
         xor a5, a3, a5                  # by_table crc32.c:26
         andi a5, a5, 255                # by_table crc32.c:26
         lui a3, 0x80000                 # by_table crc32.c:26
-        addi a3, a3, 1312               # by_table crc32.c:26
+        addi a3, a3, 912                # by_table crc32.c:26
         slli a5, a5, 0x2                # by_table crc32.c:26
         add a5, a3, a5                  # by_table crc32.c:26
         lw a5, 0(a5)                    # by_table crc32.c:26
@@ -127,7 +127,7 @@ main$1:
         jal shift                       # main crc32.c:35
         mv a3, a0                       # main crc32.c:35
         lui a5, 0x80000                 # main crc32.c:35
-        addi a4, a5, 1312               # main crc32.c:35
+        addi a4, a5, 912                # main crc32.c:35
         lw a5, -20(s0)                  # main crc32.c:35
         slli a5, a5, 0x2                # main crc32.c:35
         add a5, a4, a5                  # main crc32.c:35
@@ -140,24 +140,24 @@ main$2:
         li a5, 255                      # main crc32.c:34
         bgeu a5, a4, main$1             # main crc32.c:34
         lui a5, 0x80000                 # main crc32.c:36
-        addi a0, a5, 1200               # main crc32.c:36
+        addi a0, a5, 800                # main crc32.c:36
         jal strlen                      # main crc32.c:36
         mv a5, a0                       # main crc32.c:36
         mv a1, a5                       # main crc32.c:36
         lui a5, 0x80000                 # main crc32.c:36
-        addi a0, a5, 1200               # main crc32.c:36
+        addi a0, a5, 800                # main crc32.c:36
         jal by_bits                     # main crc32.c:36
         mv a4, a0                       # main crc32.c:36
         lui a5, 0xcbf44                 # main crc32.c:36
         addi a5, a5, -1754              # main crc32.c:36
         bne a4, a5, main$3              # main crc32.c:36
         lui a5, 0x80000                 # main crc32.c:36
-        addi a0, a5, 1200               # main crc32.c:36
+        addi a0, a5, 800                # main crc32.c:36
         jal strlen                      # main crc32.c:36
         mv a5, a0                       # main crc32.c:36
         mv a1, a5                       # main crc32.c:36
         lui a5, 0x80000                 # main crc32.c:36
-        addi a0, a5, 1200               # main crc32.c:36
+        addi a0, a5, 800                # main crc32.c:36
         jal by_table                    # main crc32.c:36
         mv a4, a0                       # main crc32.c:36
         lui a5, 0xcbf44                 # main crc32.c:36
@@ -168,21 +168,21 @@ main$3:
         j main$6                        # main crc32.c:37
 main$4:
         lui a5, 0x80000                 # main crc32.c:38
-        addi a0, a5, 1212               # main crc32.c:38
+        addi a0, a5, 812                # main crc32.c:38
         jal strlen                      # main crc32.c:38
         mv a5, a0                       # main crc32.c:38
         mv a1, a5                       # main crc32.c:38
         lui a5, 0x80000                 # main crc32.c:38
-        addi a0, a5, 1212               # main crc32.c:38
+        addi a0, a5, 812                # main crc32.c:38
         jal by_bits                     # main crc32.c:38
         sw a0, -24(s0)                  # main crc32.c:38
         lui a5, 0x80000                 # main crc32.c:39
-        addi a0, a5, 1212               # main crc32.c:39
+        addi a0, a5, 812                # main crc32.c:39
         jal strlen                      # main crc32.c:39
         mv a5, a0                       # main crc32.c:39
         mv a1, a5                       # main crc32.c:39
         lui a5, 0x80000                 # main crc32.c:39
-        addi a0, a5, 1212               # main crc32.c:39
+        addi a0, a5, 812                # main crc32.c:39
         jal by_table                    # main crc32.c:39
         mv a4, a0                       # main crc32.c:39
         lw a5, -24(s0)                  # main crc32.c:39
@@ -197,118 +197,6 @@ main$6:
         lw s0, 24(sp)                   # main crc32.c:40
         addi sp, sp, 32                 # main crc32.c:40
         ret                             # main crc32.c:40
-memcpy:
-        addi sp, sp, -48                # memcpy library.c:4
-        sw s0, 44(sp)                   # memcpy library.c:4
-        addi s0, sp, 48                 # memcpy library.c:4
-        sw a0, -36(s0)                  # memcpy library.c:4
-        sw a1, -40(s0)                  # memcpy library.c:4
-        sw a2, -44(s0)                  # memcpy library.c:4
-        lw a5, -36(s0)                  # memcpy library.c:5
-        sw a5, -24(s0)                  # memcpy library.c:5
-        lw a5, -40(s0)                  # memcpy library.c:6
-        sw a5, -28(s0)                  # memcpy library.c:6
-        sw zero, -20(s0)                # memcpy library.c:7
-        j memcpy$2                      # memcpy library.c:7
-memcpy$1:
-        lw a4, -28(s0)                  # memcpy library.c:8
-        lw a5, -20(s0)                  # memcpy library.c:8
-        add a4, a4, a5                  # memcpy library.c:8
-        lw a3, -24(s0)                  # memcpy library.c:8
-        lw a5, -20(s0)                  # memcpy library.c:8
-        add a5, a3, a5                  # memcpy library.c:8
-        lbu a4, 0(a4)                   # memcpy library.c:8
-        sb a4, 0(a5)                    # memcpy library.c:8
-        lw a5, -20(s0)                  # memcpy library.c:7
-        addi a5, a5, 1                  # memcpy library.c:7
-        sw a5, -20(s0)                  # memcpy library.c:7
-memcpy$2:
-        lw a4, -20(s0)                  # memcpy library.c:7
-        lw a5, -44(s0)                  # memcpy library.c:7
-        bltu a4, a5, memcpy$1           # memcpy library.c:7
-        lw a5, -36(s0)                  # memcpy library.c:9
-        mv a0, a5                       # memcpy library.c:10
-        lw s0, 44(sp)                   # memcpy library.c:10
-        addi sp, sp, 48                 # memcpy library.c:10
-        ret                             # memcpy library.c:10
-memset:
-        addi sp, sp, -48                # memset library.c:13
-        sw s0, 44(sp)                   # memset library.c:13
-        addi s0, sp, 48                 # memset library.c:13
-        sw a0, -36(s0)                  # memset library.c:13
-        sw a1, -40(s0)                  # memset library.c:13
-        sw a2, -44(s0)                  # memset library.c:13
-        lw a5, -36(s0)                  # memset library.c:14
-        sw a5, -24(s0)                  # memset library.c:14
-        sw zero, -20(s0)                # memset library.c:15
-        j memset$2                      # memset library.c:15
-memset$1:
-        lw a4, -24(s0)                  # memset library.c:16
-        lw a5, -20(s0)                  # memset library.c:16
-        add a5, a4, a5                  # memset library.c:16
-        lw a4, -40(s0)                  # memset library.c:16
-        andi a4, a4, 255                # memset library.c:16
-        sb a4, 0(a5)                    # memset library.c:16
-        lw a5, -20(s0)                  # memset library.c:15
-        addi a5, a5, 1                  # memset library.c:15
-        sw a5, -20(s0)                  # memset library.c:15
-memset$2:
-        lw a4, -20(s0)                  # memset library.c:15
-        lw a5, -44(s0)                  # memset library.c:15
-        bltu a4, a5, memset$1           # memset library.c:15
-        lw a5, -36(s0)                  # memset library.c:17
-        mv a0, a5                       # memset library.c:18
-        lw s0, 44(sp)                   # memset library.c:18
-        addi sp, sp, 48                 # memset library.c:18
-        ret                             # memset library.c:18
-memcmp:
-        addi sp, sp, -48                # memcmp library.c:21
-        sw s0, 44(sp)                   # memcmp library.c:21
-        addi s0, sp, 48                 # memcmp library.c:21
-        sw a0, -36(s0)                  # memcmp library.c:21
-        sw a1, -40(s0)                  # memcmp library.c:21
-        sw a2, -44(s0)                  # memcmp library.c:21
-        lw a5, -36(s0)                  # memcmp library.c:22
-        sw a5, -24(s0)                  # memcmp library.c:22
-        lw a5, -40(s0)                  # memcmp library.c:23
-        sw a5, -28(s0)                  # memcmp library.c:23
-        sw zero, -20(s0)                # memcmp library.c:24
-        j memcmp$3                      # memcmp library.c:24
-memcmp$1:
-        lw a4, -24(s0)                  # memcmp library.c:25
-        lw a5, -20(s0)                  # memcmp library.c:25
-        add a5, a4, a5                  # memcmp library.c:25
-        lbu a4, 0(a5)                   # memcmp library.c:25
-        lw a3, -28(s0)                  # memcmp library.c:25
-        lw a5, -20(s0)                  # memcmp library.c:25
-        add a5, a3, a5                  # memcmp library.c:25
-        lbu a5, 0(a5)                   # memcmp library.c:25
-        beq a4, a5, memcmp$2            # memcmp library.c:25
-        lw a4, -24(s0)                  # memcmp library.c:26
-        lw a5, -20(s0)                  # memcmp library.c:26
-        add a5, a4, a5                  # memcmp library.c:26
-        lbu a5, 0(a5)                   # memcmp library.c:26
-        mv a3, a5                       # memcmp library.c:26
-        lw a4, -28(s0)                  # memcmp library.c:26
-        lw a5, -20(s0)                  # memcmp library.c:26
-        add a5, a4, a5                  # memcmp library.c:26
-        lbu a5, 0(a5)                   # memcmp library.c:26
-        sub a5, a3, a5                  # memcmp library.c:26
-        j memcmp$4                      # memcmp library.c:26
-memcmp$2:
-        lw a5, -20(s0)                  # memcmp library.c:24
-        addi a5, a5, 1                  # memcmp library.c:24
-        sw a5, -20(s0)                  # memcmp library.c:24
-memcmp$3:
-        lw a4, -20(s0)                  # memcmp library.c:24
-        lw a5, -44(s0)                  # memcmp library.c:24
-        bltu a4, a5, memcmp$1           # memcmp library.c:24
-        li a5, 0                        # memcmp library.c:27
-memcmp$4:
-        mv a0, a5                       # memcmp library.c:28
-        lw s0, 44(sp)                   # memcmp library.c:28
-        addi sp, sp, 48                 # memcmp library.c:28
-        ret                             # memcmp library.c:28
 strlen:
         addi sp, sp, -48                # strlen library.c:31
         sw s0, 44(sp)                   # strlen library.c:31

@@ -1,4 +1,4 @@
-# crc32-O2.elf: 576 bytes of text, 98 of data, 1038 of zeros
+# crc32-O2.elf: 456 bytes of text, 98 of data, 1038 of zeros
 _start:
         auipc sp, 0x10                  # _start start.S:5
         mv sp, sp                       # _start start.S:5
@@ -36,7 +36,7 @@ by_table:
         lui a2, 0x80000                 # by_table crc32.c:25
         add a1, a0, a1                  # by_table crc32.c:25
         li a4, -1                       # by_table crc32.c:24
-        addi a2, a2, 688                # by_table crc32.c:24
+        addi a2, a2, 576                # by_table crc32.c:24
 by_table$1:
         lbu a5, 0(a0)                   # by_table crc32.c:26
         srli a3, a4, 0x8                # by_table crc32.c:26
@@ -61,7 +61,7 @@ main:
         sw s0, 8(sp)                    # main crc32.c:31
         sw s1, 4(sp)                    # main crc32.c:31
         sw s2, 0(sp)                    # main crc32.c:31
-        addi a0, a0, 688                # main crc32.c:31
+        addi a0, a0, 576                # main crc32.c:31
         li a1, 0                        # main crc32.c:34
         addi a2, a2, 800                # main crc32.c:10
         li a6, 256                      # main crc32.c:34
@@ -81,20 +81,20 @@ main$3:
         addi a0, a0, 4                  # main crc32.c:34
         bne a1, a6, main$1              # main crc32.c:34
         lui s1, 0x80000                 # main crc32.c:36
-        addi a0, s1, 576                # main crc32.c:36
+        addi a0, s1, 464                # main crc32.c:36
         jal strlen                      # main crc32.c:36
         mv a1, a0                       # main crc32.c:36
-        addi a0, s1, 576                # main crc32.c:36
+        addi a0, s1, 464                # main crc32.c:36
         jal by_bits                     # main crc32.c:36
         lui a5, 0xcbf44                 # main crc32.c:36
         addi a5, a5, -1754              # main crc32.c:36
         mv s2, a0                       # main crc32.c:36
-        addi s0, s1, 576                # main crc32.c:36
+        addi s0, s1, 464                # main crc32.c:36
         bne a0, a5, main$5              # main crc32.c:36
-        addi a0, s1, 576                # main crc32.c:36
+        addi a0, s1, 464                # main crc32.c:36
         jal strlen                      # main crc32.c:36
         mv a1, a0                       # main crc32.c:36
-        addi a0, s1, 576                # main crc32.c:36
+        addi a0, s1, 464                # main crc32.c:36
         jal by_table                    # main crc32.c:36
         bne a0, s2, main$5              # main crc32.c:36
         addi s0, s0, 12                 # main crc32.c:38
@@ -120,46 +120,6 @@ main$4:
 main$5:
         li a0, -1                       # main crc32.c:37
         j main$4                        # main crc32.c:37
-memcpy:
-        beqz a2, memcpy$2               # memcpy library.c:7
-        mv a5, a0                       # memcpy library.c:7
-        add a2, a1, a2                  # memcpy library.c:7
-memcpy$1:
-        lbu a4, 0(a1)                   # memcpy library.c:8
-        addi a1, a1, 1                  # memcpy library.c:7
-        addi a5, a5, 1                  # memcpy library.c:7
-        sb a4, -1(a5)                   # memcpy library.c:8
-        bne a1, a2, memcpy$1            # memcpy library.c:7
-memcpy$2:
-        ret                             # memcpy library.c:10
-memset:
-        andi a1, a1, 255                # memset library.c:16
-        mv a5, a0                       # memset library.c:16
-        add a4, a2, a0                  # memset library.c:16
-        beqz a2, memset$2               # memset library.c:15
-memset$1:
-        sb a1, 0(a5)                    # memset library.c:16
-        addi a5, a5, 1                  # memset library.c:15
-        bne a5, a4, memset$1            # memset library.c:15
-memset$2:
-        ret                             # memset library.c:18
-memcmp:
-        beqz a2, memcmp$3               # memcmp library.c:24
-        add a2, a0, a2                  # memcmp library.c:24
-        j memcmp$2                      # memcmp library.c:24
-memcmp$1:
-        beq a0, a2, memcmp$3            # memcmp library.c:24
-memcmp$2:
-        lbu a5, 0(a0)                   # memcmp library.c:25
-        lbu a4, 0(a1)                   # memcmp library.c:25
-        addi a0, a0, 1                  # memcmp library.c:24
-        addi a1, a1, 1                  # memcmp library.c:24
-        beq a5, a4, memcmp$1            # memcmp library.c:25
-        sub a0, a5, a4                  # memcmp library.c:26
-        ret                             # memcmp library.c:26
-memcmp$3:
-        li a0, 0                        # memcmp library.c:27
-        ret                             # memcmp library.c:28
 strlen:
         lbu a5, 0(a0)                   # strlen library.c:33
         mv a4, a0                       # strlen library.c:31

@@ -1,4 +1,4 @@
-# fft-O2.elf: 1088 bytes of text, 34 of data, 526 of zeros
+# fft-O2.elf: 928 bytes of text, 34 of data, 526 of zeros
 _start:
         auipc sp, 0x10                  # _start start.S:5
         mv sp, sp                       # _start start.S:5
@@ -8,11 +8,11 @@ transform:
         addi sp, sp, -64                # transform fft.c:39
         lui a7, 0x80000                 # transform fft.c:39
         sw s11, 16(sp)                  # transform fft.c:39
-        addi s11, a7, 1136              # transform fft.c:39
+        addi s11, a7, 976               # transform fft.c:39
         sw s10, 20(sp)                  # transform fft.c:39
         addi s10, s11, 256              # transform fft.c:39
         sw s9, 24(sp)                   # transform fft.c:39
-        addi t5, a7, 1136               # transform fft.c:25
+        addi t5, a7, 976                # transform fft.c:25
         mv s9, a0                       # transform fft.c:39
         sw s0, 60(sp)                   # transform fft.c:39
         sw s1, 56(sp)                   # transform fft.c:39
@@ -24,7 +24,7 @@ transform:
         sw s7, 32(sp)                   # transform fft.c:39
         sw s8, 28(sp)                   # transform fft.c:39
         mv t1, s10                      # transform fft.c:25
-        addi a7, a7, 1136               # transform fft.c:25
+        addi a7, a7, 976                # transform fft.c:25
         li a1, 0                        # transform fft.c:23
         li a6, 5                        # transform fft.c:26
         li a0, 6                        # transform fft.c:25
@@ -58,7 +58,7 @@ transform$3:
         lui s3, 0x80000                 # transform fft.c:23
         li a3, 6                        # transform fft.c:23
         li t0, 1                        # transform fft.c:41
-        addi s3, s3, 1088               # transform fft.c:41
+        addi s3, s3, 928                # transform fft.c:41
         li s7, 32                       # transform fft.c:43
         li s4, 16                       # transform fft.c:18
         li t2, 63                       # transform fft.c:45
@@ -183,11 +183,11 @@ main:
         lui a2, 0x1                     # main fft.c:59
         sw s0, 8(sp)                    # main fft.c:57
         sw s2, 0(sp)                    # main fft.c:57
-        addi s0, a3, 1136               # main fft.c:57
-        addi s2, a3, 1136               # main fft.c:57
+        addi s0, a3, 976                # main fft.c:57
+        addi s2, a3, 976                # main fft.c:57
         sw ra, 12(sp)                   # main fft.c:57
         sw s1, 4(sp)                    # main fft.c:57
-        addi a3, a3, 1136               # main fft.c:57
+        addi a3, a3, 976                # main fft.c:57
         li a5, 0                        # main fft.c:57
         addi a2, a2, -1728              # main fft.c:59
 main$1:
@@ -255,59 +255,6 @@ main$6:
 main$7:
         mv a0, s1                       # main fft.c:70
         j main$6                        # main fft.c:70
-memcpy:
-        beqz a2, memcpy$2               # memcpy library.c:7
-        mv a5, a0                       # memcpy library.c:7
-        add a2, a1, a2                  # memcpy library.c:7
-memcpy$1:
-        lbu a4, 0(a1)                   # memcpy library.c:8
-        addi a1, a1, 1                  # memcpy library.c:7
-        addi a5, a5, 1                  # memcpy library.c:7
-        sb a4, -1(a5)                   # memcpy library.c:8
-        bne a1, a2, memcpy$1            # memcpy library.c:7
-memcpy$2:
-        ret                             # memcpy library.c:10
-memset:
-        andi a1, a1, 255                # memset library.c:16
-        mv a5, a0                       # memset library.c:16
-        add a4, a2, a0                  # memset library.c:16
-        beqz a2, memset$2               # memset library.c:15
-memset$1:
-        sb a1, 0(a5)                    # memset library.c:16
-        addi a5, a5, 1                  # memset library.c:15
-        bne a5, a4, memset$1            # memset library.c:15
-memset$2:
-        ret                             # memset library.c:18
-memcmp:
-        beqz a2, memcmp$3               # memcmp library.c:24
-        add a2, a0, a2                  # memcmp library.c:24
-        j memcmp$2                      # memcmp library.c:24
-memcmp$1:
-        beq a0, a2, memcmp$3            # memcmp library.c:24
-memcmp$2:
-        lbu a5, 0(a0)                   # memcmp library.c:25
-        lbu a4, 0(a1)                   # memcmp library.c:25
-        addi a0, a0, 1                  # memcmp library.c:24
-        addi a1, a1, 1                  # memcmp library.c:24
-        beq a5, a4, memcmp$1            # memcmp library.c:25
-        sub a0, a5, a4                  # memcmp library.c:26
-        ret                             # memcmp library.c:26
-memcmp$3:
-        li a0, 0                        # memcmp library.c:27
-        ret                             # memcmp library.c:28
-strlen:
-        lbu a5, 0(a0)                   # strlen library.c:33
-        mv a4, a0                       # strlen library.c:31
-        li a0, 0                        # strlen library.c:32
-        beqz a5, strlen$2               # strlen library.c:33
-strlen$1:
-        addi a0, a0, 1                  # strlen library.c:34
-        add a5, a4, a0                  # strlen library.c:33
-        lbu a5, 0(a5)                   # strlen library.c:33
-        bnez a5, strlen$1               # strlen library.c:33
-        ret                             # strlen library.c:33
-strlen$2:
-        ret                             # strlen library.c:36
         .data
 quarter:
         .word 0x6460000

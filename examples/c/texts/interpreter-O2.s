@@ -1,4 +1,4 @@
-# interpreter-O2.elf: 644 bytes of text, 168 of data, 0 of zeros
+# interpreter-O2.elf: 484 bytes of text, 168 of data, 0 of zeros
 _start:
         auipc sp, 0x10                  # _start start.S:5
         mv sp, sp                       # _start start.S:5
@@ -8,16 +8,16 @@ main:
         addi sp, sp, -80                # main interpreter.c:22
         lui a4, 0x80000                 # main interpreter.c:26
         lui a6, 0x80000                 # main interpreter.c:26
-        addi t1, a4, 696                # main interpreter.c:26
+        addi t1, a4, 536                # main interpreter.c:26
         sw zero, 0(sp)                  # main interpreter.c:23
         sw zero, 4(sp)                  # main interpreter.c:23
         sw zero, 8(sp)                  # main interpreter.c:23
         sw zero, 12(sp)                 # main interpreter.c:23
         li a5, 0                        # main interpreter.c:23
-        addi a4, a4, 696                # main interpreter.c:26
+        addi a4, a4, 536                # main interpreter.c:26
         li a1, 0                        # main interpreter.c:25
         li a2, 0                        # main interpreter.c:24
-        addi a6, a6, 656                # main interpreter.c:24
+        addi a6, a6, 496                # main interpreter.c:24
         li a7, 9                        # main interpreter.c:27
 main$1:
         slli a3, a5, 0x10               # main interpreter.c:27
@@ -126,59 +126,6 @@ main$3:
 main$4:
         mv a4, a0                       # main interpreter.c:27
         j main$3                        # main interpreter.c:27
-memcpy:
-        beqz a2, memcpy$2               # memcpy library.c:7
-        mv a5, a0                       # memcpy library.c:7
-        add a2, a1, a2                  # memcpy library.c:7
-memcpy$1:
-        lbu a4, 0(a1)                   # memcpy library.c:8
-        addi a1, a1, 1                  # memcpy library.c:7
-        addi a5, a5, 1                  # memcpy library.c:7
-        sb a4, -1(a5)                   # memcpy library.c:8
-        bne a1, a2, memcpy$1            # memcpy library.c:7
-memcpy$2:
-        ret                             # memcpy library.c:10
-memset:
-        andi a1, a1, 255                # memset library.c:16
-        mv a5, a0                       # memset library.c:16
-        add a4, a2, a0                  # memset library.c:16
-        beqz a2, memset$2               # memset library.c:15
-memset$1:
-        sb a1, 0(a5)                    # memset library.c:16
-        addi a5, a5, 1                  # memset library.c:15
-        bne a5, a4, memset$1            # memset library.c:15
-memset$2:
-        ret                             # memset library.c:18
-memcmp:
-        beqz a2, memcmp$3               # memcmp library.c:24
-        add a2, a0, a2                  # memcmp library.c:24
-        j memcmp$2                      # memcmp library.c:24
-memcmp$1:
-        beq a0, a2, memcmp$3            # memcmp library.c:24
-memcmp$2:
-        lbu a5, 0(a0)                   # memcmp library.c:25
-        lbu a4, 0(a1)                   # memcmp library.c:25
-        addi a0, a0, 1                  # memcmp library.c:24
-        addi a1, a1, 1                  # memcmp library.c:24
-        beq a5, a4, memcmp$1            # memcmp library.c:25
-        sub a0, a5, a4                  # memcmp library.c:26
-        ret                             # memcmp library.c:26
-memcmp$3:
-        li a0, 0                        # memcmp library.c:27
-        ret                             # memcmp library.c:28
-strlen:
-        lbu a5, 0(a0)                   # strlen library.c:33
-        mv a4, a0                       # strlen library.c:31
-        li a0, 0                        # strlen library.c:32
-        beqz a5, strlen$2               # strlen library.c:33
-strlen$1:
-        addi a0, a0, 1                  # strlen library.c:34
-        add a5, a4, a0                  # strlen library.c:33
-        lbu a5, 0(a5)                   # strlen library.c:33
-        bnez a5, strlen$1               # strlen library.c:33
-        ret                             # strlen library.c:33
-strlen$2:
-        ret                             # strlen library.c:36
         .data
         .word 0x80000188
         .word 0x80000160

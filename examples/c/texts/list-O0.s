@@ -1,4 +1,4 @@
-# list-O0.elf: 1328 bytes of text, 0 of data, 2048 of zeros
+# list-O0.elf: 848 bytes of text, 0 of data, 2048 of zeros
 _start:
         auipc sp, 0x10                  # _start start.S:5
         mv sp, sp                       # _start start.S:5
@@ -18,7 +18,7 @@ build$1:
         andi a5, a5, 255                # build list.c:17
         slli a4, a5, 0x3                # build list.c:17
         lui a5, 0x80000                 # build list.c:17
-        addi a5, a5, 1328               # build list.c:17
+        addi a5, a5, 848                # build list.c:17
         add a5, a4, a5                  # build list.c:17
         sw a5, -28(s0)                  # build list.c:17
         lw a4, -24(s0)                  # build list.c:18
@@ -237,140 +237,6 @@ main:
         lw s0, 24(sp)                   # main list.c:77
         addi sp, sp, 32                 # main list.c:77
         ret                             # main list.c:77
-memcpy:
-        addi sp, sp, -48                # memcpy library.c:4
-        sw s0, 44(sp)                   # memcpy library.c:4
-        addi s0, sp, 48                 # memcpy library.c:4
-        sw a0, -36(s0)                  # memcpy library.c:4
-        sw a1, -40(s0)                  # memcpy library.c:4
-        sw a2, -44(s0)                  # memcpy library.c:4
-        lw a5, -36(s0)                  # memcpy library.c:5
-        sw a5, -24(s0)                  # memcpy library.c:5
-        lw a5, -40(s0)                  # memcpy library.c:6
-        sw a5, -28(s0)                  # memcpy library.c:6
-        sw zero, -20(s0)                # memcpy library.c:7
-        j memcpy$2                      # memcpy library.c:7
-memcpy$1:
-        lw a4, -28(s0)                  # memcpy library.c:8
-        lw a5, -20(s0)                  # memcpy library.c:8
-        add a4, a4, a5                  # memcpy library.c:8
-        lw a3, -24(s0)                  # memcpy library.c:8
-        lw a5, -20(s0)                  # memcpy library.c:8
-        add a5, a3, a5                  # memcpy library.c:8
-        lbu a4, 0(a4)                   # memcpy library.c:8
-        sb a4, 0(a5)                    # memcpy library.c:8
-        lw a5, -20(s0)                  # memcpy library.c:7
-        addi a5, a5, 1                  # memcpy library.c:7
-        sw a5, -20(s0)                  # memcpy library.c:7
-memcpy$2:
-        lw a4, -20(s0)                  # memcpy library.c:7
-        lw a5, -44(s0)                  # memcpy library.c:7
-        bltu a4, a5, memcpy$1           # memcpy library.c:7
-        lw a5, -36(s0)                  # memcpy library.c:9
-        mv a0, a5                       # memcpy library.c:10
-        lw s0, 44(sp)                   # memcpy library.c:10
-        addi sp, sp, 48                 # memcpy library.c:10
-        ret                             # memcpy library.c:10
-memset:
-        addi sp, sp, -48                # memset library.c:13
-        sw s0, 44(sp)                   # memset library.c:13
-        addi s0, sp, 48                 # memset library.c:13
-        sw a0, -36(s0)                  # memset library.c:13
-        sw a1, -40(s0)                  # memset library.c:13
-        sw a2, -44(s0)                  # memset library.c:13
-        lw a5, -36(s0)                  # memset library.c:14
-        sw a5, -24(s0)                  # memset library.c:14
-        sw zero, -20(s0)                # memset library.c:15
-        j memset$2                      # memset library.c:15
-memset$1:
-        lw a4, -24(s0)                  # memset library.c:16
-        lw a5, -20(s0)                  # memset library.c:16
-        add a5, a4, a5                  # memset library.c:16
-        lw a4, -40(s0)                  # memset library.c:16
-        andi a4, a4, 255                # memset library.c:16
-        sb a4, 0(a5)                    # memset library.c:16
-        lw a5, -20(s0)                  # memset library.c:15
-        addi a5, a5, 1                  # memset library.c:15
-        sw a5, -20(s0)                  # memset library.c:15
-memset$2:
-        lw a4, -20(s0)                  # memset library.c:15
-        lw a5, -44(s0)                  # memset library.c:15
-        bltu a4, a5, memset$1           # memset library.c:15
-        lw a5, -36(s0)                  # memset library.c:17
-        mv a0, a5                       # memset library.c:18
-        lw s0, 44(sp)                   # memset library.c:18
-        addi sp, sp, 48                 # memset library.c:18
-        ret                             # memset library.c:18
-memcmp:
-        addi sp, sp, -48                # memcmp library.c:21
-        sw s0, 44(sp)                   # memcmp library.c:21
-        addi s0, sp, 48                 # memcmp library.c:21
-        sw a0, -36(s0)                  # memcmp library.c:21
-        sw a1, -40(s0)                  # memcmp library.c:21
-        sw a2, -44(s0)                  # memcmp library.c:21
-        lw a5, -36(s0)                  # memcmp library.c:22
-        sw a5, -24(s0)                  # memcmp library.c:22
-        lw a5, -40(s0)                  # memcmp library.c:23
-        sw a5, -28(s0)                  # memcmp library.c:23
-        sw zero, -20(s0)                # memcmp library.c:24
-        j memcmp$3                      # memcmp library.c:24
-memcmp$1:
-        lw a4, -24(s0)                  # memcmp library.c:25
-        lw a5, -20(s0)                  # memcmp library.c:25
-        add a5, a4, a5                  # memcmp library.c:25
-        lbu a4, 0(a5)                   # memcmp library.c:25
-        lw a3, -28(s0)                  # memcmp library.c:25
-        lw a5, -20(s0)                  # memcmp library.c:25
-        add a5, a3, a5                  # memcmp library.c:25
-        lbu a5, 0(a5)                   # memcmp library.c:25
-        beq a4, a5, memcmp$2            # memcmp library.c:25
-        lw a4, -24(s0)                  # memcmp library.c:26
-        lw a5, -20(s0)                  # memcmp library.c:26
-        add a5, a4, a5                  # memcmp library.c:26
-        lbu a5, 0(a5)                   # memcmp library.c:26
-        mv a3, a5                       # memcmp library.c:26
-        lw a4, -28(s0)                  # memcmp library.c:26
-        lw a5, -20(s0)                  # memcmp library.c:26
-        add a5, a4, a5                  # memcmp library.c:26
-        lbu a5, 0(a5)                   # memcmp library.c:26
-        sub a5, a3, a5                  # memcmp library.c:26
-        j memcmp$4                      # memcmp library.c:26
-memcmp$2:
-        lw a5, -20(s0)                  # memcmp library.c:24
-        addi a5, a5, 1                  # memcmp library.c:24
-        sw a5, -20(s0)                  # memcmp library.c:24
-memcmp$3:
-        lw a4, -20(s0)                  # memcmp library.c:24
-        lw a5, -44(s0)                  # memcmp library.c:24
-        bltu a4, a5, memcmp$1           # memcmp library.c:24
-        li a5, 0                        # memcmp library.c:27
-memcmp$4:
-        mv a0, a5                       # memcmp library.c:28
-        lw s0, 44(sp)                   # memcmp library.c:28
-        addi sp, sp, 48                 # memcmp library.c:28
-        ret                             # memcmp library.c:28
-strlen:
-        addi sp, sp, -48                # strlen library.c:31
-        sw s0, 44(sp)                   # strlen library.c:31
-        addi s0, sp, 48                 # strlen library.c:31
-        sw a0, -36(s0)                  # strlen library.c:31
-        sw zero, -20(s0)                # strlen library.c:32
-        j strlen$2                      # strlen library.c:33
-strlen$1:
-        lw a5, -20(s0)                  # strlen library.c:34
-        addi a5, a5, 1                  # strlen library.c:34
-        sw a5, -20(s0)                  # strlen library.c:34
-strlen$2:
-        lw a4, -36(s0)                  # strlen library.c:33
-        lw a5, -20(s0)                  # strlen library.c:33
-        add a5, a4, a5                  # strlen library.c:33
-        lbu a5, 0(a5)                   # strlen library.c:33
-        bnez a5, strlen$1               # strlen library.c:33
-        lw a5, -20(s0)                  # strlen library.c:35
-        mv a0, a5                       # strlen library.c:36
-        lw s0, 44(sp)                   # strlen library.c:36
-        addi sp, sp, 48                 # strlen library.c:36
-        ret                             # strlen library.c:36
         .data
 nodes:
         .zero 2048

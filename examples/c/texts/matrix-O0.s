@@ -1,4 +1,4 @@
-# matrix-O0.elf: 1156 bytes of text, 0 of data, 6912 of zeros
+# matrix-O0.elf: 676 bytes of text, 0 of data, 6912 of zeros
 _start:
         auipc sp, 0x10                  # _start start.S:5
         mv sp, sp                       # _start start.S:5
@@ -25,7 +25,7 @@ main$2:
         neg a5, a5                      # main matrix.c:12
         add a3, a3, a5                  # main matrix.c:12
         lui a5, 0x80000                 # main matrix.c:12
-        addi a2, a5, 1168               # main matrix.c:12
+        addi a2, a5, 688                # main matrix.c:12
         lw a4, -20(s0)                  # main matrix.c:12
         mv a5, a4                       # main matrix.c:12
         slli a5, a5, 0x1                # main matrix.c:12
@@ -43,7 +43,7 @@ main$2:
         lw a5, -20(s0)                  # main matrix.c:13
         xor a3, a4, a5                  # main matrix.c:13
         lui a5, 0x80001                 # main matrix.c:13
-        addi a2, a5, -624               # main matrix.c:13
+        addi a2, a5, -1104              # main matrix.c:13
         lw a4, -20(s0)                  # main matrix.c:13
         mv a5, a4                       # main matrix.c:13
         slli a5, a5, 0x1                # main matrix.c:13
@@ -79,7 +79,7 @@ main$6:
         j main$8                        # main matrix.c:18
 main$7:
         lui a5, 0x80000                 # main matrix.c:19
-        addi a3, a5, 1168               # main matrix.c:19
+        addi a3, a5, 688                # main matrix.c:19
         lw a4, -28(s0)                  # main matrix.c:19
         mv a5, a4                       # main matrix.c:19
         slli a5, a5, 0x1                # main matrix.c:19
@@ -91,7 +91,7 @@ main$7:
         add a5, a3, a5                  # main matrix.c:19
         lw a3, 0(a5)                    # main matrix.c:19
         lui a5, 0x80001                 # main matrix.c:19
-        addi a2, a5, -624               # main matrix.c:19
+        addi a2, a5, -1104              # main matrix.c:19
         lw a4, -40(s0)                  # main matrix.c:19
         mv a5, a4                       # main matrix.c:19
         slli a5, a5, 0x1                # main matrix.c:19
@@ -114,7 +114,7 @@ main$8:
         li a5, 23                       # main matrix.c:18
         bge a5, a4, main$7              # main matrix.c:18
         lui a5, 0x80001                 # main matrix.c:20
-        addi a3, a5, 1680               # main matrix.c:20
+        addi a3, a5, 1200               # main matrix.c:20
         lw a4, -28(s0)                  # main matrix.c:20
         mv a5, a4                       # main matrix.c:20
         slli a5, a5, 0x1                # main matrix.c:20
@@ -152,7 +152,7 @@ main$12:
         slli a5, a5, 0x5                # main matrix.c:25
         sub a3, a5, a4                  # main matrix.c:25
         lui a5, 0x80001                 # main matrix.c:25
-        addi a2, a5, 1680               # main matrix.c:25
+        addi a2, a5, 1200               # main matrix.c:25
         lw a4, -48(s0)                  # main matrix.c:25
         mv a5, a4                       # main matrix.c:25
         slli a5, a5, 0x1                # main matrix.c:25
@@ -184,140 +184,6 @@ main$14:
         lw s0, 60(sp)                   # main matrix.c:27
         addi sp, sp, 64                 # main matrix.c:27
         ret                             # main matrix.c:27
-memcpy:
-        addi sp, sp, -48                # memcpy library.c:4
-        sw s0, 44(sp)                   # memcpy library.c:4
-        addi s0, sp, 48                 # memcpy library.c:4
-        sw a0, -36(s0)                  # memcpy library.c:4
-        sw a1, -40(s0)                  # memcpy library.c:4
-        sw a2, -44(s0)                  # memcpy library.c:4
-        lw a5, -36(s0)                  # memcpy library.c:5
-        sw a5, -24(s0)                  # memcpy library.c:5
-        lw a5, -40(s0)                  # memcpy library.c:6
-        sw a5, -28(s0)                  # memcpy library.c:6
-        sw zero, -20(s0)                # memcpy library.c:7
-        j memcpy$2                      # memcpy library.c:7
-memcpy$1:
-        lw a4, -28(s0)                  # memcpy library.c:8
-        lw a5, -20(s0)                  # memcpy library.c:8
-        add a4, a4, a5                  # memcpy library.c:8
-        lw a3, -24(s0)                  # memcpy library.c:8
-        lw a5, -20(s0)                  # memcpy library.c:8
-        add a5, a3, a5                  # memcpy library.c:8
-        lbu a4, 0(a4)                   # memcpy library.c:8
-        sb a4, 0(a5)                    # memcpy library.c:8
-        lw a5, -20(s0)                  # memcpy library.c:7
-        addi a5, a5, 1                  # memcpy library.c:7
-        sw a5, -20(s0)                  # memcpy library.c:7
-memcpy$2:
-        lw a4, -20(s0)                  # memcpy library.c:7
-        lw a5, -44(s0)                  # memcpy library.c:7
-        bltu a4, a5, memcpy$1           # memcpy library.c:7
-        lw a5, -36(s0)                  # memcpy library.c:9
-        mv a0, a5                       # memcpy library.c:10
-        lw s0, 44(sp)                   # memcpy library.c:10
-        addi sp, sp, 48                 # memcpy library.c:10
-        ret                             # memcpy library.c:10
-memset:
-        addi sp, sp, -48                # memset library.c:13
-        sw s0, 44(sp)                   # memset library.c:13
-        addi s0, sp, 48                 # memset library.c:13
-        sw a0, -36(s0)                  # memset library.c:13
-        sw a1, -40(s0)                  # memset library.c:13
-        sw a2, -44(s0)                  # memset library.c:13
-        lw a5, -36(s0)                  # memset library.c:14
-        sw a5, -24(s0)                  # memset library.c:14
-        sw zero, -20(s0)                # memset library.c:15
-        j memset$2                      # memset library.c:15
-memset$1:
-        lw a4, -24(s0)                  # memset library.c:16
-        lw a5, -20(s0)                  # memset library.c:16
-        add a5, a4, a5                  # memset library.c:16
-        lw a4, -40(s0)                  # memset library.c:16
-        andi a4, a4, 255                # memset library.c:16
-        sb a4, 0(a5)                    # memset library.c:16
-        lw a5, -20(s0)                  # memset library.c:15
-        addi a5, a5, 1                  # memset library.c:15
-        sw a5, -20(s0)                  # memset library.c:15
-memset$2:
-        lw a4, -20(s0)                  # memset library.c:15
-        lw a5, -44(s0)                  # memset library.c:15
-        bltu a4, a5, memset$1           # memset library.c:15
-        lw a5, -36(s0)                  # memset library.c:17
-        mv a0, a5                       # memset library.c:18
-        lw s0, 44(sp)                   # memset library.c:18
-        addi sp, sp, 48                 # memset library.c:18
-        ret                             # memset library.c:18
-memcmp:
-        addi sp, sp, -48                # memcmp library.c:21
-        sw s0, 44(sp)                   # memcmp library.c:21
-        addi s0, sp, 48                 # memcmp library.c:21
-        sw a0, -36(s0)                  # memcmp library.c:21
-        sw a1, -40(s0)                  # memcmp library.c:21
-        sw a2, -44(s0)                  # memcmp library.c:21
-        lw a5, -36(s0)                  # memcmp library.c:22
-        sw a5, -24(s0)                  # memcmp library.c:22
-        lw a5, -40(s0)                  # memcmp library.c:23
-        sw a5, -28(s0)                  # memcmp library.c:23
-        sw zero, -20(s0)                # memcmp library.c:24
-        j memcmp$3                      # memcmp library.c:24
-memcmp$1:
-        lw a4, -24(s0)                  # memcmp library.c:25
-        lw a5, -20(s0)                  # memcmp library.c:25
-        add a5, a4, a5                  # memcmp library.c:25
-        lbu a4, 0(a5)                   # memcmp library.c:25
-        lw a3, -28(s0)                  # memcmp library.c:25
-        lw a5, -20(s0)                  # memcmp library.c:25
-        add a5, a3, a5                  # memcmp library.c:25
-        lbu a5, 0(a5)                   # memcmp library.c:25
-        beq a4, a5, memcmp$2            # memcmp library.c:25
-        lw a4, -24(s0)                  # memcmp library.c:26
-        lw a5, -20(s0)                  # memcmp library.c:26
-        add a5, a4, a5                  # memcmp library.c:26
-        lbu a5, 0(a5)                   # memcmp library.c:26
-        mv a3, a5                       # memcmp library.c:26
-        lw a4, -28(s0)                  # memcmp library.c:26
-        lw a5, -20(s0)                  # memcmp library.c:26
-        add a5, a4, a5                  # memcmp library.c:26
-        lbu a5, 0(a5)                   # memcmp library.c:26
-        sub a5, a3, a5                  # memcmp library.c:26
-        j memcmp$4                      # memcmp library.c:26
-memcmp$2:
-        lw a5, -20(s0)                  # memcmp library.c:24
-        addi a5, a5, 1                  # memcmp library.c:24
-        sw a5, -20(s0)                  # memcmp library.c:24
-memcmp$3:
-        lw a4, -20(s0)                  # memcmp library.c:24
-        lw a5, -44(s0)                  # memcmp library.c:24
-        bltu a4, a5, memcmp$1           # memcmp library.c:24
-        li a5, 0                        # memcmp library.c:27
-memcmp$4:
-        mv a0, a5                       # memcmp library.c:28
-        lw s0, 44(sp)                   # memcmp library.c:28
-        addi sp, sp, 48                 # memcmp library.c:28
-        ret                             # memcmp library.c:28
-strlen:
-        addi sp, sp, -48                # strlen library.c:31
-        sw s0, 44(sp)                   # strlen library.c:31
-        addi s0, sp, 48                 # strlen library.c:31
-        sw a0, -36(s0)                  # strlen library.c:31
-        sw zero, -20(s0)                # strlen library.c:32
-        j strlen$2                      # strlen library.c:33
-strlen$1:
-        lw a5, -20(s0)                  # strlen library.c:34
-        addi a5, a5, 1                  # strlen library.c:34
-        sw a5, -20(s0)                  # strlen library.c:34
-strlen$2:
-        lw a4, -36(s0)                  # strlen library.c:33
-        lw a5, -20(s0)                  # strlen library.c:33
-        add a5, a4, a5                  # strlen library.c:33
-        lbu a5, 0(a5)                   # strlen library.c:33
-        bnez a5, strlen$1               # strlen library.c:33
-        lw a5, -20(s0)                  # strlen library.c:35
-        mv a0, a5                       # strlen library.c:36
-        lw s0, 44(sp)                   # strlen library.c:36
-        addi sp, sp, 48                 # strlen library.c:36
-        ret                             # strlen library.c:36
         .data
 left:
         .zero 2304

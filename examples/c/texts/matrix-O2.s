@@ -1,4 +1,4 @@
-# matrix-O2.elf: 496 bytes of text, 0 of data, 6912 of zeros
+# matrix-O2.elf: 336 bytes of text, 0 of data, 6912 of zeros
 _start:
         auipc sp, 0x10                  # _start start.S:5
         mv sp, sp                       # _start start.S:5
@@ -8,11 +8,11 @@ main:
         lui a7, 0x80001                 # main matrix.c:10
         lui t3, 0x80001                 # main matrix.c:10
         addi sp, sp, -16                # main matrix.c:9
-        addi t5, a7, 1008               # main matrix.c:9
-        addi t1, t3, -1296              # main matrix.c:9
+        addi t5, a7, 848                # main matrix.c:9
+        addi t1, t3, -1456              # main matrix.c:9
         sw s0, 12(sp)                   # main matrix.c:9
-        addi t3, t3, -1296              # main matrix.c:9
-        addi a7, a7, 1008               # main matrix.c:9
+        addi t3, t3, -1456              # main matrix.c:9
+        addi a7, a7, 848                # main matrix.c:9
         li t4, 0                        # main matrix.c:9
         li a0, 0                        # main matrix.c:10
         li a6, 168                      # main matrix.c:11
@@ -39,12 +39,12 @@ main$2:
         lui t4, 0x80000                 # main matrix.c:10
         lui a5, 0x1                     # main matrix.c:10
         addi a4, a5, -1792              # main matrix.c:10
-        addi t2, t4, 496                # main matrix.c:10
+        addi t2, t4, 336                # main matrix.c:10
         addi a5, a5, -1696              # main matrix.c:10
         lui t3, 0xfffff                 # main matrix.c:10
         add t6, t1, a4                  # main matrix.c:10
         add s0, t2, a4                  # main matrix.c:10
-        addi t4, t4, 496                # main matrix.c:10
+        addi t4, t4, 336                # main matrix.c:10
         li t0, 0                        # main matrix.c:15
         add t1, t1, a5                  # main matrix.c:15
         addi t3, t3, 1792               # main matrix.c:15
@@ -92,59 +92,6 @@ main$7:
         lw s0, 12(sp)                   # main matrix.c:27
         addi sp, sp, 16                 # main matrix.c:27
         ret                             # main matrix.c:27
-memcpy:
-        beqz a2, memcpy$2               # memcpy library.c:7
-        mv a5, a0                       # memcpy library.c:7
-        add a2, a1, a2                  # memcpy library.c:7
-memcpy$1:
-        lbu a4, 0(a1)                   # memcpy library.c:8
-        addi a1, a1, 1                  # memcpy library.c:7
-        addi a5, a5, 1                  # memcpy library.c:7
-        sb a4, -1(a5)                   # memcpy library.c:8
-        bne a1, a2, memcpy$1            # memcpy library.c:7
-memcpy$2:
-        ret                             # memcpy library.c:10
-memset:
-        andi a1, a1, 255                # memset library.c:16
-        mv a5, a0                       # memset library.c:16
-        add a4, a2, a0                  # memset library.c:16
-        beqz a2, memset$2               # memset library.c:15
-memset$1:
-        sb a1, 0(a5)                    # memset library.c:16
-        addi a5, a5, 1                  # memset library.c:15
-        bne a5, a4, memset$1            # memset library.c:15
-memset$2:
-        ret                             # memset library.c:18
-memcmp:
-        beqz a2, memcmp$3               # memcmp library.c:24
-        add a2, a0, a2                  # memcmp library.c:24
-        j memcmp$2                      # memcmp library.c:24
-memcmp$1:
-        beq a0, a2, memcmp$3            # memcmp library.c:24
-memcmp$2:
-        lbu a5, 0(a0)                   # memcmp library.c:25
-        lbu a4, 0(a1)                   # memcmp library.c:25
-        addi a0, a0, 1                  # memcmp library.c:24
-        addi a1, a1, 1                  # memcmp library.c:24
-        beq a5, a4, memcmp$1            # memcmp library.c:25
-        sub a0, a5, a4                  # memcmp library.c:26
-        ret                             # memcmp library.c:26
-memcmp$3:
-        li a0, 0                        # memcmp library.c:27
-        ret                             # memcmp library.c:28
-strlen:
-        lbu a5, 0(a0)                   # strlen library.c:33
-        mv a4, a0                       # strlen library.c:31
-        li a0, 0                        # strlen library.c:32
-        beqz a5, strlen$2               # strlen library.c:33
-strlen$1:
-        addi a0, a0, 1                  # strlen library.c:34
-        add a5, a4, a0                  # strlen library.c:33
-        lbu a5, 0(a5)                   # strlen library.c:33
-        bnez a5, strlen$1               # strlen library.c:33
-        ret                             # strlen library.c:33
-strlen$2:
-        ret                             # strlen library.c:36
         .data
 product:
         .zero 2304

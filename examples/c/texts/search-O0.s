@@ -1,4 +1,4 @@
-# search-O0.elf: 1232 bytes of text, 436 of data, 140 of zeros
+# search-O0.elf: 1108 bytes of text, 436 of data, 140 of zeros
 _start:
         auipc sp, 0x10                  # _start start.S:5
         mv sp, sp                       # _start start.S:5
@@ -21,7 +21,7 @@ each_place:
 each_place$1:
         lw a4, -24(s0)                  # each_place search.c:17
         lui a5, 0x80000                 # each_place search.c:17
-        addi a5, a5, 1232               # each_place search.c:17
+        addi a5, a5, 1120               # each_place search.c:17
         add a5, a4, a5                  # each_place search.c:17
         lw a2, -28(s0)                  # each_place search.c:17
         lw a1, -36(s0)                  # each_place search.c:17
@@ -69,7 +69,7 @@ horspool:
         li a2, 128                      # horspool search.c:27
         mv a1, a5                       # horspool search.c:27
         lui a5, 0x80000                 # horspool search.c:27
-        addi a0, a5, 1680               # horspool search.c:27
+        addi a0, a5, 1568               # horspool search.c:27
         jal memset                      # horspool search.c:27
         sw zero, -24(s0)                # horspool search.c:28
         j horspool$2                    # horspool search.c:28
@@ -88,7 +88,7 @@ horspool$1:
         addi a5, a5, -1                 # horspool search.c:29
         andi a4, a5, 255                # horspool search.c:29
         lui a5, 0x80000                 # horspool search.c:29
-        addi a5, a5, 1680               # horspool search.c:29
+        addi a5, a5, 1568               # horspool search.c:29
         add a5, a5, a3                  # horspool search.c:29
         sb a4, 0(a5)                    # horspool search.c:29
         lw a5, -24(s0)                  # horspool search.c:28
@@ -104,7 +104,7 @@ horspool$2:
 horspool$3:
         lw a4, -28(s0)                  # horspool search.c:31
         lui a5, 0x80000                 # horspool search.c:31
-        addi a5, a5, 1232               # horspool search.c:31
+        addi a5, a5, 1120               # horspool search.c:31
         add a5, a4, a5                  # horspool search.c:31
         lw a2, -32(s0)                  # horspool search.c:31
         lw a1, -52(s0)                  # horspool search.c:31
@@ -126,12 +126,12 @@ horspool$4:
         add a5, a4, a5                  # horspool search.c:30
         addi a5, a5, -1                 # horspool search.c:30
         lui a4, 0x80000                 # horspool search.c:30
-        addi a4, a4, 1232               # horspool search.c:30
+        addi a4, a4, 1120               # horspool search.c:30
         add a5, a4, a5                  # horspool search.c:30
         lbu a5, 0(a5)                   # horspool search.c:30
         mv a4, a5                       # horspool search.c:30
         lui a5, 0x80000                 # horspool search.c:30
-        addi a5, a5, 1680               # horspool search.c:30
+        addi a5, a5, 1568               # horspool search.c:30
         add a5, a5, a4                  # horspool search.c:30
         lbu a5, 0(a5)                   # horspool search.c:30
         mv a4, a5                       # horspool search.c:30
@@ -160,7 +160,7 @@ main:
         j main$3                        # main search.c:39
 main$1:
         lui a5, 0x80000                 # main search.c:40
-        addi a4, a5, 1644               # main search.c:40
+        addi a4, a5, 1532               # main search.c:40
         lw a5, -24(s0)                  # main search.c:40
         slli a5, a5, 0x2                # main search.c:40
         add a5, a4, a5                  # main search.c:40
@@ -169,7 +169,7 @@ main$1:
         jal each_place                  # main search.c:40
         sw a0, -28(s0)                  # main search.c:40
         lui a5, 0x80000                 # main search.c:41
-        addi a4, a5, 1644               # main search.c:41
+        addi a4, a5, 1532               # main search.c:41
         lw a5, -24(s0)                  # main search.c:41
         slli a5, a5, 0x2                # main search.c:41
         add a5, a4, a5                  # main search.c:41
@@ -203,40 +203,6 @@ main$4:
         lw s0, 24(sp)                   # main search.c:46
         addi sp, sp, 32                 # main search.c:46
         ret                             # main search.c:46
-memcpy:
-        addi sp, sp, -48                # memcpy library.c:4
-        sw s0, 44(sp)                   # memcpy library.c:4
-        addi s0, sp, 48                 # memcpy library.c:4
-        sw a0, -36(s0)                  # memcpy library.c:4
-        sw a1, -40(s0)                  # memcpy library.c:4
-        sw a2, -44(s0)                  # memcpy library.c:4
-        lw a5, -36(s0)                  # memcpy library.c:5
-        sw a5, -24(s0)                  # memcpy library.c:5
-        lw a5, -40(s0)                  # memcpy library.c:6
-        sw a5, -28(s0)                  # memcpy library.c:6
-        sw zero, -20(s0)                # memcpy library.c:7
-        j memcpy$2                      # memcpy library.c:7
-memcpy$1:
-        lw a4, -28(s0)                  # memcpy library.c:8
-        lw a5, -20(s0)                  # memcpy library.c:8
-        add a4, a4, a5                  # memcpy library.c:8
-        lw a3, -24(s0)                  # memcpy library.c:8
-        lw a5, -20(s0)                  # memcpy library.c:8
-        add a5, a3, a5                  # memcpy library.c:8
-        lbu a4, 0(a4)                   # memcpy library.c:8
-        sb a4, 0(a5)                    # memcpy library.c:8
-        lw a5, -20(s0)                  # memcpy library.c:7
-        addi a5, a5, 1                  # memcpy library.c:7
-        sw a5, -20(s0)                  # memcpy library.c:7
-memcpy$2:
-        lw a4, -20(s0)                  # memcpy library.c:7
-        lw a5, -44(s0)                  # memcpy library.c:7
-        bltu a4, a5, memcpy$1           # memcpy library.c:7
-        lw a5, -36(s0)                  # memcpy library.c:9
-        mv a0, a5                       # memcpy library.c:10
-        lw s0, 44(sp)                   # memcpy library.c:10
-        addi sp, sp, 48                 # memcpy library.c:10
-        ret                             # memcpy library.c:10
 memset:
         addi sp, sp, -48                # memset library.c:13
         sw s0, 44(sp)                   # memset library.c:13
@@ -443,12 +409,12 @@ text:
         .word 0x72
         .word 0x74
 words:
-        .word 0x80000628
-        .word 0x80000630
-        .word 0x8000063c
-        .word 0x8000064c
-        .word 0x80000660
-        .word 0x80000668
+        .word 0x800005b8
+        .word 0x800005c0
+        .word 0x800005cc
+        .word 0x800005dc
+        .word 0x800005f0
+        .word 0x800005f8
         .zero 12
 steps.0:
         .zero 128

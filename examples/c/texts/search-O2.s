@@ -1,4 +1,4 @@
-# search-O2.elf: 624 bytes of text, 434 of data, 142 of zeros
+# search-O2.elf: 588 bytes of text, 434 of data, 142 of zeros
 _start:
         auipc sp, 0x10                  # _start start.S:5
         mv sp, sp                       # _start start.S:5
@@ -10,7 +10,7 @@ main:
         lui s9, 0x80000                 # main search.c:37
         sw s7, 44(sp)                   # main search.c:37
         lui a5, 0x80000                 # main search.c:37
-        addi s7, s9, 692                # main search.c:37
+        addi s7, s9, 660                # main search.c:37
         sw s2, 64(sp)                   # main search.c:37
         sw s4, 56(sp)                   # main search.c:37
         sw s5, 52(sp)                   # main search.c:37
@@ -22,10 +22,10 @@ main:
         sw s6, 48(sp)                   # main search.c:37
         sw s10, 32(sp)                  # main search.c:37
         sw s11, 28(sp)                  # main search.c:37
-        addi s9, s9, 692                # main search.c:37
+        addi s9, s9, 660                # main search.c:37
         addi s5, s7, 24                 # main search.c:37
         sw zero, 12(sp)                 # main search.c:38
-        addi s2, a5, 1072               # main search.c:38
+        addi s2, a5, 1040               # main search.c:38
         li s4, 341                      # main search.c:16
         addi s8, s7, 23                 # main search.c:17
 main$1:
@@ -57,7 +57,7 @@ main$4:
         mv a1, a0                       # main search.c:27
         mv s10, a0                      # main search.c:25
         li a2, 128                      # main search.c:27
-        addi a0, a5, 1072               # main search.c:27
+        addi a0, a5, 1040               # main search.c:27
         jal memset                      # main search.c:27
         li a5, 1                        # main search.c:28
         bgeu a5, s10, main$6            # main search.c:28
@@ -129,18 +129,6 @@ main$11:
 main$12:
         li a0, -1                       # main search.c:42
         j main$10                       # main search.c:42
-memcpy:
-        beqz a2, memcpy$2               # memcpy library.c:7
-        mv a5, a0                       # memcpy library.c:7
-        add a2, a1, a2                  # memcpy library.c:7
-memcpy$1:
-        lbu a4, 0(a1)                   # memcpy library.c:8
-        addi a1, a1, 1                  # memcpy library.c:7
-        addi a5, a5, 1                  # memcpy library.c:7
-        sb a4, -1(a5)                   # memcpy library.c:8
-        bne a1, a2, memcpy$1            # memcpy library.c:7
-memcpy$2:
-        ret                             # memcpy library.c:10
 memset:
         andi a1, a1, 255                # memset library.c:16
         mv a5, a0                       # memset library.c:16
@@ -201,12 +189,12 @@ strlen$2:
         .word 0x72
         .word 0x74
 words:
-        .word 0x80000270
-        .word 0x80000278
-        .word 0x80000284
-        .word 0x80000294
-        .word 0x800002a8
-        .word 0x800002b0
+        .word 0x80000250
+        .word 0x80000258
+        .word 0x80000264
+        .word 0x80000274
+        .word 0x80000288
+        .word 0x80000290
 text:
         .word 0x77207449
         .word 0x74207361

@@ -1,4 +1,4 @@
-# sha256-O0.elf: 2220 bytes of text, 352 of data, 32 of zeros
+# sha256-O0.elf: 2048 bytes of text, 352 of data, 32 of zeros
 _start:
         auipc sp, 0x10                  # _start start.S:5
         mv sp, sp                       # _start start.S:5
@@ -147,7 +147,7 @@ digest_block$4:
         addi a4, s0, -340               # digest_block sha256.c:33
         li a2, 32                       # digest_block sha256.c:33
         lui a5, 0x80001                 # digest_block sha256.c:33
-        addi a1, a5, -1520              # digest_block sha256.c:33
+        addi a1, a5, -1696              # digest_block sha256.c:33
         mv a0, a4                       # digest_block sha256.c:33
         jal memcpy                      # digest_block sha256.c:33
         sw zero, -28(s0)                # digest_block sha256.c:34
@@ -182,7 +182,7 @@ digest_block$5:
         xor a5, a3, a5                  # digest_block sha256.c:35
         add a4, a4, a5                  # digest_block sha256.c:35
         lui a5, 0x80001                 # digest_block sha256.c:36
-        addi a3, a5, -1872              # digest_block sha256.c:36
+        addi a3, a5, -2048              # digest_block sha256.c:36
         lw a5, -28(s0)                  # digest_block sha256.c:36
         slli a5, a5, 0x2                # digest_block sha256.c:36
         add a5, a3, a5                  # digest_block sha256.c:36
@@ -263,7 +263,7 @@ digest_block$8:
         j digest_block$10               # digest_block sha256.c:43
 digest_block$9:
         lui a5, 0x80001                 # digest_block sha256.c:44
-        addi a4, a5, -1520              # digest_block sha256.c:44
+        addi a4, a5, -1696              # digest_block sha256.c:44
         lw a5, -36(s0)                  # digest_block sha256.c:44
         slli a5, a5, 0x2                # digest_block sha256.c:44
         add a5, a4, a5                  # digest_block sha256.c:44
@@ -275,7 +275,7 @@ digest_block$9:
         lw a5, -324(a5)                 # digest_block sha256.c:44
         add a4, a4, a5                  # digest_block sha256.c:44
         lui a5, 0x80001                 # digest_block sha256.c:44
-        addi a3, a5, -1520              # digest_block sha256.c:44
+        addi a3, a5, -1696              # digest_block sha256.c:44
         lw a5, -36(s0)                  # digest_block sha256.c:44
         slli a5, a5, 0x2                # digest_block sha256.c:44
         add a5, a3, a5                  # digest_block sha256.c:44
@@ -348,9 +348,9 @@ digest$2:
         sb a4, -140(a5)                 # digest sha256.c:58
         li a2, 32                       # digest sha256.c:59
         lui a5, 0x80001                 # digest sha256.c:59
-        addi a1, a5, -1552              # digest sha256.c:59
+        addi a1, a5, -1728              # digest sha256.c:59
         lui a5, 0x80001                 # digest sha256.c:59
-        addi a0, a5, -1520              # digest sha256.c:59
+        addi a0, a5, -1696              # digest sha256.c:59
         jal memcpy                      # digest sha256.c:59
         sw zero, -20(s0)                # digest sha256.c:60
         j digest$4                      # digest sha256.c:60
@@ -380,16 +380,16 @@ main:
         addi s0, sp, 32                 # main sha256.c:65
         sw zero, -20(s0)                # main sha256.c:66
         lui a5, 0x80001                 # main sha256.c:67
-        addi a0, a5, -1616              # main sha256.c:67
+        addi a0, a5, -1792              # main sha256.c:67
         jal digest                      # main sha256.c:67
         lui a5, 0x80001                 # main sha256.c:68
-        addi a5, a5, -1520              # main sha256.c:68
+        addi a5, a5, -1696              # main sha256.c:68
         lw a4, 0(a5)                    # main sha256.c:68
         lui a5, 0xba781                 # main sha256.c:68
         addi a5, a5, 1727               # main sha256.c:68
         bne a4, a5, main$1              # main sha256.c:68
         lui a5, 0x80001                 # main sha256.c:68
-        addi a5, a5, -1520              # main sha256.c:68
+        addi a5, a5, -1696              # main sha256.c:68
         lw a4, 28(a5)                   # main sha256.c:68
         lui a5, 0xf2001                 # main sha256.c:68
         addi a5, a5, 1453               # main sha256.c:68
@@ -402,7 +402,7 @@ main$2:
         j main$4                        # main sha256.c:70
 main$3:
         lui a5, 0x80001                 # main sha256.c:71
-        addi a4, a5, -1520              # main sha256.c:71
+        addi a4, a5, -1696              # main sha256.c:71
         lw a5, -24(s0)                  # main sha256.c:71
         slli a5, a5, 0x2                # main sha256.c:71
         add a5, a4, a5                  # main sha256.c:71
@@ -418,16 +418,16 @@ main$4:
         li a5, 7                        # main sha256.c:70
         bge a5, a4, main$3              # main sha256.c:70
         lui a5, 0x80001                 # main sha256.c:72
-        addi a0, a5, -1612              # main sha256.c:72
+        addi a0, a5, -1788              # main sha256.c:72
         jal digest                      # main sha256.c:72
         lui a5, 0x80001                 # main sha256.c:73
-        addi a5, a5, -1520              # main sha256.c:73
+        addi a5, a5, -1696              # main sha256.c:73
         lw a4, 0(a5)                    # main sha256.c:73
         lui a5, 0x248d7                 # main sha256.c:73
         addi a5, a5, -1439              # main sha256.c:73
         bne a4, a5, main$5              # main sha256.c:73
         lui a5, 0x80001                 # main sha256.c:73
-        addi a5, a5, -1520              # main sha256.c:73
+        addi a5, a5, -1696              # main sha256.c:73
         lw a4, 28(a5)                   # main sha256.c:73
         lui a5, 0x19db0                 # main sha256.c:73
         addi a5, a5, 1729               # main sha256.c:73
@@ -440,7 +440,7 @@ main$6:
         j main$8                        # main sha256.c:75
 main$7:
         lui a5, 0x80001                 # main sha256.c:76
-        addi a4, a5, -1520              # main sha256.c:76
+        addi a4, a5, -1696              # main sha256.c:76
         lw a5, -28(s0)                  # main sha256.c:76
         slli a5, a5, 0x2                # main sha256.c:76
         add a5, a4, a5                  # main sha256.c:76
@@ -526,54 +526,6 @@ memset$2:
         lw s0, 44(sp)                   # memset library.c:18
         addi sp, sp, 48                 # memset library.c:18
         ret                             # memset library.c:18
-memcmp:
-        addi sp, sp, -48                # memcmp library.c:21
-        sw s0, 44(sp)                   # memcmp library.c:21
-        addi s0, sp, 48                 # memcmp library.c:21
-        sw a0, -36(s0)                  # memcmp library.c:21
-        sw a1, -40(s0)                  # memcmp library.c:21
-        sw a2, -44(s0)                  # memcmp library.c:21
-        lw a5, -36(s0)                  # memcmp library.c:22
-        sw a5, -24(s0)                  # memcmp library.c:22
-        lw a5, -40(s0)                  # memcmp library.c:23
-        sw a5, -28(s0)                  # memcmp library.c:23
-        sw zero, -20(s0)                # memcmp library.c:24
-        j memcmp$3                      # memcmp library.c:24
-memcmp$1:
-        lw a4, -24(s0)                  # memcmp library.c:25
-        lw a5, -20(s0)                  # memcmp library.c:25
-        add a5, a4, a5                  # memcmp library.c:25
-        lbu a4, 0(a5)                   # memcmp library.c:25
-        lw a3, -28(s0)                  # memcmp library.c:25
-        lw a5, -20(s0)                  # memcmp library.c:25
-        add a5, a3, a5                  # memcmp library.c:25
-        lbu a5, 0(a5)                   # memcmp library.c:25
-        beq a4, a5, memcmp$2            # memcmp library.c:25
-        lw a4, -24(s0)                  # memcmp library.c:26
-        lw a5, -20(s0)                  # memcmp library.c:26
-        add a5, a4, a5                  # memcmp library.c:26
-        lbu a5, 0(a5)                   # memcmp library.c:26
-        mv a3, a5                       # memcmp library.c:26
-        lw a4, -28(s0)                  # memcmp library.c:26
-        lw a5, -20(s0)                  # memcmp library.c:26
-        add a5, a4, a5                  # memcmp library.c:26
-        lbu a5, 0(a5)                   # memcmp library.c:26
-        sub a5, a3, a5                  # memcmp library.c:26
-        j memcmp$4                      # memcmp library.c:26
-memcmp$2:
-        lw a5, -20(s0)                  # memcmp library.c:24
-        addi a5, a5, 1                  # memcmp library.c:24
-        sw a5, -20(s0)                  # memcmp library.c:24
-memcmp$3:
-        lw a4, -20(s0)                  # memcmp library.c:24
-        lw a5, -44(s0)                  # memcmp library.c:24
-        bltu a4, a5, memcmp$1           # memcmp library.c:24
-        li a5, 0                        # memcmp library.c:27
-memcmp$4:
-        mv a0, a5                       # memcmp library.c:28
-        lw s0, 44(sp)                   # memcmp library.c:28
-        addi sp, sp, 48                 # memcmp library.c:28
-        ret                             # memcmp library.c:28
 strlen:
         addi sp, sp, -48                # strlen library.c:31
         sw s0, 44(sp)                   # strlen library.c:31

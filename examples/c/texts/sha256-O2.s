@@ -1,4 +1,4 @@
-# sha256-O2.elf: 1232 bytes of text, 352 of data, 32 of zeros
+# sha256-O2.elf: 1180 bytes of text, 352 of data, 32 of zeros
 _start:
         auipc sp, 0x10                  # _start start.S:5
         mv sp, sp                       # _start start.S:5
@@ -50,21 +50,21 @@ digest$1:
         sb a3, -384(s0)                 # digest sha256.c:56
         add a4, a4, s2                  # digest sha256.c:57
         lui s1, 0x80000                 # digest sha256.c:59
-        addi a1, s4, 1296               # digest sha256.c:59
+        addi a1, s4, 1248               # digest sha256.c:59
         sh a5, -2(a4)                   # digest sha256.c:57
         li a2, 32                       # digest sha256.c:59
-        addi a0, s1, 1584               # digest sha256.c:59
+        addi a0, s1, 1536               # digest sha256.c:59
         jal memcpy                      # digest sha256.c:59
         lui a5, 0x80000                 # digest sha256.c:60
-        addi s4, s4, 1296               # digest sha256.c:60
-        addi a5, a5, 1328               # digest sha256.c:60
+        addi s4, s4, 1248               # digest sha256.c:60
+        addi a5, a5, 1280               # digest sha256.c:60
         lui s7, 0x80000                 # digest sha256.c:60
         addi s8, sp, 48                 # digest sha256.c:60
         li s9, 0                        # digest sha256.c:60
         addi s6, sp, 240                # digest sha256.c:60
         addi s3, sp, 16                 # digest sha256.c:60
         sw a5, 12(sp)                   # digest sha256.c:60
-        addi s7, s7, 1616               # digest sha256.c:60
+        addi s7, s7, 1568               # digest sha256.c:60
         addi s5, sp, 372                # digest sha256.c:60
         addi s4, s4, 288                # digest sha256.c:60
 digest$2:
@@ -130,7 +130,7 @@ digest$4:
         mv a2, a4                       # digest sha256.c:28
         bne a1, s5, digest$4            # digest sha256.c:28
         li a2, 32                       # digest sha256.c:33
-        addi a1, s1, 1584               # digest sha256.c:33
+        addi a1, s1, 1536               # digest sha256.c:33
         mv a0, s3                       # digest sha256.c:33
         jal memcpy                      # digest sha256.c:33
         lw a5, 32(sp)                   # digest sha256.c:35
@@ -196,7 +196,7 @@ digest$6:
         addi s0, s0, 4                  # digest sha256.c:34
         bne a6, s4, digest$5            # digest sha256.c:34
         lui a5, 0x80000                 # digest sha256.c:34
-        addi a5, a5, 1584               # digest sha256.c:34
+        addi a5, a5, 1536               # digest sha256.c:34
 digest$7:
         lw a4, 0(a5)                    # digest sha256.c:44
         lw a3, 0(a2)                    # digest sha256.c:44
@@ -227,7 +227,7 @@ digest$7:
 main:
         lui a0, 0x80000                 # main sha256.c:67
         addi sp, sp, -32                # main sha256.c:65
-        addi a0, a0, 1232               # main sha256.c:67
+        addi a0, a0, 1184               # main sha256.c:67
         sw s3, 12(sp)                   # main sha256.c:65
         sw ra, 28(sp)                   # main sha256.c:65
         sw s0, 24(sp)                   # main sha256.c:65
@@ -235,7 +235,7 @@ main:
         sw s2, 16(sp)                   # main sha256.c:65
         jal digest                      # main sha256.c:67
         lui a5, 0x80000                 # main sha256.c:68
-        addi s3, a5, 1584               # main sha256.c:68
+        addi s3, a5, 1536               # main sha256.c:68
         lw a3, 0(s3)                    # main sha256.c:68
         lui a4, 0xba781                 # main sha256.c:68
         addi a4, a4, 1727               # main sha256.c:68
@@ -244,9 +244,9 @@ main:
         lui a4, 0xf2001                 # main sha256.c:68
         addi a4, a4, 1453               # main sha256.c:68
         bne a3, a4, main$4              # main sha256.c:68
-        addi s1, a5, 1584               # main sha256.c:68
+        addi s1, a5, 1536               # main sha256.c:68
         addi s2, s3, 32                 # main sha256.c:68
-        addi a5, a5, 1584               # main sha256.c:68
+        addi a5, a5, 1536               # main sha256.c:68
         li s0, 0                        # main sha256.c:66
 main$1:
         lw a4, 0(a5)                    # main sha256.c:71
@@ -254,7 +254,7 @@ main$1:
         xor s0, s0, a4                  # main sha256.c:71
         bne a5, s2, main$1              # main sha256.c:70
         lui a0, 0x80000                 # main sha256.c:72
-        addi a0, a0, 1236               # main sha256.c:72
+        addi a0, a0, 1188               # main sha256.c:72
         jal digest                      # main sha256.c:72
         lw a4, 0(s3)                    # main sha256.c:73
         lui a5, 0x248d7                 # main sha256.c:73
@@ -304,23 +304,6 @@ memset$1:
         bne a5, a4, memset$1            # memset library.c:15
 memset$2:
         ret                             # memset library.c:18
-memcmp:
-        beqz a2, memcmp$3               # memcmp library.c:24
-        add a2, a0, a2                  # memcmp library.c:24
-        j memcmp$2                      # memcmp library.c:24
-memcmp$1:
-        beq a0, a2, memcmp$3            # memcmp library.c:24
-memcmp$2:
-        lbu a5, 0(a0)                   # memcmp library.c:25
-        lbu a4, 0(a1)                   # memcmp library.c:25
-        addi a0, a0, 1                  # memcmp library.c:24
-        addi a1, a1, 1                  # memcmp library.c:24
-        beq a5, a4, memcmp$1            # memcmp library.c:25
-        sub a0, a5, a4                  # memcmp library.c:26
-        ret                             # memcmp library.c:26
-memcmp$3:
-        li a0, 0                        # memcmp library.c:27
-        ret                             # memcmp library.c:28
 strlen:
         lbu a5, 0(a0)                   # strlen library.c:33
         mv a4, a0                       # strlen library.c:31

@@ -1,4 +1,4 @@
-# sort-O0.elf: 1936 bytes of text, 0 of data, 512 of zeros
+# sort-O0.elf: 1456 bytes of text, 0 of data, 512 of zeros
 _start:
         auipc sp, 0x10                  # _start start.S:5
         mv sp, sp                       # _start start.S:5
@@ -25,7 +25,7 @@ fill$1:
         lw a5, -20(s0)                  # fill sort.c:13
         srli a4, a5, 0x10               # fill sort.c:13
         lui a5, 0x80000                 # fill sort.c:13
-        addi a3, a5, 1936               # fill sort.c:13
+        addi a3, a5, 1456               # fill sort.c:13
         lw a5, -24(s0)                  # fill sort.c:13
         slli a5, a5, 0x2                # fill sort.c:13
         add a5, a3, a5                  # fill sort.c:13
@@ -49,26 +49,26 @@ swap:
         sw a0, -36(s0)                  # swap sort.c:18
         sw a1, -40(s0)                  # swap sort.c:18
         lui a5, 0x80000                 # swap sort.c:19
-        addi a4, a5, 1936               # swap sort.c:19
+        addi a4, a5, 1456               # swap sort.c:19
         lw a5, -36(s0)                  # swap sort.c:19
         slli a5, a5, 0x2                # swap sort.c:19
         add a5, a4, a5                  # swap sort.c:19
         lw a5, 0(a5)                    # swap sort.c:19
         sw a5, -20(s0)                  # swap sort.c:19
         lui a5, 0x80000                 # swap sort.c:20
-        addi a4, a5, 1936               # swap sort.c:20
+        addi a4, a5, 1456               # swap sort.c:20
         lw a5, -40(s0)                  # swap sort.c:20
         slli a5, a5, 0x2                # swap sort.c:20
         add a5, a4, a5                  # swap sort.c:20
         lw a4, 0(a5)                    # swap sort.c:20
         lui a5, 0x80000                 # swap sort.c:20
-        addi a3, a5, 1936               # swap sort.c:20
+        addi a3, a5, 1456               # swap sort.c:20
         lw a5, -36(s0)                  # swap sort.c:20
         slli a5, a5, 0x2                # swap sort.c:20
         add a5, a3, a5                  # swap sort.c:20
         sw a4, 0(a5)                    # swap sort.c:20
         lui a5, 0x80000                 # swap sort.c:21
-        addi a4, a5, 1936               # swap sort.c:21
+        addi a4, a5, 1456               # swap sort.c:21
         lw a5, -40(s0)                  # swap sort.c:21
         slli a5, a5, 0x2                # swap sort.c:21
         add a5, a4, a5                  # swap sort.c:21
@@ -109,12 +109,12 @@ by_insertion$3:
         lw a5, -24(s0)                  # by_insertion sort.c:27
         addi a5, a5, -1                 # by_insertion sort.c:27
         lui a4, 0x80000                 # by_insertion sort.c:27
-        addi a4, a4, 1936               # by_insertion sort.c:27
+        addi a4, a4, 1456               # by_insertion sort.c:27
         slli a5, a5, 0x2                # by_insertion sort.c:27
         add a5, a4, a5                  # by_insertion sort.c:27
         lw a4, 0(a5)                    # by_insertion sort.c:27
         lui a5, 0x80000                 # by_insertion sort.c:27
-        addi a3, a5, 1936               # by_insertion sort.c:27
+        addi a3, a5, 1456               # by_insertion sort.c:27
         lw a5, -24(s0)                  # by_insertion sort.c:27
         slli a5, a5, 0x2                # by_insertion sort.c:27
         add a5, a3, a5                  # by_insertion sort.c:27
@@ -159,7 +159,7 @@ quicksort$1:
         srai a5, a5, 0x1                # quicksort sort.c:37
         mv a3, a5                       # quicksort sort.c:37
         lui a5, 0x80000                 # quicksort sort.c:37
-        addi a4, a5, 1936               # quicksort sort.c:37
+        addi a4, a5, 1456               # quicksort sort.c:37
         slli a5, a3, 0x2                # quicksort sort.c:37
         add a5, a4, a5                  # quicksort sort.c:37
         lw a5, 0(a5)                    # quicksort sort.c:37
@@ -175,7 +175,7 @@ quicksort$2:
         sw a5, -20(s0)                  # quicksort sort.c:41
 quicksort$3:
         lui a5, 0x80000                 # quicksort sort.c:40
-        addi a4, a5, 1936               # quicksort sort.c:40
+        addi a4, a5, 1456               # quicksort sort.c:40
         lw a5, -20(s0)                  # quicksort sort.c:40
         slli a5, a5, 0x2                # quicksort sort.c:40
         add a5, a4, a5                  # quicksort sort.c:40
@@ -189,7 +189,7 @@ quicksort$4:
         sw a5, -24(s0)                  # quicksort sort.c:43
 quicksort$5:
         lui a5, 0x80000                 # quicksort sort.c:42
-        addi a4, a5, 1936               # quicksort sort.c:42
+        addi a4, a5, 1456               # quicksort sort.c:42
         lw a5, -24(s0)                  # quicksort sort.c:42
         slli a5, a5, 0x2                # quicksort sort.c:42
         add a5, a4, a5                  # quicksort sort.c:42
@@ -241,7 +241,7 @@ sink$1:
         lw a4, -40(s0)                  # sink sort.c:55
         bge a5, a4, sink$2              # sink sort.c:55
         lui a5, 0x80000                 # sink sort.c:55
-        addi a4, a5, 1936               # sink sort.c:55
+        addi a4, a5, 1456               # sink sort.c:55
         lw a5, -20(s0)                  # sink sort.c:55
         slli a5, a5, 0x2                # sink sort.c:55
         add a5, a4, a5                  # sink sort.c:55
@@ -249,7 +249,7 @@ sink$1:
         lw a5, -20(s0)                  # sink sort.c:55
         addi a5, a5, 1                  # sink sort.c:55
         lui a3, 0x80000                 # sink sort.c:55
-        addi a3, a3, 1936               # sink sort.c:55
+        addi a3, a3, 1456               # sink sort.c:55
         slli a5, a5, 0x2                # sink sort.c:55
         add a5, a3, a5                  # sink sort.c:55
         lw a5, 0(a5)                    # sink sort.c:55
@@ -259,13 +259,13 @@ sink$1:
         sw a5, -20(s0)                  # sink sort.c:56
 sink$2:
         lui a5, 0x80000                 # sink sort.c:57
-        addi a4, a5, 1936               # sink sort.c:57
+        addi a4, a5, 1456               # sink sort.c:57
         lw a5, -36(s0)                  # sink sort.c:57
         slli a5, a5, 0x2                # sink sort.c:57
         add a5, a4, a5                  # sink sort.c:57
         lw a4, 0(a5)                    # sink sort.c:57
         lui a5, 0x80000                 # sink sort.c:57
-        addi a3, a5, 1936               # sink sort.c:57
+        addi a3, a5, 1456               # sink sort.c:57
         lw a5, -20(s0)                  # sink sort.c:57
         slli a5, a5, 0x2                # sink sort.c:57
         add a5, a3, a5                  # sink sort.c:57
@@ -339,7 +339,7 @@ sum:
         j sum$2                         # sum sort.c:77
 sum$1:
         lui a5, 0x80000                 # sum sort.c:78
-        addi a4, a5, 1936               # sum sort.c:78
+        addi a4, a5, 1456               # sum sort.c:78
         lw a5, -24(s0)                  # sum sort.c:78
         slli a5, a5, 0x2                # sum sort.c:78
         add a5, a4, a5                  # sum sort.c:78
@@ -399,140 +399,6 @@ main$2:
         lw s0, 24(sp)                   # main sort.c:94
         addi sp, sp, 32                 # main sort.c:94
         ret                             # main sort.c:94
-memcpy:
-        addi sp, sp, -48                # memcpy library.c:4
-        sw s0, 44(sp)                   # memcpy library.c:4
-        addi s0, sp, 48                 # memcpy library.c:4
-        sw a0, -36(s0)                  # memcpy library.c:4
-        sw a1, -40(s0)                  # memcpy library.c:4
-        sw a2, -44(s0)                  # memcpy library.c:4
-        lw a5, -36(s0)                  # memcpy library.c:5
-        sw a5, -24(s0)                  # memcpy library.c:5
-        lw a5, -40(s0)                  # memcpy library.c:6
-        sw a5, -28(s0)                  # memcpy library.c:6
-        sw zero, -20(s0)                # memcpy library.c:7
-        j memcpy$2                      # memcpy library.c:7
-memcpy$1:
-        lw a4, -28(s0)                  # memcpy library.c:8
-        lw a5, -20(s0)                  # memcpy library.c:8
-        add a4, a4, a5                  # memcpy library.c:8
-        lw a3, -24(s0)                  # memcpy library.c:8
-        lw a5, -20(s0)                  # memcpy library.c:8
-        add a5, a3, a5                  # memcpy library.c:8
-        lbu a4, 0(a4)                   # memcpy library.c:8
-        sb a4, 0(a5)                    # memcpy library.c:8
-        lw a5, -20(s0)                  # memcpy library.c:7
-        addi a5, a5, 1                  # memcpy library.c:7
-        sw a5, -20(s0)                  # memcpy library.c:7
-memcpy$2:
-        lw a4, -20(s0)                  # memcpy library.c:7
-        lw a5, -44(s0)                  # memcpy library.c:7
-        bltu a4, a5, memcpy$1           # memcpy library.c:7
-        lw a5, -36(s0)                  # memcpy library.c:9
-        mv a0, a5                       # memcpy library.c:10
-        lw s0, 44(sp)                   # memcpy library.c:10
-        addi sp, sp, 48                 # memcpy library.c:10
-        ret                             # memcpy library.c:10
-memset:
-        addi sp, sp, -48                # memset library.c:13
-        sw s0, 44(sp)                   # memset library.c:13
-        addi s0, sp, 48                 # memset library.c:13
-        sw a0, -36(s0)                  # memset library.c:13
-        sw a1, -40(s0)                  # memset library.c:13
-        sw a2, -44(s0)                  # memset library.c:13
-        lw a5, -36(s0)                  # memset library.c:14
-        sw a5, -24(s0)                  # memset library.c:14
-        sw zero, -20(s0)                # memset library.c:15
-        j memset$2                      # memset library.c:15
-memset$1:
-        lw a4, -24(s0)                  # memset library.c:16
-        lw a5, -20(s0)                  # memset library.c:16
-        add a5, a4, a5                  # memset library.c:16
-        lw a4, -40(s0)                  # memset library.c:16
-        andi a4, a4, 255                # memset library.c:16
-        sb a4, 0(a5)                    # memset library.c:16
-        lw a5, -20(s0)                  # memset library.c:15
-        addi a5, a5, 1                  # memset library.c:15
-        sw a5, -20(s0)                  # memset library.c:15
-memset$2:
-        lw a4, -20(s0)                  # memset library.c:15
-        lw a5, -44(s0)                  # memset library.c:15
-        bltu a4, a5, memset$1           # memset library.c:15
-        lw a5, -36(s0)                  # memset library.c:17
-        mv a0, a5                       # memset library.c:18
-        lw s0, 44(sp)                   # memset library.c:18
-        addi sp, sp, 48                 # memset library.c:18
-        ret                             # memset library.c:18
-memcmp:
-        addi sp, sp, -48                # memcmp library.c:21
-        sw s0, 44(sp)                   # memcmp library.c:21
-        addi s0, sp, 48                 # memcmp library.c:21
-        sw a0, -36(s0)                  # memcmp library.c:21
-        sw a1, -40(s0)                  # memcmp library.c:21
-        sw a2, -44(s0)                  # memcmp library.c:21
-        lw a5, -36(s0)                  # memcmp library.c:22
-        sw a5, -24(s0)                  # memcmp library.c:22
-        lw a5, -40(s0)                  # memcmp library.c:23
-        sw a5, -28(s0)                  # memcmp library.c:23
-        sw zero, -20(s0)                # memcmp library.c:24
-        j memcmp$3                      # memcmp library.c:24
-memcmp$1:
-        lw a4, -24(s0)                  # memcmp library.c:25
-        lw a5, -20(s0)                  # memcmp library.c:25
-        add a5, a4, a5                  # memcmp library.c:25
-        lbu a4, 0(a5)                   # memcmp library.c:25
-        lw a3, -28(s0)                  # memcmp library.c:25
-        lw a5, -20(s0)                  # memcmp library.c:25
-        add a5, a3, a5                  # memcmp library.c:25
-        lbu a5, 0(a5)                   # memcmp library.c:25
-        beq a4, a5, memcmp$2            # memcmp library.c:25
-        lw a4, -24(s0)                  # memcmp library.c:26
-        lw a5, -20(s0)                  # memcmp library.c:26
-        add a5, a4, a5                  # memcmp library.c:26
-        lbu a5, 0(a5)                   # memcmp library.c:26
-        mv a3, a5                       # memcmp library.c:26
-        lw a4, -28(s0)                  # memcmp library.c:26
-        lw a5, -20(s0)                  # memcmp library.c:26
-        add a5, a4, a5                  # memcmp library.c:26
-        lbu a5, 0(a5)                   # memcmp library.c:26
-        sub a5, a3, a5                  # memcmp library.c:26
-        j memcmp$4                      # memcmp library.c:26
-memcmp$2:
-        lw a5, -20(s0)                  # memcmp library.c:24
-        addi a5, a5, 1                  # memcmp library.c:24
-        sw a5, -20(s0)                  # memcmp library.c:24
-memcmp$3:
-        lw a4, -20(s0)                  # memcmp library.c:24
-        lw a5, -44(s0)                  # memcmp library.c:24
-        bltu a4, a5, memcmp$1           # memcmp library.c:24
-        li a5, 0                        # memcmp library.c:27
-memcmp$4:
-        mv a0, a5                       # memcmp library.c:28
-        lw s0, 44(sp)                   # memcmp library.c:28
-        addi sp, sp, 48                 # memcmp library.c:28
-        ret                             # memcmp library.c:28
-strlen:
-        addi sp, sp, -48                # strlen library.c:31
-        sw s0, 44(sp)                   # strlen library.c:31
-        addi s0, sp, 48                 # strlen library.c:31
-        sw a0, -36(s0)                  # strlen library.c:31
-        sw zero, -20(s0)                # strlen library.c:32
-        j strlen$2                      # strlen library.c:33
-strlen$1:
-        lw a5, -20(s0)                  # strlen library.c:34
-        addi a5, a5, 1                  # strlen library.c:34
-        sw a5, -20(s0)                  # strlen library.c:34
-strlen$2:
-        lw a4, -36(s0)                  # strlen library.c:33
-        lw a5, -20(s0)                  # strlen library.c:33
-        add a5, a4, a5                  # strlen library.c:33
-        lbu a5, 0(a5)                   # strlen library.c:33
-        bnez a5, strlen$1               # strlen library.c:33
-        lw a5, -20(s0)                  # strlen library.c:35
-        mv a0, a5                       # strlen library.c:36
-        lw s0, 44(sp)                   # strlen library.c:36
-        addi sp, sp, 48                 # strlen library.c:36
-        ret                             # strlen library.c:36
         .data
 numbers:
         .zero 512

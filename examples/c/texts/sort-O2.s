@@ -1,4 +1,4 @@
-# sort-O2.elf: 1144 bytes of text, 0 of data, 512 of zeros
+# sort-O2.elf: 984 bytes of text, 0 of data, 512 of zeros
 _start:
         auipc sp, 0x10                  # _start start.S:5
         mv sp, sp                       # _start start.S:5
@@ -7,7 +7,7 @@ _start:
 fill:
         lui a4, 0x80000                 # fill sort.c:11
         lui a5, 0x3                     # fill sort.c:10
-        addi a4, a4, 1152               # fill sort.c:10
+        addi a4, a4, 992                # fill sort.c:10
         addi a5, a5, 57                 # fill sort.c:10
         lui a2, 0x41c65                 # fill sort.c:12
         addi a0, a4, 512                # fill sort.c:12
@@ -26,7 +26,7 @@ sink:
         addi a4, a4, 1                  # sink sort.c:53
         bge a4, a1, sink$5              # sink sort.c:53
         lui a3, 0x80000                 # sink sort.c:57
-        addi a3, a3, 1152               # sink sort.c:57
+        addi a3, a3, 992                # sink sort.c:57
         sh2add a5, a0, a3               # sink sort.c:57
         lw a6, 0(a5)                    # sink sort.c:57
         j sink$3                        # sink sort.c:57
@@ -75,7 +75,7 @@ quicksort:
         bge a5, a4, quicksort$11        # quicksort sort.c:33
         lui s1, 0x80000                 # quicksort sort.c:33
         lui s3, 0x40000                 # quicksort sort.c:33
-        addi s1, s1, 1152               # quicksort sort.c:33
+        addi s1, s1, 992                # quicksort sort.c:33
         addi s3, s3, -1                 # quicksort sort.c:33
         li s2, 7                        # quicksort sort.c:33
 quicksort$1:
@@ -146,7 +146,7 @@ quicksort$11:
         addi a1, s0, 1                  # quicksort sort.c:26
         blt s4, a1, quicksort$16        # quicksort sort.c:26
         lui a0, 0x80000                 # quicksort sort.c:26
-        addi a0, a0, 1152               # quicksort sort.c:26
+        addi a0, a0, 992                # quicksort sort.c:26
         addi s4, s4, 1                  # quicksort sort.c:26
         sh2add a0, a1, a0               # quicksort sort.c:26
 quicksort$12:
@@ -188,7 +188,7 @@ main:
         sw s3, 12(sp)                   # main sort.c:83
         sw s5, 4(sp)                    # main sort.c:83
         sw s6, 0(sp)                    # main sort.c:83
-        addi s4, s4, 1152               # main sort.c:83
+        addi s4, s4, 992                # main sort.c:83
         jal fill                        # main sort.c:84
         addi a1, s4, 4                  # main sort.c:26
         li a2, 1                        # main sort.c:26
@@ -282,59 +282,6 @@ main$10:
         lw s6, 0(sp)                    # main sort.c:94
         addi sp, sp, 32                 # main sort.c:94
         ret                             # main sort.c:94
-memcpy:
-        beqz a2, memcpy$2               # memcpy library.c:7
-        mv a5, a0                       # memcpy library.c:7
-        add a2, a1, a2                  # memcpy library.c:7
-memcpy$1:
-        lbu a4, 0(a1)                   # memcpy library.c:8
-        addi a1, a1, 1                  # memcpy library.c:7
-        addi a5, a5, 1                  # memcpy library.c:7
-        sb a4, -1(a5)                   # memcpy library.c:8
-        bne a1, a2, memcpy$1            # memcpy library.c:7
-memcpy$2:
-        ret                             # memcpy library.c:10
-memset:
-        andi a1, a1, 255                # memset library.c:16
-        mv a5, a0                       # memset library.c:16
-        add a4, a2, a0                  # memset library.c:16
-        beqz a2, memset$2               # memset library.c:15
-memset$1:
-        sb a1, 0(a5)                    # memset library.c:16
-        addi a5, a5, 1                  # memset library.c:15
-        bne a5, a4, memset$1            # memset library.c:15
-memset$2:
-        ret                             # memset library.c:18
-memcmp:
-        beqz a2, memcmp$3               # memcmp library.c:24
-        add a2, a0, a2                  # memcmp library.c:24
-        j memcmp$2                      # memcmp library.c:24
-memcmp$1:
-        beq a0, a2, memcmp$3            # memcmp library.c:24
-memcmp$2:
-        lbu a5, 0(a0)                   # memcmp library.c:25
-        lbu a4, 0(a1)                   # memcmp library.c:25
-        addi a0, a0, 1                  # memcmp library.c:24
-        addi a1, a1, 1                  # memcmp library.c:24
-        beq a5, a4, memcmp$1            # memcmp library.c:25
-        sub a0, a5, a4                  # memcmp library.c:26
-        ret                             # memcmp library.c:26
-memcmp$3:
-        li a0, 0                        # memcmp library.c:27
-        ret                             # memcmp library.c:28
-strlen:
-        lbu a5, 0(a0)                   # strlen library.c:33
-        mv a4, a0                       # strlen library.c:31
-        li a0, 0                        # strlen library.c:32
-        beqz a5, strlen$2               # strlen library.c:33
-strlen$1:
-        addi a0, a0, 1                  # strlen library.c:34
-        add a5, a4, a0                  # strlen library.c:33
-        lbu a5, 0(a5)                   # strlen library.c:33
-        bnez a5, strlen$1               # strlen library.c:33
-        ret                             # strlen library.c:33
-strlen$2:
-        ret                             # strlen library.c:36
         .data
 numbers:
         .zero 512
