@@ -1,11 +1,9 @@
 # interpreter-O0.elf: 844 bytes of text, 168 of data, 0 of zeros
-_start:
-        auipc sp, 0x10                  # _start start.S:5
+_start: auipc sp, 0x10                  # _start start.S:5
         mv sp, sp                       # _start start.S:5
         jal main                        # _start start.S:6
         ebreak                          # _start start.S:7
-main:
-        addi sp, sp, -112               # main interpreter.c:22
+main:   addi sp, sp, -112               # main interpreter.c:22
         sw s0, 108(sp)                  # main interpreter.c:22
         addi s0, sp, 112                # main interpreter.c:22
         sw zero, -108(s0)               # main interpreter.c:23
@@ -17,8 +15,7 @@ main:
         lui a5, 0x80000                 # main interpreter.c:26
         addi a5, a5, 848                # main interpreter.c:26
         sw a5, -28(s0)                  # main interpreter.c:26
-main$1:
-        lw a5, -28(s0)                  # main interpreter.c:27
+main$1: lw a5, -28(s0)                  # main interpreter.c:27
         addi a4, a5, 2                  # main interpreter.c:27
         sw a4, -28(s0)                  # main interpreter.c:27
         lh a5, 0(a5)                    # main interpreter.c:27
@@ -191,11 +188,9 @@ main$1:
         addi a5, a5, 848                # main interpreter.c:36
         add a5, a4, a5                  # main interpreter.c:36
         j main$3                        # main interpreter.c:36
-main$2:
-        lw a5, -28(s0)                  # main interpreter.c:36
+main$2: lw a5, -28(s0)                  # main interpreter.c:36
         addi a5, a5, 2                  # main interpreter.c:36
-main$3:
-        sw a5, -28(s0)                  # main interpreter.c:36
+main$3: sw a5, -28(s0)                  # main interpreter.c:36
         j main$4                        # main interpreter.c:36
         lw a5, -24(s0)                  # main interpreter.c:37
         slli a4, a5, 0x10               # main interpreter.c:37
@@ -207,13 +202,11 @@ main$3:
         lw a5, -76(a5)                  # main interpreter.c:37
         xor a5, a4, a5                  # main interpreter.c:37
         j main$5                        # main interpreter.c:37
-main$4:
-        lw a5, -24(s0)                  # main interpreter.c:26
+main$4: lw a5, -24(s0)                  # main interpreter.c:26
         addi a5, a5, 1                  # main interpreter.c:26
         sw a5, -24(s0)                  # main interpreter.c:26
         j main$1                        # main interpreter.c:27
-main$5:
-        mv a0, a5                       # main interpreter.c:39
+main$5: mv a0, a5                       # main interpreter.c:39
         lw s0, 108(sp)                  # main interpreter.c:39
         addi sp, sp, 112                # main interpreter.c:39
         ret                             # main interpreter.c:39

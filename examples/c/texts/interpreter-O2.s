@@ -1,11 +1,9 @@
 # interpreter-O2.elf: 484 bytes of text, 168 of data, 0 of zeros
-_start:
-        auipc sp, 0x10                  # _start start.S:5
+_start: auipc sp, 0x10                  # _start start.S:5
         mv sp, sp                       # _start start.S:5
         jal main                        # _start start.S:6
         ebreak                          # _start start.S:7
-main:
-        addi sp, sp, -80                # main interpreter.c:22
+main:   addi sp, sp, -80                # main interpreter.c:22
         lui a4, 0x80000                 # main interpreter.c:26
         lui a6, 0x80000                 # main interpreter.c:26
         addi t1, a4, 536                # main interpreter.c:26
@@ -19,19 +17,16 @@ main:
         li a2, 0                        # main interpreter.c:24
         addi a6, a6, 496                # main interpreter.c:24
         li a7, 9                        # main interpreter.c:27
-main$1:
-        slli a3, a5, 0x10               # main interpreter.c:27
+main$1: slli a3, a5, 0x10               # main interpreter.c:27
         srli a3, a3, 0x10               # main interpreter.c:27
         addi a0, a4, 2                  # main interpreter.c:27
         bltu a7, a3, main$4             # main interpreter.c:27
         sh2add a5, a5, a6               # main interpreter.c:27
         lw a5, 0(a5)                    # main interpreter.c:27
         jr a5                           # main interpreter.c:27
-main$2:
-        lh a4, 2(a4)                    # main interpreter.c:36
+main$2: lh a4, 2(a4)                    # main interpreter.c:36
         sh1add a4, a4, t1               # main interpreter.c:36
-main$3:
-        lh a5, 0(a4)                    # main interpreter.c:27
+main$3: lh a5, 0(a4)                    # main interpreter.c:27
         addi a1, a1, 1                  # main interpreter.c:26
         j main$1                        # main interpreter.c:27
         addi t3, a2, -1                 # main interpreter.c:34
@@ -123,8 +118,7 @@ main$3:
         beqz a5, main$2                 # main interpreter.c:36
         addi a4, a4, 4                  # main interpreter.c:36
         j main$3                        # main interpreter.c:36
-main$4:
-        mv a4, a0                       # main interpreter.c:27
+main$4: mv a4, a0                       # main interpreter.c:27
         j main$3                        # main interpreter.c:27
         .data
         .word 0x80000188

@@ -1,20 +1,16 @@
 # matrix-O0.elf: 676 bytes of text, 0 of data, 6912 of zeros
-_start:
-        auipc sp, 0x10                  # _start start.S:5
+_start: auipc sp, 0x10                  # _start start.S:5
         mv sp, sp                       # _start start.S:5
         jal main                        # _start start.S:6
         ebreak                          # _start start.S:7
-main:
-        addi sp, sp, -64                # main matrix.c:9
+main:   addi sp, sp, -64                # main matrix.c:9
         sw s0, 60(sp)                   # main matrix.c:9
         addi s0, sp, 64                 # main matrix.c:9
         sw zero, -20(s0)                # main matrix.c:10
         j main$4                        # main matrix.c:10
-main$1:
-        sw zero, -24(s0)                # main matrix.c:11
+main$1: sw zero, -24(s0)                # main matrix.c:11
         j main$3                        # main matrix.c:11
-main$2:
-        lw a4, -20(s0)                  # main matrix.c:12
+main$2: lw a4, -20(s0)                  # main matrix.c:12
         mv a5, a4                       # main matrix.c:12
         slli a5, a5, 0x1                # main matrix.c:12
         add a3, a5, a4                  # main matrix.c:12
@@ -57,28 +53,23 @@ main$2:
         lw a5, -24(s0)                  # main matrix.c:11
         addi a5, a5, 1                  # main matrix.c:11
         sw a5, -24(s0)                  # main matrix.c:11
-main$3:
-        lw a4, -24(s0)                  # main matrix.c:11
+main$3: lw a4, -24(s0)                  # main matrix.c:11
         li a5, 23                       # main matrix.c:11
         bge a5, a4, main$2              # main matrix.c:11
         lw a5, -20(s0)                  # main matrix.c:10
         addi a5, a5, 1                  # main matrix.c:10
         sw a5, -20(s0)                  # main matrix.c:10
-main$4:
-        lw a4, -20(s0)                  # main matrix.c:10
+main$4: lw a4, -20(s0)                  # main matrix.c:10
         li a5, 23                       # main matrix.c:10
         bge a5, a4, main$1              # main matrix.c:10
         sw zero, -28(s0)                # main matrix.c:15
         j main$10                       # main matrix.c:15
-main$5:
-        sw zero, -32(s0)                # main matrix.c:16
+main$5: sw zero, -32(s0)                # main matrix.c:16
         j main$9                        # main matrix.c:16
-main$6:
-        sw zero, -36(s0)                # main matrix.c:17
+main$6: sw zero, -36(s0)                # main matrix.c:17
         sw zero, -40(s0)                # main matrix.c:18
         j main$8                        # main matrix.c:18
-main$7:
-        lui a5, 0x80000                 # main matrix.c:19
+main$7: lui a5, 0x80000                 # main matrix.c:19
         addi a3, a5, 688                # main matrix.c:19
         lw a4, -28(s0)                  # main matrix.c:19
         mv a5, a4                       # main matrix.c:19
@@ -109,8 +100,7 @@ main$7:
         lw a5, -40(s0)                  # main matrix.c:18
         addi a5, a5, 1                  # main matrix.c:18
         sw a5, -40(s0)                  # main matrix.c:18
-main$8:
-        lw a4, -40(s0)                  # main matrix.c:18
+main$8: lw a4, -40(s0)                  # main matrix.c:18
         li a5, 23                       # main matrix.c:18
         bge a5, a4, main$7              # main matrix.c:18
         lui a5, 0x80001                 # main matrix.c:20
@@ -129,25 +119,21 @@ main$8:
         lw a5, -32(s0)                  # main matrix.c:16
         addi a5, a5, 1                  # main matrix.c:16
         sw a5, -32(s0)                  # main matrix.c:16
-main$9:
-        lw a4, -32(s0)                  # main matrix.c:16
+main$9: lw a4, -32(s0)                  # main matrix.c:16
         li a5, 23                       # main matrix.c:16
         bge a5, a4, main$6              # main matrix.c:16
         lw a5, -28(s0)                  # main matrix.c:15
         addi a5, a5, 1                  # main matrix.c:15
         sw a5, -28(s0)                  # main matrix.c:15
-main$10:
-        lw a4, -28(s0)                  # main matrix.c:15
+main$10: lw a4, -28(s0)                 # main matrix.c:15
         li a5, 23                       # main matrix.c:15
         bge a5, a4, main$5              # main matrix.c:15
         sw zero, -44(s0)                # main matrix.c:22
         sw zero, -48(s0)                # main matrix.c:23
         j main$14                       # main matrix.c:23
-main$11:
-        sw zero, -52(s0)                # main matrix.c:24
+main$11: sw zero, -52(s0)               # main matrix.c:24
         j main$13                       # main matrix.c:24
-main$12:
-        lw a4, -44(s0)                  # main matrix.c:25
+main$12: lw a4, -44(s0)                 # main matrix.c:25
         mv a5, a4                       # main matrix.c:25
         slli a5, a5, 0x5                # main matrix.c:25
         sub a3, a5, a4                  # main matrix.c:25
@@ -168,15 +154,13 @@ main$12:
         lw a5, -52(s0)                  # main matrix.c:24
         addi a5, a5, 1                  # main matrix.c:24
         sw a5, -52(s0)                  # main matrix.c:24
-main$13:
-        lw a4, -52(s0)                  # main matrix.c:24
+main$13: lw a4, -52(s0)                 # main matrix.c:24
         li a5, 23                       # main matrix.c:24
         bge a5, a4, main$12             # main matrix.c:24
         lw a5, -48(s0)                  # main matrix.c:23
         addi a5, a5, 1                  # main matrix.c:23
         sw a5, -48(s0)                  # main matrix.c:23
-main$14:
-        lw a4, -48(s0)                  # main matrix.c:23
+main$14: lw a4, -48(s0)                 # main matrix.c:23
         li a5, 23                       # main matrix.c:23
         bge a5, a4, main$11             # main matrix.c:23
         lw a5, -44(s0)                  # main matrix.c:26

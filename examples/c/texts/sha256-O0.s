@@ -1,11 +1,9 @@
 # sha256-O0.elf: 2048 bytes of text, 352 of data, 32 of zeros
-_start:
-        auipc sp, 0x10                  # _start start.S:5
+_start: auipc sp, 0x10                  # _start start.S:5
         mv sp, sp                       # _start start.S:5
         jal main                        # _start start.S:6
         ebreak                          # _start start.S:7
-rotate:
-        addi sp, sp, -32                # rotate sha256.c:19
+rotate: addi sp, sp, -32                # rotate sha256.c:19
         sw s0, 28(sp)                   # rotate sha256.c:19
         addi s0, sp, 32                 # rotate sha256.c:19
         sw a0, -20(s0)                  # rotate sha256.c:19
@@ -22,8 +20,7 @@ rotate:
         lw s0, 28(sp)                   # rotate sha256.c:21
         addi sp, sp, 32                 # rotate sha256.c:21
         ret                             # rotate sha256.c:21
-digest_block:
-        addi sp, sp, -368               # digest_block sha256.c:24
+digest_block: addi sp, sp, -368         # digest_block sha256.c:24
         sw ra, 364(sp)                  # digest_block sha256.c:24
         sw s0, 360(sp)                  # digest_block sha256.c:24
         sw s1, 356(sp)                  # digest_block sha256.c:24
@@ -32,8 +29,7 @@ digest_block:
         sw a0, -356(s0)                 # digest_block sha256.c:24
         sw zero, -20(s0)                # digest_block sha256.c:26
         j digest_block$2                # digest_block sha256.c:26
-digest_block$1:
-        lw a5, -20(s0)                  # digest_block sha256.c:27
+digest_block$1: lw a5, -20(s0)          # digest_block sha256.c:27
         slli a5, a5, 0x2                # digest_block sha256.c:27
         mv a4, a5                       # digest_block sha256.c:27
         lw a5, -356(s0)                 # digest_block sha256.c:27
@@ -71,15 +67,13 @@ digest_block$1:
         lw a5, -20(s0)                  # digest_block sha256.c:26
         addi a5, a5, 1                  # digest_block sha256.c:26
         sw a5, -20(s0)                  # digest_block sha256.c:26
-digest_block$2:
-        lw a4, -20(s0)                  # digest_block sha256.c:26
+digest_block$2: lw a4, -20(s0)          # digest_block sha256.c:26
         li a5, 15                       # digest_block sha256.c:26
         bge a5, a4, digest_block$1      # digest_block sha256.c:26
         li a5, 16                       # digest_block sha256.c:28
         sw a5, -24(s0)                  # digest_block sha256.c:28
         j digest_block$4                # digest_block sha256.c:28
-digest_block$3:
-        lw a5, -24(s0)                  # digest_block sha256.c:29
+digest_block$3: lw a5, -24(s0)          # digest_block sha256.c:29
         addi a5, a5, -15                # digest_block sha256.c:29
         slli a5, a5, 0x2                # digest_block sha256.c:29
         addi a5, a5, -16                # digest_block sha256.c:29
@@ -140,8 +134,7 @@ digest_block$3:
         lw a5, -24(s0)                  # digest_block sha256.c:28
         addi a5, a5, 1                  # digest_block sha256.c:28
         sw a5, -24(s0)                  # digest_block sha256.c:28
-digest_block$4:
-        lw a4, -24(s0)                  # digest_block sha256.c:28
+digest_block$4: lw a4, -24(s0)          # digest_block sha256.c:28
         li a5, 63                       # digest_block sha256.c:28
         bge a5, a4, digest_block$3      # digest_block sha256.c:28
         addi a4, s0, -340               # digest_block sha256.c:33
@@ -152,8 +145,7 @@ digest_block$4:
         jal memcpy                      # digest_block sha256.c:33
         sw zero, -28(s0)                # digest_block sha256.c:34
         j digest_block$8                # digest_block sha256.c:34
-digest_block$5:
-        lw s1, -312(s0)                 # digest_block sha256.c:35
+digest_block$5: lw s1, -312(s0)         # digest_block sha256.c:35
         lw a5, -324(s0)                 # digest_block sha256.c:35
         li a1, 6                        # digest_block sha256.c:35
         mv a0, a5                       # digest_block sha256.c:35
@@ -226,8 +218,7 @@ digest_block$5:
         li a5, 7                        # digest_block sha256.c:38
         sw a5, -32(s0)                  # digest_block sha256.c:38
         j digest_block$7                # digest_block sha256.c:38
-digest_block$6:
-        lw a5, -32(s0)                  # digest_block sha256.c:39
+digest_block$6: lw a5, -32(s0)          # digest_block sha256.c:39
         addi a5, a5, -1                 # digest_block sha256.c:39
         slli a5, a5, 0x2                # digest_block sha256.c:39
         addi a5, a5, -16                # digest_block sha256.c:39
@@ -241,8 +232,7 @@ digest_block$6:
         lw a5, -32(s0)                  # digest_block sha256.c:38
         addi a5, a5, -1                 # digest_block sha256.c:38
         sw a5, -32(s0)                  # digest_block sha256.c:38
-digest_block$7:
-        lw a5, -32(s0)                  # digest_block sha256.c:38
+digest_block$7: lw a5, -32(s0)          # digest_block sha256.c:38
         bgtz a5, digest_block$6         # digest_block sha256.c:38
         lw a4, -324(s0)                 # digest_block sha256.c:40
         lw a5, -40(s0)                  # digest_block sha256.c:40
@@ -255,14 +245,12 @@ digest_block$7:
         lw a5, -28(s0)                  # digest_block sha256.c:34
         addi a5, a5, 1                  # digest_block sha256.c:34
         sw a5, -28(s0)                  # digest_block sha256.c:34
-digest_block$8:
-        lw a4, -28(s0)                  # digest_block sha256.c:34
+digest_block$8: lw a4, -28(s0)          # digest_block sha256.c:34
         li a5, 63                       # digest_block sha256.c:34
         bge a5, a4, digest_block$5      # digest_block sha256.c:34
         sw zero, -36(s0)                # digest_block sha256.c:43
         j digest_block$10               # digest_block sha256.c:43
-digest_block$9:
-        lui a5, 0x80001                 # digest_block sha256.c:44
+digest_block$9: lui a5, 0x80001         # digest_block sha256.c:44
         addi a4, a5, -1696              # digest_block sha256.c:44
         lw a5, -36(s0)                  # digest_block sha256.c:44
         slli a5, a5, 0x2                # digest_block sha256.c:44
@@ -283,8 +271,7 @@ digest_block$9:
         lw a5, -36(s0)                  # digest_block sha256.c:43
         addi a5, a5, 1                  # digest_block sha256.c:43
         sw a5, -36(s0)                  # digest_block sha256.c:43
-digest_block$10:
-        lw a4, -36(s0)                  # digest_block sha256.c:43
+digest_block$10: lw a4, -36(s0)         # digest_block sha256.c:43
         li a5, 7                        # digest_block sha256.c:43
         bge a5, a4, digest_block$9      # digest_block sha256.c:43
         nop                             # digest_block sha256.c:45
@@ -295,8 +282,7 @@ digest_block$10:
         lw s2, 352(sp)                  # digest_block sha256.c:45
         addi sp, sp, 368                # digest_block sha256.c:45
         ret                             # digest_block sha256.c:45
-digest:
-        addi sp, sp, -176               # digest sha256.c:48
+digest: addi sp, sp, -176               # digest sha256.c:48
         sw ra, 172(sp)                  # digest sha256.c:48
         sw s0, 168(sp)                  # digest sha256.c:48
         addi s0, sp, 176                # digest sha256.c:48
@@ -309,10 +295,8 @@ digest:
         bltu a5, a4, digest$1           # digest sha256.c:53
         li a5, 64                       # digest sha256.c:53
         j digest$2                      # digest sha256.c:53
-digest$1:
-        li a5, 128                      # digest sha256.c:53
-digest$2:
-        sw a5, -28(s0)                  # digest sha256.c:53
+digest$1: li a5, 128                    # digest sha256.c:53
+digest$2: sw a5, -28(s0)                # digest sha256.c:53
         addi a5, s0, -156               # digest sha256.c:54
         li a2, 128                      # digest sha256.c:54
         li a1, 0                        # digest sha256.c:54
@@ -354,8 +338,7 @@ digest$2:
         jal memcpy                      # digest sha256.c:59
         sw zero, -20(s0)                # digest sha256.c:60
         j digest$4                      # digest sha256.c:60
-digest$3:
-        addi a4, s0, -156               # digest sha256.c:61
+digest$3: addi a4, s0, -156             # digest sha256.c:61
         lw a5, -20(s0)                  # digest sha256.c:61
         add a5, a4, a5                  # digest sha256.c:61
         mv a0, a5                       # digest sha256.c:61
@@ -363,8 +346,7 @@ digest$3:
         lw a5, -20(s0)                  # digest sha256.c:60
         addi a5, a5, 64                 # digest sha256.c:60
         sw a5, -20(s0)                  # digest sha256.c:60
-digest$4:
-        lw a4, -20(s0)                  # digest sha256.c:60
+digest$4: lw a4, -20(s0)                # digest sha256.c:60
         lw a5, -28(s0)                  # digest sha256.c:60
         bltu a4, a5, digest$3           # digest sha256.c:60
         nop                             # digest sha256.c:62
@@ -373,8 +355,7 @@ digest$4:
         lw s0, 168(sp)                  # digest sha256.c:62
         addi sp, sp, 176                # digest sha256.c:62
         ret                             # digest sha256.c:62
-main:
-        addi sp, sp, -32                # main sha256.c:65
+main:   addi sp, sp, -32                # main sha256.c:65
         sw ra, 28(sp)                   # main sha256.c:65
         sw s0, 24(sp)                   # main sha256.c:65
         addi s0, sp, 32                 # main sha256.c:65
@@ -394,14 +375,11 @@ main:
         lui a5, 0xf2001                 # main sha256.c:68
         addi a5, a5, 1453               # main sha256.c:68
         beq a4, a5, main$2              # main sha256.c:68
-main$1:
-        li a5, -1                       # main sha256.c:69
+main$1: li a5, -1                       # main sha256.c:69
         j main$9                        # main sha256.c:69
-main$2:
-        sw zero, -24(s0)                # main sha256.c:70
+main$2: sw zero, -24(s0)                # main sha256.c:70
         j main$4                        # main sha256.c:70
-main$3:
-        lui a5, 0x80001                 # main sha256.c:71
+main$3: lui a5, 0x80001                 # main sha256.c:71
         addi a4, a5, -1696              # main sha256.c:71
         lw a5, -24(s0)                  # main sha256.c:71
         slli a5, a5, 0x2                # main sha256.c:71
@@ -413,8 +391,7 @@ main$3:
         lw a5, -24(s0)                  # main sha256.c:70
         addi a5, a5, 1                  # main sha256.c:70
         sw a5, -24(s0)                  # main sha256.c:70
-main$4:
-        lw a4, -24(s0)                  # main sha256.c:70
+main$4: lw a4, -24(s0)                  # main sha256.c:70
         li a5, 7                        # main sha256.c:70
         bge a5, a4, main$3              # main sha256.c:70
         lui a5, 0x80001                 # main sha256.c:72
@@ -432,14 +409,11 @@ main$4:
         lui a5, 0x19db0                 # main sha256.c:73
         addi a5, a5, 1729               # main sha256.c:73
         beq a4, a5, main$6              # main sha256.c:73
-main$5:
-        li a5, -1                       # main sha256.c:74
+main$5: li a5, -1                       # main sha256.c:74
         j main$9                        # main sha256.c:74
-main$6:
-        sw zero, -28(s0)                # main sha256.c:75
+main$6: sw zero, -28(s0)                # main sha256.c:75
         j main$8                        # main sha256.c:75
-main$7:
-        lui a5, 0x80001                 # main sha256.c:76
+main$7: lui a5, 0x80001                 # main sha256.c:76
         addi a4, a5, -1696              # main sha256.c:76
         lw a5, -28(s0)                  # main sha256.c:76
         slli a5, a5, 0x2                # main sha256.c:76
@@ -451,19 +425,16 @@ main$7:
         lw a5, -28(s0)                  # main sha256.c:75
         addi a5, a5, 1                  # main sha256.c:75
         sw a5, -28(s0)                  # main sha256.c:75
-main$8:
-        lw a4, -28(s0)                  # main sha256.c:75
+main$8: lw a4, -28(s0)                  # main sha256.c:75
         li a5, 7                        # main sha256.c:75
         bge a5, a4, main$7              # main sha256.c:75
         lw a5, -20(s0)                  # main sha256.c:77
-main$9:
-        mv a0, a5                       # main sha256.c:78
+main$9: mv a0, a5                       # main sha256.c:78
         lw ra, 28(sp)                   # main sha256.c:78
         lw s0, 24(sp)                   # main sha256.c:78
         addi sp, sp, 32                 # main sha256.c:78
         ret                             # main sha256.c:78
-memcpy:
-        addi sp, sp, -48                # memcpy library.c:4
+memcpy: addi sp, sp, -48                # memcpy library.c:4
         sw s0, 44(sp)                   # memcpy library.c:4
         addi s0, sp, 48                 # memcpy library.c:4
         sw a0, -36(s0)                  # memcpy library.c:4
@@ -475,8 +446,7 @@ memcpy:
         sw a5, -28(s0)                  # memcpy library.c:6
         sw zero, -20(s0)                # memcpy library.c:7
         j memcpy$2                      # memcpy library.c:7
-memcpy$1:
-        lw a4, -28(s0)                  # memcpy library.c:8
+memcpy$1: lw a4, -28(s0)                # memcpy library.c:8
         lw a5, -20(s0)                  # memcpy library.c:8
         add a4, a4, a5                  # memcpy library.c:8
         lw a3, -24(s0)                  # memcpy library.c:8
@@ -487,8 +457,7 @@ memcpy$1:
         lw a5, -20(s0)                  # memcpy library.c:7
         addi a5, a5, 1                  # memcpy library.c:7
         sw a5, -20(s0)                  # memcpy library.c:7
-memcpy$2:
-        lw a4, -20(s0)                  # memcpy library.c:7
+memcpy$2: lw a4, -20(s0)                # memcpy library.c:7
         lw a5, -44(s0)                  # memcpy library.c:7
         bltu a4, a5, memcpy$1           # memcpy library.c:7
         lw a5, -36(s0)                  # memcpy library.c:9
@@ -496,8 +465,7 @@ memcpy$2:
         lw s0, 44(sp)                   # memcpy library.c:10
         addi sp, sp, 48                 # memcpy library.c:10
         ret                             # memcpy library.c:10
-memset:
-        addi sp, sp, -48                # memset library.c:13
+memset: addi sp, sp, -48                # memset library.c:13
         sw s0, 44(sp)                   # memset library.c:13
         addi s0, sp, 48                 # memset library.c:13
         sw a0, -36(s0)                  # memset library.c:13
@@ -507,8 +475,7 @@ memset:
         sw a5, -24(s0)                  # memset library.c:14
         sw zero, -20(s0)                # memset library.c:15
         j memset$2                      # memset library.c:15
-memset$1:
-        lw a4, -24(s0)                  # memset library.c:16
+memset$1: lw a4, -24(s0)                # memset library.c:16
         lw a5, -20(s0)                  # memset library.c:16
         add a5, a4, a5                  # memset library.c:16
         lw a4, -40(s0)                  # memset library.c:16
@@ -517,8 +484,7 @@ memset$1:
         lw a5, -20(s0)                  # memset library.c:15
         addi a5, a5, 1                  # memset library.c:15
         sw a5, -20(s0)                  # memset library.c:15
-memset$2:
-        lw a4, -20(s0)                  # memset library.c:15
+memset$2: lw a4, -20(s0)                # memset library.c:15
         lw a5, -44(s0)                  # memset library.c:15
         bltu a4, a5, memset$1           # memset library.c:15
         lw a5, -36(s0)                  # memset library.c:17
@@ -526,19 +492,16 @@ memset$2:
         lw s0, 44(sp)                   # memset library.c:18
         addi sp, sp, 48                 # memset library.c:18
         ret                             # memset library.c:18
-strlen:
-        addi sp, sp, -48                # strlen library.c:31
+strlen: addi sp, sp, -48                # strlen library.c:31
         sw s0, 44(sp)                   # strlen library.c:31
         addi s0, sp, 48                 # strlen library.c:31
         sw a0, -36(s0)                  # strlen library.c:31
         sw zero, -20(s0)                # strlen library.c:32
         j strlen$2                      # strlen library.c:33
-strlen$1:
-        lw a5, -20(s0)                  # strlen library.c:34
+strlen$1: lw a5, -20(s0)                # strlen library.c:34
         addi a5, a5, 1                  # strlen library.c:34
         sw a5, -20(s0)                  # strlen library.c:34
-strlen$2:
-        lw a4, -36(s0)                  # strlen library.c:33
+strlen$2: lw a4, -36(s0)                # strlen library.c:33
         lw a5, -20(s0)                  # strlen library.c:33
         add a5, a4, a5                  # strlen library.c:33
         lbu a5, 0(a5)                   # strlen library.c:33

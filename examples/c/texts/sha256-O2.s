@@ -1,11 +1,9 @@
 # sha256-O2.elf: 1180 bytes of text, 352 of data, 32 of zeros
-_start:
-        auipc sp, 0x10                  # _start start.S:5
+_start: auipc sp, 0x10                  # _start start.S:5
         mv sp, sp                       # _start start.S:5
         jal main                        # _start start.S:6
         ebreak                          # _start start.S:7
-digest:
-        addi sp, sp, -496               # digest sha256.c:48
+digest: addi sp, sp, -496               # digest sha256.c:48
         sw s0, 488(sp)                  # digest sha256.c:48
         sw s1, 484(sp)                  # digest sha256.c:48
         sw s2, 480(sp)                  # digest sha256.c:48
@@ -26,8 +24,7 @@ digest:
         li s2, 128                      # digest sha256.c:53
         bltu a5, a0, digest$1           # digest sha256.c:53
         li s2, 64                       # digest sha256.c:53
-digest$1:
-        li a2, 128                      # digest sha256.c:54
+digest$1: li a2, 128                    # digest sha256.c:54
         li a1, 0                        # digest sha256.c:54
         addi a0, sp, 48                 # digest sha256.c:54
         jal memset                      # digest sha256.c:54
@@ -67,12 +64,10 @@ digest$1:
         addi s7, s7, 1568               # digest sha256.c:60
         addi s5, sp, 372                # digest sha256.c:60
         addi s4, s4, 288                # digest sha256.c:60
-digest$2:
-        addi s0, sp, 176                # digest sha256.c:26
+digest$2: addi s0, sp, 176              # digest sha256.c:26
         mv a3, s0                       # digest sha256.c:60
         mv a4, s8                       # digest sha256.c:60
-digest$3:
-        lbu a5, 0(a4)                   # digest sha256.c:27
+digest$3: lbu a5, 0(a4)                 # digest sha256.c:27
         lbu a1, 1(a4)                   # digest sha256.c:27
         lbu a0, 3(a4)                   # digest sha256.c:27
         lbu a2, 2(a4)                   # digest sha256.c:27
@@ -95,8 +90,7 @@ digest$3:
         lw a6, 236(sp)                  # digest sha256.c:26
         lw a3, 176(sp)                  # digest sha256.c:26
         addi a1, sp, 180                # digest sha256.c:26
-digest$4:
-        mv t6, a3                       # digest sha256.c:29
+digest$4: mv t6, a3                     # digest sha256.c:29
         lw a3, 0(a1)                    # digest sha256.c:29
         srli t2, a2, 0x13               # digest sha256.c:20
         slli a4, a2, 0xf                # digest sha256.c:20
@@ -137,8 +131,7 @@ digest$4:
         lw t3, 16(sp)                   # digest sha256.c:37
         lw a6, 12(sp)                   # digest sha256.c:37
         mv t1, a5                       # digest sha256.c:37
-digest$5:
-        lw a2, 0(a6)                    # digest sha256.c:35
+digest$5: lw a2, 0(a6)                  # digest sha256.c:35
         lw t2, 0(s0)                    # digest sha256.c:35
         srli t0, t1, 0x19               # digest sha256.c:20
         slli a7, t1, 0x7                # digest sha256.c:20
@@ -182,8 +175,7 @@ digest$5:
         add a5, a5, a3                  # digest sha256.c:37
         mv a2, s3                       # digest sha256.c:38
         addi a3, sp, 44                 # digest sha256.c:38
-digest$6:
-        lw a1, -4(a3)                   # digest sha256.c:39
+digest$6: lw a1, -4(a3)                 # digest sha256.c:39
         addi a3, a3, -4                 # digest sha256.c:38
         sw a1, 4(a3)                    # digest sha256.c:39
         bne s3, a3, digest$6            # digest sha256.c:38
@@ -197,8 +189,7 @@ digest$6:
         bne a6, s4, digest$5            # digest sha256.c:34
         lui a5, 0x80000                 # digest sha256.c:34
         addi a5, a5, 1536               # digest sha256.c:34
-digest$7:
-        lw a4, 0(a5)                    # digest sha256.c:44
+digest$7: lw a4, 0(a5)                  # digest sha256.c:44
         lw a3, 0(a2)                    # digest sha256.c:44
         addi a5, a5, 4                  # digest sha256.c:43
         addi a2, a2, 4                  # digest sha256.c:43
@@ -224,8 +215,7 @@ digest$7:
         lw s11, 444(sp)                 # digest sha256.c:62
         addi sp, sp, 496                # digest sha256.c:62
         ret                             # digest sha256.c:62
-main:
-        lui a0, 0x80000                 # main sha256.c:67
+main:   lui a0, 0x80000                 # main sha256.c:67
         addi sp, sp, -32                # main sha256.c:65
         addi a0, a0, 1184               # main sha256.c:67
         sw s3, 12(sp)                   # main sha256.c:65
@@ -248,8 +238,7 @@ main:
         addi s2, s3, 32                 # main sha256.c:68
         addi a5, a5, 1536               # main sha256.c:68
         li s0, 0                        # main sha256.c:66
-main$1:
-        lw a4, 0(a5)                    # main sha256.c:71
+main$1: lw a4, 0(a5)                    # main sha256.c:71
         addi a5, a5, 4                  # main sha256.c:70
         xor s0, s0, a4                  # main sha256.c:71
         bne a5, s2, main$1              # main sha256.c:70
@@ -264,59 +253,47 @@ main$1:
         lui a5, 0x19db0                 # main sha256.c:73
         addi a5, a5, 1729               # main sha256.c:73
         bne a4, a5, main$4              # main sha256.c:73
-main$2:
-        lw a5, 0(s1)                    # main sha256.c:76
+main$2: lw a5, 0(s1)                    # main sha256.c:76
         addi s1, s1, 4                  # main sha256.c:75
         xor s0, s0, a5                  # main sha256.c:76
         bne s1, s2, main$2              # main sha256.c:75
         mv a0, s0                       # main sha256.c:77
-main$3:
-        lw ra, 28(sp)                   # main sha256.c:78
+main$3: lw ra, 28(sp)                   # main sha256.c:78
         lw s0, 24(sp)                   # main sha256.c:78
         lw s1, 20(sp)                   # main sha256.c:78
         lw s2, 16(sp)                   # main sha256.c:78
         lw s3, 12(sp)                   # main sha256.c:78
         addi sp, sp, 32                 # main sha256.c:78
         ret                             # main sha256.c:78
-main$4:
-        li a0, -1                       # main sha256.c:69
+main$4: li a0, -1                       # main sha256.c:69
         j main$3                        # main sha256.c:69
-memcpy:
-        beqz a2, memcpy$2               # memcpy library.c:7
+memcpy: beqz a2, memcpy$2               # memcpy library.c:7
         mv a5, a0                       # memcpy library.c:7
         add a2, a1, a2                  # memcpy library.c:7
-memcpy$1:
-        lbu a4, 0(a1)                   # memcpy library.c:8
+memcpy$1: lbu a4, 0(a1)                 # memcpy library.c:8
         addi a1, a1, 1                  # memcpy library.c:7
         addi a5, a5, 1                  # memcpy library.c:7
         sb a4, -1(a5)                   # memcpy library.c:8
         bne a1, a2, memcpy$1            # memcpy library.c:7
-memcpy$2:
-        ret                             # memcpy library.c:10
-memset:
-        andi a1, a1, 255                # memset library.c:16
+memcpy$2: ret                           # memcpy library.c:10
+memset: andi a1, a1, 255                # memset library.c:16
         mv a5, a0                       # memset library.c:16
         add a4, a2, a0                  # memset library.c:16
         beqz a2, memset$2               # memset library.c:15
-memset$1:
-        sb a1, 0(a5)                    # memset library.c:16
+memset$1: sb a1, 0(a5)                  # memset library.c:16
         addi a5, a5, 1                  # memset library.c:15
         bne a5, a4, memset$1            # memset library.c:15
-memset$2:
-        ret                             # memset library.c:18
-strlen:
-        lbu a5, 0(a0)                   # strlen library.c:33
+memset$2: ret                           # memset library.c:18
+strlen: lbu a5, 0(a0)                   # strlen library.c:33
         mv a4, a0                       # strlen library.c:31
         li a0, 0                        # strlen library.c:32
         beqz a5, strlen$2               # strlen library.c:33
-strlen$1:
-        addi a0, a0, 1                  # strlen library.c:34
+strlen$1: addi a0, a0, 1                # strlen library.c:34
         add a5, a4, a0                  # strlen library.c:33
         lbu a5, 0(a5)                   # strlen library.c:33
         bnez a5, strlen$1               # strlen library.c:33
         ret                             # strlen library.c:33
-strlen$2:
-        ret                             # strlen library.c:36
+strlen$2: ret                           # strlen library.c:36
         .data
         .word 0x636261
         .word 0x64636261

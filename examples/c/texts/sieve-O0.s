@@ -1,11 +1,9 @@
 # sieve-O0.elf: 240 bytes of text, 0 of data, 4000 of zeros
-_start:
-        auipc sp, 0x10                  # _start start.S:5
+_start: auipc sp, 0x10                  # _start start.S:5
         mv sp, sp                       # _start start.S:5
         jal main                        # _start start.S:6
         ebreak                          # _start start.S:7
-main:
-        addi sp, sp, -32                # main sieve.c:9
+main:   addi sp, sp, -32                # main sieve.c:9
         sw s0, 28(sp)                   # main sieve.c:9
         addi s0, sp, 32                 # main sieve.c:9
         sw zero, -20(s0)                # main sieve.c:10
@@ -13,8 +11,7 @@ main:
         li a5, 2                        # main sieve.c:11
         sw a5, -28(s0)                  # main sieve.c:11
         j main$6                        # main sieve.c:11
-main$1:
-        lui a5, 0x80000                 # main sieve.c:12
+main$1: lui a5, 0x80000                 # main sieve.c:12
         addi a4, a5, 240                # main sieve.c:12
         lw a5, -28(s0)                  # main sieve.c:12
         add a5, a4, a5                  # main sieve.c:12
@@ -31,8 +28,7 @@ main$1:
         mul a5, a5, a5                  # main sieve.c:16
         sw a5, -32(s0)                  # main sieve.c:16
         j main$3                        # main sieve.c:16
-main$2:
-        lui a5, 0x80000                 # main sieve.c:17
+main$2: lui a5, 0x80000                 # main sieve.c:17
         addi a4, a5, 240                # main sieve.c:17
         lw a5, -32(s0)                  # main sieve.c:17
         add a5, a4, a5                  # main sieve.c:17
@@ -42,20 +38,16 @@ main$2:
         lw a5, -28(s0)                  # main sieve.c:16
         add a5, a4, a5                  # main sieve.c:16
         sw a5, -32(s0)                  # main sieve.c:16
-main$3:
-        lw a4, -32(s0)                  # main sieve.c:16
+main$3: lw a4, -32(s0)                  # main sieve.c:16
         lui a5, 0x1                     # main sieve.c:16
         addi a5, a5, -97                # main sieve.c:16
         bge a5, a4, main$2              # main sieve.c:16
         j main$5                        # main sieve.c:16
-main$4:
-        nop                             # main sieve.c:13
-main$5:
-        lw a5, -28(s0)                  # main sieve.c:11
+main$4: nop                             # main sieve.c:13
+main$5: lw a5, -28(s0)                  # main sieve.c:11
         addi a5, a5, 1                  # main sieve.c:11
         sw a5, -28(s0)                  # main sieve.c:11
-main$6:
-        lw a4, -28(s0)                  # main sieve.c:11
+main$6: lw a4, -28(s0)                  # main sieve.c:11
         lui a5, 0x1                     # main sieve.c:11
         addi a5, a5, -97                # main sieve.c:11
         bge a5, a4, main$1              # main sieve.c:11
