@@ -241,7 +241,7 @@ fn check_illegal(rt: &impl Abort, word: u32) {
 
 #[test]
 fn words_in_no_row_are_illegal(rt: HostRuntime) {
-    const ILLEGAL: [u32; 28] = [
+    const ILLEGAL: [u32; 29] = [
         0x0000_0000, // all zeros
         0xffff_ffff, // all ones
         0x0000_0001, // c.nop
@@ -270,6 +270,7 @@ fn words_in_no_row_are_illegal(rt: HostRuntime) {
         0x1020_0073, // sret
         0x3020_00f3, // mret with rd x1
         0x1050_8073, // wfi with rs1 x1
+        0x1040_0073, // sfence.vm
     ];
     for word in &ILLEGAL {
         check_illegal(&rt, *word);

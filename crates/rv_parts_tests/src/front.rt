@@ -20,6 +20,9 @@ const BRANCH_FORWARD: u32 = 0x0000_0463;
 
 const BRANCH_BACKWARD: u32 = 0xfe00_0ee3;
 
+// `beq x0,x0` by 4, which goes on at the next word where it is taken, too
+const BRANCH_TO_THE_NEXT: u32 = 0x0000_0263;
+
 // `jal x0` by 8, and `jalr x0,0(x1)`
 const JAL: u32 = 0x0080_006f;
 
@@ -46,6 +49,26 @@ fn a_bimodal_counter_learns_from_branches_alone(rt: HostRuntime) -> Result<(), F
     check_equal(&rt, predictor.predict(BASE, BRANCH_FORWARD), BASE + 4);
     predictor.learn(BASE, JAL, BASE + 8);
     check_equal(&rt, predictor.predict(BASE, BRANCH_FORWARD), BASE + 4);
+    Ok(())
+}
+
+#[test]
+fn a_branch_to_the_next_word_counts_down(rt: HostRuntime) -> Result<(), Fail> {
+    let mut predictor = Bimodal::new(rt.alloc(), 64)?;
+    predictor.learn(BASE, BRANCH_TO_THE_NEXT, BASE + 4);
+    predictor.learn(BASE, BRANCH_FORWARD, BASE + 8);
+    check_equal(&rt, predictor.predict(BASE, BRANCH_FORWARD), BASE + 4);
+    predictor.learn(BASE, BRANCH_FORWARD, BASE + 8);
+    check_equal(&rt, predictor.predict(BASE, BRANCH_FORWARD), BASE + 8);
+    Ok(())
+}
+
+#[test]
+fn words_beside_each_other_have_counters_of_their_own(rt: HostRuntime) -> Result<(), Fail> {
+    let mut predictor = Bimodal::new(rt.alloc(), 2)?;
+    predictor.learn(BASE, BRANCH_FORWARD, BASE + 8);
+    check_equal(&rt, predictor.predict(BASE + 4, BRANCH_FORWARD), BASE + 8);
+    check_equal(&rt, predictor.predict(BASE + 8, BRANCH_FORWARD), BASE + 16);
     Ok(())
 }
 

@@ -76,6 +76,16 @@ fn each_register_stands_at_its_address(rt: HostRuntime) {
     }
 }
 
+// Privileged Architecture 20211203, 3.1.13, 3.1.15 and 3.1.16: all 32 bits are kept.
+#[test]
+fn some_registers_keep_each_bit(rt: HostRuntime) {
+    for address in [0x340, 0x342, 0x343] {
+        let mut csrs = Csrs::reset();
+        write(&rt, &mut csrs, address, 0xffff_ffff);
+        check_equal_at(&rt, address, csrs.read(address, LOW), Some(0xffff_ffff));
+    }
+}
+
 // mtvec's low bit makes interrupts alone go to a place of their own, four bytes a code.
 #[test]
 fn vectored_mode_is_for_interrupts(rt: HostRuntime) {

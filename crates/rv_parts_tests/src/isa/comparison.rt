@@ -2,18 +2,21 @@ use crate::checks::check_equal;
 use rv_isa::{Condition, branch_taken};
 
 // Unprivileged ISA 20191213, 2.5: of -1 (or 2^32 - 1) and 1, of 1 and -1,
-// of 5 and 5, and of 2 and 3.
+// of 5 and 5, of 2 and 3, and of the least number (or 2^31) and 0.
 #[test]
 fn each_condition_tells_signed_from_unsigned(rt: HostRuntime) {
-    const CASES: [(Condition, [bool; 4]); 6] = [
-        (Condition::Equal, [false, false, true, false]),
-        (Condition::NotEqual, [true, true, false, true]),
-        (Condition::LessThan, [true, false, false, true]),
-        (Condition::GreaterOrEqual, [false, true, true, false]),
-        (Condition::LessThanUnsigned, [false, true, false, true]),
+    const CASES: [(Condition, [bool; 5]); 6] = [
+        (Condition::Equal, [false, false, true, false, false]),
+        (Condition::NotEqual, [true, true, false, true, true]),
+        (Condition::LessThan, [true, false, false, true, true]),
+        (Condition::GreaterOrEqual, [false, true, true, false, false]),
+        (
+            Condition::LessThanUnsigned,
+            [false, true, false, true, false],
+        ),
         (
             Condition::GreaterOrEqualUnsigned,
-            [true, false, true, false],
+            [true, false, true, false, true],
         ),
     ];
     for (condition, taken) in &CASES {
@@ -22,6 +25,7 @@ fn each_condition_tells_signed_from_unsigned(rt: HostRuntime) {
             branch_taken(*condition, 1, 0xffff_ffff),
             branch_taken(*condition, 5, 5),
             branch_taken(*condition, 2, 3),
+            branch_taken(*condition, 0x8000_0000, 0),
         ];
         check_equal(&rt, (*condition, found), (*condition, *taken));
     }
