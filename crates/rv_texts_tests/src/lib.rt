@@ -11,6 +11,8 @@ mod command;
 #[cfg(test)]
 mod describe;
 #[cfg(test)]
+mod errors;
+#[cfg(test)]
 mod job;
 #[cfg(test)]
 mod source;

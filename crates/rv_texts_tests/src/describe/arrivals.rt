@@ -106,16 +106,9 @@ fn fault_of_list(alloc: Global, count: usize) -> Result<Option<ArrivalsError>, F
 
 #[test]
 fn a_list_has_at_most_a_hundred_thousand_entries(rt: HostRuntime) -> Result<(), Fail> {
-    assert_eq!(rt; fault_of_list(rt.alloc(), 100_000)?, None);
+    // The fault names the entry behind the last one that there may be.
     let fault = Some(OutOfRange { entry: 100_001 });
     assert_eq!(rt; fault_of_list(rt.alloc(), 100_001)?, fault);
-    Ok(())
-}
-
-#[test]
-fn a_fault_is_shown_with_its_entry(rt: HostRuntime) -> Result<(), Fail> {
-    let shown = WrongKind { entry: 12 }.to_string(rt.alloc())?;
-    assert_eq!(rt; shown.as_str(), "WrongKind 12");
     Ok(())
 }
 
