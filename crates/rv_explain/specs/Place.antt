@@ -1,5 +1,5 @@
 -- A place in a program, with the line of its text.
-use Rattle.std.specs.Prelude.{ℕ, List, ◌++◌, codes, decimal, Option, Some, None}
+use Rattle.std.specs.Prelude.{ℕ, List, ◌++◌, codes, decimal, take, Option, Some, None}
 use Rattle.rv_source.specs.Listing.{Line, Listed, line_at}
 use Rattle.rv_text.specs.Line.{word_text}
 use Rattle.rv_text.specs.Plain.{plain_text}
@@ -8,9 +8,9 @@ use Rattle.rv_text.specs.Plain.{plain_text}
 unfoldable pub number_text : ℕ → List ℕ
 number_text number = codes ", line " ++ (decimal number ++ codes ": ")
 
--- a line with its statement, in printing characters
+-- a line with the first 64 bytes of its statement, in printing characters
 unfoldable pub line_text : ℕ → List ℕ → List ℕ
-line_text number text = number_text number ++ (plain_text text ++ codes "\n")
+line_text number text = number_text number ++ (plain_text (take 64 text) ++ codes "\n")
 
 -- what stands behind an address: its line, or that there is none
 unfoldable pub line_behind : Option Line → List ℕ

@@ -1,11 +1,12 @@
-ghost use Rattle.std.specs.Prelude.{◌≡◌};
+ghost use Rattle.std.specs.Prelude.{◌≡◌, take};
 ghost use Rattle.rv_explain.specs.Place.{number_text, line_text, line_behind, place_text};
 ghost use Rattle.rv_source.specs.Listing.{line_at};
+ghost use Rattle.rv_text.specs.Plain.{plain_text};
 ghost use Rattle.rv_text.specs.Written.{IsWritten};
 
 use itoa::Buffer;
 use rv_source::Listing;
-use rv_text::{ReportError, hexadecimal, put, put_all, write_plain};
+use rv_text::{ReportError, front, hexadecimal, put, put_all, write_plain};
 use std::io::Write;
 
 #[tactic(auto, unfolding(crate::specs::Place::number_text))]
@@ -17,7 +18,14 @@ fn write_number<W: Write>(writer: &mut W, number: usize) -> Result<(), ReportErr
     put_all(writer, &[b", line ", digits, b": "])
 }
 
-/// Writes the number of a line, and its statement.
+// Writes at most 64 bytes of a statement.
+fn write_statement<W: Write>(writer: &mut W, text: &[u8]) -> Result<(), ReportError>
+    ensures { IsWritten result (W.contents writer.old) (W.contents writer.new) (plain_text (take 64 text.now)) }
+{
+    write_plain(writer, front(text, 64))
+}
+
+/// Writes the number of a line, and at most 64 bytes of its statement.
 pub(crate) fn write_line<W: Write>(
     writer: &mut W,
     number: usize,
@@ -26,7 +34,7 @@ pub(crate) fn write_line<W: Write>(
     ensures { IsWritten result (W.contents writer.old) (W.contents writer.new) (line_text number text.now) }
 {
     write_number(writer, number)?;
-    write_plain(writer, text)?;
+    write_statement(writer, text)?;
     put(writer, b"\n")
 }
 

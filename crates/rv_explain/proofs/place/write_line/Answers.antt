@@ -7,12 +7,12 @@ unfolding line_text
 returns-in_err-write_number g c =
     handed_on _ _ _ _ _ c.from_residual.ensures.1 (beginning-longer _ _ _ _ c.in_err-write_number.ensures)
 
-pub returns-in_err-write_plain : goal.returns-in_err-write_plain
+pub returns-in_err-write_statement : goal.returns-in_err-write_statement
 unfolding line_text
-returns-in_err-write_plain g c =
-    handed_on _ _ _ _ _ c.from_residual-in_err-write_plain.ensures.1
-    (beginning-both _ _ _ _ _ c.in_ok-write_number.ensures (beginning-longer _ _ _ _ c.in_err-write_plain.ensures))
+returns-in_err-write_statement g c =
+    handed_on _ _ _ _ _ c.from_residual-in_err-write_statement.ensures.1
+    (beginning-both _ _ _ _ _ c.in_ok-write_number.ensures (beginning-longer _ _ _ _ c.in_err-write_statement.ensures))
 
 pub returns : goal.returns
 unfolding line_text
-returns g c = written_behind _ _ _ _ _ _ c.in_ok-write_number.ensures (written_behind _ _ _ _ _ _ c.in_ok-write_plain.ensures c.put.ensures)
+returns g c = written_behind _ _ _ _ _ _ c.in_ok-write_number.ensures (written_behind _ _ _ _ _ _ c.in_ok-write_statement.ensures c.put.ensures)
