@@ -158,7 +158,7 @@ as in:
   rv_sim compare < FILE
 
 Writes a line for each machine, in their order, its cells with a tab between two: its number, the
-counts of its run, and why the run ended.
+counts of its run, and why the run ended. No machine of a comparison has interrupt arrivals.
 
 Exit status:
   0  the table was written; its last column says how each run ended
