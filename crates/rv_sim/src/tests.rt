@@ -14,6 +14,7 @@ mod predictors;
 mod prefixes;
 mod programs;
 mod reading;
+mod recoveries;
 mod references;
 mod reports;
 mod simulations;

@@ -12,6 +12,8 @@ pub(crate) enum Guesses {
     Always(u32),
     /// It guesses that an instruction is followed by itself.
     Itself,
+    /// It guesses that an instruction is followed by the next word, a jump too.
+    Ahead,
     /// It guesses this word, and after each lesson the next one.
     Word(u32),
 }
@@ -38,6 +40,7 @@ impl Predictor for Guesses {
         match *self {
             Guesses::Always(next) | Guesses::Word(next) => next,
             Guesses::Itself => pc,
+            Guesses::Ahead => pc.wrapping_add(4),
         }
     }
 
