@@ -191,7 +191,7 @@ module _ (h : Hardware) (sound : IsSoundHardware h) where
             sound_started h kind before entry leaving.rest leaving.split leaving.there ready.seq leaving.number issue message cache port_free units
             sound described (subst (λ n. n ≤ 2 ^ 43) (sym ports) (port_bound code_path)) legal_write
 
-        pub is_tied : (rename : Renaming) (stations : PerKind Pool) (bus : Pending) (queue : Queue) → AreTied h rename stations bus queue → AreTied started_hardware rename (with_kind kind (taken_from (test_of h kind) (at_kind kind stations)) stations) (with_result ready.seq message (h.cycle + cost) bus) queue
+        pub is_tied : (rename : Renaming) (stations : PerKind Pool) (bus : Pending) (queue : Queue) → AreTied h rename stations bus queue → AreTied started_hardware rename (with_kind kind (taken_from (test_of h kind) (at_kind kind stations)) stations) (with_result ready.seq (h.cycle + cost) bus) queue
         is_tied rename stations bus queue tied =
             tied_started h kind before entry leaving.rest leaving.split leaving.there ready.seq leaving.number issue message cache port_free units
             rename stations bus queue (test_of h kind) tied (leaving.left issue message)

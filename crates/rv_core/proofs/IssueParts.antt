@@ -106,7 +106,7 @@ module _ (parts : Inside) (sound : IsSound parts) (kind : Kind) (idle : Bool) (p
           (held : units ≡ with_kind kind (started_unit cost parts.cycle (at_kind kind parts.units)) parts.units)
           (changes : rob ≡ changed (started (record { cycle = parts.cycle; cost = cost }) message) ready.seq parts.rob)
           (left : stations ≡ with_kind kind (taken_from code_test (at_kind kind parts.stations)) parts.stations)
-          (accepted : bus ≡ with_result ready.seq message (parts.cycle + cost) parts.bus) where
+          (accepted : bus ≡ with_result ready.seq (parts.cycle + cost) parts.bus) where
         abbrev pub after : Inside
         after = record parts { cache = cache; port_free = port_free; units = units; stations = stations; bus = bus; rob = rob }
 
@@ -119,7 +119,7 @@ module _ (parts : Inside) (sound : IsSound parts) (kind : Kind) (idle : Bool) (p
         tied : AreTied started_now parts.rename stations bus parts.stores
         tied =
             subst (λ (b : Pending). AreTied started_now parts.rename stations b parts.stores) (sym accepted)
-            (subst (λ (ps : PerKind Pool). AreTied started_now parts.rename ps (with_result ready.seq message (parts.cycle + cost) parts.bus) parts.stores)
+            (subst (λ (ps : PerKind Pool). AreTied started_now parts.rename ps (with_result ready.seq (parts.cycle + cost) parts.bus) parts.stores)
             (sym (left ∙ ap (λ test. with_kind kind (taken_from test (at_kind kind parts.stations)) parts.stations) same_test))
             (is_tied h sound.sound kind ready leaving parts.stores.stores told message cost port_free cache costs ports caches gives parts.rename parts.stations parts.bus parts.stores sound.tied))
 

@@ -146,8 +146,8 @@ module _ (e : Entry) (rest : List Entry) (waits : is_waiting e.stage ≡ true) w
             (All-both xs (All-tail (λ (r : PendingResult). r.seq < number) x xs low))
 
     -- its result goes to its place
-    pub pending_started : (issue : Issue) (message : Message) → placed (record { seq = number; message = message; ready = issue.cycle + issue.cost }) (pending_from n (before ++ e ∷ rest)) ≡ pending_from n (before ++ started issue message e ∷ rest)
+    pub pending_started : (issue : Issue) (message : Message) → placed (record { seq = number; ready = issue.cycle + issue.cost }) (pending_from n (before ++ e ∷ rest)) ≡ pending_from n (before ++ started issue message e ∷ rest)
     pending_started issue message =
-        ap (placed (record { seq = number; message = message; ready = issue.cycle + issue.cost })) (pending_split n before)
+        ap (placed (record { seq = number; ready = issue.cycle + issue.cost })) (pending_split n before)
         ∙ placed-between _ (pending_from n before) (pending_from (number + 1) rest) (pending-below n number before (omega arith)) (pending-above (number + 1) number rest (omega arith))
         ∙ sym (pending_from-append n before (started issue message e ∷ rest))

@@ -80,14 +80,14 @@ module _ (h : Hardware) (kind : Kind) (before : List Entry) (e : Entry) (rest : 
         ap (waiting_from k status n0) split ∙ sym (others_started issue message e rest k waiting away status n0 before) ∙ ap (waiting_from k status n0) (sym entries_started) in
         λ j. record { waiting = same j; capacity = (pool_of_kind h.values h.registers h.rob k).capacity })
 
-    pending : (bus : Pending) → bus ≡ bus_of h.values h.rob → with_result n message (issue.cycle + issue.cost) bus ≡ bus_of h.values rob_started
+    pending : (bus : Pending) → bus ≡ bus_of h.values h.rob → with_result n (issue.cycle + issue.cost) bus ≡ bus_of h.values rob_started
     pending bus tied =
         let n0 = h.rob.retired in
-        let results : placed (record { seq = n; message = message; ready = issue.cycle + issue.cost }) (pending_from n0 h.rob.entries) ≡ pending_from n0 rob_started.entries =
-        (λ j. placed (record { seq = at j; message = message; ready = issue.cycle + issue.cost }) (pending_from n0 (split j)))
+        let results : placed (record { seq = n; ready = issue.cycle + issue.cost }) (pending_from n0 h.rob.entries) ≡ pending_from n0 rob_started.entries =
+        (λ j. placed (record { seq = at j; ready = issue.cycle + issue.cost }) (pending_from n0 (split j)))
         ∙ pending_started e rest waiting n0 before issue message
         ∙ ap (pending_from n0) (sym entries_started) in
-        ap (with_result n message (issue.cycle + issue.cost)) tied
+        ap (with_result n (issue.cycle + issue.cost)) tied
         ∙ (λ j. record { results = results j; capacity = h.values.rob; width = h.values.bus_width })
 
     stores_same : stores_of h.rob.retired h.rob.entries ≡ stores_of h.rob.retired rob_started.entries
@@ -101,7 +101,7 @@ module _ (h : Hardware) (kind : Kind) (before : List Entry) (e : Entry) (rest : 
       abbrev pub hardware_started : Hardware
       hardware_started = record h { cache = cache; port_free = port_free; units = units; rob = rob_started }
 
-      pub tied_started : (rename : Renaming) (stations : PerKind Pool) (bus : Pending) (queue : Queue) (test : Waiting → Bool) → AreTied h rename stations bus queue → without_oldest_ready test (waiting_from kind (values_in h.registers) h.rob.retired h.rob.entries) ≡ waiting_from kind (values_in h.registers) h.rob.retired (before ++ started issue message e ∷ rest) → AreTied hardware_started rename (with_kind kind (issued test (at_kind kind stations)) stations) (with_result n message (issue.cycle + issue.cost) bus) queue
+      pub tied_started : (rename : Renaming) (stations : PerKind Pool) (bus : Pending) (queue : Queue) (test : Waiting → Bool) → AreTied h rename stations bus queue → without_oldest_ready test (waiting_from kind (values_in h.registers) h.rob.retired h.rob.entries) ≡ waiting_from kind (values_in h.registers) h.rob.retired (before ++ started issue message e ∷ rest) → AreTied hardware_started rename (with_kind kind (issued test (at_kind kind stations)) stations) (with_result n (issue.cycle + issue.cost) bus) queue
       tied_started rename stations bus queue test tied left = record {
         renamed = tied.renamed ∙ sym (renaming-same (started issue message) (λ x. refl) n h.values h.rob);
         stationed = stationed stations test tied.stationed left;

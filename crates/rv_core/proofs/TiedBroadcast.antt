@@ -44,28 +44,28 @@ module _ (p : Inside) (is : IsSound p) (r : PendingResult) (found : find (is_rea
   grant =
       granted p.cycle p.rob.retired [] p.rob.entries r (sym (ap (λ (bus : Pending). find (is_ready p.cycle) bus.results) is.tied.pending) ∙ found)
 
-  pub sent-turn : broadcast_turn (hardware_of p) ≡ broadcast_entry (hardware_of p) r.seq grant.entry r.message
+  pub sent-turn : broadcast_turn (hardware_of p) ≡ broadcast_entry (hardware_of p) r.seq grant.entry grant.message
   sent-turn =
       let h = hardware_of p in
       let number : h.rob.retired + length grant.before ≡ r.seq = omega (arith, grant.number) in
       ap (broadcast_oldest h) grant.is_oldest ∙ (λ i. broadcast_result h (number i) grant.entry (grant.over i))
 
-  pub sent-recovers : (mends_early p.values.recovery && is_mispredicted grant.entry r.message) ≡ true → broadcast_turn (hardware_of p) ≡ Ends (with_recovery r.seq r.message (with_broadcast r.seq r.message (hardware_of p)))
+  pub sent-recovers : (mends_early p.values.recovery && is_mispredicted grant.entry grant.message) ≡ true → broadcast_turn (hardware_of p) ≡ Ends (with_recovery r.seq grant.message (with_broadcast r.seq grant.message (hardware_of p)))
   sent-recovers astray = sent-turn ∙ rw astray refl
 
-  pub sent-goes_on : (mends_early p.values.recovery && is_mispredicted grant.entry r.message) ≡ false → broadcast_turn (hardware_of p) ≡ GoesOn (with_broadcast r.seq r.message (hardware_of p))
+  pub sent-goes_on : (mends_early p.values.recovery && is_mispredicted grant.entry grant.message) ≡ false → broadcast_turn (hardware_of p) ≡ GoesOn (with_broadcast r.seq grant.message (hardware_of p))
   sent-goes_on straight = sent-turn ∙ rw straight refl
 
   abbrev pub sent_parts : Inside
   sent_parts = record p {
     bus = granted_one p.cycle p.bus;
-    rob = changed (finished r.message p.cycle) r.seq p.rob;
-    stations = for_each (woken_pool r.seq r.message.value) p.stations;
-    stores = record p.stores { stores = map (answered r.seq (store_of_message r.message.store)) p.stores.stores };
+    rob = changed (finished grant.message p.cycle) r.seq p.rob;
+    stations = for_each (woken_pool r.seq grant.message.value) p.stations;
+    stores = record p.stores { stores = map (answered r.seq (store_of_message grant.message.store)) p.stores.stores };
   }
 
   abbrev pub sent_to : Hardware
-  sent_to = with_broadcast r.seq r.message (hardware_of p)
+  sent_to = with_broadcast r.seq grant.message (hardware_of p)
 
   silent : broadcast_of grant.entry.stage ≡ None
   silent = ap broadcast_of grant.running
@@ -73,7 +73,7 @@ module _ (p : Inside) (is : IsSound p) (r : PendingResult) (found : find (is_rea
   busy : is_waiting grant.entry.stage ≡ false
   busy = ap is_waiting grant.running
 
-  sent-entry : (e : Entry) → entry_of r.seq p.rob.retired p.rob.entries ≡ Some e → IsSoundEntry p.values e → IsSoundEntry p.values (finished r.message p.cycle e)
+  sent-entry : (e : Entry) → entry_of r.seq p.rob.retired p.rob.entries ≡ Some e → IsSoundEntry p.values e → IsSoundEntry p.values (finished grant.message p.cycle e)
   sent-entry e held one =
       let same : Some e ≡ Some grant.entry = sym held ∙ grant.held in
       let is_entry : e ≡ grant.entry = cc in
@@ -89,7 +89,7 @@ module _ (p : Inside) (is : IsSound p) (r : PendingResult) (found : find (is_rea
       let h = hardware_of p in
       let s = h.rob.retired in
       let es = h.rob.entries in
-      let f = finished r.message p.cycle in
+      let f = finished grant.message p.cycle in
       sound_in_flight h (with_entry f r.seq s es) h.front is.sound
       (omega (arith, length-with_entry f r.seq s es, is.sound.entries.within))
       (All-with_entry (IsSoundEntry h.values) f r.seq s es sent-entry is.sound.entries.each)
@@ -101,16 +101,16 @@ module _ (p : Inside) (is : IsSound p) (r : PendingResult) (found : find (is_rea
       let h = hardware_of p in
       let rob = h.rob in
       record {
-        renamed = is.tied.renamed ∙ sym (renaming-same (finished r.message p.cycle) (λ e. refl) r.seq h.values rob);
+        renamed = is.tied.renamed ∙ sym (renaming-same (finished grant.message p.cycle) (λ e. refl) r.seq h.values rob);
         stationed =
-            ap (for_each (woken_pool r.seq r.message.value)) is.tied.stationed ∙
-            stations-woken h.values h.registers rob r.seq p.cycle r.message grant.entry grant.held busy silent;
+            ap (for_each (woken_pool r.seq grant.message.value)) is.tied.stationed ∙
+            stations-woken h.values h.registers rob r.seq p.cycle grant.message grant.entry grant.held busy silent;
         pending =
             ap (granted_one p.cycle) is.tied.pending ∙
             ap (λ results. record (bus_of h.values rob) { results = results }) grant.rest;
         queued =
-            ap (λ (q : Queue). record q { stores = map (answered r.seq (store_of_message r.message.store)) q.stores }) is.tied.queued ∙
-            ap (λ stores. record { stores = stores; capacity = h.values.store_queue }) (queue-answered r.seq p.cycle r.message h.committed rob.retired rob.entries grant.entry is.sound.stores.older grant.held silent);
+            ap (λ (q : Queue). record q { stores = map (answered r.seq (store_of_message grant.message.store)) q.stores }) is.tied.queued ∙
+            ap (λ stores. record { stores = stores; capacity = h.values.store_queue }) (queue-answered r.seq p.cycle grant.message h.committed rob.retired rob.entries grant.entry is.sound.stores.older grant.held silent);
       }
 
   pub sent-is : hardware_of sent_parts ≡ sent_to

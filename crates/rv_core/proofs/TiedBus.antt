@@ -34,7 +34,7 @@ pending-gathered s (e ∷ es) = ap (λ ps. pending_of s e.stage ++ ps) (pending-
 pending-at : (s : ℕ) (stage : Stage) → All (λ p. seq_of p ≡ s) (pending_of s stage)
 pending-at s Waiting = λ k d lt. absurd (omega arith)
 pending-at s (Running issue message) =
-    All-cons (λ p. seq_of p ≡ s) (record { seq = s; message = message; ready = issue.cycle + issue.cost }) [] refl (λ k d lt. absurd (omega arith))
+    All-cons (λ p. seq_of p ≡ s) (record { seq = s; ready = issue.cycle + issue.cost }) [] refl (λ k d lt. absurd (omega arith))
 pending-at s (Finished issue cycle message) = λ k d lt. absurd (omega arith)
 
 pending-cut : (n s : ℕ) (es : List Entry) → below seq_of n (pending_from s es) ≡ pending_from s (entries_below n s es)
@@ -83,10 +83,11 @@ pub record IsGranted (cycle n : ℕ) (older es : List Entry) (r : PendingResult)
   pub is_oldest : oldest_from (has_result cycle) older es ≡ Some (before, entry)
   pub number : n + length before ≡ r.seq + length older
   pub issue : Issue
-  pub running : entry.stage ≡ Running issue r.message
-  pub over : result_at cycle entry.stage ≡ Some r.message
+  pub message : Message
+  pub running : entry.stage ≡ Running issue message
+  pub over : result_at cycle entry.stage ≡ Some message
   pub held : entry_of r.seq n es ≡ Some entry
-  pub rest : without_first_ready cycle (pending_from n es) ≡ pending_from n (with_entry (finished r.message cycle) r.seq n es)
+  pub rest : without_first_ready cycle (pending_from n es) ≡ pending_from n (with_entry (finished message cycle) r.seq n es)
 
 module _ (cycle : ℕ) where
   -- an instruction that has no result yet
@@ -101,6 +102,7 @@ module _ (cycle : ℕ) where
         is_oldest = rw fails later.is_oldest;
         number = omega (arith, later.number, length-append older (e ∷ []));
         issue = later.issue;
+        message = later.message;
         running = later.running;
         over = later.over;
         held = rw other later.held;
@@ -115,7 +117,7 @@ module _ (cycle : ℕ) where
       granted-later n older (record e { stage = Finished issue at message }) es r refl refl (later found)
   granted-at n older e (Running issue message) es r found later = elim (cases_Bool (nat_le (issue.cycle + issue.cost) cycle)) [
     | inl ready ↦
-        let own : PendingResult = record { seq = n; message = message; ready = issue.cycle + issue.cost } in
+        let own : PendingResult = record { seq = n; ready = issue.cycle + issue.cost } in
         let is : Some own ≡ Some r = sym (ap (λ b. cond b (Some own) (find (is_ready cycle) (pending_from (n + 1) es))) ready) ∙ found in
         let one : own ≡ r = cc in
         rw (← one) (record {
@@ -124,13 +126,14 @@ module _ (cycle : ℕ) where
           is_oldest = rw ready refl;
           number = refl;
           issue = issue;
+          message = message;
           running = refl;
           over = rw ready refl;
           held = rw (eq-eqb n n refl) refl;
           rest = rw (ready, eq-eqb n n refl) refl;
         })
     | inr late ↦
-        let own : PendingResult = record { seq = n; message = message; ready = issue.cycle + issue.cost } in
+        let own : PendingResult = record { seq = n; ready = issue.cycle + issue.cost } in
         let found_later : find (is_ready cycle) (pending_from (n + 1) es) ≡ Some r = sym (ap (λ b. cond b (Some own) (find (is_ready cycle) (pending_from (n + 1) es))) late) ∙ found in
         granted-later n older (record e { stage = Running issue message }) es r (rw late refl) (rw late refl) (later found_later)
   ]
@@ -147,11 +150,11 @@ module _ (cycle : ℕ) where
   none-at n older e (Finished issue at message) es none later = later none
   none-at n older e (Running issue message) es none later = elim (cases_Bool (nat_le (issue.cycle + issue.cost) cycle)) [
     | inl ready ↦
-        let own : PendingResult = record { seq = n; message = message; ready = issue.cycle + issue.cost } in
+        let own : PendingResult = record { seq = n; ready = issue.cycle + issue.cost } in
         let is : Some own ≡ None = sym (ap (λ b. cond b (Some own) (find (is_ready cycle) (pending_from (n + 1) es))) ready) ∙ none in
         absurd (cc)
     | inr late ↦
-        let own : PendingResult = record { seq = n; message = message; ready = issue.cycle + issue.cost } in
+        let own : PendingResult = record { seq = n; ready = issue.cycle + issue.cost } in
         rw late (later (sym (ap (λ b. cond b (Some own) (find (is_ready cycle) (pending_from (n + 1) es))) late) ∙ none))
   ]
 

@@ -114,7 +114,7 @@ stations_of values registers rob = by_kind (pool_of_kind values registers rob)
 -- the result of an instruction in execution, and the cycle from which it can be broadcast
 abbrev pub pending_of : ℕ → Stage → List PendingResult
 pending_of seq stage.Waiting = []
-pending_of seq (stage.Running issue message) = record { seq = seq; message = message; ready = issue.cycle + issue.cost } ∷ []
+pending_of seq (stage.Running issue message) = record { seq = seq; ready = issue.cycle + issue.cost } ∷ []
 pending_of seq (stage.Finished issue cycle message) = []
 
 -- the results of the instructions in execution

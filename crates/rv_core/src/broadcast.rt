@@ -1,7 +1,10 @@
 ghost use Rattle.std.specs.Prelude.{◌≡◌, ◌+◌, ◌&&◌, true, Some, map};
+ghost use Rattle.rv_isa.specs.declared.broadcast.Message.{Message as MessageOf};
+ghost use Rattle.rv_isa.specs.declared.issues.Issue.{Issue as IssueOf};
 ghost use Rattle.rv_rob.specs.Entry.{predicting};
 ghost use Rattle.rv_rob.specs.ReorderBuffer.{changed, cut_from, entry_of};
 ghost use Rattle.rv_rob.specs.declared.entry.Entry.{Entry as EntryOf};
+ghost use Rattle.rv_rob.specs.declared.entry.Stage.TheVariants.{Running};
 ghost use Rattle.rv_stores.specs.Store.{answered};
 ghost use Rattle.rv_hardware.specs.Broadcast.{broadcast, broadcast_turn, is_mispredicted, mends_early};
 ghost use Rattle.rv_hardware.specs.InFlight.{store_of_message};
@@ -10,10 +13,9 @@ ghost use Rattle.rv_hardware.specs.Squash.{redirected};
 ghost use Rattle.rv_core.specs.Turns.{turn_of};
 
 use crate::parts::Parts;
-use rv_isa::{Instr, Message, Recovery};
-use rv_rob::{Entry, Rob};
+use rv_isa::{Instr, Message, Recovery, StoreAccess};
+use rv_rob::{Entry, Rob, Stage};
 use rv_stores::StoreQueue;
-use rv_units::PendingResult;
 
 /// Whether an instruction's next pc is told by its execution.
 pub(crate) fn is_branch_or_jump(instruction: &Option<Instr>) -> bool
@@ -52,12 +54,14 @@ impl Parts {
         let Some(pending) = self.bus.grant_one(self.cycle) else {
             return false;
         };
-        let recovers = recovers_from(&self.rob, self.values.recovery, &pending);
-        self.rob.finish(pending.seq, pending.message, self.cycle);
-        self.stations.wake(pending.seq, pending.message.value);
-        fill_store(&mut self.stores, &pending);
+        let seq = pending.seq;
+        let message = running_message(&self.rob, seq);
+        let recovers = recovers_from(&self.rob, self.values.recovery, seq, &message);
+        self.rob.finish(seq, message, self.cycle);
+        self.stations.wake(seq, message.value);
+        fill_store(&mut self.stores, seq, &message.store);
         if recovers {
-            self.recover(pending.seq, pending.message.next_pc);
+            self.recover(seq, message.next_pc);
             return false;
         }
         true
@@ -81,31 +85,50 @@ impl Parts {
 }
 
 // A store learns what it writes, or that it faults; any other instruction has no place in the queue.
-fn fill_store(stores: &mut StoreQueue, pending: &PendingResult)
-    ensures { stores.new ≡ record stores.old { stores = map (answered pending.now.seq (store_of_message pending.now.message.store)) stores.old.stores } }
+fn fill_store(stores: &mut StoreQueue, seq: u64, access: &Option<StoreAccess>)
+    ensures { stores.new ≡ record stores.old { stores = map (answered seq (store_of_message access.now)) stores.old.stores } }
 {
-    match pending.message.store {
-        Some(access) => stores.fill(pending.seq, access),
-        None => stores.fill_fault(pending.seq),
+    match *access {
+        Some(access) => stores.fill(seq, access),
+        None => stores.fill_fault(seq),
+    }
+}
+
+// The message of an instruction in execution, which its broadcast carries.
+fn running_message(rob: &Rob, seq: u64) -> Message
+    ensures { (e : EntryOf) (issue : IssueOf) (message : MessageOf) → entry_of seq rob.now.retired rob.now.entries ≡ Some e → e.stage ≡ Running issue message → result ≡ message }
+{
+    match rob.get(seq) {
+        Some(entry) => message_in(&entry.stage),
+        None => Message::default(),
+    }
+}
+
+fn message_in(stage: &Stage) -> Message
+    ensures { (issue : IssueOf) (message : MessageOf) → stage.now ≡ Running issue message → result ≡ message }
+{
+    match stage {
+        Stage::Running { message, .. } => *message,
+        _ => Message::default(),
     }
 }
 
 // Whether everything younger is squashed with this result: early recovery mends a wrong prediction.
-fn recovers_from(rob: &Rob, recovery: Recovery, pending: &PendingResult) -> bool
-    ensures { (e : EntryOf) → entry_of pending.now.seq rob.now.retired rob.now.entries ≡ Some e → result ≡ (mends_early recovery && is_mispredicted e pending.now.message) }
+fn recovers_from(rob: &Rob, recovery: Recovery, seq: u64, message: &Message) -> bool
+    ensures { (e : EntryOf) → entry_of seq rob.now.retired rob.now.entries ≡ Some e → result ≡ (mends_early recovery && is_mispredicted e message.now) }
 {
     match recovery {
         Recovery::Commit => false,
-        Recovery::Early => is_sent_astray(rob, pending),
+        Recovery::Early => is_sent_astray(rob, seq, message),
     }
 }
 
 // Whether a result goes on elsewhere than was predicted.
-fn is_sent_astray(rob: &Rob, pending: &PendingResult) -> bool
-    ensures { (e : EntryOf) → entry_of pending.now.seq rob.now.retired rob.now.entries ≡ Some e → result ≡ is_mispredicted e pending.now.message }
+fn is_sent_astray(rob: &Rob, seq: u64, message: &Message) -> bool
+    ensures { (e : EntryOf) → entry_of seq rob.now.retired rob.now.entries ≡ Some e → result ≡ is_mispredicted e message.now }
 {
-    match rob.get(pending.seq) {
-        Some(entry) => is_mispredicted(entry, &pending.message),
+    match rob.get(seq) {
+        Some(entry) => is_mispredicted(entry, message),
         None => false,
     }
 }

@@ -17,7 +17,7 @@ use crate::execute::executes;
 use crate::load::{Executed, Times, load, may_go};
 use crate::parts::Parts;
 use rv_cache::Cache;
-use rv_isa::{Immediate, Instr, Issue, Kind, LoadForm, Message, Reg};
+use rv_isa::{Immediate, Instr, Issue, Kind, LoadForm, Reg};
 use rv_memory::Ram;
 use rv_rob::Rob;
 use rv_stations::{Ready, Stations};
@@ -84,7 +84,7 @@ impl Parts {
             cost: executed.cost,
         };
         hold_unit(&mut self.units, kind, issue);
-        accept(&mut self.bus, ready.seq, &executed.message, issue);
+        accept(&mut self.bus, ready.seq, issue);
         self.rob.start(ready.seq, issue, executed.message);
         true
     }
@@ -145,11 +145,11 @@ fn hold_unit(units: &mut Units, kind: Kind, issue: Issue)
 }
 
 // A result waits for its broadcast.
-fn accept(bus: &mut Bus, seq: u64, message: &Message, issue: Issue)
+fn accept(bus: &mut Bus, seq: u64, issue: Issue)
     requires cycle { issue.cycle ≤ 2 ^ 40 }
     requires room { length bus.old.results < bus.old.capacity }
     requires absent { holds seq bus.old.results ≡ false }
-    ensures { bus.new ≡ with_result seq message.now (issue.cycle + issue.cost) bus.old }
+    ensures { bus.new ≡ with_result seq (issue.cycle + issue.cost) bus.old }
 {
-    bus.accept(seq, *message, issue.cycle + u64::from(issue.cost));
+    bus.accept(seq, issue.cycle + u64::from(issue.cost));
 }

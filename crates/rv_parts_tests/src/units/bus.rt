@@ -1,5 +1,5 @@
 use crate::checks::{check_equal, check_true};
-use rv_isa::{Description, Message, Values};
+use rv_isa::{Description, Values};
 use rv_units::Bus;
 use std::alloc::Global;
 use std::process::Abort;
@@ -12,7 +12,7 @@ fn standard_bus(rt: &impl Abort, alloc: Global) -> Bus {
 
 fn put(rt: &impl Abort, bus: &mut Bus, seq: u64, ready: u64) {
     check_true(rt, !bus.is_full() && !bus.holds(seq));
-    bus.accept(seq, Message::default(), ready);
+    bus.accept(seq, ready);
 }
 
 // The number of the result that is granted in a cycle, which is taken off the bus.

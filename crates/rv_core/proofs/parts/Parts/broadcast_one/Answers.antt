@@ -1,9 +1,15 @@
-use Rattle.std.proofs.Common.{◌≡◌, ◌&&◌, find, [], Some, None, sym, ap, subst, ◌∙◌}
+use Rattle.std.proofs.Common.{◌≡◌, ◌&&◌, find, map, [], Some, None, sym, ap, subst, ◌∙◌}
 use Rattle.std.proofs.lemmas.Bool.{and_parts}
+use Rattle.rv_isa.specs.PerKind.{for_each}
+use Rattle.rv_isa.specs.declared.broadcast.Message.{Message}
 use Rattle.rv_rob.specs.Entry.{finished}
+use Rattle.rv_rob.specs.ReorderBuffer.{changed}
+use Rattle.rv_stations.specs.Pool.{woken_pool}
+use Rattle.rv_stores.specs.Store.{answered}
 use Rattle.rv_units.specs.Bus.{is_ready}
 use Rattle.rv_hardware.specs.Broadcast.{is_mispredicted, mends_early, with_recovery}
 use Rattle.rv_hardware.specs.Hardware.{Hardware}
+use Rattle.rv_hardware.specs.InFlight.{store_of_message}
 use Rattle.rv_hardware.specs.Repeated.{Ends, GoesOn}
 use Rattle.rv_core.specs.Parts.{IsSound, hardware_of}
 use Rattle.rv_core.specs.declared.parts.Parts.TheInside.{Inside}
@@ -33,8 +39,22 @@ left c = record c.self.inside { bus = c.grant_one.new.self; rob = c.finish.new.s
 found : (c : After-fill_store) → find (is_ready c.self.inside.cycle) c.self.inside.bus.results ≡ Some c.in-Some.pending
 found c = sym c.grant_one.ensures.lowest_ready ∙ c.in-Some.is
 
+abbrev sent : (c : After-fill_store) → IsGranted c.self.inside.cycle c.self.inside.rob.retired [] c.self.inside.rob.entries c.in-Some.pending
+sent c = grant c.self.inside c.self.invariant c.in-Some.pending (found c)
+
+-- the message that the instruction carries
+message-is : (c : After-fill_store) → c.running_message-message.result ≡ (sent c).message
+message-is c = c.running_message-message.ensures (sent c).entry (sent c).issue (sent c).message (sent c).held (sent c).running
+
 left-is : (c : After-fill_store) → left c ≡ sent_parts c.self.inside c.self.invariant c.in-Some.pending (found c)
-left-is c = λ i. record c.self.inside { bus = c.grant_one.ensures.others_stay i; rob = c.finish.ensures i; stations = c.wake.ensures i; stores = c.fill_store.ensures i }
+left-is c =
+    let p = c.self.inside in
+    let seq = c.in-Some.pending.seq in
+    let is = message-is c in
+    let rob = c.finish.ensures ∙ ap (λ message. changed (finished message p.cycle) seq p.rob) is in
+    let stations = c.wake.ensures ∙ ap (λ (message : Message). for_each (woken_pool seq message.value) p.stations) is in
+    let stores = c.fill_store.ensures ∙ ap (λ (message : Message). record p.stores { stores = map (answered seq (store_of_message message.store)) p.stores.stores }) is in
+    λ i. record p { bus = c.grant_one.ensures.others_stay i; rob = rob i; stations = stations i; stores = stores i }
 
 left-sound : (c : After-fill_store) → IsSound (left c)
 left-sound c = subst IsSound (sym (left-is c)) (sent-sound c.self.inside c.self.invariant c.in-Some.pending (found c))
@@ -42,11 +62,10 @@ left-sound c = subst IsSound (sym (left-is c)) (sent-sound c.self.inside c.self.
 left-view : (c : After-fill_store) → hardware_of (left c) ≡ sent_to c.self.inside c.self.invariant c.in-Some.pending (found c)
 left-view c = ap hardware_of (left-is c) ∙ sent-is c.self.inside c.self.invariant c.in-Some.pending (found c)
 
-abbrev sent : (c : After-fill_store) → IsGranted c.self.inside.cycle c.self.inside.rob.retired [] c.self.inside.rob.entries c.in-Some.pending
-sent c = grant c.self.inside c.self.invariant c.in-Some.pending (found c)
-
-recovers : (c : After-fill_store) → (mends_early c.self.inside.values.recovery && is_mispredicted (sent c).entry c.in-Some.pending.message) ≡ c.recovers_from-recovers.result
-recovers c = sym (c.recovers_from-recovers.ensures (sent c).entry (sent c).held)
+recovers : (c : After-fill_store) → (mends_early c.self.inside.values.recovery && is_mispredicted (sent c).entry (sent c).message) ≡ c.recovers_from-recovers.result
+recovers c =
+    ap (λ message. mends_early c.self.inside.values.recovery && is_mispredicted (sent c).entry message) (sym (message-is c))
+    ∙ sym (c.recovers_from-recovers.ensures (sent c).entry (sent c).held)
 
 pub invariant_of-self-then-recovers : goal.invariant_of-self-then-recovers
 invariant_of-self-then-recovers c = left-sound (goal.at.invariant_of-self-then-recovers c).After-fill_store
@@ -66,8 +85,8 @@ recover-requires-clause-jump c =
     let astray = (and_parts _ _ (recovers at ∙ c.if-recovers.true)).1 in
     let jump = (and_parts _ _ (and_parts _ _ astray).0).0 in
     rw c.finish.ensures (
-      finished r.message p.cycle (sent at).entry,
-      entry_of-changed (finished r.message p.cycle) r.seq p.rob.retired p.rob.entries (sent at).entry (sent at).held,
+      finished c.running_message-message.result p.cycle (sent at).entry,
+      entry_of-changed (finished c.running_message-message.result p.cycle) r.seq p.rob.retired p.rob.entries (sent at).entry (sent at).held,
       jump,
     )
 
@@ -75,7 +94,10 @@ pub returns-then-recovers : goal.returns-then-recovers
 returns-then-recovers c =
     let r = c.in-Some.pending in
     let at = (goal.at.returns-then-recovers c).After-fill_store in
-    let to = c.recover.ensures ∙ ap {A = Hardware} (with_recovery r.seq r.message) (left-view at) in
+    let to =
+    c.recover.ensures
+    ∙ ap (λ (message : Message). with_recovery r.seq message (hardware_of (left at))) (message-is at)
+    ∙ ap {A = Hardware} (with_recovery r.seq (sent at).message) (left-view at) in
     rw (← c.self.view_is) (sent-recovers c.self.inside c.self.invariant r (found at) (recovers at ∙ c.if-recovers.true) ∙ ap Ends (sym to))
 
 pub returns : goal.returns
