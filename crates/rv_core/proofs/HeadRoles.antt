@@ -1,5 +1,5 @@
 -- The turn of a head, by its role.
-use Rattle.std.proofs.Common.{◌≡◌, false, List, [], ◌∷◌, slice_get, Option, Some, refl, ap, ◌∙◌}
+use Rattle.std.proofs.Common.{◌≡◌, false, List, [], ◌∷◌, slice_get, Option, Some, None, refl, sym, ap, ◌∙◌}
 use Rattle.std.specs.Ordering.{nat_cmp}
 use Rattle.std.specs.FinSet as set
 use Rattle.rv_isa.specs.declared.instructions.Instr.{Instr}
@@ -8,7 +8,7 @@ use Rattle.rv_memory.specs.Memory.{word_of}
 use Rattle.rv_rob.specs.declared.entry.Entry.{Entry}
 use Rattle.rv_hardware.specs.Commit.{Committing, commit_turn, commit_turn_of, execute_head, finish_broadcast, head_turn}
 use Rattle.rv_hardware.specs.Hardware.{Hardware}
-use Rattle.rv_hardware.specs.InFlight.{broadcast_of}
+use Rattle.rv_hardware.specs.InFlight.{broadcast_of, is_serialising}
 use Rattle.rv_hardware.specs.Repeated.{Ends}
 use Rattle.rv_hardware.specs.declared.step.Step.{Step}
 use Rattle.rv_core.specs.HeadTurn.{committing, instruction_of_access, IsHead, role_of}
@@ -28,6 +28,18 @@ pub turn_of_head : (h : Hardware) (e : Entry) (steps : List Step) → IsHead h e
 turn_of_head h e steps head fresh =
     ap (λ l. commit_turn_of set.contains l (committing h steps)) head.1
     ∙ rw fresh refl
+
+pub heads_agree : (h : Hardware) (a b : Entry) → IsHead h a → IsHead h b → a ≡ b
+heads_agree h a b first second =
+    let same : a ∷ first.0 ≡ b ∷ second.0 = sym first.1 ∙ second.1 in
+    cc
+
+-- where a result is waited for that is not known, the phase ends
+pub turn_unknown : (e : Entry) (instruction : Option Instr) (c : Committing) → is_serialising instruction ≡ false → broadcast_of e.stage ≡ None → head_turn e instruction c ≡ Ends c
+turn_unknown e (Some FenceI) c is none = absurd (cc)
+turn_unknown e (Some (Csr op rd csr source)) c is none = absurd (cc)
+turn_unknown e (Some Mret) c is none = absurd (cc)
+turn_unknown e _ c is none = ap (λ m. finish_broadcast e m c) none
 
 pub turn_waits : (e : Entry) (instruction : Option Instr) (c : Committing) → role_of instruction ≡ WaitsForResult →
     head_turn e instruction c ≡ finish_broadcast e (broadcast_of e.stage) c

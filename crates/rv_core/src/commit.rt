@@ -1,4 +1,4 @@
-ghost use Rattle.std.specs.Prelude.{◌≡◌, ◌+◌, ◌*◌, ◌<◌, ◌≤◌, ◌++◌, ◌∷◌, ℕ, [], List, None, Some, IfSome, IsTrue, vec_len, vec_capacity};
+ghost use Rattle.std.specs.Prelude.{◌≡◌, ◌+◌, ◌*◌, ◌<◌, ◌≤◌, ◌++◌, ◌∷◌, ℕ, [], List, None, Some, IfSome, IsTrue, false, vec_len, vec_capacity};
 ghost use Rattle.std.specs.Option.{option_map};
 ghost use Rattle.std.specs.FinSet as set;
 ghost use Rattle.rv_isa.specs.Cause.{code_of};
@@ -6,9 +6,11 @@ ghost use Rattle.rv_isa.specs.declared.instructions.Instr.TheVariants as instr;
 ghost use Rattle.rv_arch.specs.Due.{due};
 ghost use Rattle.rv_arch.specs.State.{write_of};
 ghost use Rattle.rv_front.specs.Lesson.{AreTaught};
+ghost use Rattle.rv_memory.specs.Memory.{word_of};
 ghost use Rattle.rv_memory.specs.Stale.{is_covered};
 ghost use Rattle.rv_rename.specs.Renaming.{without_checkpoint};
 ghost use Rattle.rv_rob.specs.ReorderBuffer.{head_retired};
+ghost use Rattle.rv_rob.specs.declared.entry.Entry.{Entry as EntryOf};
 ghost use Rattle.rv_hardware.specs.Commit.{commit, commit_turn, execute_head, fence_instructions, finish_broadcast, with_write_back, write_back_time};
 ghost use Rattle.rv_hardware.specs.InFlight.{broadcast_of};
 ghost use Rattle.rv_hardware.specs.Retirement.{row_of, stale_after, with_result};
@@ -20,7 +22,9 @@ ghost use Rattle.rv_core.specs.Reached.{IsBegun};
 ghost use Rattle.rv_core.specs.Retiring.{registers_with, with_commit, without_target};
 
 use crate::dispatch::target_of;
-use crate::head::{CsrAccess, HeadTurn, Role, illegal, message_of, role_of, row_of};
+use crate::head::{
+    CsrAccess, HeadTurn, Role, illegal, message_of, role_of, row_of, waits_for_result,
+};
 use crate::parts::{Parts, squash_all};
 use rv_arch::{CsrOperand, Stop};
 use rv_front::Predictor;
@@ -182,6 +186,23 @@ impl Parts {
         if self.stale.is_stale(head.pc) {
             return HeadTurn::Stale(head.pc);
         }
+        // Mostly the head waits: what follows has the large variables.
+        if waits_for_result(head) {
+            return HeadTurn::Waits;
+        }
+        self.take_head()
+    }
+
+    // The turn of a head that is not stale.
+    fn take_head(&mut self) -> HeadTurn
+        requires room { self.old.rob.retired < 8 * self.old.cycle + 8 }
+        requires fresh { (e : EntryOf) → IsHead self.old e → set.contains self.old.stale (word_of e.pc) ≡ false }
+        ensures turn { (steps : List Step) → commit_turn set.contains (committing self.old steps) ≡ turn_left self.new steps result }
+        ensures kept { IsKept self.old self.new }
+    {
+        let Some(head) = self.rob.head() else {
+            return HeadTurn::Waits;
+        };
         let entry = *head;
         match role_of(&entry.instruction) {
             Role::FenceInstructions => self.fence_instructions(&entry),

@@ -29,7 +29,7 @@ use rv_stations::{Operand, Stations, Waiting};
 use rv_stores::StoreQueue;
 
 /// Whether an instruction waits to be the oldest, with nothing younger in flight beside it.
-fn is_serialising(instruction: &Option<Instr>) -> bool
+pub(crate) fn is_serialising(instruction: &Option<Instr>) -> bool
     ensures { result ≡ is_serialising instruction.now }
 {
     matches!(

@@ -1,9 +1,10 @@
-ghost use Rattle.std.specs.Prelude.{◌≡◌};
+ghost use Rattle.std.specs.Prelude.{◌≡◌, IsTrue, false, None};
 ghost use Rattle.std.specs.Option.{unwrap_or};
-ghost use Rattle.rv_hardware.specs.InFlight.{broadcast_of};
+ghost use Rattle.rv_hardware.specs.InFlight.{broadcast_of, is_serialising};
 ghost use Rattle.rv_hardware.specs.Retirement.{execution_of, row_of};
 ghost use Rattle.rv_core.specs.HeadTurn.{role_of};
 
+use crate::dispatch::is_serialising;
 use rv_hardware::{Execution, Row, Step};
 use rv_isa::{Cause, CsrAddress, CsrOp, CsrSource, Fault, Instr, Message, Reg};
 use rv_rob::{Entry, Stage};
@@ -58,6 +59,17 @@ pub(crate) fn role_of(instruction: &Option<Instr>) -> Role
         }),
         Some(Instr::Mret) => Role::TrapReturn,
         _ => Role::WaitsForResult,
+    }
+}
+
+/// Whether a head's turn ends at once, since it waits for a result that is not known yet.
+pub(crate) fn waits_for_result(entry: &Entry) -> bool
+    ensures role { IsTrue result → is_serialising entry.now.instruction ≡ false }
+    ensures unknown { IsTrue result → broadcast_of entry.now.stage ≡ None }
+{
+    match entry.stage {
+        Stage::Finished { .. } => false,
+        _ => !is_serialising(&entry.instruction),
     }
 }
 
