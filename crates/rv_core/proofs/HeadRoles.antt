@@ -8,7 +8,8 @@ use Rattle.rv_memory.specs.Memory.{word_of}
 use Rattle.rv_rob.specs.declared.entry.Entry.{Entry}
 use Rattle.rv_hardware.specs.Commit.{Committing, commit_turn, commit_turn_of, execute_head, finish_broadcast, head_turn}
 use Rattle.rv_hardware.specs.Hardware.{Hardware}
-use Rattle.rv_hardware.specs.InFlight.{broadcast_of, is_serialising}
+use Rattle.rv_hardware.specs.InFlight.{broadcast_of}
+use Rattle.rv_isa.specs.Instruction.{is_serialising}
 use Rattle.rv_hardware.specs.Repeated.{Ends}
 use Rattle.rv_hardware.specs.declared.step.Step.{Step}
 use Rattle.rv_core.specs.HeadTurn.{committing, instruction_of_access, IsHead, role_of}

@@ -1,6 +1,7 @@
 ghost use Rattle.std.specs.Prelude.{◌≡◌, IsTrue, false, None};
 ghost use Rattle.std.specs.Option.{unwrap_or};
-ghost use Rattle.rv_hardware.specs.InFlight.{broadcast_of, is_serialising};
+ghost use Rattle.rv_isa.specs.Instruction.{is_serialising};
+ghost use Rattle.rv_hardware.specs.InFlight.{broadcast_of};
 ghost use Rattle.rv_hardware.specs.Retirement.{execution_of, row_of};
 ghost use Rattle.rv_core.specs.HeadTurn.{role_of};
 
