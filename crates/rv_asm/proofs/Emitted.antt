@@ -53,7 +53,7 @@ pub emits_more : {first : Result (List Cell) AsmFault} (rest : Result (List Cell
 emits_more rest c (Ok done) put more = record { parts = put.parts ++ more.parts; means = rw (put.means, more.means) refl; appends = appends_more put.appends more.appends }
 emits_more rest c (Err fault) put more = λ not_memory. rw (put.means, more not_memory) refl
 
--- whatever the rest of the parts spells, behind these bytes it spells all of them
+-- whatever the rest of the parts spells, after these bytes it spells all of them
 abbrev pub Begins : List Cell → List Cell → List ℕ → Type 0
 Begins all rest bytes = (more : List ℕ) → Spells rest more → Spells all (bytes ++ more)
 

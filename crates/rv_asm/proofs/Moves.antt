@@ -20,7 +20,7 @@ behind_grows Data m reach (Ok (Choice section)) = omega arith
 behind_grows part m reach (Ok said) = grow part reach.section (size m (offset reach) said) reach
 behind_grows part m reach (Err fault) = omega arith
 
--- behind a line a section is not smaller, nor behind many
+-- after a line a section is not smaller, nor after many
 pub line_grows : (part : Section) (before : Layout) (line : Line) → offset_in part before.reach ≤ offset_in part (extended before line).reach
 line_grows part before Unreadable = omega arith
 line_grows part before (Readable labels body) = behind_grows part (labelled before.meanings (label_at before.reach) labels) before.reach (statement_in body)

@@ -20,7 +20,7 @@ pub some_below : {r : Option ℕ} {n : ℕ} → (IsSome r ↔ (n < 32)) → IfSo
 some_below {r = None} valid is below = let impossible : IsSome {T = ℕ} None = valid.1 below in absurd (cc)
 some_below {r = Some x} valid is below = ap Some is
 
--- what is left of a table that a loop reads: its next row, and what stands behind it
+-- what is left of a table that a loop reads: its next row, and what stands after it
 module _ {T : Type 0} (table : List (Bor (List ℕ) × T)) (i : ℕ) (row : Bor (List ℕ) × T) (name : List ℕ) (inside : i < length table) (row_is : row ≡ get_or table i row) where
   next_row : named (map (λ row. (row.0.now, row.1)) (drop i table)) name ≡ cond (bytes_eq row.0.now name) (Some row.1) (named (map (λ row. (row.0.now, row.1)) (drop (i + 1) table)) name)
   next_row = ap (λ rows. named (map (λ row. (row.0.now, row.1)) rows) name) (drop_more table i row inside ∙ ap (λ first. first ∷ drop (i + 1) table) (sym row_is))

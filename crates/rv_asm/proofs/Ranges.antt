@@ -7,7 +7,7 @@ module _ {X : Type 0} (f g : ℕ → X) (x : X) (b : ℕ) (there : (i : ℕ) →
   same_behind a zero le = refl
   same_behind a (suc n) le = (λ i. there a le i ∷ same_behind (a + 1) n (omega arith) i)
 
-  -- before b the one value, and behind it what the other function gives
+  -- before b the one value, and after it what the other function gives
   pub split_range : (a m n : ℕ) → a + m ≡ b → ((i : ℕ) → a ≤ i → i < b → f i ≡ x) → map f (range_with_len a (m + n)) ≡ replicate m x ++ map g (range_with_len b n)
   split_range a zero n is here =
       let first : 0 + n ≡ n = omega arith in

@@ -34,7 +34,7 @@ pub record Gives (part : Section) (end : Reach) (lines : List Kept) (begin : Rea
   pub words_are : words_in part end lines ≡ words
 
 module _ (part : Section) (end : Reach) where
-  -- a line, before others that begin behind it
+  -- a line, before others that begin after it
   keep_gives : (number : ℕ) (before : Layout) (bytes : List ℕ) (others : List Kept) (idle : Bool) → is_idle (place before.reach (line_in bytes)) ≡ idle → reach_before end others ≡ (extended before (line_in bytes)).reach
       → Gives part end (cond idle [] (record { number = number; bytes = bytes; place = place before.reach (line_in bytes) } ∷ []) ++ others) before.reach (replicate (words_between part before.reach (extended before (line_in bytes)).reach) (Some (shown number bytes)) ++ words_in part end others)
   keep_gives number before bytes others true idle rest =
@@ -45,7 +45,7 @@ module _ (part : Section) (end : Reach) where
       let here = place_reach before.reach (line_in bytes) in
       record { begins = here; words_are = rw (here, rest) refl }
 
-  -- the lines behind a layout: the words that begin behind it
+  -- the lines after a layout: the words that begin after it
   pub kept_words : (number : ℕ) (before : Layout) (lines : List (List ℕ)) (n : ℕ) → (laid before (map line_in lines)).reach ≡ end → word_count (offset_in part before.reach) + n ≡ word_count (offset_in part end)
       → Gives part end (kept number before lines) before.reach (map (λ i. line_holding part number before lines (4 * i)) (range_with_len (word_count (offset_in part before.reach)) n))
   kept_words number before [] n end_is size =

@@ -16,7 +16,7 @@ abbrev pub label_fault : Meanings → Definition → List (List ℕ) → Option 
 label_fault meanings here [] = None
 label_fault meanings here (name ∷ names) = if is_some (meanings name) then Some DuplicateSymbol else label_fault (defined meanings name here) here names
 
--- the name right behind .equ was defined before
+-- the name right after .equ was defined before
 abbrev pub redefines : Meanings → List Token → Bool
 redefines meanings (token.Name directive ∷ token.Name name ∷ rest) = bytes_eq directive (codes ".equ") && is_some (meanings name)
 redefines meanings _ = false
@@ -26,13 +26,13 @@ abbrev pub is_unmet : Meanings → Option (List ℕ) → Bool
 is_unmet meanings None = false
 is_unmet meanings (Some name) = is_none (number_of (meanings name))
 
--- how far the text has come behind a form with its operands, if they have no fault and it is not too large then
+-- how far the text has come after a form with its operands, if they have no fault and it is not too large then
 abbrev pub moved : Meanings → Reach → Form → List Operand → Result Reach AsmFault
 moved meanings reach form operands =
     if is_unmet meanings (needed form operands) then Err BadOperands
     else and_then (statement form operands) (λ said. unless_too_large (advance meanings said reach))
 
--- the fault of what stands behind the labels
+-- the fault of what stands after the labels
 abbrev pub body_fault : Meanings → Reach → List Token → Option AsmFault
 body_fault meanings reach body =
     if redefines meanings body then Some DuplicateSymbol
@@ -49,7 +49,7 @@ first_fault layout (Readable labels body) =
 abbrev pub second_fault : ℕ → Layout → Placed → Option AsmFault
 second_fault base whole line = option_or (result_err (line_cells base whole line)) (if line.starts then (if start_address base whole % 4 == 0 then None else Some Misaligned) else None)
 
--- what the first pass finds in lines behind a layout, each in view of the lines before it
+-- what the first pass finds in lines after a layout, each in view of the lines before it
 abbrev pub first_faults : Layout → List Line → List (Option AsmFault)
 first_faults layout [] = []
 first_faults layout (line ∷ others) = first_fault layout line ∷ first_faults (extended layout line) others

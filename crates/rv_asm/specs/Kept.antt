@@ -26,7 +26,7 @@ is_idle line = says_nothing line.statement && not line.starts
 abbrev pub keep : ℕ → List ℕ → Placed → List Kept
 keep number bytes place = if is_idle place then [] else record { number = number; bytes = bytes; place = place } ∷ []
 
--- what is kept of lines behind a layout, numbered from here on
+-- what is kept of lines after a layout, numbered from here on
 abbrev pub kept : ℕ → Layout → List (List ℕ) → List Kept
 kept number layout [] = []
 kept number layout (bytes ∷ others) = keep number bytes (place layout.reach (line_in bytes)) ++ kept (number + 1) (extended layout (line_in bytes)) others

@@ -17,7 +17,7 @@ use Rattle.rv_asm.specs.declared.operation.Operation.TheVariants as operation
 use Rattle.rv_asm.specs.declared.operation.Section.TheVariants.{Text, Data}
 use Rattle.rv_asm.specs.declared.symbols.Definition.TheVariants as symbol
 
--- a line: bytes that are no tokens, or labels and the tokens behind them
+-- a line: bytes that are no tokens, or labels and the tokens after them
 pub data Line : Type 0 where
   Unreadable : Line
   Readable : List (List ℕ) → List Token → Line
@@ -27,7 +27,7 @@ abbrev pub labels_of : List Token → List (List ℕ)
 labels_of (token.Name name ∷ token.Colon ∷ rest) = name ∷ labels_of rest
 labels_of _ = []
 
--- what stands behind the labels
+-- what stands after the labels
 abbrev pub body_of : List Token → List Token
 body_of (token.Name name ∷ token.Colon ∷ rest) = body_of rest
 body_of tokens = tokens
@@ -110,7 +110,7 @@ size definition offset (Values width operands) = bytes_of width * length operand
 size definition offset (Bytes directive operand) = length (laid_by directive offset operand)
 size definition offset _ = 0
 
--- how far the text has come behind a statement
+-- how far the text has come after a statement
 abbrev pub advance : (List ℕ → Option Definition) → Statement → Reach → Reach
 advance definition (Choice section) reach = record reach { section = section }
 advance definition statement reach = grow_in reach.section (size definition (offset reach) statement) reach
@@ -146,12 +146,12 @@ abbrev pub with_constant : Meanings → Statement → Meanings
 with_constant meanings (Constant name number) = defined meanings name (symbol.Constant number)
 with_constant meanings _ = meanings
 
--- the layout behind a statement, if it could be read
+-- the layout after a statement, if it could be read
 abbrev pub behind : Meanings → Reach → Result Statement AsmFault → Layout
 behind meanings reach (Ok statement) = record { reach = advance meanings statement reach; meanings = with_constant meanings statement }
 behind meanings reach (Err fault) = record { reach = reach; meanings = meanings }
 
--- the layout behind a line
+-- the layout after a line
 abbrev pub extended : Layout → Line → Layout
 extended layout Unreadable = layout
 extended layout (Readable labels body) = behind (labelled layout.meanings (label_at layout.reach) labels) layout.reach (statement_in body)
@@ -160,7 +160,7 @@ extended layout (Readable labels body) = behind (labelled layout.meanings (label
 abbrev pub unlaid : Layout
 unlaid = record { reach = record { section = Text; text_size = 0; data_size = 0 }; meanings = λ name. None }
 
--- the layout behind lines
+-- the layout after lines
 abbrev pub laid : Layout → List Line → Layout
 laid layout [] = layout
 laid layout (line ∷ others) = laid (extended layout line) others

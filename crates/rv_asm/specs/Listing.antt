@@ -19,8 +19,8 @@ trimmed bytes =
 abbrev pub shown : ℕ → List ℕ → source.Line
 shown number bytes = record { number = number; text = trimmed (before_first (λ byte. byte == 35) bytes) }
 
--- the first line whose bytes hold an offset of a section, of lines behind a layout, numbered from here on: they begin
--- where the section had come before the line, and end where it has come behind it
+-- the first line whose bytes hold an offset of a section, of lines after a layout, numbered from here on: they begin
+-- where the section had come before the line, and end where it has come after it
 abbrev pub line_holding : Section → ℕ → Layout → List (List ℕ) → ℕ → Option source.Line
 line_holding part number before [] offset = None
 line_holding part number before (bytes ∷ others) offset =
@@ -36,7 +36,7 @@ word_count size = (size + 3) / 4
 abbrev pub section_lines : Section → ℕ → List (List ℕ) → List (Option source.Line)
 section_lines part size lines = map (λ i. line_holding part 1 unlaid lines (4 * i)) (range_with_len 0 (word_count size))
 
--- what stands behind the words of the text: the zero bytes up to the data, which come from no line, and the data, if there are any
+-- what stands after the words of the text: the zero bytes up to the data, which come from no line, and the data, if there are any
 abbrev pub lines_behind_text : ℕ → ℕ → List (Option source.Line) → List (Option source.Line)
 lines_behind_text text_size data_size lines =
     if data_size == 0 then [] else (replicate (word_count (round_up text_size) - word_count text_size) None ++ lines)
@@ -54,7 +54,7 @@ listing_of base text = record { base = base; words = image_lines (layout (lines_
 abbrev pub words_between : Section → Reach → Reach → ℕ
 words_between part before behind = word_count (offset_in part behind) - word_count (offset_in part before)
 
--- how far the text has come before lines that the program keeps, where it comes as far as this behind them
+-- how far the text has come before lines that the program keeps, where it comes as far as this after them
 abbrev pub reach_before : Reach → List Kept → Reach
 reach_before end [] = end
 reach_before end (line ∷ others) = line.place.reach

@@ -29,7 +29,7 @@ pub data Cell : Type 0 where
 abbrev pub round_up : ℕ → ℕ
 round_up n = (n + 15) / 16 * 16
 
--- where a section starts: .text at the base, .data at the next multiple of 16 behind the text
+-- where a section starts: .text at the base, .data at the next multiple of 16 after the text
 abbrev pub start_of : ℕ → ℕ → Section → ℕ
 start_of base text_size Text = base
 start_of base text_size Data = base + round_up text_size
@@ -140,12 +140,12 @@ contents base whole section (line ∷ others) = parts_in section line.reach.sect
 abbrev pub section_parts : ℕ → Section → List Line → List Cell
 section_parts base section lines = contents base (layout lines) section (placed unlaid lines)
 
--- what stands behind the text: the data behind zero bytes, if there are any
+-- what stands after the text: the data after zero bytes, if there are any
 abbrev pub behind_text : ℕ → ℕ → List Cell → List Cell
 behind_text text_size data_size parts =
     if data_size == 0 then [] else (map Byte' (replicate (round_up text_size - text_size) 0) ++ parts)
 
--- the parts of the image: the text, and the data behind it
+-- the parts of the image: the text, and the data after it
 abbrev pub image_parts : ℕ → List Line → List Cell
 image_parts base lines =
     section_parts base Text lines

@@ -21,7 +21,7 @@ pub record Placed : Type 0 where
   pub starts : Bool
   pub statement : Result Statement AsmFault
 
--- what stands behind labels, in its place
+-- what stands after labels, in its place
 abbrev pub place_body : Reach → Bool → Result Statement AsmFault → Placed
 place_body reach label_starts statement = record { reach = reach; starts = label_starts || constant_starts statement; statement = statement }
 
@@ -30,7 +30,7 @@ abbrev pub place : Reach → Line → Placed
 place reach Unreadable = place_body reach false (Err BadToken)
 place reach (Readable labels body) = place_body reach (list_any is_start labels) (statement_in body)
 
--- lines behind a layout, each where it stands
+-- lines after a layout, each where it stands
 abbrev pub placed : Layout → List Line → List Placed
 placed layout [] = []
 placed layout (line ∷ others) = place layout.reach line ∷ placed (extended layout line) others

@@ -1,4 +1,4 @@
--- What a line says behind its labels.
+-- What a line says after its labels.
 use Rattle.std.specs.Prelude.{ℕ, ℤ, pos, negsuc, List, [], ◌∷◌, Bool, true, false, ◌&&◌, ◌||◌, if◌then◌else◌, Option, Some, None, Result, Ok, Err, int_le, is_some, ok_or, unwrap_or, ◌==◌}
 use Rattle.std.specs.{List.list_all, Option.option_map}
 use Rattle.rv_isa.specs.declared.operations.Width.{Width}

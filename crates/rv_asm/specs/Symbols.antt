@@ -34,6 +34,6 @@ kept_in records = map (λ line. record { number = line.line.number; bytes = line
 abbrev pub lines_in : List Record → List Placed
 lines_in records = places (kept_in records)
 
--- what a statement means in the program, behind the lines that lead so far
+-- what a statement means in the program, after the lines that lead so far
 abbrev pub means : Program → Reach → Statement → Result (List Cell) AsmFault
 means program reach statement = cells_at program.base (layout_of program.layout.now) reach statement

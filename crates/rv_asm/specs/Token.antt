@@ -103,7 +103,7 @@ first_lexeme first line =
     else (if first == 34 then option_map (λ n. record { token = Some (Text (unescaped (take n others))); size = n + 2 }) (quoted_length others)
     else option_map (λ mark. record { token = Some mark; size = 1 }) (mark_of first))))
 
--- the tokens of the bytes behind so many, which belong to the token before
+-- the tokens of the bytes after so many, which belong to the token before
 unfoldable pub tokens_behind : List ℕ → ℕ → Option (List Token)
 tokens_behind [] taken = Some []
 tokens_behind (byte ∷ bytes) (suc taken) = tokens_behind bytes taken

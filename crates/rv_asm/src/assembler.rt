@@ -20,7 +20,7 @@ fn gap(text_size: usize) -> usize
     ((size + 15) / 16 * 16 - size) as usize
 }
 
-/// The bytes of the image: the text, and behind zero bytes the data, if there are any.
+/// The bytes of the image: the text, and after zero bytes the data, if there are any.
 fn joined(text_size: usize, data_size: usize, sections: Sections) -> Result<Vec<u8>, AsmFault>
     ensures spells { (text_parts data_parts : List Cell) → Spells text_parts sections.text.items →
         Spells data_parts sections.data_bytes.items →

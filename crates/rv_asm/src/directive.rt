@@ -16,7 +16,7 @@ pub enum Directive {
     Zeros,
     /// `.balign`
     Align,
-    /// `.ascii`, and `.asciz` with a zero byte behind the string.
+    /// `.ascii`, and `.asciz` with a zero byte after the string.
     Characters(usize),
 }
 

@@ -66,7 +66,7 @@ fn push_words(
     Ok(())
 }
 
-/// How far the text has come before records, where it comes as far as the end behind them.
+/// How far the text has come before records, where it comes as far as the end after them.
 fn reach_before(end: Reach, records: &[Record<'_>]) -> Reach
     ensures { result ≡ reach_before end (kept_in records.now) }
 {

@@ -23,7 +23,7 @@ pub enum Expression<'a> {
 #[derive(Clone, Copy)]
 pub enum Operand<'a> {
     Value(Expression<'a>),
-    /// A name in parentheses, behind an offset or alone.
+    /// A name in parentheses, after an offset or alone.
     Indirect(Option<Expression<'a>>, &'a [u8]),
     /// A string, its escapes not resolved.
     Text(&'a [u8]),
@@ -62,7 +62,7 @@ fn in_parentheses<'a>(tokens: &[Token<'a>]) -> Option<&'a [u8]>
     }
 }
 
-/// A name in parentheses, behind an offset or alone.
+/// A name in parentheses, after an offset or alone.
 fn indirect<'a>(offset: &[Token<'a>], name: &'a [u8]) -> Option<Operand<'a>>
     ensures alone { length offset.now ≡ 0 → option_map operand_of result ≡ Some (Indirect None name.entry.now) }
     ensures behind { 0 < length offset.now → option_map operand_of result

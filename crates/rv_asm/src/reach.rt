@@ -104,7 +104,7 @@ fn upper(word: i32) -> UpperImmediate
     UpperImmediate::from_field(rounded.rem_euclid(1048576).unsigned_abs() as u32)
 }
 
-/// The lower part of a signed word, for the `addi` behind `lui` or `auipc`.
+/// The lower part of a signed word, for the `addi` after `lui` or `auipc`.
 fn lower(word: i32) -> Immediate
     ensures { result ≡ lower word }
 {
@@ -192,7 +192,7 @@ fn size<'a>(
     }
 }
 
-/// How far the text has come behind a statement, if it is not too large then.
+/// How far the text has come after a statement, if it is not too large then.
 pub fn advance<'a>(
     symbols: &Symbols<'a>,
     statement: &Statement<'a>,

@@ -17,6 +17,6 @@ pub struct Record<'a> {
     pub reach: Reach,
     /// Whether one of its labels is `_start`.
     pub label_starts: bool,
-    /// What stands behind its labels.
+    /// What stands after its labels.
     pub reading: Reading<'a>,
 }

@@ -76,7 +76,7 @@ pub fn make_statement<'a>(form: Form, operands: &[Operand<'a>]) -> Result<Statem
             [_] => instruction(Operation::Jal, &[Link, Target], operands),
             _ => instruction(Operation::Jal, &[Rd, Target], operands),
         },
-        // with its register alone, with an offset before it in parentheses, or with one behind it
+        // with its register alone, with an offset before it in parentheses, or with one after it
         Form::Jalr => match operands {
             [_] => instruction(Operation::Jalr, &[Link, Rs1], operands),
             [_, _] => instruction(Operation::Jalr, &[Rd, Base], operands),

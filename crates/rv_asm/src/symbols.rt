@@ -63,7 +63,7 @@ impl<'a> Symbols<'a> {
         Ok(())
     }
 
-    /// Defines the labels at the front of a line. The answer is the tokens behind them, and whether
+    /// Defines the labels at the front of a line. The answer is the tokens after them, and whether
     /// one of them is `_start`.
     pub fn define_labels<'t>(
         &mut self,
@@ -97,7 +97,7 @@ impl<'a> Symbols<'a> {
         }
     }
 
-    /// Whether the name right behind `.equ` is defined.
+    /// Whether the name right after `.equ` is defined.
     pub fn redefines(&self, tokens: &[Token<'a>]) -> bool
         ensures { result ≡ redefines (found self.now) (tokens_in tokens.now) }
     {

@@ -186,7 +186,7 @@ fn first_lexeme(line: &[u8]) -> Option<Lexeme<'_>>
 /// grows with the line's length alone.
 ///
 /// Fails by `BadToken` where something on the line is no token: a byte that begins none, a number
-/// past 4294967295 or with a letter, digit, `_`, `.` or `$` right behind it, a string that is not
+/// past 4294967295 or with a letter, digit, `_`, `.` or `$` right after it, a string that is not
 /// closed on the line, or an escape that is not known; and by `Memory` where memory was refused.
 pub fn tokenize<'a>(alloc: Global, line: &'a [u8]) -> Result<Vec<Token<'a>>, AsmFault>
     ensures { Follows (λ v. tokens_in v.items) result (ok_or (tokens_of line.now) AsmFault.BadToken) }
@@ -207,7 +207,7 @@ pub fn tokenize<'a>(alloc: Global, line: &'a [u8]) -> Result<Vec<Token<'a>>, Asm
     Ok(tokens)
 }
 
-// The first byte that a string stands for, and what is left of the string behind it.
+// The first byte that a string stands for, and what is left of the string after it.
 #[tactic(auto, unfolding(crate::specs::Token::unescaped))]
 fn first_character(raw: &[u8]) -> Option<(u8, &[u8])>
     ensures ended { result ≡ None → unescaped raw.now ≡ [] }

@@ -1,4 +1,4 @@
--- A byte behind stores is the youngest covering store's, else the one below.
+-- A byte after stores is the youngest covering store's, else the one below.
 use Rattle.std.proofs.Common.{◌≡◌, ℕ, ◌+◌, ◌-◌, ◌<◌, ◌≤◌, List, [], ◌∷◌, length, get_or, slice_get, Option, Some, None, inl, inr, refl, sym, ap, ◌∙◌, arith}
 use Rattle.std.specs.Option.{option_or, unwrap_or}
 use Rattle.std.proofs.lemmas.Bool.{cases_lt, cond-true, cond-false, le-leb, lt-leb}
@@ -63,7 +63,7 @@ module _ (base : ℕ) where
       let P : Store → Type 0 = λ t. LiesIn base size t.state in
       length-memory_behind size ss (with_store base s.state bytes) (length-with_store size s.state bytes sized (All-head P s ss inside)) (All-tail P s ss inside)
 
-  -- a byte of memory behind stores
+  -- a byte of memory after stores
   pub get_or-memory_behind : (size address : ℕ) (ss : List Store) (bytes : List ℕ) → length bytes ≡ size → LieIn base size ss → base ≤ address → get_or (memory_behind base ss bytes) (address - base) 0 ≡ unwrap_or (youngest_byte address ss) (get_or bytes (address - base) 0)
   get_or-memory_behind size address [] bytes sized inside at = refl
   get_or-memory_behind size address (s ∷ ss) bytes sized inside at =

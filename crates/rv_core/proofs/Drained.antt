@@ -1,4 +1,4 @@
--- The drain phase on the queue: what is in flight stays behind the retired stores.
+-- The drain phase on the queue: what is in flight stays after the retired stores.
 use Rattle.std.proofs.Common.{◌≡◌, ℕ, ◌+◌, ◌<◌, Bool, true, false, if◌then◌else◌, List, [], ◌∷◌, ◌++◌, Option, None, Some, refl, subst}
 use Rattle.std.specs.List.{All}
 use Rattle.std.proofs.lemmas.List.Elements.{All-head, All-tail, All-cons}

@@ -14,7 +14,7 @@ use Rattle.rv_core.specs.HeadTurn.{committing}
 use Rattle.rv_core.specs.Soundness.{IsSoundHardware}
 use Rattle.rv_core.specs.Ties.{queue_of}
 
--- nothing stands behind a serialising head
+-- nothing stands after a serialising head
 alone : (e : Entry) (es : List Entry) → AllPairs (λ (older younger : Entry). is_serialising older.instruction ≡ false) (e ∷ es) →
     is_serialising e.instruction ≡ true → es ≡ []
 alone e [] serial is = refl

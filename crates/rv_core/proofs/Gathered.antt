@@ -1,4 +1,4 @@
--- What instructions in flight give, one after another: `own` is what one gives in a state, and `next` the state behind it.
+-- What instructions in flight give, one after another: `own` is what one gives in a state, and `next` the state after it.
 use Rattle.std.proofs.Common.{◌≡◌, ℕ, ◌+◌, ◌≤◌, ◌==◌, true, false, cond, inl, inr, List, [], ◌∷◌, ◌++◌, length, All, refl, sym, ap, ◌∙◌, append-nil, append_assoc, length-append, lt-ltb, le-ltb, arith}
 use Rattle.std.proofs.lemmas.Bool.{cases_lt}
 use Rattle.std.proofs.lemmas.List.Elements.{All-append}
@@ -8,7 +8,7 @@ use Rattle.rv_rob.specs.declared.entry.Entry.{Entry}
 use Rattle.rv_rob.specs.ReorderBuffer.{entries_below, with_entry}
 
 module _ {S : Type 0} (next : S → ℕ → Entry → S) where
-  -- the state behind some instructions, the first of which has a sequence number
+  -- the state after some instructions, the first of which has a sequence number
   abbrev pub behind : S → ℕ → List Entry → S
   behind st s [] = st
   behind st s (e ∷ es) = behind (next st s e) (s + 1) es

@@ -1,4 +1,4 @@
--- The operands in a station are what the definition reads behind the older instructions.
+-- The operands in a station are what the definition reads after the older instructions.
 use Rattle.std.proofs.Common.{◌≡◌, ◌≢◌, ℕ, ◌+◌, ◌<◌, ◌&&◌, Bool, true, false, cond, nat_eq, List, [], ◌∷◌, length, map, slice_index, slice_index_or, All, Option, Some, None, is_some, inl, inr, refl, sym, ap, ◌∙◌, length-set, get_or-set_same, get_or-set_other}
 use Rattle.std.specs.Option.{IfSome}
 use Rattle.std.proofs.Math.Bool.{and-true}

@@ -55,11 +55,11 @@ module _ (kind : Kind) (status : RegisterStatus) (seq : ℕ) (e : Entry) where
   at_cases = by_word e.instruction refl
 
 module _ (kind : Kind) (status0 : RegisterStatus) (n0 : ℕ) where
-  -- the stations of a kind, as far as they hold what stands behind some instructions
+  -- the stations of a kind, as far as they hold what stands after some instructions
   abbrev pub stations_behind : List Entry → List Entry → List Station
   stations_behind older es = waiting_from kind (status_behind status0 n0 older) (n0 + length older) es
 
-  -- an instruction as it waits behind some others
+  -- an instruction as it waits after some others
   abbrev pub station_behind : List Entry → Entry → Instr → Station
   station_behind older e i = waiting_of (status_behind status0 n0 older) (n0 + length older) e.pc i
 
@@ -71,7 +71,7 @@ module _ (kind : Kind) (status0 : RegisterStatus) (n0 : ℕ) where
       let here = waiting_at kind (status_behind status0 n0 older) (n0 + length older) e e.instruction in
       λ k. here ++ waiting_from kind (sym (status_push status0 n0 older e) k) (next_place older e k) es
 
-  -- once an instruction that was there has started, the stations hold what is behind it
+  -- once an instruction that was there has started, the stations hold what is after it
   stations_started : (older : List Entry) (e : Entry) (i : Instr) (es : List Entry) (issue : Issue) (message : Message) → e.instruction ≡ Some i → is_waiting e.stage ≡ true → stations_behind older (started issue message e ∷ es) ≡ stations_behind (older ++ e ∷ []) es
   stations_started older e i es issue message is waiting =
       let status = status_behind status0 n0 older in

@@ -34,7 +34,7 @@ All-one : (P : Store → Type 0) (b : Bool) (s : Store) (xs : List Store) → P 
 All-one P true s xs here rest = All-cons P s xs here rest
 All-one P false s xs here rest = rest
 
--- none is behind the last entry
+-- none is after the last entry
 pub stores_of-below : (n m : ℕ) (xs : List Entry) → n + length xs ≤ m → AreBelow seq_of m (stores_of n xs)
 stores_of-below n m [] le = λ k d within. absurd (omega arith)
 stores_of-below n m (e ∷ xs) le =
@@ -82,7 +82,7 @@ module _ (h : Hardware) (retired : AreBelow seq_of h.rob.retired h.committed) (o
   high : All (λ s. place ≤ s.seq) (stores_of place rest)
   high = stores_of-from place place rest (omega arith)
 
-  -- the queue's stores below an instruction's number are those behind the older ones
+  -- the queue's stores below an instruction's number are those after the older ones
   pub older_than-behind : older_than place (stores_behind h (older ++ rest)) ≡ stores_behind h older
   older_than-behind = ap (older_than place) split ∙ below-split seq_of place (stores_behind h older) (stores_of place rest) low high
 

@@ -1,4 +1,4 @@
--- The bytes that a load takes from the older stores and the cache are those of memory behind the stores.
+-- The bytes that a load takes from the older stores and the cache are those of memory after the stores.
 use Rattle.std.proofs.Common.{◌≡◌, ℕ, zero, suc, ◌+◌, ◌-◌, ◌<◌, ◌≤◌, ◌&&◌, Bool, true, List, [], ◌∷◌, ◌++◌, length, get_or, take, drop, Option, Some, None, is_some, refl, sym, ap, ◌∙◌, arith}
 use Rattle.std.specs.List.{slice_range}
 use Rattle.std.specs.Option.{unwrap_or}

@@ -1,4 +1,4 @@
--- The head retires: rename map, stations, bus and queue are those of the instructions behind it.
+-- The head retires: rename map, stations, bus and queue are those of the instructions after it.
 use Rattle.std.proofs.Common.{◌≡◌, ◌≢◌, ℕ, ◌+◌, ◌<◌, Bool, true, false, ◌==◌, not, if◌then◌else◌, inl, inr, List, [], ◌∷◌, ◌++◌, length, map, filter, Option, None, Some, IfSome, refl, ap, sym, ◌∙◌, arith, eq-eqb, ne_eqb, get_or-set_same, get_or-set_other}
 use Rattle.std.proofs.lemmas.Bool.{cases_eq}
 use Rattle.rv_isa.proofs.WithKind.{by_kind-same}
@@ -46,7 +46,7 @@ head_status : (registers : List ℕ) (seq : ℕ) (target : Option ℕ) (m : Mess
 head_status registers seq None m ok register = refl
 head_status registers seq (Some r) m ok register = written_status registers seq r m ok.0 ok.1 register
 
--- behind the head all values are those that it leaves
+-- after the head all values are those that it leaves
 status_behind_head : (registers : List ℕ) (seq : ℕ) (e : Entry) (m : Message) → broadcast_of e.stage ≡ Some m → IsTarget registers (target_of_word e.instruction) →
     status_with (values_in registers) seq e ≡ values_in (with_value registers (target_of_word e.instruction) (Some m))
 status_behind_head registers seq e m known ok =
@@ -95,7 +95,7 @@ noted_without : (r seq n : ℕ) (ps : List Producer) (cs kept : List Checkpoint)
 noted_without r seq n ps cs kept e true = rw (oldest_goes r seq ps, e) refl
 noted_without r seq n ps cs kept e false = e
 
--- the checkpoints behind a producer that retires no longer hold it
+-- the checkpoints after a producer that retires no longer hold it
 without_retired : (r seq : ℕ) (older : List Producer) (n : ℕ) (es : List Entry) →
     map (checkpoint_without_oldest r seq) (checkpoints_of (record { register = r; seq = seq } ∷ older) n es) ≡ checkpoints_of older n es
 without_retired r seq older n [] = refl

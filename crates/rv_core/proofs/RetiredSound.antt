@@ -45,7 +45,7 @@ older_with ss seq (Some access) are =
     AreBelow-push (λ (s : QueuedStore). s.seq) (seq + 1) ss (record { seq = seq; state = Filled access Committed })
     (AreBelow-weaken (λ (s : QueuedStore). s.seq) seq (seq + 1) ss (omega arith) are) (omega arith)
 
--- the instructions behind the head
+-- the instructions after the head
 pub entries_behind_head : (values : Values) (cycle : ℕ) (rob : ReorderBuffer) (e : Entry) (es : List Entry) → AreSoundEntries values cycle rob → rob.entries ≡ e ∷ es →
     rob.retired < 8 * cycle + 8 → AreSoundEntries values cycle (head_retired rob)
 entries_behind_head values cycle rob e es sound entries room = subst (AreSoundEntries values cycle) (sym (buffer_behind rob e es entries)) (record {

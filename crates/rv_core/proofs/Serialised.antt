@@ -1,4 +1,4 @@
--- A serialising head retires, which squashes what is behind it.
+-- A serialising head retires, which squashes what is after it.
 use Rattle.std.proofs.Common.{◌≡◌, ℕ, ◌+◌, ◌*◌, ◌<◌, List, ◌∷◌, length, Option, None, Some, refl, ap, ◌∙◌, arith, length-set}
 use Rattle.rv_isa.proofs.Numbered.{AreBelow-weaken}
 use Rattle.rv_rob.specs.ReorderBuffer.{ReorderBuffer, head_retired}

@@ -95,7 +95,7 @@ module _ (start h : Hardware) (steps : List Step) (old now : List Lesson → Typ
       subst (λ pc. AreTaught old (lessons_of all pc) now) (sym ((subst Left ends left).stays same)) (taught_all start h steps old now so_far all is_all)
 
 -- ---- the whole cycle
--- the phases behind commit leave the committed pc
+-- the phases after commit leave the committed pc
 pub executed_here : (lines : Lines) (old committed : Hardware) → Reachable old → committed ≡ (commit_with set.contains lines old).hardware → (execute committed).hardware.pc ≡ committed.pc
 executed_here lines old committed reached is =
     let done : IsDone lines (seen old) (with_lines lines old) (commit_with set.contains lines old) = commit_done (with_lines lines old) (lines_sound lines old (always_sound reached)) in

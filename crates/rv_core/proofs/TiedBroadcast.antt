@@ -1,4 +1,4 @@
--- A broadcast and the squash behind a wrong prediction keep the ties of the parts and the soundness of the hardware.
+-- A broadcast and the squash after a wrong prediction keep the ties of the parts and the soundness of the hardware.
 use Rattle.std.proofs.Common.{◌≡◌, ℕ, ◌+◌, ◌&&◌, true, false, [], ◌++◌, length, find, map, Some, None, refl, sym, ap, subst, ◌∙◌, arith}
 use Rattle.std.specs.Option.{IfSome}
 use Rattle.rv_isa.specs.PerKind.{for_each}

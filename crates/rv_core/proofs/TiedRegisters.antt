@@ -61,7 +61,7 @@ module _ (register : ℕ) where
   target-is operand (Some target) s e es from =
       own-is operand (youngest register (producers_of (s + 1) es)) target s e es from
 
-  -- a register behind some instructions
+  -- a register after some instructions
   pub status-is : (status : RegisterStatus) (s : ℕ) (es : List Entry) → status_behind status s es register ≡ operand_from (status register) (youngest register (producers_of s es)) s es
   status-is status s [] = refl
   status-is status s (e ∷ es) =

@@ -83,7 +83,7 @@ checkpoint-one : (b : Bool) (c : Checkpoint) → length (cond b (c ∷ []) []) �
 checkpoint-one true c = omega arith
 checkpoint-one false c = omega arith
 
--- the producers behind some instructions
+-- the producers after some instructions
 behind-producers : (older : List Producer) (s : ℕ) (es : List Entry) → behind producers_with older s es ≡ older ++ producers_of s es
 behind-producers older s [] = sym (append-nil older)
 behind-producers older s (e ∷ es) =
@@ -204,7 +204,7 @@ producers_at-jump n now older s (d ∷ es) e held jump = elim (cases_Bool (n == 
       )
 ]
 
--- a squash behind a branch or a jump
+-- a squash after a branch or a jump
 pub renaming-restored : (values : Values) (rob : ReorderBuffer) (n : ℕ) (e : Entry) → mends_early values.recovery ≡ true → entry_of n rob.retired rob.entries ≡ Some e → is_branch_or_jump e.instruction ≡ true
     → restored n (renaming_of values rob) ≡ renaming_of values (cut_from (n + 1) rob)
 renaming-restored values rob n e early held jump =

@@ -13,7 +13,7 @@ use Rattle.rv_core.specs.Soundness.{IsSoundHardware}
 use Rattle.rv_core.specs.Ties.{AreTied}
 use Rattle.rv_core.proofs.TiedRenaming.{no_checkpoints}
 
--- an image that is written over zeros has zeros behind it
+-- an image that is written over zeros has zeros after it
 pub image_over_zeros : (size : ℕ) (image : List ℕ) → image ++ drop (0 + length image) (replicate size 0) ≡ image ++ replicate (size - length image) 0
 image_over_zeros size image =
     let none : 0 + length image ≡ length image = omega arith in

@@ -122,7 +122,7 @@ module _ (unit : Kind) where
     woken-by s None other = rw other refl
     woken-by s (Some message) other = refl
 
-    -- behind an instruction with another number
+    -- after an instruction with another number
     woken-with : (status : RegisterStatus) (s : ℕ) (e : Entry) → (s == n) ≡ false → woken_status (status_with status s e) ≡ status_with (woken_status status) s e
     woken-with status s e other = λ i register.
         (elim (writes e register) as (λ b. woken_operand n value (cond b (operand_by s (broadcast_of e.stage)) (status register)) ≡ cond b (operand_by s (broadcast_of e.stage)) (woken_operand n value (status register))) [
@@ -139,7 +139,7 @@ module _ (unit : Kind) where
         ap (λ st. waiting_at unit (woken_status status) s e e.instruction ++ waiting_from unit st (s + 1) es) (woken-with status s e (ne_eqb s n (omega (arith, lt))))
 
     module _ (cycle : ℕ) (message : Message) (same : message.value ≡ value) where
-      -- behind the instruction itself
+      -- after the instruction itself
       woken-own : (status : RegisterStatus) (s : ℕ) (e : Entry) → (s == n) ≡ true → broadcast_of e.stage ≡ None → woken_status (status_with status s e) ≡ status_with (woken_status status) s (finished message cycle e)
       woken-own status s e equal silent = λ i register.
           (elim (writes e register) as (λ b. woken_operand n value (cond b (operand_by s (broadcast_of e.stage)) (status register)) ≡ cond b (Value message.value) (woken_operand n value (status register))) [

@@ -28,7 +28,7 @@ defined_path address (Without cause) = DefinedWithout
 defined_path address (FromStores overlay) = DefinedFromStores
 defined_path address (FromCache overlay) = DefinedFromCache address
 
--- the path of an instruction behind some stores, by the value of its first register
+-- the path of an instruction after some stores, by the value of its first register
 abbrev pub load_path : Layout → List Store → ℕ → Instr → DefinedPath
 load_path layout stores first (Load form rd rs1 offset) =
     defined_path (sum first (modulo_word offset)) (path_of layout stores (sum first (modulo_word offset)) (bytes_of (width_of form)))
@@ -55,7 +55,7 @@ path_cost latency forward cache DefinedWithout = latency
 path_cost latency forward cache DefinedFromStores = forward
 path_cost latency forward cache (DefinedFromCache address) = access_cost cache address
 
--- the first cycle in which the port is idle: as before, or behind an access that begins in this cycle
+-- the first cycle in which the port is idle: as before, or after an access that begins in this cycle
 abbrev pub port_after : ℕ → ℕ → Contents Memory → DefinedPath → ℕ
 port_after cycle port_free cache DefinedWithout = port_free
 port_after cycle port_free cache DefinedFromStores = port_free
@@ -93,7 +93,7 @@ LiesIn base size (Filled access phase) = (base ≤ access.address) × (access.ad
 abbrev pub LieIn : ℕ → ℕ → List Store → Type 0
 LieIn base size stores = All (λ (s : Store). LiesIn base size s.state) stores
 
--- a state's memory is the cache's behind some stores
+-- a state's memory is the cache's after some stores
 pub record IsBehind (cache : Contents Memory) (stores : List Store) (s : State) : Type 0 where
   pub inside : LieIn cache.base (length cache.bytes) stores
   pub ram : s.ram ≡ memory_behind cache.base stores cache.bytes

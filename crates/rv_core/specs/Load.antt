@@ -40,7 +40,7 @@ abbrev pub path_unless : Option Cause → List (Option ℕ) → ℕ → Path
 path_unless (Some cause) overlay count = Without cause
 path_unless None overlay count = path_over overlay count
 
--- the path of a load behind some stores
+-- the path of a load after some stores
 abbrev pub path_of : Layout → List Store → ℕ → ℕ → Path
 path_of layout stores address count = path_unless (load_fault layout address count) (forwarded stores address count) count
 

@@ -40,7 +40,7 @@ progress_after report progress = record {
   longest_gap = max progress.longest_gap (silence_after (is_silent report.steps) progress.silent);
 }
 
--- one more cycle of a run, with the lines of its number: its steps stand behind those before, and it is counted
+-- one more cycle of a run, with the lines of its number: its steps stand after those before, and it is counted
 pub record IsNextCycle (arrivals : List Arrival) (old new : Hardware) (steps steps' : List Step) (progress progress' : Progress) (stop : Option Stop) : Type 0 where
   pub report : Report
   pub cycle : IsCycle any_prediction (lines_at arrivals old.cycle) old report new

@@ -23,7 +23,7 @@ abbrev pub IsOutcome : List Arrival → ℕ → Hardware → Hardware → Outcom
 IsOutcome arrivals limit old new outcome =
     (reports : List Report) × IsRun arrivals old new reports outcome.steps.items outcome.stalls outcome.busy outcome.cycles outcome.longest_gap × IsStop limit reports new outcome.stop
 
--- one that ended for want of memory: nothing stopped it, and it had cycles left
+-- one that ended when out of memory: nothing stopped it, and it had cycles left
 abbrev pub IsCutShort : List Arrival → ℕ → Hardware → Hardware → OutOfMemory → Type 0
 IsCutShort arrivals limit old new done =
     (reports : List Report) × IsRun arrivals old new reports done.steps.items done.stalls done.busy done.cycles done.longest_gap × NoneStops reports × (length reports < limit)
@@ -38,7 +38,7 @@ reported outcome = record {
   longest_gap = outcome.longest_gap;
 }
 
--- what one reports that ended for want of memory
+-- what one reports that ended when out of memory
 abbrev pub reported_so_far : OutOfMemory → Reported
 reported_so_far done = record {
   steps = done.steps.items;

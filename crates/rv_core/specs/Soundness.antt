@@ -2,6 +2,7 @@
 use Rattle.std.specs.Prelude.{◌≡◌, ℕ, ◌+◌, ◌*◌, ◌^◌, ◌<◌, ◌≤◌, Bool, true, false, List, length, Option, Some, None, option_and_then, IfSome}
 use Rattle.std.specs.List.{All, AllPairs}
 use Rattle.rv_isa.specs.Description.{IsLegal}
+use Rattle.rv_isa.specs.Instruction.{is_serialising, is_store, target_of_word}
 use Rattle.rv_isa.specs.Numbered.{AreBelow}
 use Rattle.rv_isa.specs.declared.{broadcast.Message.Message, broadcast.StoreAccess.StoreAccess, causes.Fault.Fault, values.Values.Values}
 use Rattle.rv_decode.specs.Decodes.{instruction_of}
@@ -15,7 +16,6 @@ use Rattle.rv_stores.specs.declared.store.{Store.Store as QueuedStore, StoreStat
 use Rattle.rv_stores.specs.declared.store.StorePhase.TheVariants.{Speculative, Committed, Draining}
 use Rattle.rv_stores.specs.declared.store.StoreState.TheVariants as store
 use Rattle.rv_hardware.specs.Hardware.{Hardware}
-use Rattle.rv_isa.specs.Instruction.{is_serialising, is_store, target_of_word}
 use Rattle.rv_hardware.specs.Seen.{layout_of}
 
 -- what a store writes: 1, 2 or 4 bytes at a multiple of their number, in RAM
@@ -60,7 +60,7 @@ pub record IsDescribedCache (described : Values) (cache : Contents Memory) : Typ
   pub bytes : length cache.bytes ≡ described.ram_size
   pub layout : cache.backing.layout ≡ layout_of described
 
--- what holds of the instructions in flight: none stands behind a serialising one
+-- what holds of the instructions in flight: none stands after a serialising one
 pub record AreSoundEntries (values : Values) (cycle : ℕ) (rob : ReorderBuffer) : Type 0 where
   pub capacity : rob.capacity ≡ values.rob
   pub within : length rob.entries ≤ values.rob

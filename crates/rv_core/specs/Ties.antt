@@ -1,5 +1,6 @@
 -- What the parts of the core hold beside the hardware: functions of the instructions in flight, numbered from the oldest.
 use Rattle.std.specs.Prelude.{◌≡◌, ℕ, ◌+◌, if◌then◌else◌, List, [], ◌∷◌, ◌++◌, slice_index, slice_index_or, Option, Some, None}
+use Rattle.rv_isa.specs.Instruction.{is_branch_or_jump, target_of_word}
 use Rattle.rv_isa.specs.Operands.{sources_of}
 use Rattle.rv_isa.specs.PerKind.{at_kind, by_kind}
 use Rattle.rv_isa.specs.declared.{broadcast.Message.Message, instructions.Instr.Instr, operations.Kind.Kind, per_kind.PerKind.PerKind, values.Values.Values}
@@ -18,7 +19,6 @@ use Rattle.rv_hardware.specs.Broadcast.{mends_early}
 use Rattle.rv_hardware.specs.Dispatch.{is_stationed}
 use Rattle.rv_hardware.specs.Hardware.{Hardware}
 use Rattle.rv_hardware.specs.InFlight.{broadcast_of, writes}
-use Rattle.rv_isa.specs.Instruction.{is_branch_or_jump, target_of_word}
 use Rattle.rv_hardware.specs.Seen.{stores_behind}
 
 -- the producer that an instruction is, where it writes a register
@@ -64,11 +64,11 @@ abbrev pub operand_by : ℕ → Option Message → Operand
 operand_by seq None = Tag seq
 operand_by seq (Some message) = Value message.value
 
--- the status behind an instruction
+-- the status after an instruction
 abbrev pub status_with : RegisterStatus → ℕ → Entry → RegisterStatus
 status_with status seq e register = if writes e register then operand_by seq (broadcast_of e.stage) else status register
 
--- the status behind some instructions, the first of which has a sequence number
+-- the status after some instructions, the first of which has a sequence number
 abbrev pub status_behind : RegisterStatus → ℕ → List Entry → RegisterStatus
 status_behind status seq [] = status
 status_behind status seq (e ∷ es) = status_behind (status_with status seq e) (seq + 1) es
@@ -130,7 +130,7 @@ bus_of values rob = record {
   width = values.bus_width;
 }
 
--- the store queue: the retired stores, and behind them those in flight
+-- the store queue: the retired stores, and after them those in flight
 abbrev pub queue_of : Hardware → Queue
 queue_of h = record { stores = stores_behind h h.rob.entries; capacity = h.values.store_queue }
 

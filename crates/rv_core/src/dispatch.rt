@@ -1,5 +1,6 @@
 ghost use Rattle.std.specs.Prelude.{◌≡◌, ◌≢◌, ℕ, ◌<◌, ◌≤◌, ◌^◌, ◌&&◌, nat_le, length, true, false, None, Some, IfSome, option_and_then};
 ghost use Rattle.std.specs.List.{AllPairs, list_any};
+ghost use Rattle.rv_isa.specs.Instruction.{is_branch_or_jump, is_serialising, is_store, target_of_word, kind_of_word};
 ghost use Rattle.rv_isa.specs.Numbered.{AreBelow};
 ghost use Rattle.rv_isa.specs.PerKind.{at_kind};
 ghost use Rattle.rv_isa.specs.declared.operations.Kind.{Kind as KindOf};
@@ -12,7 +13,6 @@ ghost use Rattle.rv_hardware.specs.Broadcast.{mends_early};
 ghost use Rattle.rv_hardware.specs.Dispatch.{dispatch, dispatch_turn, entry_of_fetched, first_stage, reason_of, stall_of};
 ghost use Rattle.rv_hardware.specs.Hardware.{Hardware};
 ghost use Rattle.rv_hardware.specs.InFlight.{broadcast_of};
-ghost use Rattle.rv_isa.specs.Instruction.{is_branch_or_jump, is_serialising, is_store, target_of_word, kind_of_word};
 ghost use Rattle.rv_core.specs.Entering.{are_full_for, with_instruction, with_jump, with_store, with_target};
 ghost use Rattle.rv_core.specs.Ties.{operand_by, operand_of, producers_of, status_behind, values_in};
 ghost use Rattle.rv_core.specs.Told.{dispatch_told, dispatching};

@@ -35,7 +35,7 @@ impl fmt::Display for NewError {
 
 impl Error for NewError {}
 
-/// A run that ended for want of memory, at the end of its last whole cycle: what it did up to there.
+/// A run that ended when out of memory, at the end of its last whole cycle: what it did up to there.
 #[derive(Debug, Drop)]
 pub struct OutOfMemory {
     /// The steps in program order.

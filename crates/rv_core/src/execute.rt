@@ -1,5 +1,6 @@
 ghost use Rattle.std.specs.Prelude.{◌≡◌, ℕ, true, false, Some, None, is_some};
 ghost use Rattle.rv_isa.specs.Bytes.{bytes_of_number};
+ghost use Rattle.rv_isa.specs.Instruction.{is_serialising, is_load, kind_of_word};
 ghost use Rattle.rv_isa.specs.Operands.{kind_of};
 ghost use Rattle.rv_isa.specs.Operation.{bytes_of};
 ghost use Rattle.rv_isa.specs.Word.{modulo_word, sum, pc_plus_4};
@@ -7,7 +8,6 @@ ghost use Rattle.rv_isa.specs.declared.lines.Lines.{Lines};
 ghost use Rattle.rv_arch.specs.Effect.{branches, goes_to, jumps, writes};
 ghost use Rattle.rv_arch.specs.State.{State, write_of};
 ghost use Rattle.rv_memory.specs.Memory.{Layout};
-ghost use Rattle.rv_isa.specs.Instruction.{is_serialising, is_load, kind_of_word};
 ghost use Rattle.rv_hardware.specs.Result.{effect_message, fault_message, result_in, result_of_word, value_written};
 ghost use Rattle.rv_core.specs.Execution.{Reads, is_operation};
 ghost use Rattle.rv_core.specs.Load.{store_fault};

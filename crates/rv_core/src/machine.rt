@@ -60,7 +60,7 @@ impl Core {
     /// # Errors
     ///
     /// `ImageDoesNotFit` where the image's base is not that of RAM, its bytes are longer than RAM, or its start is no
-    /// multiple of 4; this is decided before memory is asked for. `Memory` for want of memory. No other call but `run`
+    /// multiple of 4; this is decided before memory is asked for. `Memory` when out of memory. No other call but `run`
     /// asks for any.
     pub fn new(
         alloc: Global,

@@ -141,7 +141,7 @@ module _ (number : ℕ) (under : Option ℕ) (h : Hardware) (stands : Stands num
         costs = ap (begun number under) stands.ends ∙ same_end number under;
       })
 
--- ---- behind it the access under way stays
+-- ---- after it the access under way stays
 record Stays (number : ℕ) (under : Option ℕ) (h : Hardware) : Type 0 where
   pub cycle : h.cycle ≡ number
   pub later : is_oldest_draining h.committed ≡ true → number < h.port_free

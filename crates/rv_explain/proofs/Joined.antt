@@ -70,7 +70,7 @@ lines_from_last listing word zero (count ∷ []) is = one (is_one_line (number_o
 lines_from_last listing word zero (count ∷ next ∷ counts) is = absurd (omega (arith, is))
 lines_from_last listing word (suc place) (count ∷ counts) is = ap (λ rest. count ∷ rest) (lines_from_last listing (word + 1) place counts (omega (arith, is)))
 
--- the count behind a place given to the place
+-- the count after a place given to the place
 pub set_both : (counts : List ℕ) (place : ℕ) → suc place < length counts
     → slice_set (slice_set counts place (get_or counts place 0 + get_or counts (suc place) 0)) (suc place) 0 ≡ with_next_at place counts
 set_both [] place within = absurd (omega (arith, within))

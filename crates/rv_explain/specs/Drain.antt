@@ -11,7 +11,7 @@ use Rattle.rv_explain.specs.Access.{access_text}
 use Rattle.rv_explain.specs.History.{Moment}
 use Rattle.rv_explain.specs.declared.accesses.Accesses.{Accesses}
 
--- what the access costs that the drain phase of a cycle begins, which comes behind the commit phase, if it begins one
+-- what the access costs that the drain phase of a cycle begins, which comes after the commit phase, if it begins one
 abbrev pub drain_in : List Arrival → Hardware → Option ℕ
 drain_in arrivals h = drain_cost (commit_with set.contains (lines_at arrivals h.cycle) h).hardware
 
@@ -25,7 +25,7 @@ abbrev pub ends_at : ℕ → Option ℕ → Bool
 ends_at end None = false
 ends_at end (Some other) = other == end
 
--- the same cost by the ends of the accesses that are under way before a cycle and behind it: no two have one end
+-- the same cost by the ends of the accesses that are under way before a cycle and after it: no two have one end
 abbrev pub begun : ℕ → Option ℕ → Option ℕ → Option ℕ
 begun cycle before None = None
 begun cycle before (Some end) = if ends_at end before then None else Some (end - cycle)

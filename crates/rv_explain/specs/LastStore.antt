@@ -19,7 +19,7 @@ abbrev pub with_written : List ℕ → Option (ℕ × ℕ) → List ℕ
 with_written registers None = registers
 with_written registers (Some write) = with_register registers write.0 write.1
 
--- the registers behind a step
+-- the registers after a step
 abbrev pub registers_after : List ℕ → Step → List ℕ
 registers_after registers (Retired row) = with_written registers row.written
 registers_after registers (Trap pc cause value cycle) = registers

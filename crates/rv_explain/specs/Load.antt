@@ -1,9 +1,9 @@
 -- The loads of a run by what they cost.
 use Rattle.std.specs.Prelude.{ℕ, ◌==◌, ◌||◌, Bool, false, if◌then◌else◌, List, codes, Option, Some, None, count_by, is_some}
 use Rattle.std.specs.Option.{option_map}
+use Rattle.rv_isa.specs.Instruction.{is_load}
 use Rattle.rv_isa.specs.declared.values.Values.{Values}
 use Rattle.rv_decode.specs.Decodes.{instruction_of}
-use Rattle.rv_isa.specs.Instruction.{is_load}
 use Rattle.rv_hardware.specs.declared.step.{Execution.Execution, Row.Row, Step.Step}
 use Rattle.rv_hardware.specs.declared.step.Step.TheVariants.{Retired, Trap, Interrupt}
 use Rattle.rv_explain.specs.Access.{access_text}

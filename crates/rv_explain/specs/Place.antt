@@ -12,7 +12,7 @@ number_text number = codes ", line " ++ (decimal number ++ codes ": ")
 unfoldable pub line_text : ℕ → List ℕ → List ℕ
 line_text number text = number_text number ++ (plain_text (take 64 text) ++ codes "\n")
 
--- what stands behind an address: its line, or that there is none
+-- what stands after an address: its line, or that there is none
 unfoldable pub line_behind : Option Line → List ℕ
 line_behind (Some line) = line_text line.number line.text
 line_behind None = codes ", which no line of the program fills\n"

@@ -8,7 +8,7 @@ use crate::accesses::{Accesses, write_accesses};
 use rv_text::ReportError;
 use std::io::Write;
 
-/// What a drain costs that began in a cycle, by the ends of those under way before and behind it.
+/// What a drain costs that began in a cycle, by the ends of those under way before and after it.
 pub(crate) fn begun(cycle: u64, before: Option<u64>, after: Option<u64>) -> Option<u64>
     ensures { result ≡ begun cycle before after }
 {

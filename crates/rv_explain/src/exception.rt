@@ -7,8 +7,8 @@ pub(crate) struct Exception {
     pub(crate) cause: Cause,
     pub(crate) value: u32,
     pub(crate) cycle: u64,
-    /// What `mtvec` holds behind the cycle.
+    /// What `mtvec` holds after the cycle.
     pub(crate) mtvec: u32,
-    /// The pc behind the cycle.
+    /// The pc after the cycle.
     pub(crate) next_pc: u32,
 }

@@ -89,7 +89,7 @@ fn write_cause<W: Write>(writer: &mut W, exception: &Exception) -> Result<(), Re
     )
 }
 
-// How the program went on behind a trap.
+// How the program went on after a trap.
 #[tactic(auto, unfolding(crate::specs::Exception::went_on))]
 fn went_on(mtvec: u32) -> &'static [u8]
     ensures { result.now ≡ went_on mtvec }
@@ -122,7 +122,7 @@ fn write_taken<W: Write>(
     write_handler(writer, exception)
 }
 
-/// Writes what the first trap was that is no breakpoint, and where the program went on behind it.
+/// Writes what the first trap was that is no breakpoint, and where the program went on after it.
 #[tactic(auto, unfolding(crate::specs::Exception::exception_text))]
 pub(crate) fn write_exception<W: Write>(
     writer: &mut W,

@@ -105,7 +105,7 @@ fn write_told<W: Write>(
 ///
 /// # Errors
 ///
-/// `Memory` for want of memory: then nothing was run and nothing was written. `WriteFailed` where a write fails: then what was
+/// `Memory` when out of memory: then nothing was run and nothing was written. `WriteFailed` where a write fails: then what was
 /// written is a beginning of the sentences, and the run is done to its end.
 pub fn write_explanation<W: Write>(
     alloc: Global,

@@ -16,7 +16,7 @@ fn is_one_line(listing: &Listing, word: u32, other: u32) -> bool
     }
 }
 
-// Gives the cycles at the head of the word behind a place to the word there.
+// Gives the cycles at the head of the word after a place to the word there.
 fn join_next(words: &mut [WordNote], place: usize)
     requires within { place + 1 < length words.old }
     requires room { sum (map (λ note. note.head_cycles) words.old) < 2 ^ 64 }

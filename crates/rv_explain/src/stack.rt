@@ -19,7 +19,7 @@ fn parts_of(parts: u32, count: u64, all: u64) -> u128
     }
 }
 
-// What of a text is behind so many bytes.
+// What of a text is after so many bytes.
 fn behind(text: &[u8], count: usize) -> &[u8]
     ensures { result.now ≡ drop count text.now }
 {

@@ -55,7 +55,7 @@ fn store_of(registers: &[u32; 32], step: &Step) -> Option<Stored>
     stored_by_word(registers, row.pc, decode(row.word))
 }
 
-// Puts the registers behind a step.
+// Puts the registers after a step.
 fn write_register(registers: &mut [u32; 32], step: &Step)
     ensures { registers.new ≡ registers_after registers.old step.now }
 {

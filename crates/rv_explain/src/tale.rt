@@ -38,7 +38,7 @@ fn count_retired(steps: &[Step]) -> usize
 }
 
 impl Tale {
-    /// What is kept of no cycle. The only error is want of memory.
+    /// What is kept of no cycle. The only error is out of memory.
     pub(crate) fn new(alloc: Global, description: &Description) -> Result<Tale, AllocError>
         ensures { IfOk result (λ tale. (arrivals : List Arrival) (h : Hardware) → tale ≡ tale_of description.now arrivals h []) }
     {

@@ -64,7 +64,7 @@ fn clear_head(words: &mut [WordNote], place: usize)
 }
 
 impl WordNotes {
-    /// What is kept of no cycle. The only error is want of memory.
+    /// What is kept of no cycle. The only error is out of memory.
     #[tactic(auto, using(crate::proofs::WordTable::all_alike))]
     pub(crate) fn new(alloc: Global, description: &Description) -> Result<WordNotes, AllocError>
         ensures { IfOk result (λ notes. notes ≡ notes_of description.now (λ _. record { last_store = None; head_cycles = 0 })) }

@@ -24,7 +24,7 @@ sequential (Jump target) is = cc
 sequential (Branch target backward) is = cc
 sequential Indirect is = cc
 
--- the row has one of the opcodes, or makes an instruction behind which the next word is
+-- the row has one of the opcodes, or makes an instruction after which the next word is
 abbrev stays : ℕ → ℕ → Row → Bool
 stays pc word row = list_any (λ code. opcode row.fixed == code) codes_elsewhere || is_sequential (flow_of pc (row.instruction word))
 

@@ -36,12 +36,12 @@ IsChain front = IsLinked front.entries front.next_pc
 abbrev pub Answers : Type 1
 Answers = ℕ → ℕ → ℕ → Type 0
 
--- a guess of what comes behind the word at a pc: the predictor's answer, or the next address where there is no word to ask it of
+-- a guess of what comes after the word at a pc: the predictor's answer, or the next address where there is no word to ask it of
 abbrev pub IsGuess : Answers → ℕ → Option ℕ → ℕ → Type 0
 IsGuess answers pc None next = next ≡ pc_plus_4 pc
 IsGuess answers pc (Some word) next = answers pc word next
 
--- the prediction behind a word: a guess, which is an address, rounded down to a multiple of 4
+-- the prediction after a word: a guess, which is an address, rounded down to a multiple of 4
 pub record IsPrediction (answers : Answers) (pc : ℕ) (word : Option ℕ) (predicted : ℕ) : Type 0 where
   pub guess : ℕ
   pub guessed : IsGuess answers pc word guess
@@ -56,13 +56,13 @@ pub record IsFetchedAt (answers : Answers) (ram : Memory) (cycle pc : ℕ) (entr
   pub predicted_is : IsPrediction answers pc entry.word entry.predicted
   pub cycle_is : entry.cycle ≡ cycle
 
--- why a fetch ends with a word: RAM gives none, or the prediction is not the address behind it
+-- why a fetch ends with a word: RAM gives none, or the prediction is not the address after it
 abbrev pub stop_for : Option ℕ → Bool → Option FetchStop
 stop_for None straight = Some Halted
 stop_for (Some word) true = None
 stop_for (Some word) false = Some Prediction
 
--- why a fetch ends behind a word, if it does
+-- why a fetch ends after a word, if it does
 abbrev pub stop_behind : Fetched → Option FetchStop
 stop_behind e = stop_for e.word (e.predicted == pc_plus_4 e.pc)
 
@@ -90,7 +90,7 @@ is_halted Room = false
 is_halted Prediction = false
 is_halted Halted = true
 
--- a cycle's fetch: a halted front stays as it is; any other keeps its words, and the new ones come behind them
+-- a cycle's fetch: a halted front stays as it is; any other keeps its words, and the new ones come after them
 abbrev pub FetchesInto : Answers → Memory → ℕ → FetchBuffer → FetchBuffer → FetchStop → Type 0
 FetchesInto answers ram cycle old new stop =
     MatchBool old.halted

@@ -1,4 +1,4 @@
--- Where a program may go on behind an instruction.
+-- Where a program may go on after an instruction.
 use Rattle.std.specs.Prelude.{ℕ, ◌==◌, Bool, pos, int_lt, List, [], ◌∷◌, bit_and, Option, Some, None}
 use Rattle.std.specs.List.{list_any}
 use Rattle.rv_isa.specs.Word.{pc_plus}
@@ -8,19 +8,19 @@ use Rattle.rv_decode.specs.Decodes.{instruction_of}
 use Rattle.rv_front.specs.declared.flow.Flow.{Flow}
 use Rattle.rv_front.specs.declared.flow.Flow.TheVariants as flow
 
--- Unprivileged ISA 20191213, 2.5: where the program may go on behind an instruction at a pc
+-- Unprivileged ISA 20191213, 2.5: where the program may go on after an instruction at a pc
 abbrev pub flow_of : ℕ → Instr → Flow
 flow_of pc (Jal rd offset) = flow.Jump (pc_plus pc offset)
 flow_of pc (Jalr rd rs1 offset) = flow.Indirect
 flow_of pc (Branch condition rs1 rs2 offset) = flow.Branch (pc_plus pc offset) (int_lt offset (pos 0))
 flow_of pc other = flow.Sequential
 
--- an illegal word traps, so that nothing is guessed behind it but the next word
+-- an illegal word traps, so that nothing is guessed after it but the next word
 abbrev pub flow_behind : ℕ → Option Instr → Flow
 flow_behind pc None = flow.Sequential
 flow_behind pc (Some instruction) = flow_of pc instruction
 
--- where the program may go on behind a word at a pc
+-- where the program may go on after a word at a pc
 abbrev pub flow_at : ℕ → ℕ → Flow
 flow_at pc word = flow_behind pc (instruction_of word)
 

@@ -7,6 +7,6 @@ pub record Lesson : Type 0 where
   pub word : ℕ
   pub next : ℕ
 
--- From what may have been learned before to what may have been learned since: these lessons are behind the others.
+-- From what may have been learned before to what may have been learned since: these lessons are after the others.
 abbrev pub AreTaught : (List Lesson → Type 0) → List Lesson → (List Lesson → Type 0) → Type 0
 AreTaught old lessons new = (before : List Lesson) → old before → new (before ++ lessons)

@@ -25,7 +25,7 @@ pub enum FetchStop {
     Width,
     /// The fetch buffer was full.
     Room,
-    /// A prediction was not the address behind the word.
+    /// A prediction was not the address after the word.
     Prediction,
     /// The pc is outside RAM: nothing is fetched until the front is redirected.
     Halted,

@@ -4,7 +4,7 @@ ghost use Rattle.rv_front.specs.Flow.{flow_at, flow_of, leads_elsewhere};
 use rv_decode::decode;
 use rv_isa::Instr;
 
-/// Where a program may go on behind an instruction, as far as its word and its pc tell.
+/// Where a program may go on after an instruction, as far as its word and its pc tell.
 #[derive(Clone, Copy, Debug, PartialEq, Eq)]
 pub enum Flow {
     /// At the next word: the instruction neither branches nor jumps, or the word is illegal.
@@ -26,7 +26,7 @@ pub enum Flow {
 }
 
 impl Flow {
-    /// Where the program may go on behind the word at a pc.
+    /// Where the program may go on after the word at a pc.
     pub fn at(pc: u32, word: u32) -> Flow
         ensures { result ≡ flow_at pc word }
     {
@@ -40,7 +40,7 @@ impl Flow {
         }
     }
 
-    // Where the program may go on behind the instruction at a pc.
+    // Where the program may go on after the instruction at a pc.
     fn of(pc: u32, instruction: Instr) -> Flow
         ensures { result ≡ flow_of pc instruction }
     {

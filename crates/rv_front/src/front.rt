@@ -50,7 +50,7 @@ impl Front {
 
     /// Fetches words along the predicted pcs, as many as a cycle may while the buffer has room, and tells why it stopped.
     ///
-    /// It stops behind a prediction other than pc + 4. A pc outside RAM gives an entry without a word, for which the
+    /// It stops after a prediction other than pc + 4. A pc outside RAM gives an entry without a word, for which the
     /// predictor is not asked, and halts the front until it is redirected.
     pub fn fetch(&mut self, cycle: u64, ram: &Ram, predictor: &dyn Predictor) -> FetchStop
         ensures fetched { FetchesInto (answers predictor.now) ram.now cycle self.old self.new result }

@@ -1,7 +1,7 @@
 ghost use Rattle.std.specs.Prelude.{ℕ, List, [], ◌∷◌};
 ghost use Rattle.rv_front.specs.Lesson.{AreTaught, Lesson};
 
-/// What guesses where the program goes on behind each fetched word.
+/// What guesses where the program goes on after each fetched word.
 ///
 /// Nothing is asked of the answers: whoever uses a predictor is right for every one.
 pub trait Predictor: Drop {
@@ -11,7 +11,7 @@ pub trait Predictor: Drop {
     // What it may have been taught so far, the first lesson first.
     ghost has_learned: { Self → List Lesson → Type 0 };
 
-    /// Guesses the pc of the instruction behind the one whose word was fetched at `pc`.
+    /// Guesses the pc of the instruction after the one whose word was fetched at `pc`.
     fn predict(&self, pc: u32, word: u32) -> u32
         ensures { answers self.now pc word result };
 

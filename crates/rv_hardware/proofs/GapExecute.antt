@@ -1,4 +1,4 @@
--- The hardware behind commit: what its phases leave of it, and its patience in the cycle after.
+-- The hardware after commit: what its phases leave of it, and its patience in the cycle after.
 use Rattle.std.proofs.Common.{◌≡◌, ℕ, ◌+◌, ◌≤◌, false, List, [], ◌∷◌, Option, Some, refl, sym, ap, subst, ◌∙◌, arith}
 use Rattle.rv_isa.specs.declared.broadcast.Message.{Message}
 use Rattle.rv_isa.specs.declared.instructions.Instr.{Instr}
@@ -76,7 +76,7 @@ same-longest h front =
     ap (λ (v : Values). longest_execution (record d { values = v })) same.0
     ∙ ap (λ (c : CacheValues). longest_execution (record h { cache = record h.cache { values = c } })) same.1
 
--- ---- the oldest instruction in the phases behind issue
+-- ---- the oldest instruction in the phases after issue
 module _ (instruction : Option Instr) (R : Stage → Type 0) (cycle : ℕ)
     (closed : (stage : Stage) (message : Message) (issue : Option Issue) → result_at cycle stage ≡ Some message → R stage → R (Finished issue cycle message)) where
   abbrev HasHead : Hardware → Type 0

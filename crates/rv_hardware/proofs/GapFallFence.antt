@@ -51,7 +51,7 @@ never_issued k older younger e entries each split of_kind =
     let own = (Each-back IsFence older (e ∷ younger) (subst (Each IsFence) split each)).0 in
     false≢true (sym (ap (λ i. is_of_kind k (kind_of_word i)) own) ∙ of_kind)
 
--- ---- the phases behind drain
+-- ---- the phases after drain
 module _ (h : Hardware) (front : FetchBuffer) (e : Entry) (split : h.rob.entries ≡ e ∷ []) (is : IsFence e) where
   abbrev issued : Hardware
   issued = issue (drain h)

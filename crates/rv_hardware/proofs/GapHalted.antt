@@ -33,7 +33,7 @@ word_of_fetched f = f.word
 abbrev pub words_of : List Entry → List Fetched → List (Option ℕ)
 words_of entries fetched = map word_of_entry entries ++ map word_of_fetched fetched
 
--- the last of some words, behind another one
+-- the last of some words, after another one
 abbrev pub last_of : Option ℕ → List (Option ℕ) → Option ℕ
 last_of before [] = before
 last_of before (w ∷ ws) = last_of w ws

@@ -1,4 +1,4 @@
--- The oldest instruction in flight, and what becomes of it in the phases behind commit.
+-- The oldest instruction in flight, and what becomes of it in the phases after commit.
 use Rattle.std.proofs.Common.{◌≡◌, true, false, List, [], ◌∷◌, ◌++◌, Option, sym, subst, ◌∙◌}
 use Rattle.rv_isa.specs.declared.instructions.Instr.{Instr}
 use Rattle.rv_rob.specs.declared.entry.Entry.{Entry}

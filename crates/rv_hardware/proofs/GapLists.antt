@@ -1,4 +1,4 @@
--- The instructions in flight around one of them: the oldest that passes a test, a change of it, and what is cut behind it.
+-- The instructions in flight around one of them: the oldest that passes a test, a change of it, and what is cut after it.
 use Rattle.std.proofs.Common.{◌≡◌, ℕ, ◌+◌, ◌≤◌, Bool, true, false, cond, List, [], ◌∷◌, ◌++◌, length, Option, Some, refl, ap, arith, append_assoc}
 use Rattle.std.proofs.lemmas.Bool.{eq-eqb, ne_eqb, lt-ltb, le-ltb}
 use Rattle.rv_rob.specs.ReorderBuffer.{with_entry, entries_below}

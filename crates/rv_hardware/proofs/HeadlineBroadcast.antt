@@ -33,7 +33,7 @@ use Rattle.rv_hardware.proofs.HeadlineSplit.{IsOldest, oldest_found, behind-appe
 use Rattle.rv_hardware.proofs.HeadlineStage.{behind_aligned, here_in_flight, FollowsProgram-staged}
 use Rattle.rv_hardware.proofs.Repeated.{Leaves, kept_by_turns}
 
--- ---- the pc behind an instruction that does not fault is a multiple of 4
+-- ---- the pc after an instruction that does not fault is a multiple of 4
 aligned_effect : (layout : Layout) (s : State) (target : Option ℕ) (access : Option StoreAccess) (effect : Effect) → IsTold layout s target access effect →
     is_none (effect_message access effect).fault ≡ true → (effect_message access effect).next_pc % 4 ≡ 0
 aligned_effect layout s target access (Retires written next) told none = told.aligned

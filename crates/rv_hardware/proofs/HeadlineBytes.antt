@@ -1,4 +1,4 @@
--- A byte behind stores is that of the youngest which covers it, else memory's.
+-- A byte after stores is that of the youngest which covers it, else memory's.
 use Rattle.std.proofs.Common.{◌≡◌, ℕ, ◌+◌, ◌-◌, ◌<◌, ◌≤◌, false, nat_le, nat_lt, List, [], ◌∷◌, length, get_or, slice_get, Option, Some, None, refl, sym, ap, ◌∙◌, inl, inr, arith}
 use Rattle.std.specs.Option.{option_or, unwrap_or}
 use Rattle.std.proofs.lemmas.Bool.{cond-true, cond-false, cases_lt, le-leb, lt-ltb}
@@ -71,7 +71,7 @@ module _ (layout : Layout) where
       ]
     ]
 
-  -- behind one store
+  -- after one store
   byte_behind_one : (state : StoreState) (xs : List ℕ) (i : ℕ) → IsStateInside layout state → length xs ≡ layout.size →
       get_or (with_store layout.base state xs) i 0 ≡ unwrap_or (byte_of_state (layout.base + i) state) (get_or xs i 0)
   byte_behind_one Waiting xs i inside size = refl
@@ -83,7 +83,7 @@ module _ (layout : Layout) where
   length-behind_one Faulted xs inside size = size
   length-behind_one (Filled access phase) xs inside size = length-stored layout access inside xs size
 
-  -- behind all of them
+  -- after all of them
   pub byte_behind : (ss : List QueuedStore) (xs : List ℕ) (i : ℕ) → Each (IsInside layout) ss → length xs ≡ layout.size →
       get_or (memory_behind layout.base ss xs) i 0 ≡ unwrap_or (youngest_byte (layout.base + i) ss) (get_or xs i 0)
   byte_behind [] xs i inside size = refl

@@ -23,7 +23,7 @@ use Rattle.rv_hardware.proofs.HeadlineRetires.{IsStoreAccess}
 use Rattle.rv_hardware.proofs.HeadlineVictim.{access_mixed}
 use Rattle.rv_hardware.proofs.HeadlineWords.{length-stored, stored_again, memory_behind-fresh}
 
--- ---- other stores and bytes, behind which programs see the same
+-- ---- other stores and bytes, after which programs see the same
 module _ (values : Values) (cycle : ℕ) (s : State) (h : Hardware) (is : IsSoundAt values cycle s h) where
   -- the hardware with other memory, where that holds what it has to, and programs see the same
   pub with_other_memory : (new : Hardware) → new.values ≡ h.values → new.cycle ≡ h.cycle → new.pc ≡ h.pc → new.csrs ≡ h.csrs →

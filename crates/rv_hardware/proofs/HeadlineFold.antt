@@ -1,4 +1,4 @@
--- The state behind instructions in flight, had each of them executed in order: what the one-at-a-time machine will see there.
+-- The state after instructions in flight, had each of them executed in order: what the one-at-a-time machine will see there.
 use Rattle.std.specs.Prelude.{◌≡◌, ℕ, ◌%◌, false, List, [], ◌∷◌, Option, Some, option_and_then}
 use Rattle.std.specs.FinSet as set
 use Rattle.rv_isa.specs.declared.broadcast.Message.{Message}
@@ -29,7 +29,7 @@ with_message base e message next s = record {
   stale = stale_after message.store s.stale;
 }
 
--- the state behind an instruction that goes on where predicted; a fault of it is no trap here, since nothing behind it retires
+-- the state after an instruction that goes on where predicted; a fault of it is no trap here, since nothing after it retires
 abbrev pub executed : Layout → Entry → State → State
 executed layout e s = with_message layout.base e (result_at layout s e) e.predicted_next s
 

@@ -1,4 +1,4 @@
--- The state in which an instruction executes agrees with the one behind the older ones where it looks.
+-- The state in which an instruction executes agrees with the one after the older ones where it looks.
 use Rattle.std.proofs.Common.{◌≡◌, ◌≢◌, ℕ, ◌+◌, ◌≤◌, Bool, true, false, cond, nat_eq, List, [], ◌∷◌, ◌++◌, length, Option, Some, None, IfSome, is_some, slice_index, slice_set, get_or, refl, sym, ap, ap₂, ◌∙◌, inl, inr, true≢false, arith, length-set, get_or-set_other}
 use Rattle.std.specs.Prelude.{if◌then◌else◌}
 use Rattle.std.specs.List.{list_all}

@@ -28,7 +28,7 @@ use Rattle.rv_isa.specs.Instruction.{is_serialising}
 use Rattle.rv_hardware.specs.Result.{access_of, effect_message, value_written}
 use Rattle.rv_hardware.specs.Retirement.{stale_after}
 
--- the bytes of a store lie in RAM, behind its read-only front, and within one word
+-- the bytes of a store lie in RAM, after its read-only front, and within one word
 pub record IsStoreAccess (layout : Layout) (access : StoreAccess) : Type 0 where
   pub above : layout.base ≤ access.address
   pub below : access.address + length access.bytes ≤ layout.base + layout.size

@@ -25,7 +25,7 @@ use Rattle.rv_hardware.specs.declared.step.Step.TheVariants as step
 use Rattle.rv_hardware.proofs.HeadlineCycle.{GoesOnTrue, cycle_true, always_sound}
 use Rattle.rv_hardware.proofs.HeadlineInvariant.{IsSound}
 
--- the cycles of a run by what programs see, from the number of a cycle to that behind the last
+-- the cycles of a run by what programs see, from the number of a cycle to that after the last
 pub data TrueCycles (layout : Layout) (arrivals : List Arrival) : State → ℕ → List Report → State → ℕ → Type 0 where
   none : {s : State} {n : ℕ} → TrueCycles layout arrivals s n [] s n
   one_more : {s t u : State} {n m : ℕ} {report : Report} {reports : List Report} →

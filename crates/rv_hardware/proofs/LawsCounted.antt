@@ -67,7 +67,7 @@ module _ (v : Values) (row_test : ℕ → Row → Bool) (test : ℕ → Mark →
         | inr after ↦ let le = counted_after history c after in omega (arith, same, le)
       ]
 
--- what stands behind others
+-- what stands after others
 
 pub as_of_place : (c : ℕ) (before after : List Mark) (m : Mark) → was_fetched c m ≡ true → as_of c (before ++ m ∷ after) ≡ as_of c before ++ at_end c m ∷ as_of c after
 as_of_place c before after m is = as_of-append c before (m ∷ after) ∙ ap (λ l. as_of c before ++ l) (as_of-cons c m after ∙ ap (λ b. cond b (at_end c m ∷ as_of c after) (as_of c after)) is)

@@ -36,7 +36,7 @@ use Rattle.rv_hardware.proofs.LawsSound.{SoundEntry, SoundFetched}
 abbrev pub Sound : Values → List Step → Hardware → Type 0
 Sound v steps h = Basics v h.cycle h.cycle h.cycle h.cycle h.cycle h.cycle steps h
 
--- the hardware behind each phase
+-- the hardware after each phase
 abbrev pub committing : Lines → Hardware → Committing
 committing lines old = commit_with set.contains lines old
 
@@ -52,7 +52,7 @@ sent_all lines old = broadcast (issued_all lines old)
 abbrev pub dispatching : Lines → Hardware → Dispatching
 dispatching lines old = dispatch (sent_all lines old)
 
--- what holds behind each phase
+-- what holds after each phase
 pub record Passed (v : Values) (R : List Mark → Type 0) (earlier : List Step) (lines : Lines) (old : Hardware) (report : Report) (new : Hardware) : Type 0 where
   pub begins : Sound v earlier old
   pub marks : R (marks_in earlier old)

@@ -1,4 +1,4 @@
--- Behind a step the next instruction neither waits without need nor was it fetched late.
+-- After a step the next instruction neither waits without need nor was it fetched late.
 use Rattle.std.proofs.Common.{◌≡◌, ℕ, suc, ◌+◌, ◌≤◌, ◌<◌, ◌⊎◌, ◌==◌, ◌&&◌, max, Bool, true, false, cond, is_some, List, [], ◌∷◌, ◌++◌, length, length-append, unwrap_or, Option, Some, None, inl, inr, refl, sym, subst, ap, ◌∙◌, arith, append_assoc, true≢false}
 use Rattle.std.specs.Option.{option_map}
 use Rattle.std.specs.Ordering.{nat_cmp}
@@ -69,7 +69,7 @@ IsAhead c store_waits (Retired row) = (row.fetched ≤ c) × ((store_waits && is
 IsAhead c store_waits (Trap pc cause value cycle) = Unit {0}
 IsAhead c store_waits (Interrupt pc cause cycle) = Unit {0}
 
--- a step behind one of cycle c, or the first
+-- a step after one of cycle c, or the first
 pub record Follows (c : ℕ) (store_waits : Bool) (b : Step) : Type 0 where
   pub waits : DoesNotWait c b
   pub ahead : IsAhead c store_waits b
@@ -211,7 +211,7 @@ fence_does_not_trap c e es cause value head fence is =
     ∙ ap (λ i. head_turn e i c) (is_fence e.instruction fence) in
     no_trap c.steps (fence_instructions e c).steps e.pc cause value c.hardware.cycle (fence_leaves e c) (ap steps_left (is ∙ turn))
 
--- ---- the commit phase of cycle `now`, behind the steps of earlier cycles
+-- ---- the commit phase of cycle `now`, after the steps of earlier cycles
 
 next-raise : (n n' m s : ℕ) (store_waits : Bool) (stale : set.FinSet nat_cmp) (es : List Entry) (fs : List Fetched) → ((e : Entry) (rest : List Entry) → es ≡ e ∷ rest → NextEntry n s store_waits stale e → NextEntry n' s store_waits stale e) →
     Next n m s store_waits stale es fs → Next n' m s store_waits stale es fs
@@ -219,7 +219,7 @@ next-raise n n' m s store_waits stale [] [] goes next = next
 next-raise n n' m s store_waits stale [] (f ∷ fs) goes next = next
 next-raise n n' m s store_waits stale (e ∷ es) fs goes next = goes e es refl next
 
--- behind a step of the present cycle
+-- after a step of the present cycle
 next-now : (v : Values) (n now : ℕ) (store_waits : Bool) (stale : set.FinSet nat_cmp) (es : List Entry) (fs : List Fetched) → n ≤ now + 1 → Every (SoundEntry v now now now) es → Every (SoundFetched now) fs → Next n now now store_waits stale es fs
 next-now v n now store_waits stale [] [] le sound words = omega arith
 next-now v n now store_waits stale [] (f ∷ fs) le sound words = (omega (arith, words.0.0), λ plain. omega arith)
@@ -255,7 +255,7 @@ module _ (v : Values) (now : ℕ) (earlier : List Step) where
   more_follow : (c : Committing) (x : Step) → AllFollow (earlier ++ c.steps) → Follows (last_stamp (earlier ++ c.steps)) (has_step (earlier ++ c.steps)) x → AllFollow (earlier ++ (c.steps ++ x ∷ []))
   more_follow c x all one = subst AllFollow (sym (regroup c x)) (follow-push (earlier ++ c.steps) x all one)
 
-  -- a step behind which nothing is left
+  -- a step after which nothing is left
   flushing : (c : Committing) (x : Step) (g : Hardware) (stop : Option Stop) → stamp_of x ≡ now → AllFollow (earlier ++ c.steps) → Follows (last_stamp (earlier ++ c.steps)) (has_step (earlier ++ c.steps)) x → g.rob.entries ≡ [] → g.front.entries ≡ [] →
       Committed (record { hardware = g; steps = c.steps ++ x ∷ []; stop = stop })
   flushing c x g stop at all one none none' =

@@ -37,7 +37,7 @@ pub record MayStart (k : Kind) (c : ℕ) (before : List Mark) (m : Mark) : Type 
 abbrev pub BusyUnits : Kind → ℕ → ℕ → List Mark → Mark → Type 0
 BusyUnits k j c before m = MayStart k c before m → j ≤ count (begins_mark k c) before
 
--- what is known behind a mark that went on was known before
+-- what is known after a mark that went on was known before
 
 module _ (c : ℕ) (m n : Mark) (instruction : n.instruction ≡ m.instruction) (known : IsKnownMark c n → IsKnownMark c m) where
   either : (b : Bool) (z : Mark) (o p : Option Mark) → (IfSome o (IsKnownMark c) → IfSome p (IsKnownMark c)) → IfSome (cond b (Some z) o) (IsKnownMark c) → IfSome (cond b (Some z) p) (IsKnownMark c)

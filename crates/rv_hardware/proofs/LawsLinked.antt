@@ -23,17 +23,17 @@ abbrev pub IsBy : Option ℕ → ℕ → Type 0
 IsBy None t = ⊥
 IsBy (Some c) t = c ≤ t
 
--- n was fetched behind the retirement of m, with early recovery in the cycle of its broadcast, or once there was room
+-- n was fetched after the retirement of m, with early recovery in the cycle of its broadcast, or once there was room
 abbrev pub Followed : Values → ℕ → (ℕ → ℕ) → Mark → Mark → Type 0
 Followed v now held m n =
     (n.fetched ≤ now) ×
     (IsBy m.retired n.fetched ⊎ ((v.recovery ≡ Early) × (m.broadcast ≡ Some n.fetched)) ⊎ Filled v held m n.fetched)
 
--- nothing was fetched behind m: fetch is halted, m retired, or there was no room
+-- nothing was fetched after m: fetch is halted, m retired, or there was no room
 abbrev pub IsOpen : Values → Bool → ℕ → (ℕ → ℕ) → Mark → Type 0
 IsOpen v halted now held m = (halted ≡ true) ⊎ IsBy m.retired now ⊎ Filled v held m now
 
--- by the marks that come behind one
+-- by the marks that come after one
 abbrev pub Joint : Values → ℕ → ((ℕ → ℕ) → Mark → Type 0) → (ℕ → ℕ) → Mark → List Mark → Type 0
 Joint v now last held m [] = last held m
 Joint v now last held m (n ∷ ns) = Followed v now held m n
@@ -195,7 +195,7 @@ module _ (v : Values) (now : ℕ) (last next : (ℕ → ℕ) → Mark → Type 0
   linked_on held [] f fs g h new = new held
   linked_on held (m ∷ ms) f fs g h new = (joint_on held m ms f fs g h.0, linked_on (with_word held m) ms f fs g h.1 new)
 
--- where the last of some marks is known, what came behind may be cut
+-- where the last of some marks is known, what came after may be cut
 module _ (v : Values) (now : ℕ) (last : (ℕ → ℕ) → Mark → Type 0) (P : Mark → Type 0) where
   joint_cut : (held : ℕ → ℕ) (m : Mark) (ms rest : List Mark) → LastIs P (m ∷ ms) → Joint v now last held m (ms ++ rest) → Joint v now (λ h x. P x) held m ms
   joint_cut held m [] rest is h = is

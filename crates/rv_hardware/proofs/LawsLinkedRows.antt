@@ -28,7 +28,7 @@ use Rattle.rv_hardware.proofs.LawsPast.{as_of_now, marks_settled}
 use Rattle.rv_hardware.proofs.LawsRow.{SoundRow}
 use Rattle.rv_hardware.proofs.LawsSound.{SoundFetched}
 
--- the last mark behind a squash: a row, or the instruction whose broadcast squashed the rest
+-- the last mark after a squash: a row, or the instruction whose broadcast squashed the rest
 abbrev Squashes : Values → ℕ → Mark → Type 0
 Squashes v now m = IsBy m.retired now ⊎ ((v.recovery ≡ Early) × (m.broadcast ≡ Some now))
 
@@ -90,7 +90,7 @@ module _ (v : Values) {earlier : List Step} {old new : Hardware} {lines : Lines}
   new_ones : (fs : List Fetched) → passed.fetches.added ≡ fs → Every (λ m. m.fetched ≡ old.cycle) (map mark_of_fetched fs)
   new_ones fs at = Every-map (λ m. m.fetched ≡ old.cycle) mark_of_fetched fs (Every-weaker (IsNew old.cycle) (λ f. f.cycle ≡ old.cycle) (λ f w. w.0) fs (subst (Every (IsNew old.cycle)) at passed.fetches.are_new))
 
-  -- behind a squash
+  -- after a squash
 
   abbrev Behind : (ℕ → ℕ) → Mark → Type 0
   Behind h x = Squashes v old.cycle x

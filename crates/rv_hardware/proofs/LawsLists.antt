@@ -280,7 +280,7 @@ module _ {X : Type 0} where
   pub Beginning-EveryBehind : (P : List X → X → Type 0) (xs ys : List X) → Beginning xs ys → EveryBehind P [] ys → EveryBehind P [] xs
   Beginning-EveryBehind P xs ys f h = EveryBehind-left P [] xs f.0 (rw f.1 at h)
 
-  -- behind another beginning
+  -- after another beginning
   moved : (P Q : List X → X → Type 0) (pre pre' : List X) → ((mid : List X) (z : X) → P (pre ++ mid) z → Q (pre' ++ mid) z) → (acc ys : List X) →
       EveryBehind P (pre ++ acc) ys → EveryBehind Q (pre' ++ acc) ys
   moved P Q pre pre' f acc [] h = tt
@@ -290,7 +290,7 @@ module _ {X : Type 0} where
   pub EveryBehind-moved : (P Q : List X → X → Type 0) (pre pre' : List X) → ((mid : List X) (z : X) → P (pre ++ mid) z → Q (pre' ++ mid) z) → (ys : List X) → EveryBehind P pre ys → EveryBehind Q pre' ys
   EveryBehind-moved P Q pre pre' f ys h = rw (append-nil pre') at (moved P Q pre pre' f [] ys (rw (append-nil pre) (h)))
 
-  -- where nothing is behind it
+  -- where nothing is after it
   pub EveryBehind-all : (Q : X → Type 0) (P : List X → X → Type 0) → ((before : List X) (x : X) → Q x → P before x) → (before xs : List X) → Every Q xs → EveryBehind P before xs
   EveryBehind-all Q P f before [] h = tt
   EveryBehind-all Q P f before (x ∷ xs) h = (f before x h.0, EveryBehind-all Q P f (before ++ x ∷ []) xs h.1)
@@ -310,7 +310,7 @@ module _ {X : Type 0} where
   pub Every-at : (P : X → Type 0) (before after : List X) (x : X) → Every P (before ++ x ∷ after) → P x
   Every-at P before after x h = (Every-right P before (x ∷ after) h).0
 
-  -- each element that stands behind some others
+  -- each element that stands after some others
   pub EachBehind-EveryBehind : (P : List X → X → Type 0) (xs : List X) → EveryBehind P [] xs → EachBehind P xs
   EachBehind-EveryBehind P xs h before after x at = EveryBehind-at P before after x (rw at at h)
 
@@ -330,7 +330,7 @@ pub EveryBehind-both : {X : Type 0} (P : X → Type 0) (Q R : List X → X → T
 EveryBehind-both P Q R f before [] g h = tt
 EveryBehind-both P Q R f before (x ∷ xs) g h = (f before x g.0 h.0, EveryBehind-both P Q R f (before ++ x ∷ []) xs g.1 h.1)
 
--- pairs and what stands behind
+-- pairs and what stands after
 
 module _ {X : Type 0} (R : X → X → Type 0) where
   behind_one : (before : List X) (x : X) (more ys : List X) → EveryBehind (λ b y. Every (λ a. R a y) b) (before ++ x ∷ more) ys → Every (R x) ys

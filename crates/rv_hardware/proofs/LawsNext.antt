@@ -1,4 +1,4 @@
--- The next instruction of the program, the oldest in flight or else the oldest fetched word, and what becomes of it behind commit.
+-- The next instruction of the program, the oldest in flight or else the oldest fetched word, and what becomes of it after commit.
 use Rattle.std.proofs.Common.{◌≡◌, ℕ, ◌+◌, ◌≤◌, ◌⊎◌, ◌&&◌, Bool, true, false, List, [], ◌∷◌, ◌++◌, Option, Some, None, inr, subst, arith}
 use Rattle.std.specs.Ordering.{nat_cmp}
 use Rattle.std.specs.FinSet as set

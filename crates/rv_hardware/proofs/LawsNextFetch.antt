@@ -97,7 +97,7 @@ coming_by v now (e ∷ es) fs entries words = let sound = entries.0 in omega (ar
 coming_by v now [] (f ∷ fs) entries words = let sound = words.0 in omega (arith, sound.0)
 coming_by v now [] [] entries words = omega arith
 
--- each row was fetched by the step before it, and so is what comes behind the last
+-- each row was fetched by the step before it, and so is what comes after the last
 abbrev Follows : ℕ → List Step → Hardware → Type 0
 Follows now steps h = EveryNext Next steps × LastIs (λ s. coming now h.rob.entries h.front.entries ≤ stamp_of s) steps
 

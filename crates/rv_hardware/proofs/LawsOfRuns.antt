@@ -131,7 +131,7 @@ module _ (v : Values) (earlier steps : List Step) (old new : Hardware) (before_r
   rows_count : (p : Row → Bool) (n : ℕ) → count_by p (rows_of (earlier ++ steps)) ≤ n → count_by p (rows_of steps) ≤ n
   rows_count p n h = count_by-last p (rows_of earlier) (rows_of steps) n (subst (λ l. count_by p l ≤ n) rows_of_all h)
 
-  -- a row of the run, behind all earlier rows
+  -- a row of the run, after all earlier rows
   rows_behind : (P : List Row → Row → Type 0) → EachBehind P (rows_of (earlier ++ steps)) → (before after : List Row) (row : Row) → rows_of steps ≡ before ++ row ∷ after → P (rows_of earlier ++ before) row
   rows_behind P h before after row at =
       h (rows_of earlier ++ before) after row (rows_of_all ∙ ap (λ l. rows_of earlier ++ l) at ∙ sym (append_assoc (rows_of earlier) before (row ∷ after)))
@@ -158,7 +158,7 @@ module _ (v : Values) (earlier steps : List Step) (old new : Hardware) (before_r
       by_execution None h = tt
       by_execution (Some x) h = λ c from ready later. let all = h c (omega arith) ready later in let same = none_earlier is_broadcast_in _ (sent_shows v) c from before in omega (arith, all, same)
 
-  -- operands that are known behind the rows of the run are known behind all
+  -- operands that are known after the rows of the run are known after all
   operands_of_all : (c : ℕ) → old.cycle ≤ c → (before : List Row) (row : Row) → HasOperandsIn c before row → HasOperandsIn c (rows_of earlier ++ before) row
   operands_of_all c from before row h =
       All-weaker (λ source. IfSome (producer_among before source) (λ p. IfSome p.execution (λ y. y.broadcast < c))) (λ source. IfSome (producer_among (rows_of earlier ++ before) source) (λ p. IfSome p.execution (λ y. y.broadcast < c))) by_source (sources_of_row row) h

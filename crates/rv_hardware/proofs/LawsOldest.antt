@@ -1,4 +1,4 @@
--- The oldest instruction that passes a test stands behind some that do not, and a change of it changes nothing else.
+-- The oldest instruction that passes a test stands after some that do not, and a change of it changes nothing else.
 use Rattle.std.proofs.Common.{◌≡◌, ℕ, suc, ◌+◌, ◌≤◌, Bool, true, false, cond, List, [], ◌∷◌, ◌++◌, length, Option, Some, None, refl, sym, ap, ◌∙◌, arith, append_assoc, append-nil, eq-eqb, ne_eqb, lt-ltb, le-ltb}
 use Rattle.rv_rob.specs.ReorderBuffer.{with_entry, entries_below}
 use Rattle.rv_rob.specs.declared.entry.Entry.{Entry}
@@ -30,7 +30,7 @@ finds_from test before (e ∷ es) none =
 pub oldest_finds : (test : List Entry → Entry → Bool) (es : List Entry) → Finds test es (oldest test es)
 oldest_finds test es = finds_from test [] es tt
 
--- the entry behind some others has the number of the first and their length
+-- the entry after some others has the number of the first and their length
 pub with_entry-behind : (change : Entry → Entry) (first : ℕ) (older younger : List Entry) (e : Entry) →
     with_entry change (first + length older) first (older ++ e ∷ younger) ≡ older ++ change e ∷ younger
 with_entry-behind change first [] younger e = rw (eq-eqb (first + 0) first (omega arith)) refl

@@ -1,4 +1,4 @@
--- An instruction starts behind the broadcasts of its operands' producers, and a load behind those of all older stores.
+-- An instruction starts after the broadcasts of its operands' producers, and a load after those of all older stores.
 use Rattle.std.proofs.Common.{◌≡◌, ℕ, Bool, true, false, cond, is_some, List, [], ◌∷◌, ◌++◌, map, Option, Some, None, IfSome, sym, subst, ap}
 use Rattle.rv_isa.specs.declared.instructions.Instr.{Instr}
 use Rattle.rv_isa.specs.declared.values.Values.{Values}

@@ -1,4 +1,4 @@
--- Rows behind others: from pairs of marks to pairs of rows, and what is known of older rows.
+-- Rows after others: from pairs of marks to pairs of rows, and what is known of older rows.
 use Rattle.std.proofs.Common.{◌≡◌, ℕ, ◌≤◌, true, List, [], ◌∷◌, ◌++◌, map, Option, Some, None, refl}
 use Rattle.rv_isa.specs.declared.instructions.Instr.{Instr}
 use Rattle.rv_isa.specs.declared.instructions.Instr.TheVariants.{Csr, FenceI, Mret}
@@ -22,7 +22,7 @@ row_pairs R Q f steps h pairs =
     EveryPair-weaker (λ a b. R (mark_of_row a) (mark_of_row b)) Q f (rows_of steps)
     (EveryPair-unmap R mark_of_row (rows_of steps) (EveryPair-left R (map mark_of_row (rows_of steps)) (map mark_of_entry h.rob.entries ++ map mark_of_fetched h.front.entries) pairs))
 
--- rows that start behind others
+-- rows that start after others
 pub rows_start_behind : (v : Values) {steps : List Step} {h : Hardware} → History v steps h → EveryBehind (λ before row. StartsBehind (map mark_of_row before) (mark_of_row row)) [] (rows_of steps)
 rows_start_behind v {steps} {h} history =
     EveryBehind-unmap StartsBehind mark_of_row [] (rows_of steps)
@@ -56,7 +56,7 @@ rows_in_pairs (Retired row ∷ steps) h = (rows_after row steps h.0, rows_in_pai
 rows_in_pairs (Trap pc cause value cycle ∷ steps) h = rows_in_pairs steps h.1
 rows_in_pairs (Interrupt pc cause cycle ∷ steps) h = rows_in_pairs steps h.1
 
--- each row behind those that are older, which are sound
+-- each row after those that are older, which are sound
 every_before : {X : Type 0} (P : X → Type 0) (before xs : List X) → Every P before → Every P xs → EveryBehind (λ b x. Every P b) before xs
 every_before P before [] h g = tt
 every_before P before (x ∷ xs) h g = (h, every_before P (before ++ x ∷ []) xs (Every-append P before (x ∷ []) h (g.0, tt)) g.1)

@@ -65,7 +65,7 @@ module _ (v : Values) (now : ℕ) (R : List Mark → Type 0) (kept : Kept v now 
   push : (c : Committing) (s : Step) → earlier ++ (c.steps ++ s ∷ []) ≡ (earlier ++ c.steps) ++ s ∷ []
   push c s = sym (append_assoc earlier c.steps (s ∷ []))
 
-  -- everything is flushed behind a step
+  -- everything is flushed after a step
   flush : (c : Committing) (g : Hardware) (s : Step) → Commits c → SameShape g c.hardware → g.cycle ≡ c.hardware.cycle → g.rob.entries ≡ [] → g.front.entries ≡ [] →
       Every (SoundRow v (now + 1)) (rows_of (s ∷ [])) → (R (marks_in (earlier ++ c.steps) c.hardware) → R (marks ((earlier ++ c.steps) ++ s ∷ []) [] [])) →
       Goes v now now now now now (now + 1) R (earlier ++ (c.steps ++ s ∷ [])) g

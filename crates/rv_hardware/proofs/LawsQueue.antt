@@ -1,4 +1,4 @@
--- The retired stores of the queue are the last store rows; the access of each earlier one is over, `hit` cycles behind its retirement or later.
+-- The retired stores of the queue are the last store rows; the access of each earlier one is over, `hit` cycles after its retirement or later.
 use Rattle.std.proofs.Common.{◌≡◌, ℕ, ◌+◌, ◌≤◌, Bool, true, false, cond, is_some, List, [], ◌∷◌, ◌++◌, filter, length, Option, Some, None, refl, sym, ap, ◌∙◌, arith, append_assoc, append-nil}
 use Rattle.std.proofs.lemmas.List.Elements.{filter-append}
 use Rattle.rv_isa.specs.declared.broadcast.StoreAccess.{StoreAccess}

@@ -1,4 +1,4 @@
--- Steps come in order, within the width; interrupts alone, flushes last; behind a flush everything is fetched anew.
+-- Steps come in order, within the width; interrupts alone, flushes last; after a flush everything is fetched anew.
 use Rattle.std.proofs.Common.{◌≡◌, ℕ, suc, ◌+◌, ◌≤◌, ◌<◌, Bool, true, false, List, [], ◌∷◌, ◌++◌, map, length, length-append, unwrap_or, eqb, ◌==◌, append-nil, ne_eqb, eqb-true, Option, Some, None, refl, sym, subst, ap, ◌∙◌, arith, append_assoc, true≢false}
 use Rattle.std.specs.Ordering.{nat_cmp}
 use Rattle.std.specs.FinSet as set
@@ -49,7 +49,7 @@ pub record InOrder (a b : Step) : Type 0 where
   pub last : flushes a ≡ true → stamp_of a < stamp_of b
   pub anew : flushes a ≡ true → IsFetchedSince a b
 
--- the steps of a cycle so far, behind those of earlier cycles
+-- the steps of a cycle so far, after those of earlier cycles
 pub record Steps (v : Values) (now : ℕ) (earlier : List Step) (k : ℕ) (c : Committing) : Type 0 where
   pub goes : Goes v now now now now now (now + 1) Anything (earlier ++ c.steps) c.hardware
   pub pairs : EveryPair InOrder (earlier ++ c.steps)
@@ -201,7 +201,7 @@ pub record StepsPast (v : Values) (steps : List Step) (h : Hardware) : Type 0 wh
   pub entries : Every (λ e. NotBefore steps e.fetched) h.rob.entries
   pub words : Every (λ f. NotBefore steps f.cycle) h.front.entries
 
--- what is in flight was fetched behind every flush
+-- what is in flight was fetched after every flush
 abbrev pub FetchedAnew : List Step → Mark → Type 0
 FetchedAnew steps m = m.retired ≡ None → NotBefore steps m.fetched
 

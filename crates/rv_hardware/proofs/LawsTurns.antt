@@ -22,7 +22,7 @@ module _ {S : Type 0} (P : ℕ → S → Type 0) (Q : S → Type 0) (turn : S �
   followed_leads k rest f (GoesOn s) h = f s h
   followed_leads k rest f (Ends s) h = h
 
-  -- P k behind k turns, and Q behind the last
+  -- P k after k turns, and Q after the last
   pub turns_lead : (width k : ℕ) (s : S) → ((t : S) → P (width + k) t → Q t) → P k s → Q (repeated turn width s)
   turns_lead zero k s last h = last s (let same : 0 + k ≡ k = omega arith in rw same h)
   turns_lead (suc width) k s last h =

@@ -31,7 +31,7 @@ record HasGap (from before to : ℕ) (steps : List Step) (gap : ℕ) : Type 0 wh
   within : first + gap ≤ to
   is_gap : IsGap steps first gap
 
--- the gap of a cycle and of those behind it, where those before it were silent
+-- the gap of a cycle and of those after it, where those before it were silent
 module _ (n before m : ℕ) (reports : List Report) (few : before ≤ n) (passed : n + 1 ≤ m) (later : All (λ y. n + 1 ≤ stamp_of y) (steps_of reports)) where
   abbrev Gap : List Step → ℕ → Type 0
   Gap xs = HasGap n before m (xs ++ steps_of reports)
@@ -65,7 +65,7 @@ module _ (n before m : ℕ) (reports : List Report) (few : before ≤ n) (passed
   gap_from (x ∷ xs) stamped more anew =
       ⊎_elim (gap_behind xs x stamped anew) (gap_before xs x stamped) (order before (longest_gap_from 0 reports))
 
--- a gap among a cycle and those behind it is no longer
+-- a gap among a cycle and those after it is no longer
 no_longer_from : (n before m first count : ℕ) (reports : List Report) → n ≤ first + before → (xs : List Step) → All (λ y. stamp_of y ≡ n) xs → IsGap (xs ++ steps_of reports) first count →
     (IsGap (steps_of reports) first count → count ≤ longest_gap_from (before + 1) reports) → (n + 1 ≤ first → IsGap (steps_of reports) first count → count ≤ longest_gap_from 0 reports) →
     count ≤ cond (is_silent xs) (longest_gap_from (before + 1) reports) (max before (longest_gap_from 0 reports))
@@ -78,7 +78,7 @@ no_longer_from n before m first count reports since (x ∷ xs) stamped quiet mor
     (All-head (IsOutside first count) x (xs ++ steps_of reports) quiet)
 
 module _ (layout : Layout) (arrivals : List Arrival) where
-  -- behind so many silent cycles the longest gap is somewhere
+  -- after so many silent cycles the longest gap is somewhere
   has_gap : (before : ℕ) {s u : State} {n m : ℕ} {reports : List Report} → TrueCycles layout arrivals s n reports u m → before ≤ n → HasGap n before m (steps_of reports) (longest_gap_from before reports)
   has_gap before {n = n} none few =
       record { first = n - before; since = omega arith; within = omega (arith, few); is_gap = All-nil (IsOutside (n - before) before) }

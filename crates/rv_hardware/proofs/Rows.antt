@@ -111,7 +111,7 @@ dependent_instruction_waits : steps_of (machine) (0x00100093 ∷ 0x00108113 ∷ 
 unfolding instruction_of table
 dependent_instruction_waits = refl
 
--- a division of 8 cycles; what is younger is broadcast before it and retires behind it
+-- a division of 8 cycles; what is younger is broadcast before it and retires after it
 younger_result_comes_first : steps_of (record machine { kinds = record machine.kinds { div = record machine.kinds.div { latency = 8 } } }) (0x020042b3 ∷ 0x00100313 ∷ ebreak ∷ []) 13 ≡
     executed 0x80000000 0x020042b3 (Some (5, 4294967295)) 0 1 2 8 10 11 ∷
     executed 0x80000004 0x00100313 (Some (6, 1)) 0 1 2 1 3 11 ∷
@@ -211,7 +211,7 @@ reorder_buffer_of_one : steps_of (record machine { rob = 1 }) (0x00100093 ∷ eb
 unfolding instruction_of table
 reorder_buffer_of_one = refl
 
--- csrrs x5,mip,x0 behind a division
+-- csrrs x5,mip,x0 after a division
 serialising_instruction_waits_for_the_head : steps_of (machine) (0x02004333 ∷ 0x344022f3 ∷ ebreak ∷ []) 22 ≡
     executed 0x80000000 0x02004333 (Some (6, 4294967295)) 0 1 2 16 18 19 ∷
     serialised 0x80000004 0x344022f3 (Some (5, 0)) 0 1 19 ∷
@@ -220,7 +220,7 @@ serialising_instruction_waits_for_the_head : steps_of (machine) (0x02004333 ∷ 
 unfolding instruction_of table csr.order
 serialising_instruction_waits_for_the_head = refl
 
--- a wrong prediction behind a division is mended when the branch retires
+-- a wrong prediction after a division is mended when the branch retires
 branch_beside_a_division : steps_of (machine) (0x020042b3 ∷ 0x00000463 ∷ 0 ∷ ebreak ∷ []) 22 ≡
     executed 0x80000000 0x020042b3 (Some (5, 4294967295)) 0 1 2 16 18 19 ∷
     executed 0x80000004 0x00000463 None 0 1 2 1 3 19 ∷

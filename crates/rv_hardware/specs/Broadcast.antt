@@ -1,5 +1,6 @@
 -- The broadcast phase: the oldest results go on the common data bus.
 use Rattle.std.specs.Prelude.{ℕ, ◌+◌, ◌==◌, ◌&&◌, not, nat_le, Bool, true, false, if◌then◌else◌, List, length, Option, Some, None, is_none}
+use Rattle.rv_isa.specs.Instruction.{is_branch_or_jump}
 use Rattle.rv_isa.specs.declared.{broadcast.Message.Message, values.Recovery.Recovery}
 use Rattle.rv_isa.specs.declared.values.Recovery.TheVariants.{Commit, Early}
 use Rattle.rv_rob.specs.Entry.{finished, predicting}
@@ -7,7 +8,6 @@ use Rattle.rv_rob.specs.ReorderBuffer.{changed, cut_from}
 use Rattle.rv_rob.specs.declared.entry.{Entry.Entry, Stage.Stage}
 use Rattle.rv_rob.specs.declared.entry.Stage.TheVariants.{Waiting, Running, Finished}
 use Rattle.rv_hardware.specs.Hardware.{Hardware}
-use Rattle.rv_isa.specs.Instruction.{is_branch_or_jump}
 use Rattle.rv_hardware.specs.Issue.{oldest}
 use Rattle.rv_hardware.specs.Repeated.{Turn, GoesOn, Ends, repeated}
 use Rattle.rv_hardware.specs.Squash.{redirected}

@@ -1,6 +1,7 @@
 -- The dispatch phase: fetched instructions enter the reorder buffer in order.
 use Rattle.std.specs.Prelude.{ℕ, ◌+◌, ◌==◌, ◌&&◌, nat_le, Bool, true, false, if◌then◌else◌, List, [], ◌∷◌, length, filter, Option, Some, None}
 use Rattle.std.specs.List.{list_any}
+use Rattle.rv_isa.specs.Instruction.{is_serialising, is_store, is_of_kind, kind_of_word}
 use Rattle.rv_isa.specs.PerKind.{at_kind}
 use Rattle.rv_isa.specs.declared.operations.Kind.{Kind}
 use Rattle.rv_front.specs.declared.fetched.Fetched.{Fetched}
@@ -9,7 +10,6 @@ use Rattle.rv_rob.specs.declared.entry.{Entry.Entry, Stage.Stage}
 use Rattle.rv_rob.specs.declared.entry.Stage.TheVariants.{Waiting, Finished}
 use Rattle.rv_hardware.specs.Hardware.{Hardware}
 use Rattle.rv_hardware.specs.InFlight.{is_waiting}
-use Rattle.rv_isa.specs.Instruction.{is_serialising, is_store, is_of_kind, kind_of_word}
 use Rattle.rv_hardware.specs.Repeated.{Turn, GoesOn, Ends, repeated}
 use Rattle.rv_hardware.specs.Result.{result_of_word}
 use Rattle.rv_hardware.specs.Seen.{layout_of, seen_behind, stores_behind}

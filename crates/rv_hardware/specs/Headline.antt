@@ -43,7 +43,7 @@ pub record IsTrueCycle (layout : Layout) (lines : Lines) (cycle : ℕ) (before :
   pub breakpoint : (ending ≡ Some stop.Breakpoint) ↔ (list_any is_breakpoint steps ≡ true)
   pub stale : (pc : ℕ) → ending ≡ Some (stop.Stale pc) → MachineStep layout after lines (machine.Stale pc) after
 
--- a step of a run comes no later than those behind it, and a trap or an interrupt in an earlier cycle
+-- a step of a run comes no later than those after it, and a trap or an interrupt in an earlier cycle
 pub record ComesBefore (earlier later : Step) : Type 0 where
   pub in_order : stamp_of earlier ≤ stamp_of later
   pub precise : is_retirement earlier ≡ false → stamp_of earlier < stamp_of later

@@ -26,13 +26,13 @@ broadcast_of (Finished issue cycle message) = Some message
 abbrev pub writes : Entry → ℕ → Bool
 writes e register = is_target register (target_of_word e.instruction)
 
--- a register is known behind some instructions where the youngest of them that writes it was broadcast
+-- a register is known after some instructions where the youngest of them that writes it was broadcast
 abbrev pub is_known_from : Bool → List Entry → ℕ → Bool
 is_known_from known [] register = known
 is_known_from known (e ∷ es) register =
     is_known_from (if writes e register then is_some (broadcast_of e.stage) else known) es register
 
--- the value of a register behind older instructions is known
+-- the value of a register after older instructions is known
 abbrev pub is_known : List Entry → ℕ → Bool
 is_known older register = is_known_from true older register
 
@@ -42,7 +42,7 @@ with_value registers None message = registers
 with_value registers (Some target) None = registers
 with_value registers (Some target) (Some message) = with_register registers target message.value
 
--- the registers behind some instructions, as far as their results were broadcast
+-- the registers after some instructions, as far as their results were broadcast
 abbrev pub registers_behind : List ℕ → List Entry → List ℕ
 registers_behind registers [] = registers
 registers_behind registers (e ∷ es) =

@@ -45,7 +45,7 @@ path_of h older s (Some (Load form rd rs1 offset)) =
     path_of_load h older (sum (register_of s rs1) (modulo_word offset)) (bytes_of (width_of form))
 path_of h older s _ = Without
 
--- the way of an entry behind the older ones
+-- the way of an entry after the older ones
 abbrev pub path : Hardware → List Entry → Entry → Path
 path h older e = path_of h older (seen_behind h older e.pc) e.instruction
 
@@ -61,7 +61,7 @@ has_port h Without = true
 has_port h FromStores = true
 has_port h (FromCache address) = nat_le h.port_free h.cycle
 
--- every register that an instruction reads is known behind the older ones
+-- every register that an instruction reads is known after the older ones
 abbrev pub has_operands : List Entry → List (Option ℕ) → Bool
 has_operands older [] = true
 has_operands older (None ∷ sources) = has_operands older sources
@@ -105,7 +105,7 @@ with_start kind seq cost message h = record h {
   rob = changed (started (record { cycle = h.cycle; cost = cost }) message) seq h.rob;
 }
 
--- an entry behind these older ones leaves its station for a unit
+-- an entry after these older ones leaves its station for a unit
 abbrev pub issued : Kind → Hardware → List Entry → Entry → Hardware
 issued kind h older e =
     with_start kind (h.rob.retired + length older) (cost_of h kind (path h older e))

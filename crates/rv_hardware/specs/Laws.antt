@@ -241,7 +241,7 @@ pub record Laws (values : Values) (from to : ℕ) (steps : List Step) : Type 0 w
   pub dispatched_in_order : AllPairs (λ a b. a.dispatched ≤ b.dispatched) (rows_of steps)
   pub fetch_width : NeverMoreThan values.fetch_width is_fetched_in (rows_of steps)
   pub dispatch_width : NeverMoreThan values.dispatch_width is_dispatched_in (rows_of steps)
-  -- an instruction issues behind the broadcasts of its operands, and a load behind those of all older stores
+  -- an instruction issues after the broadcasts of its operands, and a load after those of all older stores
   pub operands : EachBehind IssuesWithOperands (rows_of steps)
   pub loads_after_stores : AllPairs LoadsAfterStore (rows_of steps)
   -- at most `bus_width` results are broadcast in a cycle, of those that are ready the oldest; the bus is not idle while
@@ -253,7 +253,7 @@ pub record Laws (values : Values) (from to : ℕ) (steps : List Step) : Type 0 w
   pub reorder_buffer : NeverMoreThan values.rob is_in_flight_in (rows_of steps)
   pub fetch_buffer : NeverMoreThan values.fetch_buffer is_buffered_in (rows_of steps)
   pub stations : (k : Kind) → NeverMoreThan (stations_of values k) (is_stationed_in k) (rows_of steps)
-  -- nor does the store queue, which a store leaves at the earliest `hit` cycles behind its retirement
+  -- nor does the store queue, which a store leaves at the earliest `hit` cycles after its retirement
   pub store_queue : NeverMoreThan values.store_queue (is_queued_in values.cache.hit) (rows_of steps)
   -- a unit executes one instruction at a time, or begins one a cycle where it is pipelined; the port serves one load
   pub pipelined_units : (k : Kind) → is_pipelined values k ≡ true → FitUnits values k is_issued_in (rows_of steps)
@@ -261,7 +261,7 @@ pub record Laws (values : Values) (from to : ℕ) (steps : List Step) : Type 0 w
   pub port : AllPairs (AreApartAtPort values.forward) (rows_of steps)
   -- no pipelined unit is idle while an instruction that is no load has its operands
   pub no_idle_unit : (k : Kind) → is_pipelined values k ≡ true → LeaveNoUnitIdle values k from (rows_of steps)
-  -- behind a trap, an interrupt or a serialising instruction everything is fetched anew
+  -- after a trap, an interrupt or a serialising instruction everything is fetched anew
   pub fetched_anew : AllPairs (λ a b. flushes a ≡ true → IsFetchedSince a b) steps
   -- fetch waits for nothing but room
   pub no_idle_fetch : EachNext (IsFetchedBehind values from (rows_of steps)) steps

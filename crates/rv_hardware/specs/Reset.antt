@@ -11,7 +11,7 @@ use Rattle.rv_rob.specs.ReorderBuffer.{empty}
 use Rattle.rv_hardware.specs.Hardware.{Hardware}
 use Rattle.rv_hardware.specs.Seen.{layout_of}
 
--- RAM holds the image at its front and zeros behind it
+-- RAM holds the image at its front and zeros after it
 abbrev pub memory_at_reset : Values → List ℕ → List ℕ
 memory_at_reset values image = image ++ replicate (values.ram_size - length image) 0
 

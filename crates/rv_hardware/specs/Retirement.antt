@@ -2,6 +2,7 @@
 use Rattle.std.specs.Prelude.{ℕ, List, [], ◌∷◌, ◌++◌, Option, Some, None}
 use Rattle.std.specs.{Option.option_map, Option.unwrap_or, Ordering.nat_cmp}
 use Rattle.std.specs.FinSet as set
+use Rattle.rv_isa.specs.Instruction.{target_of_word}
 use Rattle.rv_isa.specs.declared.broadcast.{Message.Message, StoreAccess.StoreAccess}
 use Rattle.rv_memory.specs.Memory.{word_of}
 use Rattle.rv_rob.specs.ReorderBuffer.{head_retired}
@@ -12,7 +13,6 @@ use Rattle.rv_stores.specs.declared.store.StorePhase.TheVariants.{Committed}
 use Rattle.rv_stores.specs.declared.store.StoreState.TheVariants.{Filled}
 use Rattle.rv_hardware.specs.Hardware.{Hardware}
 use Rattle.rv_hardware.specs.InFlight.{with_value}
-use Rattle.rv_isa.specs.Instruction.{target_of_word}
 use Rattle.rv_hardware.specs.declared.step.{Execution.Execution, Step.Step}
 use Rattle.rv_hardware.specs.declared.step.Step.TheVariants as step
 

@@ -12,7 +12,7 @@ use Rattle.rv_hardware.specs.InFlight.{registers_behind, stores_of, memory_behin
 abbrev pub layout_of : Values → Layout
 layout_of values = record { base = values.ram_base; size = values.ram_size; rom_bytes = values.rom_bytes }
 
--- The state that programs see: what retired instructions left, and in memory the bytes of the cache behind the retired
+-- The state that programs see: what retired instructions left, and in memory the bytes of the cache after the retired
 -- stores that it does not hold yet.
 abbrev pub seen : Hardware → State
 seen h = record {
@@ -23,11 +23,11 @@ seen h = record {
   stale = h.stale;
 }
 
--- the stores that are older than the instruction behind some others in flight
+-- the stores that are older than the instruction after some others in flight
 abbrev pub stores_behind : Hardware → List Entry → List QueuedStore
 stores_behind h older = h.committed ++ stores_of h.rob.retired older
 
--- the state in which an instruction at a pc executes: behind the older ones, as far as their results were broadcast
+-- the state in which an instruction at a pc executes: after the older ones, as far as their results were broadcast
 abbrev pub seen_behind : Hardware → List Entry → ℕ → State
 seen_behind h older pc = record {
   pc = pc;

@@ -90,7 +90,7 @@ abbrev pub producer_among : List Row → Option ℕ → Option Row
 producer_among rows None = None
 producer_among rows (Some register) = last_that (writes_register register) rows
 
--- a step behind which everything is fetched anew: a trap, an interrupt, a serialising instruction
+-- a step after which everything is fetched anew: a trap, an interrupt, a serialising instruction
 abbrev pub flushes : Step → Bool
 flushes (Retired row) = is_serialising (instruction_of_row row)
 flushes (Trap pc cause value cycle) = true

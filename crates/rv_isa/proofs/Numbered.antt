@@ -88,7 +88,7 @@ module _ {X : Type 0} (seq : X → ℕ) where
   pub IsInOrder-tail : (x : X) (xs : List X) → IsInOrder seq (x ∷ xs) → IsInOrder seq xs
   IsInOrder-tail x xs order i j d lt within = order (suc i) (suc j) d (omega arith) (omega arith)
 
-  -- one with a larger number behind all
+  -- one with a larger number after all
   pub IsInOrder-push : (xs : List X) (x : X) → IsInOrder seq xs → AreBelow seq (seq x) xs → IsInOrder seq (xs ++ x ∷ [])
   IsInOrder-push xs x order are = all_pairs_push (λ y z. seq y < seq z) xs x order are
 
@@ -113,7 +113,7 @@ module _ {X : Type 0} (seq : X → ℕ) where
     | inr equal ↦ let same : i ≡ j = omega arith in rw same (omega arith)
   ]
 
-  -- in order, none is below n behind one that is not
+  -- in order, none is below n after one that is not
   pub below-stops : (n : ℕ) (x : X) (xs : List X) → IsInOrder seq (x ∷ xs) → n ≤ seq x → below seq n (x ∷ xs) ≡ []
   below-stops n x xs order le = below-goes n x xs le ∙ below-none n xs (λ k d lt. omega (arith, IsInOrder-head x xs order k d lt))
 

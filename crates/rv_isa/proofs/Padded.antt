@@ -1,4 +1,4 @@
--- Four places that begin with at most four bytes, and hold zeros behind them.
+-- Four places that begin with at most four bytes, and hold zeros after them.
 use Rattle.std.proofs.Common.{◌≡◌, ℕ, ◌≤◌, List, [], ◌∷◌, ◌++◌, length, take, drop, refl, arith}
 use Rattle.std.proofs.Math.Seq.{take-append_seam}
 use Rattle.rv_isa.specs.Bytes.{padded}

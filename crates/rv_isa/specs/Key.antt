@@ -92,7 +92,7 @@ order =
     Number ReportDumpAddress ∷ Number ReportDumpWords ∷
     []
 
--- the text of a name, behind its table's and a dot
+-- the text of a name, after its table's and a dot
 abbrev pub joined : Option (List ℕ) → List ℕ → List ℕ
 joined None name = name
 joined (Some table) name = table ++ codes "." ++ name

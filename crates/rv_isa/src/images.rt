@@ -50,7 +50,7 @@ pub struct Image {
 }
 
 impl Image {
-    /// An image with a copy of the bytes. The only error is want of memory.
+    /// An image with a copy of the bytes. The only error is out of memory.
     pub fn from_bytes(
         alloc: Global,
         base: u32,

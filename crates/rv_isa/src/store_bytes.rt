@@ -12,7 +12,7 @@ pub struct StoreBytes {
     count: usize,
 }
 
-// Clauses see the list of the bytes; the places behind them hold zeros.
+// Clauses see the list of the bytes; the places after them hold zeros.
 impl Model for StoreBytes {
     ghost use Rattle.std.specs.Prelude.{◌≡◌, ℕ, ◌≤◌, List, length, take};
     ghost use Rattle.rv_isa.specs.Bytes.{padded};

@@ -80,7 +80,7 @@ fn checkpoint_brings_back_what_has_not_retired(rt: HostRuntime) {
     check_equal(&rt, map.lookup(x2), Some(1));
     check_equal(&rt, map.lookup(x3), None);
 
-    // The numbers behind the checkpoint are used again, and the later checkpoint is gone.
+    // The numbers after the checkpoint are used again, and the later checkpoint is gone.
     define(&rt, &mut map, x2, 3);
     map.restore(4);
     check_equal(&rt, map.lookup(x2), Some(3));

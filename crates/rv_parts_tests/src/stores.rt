@@ -75,7 +75,7 @@ fn put_fault(rt: &impl Abort, queue: &mut StoreQueue, seq: u64) {
     queue.fill_fault(seq);
 }
 
-// Checks each byte that a load takes of the queue by a plain list of its stores, and that it takes no byte behind it.
+// Checks each byte that a load takes of the queue by a plain list of its stores, and that it takes no byte after it.
 fn check_overlays(rt: &impl Abort, queue: &StoreQueue, plain: &[PlainStore], load: u64) {
     for address in 0x8000_0000..0x8000_0008 {
         let expected = [plain_byte(plain, load, address), None, None, None];

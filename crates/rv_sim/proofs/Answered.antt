@@ -1,4 +1,4 @@
--- What is answered behind a text that was written, or was not.
+-- What is answered after a text that was written, or was not.
 use Rattle.std.proofs.Common.{◌≡◌, ℕ, List, Option, None, Some, refl, sym, subst}
 use Rattle.std.specs.Prelude.{IsErrAnd, Result, Ok, Err}
 use Rattle.std.specs.Io.KnownBytes.{Keeps}

@@ -1,4 +1,4 @@
--- Jobs that are run one behind the other.
+-- Jobs that are run one after the other.
 use Rattle.std.proofs.Common.{◌≡◌, ◌∙◌, ℕ, ◌+◌, ◌<◌, List, [], ◌∷◌, ◌++◌, length, take, get_or, sym, ap, subst, arith}
 use Rattle.std.proofs.lemmas.List.{take_all, take_more}
 use Rattle.rv_job.specs.declared.{comparison.Comparison.Comparison, job.Job.Job}

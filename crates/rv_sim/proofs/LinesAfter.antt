@@ -56,7 +56,7 @@ one_more arrivals n =
     let last : n + 1 - 1 ≡ n = omega arith in
     rw (some, last) refl
 
--- behind the cycles of a run
+-- after the cycles of a run
 run_lines : {arrivals : List Arrival} {old new : Hardware} {reports : List Report} → Cycles arrivals old reports new → old.lines ≡ lines_after arrivals old.cycle → new.lines ≡ lines_after arrivals new.cycle
 run_lines ended is = is
 run_lines {arrivals} (cycled {old = old} {middle = middle} cycle rest) is =

@@ -5,7 +5,7 @@ use rv_arch::Stop;
 use rv_job::SimError;
 use rv_text::TextError;
 
-/// What is answered behind a text that was written, or was not.
+/// What is answered after a text that was written, or was not.
 pub(crate) fn answer(written: Result<Stop, TextError>) -> Result<Stop, SimError>
     ensures { result ≡ answered written }
 {

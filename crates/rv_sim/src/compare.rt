@@ -29,7 +29,7 @@ fn run_one(alloc: Global, job: &Job, limit: u64) -> Result<Totals, SimError>
     Ok(run_totals(core, &job.arrivals, limit, steps))
 }
 
-// Runs jobs one behind the other.
+// Runs jobs one after the other.
 fn run_each(alloc: Global, jobs: &[Job], limit: u64) -> Result<Vec<Totals>, SimError>
     ensures runs { IfOk result (λ runs. AreRuns limit jobs.now runs.items) }
     ensures errors { IfErr result (λ e. e ≡ SimError.Memory) }
@@ -46,7 +46,7 @@ fn run_each(alloc: Global, jobs: &[Job], limit: u64) -> Result<Vec<Totals>, SimE
     Ok(runs)
 }
 
-/// Runs the program of a comparison on each of its machines, one behind the other, each up to a breakpoint, a stale word or
+/// Runs the program of a comparison on each of its machines, one after the other, each up to a breakpoint, a stale word or
 /// a limit of cycles, and writes a table of what the runs came to: a line for each machine, in their order. Asks for no
 /// memory once it has written.
 ///

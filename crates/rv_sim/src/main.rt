@@ -36,7 +36,7 @@ fn run_command<E: Write>(rt: &HostRuntime, command: &Command, errors: &mut Fault
         return errors.tell(SimError::Memory);
     };
     let status = run(rt.alloc(), command, &mut rt.reader(), &mut output, errors);
-    // What a failed write left there is not to follow behind the line that tells it.
+    // What a failed write left there is not to follow after the line that tells it.
     let _ = output.into_parts();
     status
 }

@@ -47,7 +47,7 @@ fn finish_task<W: Write, E: Write>(
 /// Does what a command asks of an input: reads it from `reader`, and writes the report, picture, log,
 /// sentences or table, or the line that says which image it makes, to `output`. A fault is told on
 /// `errors`. The answer is the exit status: 0 for what was done, 1 for a refused job, 3 for a run
-/// that a stale word ended, 4 where input or output failed, 5 for want of memory.
+/// that a stale word ended, 4 where input or output failed, 5 when out of memory.
 pub fn run<R: Read, W: Write, E: Write>(
     alloc: Global,
     command: &Command,

@@ -1,4 +1,4 @@
--- A list in which the places from one on up to another have taken what stands behind them.
+-- A list in which the places from one on up to another have taken what stands after them.
 use Rattle.std.proofs.Common.{◌≡◌, ℕ, zero, suc, ◌+◌, ◌<◌, ◌≤◌, List, [], ◌∷◌, length, take, remove, slice_index_or, slice_set, refl, ap, ◌∙◌, arith}
 
 module _ {A : Type 0} where
@@ -16,7 +16,7 @@ module _ {A : Type 0} where
   moved-none (suc at) [] = refl
   moved-none (suc at) (x ∷ xs) = ap (λ ys. x ∷ ys) (moved-none at xs)
 
-  -- what stands behind them is as it was
+  -- what stands after them is as it was
   behind-moved : (at to i : ℕ) (xs : List A) (d : A) → to < i → slice_index_or (moved at to xs) i d ≡ slice_index_or xs i d
   behind-moved zero zero i xs d behind = refl
   behind-moved zero (suc to) i [] d behind = refl

@@ -16,7 +16,7 @@ drop_at_get (v ∷ vs) zero w is = cc
 drop_at_get (v ∷ vs) (suc at) w is =
     let next : suc at + 1 ≡ suc (at + 1) = omega arith in rw next (drop_at_get vs at w is)
 
--- and up to the place behind
+-- and up to the place after
 pub take_at_get : (ws : List Waiting) (at : ℕ) (w : Waiting) → slice_get ws at ≡ Some w → take (at + 1) ws ≡ take at ws ++ w ∷ []
 take_at_get [] at w is = cc
 take_at_get (v ∷ vs) zero w is = cc

@@ -3,7 +3,7 @@ use Rattle.std.proofs.Common.{◌≡◌, ℕ, zero, suc, ◌<◌, List, [], ◌�
 use Rattle.std.specs.Simd.Lanes.{zip2}
 
 module _ {X Y Z : Type 0} (f : X → Y → Z) where
-  -- one list behind another
+  -- one list after another
   pub zip2-append : (xs xs' : List X) (ys ys' : List Y) → length xs ≡ length ys → zip2 f (xs ++ xs') (ys ++ ys') ≡ zip2 f xs ys ++ zip2 f xs' ys'
   zip2-append [] xs' [] ys' long = refl
   zip2-append [] xs' (y ∷ ys) ys' long = absurd (omega arith)

@@ -26,7 +26,7 @@ impl Model for Stations {
 }
 
 impl Stations {
-    /// The stations that a description gives, with nothing in them. The only error is want of memory.
+    /// The stations that a description gives, with nothing in them. The only error is out of memory.
     pub fn new(alloc: Global, description: &Description) -> Result<Self, AllocError>
         ensures { IfOk result (λ stations. stations ≡ for_each empty_pool description.now.kinds) }
     {

@@ -3,7 +3,7 @@ ghost use Rattle.std.specs.Prelude.{◌≡◌, ◌+◌, ◌<◌, remove, vec_len
 /// How many items are moved one by one at most.
 const FEW: usize = 8;
 
-/// Takes the items in a place out of two lists of one length. Where few stand behind it, one loop over both is quicker than
+/// Takes the items in a place out of two lists of one length. Where few stand after it, one loop over both is quicker than
 /// a move in each.
 pub fn take_out<A: Copy, B: Copy>(first: &mut Vec<A>, second: &mut Vec<B>, at: usize)
     requires within { at < vec_len first.old }
@@ -28,7 +28,7 @@ pub fn take_out<A: Copy, B: Copy>(first: &mut Vec<A>, second: &mut Vec<B>, at: u
     second.pop();
 }
 
-// Moves what stands behind the place as a whole. It stands by itself, so that the quick case is small where it is called.
+// Moves what stands after the place as a whole. It stands by itself, so that the quick case is small where it is called.
 #[inline(never)]
 fn take_out_of_many<A: Copy, B: Copy>(first: &mut Vec<A>, second: &mut Vec<B>, at: usize)
     requires within { at < vec_len first.old }

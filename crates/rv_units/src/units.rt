@@ -23,7 +23,7 @@ impl Model for Units {
 }
 
 impl Units {
-    /// The units that a description gives, all of them free. The only error is want of memory.
+    /// The units that a description gives, all of them free. The only error is out of memory.
     pub fn new(alloc: Global, description: &Description) -> Result<Self, AllocError>
         ensures { IfOk result (λ units. units ≡ for_each free_pool description.now.kinds) }
     {

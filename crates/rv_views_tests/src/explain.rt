@@ -58,7 +58,7 @@ const CHAIN: [u8; 16] = [
     0x93, 0x00, 0x50, 0x00, 0x13, 0x81, 0x10, 0x00, 0x93, 0x01, 0x11, 0x00, 0x73, 0x00, 0x10, 0x00,
 ];
 
-// The first addition stands at the head behind the cycles 1 to 3, the others, which no line fills, each behind two of the nine.
+// The first addition stands at the head after the cycles 1 to 3, the others, which no line fills, each after two of the nine.
 const LINES_OF_CHAIN: &[u8] = b"
 The lines that stood longest at the head of the reorder buffer, in cycles:
 80000000, line 1: addi x1,x0,5

@@ -1,4 +1,4 @@
--- Behind a trap, an interrupt or a serialising instruction everything is fetched anew.
+-- After a trap, an interrupt or a serialising instruction everything is fetched anew.
 use Rattle.std.proofs.Common.{◌≡◌, true, List, AllPairs}
 use Rattle.rv_isa.specs.declared.values.Values.{Values}
 use Rattle.rv_hardware.specs.Hardware.{Hardware}

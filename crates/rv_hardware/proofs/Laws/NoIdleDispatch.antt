@@ -144,7 +144,7 @@ module _ (v : Values) (now : ℕ) (rows : List Row) (h : Hardware) (shape : HasS
 was_dispatched : {P : Type 0} (m : Mark) → is_some m.dispatched ≡ true → m.dispatched ≡ None → P
 was_dispatched m is none = absurd (true≢false (sym is ∙ ap is_some none))
 
--- behind a word that was not dispatched none may enter
+-- after a word that was not dispatched none may enter
 none_behind : (v : Values) (now : ℕ) (pre xs : List Mark) → (Every (λ x. is_some x.dispatched ≡ true) pre → ⊥) → EveryBehind (EntersSoon v now) pre xs
 none_behind v now pre [] no_more = tt
 none_behind v now pre (x ∷ xs) no_more = ((λ may. absurd (no_more may.olders)), none_behind v now (pre ++ x ∷ []) xs (λ all. no_more (Every-left (λ z. is_some z.dispatched ≡ true) pre (x ∷ []) all)))

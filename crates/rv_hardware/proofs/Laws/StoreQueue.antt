@@ -129,7 +129,7 @@ module _ (v : Values) (now : ℕ) (earlier : List Step) (is_stale : set.FinSet n
   commit_queue_by None h p telling ok =
       (commit_turns_keep v now earlier is_stale Queues commit_queue h.values.commit_width (record { hardware = h; steps = []; stop = None }) p (telling, ok)).1
 
--- drain, and the phases behind it
+-- drain, and the phases after it
 
 module _ (v : Values) (now : ℕ) (steps : List Step) where
   abbrev Drained : Hardware → Type 0
@@ -253,7 +253,7 @@ row_is_queued v c bound row sound h =
     by_retirement true late = late
     by_retirement false late = refl
 
--- behind the last cycle no more rows are counted than in it
+-- after the last cycle no more rows are counted than in it
 still_queued : (v : Values) (c now : ℕ) (row : Row) → now ≤ c → SoundRow v (now + 1) row → is_queued_in v.cache.hit c row ≡ true → is_queued_in v.cache.hit now row ≡ true
 still_queued v c now row le sound h =
     let two = and_first (is_store_row row && nat_le row.dispatched c) (nat_lt c (row.retired + v.cache.hit)) h in

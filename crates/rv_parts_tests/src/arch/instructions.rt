@@ -240,7 +240,7 @@ fn trap_pc(step: RefStep) -> Option<u32> {
     }
 }
 
-// Checks how the third step traps where a word is behind auipc x5,0, lui x6,0x80010.
+// Checks how the third step traps where a word is after auipc x5,0, lui x6,0x80010.
 fn check_fault(rt: &impl Abort, alloc: Global, word: u32, code: u32, value: u32) {
     let mut reference = machine(rt, alloc, &[0x0000_0297, 0x8001_0337, word], 0);
     reference.step(LOW);
@@ -254,7 +254,7 @@ fn check_fault(rt: &impl Abort, alloc: Global, word: u32, code: u32, value: u32)
     check_equal_at(rt, word, seen.csrs.read(0x343, LOW), Some(value));
 }
 
-// x5 is RAM's first address, x6 the first behind RAM; alignment is tested before the range. The
+// x5 is RAM's first address, x6 the first after RAM; alignment is tested before the range. The
 // codes are those of the Privileged Architecture 20211203, table 3.6.
 #[test]
 fn each_fault_has_its_code_and_value(rt: HostRuntime) {
@@ -275,7 +275,7 @@ fn check_retires(
     check_equal(rt, reference.step(LOW), step);
 }
 
-// lui x6,0x80010, jalr x0,0(x6): the jump retires, and the fetch behind RAM faults.
+// lui x6,0x80010, jalr x0,0(x6): the jump retires, and the fetch after RAM faults.
 #[test]
 fn fetch_outside_ram_faults_with_the_pc(rt: HostRuntime) {
     let mut reference = machine(&rt, rt.alloc(), &[0x8001_0337, 0x0003_0067], 0);

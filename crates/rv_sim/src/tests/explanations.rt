@@ -137,7 +137,7 @@ fn a_mode_without_an_address_is_no_handler(rt: HostRuntime) {
     check_run(&rt, alloc, EXPLAIN, handled, 0, &[line]);
 }
 
-// Two exceptions, with a handler that goes on behind each.
+// Two exceptions, with a handler that goes on after each.
 const TWO_EXCEPTIONS: &str = "la x31,h
 csrw mtvec,x31
 lw x1,1(x0)
@@ -164,7 +164,7 @@ fn the_first_of_two_exceptions_is_told(rt: HostRuntime) {
     );
 }
 
-// Two stores to the word that is fetched then, and one to the word behind it.
+// Two stores to the word that is fetched then, and one to the word after it.
 const STORES_INTO_CODE: &str = "la x5,t
 li x6,0x00100393
 sw x6,0(x5)
@@ -202,7 +202,7 @@ fn the_last_store_to_the_stale_word_is_told(rt: HostRuntime) {
     }
 }
 
-// What each first waits for behind the second cycle: the division, a place in the reorder buffer, the one station, in which an
+// What each first waits for after the second cycle: the division, a place in the reorder buffer, the one station, in which an
 // instruction waits for the division, and the end of the first store's drain.
 const WAITS: [Told; 4] = [
     Told {
@@ -248,7 +248,7 @@ fn loads_are_counted_when_they_retire(rt: HostRuntime) {
     check_run(&rt, rt.alloc(), EXPLAIN, LOADS, 0, &[line]);
 }
 
-// The breakpoint in the last word stands at the head behind the cycle in which the jump retires.
+// The breakpoint in the last word stands at the head after the cycle in which the jump retires.
 const LAST_WORD: &str = "ram_size = 4096
 commit_width = 1
 %%
@@ -310,7 +310,7 @@ bnez x1,l
 ebreak
 ";
 
-// The division stands at the head behind the cycles 4 to 20. The two words of `li` stand there for 3 and 2 cycles of each
+// The division stands at the head after the cycles 4 to 20. The two words of `li` stand there for 3 and 2 cycles of each
 // later round, the second for 1 of the first round.
 const LINES_OF_LOOP: &[u8] = b"
 The lines that stood longest at the head of the reorder buffer, in cycles:
@@ -341,7 +341,7 @@ addi x6,x5,1
 ebreak
 ";
 
-// The multiplication stands at the head behind the cycles 4 to 7, each addition behind the next two.
+// The multiplication stands at the head after the cycles 4 to 7, each addition after the next two.
 const LINES_OF_CHAIN: &[u8] = b"
 The lines that stood longest at the head of the reorder buffer, in cycles:
 80000004, line 2: mul x2,x1,x1

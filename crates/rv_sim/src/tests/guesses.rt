@@ -1,6 +1,6 @@
 use rv_front::Predictor;
 
-/// The word behind another in a list of words of no meaning.
+/// The word after another in a list of random words.
 pub(crate) fn next_word(word: u32) -> u32 {
     word.wrapping_mul(1_664_525).wrapping_add(1_013_904_223)
 }

@@ -6,7 +6,7 @@ use rv_isa::{Arrivals, Recovery};
 use std::alloc::Global;
 use std::process::Abort;
 
-// What runs of a core told, one behind the other.
+// What runs of a core told, one after the other.
 #[derive(Drop)]
 struct Told {
     steps: Vec<Step>,

@@ -26,7 +26,7 @@ addi x30,x30,1
 mret
 ";
 
-/// A store into the word behind it, which stops a run there.
+/// A store into the word after it, which stops a run there.
 pub(crate) const STORE_INTO_CODE: &str = "la x5,t
 li x6,0x00100393
 sw x6,0(x5)
@@ -34,7 +34,7 @@ t: addi x7,x0,2
 ebreak
 ";
 
-/// A store into the word behind it and a FENCE.I, behind which the stored word runs.
+/// A store into the word after it and a FENCE.I, after which the stored word runs.
 pub(crate) const STORE_AND_FENCE: &str = "la x5,t
 li x6,0x00100393
 sw x6,0(x5)

@@ -11,7 +11,7 @@ const RAM_SIZE: u32 = 4096;
 
 const CYCLES: u64 = 2000;
 
-// 256 words of no meaning from a first one on, as bytes of memory.
+// 256 random words from a first one on, as bytes of memory.
 fn meaningless(alloc: Global, first: u32) -> Option<Vec<u8>> {
     let mut bytes = Vec::new(alloc);
     let mut word = first;
@@ -31,7 +31,7 @@ fn described(ram_base: u32, recovery: Recovery) -> Option<Description> {
     })
 }
 
-// A core that guesses by words of no meaning from one on, or, where there is none, that no branch is taken.
+// A core that guesses by random words from one on, or, where there is none, that no branch is taken.
 fn guessing_core(
     alloc: Global,
     description: &Description,
@@ -92,7 +92,7 @@ fn is_same_at(core: &Core, reference: &Reference, address: u32) -> bool {
         && core.is_stale(address) == reference.is_stale(address)
 }
 
-// Whether programs see the same, in memory from four bytes before RAM to four bytes behind it.
+// Whether programs see the same, in memory from four bytes before RAM to four bytes after it.
 fn is_same(core: &Core, reference: &Reference, ram_base: u32) -> bool {
     for offset in 0..RAM_SIZE + 8 {
         let address = ram_base.wrapping_sub(4).wrapping_add(offset);
@@ -127,7 +127,7 @@ fn is_run_confirmed(
     is_confirmed(core, reference, stamps.as_slice(), arrivals, ram_base)
 }
 
-// Whether a core that runs words of no meaning from one on ends as the reference does.
+// Whether a core that runs random words from one on ends as the reference does.
 fn agrees(
     rt: &impl Abort,
     alloc: Global,

@@ -106,7 +106,7 @@ fn fault_of_list(alloc: Global, count: usize) -> Result<Option<ArrivalsError>, F
 
 #[test]
 fn a_list_has_at_most_a_hundred_thousand_entries(rt: HostRuntime) -> Result<(), Fail> {
-    // The fault names the entry behind the last one that there may be.
+    // The fault names the entry after the last one that there may be.
     let fault = Some(OutOfRange { entry: 100_001 });
     assert_eq!(rt; fault_of_list(rt.alloc(), 100_001)?, fault);
     Ok(())

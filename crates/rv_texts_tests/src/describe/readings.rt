@@ -140,7 +140,7 @@ fn names_that_a_key_knows(rt: HostRuntime) {
     }
 }
 
-// What a text means whose end is behind so many empty lines.
+// What a text means whose end is after so many empty lines.
 fn values_behind(alloc: Global, lines: usize, end: &[u8]) -> Result<Option<Values>, Fail> {
     let mut text = vec![in alloc; b'\n'; lines]?;
     text.extend_from_slice(end)?;

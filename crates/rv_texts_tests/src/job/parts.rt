@@ -33,7 +33,7 @@ fn a_fault_of_the_description_is_told_with_its_key(rt: HostRuntime) -> Result<()
             b"ram_size = 4096\nrom_bytes = 8192\n%%\n",
             "error: description: OutOfRange rom_bytes\n",
         ),
-        // A description's fault comes before those of the parts behind it.
+        // A description's fault comes before those of the parts after it.
         (
             b"sets = 4\n%%\nsets = 4\n%%\nfrobnicate\n",
             "error: description: UnknownKey\n",

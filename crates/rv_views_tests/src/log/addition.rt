@@ -6,8 +6,8 @@ use rv_log::write_log;
 const PROGRAM: &[u8] = &[0x93, 0x00, 0x50, 0x00, 0x73, 0x00, 0x10, 0x00];
 
 // The addition is fetched in cycle 0, dispatched in 1, issued in 2, broadcast in 3 and retired in 4; the breakpoint traps in 5,
-// which flushes what was fetched behind it, and fetches where mtvec points to, outside RAM. A viewer ends an instruction's last
-// stage where it reads the R, so that this stands behind the C of the cycle.
+// which flushes what was fetched after it, and fetches where mtvec points to, outside RAM. A viewer ends an instruction's last
+// stage where it reads the R, so that this stands after the C of the cycle.
 const LOG: &[u8] = b"Kanata\t0004
 C=\t0
 I\t0\t0\t0

@@ -10,7 +10,7 @@ const PROGRAM: &[u8] = &[
 
 const LINES: [&str; 4] = ["beq x0,x0,8", "addi x2,x0,1", "addi x1,x0,5", "ebreak"];
 
-// The cycles 4 to 8. The branch retires in 4, which squashes the three instructions that were fetched behind it, and its target is
+// The cycles 4 to 8. The branch retires in 4, which squashes the three instructions that were fetched after it, and its target is
 // fetched then, as instruction 4; that is the second that retires, in 8.
 const LOG: &[u8] = b"Kanata\t0004
 C=\t4

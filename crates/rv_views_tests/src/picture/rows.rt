@@ -44,7 +44,7 @@ fn fetched(number: u64, pc: u32, word: Option<u32>, cycle: u64) -> Passage {
 }
 
 // One that left before the window, one that left in its first cycle, one for each ending, two in flight, and one that is fetched
-// behind the window.
+// after the window.
 fn passages() -> [Passage; 8] {
     let register = Reg::new(1);
     [

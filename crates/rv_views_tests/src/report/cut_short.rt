@@ -8,7 +8,7 @@ use std::test::Fail;
 
 const LIMIT: u64 = 100;
 
-// Whether steps come in every second cycle, behind so many.
+// Whether steps come in every second cycle, after so many.
 fn follow(steps: &[Step], before: usize) -> bool {
     let mut stamp = (before as u64).wrapping_mul(2);
     steps.iter().all(|step| {

@@ -44,7 +44,7 @@ fn program(alloc: Global) -> Result<Vec<u8>, Fail> {
     Ok(bytes)
 }
 
-// What a report shows of the state behind that program, with the line of the timer high, and of three words of memory.
+// What a report shows of the state after that program, with the line of the timer high, and of three words of memory.
 fn state_lines(alloc: Global) -> Result<Vec<u8>, Fail> {
     let mut lines = Vec::new(alloc);
     lines.extend_from_slice(b"pc 800000b4\nx0 00000000\n")?;

@@ -38,7 +38,7 @@ run_cycle-requires-clause-bounded g c =
 pub run_cycle-requires-clause-countable : goal.run_cycle-requires-clause-countable
 run_cycle-requires-clause-countable g c = omega (arith, c.loop.invariant.1, c.loop-test.true, c.ranges.limit)
 
--- one more cycle, its steps behind those before
+-- one more cycle, its steps after those before
 more : (g : Over) (c : After-run_cycle g) → c.run_cycle.new.steps.items ≡ c.loop.steps.items ++ c.run_cycle.ensures.cycle.report.steps
 more g c = c.run_cycle.ensures.cycle.steps_are ∙ ap (λ l. l ++ c.run_cycle.ensures.cycle.report.steps) c.reserve.ensures.items
 

@@ -1,4 +1,4 @@
--- Each place up to this one has taken what stood behind it, in both lists.
+-- Each place up to this one has taken what stood after it, in both lists.
 use Rattle.std.proofs.Common.{◌≡◌, ◌≤◌, ◌+◌, vec_len, vec_capacity}
 use Rattle.rv_stations.proofs.MovedLemmas.{moved}
 use Rattle.rv_stations.proofs.take_out.take_out.Given as goal
