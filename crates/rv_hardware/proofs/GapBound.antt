@@ -1,22 +1,5 @@
 -- The patience of the hardware is below the bound, whatever the description.
-use Rattle.std.proofs.Common.{◌≡◌, ℕ, zero, suc, ◌+◌, ◌*◌, ◌≤◌, ◌<◌, Bool, true, false, cond, List, [], ◌∷◌, length, Option, Some, None, refl, ap, subst, arith}
-use Rattle.std.proofs.Math.Nat.{mul-le-mul_right}
-use Rattle.rv_isa.specs.Description.{gap_bound_of, greatest_access, greatest_latency}
-use Rattle.rv_isa.specs.PerKind.{at_kind}
-use Rattle.rv_isa.specs.declared.instructions.Instr.{Instr}
-use Rattle.rv_isa.specs.declared.instructions.Instr.TheVariants.{FenceI}
-use Rattle.rv_isa.specs.declared.issues.Issue.{Issue}
-use Rattle.rv_isa.specs.declared.operations.Kind.{Kind}
-use Rattle.rv_isa.specs.declared.values.CacheValues.{CacheValues}
-use Rattle.rv_cache.specs.WriteBack.{Each}
-use Rattle.rv_rob.specs.declared.entry.Entry.{Entry}
-use Rattle.rv_rob.specs.declared.entry.Stage.{Stage}
-use Rattle.rv_rob.specs.declared.entry.Stage.TheVariants.{Waiting, Running, Finished}
-use Rattle.rv_front.specs.declared.fetched.Fetched.{Fetched}
-use Rattle.rv_stores.specs.Store.{is_draining}
-use Rattle.rv_stores.specs.declared.store.Store.{Store}
-use Rattle.rv_hardware.specs.Hardware.{Hardware}
-use Rattle.rv_isa.specs.Instruction.{is_load, kind_of_word}
+use Rattle.rv_hardware.proofs.Words.{◌≡◌, ℕ, zero, suc, ◌+◌, ◌*◌, ◌<◌, ◌≤◌, Bool, true, false, cond, List, [], ◌∷◌, length, Some, None, Option, refl, ap, subst, arith, mul-le-mul_right, gap_bound_of, greatest_access, greatest_latency, is_load, kind_of_word, at_kind, Instr, FenceI, Issue, Kind, CacheValues, Each, is_draining, Store, Entry, Stage, Finished, Running, Waiting, Fetched, Hardware}
 use Rattle.rv_hardware.proofs.GapForms.{longest_access, longest_execution, longest_write_back}
 use Rattle.rv_hardware.proofs.GapPatience.{dirty_time, fetch_time, flight_time, free_time, head_time, patience, port_time, stage_time, time_of_stores, unit_time, waiting_time}
 use Rattle.rv_hardware.proofs.GapRunning.{Ending, EndsBy}

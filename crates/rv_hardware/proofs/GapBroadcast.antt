@@ -1,14 +1,5 @@
 -- What the broadcast phase keeps: what a result on the bus and the mending of a wrong prediction keep.
-use Rattle.std.proofs.Common.{◌≡◌, ℕ, ◌+◌, ◌&&◌, List, [], ◌∷◌, ◌++◌, length, Option, Some, None, refl, sym, ap, subst, ◌∙◌}
-use Rattle.rv_isa.specs.declared.broadcast.Message.{Message}
-use Rattle.rv_rob.specs.Entry.{finished, predicting}
-use Rattle.rv_rob.specs.ReorderBuffer.{with_entry, entries_below}
-use Rattle.rv_rob.specs.declared.entry.Entry.{Entry}
-use Rattle.rv_hardware.specs.Broadcast.{broadcast, broadcast_oldest, broadcast_result, broadcast_turn, has_result, is_mispredicted, mends_early, result_at, with_broadcast, with_recovery}
-use Rattle.rv_hardware.specs.Hardware.{Hardware}
-use Rattle.rv_hardware.specs.Issue.{oldest}
-use Rattle.rv_hardware.specs.Repeated.{GoesOn, Ends}
-use Rattle.rv_hardware.specs.Squash.{redirected}
+use Rattle.rv_hardware.proofs.Words.{◌≡◌, ℕ, ◌+◌, ◌&&◌, List, [], ◌∷◌, ◌++◌, length, Some, None, Option, sym, refl, ap, ◌∙◌, subst, Message, finished, predicting, entries_below, with_entry, Entry, broadcast, broadcast_oldest, broadcast_result, broadcast_turn, has_result, is_mispredicted, mends_early, result_at, with_broadcast, with_recovery, Hardware, oldest, Ends, GoesOn, redirected}
 use Rattle.rv_hardware.proofs.GapForms.{with_entries}
 use Rattle.rv_hardware.proofs.GapLists.{by_test, oldest-found, with_entry-found, entries_below-found}
 use Rattle.rv_hardware.proofs.Repeated.{Leaves, kept_by_turns}

@@ -1,29 +1,7 @@
 -- What the commit phase keeps: what a retirement, FENCE.I's write-back and all that squashes everything in flight keep.
-use Rattle.std.proofs.Common.{◌≡◌, ℕ, ◌+◌, Bool, true, cond, ◌==◌, List, [], ◌∷◌, ◌++◌, Option, Some, None, refl, sym, subst}
-use Rattle.std.specs.Ordering.{nat_cmp}
+use Rattle.rv_hardware.proofs.Words.{◌≡◌, ℕ, ◌+◌, Bool, true, cond, List, [], ◌∷◌, ◌++◌, ◌==◌, Some, None, Option, nat_cmp, sym, refl, subst, code_of, target_of_word, Message, Fault, Instr, Csr, FenceI, Mret, word_of, due, Effect, Faults, Retires, State, trap_taken, interrupt_cause, after_head, Entry, Committing, commit, commit_turn, commit_turn_of, commit_unless, execute_head, fence_instructions, finish_broadcast, finish_head, head_turn, is_drained, retire, take_effect, with_write_back, write_back_time, Hardware, broadcast_of, with_value, Ends, GoesOn, committed_store, row_of, stale_after, with_result, written_of, seen, with_state, flushed}
 use Rattle.std.specs.FinSet as set
-use Rattle.rv_isa.specs.Cause.{code_of}
-use Rattle.rv_isa.specs.declared.broadcast.Message.{Message}
-use Rattle.rv_isa.specs.declared.causes.Fault.{Fault}
-use Rattle.rv_isa.specs.declared.instructions.Instr.{Instr}
-use Rattle.rv_isa.specs.declared.instructions.Instr.TheVariants.{FenceI, Csr, Mret}
-use Rattle.rv_arch.specs.Due.{due}
-use Rattle.rv_arch.specs.Effect.{Effect, Retires, Faults}
-use Rattle.rv_arch.specs.State.{State}
-use Rattle.rv_arch.specs.Step.{trap_taken}
-use Rattle.rv_arch.specs.Trap.{interrupt_cause}
 use Rattle.rv_arch.specs.declared.outcome.Stop.TheVariants as stop
-use Rattle.rv_memory.specs.Memory.{word_of}
-use Rattle.rv_rob.specs.ReorderBuffer.{after_head}
-use Rattle.rv_rob.specs.declared.entry.Entry.{Entry}
-use Rattle.rv_hardware.specs.Commit.{Committing, commit, commit_turn, commit_turn_of, commit_unless, execute_head, fence_instructions, finish_broadcast, finish_head, head_turn, is_drained, retire, take_effect, with_write_back, write_back_time}
-use Rattle.rv_hardware.specs.Hardware.{Hardware}
-use Rattle.rv_hardware.specs.InFlight.{broadcast_of, with_value}
-use Rattle.rv_isa.specs.Instruction.{target_of_word}
-use Rattle.rv_hardware.specs.Repeated.{GoesOn, Ends}
-use Rattle.rv_hardware.specs.Retirement.{committed_store, row_of, stale_after, with_result, written_of}
-use Rattle.rv_hardware.specs.Seen.{seen, with_state}
-use Rattle.rv_hardware.specs.Squash.{flushed}
 use Rattle.rv_hardware.proofs.GapForms.{emptied, without_head}
 use Rattle.rv_hardware.proofs.GapLists.{by_test}
 use Rattle.rv_hardware.proofs.Repeated.{Leaves, kept_by_turns}

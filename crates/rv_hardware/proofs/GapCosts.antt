@@ -1,17 +1,6 @@
 -- What an execution costs at most.
-use Rattle.std.proofs.Common.{ℕ, ◌≤◌, Bool, true, false, cond, Option, Some, None, arith}
-use Rattle.rv_isa.specs.Description.{greatest_access, greatest_latency}
-use Rattle.rv_isa.specs.PerKind.{at_kind}
-use Rattle.rv_isa.specs.declared.operations.Kind.{Kind}
+use Rattle.rv_hardware.proofs.Words.{ℕ, ◌≤◌, Bool, true, false, cond, Some, None, Option, arith, greatest_access, greatest_latency, at_kind, Kind, CacheValues, Values, Memory, Contents, access_cost, cost_of_access, evicted, eviction_cost, line_of, set_of, is_held, CacheLine, Hardware, FromCache, FromStores, Path, Without, cost_of}
 use Rattle.rv_isa.specs.declared.operations.Kind.TheVariants as kind
-use Rattle.rv_isa.specs.declared.values.CacheValues.{CacheValues}
-use Rattle.rv_isa.specs.declared.values.Values.{Values}
-use Rattle.rv_memory.specs.Memory.{Memory}
-use Rattle.rv_cache.specs.Cache.{Contents, access_cost, cost_of_access, evicted, eviction_cost, line_of, set_of}
-use Rattle.rv_cache.specs.Line.{is_held}
-use Rattle.rv_cache.specs.declared.line.CacheLine.{CacheLine}
-use Rattle.rv_hardware.specs.Hardware.{Hardware}
-use Rattle.rv_hardware.specs.Issue.{Path, Without, FromStores, FromCache, cost_of}
 use Rattle.rv_hardware.proofs.GapForms.{longest_execution}
 
 dirty_at_most : (values : CacheValues) (dirty : Bool) → cond dirty values.write_back 0 ≤ values.write_back

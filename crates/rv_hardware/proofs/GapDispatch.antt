@@ -1,10 +1,5 @@
 -- What the dispatch phase keeps: what the dispatch of one fetched word keeps.
-use Rattle.std.proofs.Common.{◌≡◌, ℕ, List, [], ◌∷◌, Option, Some, None, refl}
-use Rattle.rv_front.specs.declared.fetched.Fetched.{Fetched}
-use Rattle.rv_hardware.specs.Dispatch.{Dispatching, dispatch, dispatch_turn, dispatch_turn_of, dispatch_unless, reason_of, with_dispatched}
-use Rattle.rv_hardware.specs.Hardware.{Hardware}
-use Rattle.rv_hardware.specs.Repeated.{repeated}
-use Rattle.rv_hardware.specs.declared.report.Stall.{Stall}
+use Rattle.rv_hardware.proofs.Words.{◌≡◌, ℕ, List, [], ◌∷◌, Some, None, Option, refl, Fetched, Dispatching, dispatch, dispatch_turn, dispatch_turn_of, dispatch_unless, reason_of, with_dispatched, Hardware, repeated, Stall}
 use Rattle.rv_hardware.proofs.Repeated.{Leaves, kept_by_turns}
 
 module _ (P : Hardware → Type 0) where

@@ -1,9 +1,5 @@
 -- What the drain phase keeps: what the end of a store's access and the start of another keep.
-use Rattle.std.proofs.Common.{◌≡◌, true, nat_le, Option, Some, None, refl}
-use Rattle.rv_isa.specs.declared.broadcast.StoreAccess.{StoreAccess}
-use Rattle.rv_stores.specs.Queue.{oldest_to_drain}
-use Rattle.rv_hardware.specs.Drain.{drain, end_drain, start_drain, with_drained}
-use Rattle.rv_hardware.specs.Hardware.{Hardware}
+use Rattle.rv_hardware.proofs.Words.{◌≡◌, true, nat_le, Some, None, Option, refl, StoreAccess, oldest_to_drain, drain, end_drain, start_drain, with_drained, Hardware}
 use Rattle.rv_hardware.proofs.GapLists.{by_test}
 
 module _ (P : Hardware → Type 0) where

@@ -1,16 +1,6 @@
 -- A cycle brings the port nearer to idle, and after the drain phase it is busy or no retired store waits for it.
-use Rattle.std.proofs.Common.{◌≡◌, ℕ, ◌+◌, ◌-◌, ◌*◌, ◌≤◌, ◌<◌, true, false, cond, nat_le, List, [], ◌∷◌, length, Option, Some, None, inl, inr, ◌⊎◌, refl, ap, subst, ◌∙◌, arith}
-use Rattle.std.proofs.lemmas.Bool.Decides.{nat_tests}
-use Rattle.rv_isa.specs.declared.broadcast.StoreAccess.{StoreAccess}
-use Rattle.rv_cache.specs.Cache.{access_cost}
-use Rattle.rv_stores.specs.Queue.{oldest_to_drain, without_drained}
-use Rattle.rv_stores.specs.Store.{access_to_drain, draining, is_committed_state, is_draining, is_draining_state, state_to_drain}
-use Rattle.rv_stores.specs.declared.store.Store.{Store}
-use Rattle.rv_stores.specs.declared.store.StorePhase.TheVariants.{Speculative, Committed, Draining}
-use Rattle.rv_stores.specs.declared.store.StoreState.{StoreState}
-use Rattle.rv_stores.specs.declared.store.StoreState.TheVariants.{Waiting, Faulted, Filled}
-use Rattle.rv_hardware.specs.Drain.{drain, end_drain, start_drain, with_drained}
-use Rattle.rv_hardware.specs.Hardware.{Hardware}
+use Rattle.rv_hardware.proofs.Words.{◌≡◌, ℕ, ◌+◌, ◌-◌, ◌*◌, ◌<◌, ◌≤◌, true, false, cond, ◌⊎◌, List, [], ◌∷◌, length, nat_le, Some, None, Option, refl, ap, ◌∙◌, subst, inl, inr, arith, nat_tests, StoreAccess, access_cost, Each, oldest_to_drain, without_drained, access_to_drain, draining, is_committed_state, is_draining, is_draining_state, state_to_drain, Store, Committed, Draining, Speculative, StoreState, Faulted, Filled, drain, end_drain, start_drain, with_drained, Hardware}
+use Rattle.rv_stores.specs.declared.store.StoreState.TheVariants.{Waiting}
 use Rattle.rv_hardware.proofs.GapCosts.{access_cost-least, access_cost-most}
 use Rattle.rv_hardware.proofs.GapDrain.{IsKeptByDrain, drain-keeps}
 use Rattle.rv_hardware.proofs.GapForms.{longest_access}
@@ -18,7 +8,6 @@ use Rattle.rv_hardware.proofs.GapLists.{by_test}
 use Rattle.rv_hardware.proofs.GapPatience.{port_time, time_of_stores}
 use Rattle.rv_hardware.proofs.GapQueue.{CanDrain, HasQueue, IsQueue, queue_of_all}
 use Rattle.rv_hardware.proofs.GapBound.{time_of_stores-most}
-use Rattle.rv_cache.specs.WriteBack.{Each}
 
 -- the same time a cycle later
 abbrev pub next_port_time : Hardware → ℕ

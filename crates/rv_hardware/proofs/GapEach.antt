@@ -1,6 +1,5 @@
 -- What holds of each element of a list.
-use Rattle.std.proofs.Common.{◌≡◌, Bool, List, [], ◌∷◌, ◌++◌, filter, map, ap}
-use Rattle.rv_cache.specs.WriteBack.{Each}
+use Rattle.rv_hardware.proofs.Words.{◌≡◌, Bool, List, [], ◌∷◌, ◌++◌, map, filter, ap, Each}
 use Rattle.rv_hardware.proofs.GapLists.{by_test}
 
 module _ {X : Type 0} (P : X → Type 0) where

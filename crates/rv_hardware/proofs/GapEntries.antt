@@ -1,34 +1,8 @@
 -- What is true of each instruction in flight: one that waits has a unit to wait for or waits to be the oldest, only a store
 -- tells what it writes, and where no word was fetched, a fault is known.
-use Rattle.std.proofs.Common.{◌≡◌, ℕ, Bool, true, false, cond, ◌||◌, List, ◌∷◌, ◌++◌, Option, Some, None, is_some, ◌+◌, nat_le, option_and_then, refl, sym, subst}
-use Rattle.rv_isa.specs.declared.broadcast.Message.{Message}
-use Rattle.rv_isa.specs.declared.broadcast.StoreAccess.{StoreAccess}
-use Rattle.rv_isa.specs.declared.causes.Fault.{Fault}
-use Rattle.rv_isa.specs.declared.instructions.Instr.{Instr}
+use Rattle.rv_hardware.proofs.Words.{◌≡◌, ℕ, ◌+◌, Bool, true, false, cond, ◌||◌, List, ◌∷◌, ◌++◌, is_some, nat_le, Some, None, Option, option_and_then, sym, refl, subst, is_serialising, is_store, kind_of_word, Message, StoreAccess, Fault, Instr, Lines, Kind, Values, instruction_of, Layout, Memory, Effect, Faults, Retires, effect, State, Each, finished, predicting, started, Entry, Stage, Finished, Running, Waiting, IsFetchedAt, Fetched, result_at, any_prediction, entry_of_fetched, stage_by, Hardware, reset_hardware, access_of, effect_message, result_of_word, layout_of, seen_behind}
 use Rattle.rv_isa.specs.declared.instructions.Instr.TheVariants.{Store}
-use Rattle.rv_isa.specs.declared.lines.Lines.{Lines}
-use Rattle.rv_isa.specs.declared.operations.Kind.{Kind}
-use Rattle.rv_isa.specs.declared.values.Values.{Values}
-use Rattle.rv_arch.specs.Effect.{Effect, Retires, Faults, effect}
-use Rattle.rv_arch.specs.State.{State}
-use Rattle.rv_cache.specs.WriteBack.{Each}
-use Rattle.rv_memory.specs.Memory.{Layout, Memory}
-use Rattle.rv_decode.specs.Decodes.{instruction_of}
-use Rattle.rv_front.specs.FetchBuffer.{IsFetchedAt}
-use Rattle.rv_hardware.specs.Cycle.{any_prediction}
 use Rattle.rv_hardware.proofs.GapFetch.{each-fetched}
-use Rattle.rv_rob.specs.Entry.{finished, predicting, started}
-use Rattle.rv_rob.specs.declared.entry.Entry.{Entry}
-use Rattle.rv_rob.specs.declared.entry.Stage.{Stage}
-use Rattle.rv_rob.specs.declared.entry.Stage.TheVariants.{Waiting, Running, Finished}
-use Rattle.rv_front.specs.declared.fetched.Fetched.{Fetched}
-use Rattle.rv_hardware.specs.Broadcast.{result_at}
-use Rattle.rv_hardware.specs.Dispatch.{entry_of_fetched, stage_by}
-use Rattle.rv_hardware.specs.Hardware.{Hardware}
-use Rattle.rv_isa.specs.Instruction.{is_serialising, is_store, kind_of_word}
-use Rattle.rv_hardware.specs.Reset.{reset_hardware}
-use Rattle.rv_hardware.specs.Result.{access_of, effect_message, result_of_word}
-use Rattle.rv_hardware.specs.Seen.{layout_of, seen_behind}
 use Rattle.rv_hardware.proofs.GapCycle.{IsKept}
 use Rattle.rv_hardware.proofs.GapEach.{Each-back, Each-change, Each-front, Each-push}
 use Rattle.rv_hardware.proofs.GapForms.{IsResult}

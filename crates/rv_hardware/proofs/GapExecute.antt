@@ -1,26 +1,7 @@
 -- The hardware after commit: what its phases leave of it, and its patience in the cycle after.
-use Rattle.std.proofs.Common.{◌≡◌, ℕ, ◌+◌, ◌≤◌, false, List, [], ◌∷◌, Option, Some, refl, sym, ap, subst, ◌∙◌, arith}
-use Rattle.rv_isa.specs.declared.broadcast.Message.{Message}
-use Rattle.rv_isa.specs.declared.instructions.Instr.{Instr}
-use Rattle.rv_isa.specs.declared.instructions.Instr.TheVariants.{FenceI}
-use Rattle.rv_isa.specs.declared.values.CacheValues.{CacheValues}
-use Rattle.rv_isa.specs.declared.values.Values.{Values}
-use Rattle.rv_cache.specs.WriteBack.{Each}
-use Rattle.rv_front.specs.FetchBuffer.{FetchBuffer}
-use Rattle.rv_isa.specs.declared.issues.Issue.{Issue}
-use Rattle.rv_rob.specs.Entry.{finished, issue_of, predicting}
-use Rattle.rv_rob.specs.declared.entry.Entry.{Entry}
-use Rattle.rv_rob.specs.declared.entry.Stage.{Stage}
-use Rattle.rv_rob.specs.declared.entry.Stage.TheVariants.{Waiting, Running, Finished}
-use Rattle.rv_hardware.specs.Broadcast.{broadcast, broadcast_turn, result_at}
-use Rattle.rv_hardware.specs.Cycle.{execute}
-use Rattle.rv_hardware.specs.Dispatch.{dispatch, entry_of_fetched}
-use Rattle.rv_hardware.specs.Drain.{drain}
-use Rattle.rv_hardware.specs.Issue.{issue}
+use Rattle.rv_hardware.proofs.Words.{◌≡◌, ℕ, ◌+◌, ◌≤◌, false, List, [], ◌∷◌, Some, Option, sym, refl, ap, ◌∙◌, subst, arith, is_serialising, Message, Instr, FenceI, Issue, CacheValues, Values, Each, finished, issue_of, predicting, Entry, Stage, Finished, Running, Waiting, FetchBuffer, broadcast, broadcast_turn, result_at, execute, dispatch, entry_of_fetched, drain, Hardware, issue}
 use Rattle.rv_hardware.proofs.GapDrain.{drain-keeps}
 use Rattle.rv_hardware.proofs.GapIssue.{issue-keeps}
-use Rattle.rv_hardware.specs.Hardware.{Hardware}
-use Rattle.rv_isa.specs.Instruction.{is_serialising}
 use Rattle.rv_hardware.proofs.GapBroadcast.{IsKeptByBroadcast, broadcast-keeps, broadcast_turn-keeps}
 use Rattle.rv_hardware.proofs.Repeated.{Leaves}
 use Rattle.rv_hardware.proofs.GapCycle.{IsKeptByPhases, execute-keeps}

@@ -1,26 +1,6 @@
 -- A cycle without a step and without a stop lowers the patience by one at least.
-use Rattle.std.proofs.Common.{◌≡◌, ℕ, ◌+◌, ◌≤◌, true, false, ◌||◌, List, [], ◌∷◌, Option, Some, None, is_some, inl, inr, refl, sym, ap, subst, ◌∙◌, arith}
+use Rattle.rv_hardware.proofs.Words.{◌≡◌, ℕ, ◌+◌, ◌≤◌, true, false, ◌||◌, List, [], ◌∷◌, is_some, Some, None, Option, sym, refl, ap, ◌∙◌, subst, inl, inr, arith, is_serialising, kind_of_word, Instr, Csr, FenceI, Mret, Lines, Kind, CacheValues, Memory, Each, Entry, Stage, Finished, Running, Waiting, FetchBuffer, FetchesInto, FetchStop, Committing, commit, IsCycle, any_prediction, execute, with_lines, Dispatching, drain, Hardware, broadcast_of, Report}
 use Rattle.std.specs.FinSet as set
-use Rattle.rv_isa.specs.declared.instructions.Instr.{Instr}
-use Rattle.rv_isa.specs.declared.instructions.Instr.TheVariants.{FenceI, Csr, Mret}
-use Rattle.rv_isa.specs.declared.lines.Lines.{Lines}
-use Rattle.rv_isa.specs.declared.operations.Kind.{Kind}
-use Rattle.rv_isa.specs.declared.values.CacheValues.{CacheValues}
-use Rattle.rv_cache.specs.WriteBack.{Each}
-use Rattle.rv_memory.specs.Memory.{Memory}
-use Rattle.rv_front.specs.FetchBuffer.{FetchBuffer, FetchesInto}
-use Rattle.rv_front.specs.declared.fetched.FetchStop.{FetchStop}
-use Rattle.rv_rob.specs.declared.entry.Entry.{Entry}
-use Rattle.rv_rob.specs.declared.entry.Stage.{Stage}
-use Rattle.rv_rob.specs.declared.entry.Stage.TheVariants.{Waiting, Running, Finished}
-use Rattle.rv_hardware.specs.Commit.{Committing, commit}
-use Rattle.rv_hardware.specs.Cycle.{IsCycle, any_prediction, execute, with_lines}
-use Rattle.rv_hardware.specs.Dispatch.{Dispatching}
-use Rattle.rv_hardware.specs.Drain.{drain}
-use Rattle.rv_hardware.specs.Hardware.{Hardware}
-use Rattle.rv_hardware.specs.InFlight.{broadcast_of}
-use Rattle.rv_isa.specs.Instruction.{is_serialising, kind_of_word}
-use Rattle.rv_hardware.specs.Report.{Report}
 use Rattle.rv_hardware.proofs.GapCommit.{commit-keeps}
 use Rattle.rv_hardware.proofs.GapDrained.{Drains, drains}
 use Rattle.rv_hardware.proofs.GapEntries.{IsShaped, Shaped}

@@ -1,28 +1,5 @@
 -- Where FENCE.I is the oldest instruction, a cycle brings the port, the retired stores and the dirty lines nearer to their end.
-use Rattle.std.proofs.Common.{◌≡◌, ℕ, ◌+◌, ◌*◌, ◌≤◌, ◌<◌, true, false, ◌==◌, nat_le, List, [], ◌∷◌, ◌++◌, Option, Some, refl, sym, ap, subst, ◌∙◌, arith}
-use Rattle.std.proofs.lemmas.Bool.{eqb-false, false≢true}
-use Rattle.std.proofs.lemmas.Bool.Decides.{nat_tests}
-use Rattle.rv_isa.specs.declared.broadcast.Message.{Message}
-use Rattle.rv_isa.specs.declared.instructions.Instr.{Instr}
-use Rattle.rv_isa.specs.declared.instructions.Instr.TheVariants.{FenceI}
-use Rattle.rv_isa.specs.declared.issues.Issue.{Issue}
-use Rattle.rv_isa.specs.declared.operations.Kind.{Kind}
-use Rattle.rv_isa.specs.declared.values.CacheValues.{CacheValues}
-use Rattle.rv_isa.specs.declared.values.Values.{Values}
-use Rattle.rv_cache.specs.WriteBack.{Each}
-use Rattle.rv_front.specs.FetchBuffer.{FetchBuffer}
-use Rattle.rv_rob.specs.declared.entry.Entry.{Entry}
-use Rattle.rv_rob.specs.declared.entry.Stage.{Stage}
-use Rattle.rv_rob.specs.declared.entry.Stage.TheVariants.{Finished}
-use Rattle.rv_stores.specs.declared.store.Store.{Store}
-use Rattle.rv_hardware.specs.Broadcast.{broadcast, result_at}
-use Rattle.rv_hardware.specs.Commit.{is_drained, with_write_back, write_back_time}
-use Rattle.rv_hardware.specs.Cycle.{execute}
-use Rattle.rv_hardware.specs.Drain.{drain, end_drain, start_drain}
-use Rattle.rv_hardware.specs.Hardware.{Hardware}
-use Rattle.rv_hardware.specs.Issue.{issue}
-use Rattle.rv_isa.specs.Instruction.{is_of_kind, kind_of_word}
-use Rattle.rv_stores.specs.Queue.{oldest_to_drain}
+use Rattle.rv_hardware.proofs.Words.{◌≡◌, ℕ, ◌+◌, ◌*◌, ◌<◌, ◌≤◌, true, false, List, [], ◌∷◌, ◌++◌, nat_le, ◌==◌, Some, Option, sym, refl, ap, ◌∙◌, subst, arith, eqb-false, false≢true, nat_tests, is_of_kind, kind_of_word, Message, Instr, FenceI, Issue, Kind, CacheValues, Values, Each, oldest_to_drain, Store, Entry, Stage, Finished, FetchBuffer, broadcast, result_at, is_drained, with_write_back, write_back_time, execute, drain, end_drain, start_drain, Hardware, issue}
 use Rattle.rv_hardware.proofs.GapBroadcast.{IsKeptByBroadcast, broadcast-keeps}
 use Rattle.rv_hardware.proofs.GapDispatch.{IsKeptByDispatch, dispatch-keeps}
 use Rattle.rv_hardware.proofs.GapDrain.{drain-keeps}

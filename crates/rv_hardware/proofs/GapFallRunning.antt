@@ -1,23 +1,5 @@
 -- Where the oldest instruction executes, a cycle brings its end nearer.
-use Rattle.std.proofs.Common.{◌≡◌, ℕ, suc, ◌+◌, ◌-◌, ◌≤◌, ◌<◌, true, false, not, is_none, nat_le, List, [], ◌∷◌, ◌++◌, length, Option, Some, None, inl, inr, refl, sym, ap, subst, ◌∙◌, arith}
-use Rattle.std.proofs.lemmas.Bool.{cases_lt, cond-true, cond-false, false≢true}
-use Rattle.std.proofs.lemmas.Bool.Decides.{nat_tests}
-use Rattle.rv_isa.specs.declared.broadcast.Message.{Message}
-use Rattle.rv_isa.specs.declared.instructions.Instr.{Instr}
-use Rattle.rv_isa.specs.declared.issues.Issue.{Issue}
-use Rattle.rv_front.specs.FetchBuffer.{FetchBuffer}
-use Rattle.rv_rob.specs.Entry.{finished, predicting, started}
-use Rattle.rv_rob.specs.declared.entry.Entry.{Entry}
-use Rattle.rv_rob.specs.declared.entry.Stage.{Stage}
-use Rattle.rv_rob.specs.declared.entry.Stage.TheVariants.{Waiting, Running, Finished}
-use Rattle.rv_hardware.specs.Broadcast.{broadcast, broadcast_oldest, broadcast_result, broadcast_turn, has_result, result_at}
-use Rattle.rv_hardware.specs.Cycle.{execute}
-use Rattle.rv_hardware.specs.Drain.{drain}
-use Rattle.rv_hardware.specs.Hardware.{Hardware}
-use Rattle.rv_hardware.specs.InFlight.{is_waiting}
-use Rattle.rv_isa.specs.Instruction.{is_serialising}
-use Rattle.rv_hardware.specs.Issue.{issue, oldest, oldest_from}
-use Rattle.rv_hardware.specs.Repeated.{repeated}
+use Rattle.rv_hardware.proofs.Words.{◌≡◌, ℕ, suc, ◌+◌, ◌-◌, ◌<◌, ◌≤◌, true, false, not, List, [], ◌∷◌, ◌++◌, length, is_none, nat_le, Some, None, Option, sym, refl, ap, ◌∙◌, subst, inl, inr, arith, cases_lt, cond-false, cond-true, false≢true, nat_tests, is_serialising, Message, Instr, Issue, Kind, Values, finished, predicting, started, Entry, Stage, Finished, Running, Waiting, FetchBuffer, broadcast, broadcast_oldest, broadcast_result, broadcast_turn, has_result, result_at, execute, drain, Hardware, is_waiting, issue, oldest, oldest_from, repeated}
 use Rattle.rv_hardware.proofs.GapBroadcast.{IsMadeByBroadcast, result-makes}
 use Rattle.rv_hardware.proofs.GapDrained.{drain-same}
 use Rattle.rv_hardware.proofs.GapExecute.{broadcast-same, execute-same, head-broadcasted, head-dispatched, head-turn, issued-same, later, plain-patience}
@@ -27,8 +9,6 @@ use Rattle.rv_hardware.proofs.GapLists.{answer, by_test}
 use Rattle.rv_hardware.proofs.GapPatience.{patience, stage_time}
 use Rattle.rv_hardware.proofs.GapRunning.{AreEnding}
 use Rattle.rv_hardware.proofs.Repeated.{Leaves, kept_by_the_rest, kept_by_turns}
-use Rattle.rv_isa.specs.declared.operations.Kind.{Kind}
-use Rattle.rv_isa.specs.declared.values.Values.{Values}
 use Rattle.rv_hardware.proofs.GapForms.{longest_execution}
 
 abbrev pub RunsUntil : ℕ → Stage → Type 0

@@ -1,23 +1,5 @@
 -- Where the oldest instruction waits for a unit or the port, a cycle brings them nearer, or it leaves.
-use Rattle.std.proofs.Common.{◌≡◌, ℕ, zero, suc, ◌+◌, ◌-◌, ◌*◌, ◌≤◌, ◌<◌, Bool, true, false, cond, nat_le, [], Option, Some, inl, inr, ◌⊎◌, refl, sym, ap, subst, ◌∙◌, arith}
-use Rattle.std.proofs.lemmas.Bool.Decides.{nat_tests}
-use Rattle.rv_isa.specs.PerKind.{at_kind}
-use Rattle.rv_isa.specs.declared.broadcast.Message.{Message}
-use Rattle.rv_isa.specs.declared.instructions.Instr.{Instr}
-use Rattle.rv_isa.specs.declared.issues.Issue.{Issue}
-use Rattle.rv_isa.specs.declared.operations.Kind.{Kind}
-use Rattle.rv_isa.specs.declared.values.Values.{Values}
-use Rattle.rv_front.specs.FetchBuffer.{FetchBuffer}
-use Rattle.rv_rob.specs.Entry.{started}
-use Rattle.rv_rob.specs.declared.entry.Stage.{Stage}
-use Rattle.rv_rob.specs.declared.entry.Stage.TheVariants.{Waiting, Running, Finished}
-use Rattle.rv_units.specs.Pool.{Pool, is_free}
-use Rattle.rv_hardware.specs.Broadcast.{broadcast, result_at}
-use Rattle.rv_hardware.specs.Cycle.{execute}
-use Rattle.rv_hardware.specs.Drain.{drain}
-use Rattle.rv_hardware.specs.Hardware.{Hardware}
-use Rattle.rv_isa.specs.Instruction.{is_serialising, is_load, kind_of_word}
-use Rattle.rv_hardware.specs.Issue.{issue}
+use Rattle.rv_hardware.proofs.Words.{◌≡◌, ℕ, zero, suc, ◌+◌, ◌-◌, ◌*◌, ◌<◌, ◌≤◌, Bool, true, false, cond, ◌⊎◌, [], nat_le, Some, Option, sym, refl, ap, ◌∙◌, subst, inl, inr, arith, nat_tests, is_load, is_serialising, kind_of_word, at_kind, Message, Instr, Issue, Kind, Values, Pool, is_free, started, Stage, Finished, Running, Waiting, FetchBuffer, broadcast, result_at, execute, drain, Hardware, issue}
 use Rattle.rv_hardware.proofs.GapBound.{free_time-most, no_more, unit_time-most}
 use Rattle.rv_hardware.proofs.GapBroadcast.{IsKeptByBroadcast, broadcast-keeps}
 use Rattle.rv_hardware.proofs.GapDispatch.{IsKeptByDispatch, dispatch-keeps}

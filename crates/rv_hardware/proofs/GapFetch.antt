@@ -1,12 +1,5 @@
 -- What a fetch leaves as it was.
-use Rattle.std.proofs.Common.{◌≡◌, ℕ, zero, suc, ◌-◌, Bool, true, false, MatchBool, MatchOption, List, [], ◌∷◌, ◌++◌, length, Option, Some, None, refl, sym, ap, subst}
-use Rattle.rv_memory.specs.Memory.{Memory}
-use Rattle.rv_front.specs.FetchBuffer.{Answers, FetchBuffer, Fetches, FetchesInto, IsFetchedAt, is_halted, stop_behind}
-use Rattle.rv_front.specs.declared.fetched.Fetched.{Fetched}
-use Rattle.rv_front.specs.declared.fetched.FetchStop.{FetchStop}
-use Rattle.rv_front.specs.declared.fetched.FetchStop.TheVariants.{Halted}
-use Rattle.rv_cache.specs.WriteBack.{Each}
-use Rattle.rv_hardware.specs.Cycle.{any_prediction}
+use Rattle.rv_hardware.proofs.Words.{◌≡◌, ℕ, zero, suc, ◌-◌, Bool, true, false, List, [], ◌∷◌, ◌++◌, length, Some, None, MatchBool, Option, MatchOption, sym, refl, ap, subst, Memory, Each, Answers, FetchBuffer, Fetches, FetchesInto, IsFetchedAt, is_halted, stop_behind, FetchStop, Halted, Fetched, any_prediction}
 use Rattle.rv_hardware.proofs.GapEach.{Each-append}
 
 -- what a fetch adds where the front was not halted

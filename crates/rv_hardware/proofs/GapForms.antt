@@ -1,21 +1,6 @@
 -- The forms that the hardware takes from turn to turn, and what is known of each start of an execution.
-use Rattle.std.proofs.Common.{◌≡◌, ℕ, ◌+◌, ◌*◌, List, [], ◌∷◌, ◌++◌, Option}
-use Rattle.rv_isa.specs.Description.{greatest_access, greatest_latency}
-use Rattle.rv_isa.specs.PerKind.{at_kind, with_kind}
-use Rattle.rv_isa.specs.declared.broadcast.Message.{Message}
-use Rattle.rv_isa.specs.declared.broadcast.StoreAccess.{StoreAccess}
-use Rattle.rv_isa.specs.declared.instructions.Instr.{Instr}
-use Rattle.rv_isa.specs.declared.lines.Lines.{Lines}
-use Rattle.rv_isa.specs.declared.operations.Kind.{Kind}
-use Rattle.rv_arch.specs.State.{State}
-use Rattle.rv_memory.specs.Memory.{Layout}
-use Rattle.rv_rob.specs.Entry.{started}
-use Rattle.rv_rob.specs.declared.entry.Entry.{Entry}
+use Rattle.rv_hardware.proofs.Words.{◌≡◌, ℕ, ◌+◌, ◌*◌, List, [], ◌∷◌, ◌++◌, Option, greatest_access, greatest_latency, at_kind, with_kind, Message, StoreAccess, Instr, Lines, Kind, Layout, State, started, Entry, Hardware, result_of_word, committed_store, redirected}
 use Rattle.rv_units.specs.Pool.{started as started_unit}
-use Rattle.rv_hardware.specs.Hardware.{Hardware}
-use Rattle.rv_hardware.specs.Result.{result_of_word}
-use Rattle.rv_hardware.specs.Retirement.{committed_store}
-use Rattle.rv_hardware.specs.Squash.{redirected}
 
 -- these instructions are in flight
 abbrev pub with_entries : List Entry → Hardware → Hardware

@@ -1,24 +1,6 @@
 -- Where fetch is halted, the last word, fetched or in flight, is the one that was not there.
-use Rattle.std.proofs.Common.{◌≡◌, ℕ, zero, suc, ◌-◌, Bool, true, false, List, [], ◌∷◌, ◌++◌, length, map, Option, Some, None, MatchOption, ◌==◌, refl, sym, ap, subst, ◌∙◌, append_assoc}
-use Rattle.std.proofs.lemmas.List.{map-append}
-use Rattle.rv_isa.specs.Word.{pc_plus_4}
-use Rattle.rv_isa.specs.declared.broadcast.Message.{Message}
-use Rattle.rv_isa.specs.declared.values.Values.{Values}
-use Rattle.rv_cache.specs.WriteBack.{Each}
-use Rattle.rv_memory.specs.Memory.{Memory}
-use Rattle.rv_rob.specs.Entry.{finished, started}
-use Rattle.rv_rob.specs.declared.entry.Entry.{Entry}
-use Rattle.rv_rob.specs.declared.entry.Stage.{Stage}
-use Rattle.rv_rob.specs.declared.entry.Stage.TheVariants.{Waiting, Running, Finished}
-use Rattle.rv_front.specs.FetchBuffer.{FetchBuffer, Fetches, FetchesInto, is_halted, stop_behind, stop_for}
-use Rattle.rv_front.specs.declared.fetched.Fetched.{Fetched}
-use Rattle.rv_front.specs.declared.fetched.FetchStop.{FetchStop}
-use Rattle.rv_front.specs.declared.fetched.FetchStop.TheVariants.{Width, Room, Prediction, Halted}
-use Rattle.rv_hardware.specs.Cycle.{any_prediction}
-use Rattle.rv_hardware.specs.Dispatch.{entry_of_fetched}
-use Rattle.rv_hardware.specs.Hardware.{Hardware}
-use Rattle.rv_hardware.specs.InFlight.{broadcast_of}
-use Rattle.rv_hardware.specs.Reset.{reset_hardware}
+use Rattle.rv_hardware.proofs.Words.{◌≡◌, ℕ, zero, suc, ◌-◌, Bool, true, false, List, [], ◌∷◌, ◌++◌, map, length, ◌==◌, Some, None, Option, MatchOption, sym, refl, ap, ◌∙◌, subst, append_assoc, map-append, pc_plus_4, Message, Values, Memory, Each, finished, started, Entry, Stage, Finished, Running, Waiting, FetchBuffer, Fetches, FetchesInto, is_halted, stop_behind, stop_for, FetchStop, Halted, Prediction, Room, Fetched, any_prediction, entry_of_fetched, Hardware, broadcast_of, reset_hardware}
+use Rattle.rv_front.specs.declared.fetched.FetchStop.TheVariants.{Width}
 use Rattle.rv_hardware.proofs.GapCycle.{IsKept, IsKeptByPhases}
 use Rattle.rv_hardware.proofs.GapEach.{map-change}
 use Rattle.rv_hardware.proofs.GapEntries.{HasShape, HasWordOr, IsShaped, Shaped, shape-kept, shape-at_reset}

@@ -1,9 +1,5 @@
 -- The oldest instruction in flight, and what becomes of it in the phases after commit.
-use Rattle.std.proofs.Common.{◌≡◌, true, false, List, [], ◌∷◌, ◌++◌, Option, sym, subst, ◌∙◌}
-use Rattle.rv_isa.specs.declared.instructions.Instr.{Instr}
-use Rattle.rv_rob.specs.declared.entry.Entry.{Entry}
-use Rattle.rv_rob.specs.declared.entry.Stage.{Stage}
-use Rattle.rv_hardware.specs.InFlight.{is_waiting}
+use Rattle.rv_hardware.proofs.Words.{◌≡◌, true, false, List, [], ◌∷◌, ◌++◌, Option, sym, ◌∙◌, subst, Instr, Entry, Stage, is_waiting}
 
 -- the oldest is this instruction, in such a stage
 abbrev pub HeadIs : Option Instr → (Stage → Type 0) → List Entry → Type 0

@@ -1,21 +1,6 @@
 -- What the issue phase keeps: what a load's access to the cache and the start of an execution keep.
-use Rattle.std.proofs.Common.{◌≡◌, ℕ, ◌+◌, ◌≤◌, true, ◌&&◌, List, ◌∷◌, ◌++◌, length, Option, Some, None, refl, sym, ap, subst, ◌∙◌}
-use Rattle.std.proofs.lemmas.Bool.{and_parts}
-use Rattle.rv_isa.specs.PerKind.{at_kind}
-use Rattle.rv_isa.specs.declared.broadcast.Message.{Message}
-use Rattle.rv_isa.specs.declared.operations.Kind.{Kind}
+use Rattle.rv_hardware.proofs.Words.{◌≡◌, ℕ, ◌+◌, ◌≤◌, true, ◌&&◌, List, ◌∷◌, ◌++◌, length, Some, None, Option, sym, refl, ap, ◌∙◌, subst, and_parts, is_of_kind, kind_of_word, sources_of_word, at_kind, Message, Kind, is_free, started, with_entry, Entry, Hardware, is_waiting, FromCache, FromStores, Path, Without, cost_of, has_operands, is_ready, issue, issue_kind, issue_oldest, issue_turn, issued, may_load, oldest, path, with_access, with_start, Ends, result_of_word, layout_of, seen_behind}
 use Rattle.rv_isa.specs.declared.operations.Kind.TheVariants as kind
-use Rattle.rv_rob.specs.Entry.{started}
-use Rattle.rv_rob.specs.ReorderBuffer.{with_entry}
-use Rattle.rv_rob.specs.declared.entry.Entry.{Entry}
-use Rattle.rv_units.specs.Pool.{is_free}
-use Rattle.rv_hardware.specs.Hardware.{Hardware}
-use Rattle.rv_hardware.specs.InFlight.{is_waiting}
-use Rattle.rv_hardware.specs.Issue.{Path, Without, FromStores, FromCache, cost_of, has_operands, is_ready, issue, issue_kind, issue_oldest, issue_turn, issued, may_load, oldest, path, with_access, with_start}
-use Rattle.rv_isa.specs.Instruction.{is_of_kind, kind_of_word, sources_of_word}
-use Rattle.rv_hardware.specs.Repeated.{Ends}
-use Rattle.rv_hardware.specs.Result.{result_of_word}
-use Rattle.rv_hardware.specs.Seen.{layout_of, seen_behind}
 use Rattle.rv_hardware.proofs.GapCosts.{cost_of-most}
 use Rattle.rv_hardware.proofs.GapForms.{with_entries, with_started, with_unit, longest_execution, IsResult}
 use Rattle.rv_hardware.proofs.GapLists.{by_test, IsFound, oldest-found, with_entry-found}

@@ -1,19 +1,5 @@
 -- How many cycles without a step the hardware can still have: what the oldest instruction waits for, counted with slack.
-use Rattle.std.proofs.Common.{ℕ, zero, suc, ◌+◌, ◌-◌, ◌*◌, max, Bool, cond, List, [], ◌∷◌, length, Option, Some, None}
-use Rattle.rv_isa.specs.PerKind.{at_kind}
-use Rattle.rv_isa.specs.declared.instructions.Instr.{Instr}
-use Rattle.rv_isa.specs.declared.instructions.Instr.TheVariants.{FenceI}
-use Rattle.rv_isa.specs.declared.issues.Issue.{Issue}
-use Rattle.rv_isa.specs.declared.operations.Kind.{Kind}
-use Rattle.rv_rob.specs.declared.entry.Entry.{Entry}
-use Rattle.rv_rob.specs.declared.entry.Stage.{Stage}
-use Rattle.rv_rob.specs.declared.entry.Stage.TheVariants.{Waiting, Running, Finished}
-use Rattle.rv_front.specs.declared.fetched.Fetched.{Fetched}
-use Rattle.rv_stores.specs.Store.{is_draining}
-use Rattle.rv_stores.specs.declared.store.Store.{Store}
-use Rattle.rv_hardware.specs.Commit.{write_back_time}
-use Rattle.rv_hardware.specs.Hardware.{Hardware}
-use Rattle.rv_isa.specs.Instruction.{is_load, kind_of_word}
+use Rattle.rv_hardware.proofs.Words.{ℕ, zero, suc, ◌+◌, ◌-◌, ◌*◌, max, Bool, cond, List, [], ◌∷◌, length, Some, None, Option, is_load, kind_of_word, at_kind, Instr, FenceI, Issue, Kind, is_draining, Store, Entry, Stage, Finished, Running, Waiting, Fetched, write_back_time, Hardware}
 use Rattle.rv_hardware.proofs.GapForms.{longest_access, longest_execution, longest_write_back}
 
 -- the accesses of the stores that have not begun theirs, and the cycle in which the last leaves

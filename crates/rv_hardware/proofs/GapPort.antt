@@ -1,8 +1,5 @@
 -- The cache's port is busy no longer than for an access and the write-back of all lines.
-use Rattle.std.proofs.Common.{ℕ, ◌+◌, ◌≤◌, List, arith}
-use Rattle.rv_isa.specs.declared.values.Values.{Values}
-use Rattle.rv_hardware.specs.Hardware.{Hardware}
-use Rattle.rv_hardware.specs.Reset.{reset_hardware}
+use Rattle.rv_hardware.proofs.Words.{ℕ, ◌+◌, ◌≤◌, List, arith, Values, Hardware, reset_hardware}
 use Rattle.rv_hardware.proofs.GapCosts.{access_cost-most}
 use Rattle.rv_hardware.proofs.GapCycle.{IsKept, IsKeptByPhases}
 use Rattle.rv_hardware.proofs.GapForms.{longest_access, longest_write_back}

@@ -1,18 +1,6 @@
 -- The stores that wait for the cache's port are retired ones, and only the oldest may have begun its access.
-use Rattle.std.proofs.Common.{◌≡◌, ℕ, true, false, List, [], ◌∷◌, ◌++◌, Option, Some, None, refl, sym, subst}
-use Rattle.std.proofs.lemmas.List.{append-nil}
-use Rattle.rv_isa.specs.declared.broadcast.StoreAccess.{StoreAccess}
-use Rattle.rv_isa.specs.declared.values.Values.{Values}
-use Rattle.rv_cache.specs.WriteBack.{Each}
-use Rattle.rv_stores.specs.Queue.{with_oldest_draining, without_drained}
-use Rattle.rv_stores.specs.Store.{draining, is_committed, is_committed_state, is_draining}
-use Rattle.rv_stores.specs.declared.store.Store.{Store}
-use Rattle.rv_stores.specs.declared.store.StorePhase.TheVariants.{Committed}
-use Rattle.rv_stores.specs.declared.store.StoreState.{StoreState}
-use Rattle.rv_stores.specs.declared.store.StoreState.TheVariants.{Waiting, Faulted, Filled}
-use Rattle.rv_hardware.specs.Hardware.{Hardware}
-use Rattle.rv_hardware.specs.Reset.{reset_hardware}
-use Rattle.rv_hardware.specs.Retirement.{committed_store}
+use Rattle.rv_hardware.proofs.Words.{◌≡◌, ℕ, true, false, List, [], ◌∷◌, ◌++◌, Some, None, Option, sym, refl, subst, append-nil, StoreAccess, Values, Each, with_oldest_draining, without_drained, draining, is_committed, is_committed_state, is_draining, Store, Committed, StoreState, Faulted, Filled, Hardware, reset_hardware, committed_store}
+use Rattle.rv_stores.specs.declared.store.StoreState.TheVariants.{Waiting}
 use Rattle.rv_hardware.proofs.GapCycle.{IsKept}
 use Rattle.rv_hardware.proofs.GapEach.{Each-push}
 use Rattle.rv_hardware.proofs.GapLists.{by_test}

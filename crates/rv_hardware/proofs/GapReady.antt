@@ -1,22 +1,6 @@
 -- When the oldest instruction is ready, and which instructions access the cache.
-use Rattle.std.proofs.Common.{◌≡◌, ℕ, ◌≤◌, Bool, true, false, not, ◌&&◌, ◌||◌, nat_le, List, [], ◌∷◌, ◌++◌, Option, Some, None, inl, inr, ◌⊎◌, refl, sym, ap, ◌∙◌, arith}
-use Rattle.std.proofs.lemmas.Bool.{and_from, or_right}
-use Rattle.std.proofs.lemmas.Bool.Decides.{nat_tests}
-use Rattle.std.specs.List.{list_all}
-use Rattle.rv_isa.proofs.WithKind.{is_same-own, is_same-true}
-use Rattle.rv_isa.specs.declared.instructions.Instr.{Instr}
-use Rattle.rv_isa.specs.declared.instructions.Instr.TheVariants.{Load}
-use Rattle.rv_isa.specs.declared.operations.Kind.{Kind}
+use Rattle.rv_hardware.proofs.Words.{◌≡◌, ℕ, ◌≤◌, Bool, true, false, not, ◌&&◌, ◌||◌, ◌⊎◌, List, [], ◌∷◌, ◌++◌, nat_le, Some, None, Option, sym, refl, ap, ◌∙◌, inl, inr, arith, and_from, or_right, nat_tests, list_all, is_same-own, is_same-true, is_load, is_of_kind, kind_of_word, sources_of_word, Instr, Load, Kind, State, is_known as is_known_store, Store as QueuedStore, Entry, Hardware, is_waiting, stores_of, FromCache, FromStores, Path, Without, has_operands, has_port, is_ready, may_load, path, path_of, seen_behind, stores_behind}
 use Rattle.rv_isa.specs.declared.operations.Kind.TheVariants as kind
-use Rattle.rv_arch.specs.State.{State}
-use Rattle.rv_rob.specs.declared.entry.Entry.{Entry}
-use Rattle.rv_stores.specs.Store.{is_known as is_known_store}
-use Rattle.rv_stores.specs.declared.store.Store.{Store as QueuedStore}
-use Rattle.rv_hardware.specs.Hardware.{Hardware}
-use Rattle.rv_hardware.specs.InFlight.{is_waiting, stores_of}
-use Rattle.rv_hardware.specs.Issue.{Path, Without, FromStores, FromCache, has_operands, has_port, is_ready, may_load, path, path_of}
-use Rattle.rv_isa.specs.Instruction.{is_load, is_of_kind, kind_of_word, sources_of_word}
-use Rattle.rv_hardware.specs.Seen.{seen_behind, stores_behind}
 use Rattle.rv_hardware.proofs.GapIssue.{ready-parts}
 
 pub loads_of_mem : (instruction : Option Instr) → is_load instruction ≡ true → kind_of_word instruction ≡ Some kind.Mem

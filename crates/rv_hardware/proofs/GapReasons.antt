@@ -1,13 +1,5 @@
 -- What is known where a fetched word has no reason to wait.
-use Rattle.std.proofs.Common.{◌≡◌, Bool, true, false, cond, ◌&&◌, nat_le, List, length, Option, Some, None, refl}
-use Rattle.std.specs.List.{list_any}
-use Rattle.rv_rob.specs.declared.entry.Entry.{Entry}
-use Rattle.rv_front.specs.declared.fetched.Fetched.{Fetched}
-use Rattle.rv_hardware.specs.Dispatch.{has_full_stations, reason_of}
-use Rattle.rv_hardware.specs.Hardware.{Hardware}
-use Rattle.rv_isa.specs.Instruction.{is_serialising, is_store, kind_of_word}
-use Rattle.rv_hardware.specs.Seen.{stores_behind}
-use Rattle.rv_hardware.specs.declared.report.Stall.{Stall}
+use Rattle.rv_hardware.proofs.Words.{◌≡◌, Bool, true, false, cond, ◌&&◌, List, length, nat_le, Some, None, Option, refl, list_any, is_serialising, is_store, kind_of_word, Entry, Fetched, has_full_stations, reason_of, Hardware, stores_behind, Stall}
 use Rattle.rv_hardware.specs.declared.report.Stall.TheVariants as stall
 
 abbrev pub is_any_serialising : List Entry → Bool

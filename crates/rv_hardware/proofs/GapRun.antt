@@ -1,18 +1,6 @@
 -- The gaps of a run are below the bound.
-use Rattle.std.proofs.Common.{◌≡◌, ℕ, ◌+◌, ◌≤◌, ◌<◌, max, Bool, true, false, cond, List, [], ◌∷◌, ◌++◌, length, None, refl, sym, ap, subst, ◌∙◌, arith}
-use Rattle.std.proofs.lemmas.Bool.{cond-true}
-use Rattle.rv_isa.specs.Description.{gap_bound_of}
-use Rattle.rv_isa.specs.declared.lines.Arrival.{Arrival}
-use Rattle.rv_isa.specs.declared.lines.Lines.{Lines}
-use Rattle.rv_isa.specs.declared.values.Values.{Values}
-use Rattle.rv_arch.specs.declared.outcome.Stop.{Stop}
+use Rattle.rv_hardware.proofs.Words.{◌≡◌, ℕ, ◌+◌, ◌<◌, ◌≤◌, max, Bool, true, false, cond, List, [], ◌∷◌, ◌++◌, length, None, sym, refl, ap, ◌∙◌, subst, arith, cond-true, gap_bound_of, Arrival, Lines, Values, Stop, IsCycle, any_prediction, AreSilent, NoSilence, OnlyLastStops, Hardware, Report, Cycles, EndsWith, IsStop, NoneStops, Reachable, cycled, ended, is_silent, longest_gap_from, longest_gap_of, Step}
 use Rattle.rv_arch.specs.declared.outcome.Stop.TheVariants as stop
-use Rattle.rv_hardware.specs.Cycle.{IsCycle, any_prediction}
-use Rattle.rv_hardware.specs.Gap.{AreSilent, NoSilence, OnlyLastStops}
-use Rattle.rv_hardware.specs.Hardware.{Hardware}
-use Rattle.rv_hardware.specs.Report.{Report}
-use Rattle.rv_hardware.specs.Run.{Cycles, ended, cycled, EndsWith, IsStop, NoneStops, Reachable, is_silent, longest_gap_from, longest_gap_of}
-use Rattle.rv_hardware.specs.declared.step.Step.{Step}
 use Rattle.rv_hardware.proofs.GapBound.{patience-below}
 use Rattle.rv_hardware.proofs.GapCycle.{phases-keep}
 use Rattle.rv_hardware.proofs.GapExecute.{same-kept}

@@ -1,20 +1,8 @@
 -- The cache holds no more lines than it has room for, so its write-back has a longest time.
-use Rattle.std.proofs.Common.{◌≡◌, ℕ, ◌*◌, ◌%◌, ◌≤◌, Bool, true, false, cond, List, [], ◌∷◌, length, map, refl, arith}
-use Rattle.std.proofs.lemmas.List.{length-map, length-replicate, length-set}
-use Rattle.std.proofs.Math.Nat.{mul-le-mul_right}
-use Rattle.rv_isa.specs.declared.values.CacheValues.{CacheValues}
-use Rattle.rv_isa.specs.declared.values.Values.{Values}
-use Rattle.rv_memory.specs.Memory.{Memory}
+use Rattle.rv_hardware.proofs.Words.{◌≡◌, ℕ, ◌*◌, ◌%◌, ◌≤◌, Bool, true, false, cond, List, [], ◌∷◌, map, length, refl, arith, length-set, mul-le-mul_right, length-map, length-replicate, CacheValues, Values, Memory, Contents, accessed_sets, line_of, set_of, cleaned, dirty_count, dirty_total, Each, CacheLine, write_back_time, Hardware, reset_hardware}
 use Rattle.rv_cache.proofs.Replacement.{length-accessed}
 use Rattle.rv_cache.proofs.Sets.{Each-at, Each-map, Each-replicate, Each-set}
-use Rattle.rv_cache.specs.Cache.{Contents, accessed_sets, line_of, set_of}
-use Rattle.rv_cache.specs.Line.{cleaned, dirty_count, dirty_total}
 use Rattle.rv_cache.specs.Replacement.{accessed}
-use Rattle.rv_cache.specs.WriteBack.{Each}
-use Rattle.rv_cache.specs.declared.line.CacheLine.{CacheLine}
-use Rattle.rv_hardware.specs.Commit.{write_back_time}
-use Rattle.rv_hardware.specs.Hardware.{Hardware}
-use Rattle.rv_hardware.specs.Reset.{reset_hardware}
 use Rattle.rv_hardware.proofs.GapCycle.{IsKept}
 use Rattle.rv_hardware.proofs.GapForms.{longest_write_back}
 

@@ -1,16 +1,6 @@
 -- The sizes of the hardware stay as they are described.
-use Rattle.std.proofs.Common.{◌≡◌, ℕ, List, refl, ◌∙◌, ap}
-use Rattle.rv_isa.proofs.WithKind.{at_kind-for_each, with_kind-each}
-use Rattle.rv_isa.specs.Description.{IsLegal}
-use Rattle.rv_isa.specs.PerKind.{at_kind, with_kind}
-use Rattle.rv_isa.specs.declared.operations.Kind.{Kind}
-use Rattle.rv_isa.specs.declared.per_kind.PerKind.{PerKind}
-use Rattle.rv_isa.specs.declared.values.CacheValues.{CacheValues}
-use Rattle.rv_isa.specs.declared.values.Values.{Values}
-use Rattle.rv_units.specs.Pool.{Pool, started as started_unit, free_pool}
-use Rattle.rv_hardware.specs.Cycle.{any_prediction}
-use Rattle.rv_hardware.specs.Hardware.{Hardware}
-use Rattle.rv_hardware.specs.Reset.{reset_hardware}
+use Rattle.rv_hardware.proofs.Words.{◌≡◌, ℕ, List, refl, ap, ◌∙◌, at_kind-for_each, with_kind-each, IsLegal, at_kind, with_kind, Kind, PerKind, CacheValues, Values, Pool, free_pool, any_prediction, Hardware, reset_hardware}
+use Rattle.rv_units.specs.Pool.{started as started_unit}
 use Rattle.rv_hardware.proofs.GapCycle.{IsKept}
 use Rattle.rv_hardware.proofs.GapFetch.{fetch-same}
 

@@ -1,13 +1,5 @@
 -- What holds of all hardware that a reset and cycles lead to.
-use Rattle.std.proofs.Common.{ℕ, List}
-use Rattle.rv_isa.specs.Description.{IsLegal}
-use Rattle.rv_isa.specs.declared.lines.Lines.{Lines}
-use Rattle.rv_isa.specs.declared.values.Values.{Values}
-use Rattle.rv_hardware.specs.Cycle.{IsCycle, any_prediction}
-use Rattle.rv_hardware.specs.Hardware.{Hardware}
-use Rattle.rv_hardware.specs.Report.{Report}
-use Rattle.rv_hardware.specs.Reset.{reset_hardware}
-use Rattle.rv_hardware.specs.Run.{Reachable}
+use Rattle.rv_hardware.proofs.Words.{ℕ, List, IsLegal, Lines, Values, IsCycle, any_prediction, Hardware, Report, reset_hardware, Reachable}
 use Rattle.rv_hardware.proofs.GapCycle.{cycle-keeps}
 use Rattle.rv_hardware.proofs.GapHalted.{IsHalted, halted-kept, halted-at_reset}
 use Rattle.rv_hardware.proofs.GapPort.{HasPort, port-kept, port-at_reset}

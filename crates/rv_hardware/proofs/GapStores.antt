@@ -1,31 +1,10 @@
 -- There are no more stores, retired or in flight, than the queue holds.
-use Rattle.std.proofs.Common.{◌≡◌, ℕ, ◌+◌, ◌≤◌, ◌<◌, Bool, true, false, cond, ◌&&◌, nat_le, List, [], ◌∷◌, ◌++◌, length, map, Option, Some, None, refl, ap, subst, ◌∙◌, arith, length-append}
-use Rattle.std.proofs.lemmas.Bool.Decides.{nat_tests}
-use Rattle.rv_isa.specs.declared.broadcast.Message.{Message}
-use Rattle.rv_isa.specs.declared.broadcast.StoreAccess.{StoreAccess}
-use Rattle.rv_isa.specs.declared.instructions.Instr.{Instr}
-use Rattle.rv_isa.specs.declared.values.Values.{Values}
-use Rattle.rv_rob.specs.Entry.{finished, predicting, started}
-use Rattle.rv_rob.specs.declared.entry.Entry.{Entry}
-use Rattle.rv_rob.specs.declared.entry.Stage.{Stage}
-use Rattle.rv_rob.specs.declared.entry.Stage.TheVariants.{Waiting, Running, Finished}
-use Rattle.rv_front.specs.declared.fetched.Fetched.{Fetched}
-use Rattle.rv_stores.specs.Queue.{with_oldest_draining, without_drained}
-use Rattle.rv_stores.specs.Store.{is_draining}
-use Rattle.rv_stores.specs.declared.store.Store.{Store}
-use Rattle.rv_hardware.specs.Dispatch.{entry_of_fetched, reason_of}
-use Rattle.rv_hardware.specs.Hardware.{Hardware}
-use Rattle.rv_hardware.specs.InFlight.{broadcast_of, stores_of}
-use Rattle.rv_isa.specs.Instruction.{is_store}
-use Rattle.rv_hardware.specs.Reset.{reset_hardware}
-use Rattle.rv_hardware.specs.Retirement.{committed_store}
-use Rattle.rv_hardware.specs.Seen.{stores_behind}
+use Rattle.rv_hardware.proofs.Words.{◌≡◌, ℕ, ◌+◌, ◌<◌, ◌≤◌, Bool, true, false, cond, ◌&&◌, List, [], ◌∷◌, ◌++◌, map, length, nat_le, Some, None, Option, refl, ap, ◌∙◌, subst, arith, length-append, nat_tests, is_store, Message, StoreAccess, Instr, Values, Each, with_oldest_draining, without_drained, is_draining, Store, finished, predicting, started, Entry, Stage, Finished, Running, Waiting, Fetched, entry_of_fetched, reason_of, Hardware, broadcast_of, stores_of, reset_hardware, committed_store, stores_behind}
 use Rattle.rv_hardware.proofs.GapCycle.{IsKept, IsKeptByPhases}
 use Rattle.rv_hardware.proofs.GapEach.{map-change}
 use Rattle.rv_hardware.proofs.GapEntries.{HasShape, IsShaped, Shaped, TellsStore, shape-kept, shape-at_reset}
 use Rattle.rv_hardware.proofs.GapLists.{by_test}
 use Rattle.rv_hardware.proofs.GapReasons.{no_reason}
-use Rattle.rv_cache.specs.WriteBack.{Each}
 
 abbrev pub instruction_of_entry : Entry → Option Instr
 instruction_of_entry e = e.instruction

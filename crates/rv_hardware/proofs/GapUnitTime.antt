@@ -1,9 +1,5 @@
 -- Where no unit of a kind is free, a cycle brings the time nearer at which one is.
-use Rattle.std.proofs.Common.{◌≡◌, ℕ, ◌+◌, ◌-◌, ◌≤◌, ◌<◌, true, false, nat_le, nat_lt, List, [], ◌∷◌, length, arith}
-use Rattle.std.proofs.lemmas.Bool.{and_parts}
-use Rattle.std.proofs.lemmas.Bool.Decides.{nat_tests}
-use Rattle.rv_isa.specs.declared.issues.Issue.{Issue}
-use Rattle.rv_units.specs.Pool.{Pool, holding, holds_unit, is_free}
+use Rattle.rv_hardware.proofs.Words.{◌≡◌, ℕ, ◌+◌, ◌-◌, ◌<◌, ◌≤◌, true, false, List, [], ◌∷◌, length, nat_lt, nat_le, arith, and_parts, nat_tests, Issue, Pool, holding, holds_unit, is_free}
 use Rattle.rv_hardware.proofs.GapLists.{by_test}
 use Rattle.rv_hardware.proofs.GapPatience.{unit_time}
 

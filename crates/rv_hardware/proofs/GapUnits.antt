@@ -1,15 +1,6 @@
 -- A unit is held no longer than for the longest execution.
-use Rattle.std.proofs.Common.{ℕ, ◌+◌, ◌≤◌, Bool, true, false, List, arith}
-use Rattle.rv_isa.proofs.WithKind.{at_kind-for_each, with_kind-each}
-use Rattle.rv_isa.specs.PerKind.{at_kind, with_kind}
-use Rattle.rv_isa.specs.declared.issues.Issue.{Issue}
-use Rattle.rv_isa.specs.declared.operations.Kind.{Kind}
-use Rattle.rv_isa.specs.declared.per_kind.PerKind.{PerKind}
-use Rattle.rv_isa.specs.declared.values.Values.{Values}
-use Rattle.rv_cache.specs.WriteBack.{Each}
-use Rattle.rv_units.specs.Pool.{Pool, held_for, holding, holds_unit, started as started_unit, free_pool}
-use Rattle.rv_hardware.specs.Hardware.{Hardware}
-use Rattle.rv_hardware.specs.Reset.{reset_hardware}
+use Rattle.rv_hardware.proofs.Words.{ℕ, ◌+◌, ◌≤◌, Bool, true, false, List, arith, at_kind-for_each, with_kind-each, at_kind, with_kind, Issue, Kind, PerKind, Values, Each, Pool, free_pool, held_for, holding, holds_unit, Hardware, reset_hardware}
+use Rattle.rv_units.specs.Pool.{started as started_unit}
 use Rattle.rv_hardware.proofs.GapCycle.{IsKept}
 use Rattle.rv_hardware.proofs.GapEach.{Each-filter, Each-push, Each-weaken}
 use Rattle.rv_hardware.proofs.GapForms.{longest_execution}

@@ -1,20 +1,6 @@
 -- The oldest instruction that waits and can go leaves for a unit in the issue phase, or no unit of its kind is free.
-use Rattle.std.proofs.Common.{◌≡◌, ℕ, suc, ◌+◌, ◌-◌, ◌≤◌, true, false, List, [], ◌∷◌, Option, Some, inl, inr, ◌⊎◌, refl, sym, ap, subst, ◌∙◌, arith}
-use Rattle.std.proofs.lemmas.Bool.{cases_Bool, false≢true}
-use Rattle.rv_isa.proofs.WithKind.{is_same-own, is_same-true, with_kind-other}
-use Rattle.rv_isa.specs.PerKind.{at_kind, is_same}
-use Rattle.rv_isa.specs.declared.broadcast.Message.{Message}
-use Rattle.rv_isa.specs.declared.instructions.Instr.{Instr}
-use Rattle.rv_isa.specs.declared.operations.Kind.{Kind}
+use Rattle.rv_hardware.proofs.Words.{◌≡◌, ℕ, suc, ◌+◌, ◌-◌, ◌≤◌, true, false, ◌⊎◌, List, [], ◌∷◌, Some, Option, sym, refl, ap, ◌∙◌, subst, inl, inr, arith, cases_Bool, false≢true, is_same-own, is_same-true, with_kind-other, is_load, is_of_kind, kind_of_word, at_kind, is_same, Message, Instr, Kind, Pool, is_free, started, with_entry, Entry, Hardware, FromCache, FromStores, Path, Without, is_ready, issue, issue_kind, issue_oldest, issue_turn, issued, oldest, oldest_from, path, with_access, with_start, Ends, GoesOn, Turn, followed_by, repeated}
 use Rattle.rv_isa.specs.declared.operations.Kind.TheVariants as kind
-use Rattle.rv_rob.specs.Entry.{started}
-use Rattle.rv_rob.specs.ReorderBuffer.{with_entry}
-use Rattle.rv_rob.specs.declared.entry.Entry.{Entry}
-use Rattle.rv_units.specs.Pool.{Pool, is_free}
-use Rattle.rv_hardware.specs.Hardware.{Hardware}
-use Rattle.rv_hardware.specs.Issue.{Path, Without, FromStores, FromCache, is_ready, issue, issue_kind, issue_oldest, issue_turn, issued, oldest, oldest_from, path, with_access, with_start}
-use Rattle.rv_isa.specs.Instruction.{is_load, is_of_kind, kind_of_word}
-use Rattle.rv_hardware.specs.Repeated.{Turn, GoesOn, Ends, followed_by, repeated}
 use Rattle.rv_hardware.proofs.GapHead.{HasBegun, HeadIs, Waits, head-change}
 use Rattle.rv_hardware.proofs.GapIssue.{IsKeptByIssue, issue_kind-keeps, issue_turn-keeps}
 use Rattle.rv_hardware.proofs.GapLists.{answer, by_test, with_entry-found}

@@ -1,8 +1,7 @@
 -- How two values of the hardware are told apart: by the codes of its fields.
+use Rattle.rv_hardware.proofs.Words.{nat_cmp, Hardware}
 use Rattle.std.specs.Coded.{Coded, codes, coded_ℕ}
-use Rattle.std.specs.Ordering.{nat_cmp}
 use Rattle.std.specs.FinSet as set
-use Rattle.rv_hardware.specs.Hardware.{Hardware}
 
 pub hardware_code : Coded Hardware
 hardware_code = hlevel (codes, set.code {R = nat_cmp} coded_ℕ)

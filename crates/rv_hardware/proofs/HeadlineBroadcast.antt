@@ -1,31 +1,5 @@
 -- The broadcast phase changes nothing that programs see, and fetch goes on where the program does.
-use Rattle.std.proofs.Common.{◌≡◌, ℕ, ◌+◌, ◌%◌, ◌==◌, ◌&&◌, not, nat_le, Bool, true, false, List, [], ◌∷◌, ◌++◌, length, Option, Some, None, is_none, refl, sym, ap, subst, ◌∙◌, arith}
-use Rattle.std.specs.Prelude.{if◌then◌else◌}
-use Rattle.std.proofs.lemmas.Bool.{and_parts, false≢true}
-use Rattle.rv_isa.specs.declared.broadcast.Message.{Message}
-use Rattle.rv_isa.specs.declared.instructions.Instr.{Instr}
-use Rattle.rv_isa.specs.declared.instructions.Instr.TheVariants.{FenceI, Csr, Mret}
-use Rattle.rv_isa.specs.declared.lines.Lines.{Lines}
-use Rattle.rv_isa.specs.declared.values.Values.{Values}
-use Rattle.rv_arch.specs.Effect.{Effect, Retires, Faults, effect}
-use Rattle.rv_isa.specs.Arrivals.{no_lines}
-use Rattle.rv_arch.specs.State.{State}
-use Rattle.rv_memory.specs.Memory.{Layout}
-use Rattle.rv_rob.specs.Entry.{finished, predicting, issue_of}
-use Rattle.rv_rob.specs.ReorderBuffer.{ReorderBuffer, changed, with_entry, entries_below}
-use Rattle.rv_rob.specs.declared.entry.Entry.{Entry}
-use Rattle.rv_rob.specs.declared.entry.Stage.{Stage}
-use Rattle.rv_rob.specs.declared.entry.Stage.TheVariants.{Waiting, Running, Finished}
-use Rattle.rv_isa.specs.Operands.{target_of}
-use Rattle.rv_isa.specs.declared.broadcast.StoreAccess.{StoreAccess}
-use Rattle.rv_hardware.specs.Broadcast.{result_at as result_by, has_result, mends_early, is_mispredicted, with_broadcast, with_recovery, broadcast_result, broadcast_oldest, broadcast_turn, broadcast}
-use Rattle.rv_hardware.specs.Hardware.{Hardware}
-use Rattle.rv_isa.specs.Instruction.{is_serialising, is_branch_or_jump}
-use Rattle.rv_hardware.specs.Issue.{oldest}
-use Rattle.rv_hardware.specs.Repeated.{GoesOn, Ends}
-use Rattle.rv_hardware.specs.Result.{access_of, effect_message, result_of_word}
-use Rattle.rv_hardware.specs.Seen.{layout_of, seen}
-use Rattle.rv_hardware.specs.Squash.{redirected}
+use Rattle.rv_hardware.proofs.Words.{◌≡◌, ℕ, ◌+◌, ◌%◌, Bool, true, false, not, ◌&&◌, List, [], ◌∷◌, ◌++◌, length, is_none, if◌then◌else◌, nat_le, ◌==◌, Some, None, Option, sym, refl, ap, ◌∙◌, subst, arith, and_parts, false≢true, no_lines, is_branch_or_jump, is_serialising, target_of, Message, StoreAccess, Instr, Csr, FenceI, Mret, Lines, Values, Layout, Effect, Faults, Retires, effect, State, finished, issue_of, predicting, ReorderBuffer, changed, entries_below, with_entry, Entry, Stage, Finished, Running, Waiting, broadcast, broadcast_oldest, broadcast_result, broadcast_turn, has_result, is_mispredicted, mends_early, result_at as result_by, with_broadcast, with_recovery, Hardware, oldest, Ends, GoesOn, access_of, effect_message, result_of_word, layout_of, seen, redirected}
 use Rattle.rv_hardware.proofs.HeadlineFold.{result_at, behind, IsResult, AreInFlight}
 use Rattle.rv_hardware.proofs.HeadlineInvariant.{FollowsProgram, IsSoundAt, with_other_program}
 use Rattle.rv_hardware.proofs.HeadlineRetires.{IsTold, effect_told}

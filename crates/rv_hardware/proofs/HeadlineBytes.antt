@@ -1,20 +1,7 @@
 -- A byte after stores is that of the youngest which covers it, else memory's.
-use Rattle.std.proofs.Common.{◌≡◌, ℕ, ◌+◌, ◌-◌, ◌<◌, ◌≤◌, false, nat_le, nat_lt, List, [], ◌∷◌, length, get_or, slice_get, Option, Some, None, refl, sym, ap, ◌∙◌, inl, inr, arith}
-use Rattle.std.specs.Option.{option_or, unwrap_or}
-use Rattle.std.proofs.lemmas.Bool.{cond-true, cond-false, cases_lt, le-leb, lt-ltb}
-use Rattle.std.proofs.lemmas.Bool.Decides.{nat_tests}
+use Rattle.rv_hardware.proofs.Words.{◌≡◌, ℕ, ◌+◌, ◌-◌, ◌<◌, ◌≤◌, false, List, [], ◌∷◌, length, nat_lt, nat_le, slice_get, slice_index_or as get_or, Some, None, Option, unwrap_or, sym, refl, ap, ◌∙◌, inl, inr, arith, lt-ltb, le-leb, cases_lt, cond-false, cond-true, nat_tests, option_or, StoreAccess, overwritten, Layout, get_or-overwritten_above, get_or-overwritten_below, get_or-overwritten_in, Each, forwarded_byte, youngest_byte, byte_of_state, written_at, Store as QueuedStore, StoreState, Faulted, Filled, memory_behind, with_store}
 use Rattle.std.proofs.lemmas.Option.{slice_get-get_or, slice_get_past}
-use Rattle.rv_isa.specs.declared.broadcast.StoreAccess.{StoreAccess}
-use Rattle.rv_memory.specs.Bytes.{overwritten}
-use Rattle.rv_memory.specs.Memory.{Layout}
-use Rattle.rv_cache.proofs.Written.{get_or-overwritten_in, get_or-overwritten_below, get_or-overwritten_above}
-use Rattle.rv_cache.specs.WriteBack.{Each}
-use Rattle.rv_stores.specs.Queue.{forwarded_byte, youngest_byte}
-use Rattle.rv_stores.specs.Store.{byte_of_state, written_at}
-use Rattle.rv_stores.specs.declared.store.Store.{Store as QueuedStore}
-use Rattle.rv_stores.specs.declared.store.StoreState.{StoreState}
-use Rattle.rv_stores.specs.declared.store.StoreState.TheVariants.{Waiting, Faulted, Filled}
-use Rattle.rv_hardware.specs.InFlight.{with_store, memory_behind}
+use Rattle.rv_stores.specs.declared.store.StoreState.TheVariants.{Waiting}
 use Rattle.rv_hardware.proofs.HeadlineRetires.{IsStoreAccess}
 use Rattle.rv_hardware.proofs.HeadlineWords.{length-stored}
 

@@ -1,38 +1,9 @@
 -- The commit phase takes the steps of the one-at-a-time machine.
-use Rattle.std.proofs.Common.{◌≡◌, ℕ, ◌*◌, ◌==◌, Bool, true, false, nat_eq, List, [], ◌∷◌, ◌++◌, Option, Some, None, IfSome, refl, sym, ap, subst, ◌∙◌, arith}
-use Rattle.std.specs.Prelude.{if◌then◌else◌, ◌↔◌}
-use Rattle.std.specs.Option.{unwrap_or}
+use Rattle.rv_hardware.proofs.Words.{◌≡◌, ℕ, ◌*◌, Bool, true, false, ◌↔◌, List, [], ◌∷◌, ◌++◌, IfSome, if◌then◌else◌, nat_eq, ◌==◌, Some, None, Option, unwrap_or, sym, refl, ap, ◌∙◌, subst, arith, eqb-true, false≢true, code_of, is_serialising, Message, Cause, Fault, Instr, Csr, FenceI, Mret, Lines, Layout, fetched_word, is_in_ram, word_of, faulted_at, retired_at, due, Effect, Faults, Retires, effect, State, interrupted, stale, trap_taken, interrupt_cause, head_retired, Entry, Committing, commit, commit_turn, commit_turn_of, commit_unless, execute_head, finish_broadcast, finish_head, head_turn, is_drained, stop_of, take_effect, with_fault, with_write_back, write_back_time, Hardware, IsTrueCycle, Lead, nowhere, told, broadcast_of, Ends, GoesOn, row_of, with_result, written_of, layout_of, seen, with_state, flushed, is_breakpoint_cause, Step}
 use Rattle.std.specs.FinSet as set
-use Rattle.std.proofs.lemmas.Bool.{eqb-true, false≢true}
-use Rattle.rv_isa.specs.Cause.{code_of}
-use Rattle.rv_isa.specs.declared.broadcast.Message.{Message}
-use Rattle.rv_isa.specs.declared.causes.Cause.{Cause}
-use Rattle.rv_isa.specs.declared.causes.Fault.{Fault}
-use Rattle.rv_isa.specs.declared.instructions.Instr.{Instr}
-use Rattle.rv_isa.specs.declared.instructions.Instr.TheVariants.{FenceI, Csr, Mret}
-use Rattle.rv_isa.specs.declared.lines.Lines.{Lines}
-use Rattle.rv_arch.proofs.Steps.{faulted_at, retired_at}
-use Rattle.rv_arch.specs.Due.{due}
-use Rattle.rv_arch.specs.Effect.{Effect, Retires, Faults, effect}
-use Rattle.rv_arch.specs.State.{State}
-use Rattle.rv_arch.specs.Step.{Step as MachineStep, trap_taken, stale, interrupted}
-use Rattle.rv_arch.specs.Trap.{interrupt_cause}
+use Rattle.rv_arch.specs.Step.{Step as MachineStep}
 use Rattle.rv_arch.specs.declared.outcome.RefStep.TheVariants as machine
 use Rattle.rv_arch.specs.declared.outcome.Stop.TheVariants as stop
-use Rattle.rv_memory.specs.Memory.{Layout, fetched_word, is_in_ram, word_of}
-use Rattle.rv_rob.specs.ReorderBuffer.{head_retired}
-use Rattle.rv_rob.specs.declared.entry.Entry.{Entry}
-use Rattle.rv_hardware.specs.Commit.{Committing, stop_of, with_fault, finish_head, finish_broadcast, take_effect, execute_head, with_write_back, write_back_time, is_drained, head_turn, commit_turn_of, commit_turn, commit_unless, commit}
-use Rattle.rv_hardware.specs.Headline.{told, Lead, nowhere, IsTrueCycle}
-use Rattle.rv_hardware.specs.Hardware.{Hardware}
-use Rattle.rv_hardware.specs.InFlight.{broadcast_of}
-use Rattle.rv_isa.specs.Instruction.{is_serialising}
-use Rattle.rv_hardware.specs.Repeated.{GoesOn, Ends}
-use Rattle.rv_hardware.specs.Retirement.{row_of, with_result, written_of}
-use Rattle.rv_hardware.specs.Seen.{layout_of, seen, with_state}
-use Rattle.rv_hardware.specs.Squash.{flushed}
-use Rattle.rv_hardware.specs.Step.{is_breakpoint_cause}
-use Rattle.rv_hardware.specs.declared.step.Step.{Step}
 use Rattle.rv_hardware.specs.declared.step.Step.TheVariants as step
 use Rattle.rv_hardware.proofs.HeadlineFold.{result_at, AreInFlight}
 use Rattle.rv_hardware.proofs.HeadlineHead.{IsReady, some_word, fetched, word_here, decoded, Retires_as, IsStepOf, step_of}

@@ -1,18 +1,5 @@
 -- What a cycle reports leads from what programs saw before it to what they see after it.
-use Rattle.std.proofs.Common.{◌≡◌, ℕ, ◌+◌, refl, sym, subst}
-use Rattle.rv_isa.specs.declared.lines.Lines.{Lines}
-use Rattle.rv_isa.specs.declared.values.Values.{Values}
-use Rattle.rv_arch.specs.State.{State}
-use Rattle.rv_hardware.specs.Broadcast.{broadcast}
-use Rattle.rv_hardware.specs.Cycle.{IsCycle, any_prediction, with_lines, execute}
-use Rattle.rv_hardware.specs.Dispatch.{Dispatching}
-use Rattle.rv_hardware.specs.Drain.{drain}
-use Rattle.rv_hardware.specs.Hardware.{Hardware}
-use Rattle.rv_hardware.specs.Headline.{IsTrueCycle}
-use Rattle.rv_hardware.specs.Issue.{issue}
-use Rattle.rv_hardware.specs.Report.{Report}
-use Rattle.rv_hardware.specs.Run.{Reachable}
-use Rattle.rv_hardware.specs.Seen.{layout_of, seen}
+use Rattle.rv_hardware.proofs.Words.{◌≡◌, ℕ, ◌+◌, sym, refl, subst, Lines, Values, State, broadcast, IsCycle, any_prediction, execute, with_lines, Dispatching, drain, Hardware, IsTrueCycle, issue, Report, Reachable, layout_of, seen}
 use Rattle.rv_hardware.proofs.HeadlineBroadcast.{broadcast_kept}
 use Rattle.rv_hardware.proofs.HeadlineCommit.{IsDone, commit_done}
 use Rattle.rv_hardware.proofs.HeadlineDispatch.{dispatch_kept}

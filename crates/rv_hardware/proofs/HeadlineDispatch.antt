@@ -1,22 +1,6 @@
 -- The dispatch phase changes nothing that programs see.
-use Rattle.std.proofs.Common.{◌≡◌, ℕ, Bool, true, false, List, [], ◌∷◌, ◌++◌, Option, Some, None, refl, sym, subst, ◌∙◌, true≢false}
-use Rattle.rv_isa.specs.declared.instructions.Instr.{Instr}
-use Rattle.rv_isa.specs.declared.instructions.Instr.TheVariants.{Jalr, Branch, Load, Store, OpImmediate, Shift, Op, Csr}
-use Rattle.rv_isa.specs.declared.operations.Kind.{Kind}
-use Rattle.rv_isa.specs.declared.values.Values.{Values}
-use Rattle.rv_isa.specs.Arrivals.{no_lines}
-use Rattle.rv_arch.specs.State.{State}
-use Rattle.rv_memory.specs.Memory.{Layout}
-use Rattle.rv_front.specs.declared.fetched.Fetched.{Fetched}
-use Rattle.rv_rob.specs.ReorderBuffer.{pushed}
-use Rattle.rv_rob.specs.declared.entry.Entry.{Entry}
-use Rattle.rv_rob.specs.declared.entry.Stage.TheVariants.{Finished}
-use Rattle.rv_hardware.specs.Dispatch.{Dispatching, reason_of, stage_by, entry_of_fetched, dispatch_unless, dispatch_turn_of, dispatch_turn, dispatch}
-use Rattle.rv_hardware.specs.Hardware.{Hardware}
-use Rattle.rv_isa.specs.Instruction.{is_serialising, is_load, kind_of_word, sources_of_word}
-use Rattle.rv_hardware.specs.Result.{result_of_word}
-use Rattle.rv_hardware.specs.Seen.{layout_of, seen, seen_behind}
-use Rattle.rv_hardware.specs.declared.report.Stall.{Stall}
+use Rattle.rv_hardware.proofs.Words.{◌≡◌, ℕ, Bool, true, false, List, [], ◌∷◌, ◌++◌, Some, None, Option, sym, refl, ◌∙◌, subst, true≢false, no_lines, is_load, is_serialising, kind_of_word, sources_of_word, Instr, Branch, Csr, Jalr, Load, Op, OpImmediate, Shift, Kind, Values, Layout, State, pushed, Entry, Finished, Fetched, Dispatching, dispatch, dispatch_turn, dispatch_turn_of, dispatch_unless, entry_of_fetched, reason_of, stage_by, Hardware, result_of_word, layout_of, seen, seen_behind, Stall}
+use Rattle.rv_isa.specs.declared.instructions.Instr.TheVariants.{Store}
 use Rattle.rv_hardware.proofs.HeadlineFold.{behind, IsResult, IsInFlight, AreInBuffer}
 use Rattle.rv_hardware.proofs.HeadlineInvariant.{FollowsProgram, IsSoundAt, with_other_program}
 use Rattle.rv_hardware.proofs.HeadlineResult.{ReadsSame, same_result}

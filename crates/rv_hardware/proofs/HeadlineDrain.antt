@@ -1,23 +1,6 @@
 -- The drain phase changes nothing that programs see.
-use Rattle.std.proofs.Common.{◌≡◌, ℕ, ◌+◌, ◌-◌, ◌≤◌, Bool, true, false, nat_le, List, [], ◌∷◌, length, get_or, Option, Some, None, refl, sym, ap, ◌∙◌, inl, inr, true≢false, arith}
-use Rattle.std.specs.Prelude.{if◌then◌else◌}
-use Rattle.rv_isa.specs.declared.broadcast.StoreAccess.{StoreAccess}
-use Rattle.rv_isa.specs.declared.values.Values.{Values}
-use Rattle.rv_arch.specs.State.{State}
-use Rattle.rv_memory.specs.Bytes.{overwritten}
-use Rattle.rv_cache.specs.Consistent.{IsConsistent}
-use Rattle.rv_cache.specs.WriteBack.{Each}
-use Rattle.rv_cache.proofs.Steps.{consistent_after, consistent_written, dirty_after_access}
-use Rattle.rv_stores.specs.Queue.{oldest_to_drain, without_drained}
-use Rattle.rv_stores.specs.Store.{draining, is_committed_state, is_draining, state_to_drain}
-use Rattle.rv_stores.specs.declared.store.Store.{Store as QueuedStore}
-use Rattle.rv_stores.specs.declared.store.StorePhase.TheVariants.{Speculative, Committed, Draining}
-use Rattle.rv_stores.specs.declared.store.StoreState.{StoreState}
-use Rattle.rv_stores.specs.declared.store.StoreState.TheVariants.{Waiting, Faulted, Filled}
-use Rattle.rv_hardware.specs.Drain.{with_drained, start_drain, end_drain, drain}
-use Rattle.rv_hardware.specs.Hardware.{Hardware}
-use Rattle.rv_hardware.specs.InFlight.{with_store, memory_behind}
-use Rattle.rv_hardware.specs.Seen.{layout_of, seen}
+use Rattle.rv_hardware.proofs.Words.{◌≡◌, ℕ, ◌+◌, ◌-◌, ◌≤◌, Bool, true, false, List, [], ◌∷◌, length, if◌then◌else◌, nat_le, slice_index_or as get_or, Some, None, Option, sym, refl, ap, ◌∙◌, inl, inr, true≢false, arith, StoreAccess, Values, overwritten, State, consistent_after, consistent_written, dirty_after_access, IsConsistent, Each, oldest_to_drain, without_drained, draining, is_committed_state, is_draining, state_to_drain, Store as QueuedStore, Committed, Draining, Speculative, StoreState, Faulted, Filled, drain, end_drain, start_drain, with_drained, Hardware, memory_behind, with_store, layout_of, seen}
+use Rattle.rv_stores.specs.declared.store.StoreState.TheVariants.{Waiting}
 use Rattle.rv_hardware.proofs.HeadlineInvariant.{DrainInOrder, HoldsMemory, IsSoundAt}
 use Rattle.rv_hardware.proofs.HeadlineRetires.{IsStoreAccess}
 use Rattle.rv_hardware.proofs.HeadlineVictim.{access_mixed}

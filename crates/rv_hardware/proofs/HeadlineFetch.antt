@@ -1,16 +1,6 @@
 -- The fetch phase: what RAM gives are the words of the program, unless they are stale.
-use Rattle.std.proofs.Common.{◌≡◌, ℕ, zero, suc, ◌-◌, ◌%◌, Bool, true, false, List, [], ◌∷◌, ◌++◌, length, Option, Some, None, MatchBool, MatchOption, refl, sym, ap, subst, ◌∙◌, arith}
+use Rattle.rv_hardware.proofs.Words.{◌≡◌, ℕ, zero, suc, ◌-◌, ◌%◌, Bool, true, false, List, [], ◌∷◌, ◌++◌, length, Some, None, MatchBool, Option, MatchOption, sym, refl, ap, ◌∙◌, subst, arith, Values, Layout, Memory, fetched_word, word_of, State, Entry, Answers, FetchBuffer, Fetches, FetchesInto, IsFetchedAt, is_halted, stop_behind, FetchStop, Halted, Fetched, Hardware, layout_of, seen}
 use Rattle.std.specs.FinSet as set
-use Rattle.rv_isa.specs.declared.values.Values.{Values}
-use Rattle.rv_arch.specs.State.{State}
-use Rattle.rv_memory.specs.Memory.{Layout, Memory, fetched_word, word_of}
-use Rattle.rv_front.specs.FetchBuffer.{Answers, FetchBuffer, Fetches, FetchesInto, IsFetchedAt, is_halted, stop_behind}
-use Rattle.rv_front.specs.declared.fetched.Fetched.{Fetched}
-use Rattle.rv_front.specs.declared.fetched.FetchStop.{FetchStop}
-use Rattle.rv_front.specs.declared.fetched.FetchStop.TheVariants.{Halted}
-use Rattle.rv_rob.specs.declared.entry.Entry.{Entry}
-use Rattle.rv_hardware.specs.Hardware.{Hardware}
-use Rattle.rv_hardware.specs.Seen.{layout_of, seen}
 use Rattle.rv_hardware.proofs.HeadlineFold.{behind, IsWordAt, IsInBuffer, AreInBuffer}
 use Rattle.rv_hardware.proofs.HeadlineInvariant.{FollowsProgram, IsSound, IsSoundAt}
 use Rattle.rv_hardware.proofs.HeadlineWords.{fetched_same, length-memory_behind}

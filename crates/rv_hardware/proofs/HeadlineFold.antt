@@ -1,19 +1,6 @@
 -- The state after instructions in flight, had each of them executed in order: what the one-at-a-time machine will see there.
-use Rattle.std.specs.Prelude.{◌≡◌, ℕ, ◌%◌, false, List, [], ◌∷◌, Option, Some, option_and_then}
+use Rattle.rv_hardware.proofs.Words.{◌≡◌, ℕ, ◌%◌, false, List, [], ◌∷◌, Some, Option, option_and_then, no_lines, target_of_word, Message, instruction_of, Layout, fetched_word, word_of, State, Entry, Stage, Finished, Running, Waiting, Fetched, store_of_message, with_store, with_value, result_of_word, stale_after}
 use Rattle.std.specs.FinSet as set
-use Rattle.rv_isa.specs.declared.broadcast.Message.{Message}
-use Rattle.rv_isa.specs.Arrivals.{no_lines}
-use Rattle.rv_arch.specs.State.{State}
-use Rattle.rv_decode.specs.Decodes.{instruction_of}
-use Rattle.rv_memory.specs.Memory.{Layout, fetched_word, word_of}
-use Rattle.rv_front.specs.declared.fetched.Fetched.{Fetched}
-use Rattle.rv_rob.specs.declared.entry.Entry.{Entry}
-use Rattle.rv_rob.specs.declared.entry.Stage.{Stage}
-use Rattle.rv_rob.specs.declared.entry.Stage.TheVariants.{Waiting, Running, Finished}
-use Rattle.rv_hardware.specs.InFlight.{with_value, with_store, store_of_message}
-use Rattle.rv_isa.specs.Instruction.{target_of_word}
-use Rattle.rv_hardware.specs.Result.{result_of_word}
-use Rattle.rv_hardware.specs.Retirement.{stale_after}
 
 -- what an instruction in flight gives in a state; no instruction with a result looks at the lines
 abbrev pub result_at : Layout → State → Entry → Message

@@ -1,26 +1,9 @@
 -- The step of the one-at-a-time machine at the oldest instruction, where its result is known.
-use Rattle.std.proofs.Common.{◌≡◌, ℕ, ◌%◌, Bool, true, false, cond, List, [], ◌∷◌, Option, Some, None, refl, sym, subst, ◌∙◌}
-use Rattle.std.specs.Prelude.{option_and_then}
-use Rattle.std.specs.Option.{option_map, unwrap_or}
+use Rattle.rv_hardware.proofs.Words.{◌≡◌, ℕ, ◌%◌, Bool, true, false, cond, List, [], ◌∷◌, Some, None, Option, option_map, option_and_then, unwrap_or, sym, refl, ◌∙◌, subst, no_lines, code_of, is_serialising, sources_of_word, target_of_word, target_of, Message, Fault, Instr, Lines, Decodes, instruction_of, Layout, fetched_word, is_in_ram, number_at, word_of, faulted_at, illegal_at, retired_at, due, Effect, Faults, Retires, effect, State, IsFetched, trap_taken, unfetched, word_at_pc, access_of, effect_message, result_of_word}
 use Rattle.std.specs.FinSet as set
-use Rattle.rv_isa.specs.Cause.{code_of}
-use Rattle.rv_isa.specs.Operands.{target_of}
-use Rattle.rv_isa.specs.declared.broadcast.Message.{Message}
-use Rattle.rv_isa.specs.declared.causes.Fault.{Fault}
-use Rattle.rv_isa.specs.declared.instructions.Instr.{Instr}
-use Rattle.rv_isa.specs.declared.lines.Lines.{Lines}
-use Rattle.rv_arch.proofs.Steps.{illegal_at, faulted_at, retired_at}
-use Rattle.rv_arch.specs.Due.{due}
-use Rattle.rv_arch.specs.Effect.{Effect, Retires, Faults, effect}
-use Rattle.rv_isa.specs.Arrivals.{no_lines}
-use Rattle.rv_arch.specs.State.{State}
-use Rattle.rv_arch.specs.Step.{Step, IsFetched, trap_taken, unfetched, word_at_pc}
+use Rattle.rv_arch.specs.Step.{Step}
 use Rattle.rv_arch.specs.declared.outcome.RefStep.TheVariants.{Retired, Trap}
 use Rattle.rv_decode.proofs.Relation.{Decodes-instruction_of, IsIllegal-instruction_of}
-use Rattle.rv_decode.specs.Decodes.{Decodes, instruction_of}
-use Rattle.rv_memory.specs.Memory.{Layout, fetched_word, is_in_ram, number_at, word_of}
-use Rattle.rv_isa.specs.Instruction.{is_serialising, target_of_word, sources_of_word}
-use Rattle.rv_hardware.specs.Result.{access_of, effect_message, result_of_word}
 use Rattle.rv_hardware.proofs.HeadlineResult.{ReadsSame, same_result}
 use Rattle.rv_hardware.proofs.HeadlineRetires.{IsRetirement, IsTold, effect_told}
 

@@ -1,23 +1,6 @@
 -- What always holds of the hardware, so that its steps are the one-at-a-time machine's.
-use Rattle.std.proofs.Common.{◌≡◌, ℕ, ◌+◌, ◌*◌, ◌%◌, true, false, List, [], ◌∷◌, length, get_or}
-use Rattle.std.specs.Ordering.{nat_cmp}
+use Rattle.rv_hardware.proofs.Words.{◌≡◌, ℕ, ◌+◌, ◌*◌, ◌%◌, true, false, List, [], ◌∷◌, length, slice_index_or as get_or, nat_cmp, PerKind, Values, Layout, Memory, is_in_ram, word_of, State, Contents, IsConsistent, Each, is_draining, Store as QueuedStore, Pool, ReorderBuffer, Entry, FetchBuffer, Hardware, memory_behind, with_store, layout_of, seen}
 use Rattle.std.specs.FinSet as set
-use Rattle.rv_isa.specs.declared.per_kind.PerKind.{PerKind}
-use Rattle.rv_isa.specs.declared.values.Values.{Values}
-use Rattle.rv_arch.specs.State.{State}
-use Rattle.rv_memory.specs.Memory.{Layout, Memory, is_in_ram, word_of}
-use Rattle.rv_cache.specs.Cache.{Contents}
-use Rattle.rv_cache.specs.Consistent.{IsConsistent}
-use Rattle.rv_cache.specs.WriteBack.{Each}
-use Rattle.rv_units.specs.Pool.{Pool}
-use Rattle.rv_front.specs.FetchBuffer.{FetchBuffer}
-use Rattle.rv_rob.specs.ReorderBuffer.{ReorderBuffer}
-use Rattle.rv_rob.specs.declared.entry.Entry.{Entry}
-use Rattle.rv_stores.specs.Store.{is_draining}
-use Rattle.rv_stores.specs.declared.store.Store.{Store as QueuedStore}
-use Rattle.rv_hardware.specs.Hardware.{Hardware}
-use Rattle.rv_hardware.specs.InFlight.{with_store, memory_behind}
-use Rattle.rv_hardware.specs.Seen.{layout_of, seen}
 use Rattle.rv_hardware.proofs.HeadlineFold.{behind, AreInFlight, AreInBuffer}
 use Rattle.rv_hardware.proofs.HeadlineWords.{IsRetiredStore}
 

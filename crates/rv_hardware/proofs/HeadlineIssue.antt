@@ -1,32 +1,8 @@
 -- The issue phase changes nothing that programs see, and what it computes is the one-at-a-time machine's.
-use Rattle.std.proofs.Common.{◌≡◌, ℕ, ◌+◌, ◌<◌, ◌≤◌, ◌&&◌, ◌||◌, not, Bool, true, false, List, [], ◌∷◌, ◌++◌, length, Option, Some, None, refl, sym, ap, subst, ◌∙◌, inl, inr, arith}
-use Rattle.std.specs.Prelude.{if◌then◌else◌}
-use Rattle.std.specs.List.{list_all}
-use Rattle.std.proofs.lemmas.Bool.{and_parts, false≢true, leb-true}
-use Rattle.rv_isa.specs.Operation.{width_of}
-use Rattle.rv_isa.specs.PerKind.{at_kind, with_kind}
+use Rattle.rv_hardware.proofs.Words.{◌≡◌, ℕ, ◌+◌, ◌<◌, ◌≤◌, Bool, true, false, not, ◌&&◌, ◌||◌, List, [], ◌∷◌, ◌++◌, length, if◌then◌else◌, Some, None, Option, sym, refl, ap, ◌∙◌, subst, inl, inr, arith, leb-true, and_parts, false≢true, list_all, is_load, is_of_kind, is_serialising, kind_of_word, sources_of_word, width_of, at_kind, with_kind, Message, Instr, Csr, FenceI, Load, Mret, Kind, Values, is_aligned, is_in_ram, State, consistent_after, is_known as is_known_store, is_free, started, changed, Entry, Running, Hardware, is_waiting, FromCache, FromStores, Path, Without, cost_of, has_operands, has_port, is_ready, issue, issue_kind, issue_oldest, issue_turn, issued, may_load, oldest, path, path_of, with_access, with_start, Ends, layout_of, seen, seen_behind, stores_behind}
 use Rattle.rv_isa.specs.declared.Issue.{Issue}
-use Rattle.rv_isa.specs.declared.broadcast.Message.{Message}
-use Rattle.rv_isa.specs.declared.instructions.Instr.{Instr}
-use Rattle.rv_isa.specs.declared.instructions.Instr.TheVariants.{FenceI, Csr, Load, Mret}
-use Rattle.rv_isa.specs.declared.operations.Kind.{Kind}
 use Rattle.rv_isa.specs.declared.operations.Kind.TheVariants as kind
-use Rattle.rv_isa.specs.declared.values.Values.{Values}
-use Rattle.rv_arch.specs.State.{State}
-use Rattle.rv_memory.specs.Memory.{is_aligned, is_in_ram}
-use Rattle.rv_cache.proofs.Steps.{consistent_after}
-use Rattle.rv_rob.specs.Entry.{started}
-use Rattle.rv_rob.specs.ReorderBuffer.{changed}
-use Rattle.rv_rob.specs.declared.entry.Entry.{Entry}
-use Rattle.rv_rob.specs.declared.entry.Stage.TheVariants.{Running}
-use Rattle.rv_stores.specs.Store.{is_known as is_known_store}
-use Rattle.rv_units.specs.Pool.{is_free, started as started_unit}
-use Rattle.rv_hardware.specs.Hardware.{Hardware}
-use Rattle.rv_hardware.specs.InFlight.{is_waiting}
-use Rattle.rv_isa.specs.Instruction.{is_serialising, is_load, is_of_kind, kind_of_word, sources_of_word}
-use Rattle.rv_hardware.specs.Issue.{Path, Without, FromStores, FromCache, path, path_of, cost_of, has_port, has_operands, may_load, is_ready, oldest, with_access, with_start, issued, issue_oldest, issue_turn, issue_kind, issue}
-use Rattle.rv_hardware.specs.Repeated.{Ends}
-use Rattle.rv_hardware.specs.Seen.{layout_of, seen, seen_behind, stores_behind}
+use Rattle.rv_units.specs.Pool.{started as started_unit}
 use Rattle.rv_hardware.proofs.HeadlineDrain.{with_other_memory}
 use Rattle.rv_hardware.proofs.HeadlineFold.{result_at, behind, AreInFlight}
 use Rattle.rv_hardware.proofs.HeadlineInvariant.{IsSoundAt, with_other_program}

@@ -1,31 +1,7 @@
 -- The state in which an instruction executes agrees with the one after the older ones where it looks.
-use Rattle.std.proofs.Common.{◌≡◌, ◌≢◌, ℕ, ◌+◌, ◌≤◌, Bool, true, false, cond, nat_eq, List, [], ◌∷◌, ◌++◌, length, Option, Some, None, IfSome, is_some, slice_index, slice_set, get_or, refl, sym, ap, ap₂, ◌∙◌, inl, inr, true≢false, arith, length-set, get_or-set_other}
-use Rattle.std.specs.Prelude.{if◌then◌else◌}
-use Rattle.std.specs.List.{list_all}
-use Rattle.std.proofs.lemmas.Bool.{cond-true, cond-false, cases_Bool, cases_lt, eqb-true, eqb-false, and_parts, false≢true}
-use Rattle.std.proofs.lemmas.List.{get_or-set_same, get_or_past, set_past}
-use Rattle.std.proofs.lemmas.List.Folds.{list_all-append}
-use Rattle.rv_isa.specs.Operands.{target_of}
-use Rattle.rv_isa.specs.declared.broadcast.Message.{Message}
-use Rattle.rv_isa.specs.declared.broadcast.StoreAccess.{StoreAccess}
-use Rattle.rv_isa.specs.declared.instructions.Instr.{Instr}
-use Rattle.rv_isa.specs.declared.instructions.Instr.TheVariants.{Lui, Auipc, Jal, Jalr, Load, Store, OpImmediate, Shift, Op, Csr}
-use Rattle.rv_isa.specs.declared.lines.Lines.{Lines}
-use Rattle.rv_arch.specs.Effect.{Effect, Retires, Faults, effect}
-use Rattle.rv_isa.specs.Arrivals.{no_lines}
-use Rattle.rv_arch.specs.State.{State, register_of, with_register}
-use Rattle.rv_memory.specs.Memory.{Layout}
-use Rattle.rv_rob.specs.declared.entry.Entry.{Entry}
-use Rattle.rv_rob.specs.declared.entry.Stage.{Stage}
-use Rattle.rv_rob.specs.declared.entry.Stage.TheVariants.{Waiting, Running, Finished}
-use Rattle.rv_stores.specs.Store.{is_known as is_known_store, is_known_state}
-use Rattle.rv_stores.specs.declared.store.Store.{Store as QueuedStore}
-use Rattle.rv_hardware.specs.Hardware.{Hardware}
-use Rattle.rv_hardware.specs.InFlight.{broadcast_of, writes, is_known_from, is_known, with_value, registers_behind, store_of_message, store_of_broadcast, stores_of, with_store, memory_behind}
-use Rattle.rv_isa.specs.Instruction.{is_serialising, is_store, target_of_word, is_target, is_load, sources_of_word}
-use Rattle.rv_hardware.specs.Issue.{has_operands}
-use Rattle.rv_hardware.specs.Result.{access_of, effect_message, result_of_word}
-use Rattle.rv_hardware.specs.Seen.{layout_of, seen, seen_behind, stores_behind}
+use Rattle.rv_hardware.proofs.Words.{◌≡◌, ℕ, ◌+◌, ◌≤◌, Bool, true, false, cond, ◌≢◌, List, [], ◌∷◌, ◌++◌, length, is_some, IfSome, if◌then◌else◌, nat_eq, slice_index, slice_index_or as get_or, slice_set, Some, None, Option, sym, refl, ap, ◌∙◌, ap₂, inl, inr, true≢false, arith, length-set, get_or-set_other, get_or-set_same, eqb-true, and_parts, cases_Bool, cases_lt, cond-false, cond-true, eqb-false, false≢true, get_or_past, set_past, list_all-append, list_all, no_lines, is_load, is_serialising, is_store, is_target, sources_of_word, target_of_word, target_of, Message, StoreAccess, Instr, Auipc, Csr, Jal, Jalr, Load, Lui, Op, OpImmediate, Shift, Lines, Layout, Effect, Faults, Retires, effect, State, register_of, with_register, is_known as is_known_store, is_known_state, Store as QueuedStore, Entry, Stage, Finished, Running, Waiting, Hardware, broadcast_of, is_known_from, memory_behind, registers_behind, store_of_broadcast, store_of_message, stores_of, with_store, with_value, writes, has_operands, access_of, effect_message, result_of_word, layout_of, seen, seen_behind, stores_behind}
+use Rattle.rv_isa.specs.declared.instructions.Instr.TheVariants.{Store}
+use Rattle.rv_hardware.specs.InFlight.{is_known}
 use Rattle.rv_hardware.proofs.HeadlineFold.{result_at, executed, behind, IsResult, AreInFlight}
 use Rattle.rv_hardware.proofs.HeadlineResult.{ReadsSame, same_result}
 

@@ -1,9 +1,5 @@
 -- What cycles lead to is reached, while they can be counted, and each counts one.
-use Rattle.std.proofs.Common.{◌≡◌, ◌+◌, ◌^◌, ◌≤◌, List, length, ap, arith}
-use Rattle.rv_isa.specs.declared.lines.Arrival.{Arrival}
-use Rattle.rv_hardware.specs.Hardware.{Hardware}
-use Rattle.rv_hardware.specs.Report.{Report}
-use Rattle.rv_hardware.specs.Run.{Cycles, ended, cycled, Reachable, by_cycle}
+use Rattle.rv_hardware.proofs.Words.{◌≡◌, ◌+◌, ◌^◌, ◌≤◌, List, length, ap, arith, Arrival, Hardware, Report, Cycles, Reachable, by_cycle, cycled, ended}
 
 never_less : {arrivals : List Arrival} {old new : Hardware} {reports : List Report} → Cycles arrivals old reports new → old.cycle ≤ new.cycle
 never_less ended = omega arith

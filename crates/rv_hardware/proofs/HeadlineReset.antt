@@ -1,17 +1,7 @@
 -- At reset programs see the one-at-a-time machine's reset.
-use Rattle.std.proofs.Common.{◌≡◌, ℕ, ◌-◌, ◌%◌, ◌<◌, ◌≤◌, List, [], length, replicate, refl, sym, ap, ◌∙◌, arith, length-append}
-use Rattle.std.specs.Ordering.{nat_cmp}
+use Rattle.rv_hardware.proofs.Words.{◌≡◌, ℕ, ◌-◌, ◌%◌, ◌<◌, ◌≤◌, List, [], length, replicate, nat_cmp, sym, refl, ap, ◌∙◌, arith, length-append, false≢true, length-replicate, IsLegal, Values, reset, consistent_new, IsConsistent, IsLoadable, memory_at_reset, reset_hardware, layout_of, seen}
 use Rattle.std.specs.FinSet as set
-use Rattle.std.proofs.lemmas.Bool.{false≢true}
-use Rattle.std.proofs.lemmas.List.{length-replicate}
-use Rattle.rv_isa.specs.Description.{IsLegal}
-use Rattle.rv_isa.specs.declared.values.Values.{Values}
-use Rattle.rv_arch.specs.Reset.{reset}
 use Rattle.rv_cache.proofs.Divided.{base_divides, line_divides}
-use Rattle.rv_cache.proofs.Steps.{consistent_new}
-use Rattle.rv_cache.specs.Consistent.{IsConsistent}
-use Rattle.rv_hardware.specs.Reset.{memory_at_reset, reset_hardware, IsLoadable}
-use Rattle.rv_hardware.specs.Seen.{layout_of, seen}
 use Rattle.rv_hardware.proofs.HeadlineInvariant.{IsSound}
 
 pub seen_at_reset : (values : Values) (image : List ℕ) (start : ℕ) → seen (reset_hardware values image start) ≡ reset (layout_of values) image start

@@ -1,25 +1,8 @@
 -- What an instruction gives depends on its pc, on the registers that it reads, and on memory where it is a load.
-use Rattle.std.proofs.Common.{◌≡◌, ℕ, ◌*◌, ◌/◌, Bool, true, false, not, List, [], ◌∷◌, Option, Some, None, refl, ap, ap₂, ◌∙◌, true≢false}
-use Rattle.std.specs.Prelude.{if◌then◌else◌}
-use Rattle.rv_isa.specs.Comparison.{holds}
+use Rattle.rv_hardware.proofs.Words.{◌≡◌, ℕ, ◌*◌, ◌/◌, Bool, true, false, not, List, [], ◌∷◌, if◌then◌else◌, Some, None, Option, refl, ap, ◌∙◌, ap₂, true≢false, bytes_of_number, holds, is_load, is_serialising, sources_of_word, sources_of, bytes_of, immediate_operation, is_sign_extended, shift_operation, width_of, modulo_word, pc_plus, pc_plus_4, sum, Message, StoreAccess, Cause, Instr, Auipc, Branch, Csr, Ebreak, Ecall, FenceI, Jal, Jalr, Load, Lui, Mret, Op, OpImmediate, Shift, Lines, LoadForm, Width, Layout, is_aligned, is_in_ram, is_writable, number_at, Faults, Retires, branches, extended, goes_to, jumps, loads, stores, State, register_of, write_of, effect_message, fault_message, result_in, result_of_word, value_written}
 use Rattle.rv_isa.specs.Arithmetic.{value_of}
-use Rattle.rv_isa.specs.Bytes.{bytes_of_number}
-use Rattle.rv_isa.specs.Operands.{sources_of}
-use Rattle.rv_isa.specs.Operation.{bytes_of, width_of, is_sign_extended, immediate_operation, shift_operation}
-use Rattle.rv_isa.specs.Word.{sum, modulo_word, pc_plus, pc_plus_4}
-use Rattle.rv_isa.specs.declared.broadcast.Message.{Message}
-use Rattle.rv_isa.specs.declared.broadcast.StoreAccess.{StoreAccess}
-use Rattle.rv_isa.specs.declared.causes.Cause.{Cause}
-use Rattle.rv_isa.specs.declared.instructions.Instr.{Instr}
-use Rattle.rv_isa.specs.declared.instructions.Instr.TheVariants.{Lui, Auipc, Jal, Jalr, Branch, Load, Store, OpImmediate, Shift, Op, FenceI, Csr, Ecall, Ebreak, Mret}
-use Rattle.rv_isa.specs.declared.lines.Lines.{Lines}
-use Rattle.rv_isa.specs.declared.operations.LoadForm.{LoadForm}
-use Rattle.rv_isa.specs.declared.operations.Width.{Width}
-use Rattle.rv_arch.specs.Effect.{Retires, Faults, writes, goes_to, jumps, branches, loads, stores, extended}
-use Rattle.rv_arch.specs.State.{State, register_of, write_of}
-use Rattle.rv_memory.specs.Memory.{Layout, is_aligned, is_in_ram, is_writable, number_at}
-use Rattle.rv_isa.specs.Instruction.{is_serialising, is_load, sources_of_word}
-use Rattle.rv_hardware.specs.Result.{effect_message, fault_message, value_written, result_in, result_of_word}
+use Rattle.rv_isa.specs.declared.instructions.Instr.TheVariants.{Store}
+use Rattle.rv_arch.specs.Effect.{writes}
 
 -- the registers of some operands are the same in two states
 abbrev pub ReadsSame : State → State → List (Option ℕ) → Type 0

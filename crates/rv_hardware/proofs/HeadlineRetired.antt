@@ -1,31 +1,6 @@
 -- What a retirement, a trap and a flush leave.
-use Rattle.std.proofs.Common.{◌≡◌, ℕ, ◌+◌, ◌*◌, ◌/◌, ◌%◌, ◌^◌, ◌≤◌, Bool, true, false, List, [], ◌∷◌, ◌++◌, length, get_or, nat_le, Option, Some, None, IfSome, refl, sym, ap, ap₂, subst, ◌∙◌, inl, inr, true≢false, arith}
-use Rattle.std.specs.Prelude.{if◌then◌else◌}
-use Rattle.std.specs.Ordering.{nat_cmp}
+use Rattle.rv_hardware.proofs.Words.{◌≡◌, ℕ, ◌+◌, ◌*◌, ◌/◌, ◌%◌, ◌^◌, ◌≤◌, Bool, true, false, List, [], ◌∷◌, ◌++◌, length, IfSome, if◌then◌else◌, nat_le, slice_index_or as get_or, Some, None, Option, nat_cmp, sym, refl, ap, ◌∙◌, subst, ap₂, inl, inr, true≢false, append-nil, arith, le-leb, and_from, cases_eq, Message, StoreAccess, Values, Layout, Memory, fetched_word, is_in_ram, word_of, Kept, State, trap_taken, handler_of, Contents, is_draining, Store as QueuedStore, Committed, Filled, after_head, Entry, Fetched, Hardware, memory_behind, store_of_message, with_store, committed_store, stale_after, with_result, layout_of, seen, with_state, flushed, with_trap}
 use Rattle.std.specs.FinSet as set
-use Rattle.std.proofs.lemmas.Bool.{cases_eq, and_from, le-leb}
-use Rattle.std.proofs.lemmas.List.{append-nil}
-use Rattle.rv_isa.specs.declared.broadcast.Message.{Message}
-use Rattle.rv_isa.specs.declared.broadcast.StoreAccess.{StoreAccess}
-use Rattle.rv_isa.specs.declared.values.Values.{Values}
-use Rattle.rv_arch.specs.Csr.{Kept}
-use Rattle.rv_arch.specs.State.{State}
-use Rattle.rv_arch.specs.Step.{trap_taken}
-use Rattle.rv_arch.specs.Trap.{handler_of}
-use Rattle.rv_memory.specs.Memory.{Layout, Memory, fetched_word, is_in_ram, word_of}
-use Rattle.rv_cache.specs.Cache.{Contents}
-use Rattle.rv_front.specs.declared.fetched.Fetched.{Fetched}
-use Rattle.rv_rob.specs.ReorderBuffer.{after_head}
-use Rattle.rv_rob.specs.declared.entry.Entry.{Entry}
-use Rattle.rv_stores.specs.Store.{is_draining}
-use Rattle.rv_stores.specs.declared.store.Store.{Store as QueuedStore}
-use Rattle.rv_stores.specs.declared.store.StorePhase.TheVariants.{Committed}
-use Rattle.rv_stores.specs.declared.store.StoreState.TheVariants.{Filled}
-use Rattle.rv_hardware.specs.Hardware.{Hardware}
-use Rattle.rv_hardware.specs.InFlight.{with_store, store_of_message, memory_behind}
-use Rattle.rv_hardware.specs.Retirement.{committed_store, stale_after, with_result}
-use Rattle.rv_hardware.specs.Seen.{layout_of, seen, with_state}
-use Rattle.rv_hardware.specs.Squash.{flushed, with_trap}
 use Rattle.rv_hardware.proofs.HeadlineFold.{result_at, with_message, executed, behind, IsWordAt, AreInFlight, AreInBuffer}
 use Rattle.rv_hardware.proofs.HeadlineInvariant.{DrainInOrder, HoldsMemory, FollowsProgram, IsSound}
 use Rattle.rv_hardware.proofs.HeadlineKnown.{memory_behind-append}

@@ -1,32 +1,8 @@
 -- What an instruction's retirement makes of a state is what its message tells.
-use Rattle.std.proofs.Common.{◌≡◌, ℕ, zero, suc, ◌+◌, ◌/◌, ◌%◌, ◌≤◌, Bool, true, false, not, cond, nat_eq, List, length, Option, Some, None, IfSome, slice_set, refl, sym, ap, subst, inl, inr, ◌∙◌, true≢false, arith}
-use Rattle.std.specs.Prelude.{if◌then◌else◌}
-use Rattle.std.specs.Option.{option_map}
-use Rattle.std.proofs.lemmas.Bool.{cond-false, eqb-true}
-use Rattle.std.proofs.lemmas.Bool.Decides.{nat_tests}
-use Rattle.rv_isa.specs.Bytes.{bytes_of_number}
-use Rattle.rv_isa.specs.Operands.{target_of, written}
-use Rattle.rv_isa.specs.Comparison.{holds}
-use Rattle.rv_isa.specs.Operation.{bytes_of, width_of, is_sign_extended}
-use Rattle.rv_isa.specs.Word.{sum, modulo_word, pc_plus, pc_plus_4}
-use Rattle.rv_isa.specs.declared.broadcast.Message.{Message}
-use Rattle.rv_isa.specs.declared.broadcast.StoreAccess.{StoreAccess}
-use Rattle.rv_isa.specs.declared.causes.Cause.{Cause}
-use Rattle.rv_isa.specs.declared.causes.Cause.TheVariants.{InstructionAddressMisaligned, LoadAddressMisaligned, LoadAccessFault}
-use Rattle.rv_isa.specs.declared.instructions.Instr.{Instr}
-use Rattle.rv_isa.specs.declared.instructions.Instr.TheVariants.{Lui, Auipc, Jal, Jalr, Branch, Load, Store, OpImmediate, Shift, Op, FenceI, Csr, Ecall, Ebreak, Mret}
-use Rattle.rv_isa.specs.declared.lines.Lines.{Lines}
-use Rattle.rv_isa.specs.declared.operations.LoadForm.{LoadForm}
-use Rattle.rv_isa.specs.declared.operations.Width.{Width}
+use Rattle.rv_hardware.proofs.Words.{◌≡◌, ℕ, zero, suc, ◌+◌, ◌/◌, ◌%◌, ◌≤◌, Bool, true, false, cond, not, List, length, IfSome, if◌then◌else◌, nat_eq, slice_set, Some, None, Option, option_map, sym, refl, ap, ◌∙◌, subst, inl, inr, true≢false, arith, eqb-true, cond-false, nat_tests, bytes_of_number, holds, is_serialising, target_of, written, bytes_of, is_sign_extended, width_of, modulo_word, pc_plus, pc_plus_4, sum, Message, StoreAccess, Cause, InstructionAddressMisaligned, LoadAccessFault, LoadAddressMisaligned, Instr, Auipc, Branch, Csr, Ebreak, Ecall, FenceI, Jal, Jalr, Load, Lui, Mret, Op, OpImmediate, Shift, Lines, LoadForm, Width, Layout, is_aligned, is_in_ram, is_writable, number_at, Effect, Faults, Retires, effect, extended, goes_to, loads, State, register_of, IsAligned, store_of_message, with_store, with_value, access_of, effect_message, value_written, stale_after}
+use Rattle.rv_isa.specs.declared.instructions.Instr.TheVariants.{Store}
 use Rattle.rv_isa.specs.declared.operations.Width.TheVariants.{Byte, Half, Word}
-use Rattle.rv_arch.specs.Effect.{Effect, Retires, Faults, effect, writes, goes_to, loads, extended}
-use Rattle.rv_arch.specs.State.{State, register_of}
-use Rattle.rv_memory.specs.Memory.{Layout, is_aligned, is_in_ram, is_writable, number_at}
-use Rattle.rv_cache.specs.Cache.{IsAligned}
-use Rattle.rv_hardware.specs.InFlight.{with_value, with_store, store_of_message}
-use Rattle.rv_isa.specs.Instruction.{is_serialising}
-use Rattle.rv_hardware.specs.Result.{access_of, effect_message, value_written}
-use Rattle.rv_hardware.specs.Retirement.{stale_after}
+use Rattle.rv_arch.specs.Effect.{writes}
 
 -- the bytes of a store lie in RAM, after its read-only front, and within one word
 pub record IsStoreAccess (layout : Layout) (access : StoreAccess) : Type 0 where

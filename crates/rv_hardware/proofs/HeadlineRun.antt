@@ -1,26 +1,8 @@
 -- What the cycles of a run report leads from what programs saw before it to what they see after it.
-use Rattle.std.proofs.Common.{◌≡◌, ℕ, ◌+◌, ◌<◌, ◌≤◌, false, List, [], ◌∷◌, ◌++◌, length, map, refl, sym, ap, subst, arith}
-use Rattle.std.specs.List.{All, AllPairs}
-use Rattle.std.proofs.lemmas.List.Elements.{All-nil, All-head, All-tail, All-append, All-weaker}
-use Rattle.std.proofs.lemmas.List.Kept.{AllPairs-cons}
-use Rattle.rv_isa.specs.Arrivals.{lines_at}
-use Rattle.rv_isa.specs.Description.{IsLegal}
-use Rattle.rv_isa.specs.declared.lines.Arrival.{Arrival}
-use Rattle.rv_isa.specs.declared.values.Values.{Values}
-use Rattle.rv_arch.specs.Reset.{reset}
-use Rattle.rv_arch.specs.Run.{Run, ended, stepped, is_stale}
-use Rattle.rv_arch.specs.State.{State}
+use Rattle.rv_hardware.proofs.Words.{◌≡◌, ℕ, ◌+◌, ◌<◌, ◌≤◌, false, List, [], ◌∷◌, ◌++◌, map, length, All, AllPairs, sym, refl, ap, subst, arith, All-append, All-head, All-nil, All-tail, All-weaker, AllPairs-cons, lines_at, IsLegal, Arrival, Values, Layout, reset, Run, is_stale, stepped, State, Hardware, ComesBefore, EndAtTraps, IsTrueCycle, IsTrueRun, Lead, nowhere, onwards, told, Report, IsLoadable, reset_hardware, Cycles, Reachable, at_reset, cycled, steps_of, layout_of, seen, stamp_of, Step}
+use Rattle.rv_arch.specs.Run.{ended}
 use Rattle.rv_arch.specs.Step.{Step as MachineStep}
-use Rattle.rv_memory.specs.Memory.{Layout}
-use Rattle.rv_hardware.specs.Hardware.{Hardware}
-use Rattle.rv_hardware.specs.Headline.{told, Lead, nowhere, onwards, EndAtTraps, IsTrueCycle, ComesBefore, IsTrueRun}
-use Rattle.rv_hardware.specs.Report.{Report}
-use Rattle.rv_hardware.specs.Reset.{reset_hardware, IsLoadable}
-use Rattle.rv_hardware.specs.Run.{Cycles, cycled, Reachable, at_reset, steps_of}
 use Rattle.rv_hardware.specs.Run as run
-use Rattle.rv_hardware.specs.Seen.{layout_of, seen}
-use Rattle.rv_hardware.specs.Step.{stamp_of}
-use Rattle.rv_hardware.specs.declared.step.Step.{Step}
 use Rattle.rv_hardware.specs.declared.step.Step.TheVariants as step
 use Rattle.rv_hardware.proofs.HeadlineCycle.{GoesOnTrue, cycle_true, always_sound}
 use Rattle.rv_hardware.proofs.HeadlineInvariant.{IsSound}

@@ -1,31 +1,15 @@
 -- A serialising instruction takes its effect in the state that programs see.
-use Rattle.std.proofs.Common.{◌≡◌, ℕ, ◌%◌, ◌&&◌, Bool, true, false, List, [], ◌∷◌, get_or, Option, Some, None, IfSome, refl, sym, ap, subst, ◌∙◌, arith}
-use Rattle.std.specs.Prelude.{if◌then◌else◌}
-use Rattle.std.specs.Option.{option_map}
-use Rattle.std.specs.Ordering.{nat_cmp}
+use Rattle.rv_hardware.proofs.Words.{◌≡◌, ℕ, ◌%◌, Bool, true, false, ◌&&◌, List, [], ◌∷◌, IfSome, if◌then◌else◌, slice_index_or as get_or, Some, None, Option, option_map, nat_cmp, sym, refl, ap, ◌∙◌, subst, arith, false≢true, Csr, FenceI, Mret, Lines, Kept, access, access_csr, does_write, is_read_only, new_value, value_of, Effect, Faults, Retires, accesses, effect, operand_of, State, consistent_cleaned, memory_written, memory_written_back, Each, Store as QueuedStore, is_drained, with_write_back, Hardware, memory_behind, layout_of, seen}
 use Rattle.std.specs.FinSet as set
-use Rattle.std.proofs.lemmas.Bool.{false≢true}
-use Rattle.rv_isa.specs.declared.instructions.Instr.TheVariants.{FenceI, Csr, Mret}
 use Rattle.rv_isa.specs.declared.instructions.CsrSource.{CsrSource}
-use Rattle.rv_isa.specs.declared.lines.Lines.{Lines}
 use Rattle.rv_isa.specs.declared.operations.CsrOp.{CsrOp}
 use Rattle.rv_isa.specs.declared.csrs.Csr.{Csr as Register}
 use Rattle.rv_isa.specs.declared.csrs.Csr.TheVariants as csr
 use Rattle.rv_isa.specs.Csr.{csr_at}
-use Rattle.rv_arch.specs.Csr.{Kept, written, access, access_csr, does_write, is_read_only, new_value, value_of}
-use Rattle.rv_arch.specs.Effect.{Effect, Retires, Faults, effect, accesses, operand_of}
-use Rattle.rv_arch.specs.State.{State}
-use Rattle.rv_stores.specs.declared.store.Store.{Store as QueuedStore}
-use Rattle.rv_hardware.specs.Commit.{with_write_back, is_drained}
-use Rattle.rv_hardware.specs.Hardware.{Hardware}
-use Rattle.rv_hardware.specs.InFlight.{memory_behind}
-use Rattle.rv_hardware.specs.Seen.{layout_of, seen}
+use Rattle.rv_arch.specs.Csr.{written}
 use Rattle.rv_hardware.proofs.HeadlineInvariant.{HoldsMemory, IsSound}
 use Rattle.rv_hardware.proofs.HeadlineRetires.{aligned_next}
 use Rattle.rv_hardware.proofs.HeadlineWords.{IsRetiredStore, memory_behind-fresh}
-use Rattle.rv_cache.proofs.Steps.{consistent_cleaned, memory_written}
-use Rattle.rv_cache.specs.Cache.{memory_written_back}
-use Rattle.rv_cache.specs.WriteBack.{Each}
 
 -- ---- what the effect of a serialising instruction leaves
 pub record IsSerial (h : Hardware) (next : State) : Type 0 where

@@ -1,12 +1,5 @@
 -- Instructions in flight in two parts.
-use Rattle.std.proofs.Common.{◌≡◌, ℕ, ◌+◌, Bool, true, false, List, [], ◌∷◌, ◌++◌, length, Option, Some, None, refl, sym, ap, subst, ◌∙◌, append_assoc, arith, eq-eqb, ne_eqb, lt-ltb, le-ltb}
-use Rattle.std.specs.Prelude.{if◌then◌else◌}
-use Rattle.std.proofs.lemmas.List.{append-nil}
-use Rattle.rv_arch.specs.State.{State}
-use Rattle.rv_memory.specs.Memory.{Layout}
-use Rattle.rv_rob.specs.ReorderBuffer.{with_entry, entries_below}
-use Rattle.rv_rob.specs.declared.entry.Entry.{Entry}
-use Rattle.rv_hardware.specs.Issue.{oldest_from, oldest}
+use Rattle.rv_hardware.proofs.Words.{◌≡◌, ℕ, ◌+◌, Bool, true, false, List, [], ◌∷◌, ◌++◌, length, if◌then◌else◌, Some, None, Option, sym, refl, ap, ◌∙◌, subst, append_assoc, append-nil, arith, le-ltb, lt-ltb, eq-eqb, ne_eqb, Layout, State, entries_below, with_entry, Entry, oldest, oldest_from}
 use Rattle.rv_hardware.proofs.HeadlineFold.{executed, behind, AreInFlight}
 
 module _ (layout : Layout) where

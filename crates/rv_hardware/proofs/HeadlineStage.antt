@@ -1,10 +1,5 @@
 -- A new stage of an instruction in flight leaves all else as it is, where it tells the result.
-use Rattle.std.proofs.Common.{◌≡◌, ◌%◌, List, [], ◌∷◌, ◌++◌, sym, ap, subst, ◌∙◌}
-use Rattle.rv_arch.specs.State.{State}
-use Rattle.rv_memory.specs.Memory.{Layout}
-use Rattle.rv_front.specs.FetchBuffer.{FetchBuffer}
-use Rattle.rv_rob.specs.declared.entry.Entry.{Entry}
-use Rattle.rv_rob.specs.declared.entry.Stage.{Stage}
+use Rattle.rv_hardware.proofs.Words.{◌≡◌, ◌%◌, List, [], ◌∷◌, ◌++◌, sym, ap, ◌∙◌, subst, Layout, State, Entry, Stage, FetchBuffer}
 use Rattle.rv_hardware.proofs.HeadlineFold.{result_at, executed, behind, IsResult, IsInFlight, AreInFlight, AreInBuffer}
 use Rattle.rv_hardware.proofs.HeadlineInvariant.{FollowsProgram}
 use Rattle.rv_hardware.proofs.HeadlineSplit.{behind-append, AreInFlight-older, AreInFlight-younger, AreInFlight-append}

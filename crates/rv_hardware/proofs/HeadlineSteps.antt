@@ -1,21 +1,8 @@
 -- Steps that are reported one after another.
-use Rattle.std.proofs.Common.{◌≡◌, ℕ, zero, suc, ◌||◌, Bool, true, false, List, [], ◌∷◌, ◌++◌, Option, Some, refl, sym, ap, ◌∙◌, true≢false}
-use Rattle.std.specs.Prelude.{◌↔◌}
-use Rattle.std.specs.List.{All, list_any}
-use Rattle.std.proofs.lemmas.Bool.{false≢true, or_from}
-use Rattle.std.proofs.lemmas.List.Elements.{All-nil, All-cons, All-append}
-use Rattle.std.proofs.lemmas.List.Folds.{list_any-append}
-use Rattle.rv_isa.specs.declared.lines.Lines.{Lines}
-use Rattle.rv_arch.specs.State.{State}
+use Rattle.rv_hardware.proofs.Words.{◌≡◌, ℕ, zero, suc, Bool, true, false, ◌||◌, ◌↔◌, List, [], ◌∷◌, ◌++◌, Some, All, Option, sym, refl, ap, ◌∙◌, true≢false, false≢true, or_from, All-append, All-cons, All-nil, list_any-append, list_any, Lines, Layout, State, Stop, EndAtTraps, IsTrueCycle, Lead, nowhere, onwards, told, Ends, GoesOn, Turn, followed_by, repeated, is_breakpoint, is_retirement, stamp_of, Step}
 use Rattle.rv_arch.specs.Step.{Step as MachineStep}
 use Rattle.rv_arch.specs.declared.outcome.RefStep.TheVariants as machine
-use Rattle.rv_arch.specs.declared.outcome.Stop.{Stop}
 use Rattle.rv_arch.specs.declared.outcome.Stop.TheVariants as stop
-use Rattle.rv_memory.specs.Memory.{Layout}
-use Rattle.rv_hardware.specs.Headline.{told, Lead, nowhere, onwards, EndAtTraps, IsTrueCycle}
-use Rattle.rv_hardware.specs.Repeated.{Turn, GoesOn, Ends, followed_by, repeated}
-use Rattle.rv_hardware.specs.Step.{stamp_of, is_breakpoint, is_retirement}
-use Rattle.rv_hardware.specs.declared.step.Step.{Step}
 use Rattle.rv_hardware.specs.declared.step.Step.TheVariants as step
 
 -- ---- turns that keep one property while they go on, and leave another

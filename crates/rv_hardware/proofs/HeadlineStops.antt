@@ -1,22 +1,6 @@
 -- Why a run stopped, in what programs see.
-use Rattle.std.proofs.Common.{◌≡◌, ℕ, ◌+◌, ◌^◌, true, false, List, [], ◌∷◌, ◌++◌, length, Some, refl, sym, ap, subst, ◌∙◌, inl, inr, true≢false, arith, append-nil, append_assoc}
-use Rattle.std.specs.List.{All, list_any}
-use Rattle.std.proofs.lemmas.Bool.{cases_Bool, false≢true, or_from, or_right, or_parts}
-use Rattle.std.proofs.lemmas.List.Elements.{All-head, All-tail}
-use Rattle.std.proofs.lemmas.List.Folds.{list_any-append}
-use Rattle.rv_isa.specs.Arrivals.{lines_at}
-use Rattle.rv_isa.specs.declared.lines.Arrival.{Arrival}
-use Rattle.rv_arch.specs.State.{State}
-use Rattle.rv_arch.specs.declared.outcome.Stop.{Stop}
+use Rattle.rv_hardware.proofs.Words.{◌≡◌, ℕ, ◌+◌, ◌^◌, true, false, List, [], ◌∷◌, ◌++◌, length, Some, All, sym, refl, ap, ◌∙◌, subst, inl, inr, true≢false, append_assoc, append-nil, arith, cases_Bool, false≢true, or_from, or_parts, or_right, All-head, All-tail, list_any-append, list_any, lines_at, Arrival, Layout, State, Stop, Hardware, EndAtBreakpoints, EndAtTraps, IsTrueCycle, IsTrueStop, Report, Cycles, IsStop, NoneStops, Reachable, steps_of, layout_of, seen, is_breakpoint, is_retirement, stamp_of, Step}
 use Rattle.rv_arch.specs.declared.outcome.Stop.TheVariants as stop
-use Rattle.rv_memory.specs.Memory.{Layout}
-use Rattle.rv_hardware.specs.Hardware.{Hardware}
-use Rattle.rv_hardware.specs.Headline.{EndAtTraps, IsTrueCycle, EndAtBreakpoints, IsTrueStop}
-use Rattle.rv_hardware.specs.Report.{Report}
-use Rattle.rv_hardware.specs.Run.{Cycles, Reachable, steps_of, NoneStops, IsStop}
-use Rattle.rv_hardware.specs.Seen.{layout_of, seen}
-use Rattle.rv_hardware.specs.Step.{stamp_of, is_breakpoint, is_retirement}
-use Rattle.rv_hardware.specs.declared.step.Step.{Step}
 use Rattle.rv_hardware.specs.declared.step.Step.TheVariants as step
 use Rattle.rv_hardware.proofs.HeadlineCycle.{always_sound}
 use Rattle.rv_hardware.proofs.HeadlineRun.{TrueCycles, none, one_more, cycles_true, counts_cycles}

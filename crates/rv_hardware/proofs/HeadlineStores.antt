@@ -1,27 +1,6 @@
 -- What the stores in flight write lies in writable RAM.
-use Rattle.std.proofs.Common.{◌≡◌, ℕ, ◌+◌, ◌%◌, Bool, true, false, List, [], ◌∷◌, ◌++◌, Option, Some, None, IfSome, refl, sym, subst, inl, inr}
-use Rattle.std.specs.Prelude.{if◌then◌else◌}
-use Rattle.std.proofs.lemmas.Bool.{cases_Bool, false≢true}
-use Rattle.rv_isa.specs.Operands.{target_of}
-use Rattle.rv_isa.specs.declared.broadcast.Message.{Message}
-use Rattle.rv_isa.specs.declared.broadcast.StoreAccess.{StoreAccess}
-use Rattle.rv_isa.specs.declared.instructions.Instr.{Instr}
+use Rattle.rv_hardware.proofs.Words.{◌≡◌, ℕ, ◌+◌, ◌%◌, Bool, true, false, List, [], ◌∷◌, ◌++◌, IfSome, if◌then◌else◌, Some, None, Option, sym, refl, subst, inl, inr, cases_Bool, false≢true, no_lines, is_serialising, is_store, target_of, Message, StoreAccess, Instr, Lines, Layout, Effect, Faults, Retires, effect, State, Each, Entry, Stage, Finished, Running, Waiting, Hardware, broadcast_of, store_of_broadcast, store_of_message, stores_of, access_of, effect_message, result_of_word, Reachable, layout_of, seen, stores_behind}
 use Rattle.rv_isa.specs.declared.instructions.Instr.TheVariants.{Store}
-use Rattle.rv_isa.specs.declared.lines.Lines.{Lines}
-use Rattle.rv_arch.specs.Effect.{Effect, Retires, Faults, effect}
-use Rattle.rv_isa.specs.Arrivals.{no_lines}
-use Rattle.rv_arch.specs.State.{State}
-use Rattle.rv_memory.specs.Memory.{Layout}
-use Rattle.rv_cache.specs.WriteBack.{Each}
-use Rattle.rv_rob.specs.declared.entry.Entry.{Entry}
-use Rattle.rv_rob.specs.declared.entry.Stage.{Stage}
-use Rattle.rv_rob.specs.declared.entry.Stage.TheVariants.{Waiting, Running, Finished}
-use Rattle.rv_hardware.specs.Hardware.{Hardware}
-use Rattle.rv_hardware.specs.InFlight.{broadcast_of, store_of_message, store_of_broadcast, stores_of}
-use Rattle.rv_isa.specs.Instruction.{is_serialising, is_store}
-use Rattle.rv_hardware.specs.Result.{access_of, effect_message, result_of_word}
-use Rattle.rv_hardware.specs.Run.{Reachable}
-use Rattle.rv_hardware.specs.Seen.{layout_of, seen, stores_behind}
 use Rattle.rv_hardware.proofs.HeadlineBytes.{IsStateInside, IsInside}
 use Rattle.rv_hardware.proofs.HeadlineCycle.{always_sound}
 use Rattle.rv_hardware.proofs.HeadlineFold.{result_at, executed, IsResult, AreInFlight}

@@ -1,15 +1,7 @@
 -- A step that a turn of the commit phase takes begins at the committed pc.
-use Rattle.std.proofs.Common.{◌≡◌, List, [], ◌∷◌, ◌++◌, length, length-append, Some, refl, sym, ap, subst, ◌∙◌, arith}
+use Rattle.rv_hardware.proofs.Words.{◌≡◌, List, [], ◌∷◌, ◌++◌, length, Some, sym, refl, ap, ◌∙◌, subst, arith, length-append, append_cancel_left, Entry, Committing, commit_turn, with_fault, Turn, row_of, written_of, layout_of, seen, pc_of, Step}
 use Rattle.std.specs.FinSet as set
-use Rattle.std.proofs.lemmas.List.{append_cancel_left}
 use Rattle.rv_arch.specs.declared.outcome.Stop.TheVariants as stop
-use Rattle.rv_rob.specs.declared.entry.Entry.{Entry}
-use Rattle.rv_hardware.specs.Commit.{Committing, commit_turn, with_fault}
-use Rattle.rv_hardware.specs.Repeated.{Turn}
-use Rattle.rv_hardware.specs.Retirement.{row_of, written_of}
-use Rattle.rv_hardware.specs.Seen.{layout_of, seen}
-use Rattle.rv_hardware.specs.Step.{pc_of}
-use Rattle.rv_hardware.specs.declared.step.Step.{Step}
 use Rattle.rv_hardware.specs.declared.step.Step.TheVariants as step
 use Rattle.rv_hardware.proofs.HeadlineFold.{AreInFlight}
 use Rattle.rv_hardware.proofs.HeadlineInvariant.{IsSound}

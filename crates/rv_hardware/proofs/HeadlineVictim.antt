@@ -1,12 +1,5 @@
 -- What an access makes of RAM: each byte stays, or becomes the one that the cache has.
-use Rattle.std.proofs.Common.{◌≡◌, ℕ, ◌+◌, ◌-◌, ◌<◌, ◌≤◌, ◌⊎◌, Bool, true, false, cond, min, List, [], ◌++◌, length, take, drop, get_or, Option, Some, None, slice_range, refl, ap, ap₂, ◌∙◌, inl, inr, arith, length-take, length-drop}
-use Rattle.std.proofs.lemmas.Bool.{cases_lt}
-use Rattle.std.proofs.lemmas.List.{append-nil, take_all, drop_all, get_or-drop, get_or-take}
-use Rattle.rv_memory.specs.Bytes.{overwritten}
-use Rattle.rv_cache.specs.Cache.{Contents, memory_after, evicted}
-use Rattle.rv_cache.specs.WriteBack.{offset_of, victim_written}
-use Rattle.rv_cache.specs.declared.line.CacheLine.{CacheLine}
-use Rattle.rv_cache.proofs.Written.{length-overwritten, get_or-overwritten_in, get_or-overwritten_below, get_or-overwritten_above}
+use Rattle.rv_hardware.proofs.Words.{◌≡◌, ℕ, ◌+◌, ◌-◌, ◌<◌, ◌≤◌, min, Bool, true, false, cond, ◌⊎◌, List, [], ◌++◌, length, take, drop, slice_index_or as get_or, slice_range, Some, None, Option, refl, ap, ◌∙◌, ap₂, inl, inr, append-nil, arith, length-drop, length-take, get_or-drop, take_all, get_or-take, cases_lt, drop_all, overwritten, get_or-overwritten_above, get_or-overwritten_below, get_or-overwritten_in, length-overwritten, Contents, evicted, memory_after, offset_of, victim_written, CacheLine}
 
 -- each byte is the old one's or the cache's
 pub record IsMixed (bytes memory now : List ℕ) : Type 0 where

@@ -1,23 +1,9 @@
 -- Bytes, words, and the stores that retired: a store changes the bytes of its own word alone.
-use Rattle.std.proofs.Common.{◌≡◌, ◌≢◌, ℕ, ◌+◌, ◌-◌, ◌%◌, ◌≤◌, ◌||◌, Bool, true, false, cond, List, [], ◌∷◌, ◌++◌, length, get_or, Some, None, slice_range, refl, sym, ap, ◌∙◌, inl, inr, true≢false, arith, ext_get_or}
+use Rattle.rv_hardware.proofs.Words.{◌≡◌, ℕ, ◌+◌, ◌-◌, ◌%◌, ◌≤◌, Bool, true, false, cond, ◌||◌, ◌≢◌, List, [], ◌∷◌, ◌++◌, length, slice_index_or as get_or, slice_range, Some, None, nat_cmp, sym, refl, ap, ◌∙◌, inl, inr, true≢false, arith, ext_get_or, eq-eqb, ne_eqb, cases_Bool, cases_lt, cond-false, eqb-false, or_left, or_parts, or_right, nat_tests, number_of, StoreAccess, overwritten, Layout, fetched_word, is_in_ram, number_at, word_of, get_or-overwritten_above, get_or-overwritten_below, get_or-overwritten_in, length-overwritten, Each, is_committed, Store as QueuedStore, StoreState, Filled, memory_behind, with_store}
 use Rattle.std.specs.Cmp.{nat_cmp_total, unsigned_tied}
-use Rattle.std.specs.Ordering.{nat_cmp}
 use Rattle.std.specs.FinSet as set
-use Rattle.std.proofs.lemmas.Bool.{cond-false, cases_Bool, cases_lt, or_parts, or_left, or_right, eqb-false, eq-eqb, ne_eqb}
-use Rattle.std.proofs.lemmas.Bool.Decides.{nat_tests}
 use Rattle.std.proofs.lemmas.List.Edits.{get_or-between, length-between}
-use Rattle.rv_isa.specs.Bytes.{number_of}
-use Rattle.rv_isa.specs.declared.broadcast.StoreAccess.{StoreAccess}
-use Rattle.rv_memory.specs.Bytes.{overwritten}
-use Rattle.rv_memory.specs.Memory.{Layout, fetched_word, is_in_ram, number_at, word_of}
-use Rattle.rv_cache.proofs.Written.{length-overwritten, get_or-overwritten_in, get_or-overwritten_below, get_or-overwritten_above}
-use Rattle.rv_cache.specs.WriteBack.{Each}
-use Rattle.rv_stores.specs.Store.{is_committed}
-use Rattle.rv_stores.specs.declared.store.Store.{Store as QueuedStore}
 use Rattle.rv_stores.specs.declared.store.StorePhase.{StorePhase}
-use Rattle.rv_stores.specs.declared.store.StoreState.{StoreState}
-use Rattle.rv_stores.specs.declared.store.StoreState.TheVariants.{Filled}
-use Rattle.rv_hardware.specs.InFlight.{with_store, memory_behind}
 use Rattle.rv_hardware.proofs.HeadlineRetires.{IsStoreAccess}
 
 -- ---- sets of stale words

@@ -1,10 +1,5 @@
 -- How a mark goes on in a cycle, after the marks of what is older.
-use Rattle.std.proofs.Common.{◌≡◌, ℕ, ◌+◌, ◌≤◌, ◌<◌, ◌&&◌, Bool, true, is_some, is_none, List, ◌∷◌, ◌++◌, Option, Some, None, IfSome, refl, sym, ap, ◌∙◌, arith}
-use Rattle.rv_isa.specs.PerKind.{at_kind}
-use Rattle.rv_isa.specs.declared.operations.Kind.{Kind}
-use Rattle.rv_isa.specs.declared.values.Values.{Values}
-use Rattle.rv_isa.specs.Instruction.{is_store, is_target, target_of_word, is_load, is_of_kind, kind_of_word, sources_of_word}
-use Rattle.rv_hardware.specs.Stamps.{last_that}
+use Rattle.rv_hardware.proofs.Words.{◌≡◌, ℕ, ◌+◌, ◌<◌, ◌≤◌, Bool, true, ◌&&◌, List, ◌∷◌, ◌++◌, is_some, is_none, IfSome, Some, None, Option, sym, refl, ap, ◌∙◌, arith, is_load, is_of_kind, is_store, is_target, kind_of_word, sources_of_word, target_of_word, at_kind, Kind, Values, last_that}
 use Rattle.rv_hardware.proofs.LawsLists.{Every, count}
 use Rattle.rv_hardware.proofs.LawsMarks.{Start, Mark, Agree, Extends, Extends-trans, Extends-cut, Extends-change, at_end, until, until_now, start_until, start_until_now}
 

@@ -1,29 +1,5 @@
 -- What every phase keeps: the shape, sound rows, instructions and words, and marks that only go on.
-use Rattle.std.proofs.Common.{◌≡◌, ℕ, ◌+◌, ◌≤◌, ◌&&◌, ◌||◌, Bool, true, false, is_some, List, [], ◌∷◌, Option, Some, None, option_and_then, inl, inr, refl, sym, subst, ap, ◌∙◌, arith}
-use Rattle.std.specs.List.{list_any}
-use Rattle.rv_decode.specs.Decodes.{instruction_of}
-use Rattle.rv_isa.specs.declared.broadcast.Message.{Message}
-use Rattle.rv_isa.specs.declared.instructions.Instr.{Instr}
-use Rattle.rv_isa.specs.declared.issues.Issue.{Issue}
-use Rattle.rv_isa.specs.declared.lines.Lines.{Lines}
-use Rattle.rv_isa.specs.declared.operations.Kind.{Kind}
-use Rattle.rv_isa.specs.declared.values.Values.{Values}
-use Rattle.rv_arch.specs.State.{State}
-use Rattle.rv_memory.specs.Memory.{Layout}
-use Rattle.rv_front.specs.declared.fetched.Fetched.{Fetched}
-use Rattle.rv_rob.specs.Entry.{issue_of, started, finished, predicting}
-use Rattle.rv_rob.specs.declared.entry.Entry.{Entry}
-use Rattle.rv_rob.specs.declared.entry.Stage.{Stage}
-use Rattle.rv_rob.specs.declared.entry.Stage.TheVariants.{Waiting, Running, Finished}
-use Rattle.rv_hardware.specs.Dispatch.{stage_by, entry_of_fetched}
-use Rattle.rv_hardware.specs.Hardware.{Hardware}
-use Rattle.rv_hardware.specs.InFlight.{is_waiting}
-use Rattle.rv_isa.specs.Instruction.{is_serialising, is_of_kind, kind_of_word, sources_of_word}
-use Rattle.rv_hardware.specs.Issue.{has_operands, is_ready, may_load}
-use Rattle.rv_hardware.specs.Result.{result_of_word}
-use Rattle.rv_hardware.specs.Seen.{layout_of, seen_behind}
-use Rattle.rv_hardware.specs.Stamps.{rows_of}
-use Rattle.rv_hardware.specs.declared.step.Step.{Step}
+use Rattle.rv_hardware.proofs.Words.{◌≡◌, ℕ, ◌+◌, ◌≤◌, Bool, true, false, ◌&&◌, ◌||◌, List, [], ◌∷◌, is_some, Some, None, Option, option_and_then, sym, refl, ap, ◌∙◌, subst, inl, inr, arith, list_any, is_of_kind, is_serialising, kind_of_word, sources_of_word, Message, Instr, Issue, Lines, Kind, Values, instruction_of, Layout, State, finished, issue_of, predicting, started, Entry, Stage, Finished, Running, Waiting, Fetched, entry_of_fetched, stage_by, Hardware, is_waiting, has_operands, is_ready, may_load, result_of_word, layout_of, seen_behind, rows_of, Step}
 use Rattle.rv_hardware.proofs.LawsLists.{Every, EveryPair}
 use Rattle.rv_hardware.proofs.LawsMarks.{mark_of_entry, mark_of_fetched, start_of_issue, start_of_stage, broadcast_of_stage}
 use Rattle.rv_hardware.proofs.LawsRow.{SoundRow}

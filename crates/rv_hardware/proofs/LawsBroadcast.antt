@@ -1,17 +1,5 @@
 -- What a turn of the broadcast phase does.
-use Rattle.std.proofs.Common.{◌≡◌, ℕ, ◌+◌, ◌≤◌, ◌&&◌, Bool, true, false, cond, not, is_none, nat_le, List, [], ◌∷◌, ◌++◌, length, Option, Some, None, refl, sym, subst, ap, ◌∙◌}
-use Rattle.std.proofs.lemmas.Bool.{leb-true}
-use Rattle.rv_isa.specs.declared.broadcast.Message.{Message}
-use Rattle.rv_isa.specs.declared.issues.Issue.{Issue}
-use Rattle.rv_rob.specs.Entry.{finished, predicting}
-use Rattle.rv_rob.specs.ReorderBuffer.{with_entry, entries_below}
-use Rattle.rv_rob.specs.declared.entry.Entry.{Entry}
-use Rattle.rv_rob.specs.declared.entry.Stage.{Stage}
-use Rattle.rv_rob.specs.declared.entry.Stage.TheVariants.{Waiting, Running, Finished}
-use Rattle.rv_hardware.specs.Broadcast.{result_at, has_result, mends_early, is_mispredicted, with_broadcast, with_recovery, broadcast_result, broadcast_oldest, broadcast_turn}
-use Rattle.rv_hardware.specs.Hardware.{Hardware}
-use Rattle.rv_hardware.specs.Issue.{oldest}
-use Rattle.rv_hardware.specs.Repeated.{Turn, GoesOn, Ends}
+use Rattle.rv_hardware.proofs.Words.{◌≡◌, ℕ, ◌+◌, ◌≤◌, Bool, true, false, cond, not, ◌&&◌, List, [], ◌∷◌, ◌++◌, length, is_none, nat_le, Some, None, Option, sym, refl, ap, ◌∙◌, subst, leb-true, Message, Issue, finished, predicting, entries_below, with_entry, Entry, Stage, Finished, Running, Waiting, broadcast_oldest, broadcast_result, broadcast_turn, has_result, is_mispredicted, mends_early, result_at, with_broadcast, with_recovery, Hardware, oldest, Ends, GoesOn, Turn}
 use Rattle.rv_hardware.proofs.LawsLists.{EveryBehind}
 use Rattle.rv_hardware.proofs.LawsOldest.{Finds, oldest_finds, with_entry-behind, entries_below-behind}
 

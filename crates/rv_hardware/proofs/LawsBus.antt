@@ -1,9 +1,5 @@
 -- Of the results that are ready the oldest is broadcast first.
-use Rattle.std.proofs.Common.{◌≡◌, ℕ, ◌+◌, ◌≤◌, ◌<◌, List, [], ◌∷◌, ◌++◌, map, Option, Some, None, IfSome, sym, subst, ap, ◌∙◌, arith}
-use Rattle.rv_isa.specs.declared.values.Values.{Values}
-use Rattle.rv_front.specs.declared.fetched.Fetched.{Fetched}
-use Rattle.rv_hardware.specs.Hardware.{Hardware}
-use Rattle.rv_hardware.specs.declared.step.Step.{Step}
+use Rattle.rv_hardware.proofs.Words.{◌≡◌, ℕ, ◌+◌, ◌<◌, ◌≤◌, List, [], ◌∷◌, ◌++◌, map, IfSome, Some, None, Option, sym, ap, ◌∙◌, subst, arith, Values, Fetched, Hardware, Step}
 use Rattle.rv_hardware.proofs.LawsAdvance.{IsBefore, Advances, retires, starts, is_sent, enters, Starts, IsSent, IsSentIfReady}
 use Rattle.rv_hardware.proofs.LawsCycle.{KeptMarks, History, marks_of_history}
 use Rattle.rv_hardware.proofs.LawsLists.{Every, EveryPair, Every-append, Every-all, Every-left, Every-right, Every-place, Every-set, Every-map, Every-weaker, Every-both, EveryPair-left, EveryPair-right, EveryPair-append, EveryPair-across, EveryPair-set}

@@ -1,21 +1,5 @@
 -- A cycle in which an instruction was dispatched is a busy one.
-use Rattle.std.proofs.Common.{◌≡◌, ℕ, suc, ◌+◌, ◌-◌, ◌≤◌, ◌<◌, ◌==◌, not, ◌||◌, Bool, true, false, cond, List, [], ◌∷◌, ◌++◌, map, length, Some, None, refl, sym, subst, ap, ◌∙◌, arith, append_assoc, append-nil, ne_eqb, eqb-true}
-use Rattle.std.specs.List.{list_any, range_with_len}
-use Rattle.rv_isa.specs.declared.lines.Arrival.{Arrival}
-use Rattle.rv_isa.specs.declared.lines.Lines.{Lines}
-use Rattle.rv_isa.specs.declared.values.Values.{Values}
-use Rattle.rv_front.specs.declared.fetched.Fetched.{Fetched}
-use Rattle.rv_rob.specs.declared.entry.Entry.{Entry}
-use Rattle.rv_hardware.specs.Cycle.{IsCycle, any_prediction}
-use Rattle.rv_hardware.specs.Dispatch.{Dispatching, dispatch, dispatch_turn}
-use Rattle.rv_hardware.specs.Hardware.{Hardware}
-use Rattle.rv_hardware.specs.Laws.{AreCounted, dispatch_cycles}
-use Rattle.rv_hardware.specs.Repeated.{Turn}
-use Rattle.rv_hardware.specs.Report.{Report}
-use Rattle.rv_hardware.specs.Run.{Reachable, Cycles, ended, cycled, busy_of, stalls_of, steps_of}
-use Rattle.rv_hardware.specs.Stamps.{rows_of, is_dispatched_in}
-use Rattle.rv_hardware.specs.declared.step.Row.{Row}
-use Rattle.rv_hardware.specs.declared.step.Step.{Step}
+use Rattle.rv_hardware.proofs.Words.{◌≡◌, ℕ, suc, ◌+◌, ◌-◌, ◌<◌, ◌≤◌, Bool, true, false, cond, not, ◌||◌, List, [], ◌∷◌, ◌++◌, map, length, ◌==◌, Some, None, sym, refl, ap, ◌∙◌, subst, append_assoc, append-nil, arith, ne_eqb, eqb-true, list_any, range_with_len, Arrival, Lines, Values, Entry, Fetched, IsCycle, any_prediction, Dispatching, dispatch, dispatch_turn, Hardware, AreCounted, dispatch_cycles, Turn, Report, Cycles, Reachable, busy_of, cycled, ended, stalls_of, steps_of, is_dispatched_in, rows_of, Row, Step}
 use Rattle.rv_hardware.proofs.HeadlineReached.{cycles_counted}
 use Rattle.rv_hardware.proofs.LawsAdvance.{Advances, Kept, retires as a_retires, starts as a_starts, is_sent as a_is_sent, enters as a_enters}
 use Rattle.rv_hardware.proofs.LawsCycle.{Anything, anything_is_kept, History, went_on, Passed, cycle_passes, dispatching, sent_all, history_is_legal, history_is_sound, reachable_has_history}

@@ -1,30 +1,7 @@
 -- What a turn of the commit phase does.
-use Rattle.std.proofs.Common.{◌≡◌, ℕ, ◌==◌, Bool, true, false, cond, List, [], ◌∷◌, ◌++◌, Option, Some, None, refl, ap}
-use Rattle.std.specs.Option.{unwrap_or}
-use Rattle.std.specs.Ordering.{nat_cmp}
+use Rattle.rv_hardware.proofs.Words.{◌≡◌, ℕ, Bool, true, false, cond, List, [], ◌∷◌, ◌++◌, ◌==◌, Some, None, Option, nat_cmp, unwrap_or, refl, ap, is_serialising, pc_plus_4, Message, Cause, Fault, Instr, Csr, FenceI, Mret, Issue, word_of, Effect, Faults, Retires, effect, State, head_retired, Entry, Stage, Finished, Running, Waiting, Committing, commit_turn, commit_turn_of, execute_head, finish_broadcast, finish_head, head_turn, is_drained, take_effect, with_fault, with_write_back, write_back_time, broadcast_of, Ends, GoesOn, Turn, row_of, with_result, written_of, layout_of, seen, with_state, flushed}
 use Rattle.std.specs.FinSet as set
-use Rattle.rv_isa.specs.declared.broadcast.Message.{Message}
-use Rattle.rv_isa.specs.declared.causes.Cause.{Cause}
-use Rattle.rv_isa.specs.declared.causes.Fault.{Fault}
-use Rattle.rv_isa.specs.declared.instructions.Instr.{Instr}
-use Rattle.rv_isa.specs.declared.instructions.Instr.TheVariants.{FenceI, Csr, Mret}
-use Rattle.rv_isa.specs.declared.issues.Issue.{Issue}
-use Rattle.rv_isa.specs.Word.{pc_plus_4}
-use Rattle.rv_arch.specs.Effect.{Effect, Retires, Faults, effect}
-use Rattle.rv_arch.specs.State.{State}
 use Rattle.rv_arch.specs.declared.outcome.Stop.TheVariants as stop
-use Rattle.rv_memory.specs.Memory.{word_of}
-use Rattle.rv_rob.specs.declared.entry.Entry.{Entry}
-use Rattle.rv_rob.specs.declared.entry.Stage.{Stage}
-use Rattle.rv_rob.specs.declared.entry.Stage.TheVariants.{Waiting, Running, Finished}
-use Rattle.rv_rob.specs.ReorderBuffer.{head_retired}
-use Rattle.rv_hardware.specs.Commit.{Committing, with_fault, finish_head, finish_broadcast, take_effect, execute_head, with_write_back, write_back_time, is_drained, head_turn, commit_turn_of, commit_turn}
-use Rattle.rv_hardware.specs.InFlight.{broadcast_of}
-use Rattle.rv_isa.specs.Instruction.{is_serialising}
-use Rattle.rv_hardware.specs.Repeated.{Turn, GoesOn, Ends}
-use Rattle.rv_hardware.specs.Retirement.{row_of, with_result, written_of}
-use Rattle.rv_hardware.specs.Seen.{layout_of, seen, with_state}
-use Rattle.rv_hardware.specs.Squash.{flushed}
 
 -- the head has its turn: its word is not stale
 pub record Head (is_stale : set.FinSet nat_cmp → ℕ → Bool) (c : Committing) (e : Entry) (es : List Entry) : Type 0 where

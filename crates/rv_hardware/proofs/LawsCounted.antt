@@ -1,13 +1,5 @@
 -- From counts of marks at the end of each cycle to counts of rows.
-use Rattle.std.proofs.Common.{◌≡◌, ℕ, suc, ◌≤◌, ◌<◌, ◌&&◌, Bool, true, false, cond, List, [], ◌∷◌, ◌++◌, map, filter, count_by, Some, None, inl, inr, refl, subst, ap, ◌∙◌, arith, le-leb}
-use Rattle.std.proofs.lemmas.Bool.{cases_lt, lt-leb}
-use Rattle.rv_isa.specs.declared.lines.Lines.{Lines}
-use Rattle.rv_isa.specs.declared.values.Values.{Values}
-use Rattle.rv_hardware.specs.Hardware.{Hardware}
-use Rattle.rv_hardware.specs.Report.{Report}
-use Rattle.rv_hardware.specs.Stamps.{rows_of}
-use Rattle.rv_hardware.specs.declared.step.Row.{Row}
-use Rattle.rv_hardware.specs.declared.step.Step.{Step}
+use Rattle.rv_hardware.proofs.Words.{◌≡◌, ℕ, suc, ◌<◌, ◌≤◌, Bool, true, false, cond, ◌&&◌, List, [], ◌∷◌, ◌++◌, map, Some, None, count_by, filter, refl, ap, ◌∙◌, subst, inl, inr, arith, le-leb, cases_lt, lt-leb, Lines, Values, Hardware, Report, rows_of, Row, Step}
 use Rattle.rv_hardware.proofs.LawsCycle.{Passed, History, history_is_sound}
 use Rattle.rv_hardware.proofs.LawsLists.{Every, EveryBehind, EveryBehind-at, Every-weaker, count, count-count_by, count-le, count-map, count-none, Beginning-count}
 use Rattle.rv_hardware.proofs.LawsMarks.{Mark, mark_of_row, marks_in, at_end, as_of, as_of-append, as_of-cons, was_fetched, until, Extends}

@@ -1,26 +1,6 @@
 -- A cycle passes through its phases, and a history is all cycles since the reset with all their steps.
-use Rattle.std.proofs.Common.{◌≡◌, ℕ, suc, ◌+◌, ◌≤◌, ◌<◌, ◌-◌, Bool, is_none, List, [], ◌∷◌, ◌++◌, map, length, refl, sym, subst, ap, ◌∙◌, arith, append-nil}
+use Rattle.rv_hardware.proofs.Words.{◌≡◌, ℕ, suc, ◌+◌, ◌-◌, ◌<◌, ◌≤◌, Bool, List, [], ◌∷◌, ◌++◌, map, length, is_none, sym, refl, ap, ◌∙◌, subst, append-nil, arith, at_kind-for_each, IsLegal, at_kind, Lines, Values, Pool, free_pool, Entry, Fetched, broadcast, Committing, IsCycle, any_prediction, commit_with, execute, with_lines, Dispatching, dispatch, stall_of, drain, Hardware, issue, Report, reset_hardware, Reachable, at_reset, by_cycle, rows_of, Row, Step}
 use Rattle.std.specs.FinSet as set
-use Rattle.rv_isa.proofs.WithKind.{at_kind-for_each}
-use Rattle.rv_isa.specs.Description.{IsLegal}
-use Rattle.rv_isa.specs.PerKind.{at_kind}
-use Rattle.rv_isa.specs.declared.lines.Lines.{Lines}
-use Rattle.rv_isa.specs.declared.values.Values.{Values}
-use Rattle.rv_units.specs.Pool.{free_pool, Pool}
-use Rattle.rv_front.specs.declared.fetched.Fetched.{Fetched}
-use Rattle.rv_hardware.specs.Broadcast.{broadcast}
-use Rattle.rv_hardware.specs.Commit.{Committing}
-use Rattle.rv_hardware.specs.Cycle.{IsCycle, any_prediction, commit_with, execute, with_lines}
-use Rattle.rv_hardware.specs.Dispatch.{Dispatching, dispatch, stall_of}
-use Rattle.rv_hardware.specs.Drain.{drain}
-use Rattle.rv_hardware.specs.Hardware.{Hardware}
-use Rattle.rv_hardware.specs.Issue.{issue}
-use Rattle.rv_hardware.specs.Report.{Report}
-use Rattle.rv_hardware.specs.Reset.{reset_hardware}
-use Rattle.rv_hardware.specs.Run.{Reachable, at_reset, by_cycle}
-use Rattle.rv_hardware.specs.Stamps.{rows_of}
-use Rattle.rv_hardware.specs.declared.step.Row.{Row}
-use Rattle.rv_hardware.specs.declared.step.Step.{Step}
 use Rattle.rv_hardware.proofs.LawsAdvance.{Kept}
 use Rattle.rv_hardware.proofs.LawsBasics.{Basics, SerialIsLast}
 use Rattle.rv_hardware.proofs.LawsFetch.{FetchPhase, IsNew, fetch_phase}
@@ -28,7 +8,6 @@ use Rattle.rv_hardware.proofs.LawsLists.{Every, Every-append, Every-weaker, Ever
 use Rattle.rv_hardware.proofs.LawsMarks.{Mark, mark_of_row, mark_of_entry, mark_of_fetched, marks, marks_in, marks_fetched}
 use Rattle.rv_hardware.proofs.LawsPhases.{Goes, commit_keeps, drain_keeps, issue_keeps, broadcast_keeps, dispatch_keeps, goes_later}
 use Rattle.rv_hardware.proofs.LawsRow.{SoundRow}
-use Rattle.rv_rob.specs.declared.entry.Entry.{Entry}
 use Rattle.rv_hardware.proofs.LawsShape.{same_shape}
 use Rattle.rv_hardware.proofs.LawsSound.{SoundEntry, SoundFetched}
 

@@ -1,13 +1,5 @@
 -- What a turn of the dispatch phase does.
-use Rattle.std.proofs.Common.{◌≡◌, ◌+◌, ◌&&◌, Bool, true, false, cond, nat_le, List, [], ◌∷◌, length, Some, None, refl}
-use Rattle.std.specs.List.{list_any}
-use Rattle.rv_front.specs.declared.fetched.Fetched.{Fetched}
-use Rattle.rv_hardware.specs.Dispatch.{Dispatching, has_full_stations, with_dispatched, dispatch_unless, dispatch_turn, dispatch_turn_of}
-use Rattle.rv_hardware.specs.Hardware.{Hardware}
-use Rattle.rv_isa.specs.Instruction.{is_serialising, is_store, kind_of_word}
-use Rattle.rv_hardware.specs.Repeated.{Turn, GoesOn, Ends}
-use Rattle.rv_hardware.specs.Seen.{stores_behind}
-use Rattle.rv_hardware.specs.declared.report.Stall.{Stall}
+use Rattle.rv_hardware.proofs.Words.{◌≡◌, ◌+◌, Bool, true, false, cond, ◌&&◌, List, [], ◌∷◌, length, nat_le, Some, None, refl, list_any, is_serialising, is_store, kind_of_word, Fetched, Dispatching, dispatch_turn, dispatch_turn_of, dispatch_unless, has_full_stations, with_dispatched, Hardware, Ends, GoesOn, Turn, stores_behind, Stall}
 use Rattle.rv_hardware.specs.declared.report.Stall.TheVariants as stall
 
 -- the four things that an instruction may wait for

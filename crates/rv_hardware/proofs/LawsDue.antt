@@ -1,25 +1,5 @@
 -- Over a run, an interrupt that is due in a cycle is its one step.
-use Rattle.std.proofs.Common.{◌≡◌, ℕ, ◌+◌, ◌≤◌, ◌<◌, ◌==◌, nat_lt, Bool, true, false, List, [], ◌∷◌, ◌++◌, filter, map, Some, inl, inr, refl, sym, subst, ap, ◌∙◌, arith, append_assoc, append-nil, eq-eqb, ne_eqb}
-use Rattle.std.proofs.lemmas.Bool.{cases_lt, lt-ltb, le-ltb}
-use Rattle.std.proofs.lemmas.List.Elements.{filter-append}
-use Rattle.rv_isa.specs.Arrivals.{lines_at}
-use Rattle.rv_isa.specs.declared.lines.Arrival.{Arrival}
-use Rattle.rv_isa.specs.declared.values.Values.{Values}
-use Rattle.rv_arch.specs.Due.{due}
-use Rattle.rv_arch.specs.Run.{Run}
-use Rattle.rv_arch.specs.State.{State}
-use Rattle.rv_arch.specs.Trap.{interrupt_cause}
-use Rattle.rv_hardware.specs.Cycle.{IsCycle, any_prediction}
-use Rattle.rv_hardware.specs.Hardware.{Hardware}
-use Rattle.rv_hardware.specs.Headline.{told}
-use Rattle.rv_hardware.specs.Laws.{TakesDueInterrupts}
-use Rattle.rv_hardware.specs.Report.{Report}
-use Rattle.rv_hardware.specs.Run.{Reachable, Cycles, ended, cycled, steps_of}
-use Rattle.rv_hardware.specs.Seen.{layout_of, seen}
-use Rattle.rv_hardware.specs.Stamps.{steps_below, steps_in}
-use Rattle.rv_hardware.specs.Step.{stamp_of}
-use Rattle.rv_hardware.specs.declared.step.Step.{Step}
-use Rattle.rv_hardware.specs.declared.step.Step.TheVariants.{Interrupt}
+use Rattle.rv_hardware.proofs.Words.{◌≡◌, ℕ, ◌+◌, ◌<◌, ◌≤◌, Bool, true, false, List, [], ◌∷◌, ◌++◌, map, nat_lt, ◌==◌, Some, filter, sym, refl, ap, ◌∙◌, subst, inl, inr, append_assoc, append-nil, arith, le-ltb, lt-ltb, eq-eqb, ne_eqb, cases_lt, filter-append, lines_at, Arrival, Values, due, Run, State, interrupt_cause, IsCycle, any_prediction, Hardware, told, TakesDueInterrupts, Report, Cycles, Reachable, cycled, ended, steps_of, layout_of, seen, steps_below, steps_in, stamp_of, Step, Interrupt}
 use Rattle.rv_hardware.proofs.HeadlineRun.{headline_of_run}
 use Rattle.rv_hardware.proofs.LawsCycle.{History, went_on, reachable_has_history, history_is_legal, history_is_sound}
 use Rattle.rv_hardware.proofs.LawsLists.{Every, Every-right, Every-weaker}

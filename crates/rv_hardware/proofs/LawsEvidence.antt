@@ -1,28 +1,7 @@
 -- What the marks of older instructions show when an instruction starts, is broadcast or is dispatched.
-use Rattle.std.proofs.Common.{◌≡◌, ℕ, ◌+◌, ◌≤◌, ◌<◌, ◌&&◌, Bool, true, false, cond, not, is_some, is_none, nat_le, List, [], ◌∷◌, ◌++◌, map, filter, length, Option, Some, None, IfSome, refl, sym, ◌∙◌, arith, true≢false}
-use Rattle.std.proofs.lemmas.Bool.{leb-false}
-use Rattle.std.proofs.lemmas.List.Sums.{length-filter}
-use Rattle.std.specs.List.{list_all}
-use Rattle.rv_decode.specs.Decodes.{instruction_of}
-use Rattle.rv_isa.specs.declared.broadcast.Message.{Message}
-use Rattle.rv_isa.specs.declared.instructions.Instr.{Instr}
+use Rattle.rv_hardware.proofs.Words.{◌≡◌, ℕ, ◌+◌, ◌<◌, ◌≤◌, Bool, true, false, cond, not, ◌&&◌, List, [], ◌∷◌, ◌++◌, map, length, is_some, is_none, IfSome, nat_le, Some, None, filter, Option, sym, refl, ◌∙◌, true≢false, arith, leb-false, length-filter, list_all, is_of_kind, is_store, kind_of_word, Message, Instr, Issue, Kind, Values, instruction_of, is_known as is_known_store, Store as QueuedStore, Entry, Stage, Finished, Running, Waiting, has_result, result_at, is_stationed, broadcast_of, is_known_from, is_waiting, store_of_broadcast, stores_of, writes, has_operands, last_from, last_that, Execution, Row}
 use Rattle.rv_isa.specs.declared.instructions.Instr.TheVariants.{Store}
-use Rattle.rv_isa.specs.declared.issues.Issue.{Issue}
-use Rattle.rv_isa.specs.declared.operations.Kind.{Kind}
-use Rattle.rv_isa.specs.declared.values.Values.{Values}
-use Rattle.rv_rob.specs.declared.entry.Entry.{Entry}
-use Rattle.rv_rob.specs.declared.entry.Stage.{Stage}
-use Rattle.rv_rob.specs.declared.entry.Stage.TheVariants.{Waiting, Running, Finished}
-use Rattle.rv_stores.specs.declared.store.Store.{Store as QueuedStore}
-use Rattle.rv_stores.specs.Store.{is_known as is_known_store}
-use Rattle.rv_hardware.specs.Broadcast.{has_result, result_at}
-use Rattle.rv_hardware.specs.Dispatch.{is_stationed}
-use Rattle.rv_hardware.specs.InFlight.{broadcast_of, is_known, is_known_from, is_waiting, stores_of, store_of_broadcast, writes}
-use Rattle.rv_isa.specs.Instruction.{is_store, is_of_kind, kind_of_word}
-use Rattle.rv_hardware.specs.Issue.{has_operands}
-use Rattle.rv_hardware.specs.Stamps.{last_from, last_that}
-use Rattle.rv_hardware.specs.declared.step.Execution.{Execution}
-use Rattle.rv_hardware.specs.declared.step.Row.{Row}
+use Rattle.rv_hardware.specs.InFlight.{is_known}
 use Rattle.rv_hardware.proofs.LawsAdvance.{IsBefore, writes_mark, IsKnownMark, OperandsKnown, IsKnownStore, IsSentIfReady, is_in_flight_mark, is_stationed_mark}
 use Rattle.rv_hardware.proofs.LawsBasics.{and_first, and_second}
 use Rattle.rv_hardware.proofs.LawsLists.{Every, Every-append, Every-weaker, Every-map, EveryBehind, count, count-append, count-none, count-map, count-le, count-length, count-count_by}

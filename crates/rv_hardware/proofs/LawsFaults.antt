@@ -1,36 +1,6 @@
 -- A fault that a unit finds is of a branch, a jump, a load or a store.
-use Rattle.std.proofs.Common.{◌≡◌, ℕ, ◌+◌, Bool, true, false, cond, not, is_some, nat_le, List, [], ◌∷◌, ◌++◌, Option, Some, None, refl, sym, ap, subst}
-use Rattle.rv_cache.specs.WriteBack.{Each}
-use Rattle.rv_isa.specs.Comparison.{holds}
-use Rattle.rv_isa.specs.Operation.{bytes_of, width_of}
-use Rattle.rv_isa.specs.Word.{pc_plus}
-use Rattle.rv_isa.specs.declared.broadcast.Message.{Message}
-use Rattle.rv_isa.specs.declared.broadcast.StoreAccess.{StoreAccess}
-use Rattle.rv_isa.specs.declared.causes.Cause.TheVariants.{InstructionAddressMisaligned, LoadAddressMisaligned, LoadAccessFault, StoreAddressMisaligned, StoreAccessFault}
-use Rattle.rv_isa.specs.declared.causes.Fault.{Fault}
-use Rattle.rv_isa.specs.declared.instructions.Instr.{Instr}
-use Rattle.rv_isa.specs.declared.instructions.Instr.TheVariants.{Jal, Jalr, Branch, Load, Store, Csr, Ecall, Ebreak}
-use Rattle.rv_isa.specs.declared.lines.Lines.{Lines}
-use Rattle.rv_isa.specs.declared.operations.Kind.{Kind}
-use Rattle.rv_isa.specs.declared.operations.LoadForm.{LoadForm}
-use Rattle.rv_isa.specs.declared.operations.Width.{Width}
-use Rattle.rv_isa.specs.declared.values.Values.{Values}
-use Rattle.rv_arch.specs.Effect.{Effect, Retires, Faults, effect, goes_to, jumps, branches, loads, stores}
-use Rattle.rv_arch.specs.State.{State, register_of}
-use Rattle.rv_memory.specs.Memory.{Layout, is_aligned, is_in_ram, is_writable}
-use Rattle.rv_rob.specs.Entry.{issue_of, started, finished, predicting}
-use Rattle.rv_rob.specs.declared.entry.Entry.{Entry}
-use Rattle.rv_rob.specs.declared.entry.Stage.{Stage}
-use Rattle.rv_rob.specs.declared.entry.Stage.TheVariants.{Waiting, Running, Finished}
-use Rattle.rv_hardware.specs.Broadcast.{result_at}
-use Rattle.rv_hardware.specs.Dispatch.{entry_of_fetched, stage_by}
-use Rattle.rv_hardware.specs.Hardware.{Hardware}
-use Rattle.rv_hardware.specs.InFlight.{is_waiting}
-use Rattle.rv_isa.specs.Instruction.{is_serialising, is_of_kind, kind_of_word}
-use Rattle.rv_hardware.specs.Reset.{reset_hardware}
-use Rattle.rv_hardware.specs.Result.{access_of, effect_message, result_of_word}
-use Rattle.rv_hardware.specs.Seen.{layout_of, seen_behind}
-use Rattle.rv_hardware.specs.Stamps.{needs_no_unit}
+use Rattle.rv_hardware.proofs.Words.{◌≡◌, ℕ, ◌+◌, Bool, true, false, cond, not, List, [], ◌∷◌, ◌++◌, is_some, nat_le, Some, None, Option, sym, refl, ap, subst, holds, is_of_kind, is_serialising, kind_of_word, bytes_of, width_of, pc_plus, Message, StoreAccess, InstructionAddressMisaligned, LoadAccessFault, LoadAddressMisaligned, StoreAccessFault, StoreAddressMisaligned, Fault, Instr, Branch, Csr, Ebreak, Ecall, Jal, Jalr, Load, Lines, Kind, LoadForm, Width, Values, Layout, is_aligned, is_in_ram, is_writable, Effect, Faults, Retires, branches, effect, goes_to, jumps, loads, stores, State, register_of, Each, finished, issue_of, predicting, started, Entry, Stage, Finished, Running, Waiting, result_at, entry_of_fetched, stage_by, Hardware, is_waiting, reset_hardware, access_of, effect_message, result_of_word, layout_of, seen_behind, needs_no_unit}
+use Rattle.rv_isa.specs.declared.instructions.Instr.TheVariants.{Store}
 use Rattle.rv_hardware.proofs.GapCycle.{IsKept, IsKeptByPhases}
 use Rattle.rv_hardware.proofs.GapEach.{Each-change, Each-push}
 use Rattle.rv_hardware.proofs.GapEntries.{HasShape, HasWordOr, IsShaped, Shaped, shape-kept, shape-at_reset}

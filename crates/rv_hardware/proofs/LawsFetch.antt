@@ -1,11 +1,5 @@
 -- What a cycle's fetch adds to the fetch buffer.
-use Rattle.std.proofs.Common.{◌≡◌, ℕ, zero, suc, ◌-◌, ◌≤◌, ◌<◌, ◌⊎◌, Bool, true, false, MatchBool, MatchOption, List, [], ◌∷◌, ◌++◌, length, Option, Some, None, option_and_then, inl, inr, refl, sym, ap, ◌∙◌, arith, append-nil}
-use Rattle.rv_decode.specs.Decodes.{instruction_of}
-use Rattle.rv_memory.specs.Memory.{Memory}
-use Rattle.rv_front.specs.FetchBuffer.{FetchBuffer, Answers, Fetches, FetchesInto, EndsFor, is_halted, stop_behind}
-use Rattle.rv_front.specs.declared.fetched.Fetched.{Fetched}
-use Rattle.rv_front.specs.declared.fetched.FetchStop.{FetchStop}
-use Rattle.rv_front.specs.declared.fetched.FetchStop.TheVariants.{Halted}
+use Rattle.rv_hardware.proofs.Words.{◌≡◌, ℕ, zero, suc, ◌-◌, ◌<◌, ◌≤◌, Bool, true, false, ◌⊎◌, List, [], ◌∷◌, ◌++◌, length, Some, None, MatchBool, Option, MatchOption, option_and_then, sym, refl, ap, ◌∙◌, inl, inr, append-nil, arith, instruction_of, Memory, Answers, EndsFor, FetchBuffer, Fetches, FetchesInto, is_halted, stop_behind, FetchStop, Halted, Fetched}
 use Rattle.rv_hardware.proofs.LawsLists.{Every}
 
 -- a word that a fetch adds

@@ -1,19 +1,6 @@
 -- No pipelined unit is idle while an instruction that is no load has its operands.
-use Rattle.std.proofs.Common.{◌≡◌, ℕ, ◌≤◌, ◌<◌, ◌&&◌, ◌||◌, not, Bool, true, false, cond, is_some, List, [], ◌∷◌, ◌++◌, map, Option, Some, None, IfSome, refl, sym, subst, ap, ◌∙◌, arith, true≢false, append_assoc}
-use Rattle.rv_isa.specs.declared.instructions.Instr.{Instr}
-use Rattle.rv_isa.specs.declared.operations.Kind.{Kind}
-use Rattle.rv_isa.specs.declared.values.Values.{Values}
-use Rattle.rv_front.specs.declared.fetched.Fetched.{Fetched}
-use Rattle.rv_rob.specs.declared.entry.Entry.{Entry}
-use Rattle.rv_rob.specs.declared.entry.Stage.{Stage}
-use Rattle.rv_rob.specs.declared.entry.Stage.TheVariants.{Waiting, Running, Finished}
-use Rattle.rv_hardware.specs.Hardware.{Hardware}
-use Rattle.rv_hardware.specs.InFlight.{broadcast_of, is_known, is_known_from, is_waiting, writes}
-use Rattle.rv_isa.specs.Instruction.{is_serialising, is_target, target_of_word, is_load, is_of_kind, kind_of_word, sources_of_word}
-use Rattle.rv_hardware.specs.Issue.{has_operands, is_ready, may_load}
-use Rattle.rv_hardware.specs.Stamps.{last_from, last_that}
-use Rattle.rv_hardware.specs.declared.step.Execution.{Execution}
-use Rattle.rv_hardware.specs.declared.step.Row.{Row}
+use Rattle.rv_hardware.proofs.Words.{◌≡◌, ℕ, ◌<◌, ◌≤◌, Bool, true, false, cond, not, ◌&&◌, ◌||◌, List, [], ◌∷◌, ◌++◌, map, is_some, IfSome, Some, None, Option, sym, refl, ap, ◌∙◌, subst, true≢false, append_assoc, arith, is_load, is_of_kind, is_serialising, is_target, kind_of_word, sources_of_word, target_of_word, Instr, Kind, Values, Entry, Stage, Finished, Running, Waiting, Fetched, Hardware, broadcast_of, is_known_from, is_waiting, writes, has_operands, is_ready, may_load, last_from, last_that, Execution, Row}
+use Rattle.rv_hardware.specs.InFlight.{is_known}
 use Rattle.rv_hardware.proofs.LawsAdvance.{IsBefore, writes_mark, IsKnownMark, OperandsKnown, Advances, retires, starts, is_sent, enters, Kept}
 use Rattle.rv_hardware.proofs.LawsBasics.{and_second, and_both}
 use Rattle.rv_hardware.proofs.LawsEvidence.{last_from-append}

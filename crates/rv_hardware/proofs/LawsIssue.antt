@@ -1,17 +1,5 @@
 -- What a turn of the issue phase does.
-use Rattle.std.proofs.Common.{◌≡◌, ℕ, ◌+◌, Bool, true, false, cond, List, [], ◌∷◌, ◌++◌, length, Option, Some, None, refl, ap, ◌∙◌}
-use Rattle.rv_isa.specs.PerKind.{at_kind}
-use Rattle.rv_isa.specs.declared.broadcast.Message.{Message}
-use Rattle.rv_isa.specs.declared.operations.Kind.{Kind}
-use Rattle.rv_rob.specs.Entry.{started}
-use Rattle.rv_rob.specs.ReorderBuffer.{with_entry}
-use Rattle.rv_rob.specs.declared.entry.Entry.{Entry}
-use Rattle.rv_units.specs.Pool.{is_free}
-use Rattle.rv_hardware.specs.Hardware.{Hardware}
-use Rattle.rv_hardware.specs.Issue.{Path, Without, FromStores, FromCache, path, cost_of, with_access, is_ready, issued, issue_oldest, issue_turn, oldest}
-use Rattle.rv_hardware.specs.Repeated.{Turn, GoesOn, Ends}
-use Rattle.rv_hardware.specs.Result.{result_of_word}
-use Rattle.rv_hardware.specs.Seen.{layout_of, seen_behind}
+use Rattle.rv_hardware.proofs.Words.{◌≡◌, ℕ, ◌+◌, Bool, true, false, cond, List, [], ◌∷◌, ◌++◌, length, Some, None, Option, refl, ap, ◌∙◌, at_kind, Message, Kind, is_free, started, with_entry, Entry, Hardware, FromCache, FromStores, Path, Without, cost_of, is_ready, issue_oldest, issue_turn, issued, oldest, path, with_access, Ends, GoesOn, Turn, result_of_word, layout_of, seen_behind}
 use Rattle.rv_hardware.proofs.LawsLists.{EveryBehind}
 use Rattle.rv_hardware.proofs.LawsOldest.{Finds, oldest_finds, with_entry-behind}
 

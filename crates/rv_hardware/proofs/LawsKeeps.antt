@@ -1,13 +1,6 @@
 -- What every cycle keeps holds in every history, and what turns of the commit phase keep beside what is basic.
-use Rattle.std.proofs.Common.{ℕ, Bool, List}
-use Rattle.std.specs.Ordering.{nat_cmp}
+use Rattle.rv_hardware.proofs.Words.{ℕ, Bool, List, nat_cmp, Values, Committing, commit_turn, Hardware, Ends, GoesOn, Turn, repeated, reset_hardware, Step}
 use Rattle.std.specs.FinSet as set
-use Rattle.rv_isa.specs.declared.values.Values.{Values}
-use Rattle.rv_hardware.specs.Commit.{Committing, commit_turn}
-use Rattle.rv_hardware.specs.Hardware.{Hardware}
-use Rattle.rv_hardware.specs.Repeated.{Turn, GoesOn, Ends, repeated}
-use Rattle.rv_hardware.specs.Reset.{reset_hardware}
-use Rattle.rv_hardware.specs.declared.step.Step.{Step}
 use Rattle.rv_hardware.proofs.GapCycle.{IsKept, cycle-keeps}
 use Rattle.rv_hardware.proofs.LawsCommit.{CommitTurn, commit_turn_is}
 use Rattle.rv_hardware.proofs.LawsCycle.{Anything, anything_is_kept, History, began, went_on}

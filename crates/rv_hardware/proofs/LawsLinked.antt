@@ -1,7 +1,5 @@
 -- Marks of which each tells why the next one was not fetched earlier.
-use Rattle.std.proofs.Common.{◌≡◌, ℕ, suc, ◌+◌, ◌≤◌, ◌<◌, ◌⊎◌, ◌&&◌, Bool, true, false, cond, List, [], ◌∷◌, ◌++◌, length, Option, Some, None, inl, inr, refl, sym, subst, ap, ◌∙◌, arith, append_assoc, length-append}
-use Rattle.rv_isa.specs.declared.values.Recovery.TheVariants.{Early}
-use Rattle.rv_isa.specs.declared.values.Values.{Values}
+use Rattle.rv_hardware.proofs.Words.{◌≡◌, ℕ, suc, ◌+◌, ◌<◌, ◌≤◌, Bool, true, false, cond, ◌&&◌, ◌⊎◌, List, [], ◌∷◌, ◌++◌, length, Some, None, Option, sym, refl, ap, ◌∙◌, subst, inl, inr, append_assoc, arith, length-append, Early, Values}
 use Rattle.rv_hardware.proofs.LawsAdvance.{Advances, Kept, retires, starts, is_sent, enters, advances_agree}
 use Rattle.rv_hardware.proofs.LawsCycle.{is_buffered_mark}
 use Rattle.rv_hardware.proofs.LawsLists.{Every, count}

@@ -1,26 +1,7 @@
 -- In each phase instructions and words only go on, or what is younger is squashed and fetch begins anew.
-use Rattle.std.proofs.Common.{◌≡◌, ℕ, ◌+◌, ◌⊎◌, Bool, true, false, List, [], ◌∷◌, ◌++◌, map, length, Option, Some, None, inl, inr, refl, sym, ap, ◌∙◌, arith, append_assoc, length-append}
-use Rattle.std.proofs.lemmas.List.{length-map}
-use Rattle.std.specs.Ordering.{nat_cmp}
+use Rattle.rv_hardware.proofs.Words.{◌≡◌, ℕ, ◌+◌, Bool, true, false, ◌⊎◌, List, [], ◌∷◌, ◌++◌, map, length, Some, None, Option, nat_cmp, sym, refl, ap, ◌∙◌, inl, inr, append_assoc, arith, length-append, length-map, Kind, Commit, Early, Values, finished, predicting, started, Entry, Fetched, broadcast, broadcast_turn, is_mispredicted, mends_early, Committing, commit_turn, commit_unless, dispatch, entry_of_fetched, drain, Hardware, issue, Turn, written_of, rows_of, Step, Retired}
 use Rattle.std.specs.FinSet as set
-use Rattle.rv_isa.specs.declared.operations.Kind.{Kind}
 use Rattle.rv_isa.specs.declared.values.Recovery.{Recovery}
-use Rattle.rv_isa.specs.declared.values.Recovery.TheVariants.{Commit, Early}
-use Rattle.rv_isa.specs.declared.values.Values.{Values}
-use Rattle.rv_front.specs.declared.fetched.Fetched.{Fetched}
-use Rattle.rv_rob.specs.Entry.{started, finished, predicting}
-use Rattle.rv_rob.specs.declared.entry.Entry.{Entry}
-use Rattle.rv_hardware.specs.Broadcast.{broadcast, broadcast_turn, is_mispredicted, mends_early}
-use Rattle.rv_hardware.specs.Commit.{Committing, commit_unless, commit_turn}
-use Rattle.rv_hardware.specs.Dispatch.{dispatch, entry_of_fetched}
-use Rattle.rv_hardware.specs.Drain.{drain}
-use Rattle.rv_hardware.specs.Hardware.{Hardware}
-use Rattle.rv_hardware.specs.Issue.{issue}
-use Rattle.rv_hardware.specs.Repeated.{Turn}
-use Rattle.rv_hardware.specs.Retirement.{written_of}
-use Rattle.rv_hardware.specs.Stamps.{rows_of}
-use Rattle.rv_hardware.specs.declared.step.Step.{Step}
-use Rattle.rv_hardware.specs.declared.step.Step.TheVariants.{Retired}
 use Rattle.rv_hardware.proofs.GapDispatch.{IsKeptByDispatch, dispatch-keeps}
 use Rattle.rv_hardware.proofs.GapDrain.{IsKeptByDrain, drain-keeps}
 use Rattle.rv_hardware.proofs.GapIssue.{IsKeptByIssue, issue-keeps}

@@ -1,21 +1,6 @@
 -- Fetch waits for nothing but room: of marks.
-use Rattle.std.proofs.Common.{◌≡◌, ℕ, ◌+◌, ◌-◌, ◌≤◌, ◌<◌, ◌⊎◌, true, false, List, [], ◌∷◌, ◌++◌, map, length, Option, Some, None, inl, inr, refl, sym, subst, ap, ◌∙◌, arith, append-nil, length-append, true≢false}
-use Rattle.std.proofs.lemmas.Bool.{cases_lt}
+use Rattle.rv_hardware.proofs.Words.{◌≡◌, ℕ, ◌+◌, ◌-◌, ◌<◌, ◌≤◌, true, false, ◌⊎◌, List, [], ◌∷◌, ◌++◌, map, length, Some, None, Option, sym, refl, ap, ◌∙◌, subst, inl, inr, true≢false, append-nil, arith, length-append, cases_lt, Lines, Early, Values, due, FetchBuffer, Fetched, Committing, IsCycle, any_prediction, execute, with_lines, Dispatching, Hardware, Report, rows_of, Row, Step}
 use Rattle.std.specs.FinSet as set
-use Rattle.rv_isa.specs.declared.lines.Lines.{Lines}
-use Rattle.rv_isa.specs.declared.values.Recovery.TheVariants.{Early}
-use Rattle.rv_isa.specs.declared.values.Values.{Values}
-use Rattle.rv_arch.specs.Due.{due}
-use Rattle.rv_front.specs.FetchBuffer.{FetchBuffer}
-use Rattle.rv_front.specs.declared.fetched.Fetched.{Fetched}
-use Rattle.rv_hardware.specs.Cycle.{IsCycle, any_prediction, execute, with_lines}
-use Rattle.rv_hardware.specs.Commit.{Committing}
-use Rattle.rv_hardware.specs.Dispatch.{Dispatching}
-use Rattle.rv_hardware.specs.Hardware.{Hardware}
-use Rattle.rv_hardware.specs.Report.{Report}
-use Rattle.rv_hardware.specs.Stamps.{rows_of}
-use Rattle.rv_hardware.specs.declared.step.Row.{Row}
-use Rattle.rv_hardware.specs.declared.step.Step.{Step}
 use Rattle.rv_hardware.proofs.GapFetch.{fetch-cases}
 use Rattle.rv_hardware.proofs.LawsCounted.{count-as_of}
 use Rattle.rv_hardware.proofs.LawsCycle.{Passed, History, began, went_on, is_buffered_mark, buffered_words, committing, issued_all, dispatching, cycle_passes, history_is_legal, history_is_sound}

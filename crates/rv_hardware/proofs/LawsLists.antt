@@ -1,9 +1,6 @@
 -- Lists: what holds of every element, counts, beginnings, and the place of an element.
-use Rattle.std.proofs.Common.{◌≡◌, ℕ, suc, ◌+◌, ◌≤◌, Bool, true, false, cond, List, [], ◌∷◌, ◌++◌, map, filter, length, All, AllPairs, count_by, refl, sym, ap, ◌∙◌, arith, append_assoc, append-nil}
-use Rattle.std.proofs.lemmas.List.Elements.{All-cons, All-nil}
-use Rattle.std.proofs.lemmas.List.Kept.{AllPairs-cons}
+use Rattle.rv_hardware.proofs.Words.{◌≡◌, ℕ, suc, ◌+◌, ◌≤◌, Bool, true, false, cond, List, [], ◌∷◌, ◌++◌, map, length, All, count_by, filter, AllPairs, sym, refl, ap, ◌∙◌, append_assoc, append-nil, arith, All-cons, All-nil, AllPairs-cons, EachBehind}
 use Rattle.std.proofs.lemmas.List.Recursion.{is_count_by}
-use Rattle.rv_hardware.specs.Stamps.{EachBehind}
 
 -- P of each element, by recursion
 abbrev pub Every : {X : Type 0} → (X → Type 0) → List X → Type 0

@@ -1,21 +1,5 @@
 -- The marks of a run's rows, of the instructions in flight and of the fetched words, and these as they stood at the end of a cycle.
-use Rattle.std.proofs.Common.{◌≡◌, ℕ, ◌<◌, ◌≤◌, Bool, true, false, cond, nat_le, if◌then◌else◌, List, [], ◌∷◌, ◌++◌, map, filter, Option, Some, None, is_some, refl, sym, ap, ◌∙◌, arith, append_assoc, append-nil}
-use Rattle.std.proofs.lemmas.Bool.{lt-leb}
-use Rattle.std.proofs.lemmas.List.Elements.{filter-append}
-use Rattle.rv_decode.specs.Decodes.{instruction_of}
-use Rattle.rv_isa.specs.declared.instructions.Instr.{Instr}
-use Rattle.rv_isa.specs.declared.issues.Issue.{Issue}
-use Rattle.rv_isa.specs.declared.broadcast.Message.{Message}
-use Rattle.rv_front.specs.declared.fetched.Fetched.{Fetched}
-use Rattle.rv_rob.specs.declared.entry.Entry.{Entry}
-use Rattle.rv_rob.specs.declared.entry.Stage.{Stage}
-use Rattle.rv_rob.specs.declared.entry.Stage.TheVariants.{Waiting, Running, Finished}
-use Rattle.rv_hardware.specs.Hardware.{Hardware}
-use Rattle.rv_hardware.specs.Stamps.{rows_of}
-use Rattle.rv_hardware.specs.declared.step.Execution.{Execution}
-use Rattle.rv_hardware.specs.declared.step.Row.{Row}
-use Rattle.rv_hardware.specs.declared.step.Step.{Step}
-use Rattle.rv_hardware.specs.declared.step.Step.TheVariants.{Retired, Trap, Interrupt}
+use Rattle.rv_hardware.proofs.Words.{◌≡◌, ℕ, ◌<◌, ◌≤◌, Bool, true, false, cond, List, [], ◌∷◌, ◌++◌, map, is_some, if◌then◌else◌, nat_le, Some, None, filter, Option, sym, refl, ap, ◌∙◌, append_assoc, append-nil, arith, lt-leb, filter-append, Message, Instr, Issue, instruction_of, Entry, Stage, Finished, Running, Waiting, Fetched, Hardware, rows_of, Execution, Row, Step, Interrupt, Retired, Trap}
 use Rattle.rv_hardware.proofs.LawsLists.{Every, Every-weaker, Beginning, Beginning-self, Beginning-trans}
 
 -- the start of an execution, and whether what it gives is a fault

@@ -1,25 +1,6 @@
 -- The next instruction of the program, the oldest in flight or else the oldest fetched word, and what becomes of it after commit.
-use Rattle.std.proofs.Common.{◌≡◌, ℕ, ◌+◌, ◌≤◌, ◌⊎◌, ◌&&◌, Bool, true, false, List, [], ◌∷◌, ◌++◌, Option, Some, None, inr, subst, arith}
-use Rattle.std.specs.Ordering.{nat_cmp}
+use Rattle.rv_hardware.proofs.Words.{◌≡◌, ℕ, ◌+◌, ◌≤◌, Bool, true, false, ◌&&◌, ◌⊎◌, List, [], ◌∷◌, ◌++◌, Some, None, Option, nat_cmp, subst, inr, arith, is_fence_i, is_serialising, is_store, kind_of_word, Message, Instr, Kind, word_of, finished, issue_of, predicting, started, Entry, Stage, Finished, Running, Waiting, Fetched, broadcast, result_at, execute, entry_of_fetched, stage_by, drain, Hardware, issue, result_of_word, layout_of, seen_behind}
 use Rattle.std.specs.FinSet as set
-use Rattle.rv_isa.specs.declared.broadcast.Message.{Message}
-use Rattle.rv_isa.specs.declared.instructions.Instr.{Instr}
-use Rattle.rv_isa.specs.declared.operations.Kind.{Kind}
-use Rattle.rv_memory.specs.Memory.{word_of}
-use Rattle.rv_front.specs.declared.fetched.Fetched.{Fetched}
-use Rattle.rv_rob.specs.Entry.{issue_of, started, finished, predicting}
-use Rattle.rv_rob.specs.declared.entry.Entry.{Entry}
-use Rattle.rv_rob.specs.declared.entry.Stage.{Stage}
-use Rattle.rv_rob.specs.declared.entry.Stage.TheVariants.{Waiting, Running, Finished}
-use Rattle.rv_hardware.specs.Broadcast.{broadcast, result_at}
-use Rattle.rv_hardware.specs.Cycle.{execute}
-use Rattle.rv_hardware.specs.Dispatch.{entry_of_fetched, stage_by}
-use Rattle.rv_hardware.specs.Drain.{drain}
-use Rattle.rv_hardware.specs.Hardware.{Hardware}
-use Rattle.rv_isa.specs.Instruction.{is_serialising, is_store, kind_of_word, is_fence_i}
-use Rattle.rv_hardware.specs.Issue.{issue}
-use Rattle.rv_hardware.specs.Result.{result_of_word}
-use Rattle.rv_hardware.specs.Seen.{layout_of, seen_behind}
 use Rattle.rv_hardware.proofs.GapBroadcast.{IsKeptByBroadcast, broadcast-keeps}
 use Rattle.rv_hardware.proofs.GapDispatch.{IsKeptByDispatch, dispatch-keeps}
 use Rattle.rv_hardware.proofs.GapDrain.{IsKeptByDrain, drain-keeps}

@@ -1,21 +1,6 @@
 -- What a single cycle reports: an interrupt that is due is its one step; it dispatches something or stalls for one reason.
-use Rattle.std.proofs.Common.{◌≡◌, ℕ, ◌+◌, ◌==◌, List, [], ◌∷◌, ◌++◌, length, All, Option, Some, None, sym, subst, ap, ◌∙◌, arith}
+use Rattle.rv_hardware.proofs.Words.{◌≡◌, ℕ, ◌+◌, List, [], ◌∷◌, ◌++◌, length, ◌==◌, Some, None, All, Option, sym, ap, ◌∙◌, subst, arith, Arrival, Lines, Values, due, interrupt_cause, Committing, commit_unless, IsCycle, any_prediction, with_lines, stall_of, Hardware, stall_cycles, Report, Cycles, Reachable, busy_of, cycled, ended, stalls_of, stamp_of, Step, Interrupt}
 use Rattle.std.specs.FinSet as set
-use Rattle.rv_isa.specs.declared.lines.Arrival.{Arrival}
-use Rattle.rv_isa.specs.declared.lines.Lines.{Lines}
-use Rattle.rv_isa.specs.declared.values.Values.{Values}
-use Rattle.rv_arch.specs.Due.{due}
-use Rattle.rv_arch.specs.Trap.{interrupt_cause}
-use Rattle.rv_hardware.specs.Commit.{Committing, commit_unless}
-use Rattle.rv_hardware.specs.Cycle.{IsCycle, any_prediction, with_lines}
-use Rattle.rv_hardware.specs.Dispatch.{stall_of}
-use Rattle.rv_hardware.specs.Hardware.{Hardware}
-use Rattle.rv_hardware.specs.Laws.{stall_cycles}
-use Rattle.rv_hardware.specs.Report.{Report}
-use Rattle.rv_hardware.specs.Run.{Reachable, Cycles, ended, cycled, busy_of, stalls_of}
-use Rattle.rv_hardware.specs.Step.{stamp_of}
-use Rattle.rv_hardware.specs.declared.step.Step.{Step}
-use Rattle.rv_hardware.specs.declared.step.Step.TheVariants.{Interrupt}
 use Rattle.rv_hardware.proofs.LawsCounts.{IsCounted, AllTell, dispatch_tells, busy_and_stalls}
 use Rattle.rv_hardware.proofs.LawsCycle.{Anything, anything_is_kept, History, went_on, Passed, cycle_passes, history_is_legal, history_is_sound, reachable_has_history, sent_all, dispatching}
 use Rattle.rv_hardware.proofs.LawsLists.{All-Every}

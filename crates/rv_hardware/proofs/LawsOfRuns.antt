@@ -1,24 +1,9 @@
 -- The laws hold of every run of the hardware, on hardware that was just reset and on hardware that has run.
-use Rattle.std.proofs.Common.{◌≡◌, ℕ, suc, ◌+◌, ◌≤◌, ◌<◌, ◌==◌, Bool, true, false, cond, List, [], ◌∷◌, ◌++◌, count_by, All, AllPairs, Option, Some, None, IfSome, inl, inr, refl, sym, subst, ap, ◌∙◌, arith, append_assoc, append-nil}
-use Rattle.std.proofs.lemmas.List.Elements.{All-tail, All-append, All-weaker}
-use Rattle.rv_isa.specs.PerKind.{at_kind}
-use Rattle.rv_isa.specs.declared.lines.Arrival.{Arrival}
-use Rattle.rv_isa.specs.declared.operations.Kind.{Kind}
-use Rattle.rv_isa.specs.declared.values.Values.{Values}
-use Rattle.rv_hardware.specs.Hardware.{Hardware}
-use Rattle.rv_hardware.specs.Laws.{Laws, IssuesWithOperands, EachProducer, LeavesNoBusIdle, WaitsForBus, is_pipelined, units_of, LeaveNoUnitIdle, LeavesNoUnitIdle, WaitsForUnits, WaitsForRoom, LacksRoom, LoadsAfterStore, IsBroadcastFirst, AreApartAtPort, DoesNotWait, IsFetchedAhead, IsTrappedSoon, HasOperandsIn, HasOrderedStamps, HasCost, IsKnownBefore, IsFetchedBehind, IsFetchedSince}
-use Rattle.rv_hardware.specs.Report.{Report}
-use Rattle.rv_hardware.specs.Run.{Reachable, Cycles, ended, cycled, steps_of}
-use Rattle.rv_hardware.specs.Stamps.{rows_of, EachBehind, EachNext, last_from, sources_of_row, writes_register, producer_among, flushes, is_fetched_in, is_dispatched_in, is_issued_in, is_broadcast_in, is_buffered_in, is_in_flight_in, is_stationed_in, is_executing_in, is_queued_in}
-use Rattle.rv_hardware.specs.Step.{stamp_of, is_interrupt}
-use Rattle.rv_hardware.specs.declared.step.Execution.{Execution}
-use Rattle.rv_hardware.specs.declared.step.Row.{Row}
-use Rattle.rv_hardware.specs.declared.step.Step.{Step}
+use Rattle.rv_hardware.proofs.Words.{◌≡◌, ℕ, suc, ◌+◌, ◌<◌, ◌≤◌, Bool, true, false, cond, List, [], ◌∷◌, ◌++◌, IfSome, ◌==◌, Some, None, All, count_by, Option, AllPairs, sym, refl, ap, ◌∙◌, subst, inl, inr, append_assoc, append-nil, arith, All-append, All-tail, All-weaker, at_kind, Arrival, Kind, Values, Hardware, AreApartAtPort, DoesNotWait, EachProducer, HasCost, HasOperandsIn, HasOrderedStamps, IsBroadcastFirst, IsFetchedAhead, IsFetchedBehind, IsFetchedSince, IsKnownBefore, IsTrappedSoon, IssuesWithOperands, LacksRoom, Laws, LeaveNoUnitIdle, LeavesNoBusIdle, LeavesNoUnitIdle, LoadsAfterStore, WaitsForBus, WaitsForRoom, WaitsForUnits, is_pipelined, units_of, Report, Cycles, Reachable, cycled, ended, steps_of, EachBehind, EachNext, flushes, is_broadcast_in, is_buffered_in, is_dispatched_in, is_executing_in, is_fetched_in, is_in_flight_in, is_issued_in, is_queued_in, is_stationed_in, last_from, producer_among, rows_of, sources_of_row, writes_register, is_interrupt, stamp_of, Execution, Row, Step, Interrupt, Retired, Trap}
 use Rattle.rv_hardware.proofs.Laws.HeadsDoNotWait.{law_of_heads_do_not_wait}
 use Rattle.rv_hardware.proofs.Laws.FetchedAhead.{law_of_fetched_ahead}
 use Rattle.rv_hardware.proofs.Laws.TrapsSoon.{law_of_traps_soon}
 use Rattle.rv_hardware.proofs.Laws.FirstRow.{law_of_first_row}
-use Rattle.rv_hardware.specs.declared.step.Step.TheVariants.{Retired, Trap, Interrupt}
 use Rattle.rv_hardware.proofs.LawsCounted.{Shows, fails_later}
 use Rattle.rv_hardware.proofs.LawsCycle.{History, went_on, reachable_has_history, history_is_sound, history_is_legal}
 use Rattle.rv_hardware.proofs.LawsOfCycles.{passes_here}

@@ -1,8 +1,5 @@
 -- The oldest instruction that passes a test stands after some that do not, and a change of it changes nothing else.
-use Rattle.std.proofs.Common.{◌≡◌, ℕ, suc, ◌+◌, ◌≤◌, Bool, true, false, cond, List, [], ◌∷◌, ◌++◌, length, Option, Some, None, refl, sym, ap, ◌∙◌, arith, append_assoc, append-nil, eq-eqb, ne_eqb, lt-ltb, le-ltb}
-use Rattle.rv_rob.specs.ReorderBuffer.{with_entry, entries_below}
-use Rattle.rv_rob.specs.declared.entry.Entry.{Entry}
-use Rattle.rv_hardware.specs.Issue.{oldest, oldest_from}
+use Rattle.rv_hardware.proofs.Words.{◌≡◌, ℕ, suc, ◌+◌, ◌≤◌, Bool, true, false, cond, List, [], ◌∷◌, ◌++◌, length, Some, None, Option, sym, refl, ap, ◌∙◌, append_assoc, append-nil, arith, le-ltb, lt-ltb, eq-eqb, ne_eqb, entries_below, with_entry, Entry, oldest, oldest_from}
 use Rattle.rv_hardware.proofs.LawsLists.{EveryBehind, EveryBehind-append}
 
 -- what a search for the oldest finds

@@ -1,12 +1,5 @@
 -- An instruction starts after the broadcasts of its operands' producers, and a load after those of all older stores.
-use Rattle.std.proofs.Common.{◌≡◌, ℕ, Bool, true, false, cond, is_some, List, [], ◌∷◌, ◌++◌, map, Option, Some, None, IfSome, sym, subst, ap}
-use Rattle.rv_isa.specs.declared.instructions.Instr.{Instr}
-use Rattle.rv_isa.specs.declared.values.Values.{Values}
-use Rattle.rv_front.specs.declared.fetched.Fetched.{Fetched}
-use Rattle.rv_hardware.specs.Hardware.{Hardware}
-use Rattle.rv_isa.specs.Instruction.{is_store, is_target, target_of_word, is_load, kind_of_word, sources_of_word}
-use Rattle.rv_hardware.specs.Stamps.{last_from, last_that}
-use Rattle.rv_hardware.specs.declared.step.Step.{Step}
+use Rattle.rv_hardware.proofs.Words.{◌≡◌, ℕ, Bool, true, false, cond, List, [], ◌∷◌, ◌++◌, map, is_some, IfSome, Some, None, Option, sym, ap, subst, is_load, is_store, is_target, kind_of_word, sources_of_word, target_of_word, Instr, Values, Fetched, Hardware, last_from, last_that, Step}
 use Rattle.rv_hardware.proofs.LawsAdvance.{IsBefore, Advances, retires, starts, is_sent, enters, Starts, writes_mark, IsKnownMark, OperandsKnown, IsKnownStore}
 use Rattle.rv_hardware.proofs.LawsCycle.{KeptMarks, History, marks_of_history}
 use Rattle.rv_hardware.proofs.LawsEvidence.{last_from-append}

@@ -1,13 +1,5 @@
 -- Instructions are fetched and dispatched in order, and the reorder buffer and the stations hold no more than they have room for.
-use Rattle.std.proofs.Common.{◌≡◌, ℕ, ◌+◌, ◌≤◌, ◌<◌, ◌&&◌, Bool, true, false, is_some, is_none, List, [], ◌∷◌, ◌++◌, map, Option, Some, None, IfSome, refl, sym, subst, ap, ◌∙◌, arith}
-use Rattle.std.proofs.lemmas.Bool.{and_left, and_right}
-use Rattle.rv_isa.specs.PerKind.{at_kind}
-use Rattle.rv_isa.specs.declared.operations.Kind.{Kind}
-use Rattle.rv_isa.specs.declared.values.Values.{Values}
-use Rattle.rv_front.specs.declared.fetched.Fetched.{Fetched}
-use Rattle.rv_hardware.specs.Hardware.{Hardware}
-use Rattle.rv_isa.specs.Instruction.{is_of_kind, kind_of_word}
-use Rattle.rv_hardware.specs.declared.step.Step.{Step}
+use Rattle.rv_hardware.proofs.Words.{◌≡◌, ℕ, ◌+◌, ◌<◌, ◌≤◌, Bool, true, false, ◌&&◌, List, [], ◌∷◌, ◌++◌, map, is_some, is_none, IfSome, Some, None, Option, sym, refl, ap, ◌∙◌, subst, arith, and_left, and_right, is_of_kind, kind_of_word, at_kind, Kind, Values, Fetched, Hardware, Step}
 use Rattle.rv_hardware.proofs.LawsAdvance.{IsBefore, Advances, retires, starts, is_sent, enters, Enters, is_in_flight_mark, is_stationed_mark}
 use Rattle.rv_hardware.proofs.LawsBasics.{and_second}
 use Rattle.rv_hardware.proofs.LawsCycle.{NewWords, is_buffered_mark, KeptMarks, History, marks_of_history}

@@ -1,14 +1,5 @@
 -- Rows after others: from pairs of marks to pairs of rows, and what is known of older rows.
-use Rattle.std.proofs.Common.{◌≡◌, ℕ, ◌≤◌, true, List, [], ◌∷◌, ◌++◌, map, Option, Some, None, refl}
-use Rattle.rv_isa.specs.declared.instructions.Instr.{Instr}
-use Rattle.rv_isa.specs.declared.instructions.Instr.TheVariants.{Csr, FenceI, Mret}
-use Rattle.rv_isa.specs.declared.values.Values.{Values}
-use Rattle.rv_hardware.specs.Hardware.{Hardware}
-use Rattle.rv_isa.specs.Instruction.{is_serialising, is_target, target_of_word, kind_of_word}
-use Rattle.rv_hardware.specs.Stamps.{rows_of, instruction_of_row}
-use Rattle.rv_hardware.specs.declared.step.Row.{Row}
-use Rattle.rv_hardware.specs.declared.step.Step.{Step}
-use Rattle.rv_hardware.specs.declared.step.Step.TheVariants.{Retired, Trap, Interrupt}
+use Rattle.rv_hardware.proofs.Words.{◌≡◌, ℕ, ◌≤◌, true, List, [], ◌∷◌, ◌++◌, map, Some, None, Option, refl, is_serialising, is_target, kind_of_word, target_of_word, Instr, Csr, FenceI, Mret, Values, Hardware, instruction_of_row, rows_of, Row, Step, Interrupt, Retired, Trap}
 use Rattle.rv_hardware.proofs.LawsCycle.{History, history_is_sound}
 use Rattle.rv_hardware.proofs.LawsLists.{Every, Every-append, Every-both, EveryPair, EveryPair-left, EveryPair-unmap, EveryPair-weaker, EveryBehind, EveryBehind-left, EveryBehind-unmap, EveryBehind-EveryPair}
 use Rattle.rv_hardware.proofs.LawsMarks.{Mark, marks_in, mark_of_row, mark_of_entry, mark_of_fetched}

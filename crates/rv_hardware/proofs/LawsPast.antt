@@ -1,19 +1,5 @@
 -- What each cycle obeys at its end is so of the marks as they stood then, ever after.
-use Rattle.std.proofs.Common.{◌≡◌, ℕ, ◌+◌, ◌≤◌, ◌<◌, false, List, [], ◌∷◌, ◌++◌, map, Option, Some, None, IfSome, inl, inr, refl, sym, subst, ap, arith, le-leb}
-use Rattle.std.proofs.lemmas.Bool.{cases_lt}
-use Rattle.rv_isa.specs.declared.instructions.Instr.{Instr}
-use Rattle.rv_isa.specs.declared.lines.Lines.{Lines}
-use Rattle.rv_isa.specs.declared.values.Values.{Values}
-use Rattle.rv_front.specs.declared.fetched.Fetched.{Fetched}
-use Rattle.rv_rob.specs.declared.entry.Entry.{Entry}
-use Rattle.rv_rob.specs.declared.entry.Stage.{Stage}
-use Rattle.rv_rob.specs.declared.entry.Stage.TheVariants.{Waiting, Running, Finished}
-use Rattle.rv_hardware.specs.Hardware.{Hardware}
-use Rattle.rv_hardware.specs.Report.{Report}
-use Rattle.rv_hardware.specs.Stamps.{rows_of}
-use Rattle.rv_hardware.specs.declared.step.Execution.{Execution}
-use Rattle.rv_hardware.specs.declared.step.Row.{Row}
-use Rattle.rv_hardware.specs.declared.step.Step.{Step}
+use Rattle.rv_hardware.proofs.Words.{◌≡◌, ℕ, ◌+◌, ◌<◌, ◌≤◌, false, List, [], ◌∷◌, ◌++◌, map, IfSome, Some, None, Option, sym, refl, ap, subst, inl, inr, arith, le-leb, cases_lt, Instr, Lines, Values, Entry, Stage, Finished, Running, Waiting, Fetched, Hardware, Report, rows_of, Execution, Row, Step}
 use Rattle.rv_hardware.proofs.LawsBasics.{Basics}
 use Rattle.rv_hardware.proofs.LawsAdvance.{extends_kept}
 use Rattle.rv_hardware.proofs.LawsFetch.{IsNew}

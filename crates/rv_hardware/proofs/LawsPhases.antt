@@ -1,39 +1,7 @@
 -- Every phase keeps what is basic, turn by turn, and its marks go on.
-use Rattle.std.proofs.Common.{◌≡◌, ℕ, ◌+◌, ◌≤◌, ◌<◌, ◌&&◌, ◌||◌, not, Bool, true, false, cond, nat_le, List, [], ◌∷◌, ◌++◌, map, filter, length, Option, Some, None, refl, sym, subst, ap, ◌∙◌, arith, append_assoc, append-nil}
-use Rattle.std.proofs.lemmas.Bool.{leb-false}
-use Rattle.std.specs.List.{list_all}
-use Rattle.std.specs.Ordering.{nat_cmp}
+use Rattle.rv_hardware.proofs.Words.{◌≡◌, ℕ, ◌+◌, ◌<◌, ◌≤◌, Bool, true, false, cond, not, ◌&&◌, ◌||◌, List, [], ◌∷◌, ◌++◌, map, length, nat_le, Some, None, filter, Option, nat_cmp, sym, refl, ap, ◌∙◌, subst, append_assoc, append-nil, arith, leb-false, list_all, IsLegal, is_load, is_of_kind, is_serialising, kind_of_word, sources_of_word, at_kind, Message, StoreAccess, Issue, Kind, PerKind, Values, due, interrupt_cause, oldest_to_drain, is_known as is_known_store, Pool, finished, predicting, started, Entry, Fetched, broadcast, broadcast_turn, has_result, with_broadcast, with_recovery, Committing, commit, commit_turn, commit_unless, with_fault, Dispatching, dispatch, dispatch_turn, entry_of_fetched, has_full_stations, is_stationed, with_dispatched, drain, end_drain, start_drain, Hardware, cost_of, has_port, is_ready, issue, issue_kind, issue_turn, issued, may_load, path, with_access, Turn, written_of, stores_behind, rows_of, Step, Interrupt, Retired, Trap}
 use Rattle.std.specs.FinSet as set
-use Rattle.rv_isa.specs.Description.{IsLegal}
-use Rattle.rv_isa.specs.PerKind.{at_kind}
-use Rattle.rv_isa.specs.declared.broadcast.Message.{Message}
-use Rattle.rv_isa.specs.declared.broadcast.StoreAccess.{StoreAccess}
-use Rattle.rv_isa.specs.declared.issues.Issue.{Issue}
-use Rattle.rv_isa.specs.declared.operations.Kind.{Kind}
 use Rattle.rv_isa.specs.declared.operations.Kind.TheVariants as kind
-use Rattle.rv_isa.specs.declared.per_kind.PerKind.{PerKind}
-use Rattle.rv_isa.specs.declared.values.Values.{Values}
-use Rattle.rv_arch.specs.Due.{due}
-use Rattle.rv_arch.specs.Trap.{interrupt_cause}
-use Rattle.rv_stores.specs.Queue.{oldest_to_drain}
-use Rattle.rv_stores.specs.Store.{is_known as is_known_store}
-use Rattle.rv_units.specs.Pool.{Pool}
-use Rattle.rv_front.specs.declared.fetched.Fetched.{Fetched}
-use Rattle.rv_rob.specs.Entry.{started, finished, predicting}
-use Rattle.rv_rob.specs.declared.entry.Entry.{Entry}
-use Rattle.rv_hardware.specs.Broadcast.{has_result, broadcast, broadcast_turn, with_broadcast, with_recovery}
-use Rattle.rv_hardware.specs.Commit.{Committing, commit, commit_unless, commit_turn, with_fault}
-use Rattle.rv_hardware.specs.Dispatch.{Dispatching, dispatch, dispatch_turn, entry_of_fetched, has_full_stations, is_stationed, with_dispatched}
-use Rattle.rv_hardware.specs.Drain.{drain, start_drain, end_drain}
-use Rattle.rv_hardware.specs.Hardware.{Hardware}
-use Rattle.rv_isa.specs.Instruction.{is_serialising, is_load, is_of_kind, kind_of_word, sources_of_word}
-use Rattle.rv_hardware.specs.Issue.{path, cost_of, has_port, is_ready, may_load, with_access, issue, issue_kind, issue_turn, issued}
-use Rattle.rv_hardware.specs.Retirement.{written_of}
-use Rattle.rv_hardware.specs.Repeated.{Turn}
-use Rattle.rv_hardware.specs.Seen.{stores_behind}
-use Rattle.rv_hardware.specs.Stamps.{rows_of}
-use Rattle.rv_hardware.specs.declared.step.Step.{Step}
-use Rattle.rv_hardware.specs.declared.step.Step.TheVariants.{Retired, Trap, Interrupt}
 use Rattle.rv_hardware.proofs.LawsAdvance.{Advances, Starts, IsSent, retires as a_retires, starts as a_starts, is_sent as a_is_sent, enters as a_enters, Kept}
 use Rattle.rv_hardware.proofs.LawsEvidence.{operands_known, stores_known, none_waits, rows_and_entries_are_dispatched, in_flight_room, stations_room}
 use Rattle.rv_hardware.proofs.LawsBasics.{Basics, SerialIsLast, ready_has, started_sound, finished_sound, finished_mark, predicting_sound, dispatched_sound, dispatched_mark, none_serialises}

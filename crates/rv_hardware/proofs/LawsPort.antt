@@ -1,24 +1,5 @@
 -- The cache's port serves one load at a time.
-use Rattle.std.proofs.Common.{◌≡◌, ℕ, ℤ, ◌+◌, ◌≤◌, ◌&&◌, ◌||◌, ◌==◌, not, Bool, true, false, cond, is_some, take, List, Option, Some, None, IfSome, refl, sym, ap, ◌∙◌, arith, true≢false, eq-eqb}
-use Rattle.std.proofs.lemmas.Bool.{leb-true}
-use Rattle.std.specs.List.{list_all}
-use Rattle.rv_isa.specs.Operation.{bytes_of, width_of}
-use Rattle.rv_isa.specs.Word.{sum, modulo_word}
-use Rattle.rv_isa.specs.declared.instructions.Instr.{Instr}
-use Rattle.rv_isa.specs.declared.instructions.Instr.TheVariants.{Load}
-use Rattle.rv_isa.specs.declared.operations.Kind.{Kind}
-use Rattle.rv_isa.specs.declared.operations.LoadForm.{LoadForm}
-use Rattle.rv_isa.specs.declared.values.Values.{Values}
-use Rattle.rv_arch.specs.State.{State, register_of}
-use Rattle.rv_memory.specs.Memory.{is_aligned, is_in_ram}
-use Rattle.rv_rob.specs.declared.entry.Entry.{Entry}
-use Rattle.rv_stores.specs.Queue.{forwarded}
-use Rattle.rv_stores.specs.Store.{is_known as is_known_store}
-use Rattle.rv_hardware.specs.Hardware.{Hardware}
-use Rattle.rv_hardware.specs.Issue.{Path, Without, FromStores, FromCache, path, path_of, cost_of, has_port, may_load, with_access}
-use Rattle.rv_isa.specs.Instruction.{is_load}
-use Rattle.rv_hardware.specs.Result.{result_of_word}
-use Rattle.rv_hardware.specs.Seen.{layout_of, seen_behind, stores_behind}
+use Rattle.rv_hardware.proofs.Words.{◌≡◌, ℕ, ◌+◌, ◌≤◌, Bool, true, false, cond, not, ◌&&◌, ◌||◌, List, take, ℤ, is_some, IfSome, ◌==◌, Some, None, Option, sym, refl, ap, ◌∙◌, true≢false, arith, eq-eqb, leb-true, list_all, is_load, bytes_of, width_of, modulo_word, sum, Instr, Load, Kind, LoadForm, Values, is_aligned, is_in_ram, State, register_of, forwarded, is_known as is_known_store, Entry, Hardware, FromCache, FromStores, Path, Without, cost_of, has_port, may_load, path, path_of, with_access, result_of_word, layout_of, seen_behind, stores_behind}
 use Rattle.rv_hardware.proofs.LawsMarks.{Mark, Start}
 use Rattle.rv_hardware.proofs.LawsShape.{HasShape}
 

@@ -1,33 +1,7 @@
 -- Through every phase the port is busy until each load that uses the cache is over, and one begins when all others are.
-use Rattle.std.proofs.Common.{◌≡◌, ℕ, ◌+◌, ◌≤◌, ◌<◌, ◌⊎◌, ◌&&◌, ◌==◌, not, Bool, true, false, cond, nat_le, List, [], ◌∷◌, ◌++◌, length, Option, Some, None, IfSome, inl, inr, refl, sym, subst, ap, ◌∙◌, arith, true≢false, append_assoc}
-use Rattle.std.proofs.lemmas.Bool.{leb-true}
-use Rattle.std.specs.Ordering.{nat_cmp}
+use Rattle.rv_hardware.proofs.Words.{◌≡◌, ℕ, ◌+◌, ◌<◌, ◌≤◌, Bool, true, false, cond, not, ◌&&◌, ◌⊎◌, List, [], ◌∷◌, ◌++◌, length, IfSome, nat_le, ◌==◌, Some, None, Option, nat_cmp, sym, refl, ap, ◌∙◌, subst, inl, inr, true≢false, append_assoc, arith, leb-true, IsLegal, is_load, at_kind, StoreAccess, Instr, Lines, Kind, Values, due, oldest_to_drain, finished, predicting, started, ReorderBuffer, Entry, broadcast_turn, with_broadcast, with_recovery, Committing, commit_turn, commit_unless, with_fault, with_lines, Dispatching, dispatch_turn, entry_of_fetched, drain, end_drain, start_drain, Hardware, cost_of, has_port, issue, issue_kind, issue_turn, issued, path, with_access, Turn, Report, seen_behind, Step}
 use Rattle.std.specs.FinSet as set
-use Rattle.rv_isa.specs.Description.{IsLegal}
-use Rattle.rv_isa.specs.PerKind.{at_kind}
-use Rattle.rv_isa.specs.declared.broadcast.StoreAccess.{StoreAccess}
-use Rattle.rv_isa.specs.declared.instructions.Instr.{Instr}
-use Rattle.rv_isa.specs.declared.lines.Lines.{Lines}
-use Rattle.rv_isa.specs.declared.operations.Kind.{Kind}
 use Rattle.rv_isa.specs.declared.operations.Kind.TheVariants as kind
-use Rattle.rv_isa.specs.declared.values.Values.{Values}
-use Rattle.rv_arch.specs.Due.{due}
-use Rattle.rv_stores.specs.Queue.{oldest_to_drain}
-use Rattle.rv_rob.specs.Entry.{started, finished, predicting}
-use Rattle.rv_rob.specs.ReorderBuffer.{ReorderBuffer}
-use Rattle.rv_rob.specs.declared.entry.Entry.{Entry}
-use Rattle.rv_hardware.specs.Broadcast.{broadcast_turn, with_broadcast, with_recovery}
-use Rattle.rv_hardware.specs.Commit.{Committing, commit_unless, commit_turn, with_fault}
-use Rattle.rv_hardware.specs.Cycle.{with_lines}
-use Rattle.rv_hardware.specs.Dispatch.{Dispatching, dispatch_turn, entry_of_fetched}
-use Rattle.rv_hardware.specs.Drain.{drain, start_drain, end_drain}
-use Rattle.rv_hardware.specs.Hardware.{Hardware}
-use Rattle.rv_hardware.specs.Issue.{has_port, path, cost_of, issue, issue_kind, issue_turn, issued, with_access}
-use Rattle.rv_isa.specs.Instruction.{is_load}
-use Rattle.rv_hardware.specs.Repeated.{Turn}
-use Rattle.rv_hardware.specs.Report.{Report}
-use Rattle.rv_hardware.specs.Seen.{seen_behind}
-use Rattle.rv_hardware.specs.declared.step.Step.{Step}
 use Rattle.rv_hardware.proofs.LawsBasics.{Ready, ready_has, finished_mark, dispatched_mark, and_first, and_second}
 use Rattle.rv_hardware.proofs.LawsBroadcast.{BroadcastTurn, none_ready as no_result, sends, mends, broadcast_turn_is, sent_entries, mended_entries}
 use Rattle.rv_hardware.proofs.LawsCommit.{CommitTurn, no_head, stale_head, unfinished, fence_waits, fence_writes, fence_retires, executes, serial_faults, traps, retires, retires_last, executed, written_back, retired_with, retired_and_flushed, commit_turn_is}

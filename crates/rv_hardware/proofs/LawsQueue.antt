@@ -1,13 +1,5 @@
 -- The retired stores of the queue are the last store rows; the access of each earlier one is over, `hit` cycles after its retirement or later.
-use Rattle.std.proofs.Common.{◌≡◌, ℕ, ◌+◌, ◌≤◌, Bool, true, false, cond, is_some, List, [], ◌∷◌, ◌++◌, filter, length, Option, Some, None, refl, sym, ap, ◌∙◌, arith, append_assoc, append-nil}
-use Rattle.std.proofs.lemmas.List.Elements.{filter-append}
-use Rattle.rv_isa.specs.declared.broadcast.StoreAccess.{StoreAccess}
-use Rattle.rv_stores.specs.Queue.{with_oldest_draining, without_drained}
-use Rattle.rv_stores.specs.Store.{is_draining}
-use Rattle.rv_stores.specs.declared.store.Store.{Store}
-use Rattle.rv_hardware.specs.Retirement.{committed_store}
-use Rattle.rv_hardware.specs.Stamps.{is_store_row}
-use Rattle.rv_hardware.specs.declared.step.Row.{Row}
+use Rattle.rv_hardware.proofs.Words.{◌≡◌, ℕ, ◌+◌, ◌≤◌, Bool, true, false, cond, List, [], ◌∷◌, ◌++◌, length, is_some, Some, None, filter, Option, sym, refl, ap, ◌∙◌, append_assoc, append-nil, arith, filter-append, StoreAccess, with_oldest_draining, without_drained, is_draining, Store, committed_store, is_store_row, Row}
 use Rattle.rv_hardware.proofs.LawsLists.{Every, Every-append, Every-weaker}
 
 -- row by row, the queue's retired stores; the port is busy until the access is over that one has begun

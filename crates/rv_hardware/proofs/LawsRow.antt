@@ -1,18 +1,5 @@
 -- A sound instruction in flight that retires leaves a row with stamps in order, and its mark goes on.
-use Rattle.std.proofs.Common.{◌≡◌, ℕ, ◌+◌, ◌≤◌, ◌<◌, ◌⊎◌, Bool, true, false, is_some, Option, Some, None, IfSome, inl, inr, refl, sym, subst, ap, ◌∙◌, arith}
-use Rattle.std.specs.Option.{unwrap_or}
-use Rattle.rv_decode.specs.Decodes.{instruction_of}
-use Rattle.rv_isa.specs.declared.broadcast.Message.{Message}
-use Rattle.rv_isa.specs.declared.instructions.Instr.{Instr}
-use Rattle.rv_isa.specs.declared.issues.Issue.{Issue}
-use Rattle.rv_isa.specs.declared.values.Values.{Values}
-use Rattle.rv_rob.specs.declared.entry.Entry.{Entry}
-use Rattle.rv_rob.specs.declared.entry.Stage.{Stage}
-use Rattle.rv_rob.specs.declared.entry.Stage.TheVariants.{Waiting, Running, Finished}
-use Rattle.rv_isa.specs.Instruction.{is_serialising, is_load, kind_of_word}
-use Rattle.rv_hardware.specs.Laws.{HasOrderedStamps, HasCost, IsCost}
-use Rattle.rv_hardware.specs.Retirement.{execution_of}
-use Rattle.rv_hardware.specs.declared.step.Row.{Row}
+use Rattle.rv_hardware.proofs.Words.{◌≡◌, ℕ, ◌+◌, ◌<◌, ◌≤◌, Bool, true, false, ◌⊎◌, is_some, IfSome, Some, None, Option, unwrap_or, sym, refl, ap, ◌∙◌, subst, inl, inr, arith, is_load, is_serialising, kind_of_word, Message, Instr, Issue, Values, instruction_of, Entry, Stage, Finished, Running, Waiting, HasCost, HasOrderedStamps, IsCost, execution_of, Row}
 use Rattle.rv_hardware.proofs.LawsAdvance.{IsBefore, IsKnownMark, Retires}
 use Rattle.rv_hardware.proofs.LawsMarks.{Start, mark_of_row, mark_of_entry, start_of_execution, broadcast_of_execution, start_of_stage, broadcast_of_stage}
 use Rattle.rv_hardware.proofs.LawsSound.{SoundCost, SoundStage, SoundEntry, kind_is_plain, serial_has_no_kind, row_decodes}

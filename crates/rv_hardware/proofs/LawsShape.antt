@@ -1,14 +1,6 @@
 -- What the description says stays, in every phase.
-use Rattle.std.proofs.Common.{◌≡◌, ℕ, List, [], ◌∷◌, refl, ◌∙◌}
-use Rattle.rv_isa.proofs.WithKind.{with_kind-each}
-use Rattle.rv_isa.specs.PerKind.{at_kind, with_kind}
-use Rattle.rv_isa.specs.declared.operations.Kind.{Kind}
-use Rattle.rv_isa.specs.declared.per_kind.PerKind.{PerKind}
-use Rattle.rv_isa.specs.declared.values.Values.{Values}
-use Rattle.rv_rob.specs.ReorderBuffer.{ReorderBuffer, head_retired, after_head}
-use Rattle.rv_rob.specs.declared.entry.Entry.{Entry}
-use Rattle.rv_units.specs.Pool.{started as started_unit, Pool}
-use Rattle.rv_hardware.specs.Hardware.{Hardware}
+use Rattle.rv_hardware.proofs.Words.{◌≡◌, ℕ, List, [], ◌∷◌, refl, ◌∙◌, with_kind-each, at_kind, with_kind, Kind, PerKind, Values, Pool, ReorderBuffer, after_head, head_retired, Entry, Hardware}
+use Rattle.rv_units.specs.Pool.{started as started_unit}
 
 -- the description's values, the cache's, and the rooms and units that they give
 pub record HasShape (v : Values) (h : Hardware) : Type 0 where

@@ -1,34 +1,5 @@
 -- Each instruction in flight has stamps in order, and executes for its cost.
-use Rattle.std.proofs.Common.{◌≡◌, ℕ, ◌+◌, ◌≤◌, ◌<◌, ◌⊎◌, Bool, true, false, cond, is_some, ℤ, List, take, Option, Some, None, option_and_then, IfSome, inl, inr, refl, sym, subst, ap, arith}
-use Rattle.std.specs.List.{list_all}
-use Rattle.std.specs.Option.{unwrap_or}
-use Rattle.rv_decode.specs.Decodes.{instruction_of}
-use Rattle.rv_isa.proofs.WithKind.{is_same-true}
-use Rattle.rv_isa.specs.Description.{IsLegal}
-use Rattle.rv_isa.specs.Operation.{bytes_of, width_of}
-use Rattle.rv_isa.specs.PerKind.{at_kind}
-use Rattle.rv_isa.specs.Word.{sum, modulo_word}
-use Rattle.rv_isa.specs.declared.instructions.Instr.{Instr}
-use Rattle.rv_isa.specs.declared.instructions.Instr.TheVariants.{Load, FenceI, Csr, Mret}
-use Rattle.rv_isa.specs.declared.operations.Kind.{Kind}
-use Rattle.rv_isa.specs.declared.operations.LoadForm.{LoadForm}
-use Rattle.rv_isa.specs.declared.values.CacheValues.{CacheValues}
-use Rattle.rv_isa.specs.declared.values.Values.{Values}
-use Rattle.rv_arch.specs.State.{State, register_of}
-use Rattle.rv_cache.specs.Cache.{cost_of_access, eviction_cost}
-use Rattle.rv_cache.specs.declared.line.CacheLine.{CacheLine}
-use Rattle.rv_memory.specs.Memory.{is_aligned, is_in_ram}
-use Rattle.rv_front.specs.declared.fetched.Fetched.{Fetched}
-use Rattle.rv_rob.specs.declared.entry.Entry.{Entry}
-use Rattle.rv_rob.specs.declared.entry.Stage.{Stage}
-use Rattle.rv_rob.specs.declared.entry.Stage.TheVariants.{Waiting, Running, Finished}
-use Rattle.rv_stores.specs.Queue.{forwarded}
-use Rattle.rv_hardware.specs.Hardware.{Hardware}
-use Rattle.rv_isa.specs.Instruction.{is_serialising, is_load, is_of_kind, kind_of_word}
-use Rattle.rv_hardware.specs.Issue.{Path, Without, FromStores, FromCache, path, path_of, cost_of}
-use Rattle.rv_hardware.specs.Laws.{IsCost, IsLoadCost}
-use Rattle.rv_hardware.specs.Result.{result_of_word}
-use Rattle.rv_hardware.specs.Seen.{layout_of, seen_behind, stores_behind}
+use Rattle.rv_hardware.proofs.Words.{◌≡◌, ℕ, ◌+◌, ◌<◌, ◌≤◌, Bool, true, false, cond, ◌⊎◌, List, take, ℤ, is_some, IfSome, Some, None, Option, option_and_then, unwrap_or, sym, refl, ap, subst, inl, inr, arith, list_all, is_same-true, IsLegal, is_load, is_of_kind, is_serialising, kind_of_word, bytes_of, width_of, at_kind, modulo_word, sum, Instr, Csr, FenceI, Load, Mret, Kind, LoadForm, CacheValues, Values, instruction_of, is_aligned, is_in_ram, State, register_of, cost_of_access, eviction_cost, CacheLine, forwarded, Entry, Stage, Finished, Running, Waiting, Fetched, Hardware, FromCache, FromStores, Path, Without, cost_of, path, path_of, IsCost, IsLoadCost, result_of_word, layout_of, seen_behind, stores_behind}
 use Rattle.rv_hardware.proofs.LawsIssue.{message_at}
 use Rattle.rv_hardware.proofs.LawsMarks.{Start, start_of_issue}
 use Rattle.rv_hardware.proofs.LawsShape.{HasShape}

@@ -1,31 +1,6 @@
 -- Steps come in order, within the width; interrupts alone, flushes last; after a flush everything is fetched anew.
-use Rattle.std.proofs.Common.{◌≡◌, ℕ, suc, ◌+◌, ◌≤◌, ◌<◌, Bool, true, false, List, [], ◌∷◌, ◌++◌, map, length, length-append, unwrap_or, eqb, ◌==◌, append-nil, ne_eqb, eqb-true, Option, Some, None, refl, sym, subst, ap, ◌∙◌, arith, append_assoc, true≢false}
-use Rattle.std.specs.Ordering.{nat_cmp}
+use Rattle.rv_hardware.proofs.Words.{◌≡◌, ℕ, suc, ◌+◌, ◌<◌, ◌≤◌, Bool, true, false, List, [], ◌∷◌, ◌++◌, map, length, nat_eq as eqb, ◌==◌, Some, None, Option, nat_cmp, unwrap_or, sym, refl, ap, ◌∙◌, subst, true≢false, append_assoc, append-nil, arith, length-append, ne_eqb, eqb-true, IsLegal, is_serialising, Message, Issue, Lines, Values, instruction_of, due, interrupt_cause, Stop, Entry, Finished, Committing, commit_turn, commit_unless, with_fault, IsCycle, any_prediction, with_lines, Hardware, IsFetchedSince, Ends, GoesOn, Turn, Report, written_of, flushes, rows_of, is_interrupt, stamp_of, Row, Step, Interrupt, Retired, Trap}
 use Rattle.std.specs.FinSet as set
-use Rattle.rv_decode.specs.Decodes.{instruction_of}
-use Rattle.rv_isa.specs.Description.{IsLegal}
-use Rattle.rv_isa.specs.declared.issues.Issue.{Issue}
-use Rattle.rv_isa.specs.declared.broadcast.Message.{Message}
-use Rattle.rv_isa.specs.declared.lines.Lines.{Lines}
-use Rattle.rv_isa.specs.declared.values.Values.{Values}
-use Rattle.rv_arch.specs.Due.{due}
-use Rattle.rv_arch.specs.Trap.{interrupt_cause}
-use Rattle.rv_arch.specs.declared.outcome.Stop.{Stop}
-use Rattle.rv_rob.specs.declared.entry.Entry.{Entry}
-use Rattle.rv_rob.specs.declared.entry.Stage.TheVariants.{Finished}
-use Rattle.rv_hardware.specs.Commit.{Committing, commit_unless, commit_turn, with_fault}
-use Rattle.rv_hardware.specs.Cycle.{IsCycle, any_prediction, with_lines}
-use Rattle.rv_hardware.specs.Hardware.{Hardware}
-use Rattle.rv_isa.specs.Instruction.{is_serialising}
-use Rattle.rv_hardware.specs.Laws.{IsFetchedSince}
-use Rattle.rv_hardware.specs.Report.{Report}
-use Rattle.rv_hardware.specs.Repeated.{Turn, GoesOn, Ends}
-use Rattle.rv_hardware.specs.Retirement.{written_of}
-use Rattle.rv_hardware.specs.Stamps.{flushes, rows_of}
-use Rattle.rv_hardware.specs.Step.{stamp_of, is_interrupt}
-use Rattle.rv_hardware.specs.declared.step.Row.{Row}
-use Rattle.rv_hardware.specs.declared.step.Step.{Step}
-use Rattle.rv_hardware.specs.declared.step.Step.TheVariants.{Retired, Trap, Interrupt}
 use Rattle.rv_hardware.proofs.LawsAdvance.{Kept, Advances, retires as a_retires, starts as a_starts, is_sent as a_is_sent, enters as a_enters}
 use Rattle.rv_hardware.proofs.LawsFetch.{IsNew}
 use Rattle.rv_hardware.proofs.LawsMarks.{Mark, mark_of_row, mark_of_entry, mark_of_fetched, marks_in}

@@ -1,25 +1,6 @@
 -- A result that is no fault tells what is written where it is a store's, and nowhere else.
-use Rattle.std.proofs.Common.{◌≡◌, ℕ, Bool, true, false, cond, nat_le, ◌+◌, ◌∷◌, ◌++◌, Option, Some, None, is_some, refl, sym, subst}
-use Rattle.rv_isa.specs.declared.broadcast.Message.{Message}
-use Rattle.rv_isa.specs.declared.instructions.Instr.{Instr}
+use Rattle.rv_hardware.proofs.Words.{◌≡◌, ℕ, ◌+◌, Bool, true, false, cond, ◌∷◌, ◌++◌, is_some, nat_le, Some, None, Option, sym, refl, subst, is_serialising, is_store, kind_of_word, Message, Instr, Lines, Kind, Layout, Effect, Faults, Retires, effect, State, Each, finished, predicting, started, Entry, Stage, Finished, Running, Waiting, Fetched, result_at, entry_of_fetched, stage_by, Hardware, access_of, effect_message, result_of_word, layout_of, seen_behind}
 use Rattle.rv_isa.specs.declared.instructions.Instr.TheVariants.{Store}
-use Rattle.rv_isa.specs.declared.lines.Lines.{Lines}
-use Rattle.rv_isa.specs.declared.operations.Kind.{Kind}
-use Rattle.rv_arch.specs.Effect.{Effect, Retires, Faults, effect}
-use Rattle.rv_arch.specs.State.{State}
-use Rattle.rv_cache.specs.WriteBack.{Each}
-use Rattle.rv_memory.specs.Memory.{Layout}
-use Rattle.rv_front.specs.declared.fetched.Fetched.{Fetched}
-use Rattle.rv_rob.specs.Entry.{finished, predicting, started}
-use Rattle.rv_rob.specs.declared.entry.Entry.{Entry}
-use Rattle.rv_rob.specs.declared.entry.Stage.{Stage}
-use Rattle.rv_rob.specs.declared.entry.Stage.TheVariants.{Waiting, Running, Finished}
-use Rattle.rv_hardware.specs.Broadcast.{result_at}
-use Rattle.rv_hardware.specs.Dispatch.{entry_of_fetched, stage_by}
-use Rattle.rv_hardware.specs.Hardware.{Hardware}
-use Rattle.rv_isa.specs.Instruction.{is_serialising, is_store, kind_of_word}
-use Rattle.rv_hardware.specs.Result.{access_of, effect_message, result_of_word}
-use Rattle.rv_hardware.specs.Seen.{layout_of, seen_behind}
 use Rattle.rv_hardware.proofs.GapCycle.{IsKept}
 use Rattle.rv_hardware.proofs.GapEach.{Each-back, Each-change, Each-front, Each-push}
 use Rattle.rv_hardware.proofs.GapForms.{IsResult}

@@ -1,6 +1,5 @@
 -- What turns lead to, counted.
-use Rattle.std.proofs.Common.{◌≡◌, ℕ, zero, suc, ◌+◌, ◌<◌, arith}
-use Rattle.rv_hardware.specs.Repeated.{Turn, GoesOn, Ends, followed_by, repeated}
+use Rattle.rv_hardware.proofs.Words.{◌≡◌, ℕ, zero, suc, ◌+◌, ◌<◌, arith, Ends, GoesOn, Turn, followed_by, repeated}
 
 -- P of what a turn leaves to a further one, Q of what it leaves to no other
 abbrev pub Leads : {S : Type 0} → (S → Type 0) → (S → Type 0) → Turn S → Type 0

@@ -1,34 +1,8 @@
 -- A unit executes one instruction at a time, or begins one a cycle where it is pipelined.
-use Rattle.std.proofs.Common.{◌≡◌, ℕ, suc, ◌+◌, ◌≤◌, ◌&&◌, Bool, true, false, cond, nat_le, nat_lt, List, [], ◌∷◌, ◌++◌, filter, length, Option, Some, None, refl, sym, subst, ap, ◌∙◌, arith, le-leb, true≢false}
-use Rattle.std.proofs.lemmas.Bool.{ltb-true, lt-ltb, and_left, and_right}
-use Rattle.std.specs.Ordering.{nat_cmp}
+use Rattle.rv_hardware.proofs.Words.{◌≡◌, ℕ, suc, ◌+◌, ◌≤◌, Bool, true, false, cond, ◌&&◌, List, [], ◌∷◌, ◌++◌, length, nat_lt, nat_le, Some, None, filter, Option, nat_cmp, sym, refl, ap, ◌∙◌, subst, true≢false, arith, ltb-true, lt-ltb, le-leb, and_left, and_right, at_kind-for_each, with_kind-each, IsLegal, is_of_kind, kind_of_word, at_kind, for_each, with_kind, StoreAccess, Issue, Lines, Kind, Values, due, oldest_to_drain, Pool, free_pool, held_for, holding, holds_unit, is_free, finished, predicting, started, ReorderBuffer, Entry, broadcast_turn, with_broadcast, with_recovery, Committing, commit_turn, commit_unless, with_fault, with_lines, Dispatching, dispatch_turn, entry_of_fetched, with_dispatched, drain, end_drain, start_drain, Hardware, cost_of, issue, issue_kind, issue_turn, issued, path, Turn, Report, Step}
 use Rattle.std.specs.FinSet as set
-use Rattle.rv_isa.proofs.WithKind.{at_kind-for_each, with_kind-each}
-use Rattle.rv_isa.specs.Description.{IsLegal}
-use Rattle.rv_isa.specs.PerKind.{at_kind, for_each, with_kind}
-use Rattle.rv_isa.specs.declared.broadcast.StoreAccess.{StoreAccess}
-use Rattle.rv_stores.specs.Queue.{oldest_to_drain}
-use Rattle.rv_rob.specs.Entry.{started, finished, predicting}
-use Rattle.rv_rob.specs.ReorderBuffer.{ReorderBuffer}
-use Rattle.rv_arch.specs.Due.{due}
-use Rattle.rv_isa.specs.declared.lines.Lines.{Lines}
-use Rattle.rv_isa.specs.declared.issues.Issue.{Issue}
-use Rattle.rv_isa.specs.declared.operations.Kind.{Kind}
 use Rattle.rv_isa.specs.declared.operations.Kind.TheVariants as kind
-use Rattle.rv_isa.specs.declared.values.Values.{Values}
-use Rattle.rv_rob.specs.declared.entry.Entry.{Entry}
-use Rattle.rv_units.specs.Pool.{Pool, held_for, holds_unit, holding, is_free, started as started_unit, free_pool}
-use Rattle.rv_hardware.specs.Hardware.{Hardware}
-use Rattle.rv_hardware.specs.Issue.{path, cost_of, issue, issue_kind, issue_turn, issued}
-use Rattle.rv_isa.specs.Instruction.{is_of_kind, kind_of_word}
-use Rattle.rv_hardware.specs.Broadcast.{broadcast_turn, with_broadcast, with_recovery}
-use Rattle.rv_hardware.specs.Cycle.{with_lines}
-use Rattle.rv_hardware.specs.Dispatch.{Dispatching, dispatch_turn, entry_of_fetched, with_dispatched}
-use Rattle.rv_hardware.specs.Report.{Report}
-use Rattle.rv_hardware.specs.Commit.{Committing, commit_unless, commit_turn, with_fault}
-use Rattle.rv_hardware.specs.Drain.{drain, start_drain, end_drain}
-use Rattle.rv_hardware.specs.Repeated.{Turn}
-use Rattle.rv_hardware.specs.declared.step.Step.{Step}
+use Rattle.rv_units.specs.Pool.{started as started_unit}
 use Rattle.rv_hardware.proofs.LawsBasics.{Ready, ready_has, finished_mark, dispatched_mark, and_second, and_both}
 use Rattle.rv_hardware.proofs.LawsBroadcast.{BroadcastTurn, none_ready as no_result, sends, mends, broadcast_turn_is, sent_entries, mended_entries}
 use Rattle.rv_hardware.proofs.LawsDispatch.{DispatchTurn, buffer_empty, waits, dispatches, dispatch_turn_is}

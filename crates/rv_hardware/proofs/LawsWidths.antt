@@ -1,9 +1,5 @@
 -- Counts of the marks of rows, of instructions in flight and of fetched words.
-use Rattle.std.proofs.Common.{◌≡◌, ℕ, ◌+◌, ◌==◌, Bool, false, List, ◌++◌, map, Option, Some, None, arith}
-use Rattle.rv_front.specs.declared.fetched.Fetched.{Fetched}
-use Rattle.rv_rob.specs.declared.entry.Entry.{Entry}
-use Rattle.rv_hardware.specs.Stamps.{rows_of}
-use Rattle.rv_hardware.specs.declared.step.Step.{Step}
+use Rattle.rv_hardware.proofs.Words.{◌≡◌, ℕ, ◌+◌, Bool, false, List, ◌++◌, map, ◌==◌, Some, None, Option, arith, Entry, Fetched, rows_of, Step}
 use Rattle.rv_hardware.proofs.LawsLists.{count, count-append, count-map}
 use Rattle.rv_hardware.proofs.LawsMarks.{Mark, mark_of_row, mark_of_entry, mark_of_fetched, marks}
 

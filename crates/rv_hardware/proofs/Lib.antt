@@ -1,3 +1,4 @@
+pub mod Words
 pub mod HardwareCode
 pub mod Repeated
 pub mod GapLists

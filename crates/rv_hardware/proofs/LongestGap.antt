@@ -1,18 +1,7 @@
 -- The longest gap of a run, by the stamps of its steps.
-use Rattle.std.proofs.Common.{◌≡◌, ◌⊎◌, inl, inr, ℕ, ◌+◌, ◌-◌, ◌<◌, ◌≤◌, max, cond, List, [], ◌∷◌, ◌++◌, subst, arith, ⊎_elim}
-use Rattle.std.specs.List.{All}
-use Rattle.std.proofs.lemmas.List.Elements.{All-nil, All-head, All-tail, All-append, All-weaker}
+use Rattle.rv_hardware.proofs.Words.{◌≡◌, ℕ, ◌+◌, ◌-◌, ◌<◌, ◌≤◌, max, cond, ◌⊎◌, List, [], ◌∷◌, ◌++◌, All, subst, inl, inr, ⊎_elim, arith, All-append, All-head, All-nil, All-tail, All-weaker, Arrival, Layout, State, Hardware, Report, Cycles, Reachable, is_silent, longest_gap_from, longest_gap_of, steps_of, layout_of, stamp_of, Step}
 use Rattle.std.proofs.str.Laws.{order}
-use Rattle.rv_isa.specs.declared.lines.Arrival.{Arrival}
-use Rattle.rv_arch.specs.State.{State}
-use Rattle.rv_memory.specs.Memory.{Layout}
-use Rattle.rv_hardware.specs.Hardware.{Hardware}
 use Rattle.rv_hardware.specs.LongestGap.{IsGap, IsLongestGap}
-use Rattle.rv_hardware.specs.Report.{Report}
-use Rattle.rv_hardware.specs.Run.{Cycles, Reachable, is_silent, longest_gap_from, longest_gap_of, steps_of}
-use Rattle.rv_hardware.specs.Seen.{layout_of}
-use Rattle.rv_hardware.specs.Step.{stamp_of}
-use Rattle.rv_hardware.specs.declared.step.Step.{Step}
 use Rattle.rv_hardware.proofs.HeadlineCycle.{always_sound}
 use Rattle.rv_hardware.proofs.HeadlineRun.{TrueCycles, none, one_more, counts_cycles, cycles_true, true_within}
 

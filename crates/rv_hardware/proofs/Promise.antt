@@ -1,12 +1,6 @@
 -- The promise is true of every run of hardware that a reset and cycles lead to, where no cycle but the last stops it.
-use Rattle.rv_isa.specs.declared.lines.Arrival.{Arrival}
-use Rattle.std.proofs.Common.{List}
-use Rattle.rv_hardware.specs.Gap.{OnlyLastStops}
-use Rattle.rv_hardware.specs.Hardware.{Hardware}
+use Rattle.rv_hardware.proofs.Words.{List, Arrival, OnlyLastStops, Hardware, Report, Cycles, Reachable, seen}
 use Rattle.rv_hardware.specs.Promise.{IsPromised, reported_of}
-use Rattle.rv_hardware.specs.Report.{Report}
-use Rattle.rv_hardware.specs.Run.{Cycles, Reachable}
-use Rattle.rv_hardware.specs.Seen.{seen}
 use Rattle.rv_hardware.proofs.GapRun.{no_silence}
 use Rattle.rv_hardware.proofs.HeadlineRun.{headline_of_run}
 use Rattle.rv_hardware.proofs.LawsBusy.{counts_hold}

@@ -1,14 +1,5 @@
 -- A property that each turn keeps is kept by all turns, and what holds at reset and is kept by each cycle always holds.
-use Rattle.std.specs.Prelude.{ℕ, zero, suc, ◌<◌, ◌^◌, List}
-use Rattle.rv_isa.specs.Description.{IsLegal}
-use Rattle.rv_isa.specs.declared.lines.Lines.{Lines}
-use Rattle.rv_isa.specs.declared.values.Values.{Values}
-use Rattle.rv_hardware.specs.Cycle.{IsCycle, any_prediction}
-use Rattle.rv_hardware.specs.Hardware.{Hardware}
-use Rattle.rv_hardware.specs.Repeated.{Turn, GoesOn, Ends, followed_by, repeated}
-use Rattle.rv_hardware.specs.Report.{Report}
-use Rattle.rv_hardware.specs.Reset.{reset_hardware, IsLoadable}
-use Rattle.rv_hardware.specs.Run.{Reachable, at_reset, by_cycle}
+use Rattle.rv_hardware.proofs.Words.{ℕ, zero, suc, ◌^◌, ◌<◌, List, IsLegal, Lines, Values, IsCycle, any_prediction, Hardware, Ends, GoesOn, Turn, followed_by, repeated, Report, IsLoadable, reset_hardware, Reachable, at_reset, by_cycle}
 
 -- what holds of the state that a turn leaves
 abbrev pub Leaves : {S : Type 0} → (S → Type 0) → Turn S → Type 0

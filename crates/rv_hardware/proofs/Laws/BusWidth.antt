@@ -1,18 +1,5 @@
 -- At most `bus_width` results are broadcast in a cycle.
-use Rattle.std.proofs.Common.{◌≡◌, ℕ, suc, ◌+◌, ◌≤◌, ◌<◌, ◌==◌, Bool, true, false, nat_le, List, ◌∷◌, ◌++◌, map, Option, Some, None, IfSome, refl, ap, ◌∙◌, arith, le-leb, eqb-true, ne_eqb}
-use Rattle.rv_isa.specs.declared.instructions.Instr.{Instr}
-use Rattle.rv_isa.specs.declared.values.Values.{Values}
-use Rattle.rv_rob.specs.Entry.{finished, predicting}
-use Rattle.rv_rob.specs.declared.entry.Entry.{Entry}
-use Rattle.rv_rob.specs.declared.entry.Stage.{Stage}
-use Rattle.rv_rob.specs.declared.entry.Stage.TheVariants.{Waiting, Running, Finished}
-use Rattle.rv_hardware.specs.Broadcast.{broadcast, broadcast_turn}
-use Rattle.rv_hardware.specs.Dispatch.{Dispatching, dispatch, dispatch_turn, entry_of_fetched}
-use Rattle.rv_hardware.specs.Hardware.{Hardware}
-use Rattle.rv_hardware.specs.Repeated.{Turn}
-use Rattle.rv_hardware.specs.Stamps.{rows_of, passes, is_broadcast_in}
-use Rattle.rv_hardware.specs.declared.step.Execution.{Execution}
-use Rattle.rv_hardware.specs.declared.step.Step.{Step}
+use Rattle.rv_hardware.proofs.Words.{◌≡◌, ℕ, suc, ◌+◌, ◌<◌, ◌≤◌, Bool, true, false, List, ◌∷◌, ◌++◌, map, IfSome, nat_le, ◌==◌, Some, None, Option, refl, ap, ◌∙◌, arith, ne_eqb, eqb-true, le-leb, Instr, Values, finished, predicting, Entry, Stage, Finished, Running, Waiting, broadcast, broadcast_turn, Dispatching, dispatch, dispatch_turn, entry_of_fetched, Hardware, NeverMoreThan, Turn, is_broadcast_in, passes, rows_of, Execution, Step}
 use Rattle.rv_hardware.proofs.LawsBasics.{and_both, dispatched_mark}
 use Rattle.rv_hardware.proofs.LawsBroadcast.{BroadcastTurn, none_ready, sends, mends, broadcast_turn_is, sent_entries, mended_entries}
 use Rattle.rv_hardware.proofs.LawsCounted.{Shows, counted_law, until_by}
@@ -23,7 +10,6 @@ use Rattle.rv_hardware.proofs.LawsMarks.{Mark, mark_of_row, mark_of_fetched, mar
 use Rattle.rv_hardware.proofs.LawsRow.{SoundRow}
 use Rattle.rv_hardware.proofs.LawsSound.{SoundEntry, SoundStage}
 use Rattle.rv_hardware.proofs.LawsTurns.{Leads, turns_within, turns_keep}
-use Rattle.rv_hardware.specs.Laws.{NeverMoreThan}
 use Rattle.rv_hardware.proofs.LawsWidths.{is_at, count_marks}
 
 sent_shows_by : (c D C : ℕ) (x : Option Execution) → IfSome x (λ x. (D < x.issued) × (x.issued + x.cost ≤ x.broadcast) × (x.broadcast < C)) → passes (λ y. y.broadcast == c) x ≡ true →

@@ -1,10 +1,5 @@
 -- At most `commit_width` steps come in a cycle.
-use Rattle.std.proofs.Common.{List, ◌==◌, arith}
-use Rattle.rv_isa.specs.declared.values.Values.{Values}
-use Rattle.rv_hardware.specs.Hardware.{Hardware}
-use Rattle.rv_hardware.specs.Laws.{NeverMoreThan}
-use Rattle.rv_hardware.specs.Step.{stamp_of}
-use Rattle.rv_hardware.specs.declared.step.Step.{Step}
+use Rattle.rv_hardware.proofs.Words.{List, ◌==◌, arith, Values, Hardware, NeverMoreThan, stamp_of, Step}
 use Rattle.rv_hardware.proofs.LawsCycle.{History}
 use Rattle.rv_hardware.proofs.LawsLists.{count-count_by}
 use Rattle.rv_hardware.proofs.LawsSteps.{history_has_steps}

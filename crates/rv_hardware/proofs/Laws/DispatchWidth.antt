@@ -1,11 +1,5 @@
 -- At most `dispatch_width` instructions are dispatched in a cycle.
-use Rattle.std.proofs.Common.{◌≡◌, ℕ, suc, ◌+◌, ◌≤◌, ◌<◌, ◌==◌, Bool, false, nat_le, List, ◌++◌, map, Some, None, refl, ap, ◌∙◌, arith, le-leb, eqb-true, ne_eqb}
-use Rattle.rv_isa.specs.declared.values.Values.{Values}
-use Rattle.rv_hardware.specs.Dispatch.{Dispatching, dispatch, dispatch_turn, entry_of_fetched}
-use Rattle.rv_hardware.specs.Hardware.{Hardware}
-use Rattle.rv_hardware.specs.Repeated.{Turn}
-use Rattle.rv_hardware.specs.Stamps.{rows_of, is_dispatched_in}
-use Rattle.rv_hardware.specs.declared.step.Step.{Step}
+use Rattle.rv_hardware.proofs.Words.{◌≡◌, ℕ, suc, ◌+◌, ◌<◌, ◌≤◌, Bool, false, List, ◌++◌, map, nat_le, ◌==◌, Some, None, refl, ap, ◌∙◌, arith, ne_eqb, eqb-true, le-leb, Values, Dispatching, dispatch, dispatch_turn, entry_of_fetched, Hardware, NeverMoreThan, Turn, is_dispatched_in, rows_of, Step}
 use Rattle.rv_hardware.proofs.LawsBasics.{and_both}
 use Rattle.rv_hardware.proofs.LawsCounted.{Shows, counted_law, until_by}
 use Rattle.rv_hardware.proofs.LawsCycle.{History, dispatching, sent_all}
@@ -15,7 +9,6 @@ use Rattle.rv_hardware.proofs.LawsMarks.{Mark, mark_of_row, mark_of_fetched, mar
 use Rattle.rv_hardware.proofs.LawsRow.{SoundRow}
 use Rattle.rv_hardware.proofs.LawsSound.{SoundEntry}
 use Rattle.rv_hardware.proofs.LawsTurns.{Leads, turns_within}
-use Rattle.rv_hardware.specs.Laws.{NeverMoreThan}
 use Rattle.rv_hardware.proofs.LawsWidths.{is_at, count_marks}
 
 pub dispatched_shows : (v : Values) → Shows v is_dispatched_in (λ c m. is_at c m.dispatched)

@@ -1,16 +1,10 @@
 -- The fetch buffer holds no more words than it has room for.
-use Rattle.std.proofs.Common.{is_none, nat_le, nat_lt, List, Some, refl, arith}
-use Rattle.std.proofs.lemmas.Bool.{ltb-true}
-use Rattle.rv_isa.specs.declared.values.Values.{Values}
-use Rattle.rv_hardware.specs.Hardware.{Hardware}
-use Rattle.rv_hardware.specs.Stamps.{rows_of, is_buffered_in}
-use Rattle.rv_hardware.specs.declared.step.Step.{Step}
+use Rattle.rv_hardware.proofs.Words.{List, is_none, nat_lt, nat_le, Some, refl, arith, ltb-true, Values, Hardware, NeverMoreThan, is_buffered_in, rows_of, Step}
 use Rattle.rv_hardware.proofs.LawsBasics.{and_first, and_second, and_both}
 use Rattle.rv_hardware.proofs.LawsCounted.{Shows, counted_law, until_not}
 use Rattle.rv_hardware.proofs.LawsCycle.{History, is_buffered_mark}
 use Rattle.rv_hardware.proofs.LawsMarks.{until}
 use Rattle.rv_hardware.proofs.LawsOrder.{history_is_orderly}
-use Rattle.rv_hardware.specs.Laws.{NeverMoreThan}
 
 pub buffered_shows : (v : Values) → Shows v is_buffered_in (λ c. is_buffered_mark)
 buffered_shows v = record {

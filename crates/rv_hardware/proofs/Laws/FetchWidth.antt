@@ -1,15 +1,10 @@
 -- At most `fetch_width` words are fetched in a cycle.
-use Rattle.std.proofs.Common.{◌≡◌, ◌<◌, ◌==◌, Bool, false, nat_le, List, ◌++◌, map, ap, ◌∙◌, arith, le-leb, eqb-true, ne_eqb}
-use Rattle.rv_isa.specs.declared.values.Values.{Values}
-use Rattle.rv_hardware.specs.Hardware.{Hardware}
-use Rattle.rv_hardware.specs.Stamps.{rows_of, is_fetched_in}
-use Rattle.rv_hardware.specs.declared.step.Step.{Step}
+use Rattle.rv_hardware.proofs.Words.{◌≡◌, ◌<◌, Bool, false, List, ◌++◌, map, nat_le, ◌==◌, ap, ◌∙◌, arith, ne_eqb, eqb-true, le-leb, Values, Hardware, NeverMoreThan, is_fetched_in, rows_of, Step}
 use Rattle.rv_hardware.proofs.LawsBasics.{and_both}
 use Rattle.rv_hardware.proofs.LawsCounted.{Shows, counted_law}
 use Rattle.rv_hardware.proofs.LawsCycle.{History, new_words, dispatching}
 use Rattle.rv_hardware.proofs.LawsLists.{Every-weaker, count, count-append, count-none, count-length, count-map}
 use Rattle.rv_hardware.proofs.LawsMarks.{Mark, mark_of_fetched, marks_in}
-use Rattle.rv_hardware.specs.Laws.{NeverMoreThan}
 
 fetched_shows : (v : Values) → Shows v is_fetched_in (λ c m. m.fetched == c)
 fetched_shows v = record {

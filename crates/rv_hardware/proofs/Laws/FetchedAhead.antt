@@ -1,12 +1,5 @@
 -- The front keeps ahead of the head.
-use Rattle.std.proofs.Common.{ℕ, true, List}
-use Rattle.rv_isa.specs.declared.values.Values.{Values}
-use Rattle.rv_hardware.specs.Hardware.{Hardware}
-use Rattle.rv_hardware.specs.Laws.{IsFetchedAhead}
-use Rattle.rv_hardware.specs.Stamps.{EachNext}
-use Rattle.rv_hardware.specs.Step.{stamp_of}
-use Rattle.rv_hardware.specs.declared.step.Step.{Step}
-use Rattle.rv_hardware.specs.declared.step.Step.TheVariants.{Retired, Trap, Interrupt}
+use Rattle.rv_hardware.proofs.Words.{ℕ, true, List, Values, Hardware, IsFetchedAhead, EachNext, stamp_of, Step, Interrupt, Retired, Trap}
 use Rattle.rv_hardware.proofs.LawsCycle.{History}
 use Rattle.rv_hardware.proofs.LawsFollow.{IsAhead}
 use Rattle.rv_hardware.proofs.LawsAhead.{follows}

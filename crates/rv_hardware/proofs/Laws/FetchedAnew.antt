@@ -1,10 +1,5 @@
 -- After a trap, an interrupt or a serialising instruction everything is fetched anew.
-use Rattle.std.proofs.Common.{◌≡◌, true, List, AllPairs}
-use Rattle.rv_isa.specs.declared.values.Values.{Values}
-use Rattle.rv_hardware.specs.Hardware.{Hardware}
-use Rattle.rv_hardware.specs.Laws.{IsFetchedSince}
-use Rattle.rv_hardware.specs.Stamps.{flushes}
-use Rattle.rv_hardware.specs.declared.step.Step.{Step}
+use Rattle.rv_hardware.proofs.Words.{◌≡◌, true, List, AllPairs, Values, Hardware, IsFetchedSince, flushes, Step}
 use Rattle.rv_hardware.proofs.LawsCycle.{History}
 use Rattle.rv_hardware.proofs.LawsLists.{EveryPair-weaker, AllPairs-EveryPair}
 use Rattle.rv_hardware.proofs.LawsSteps.{InOrder, history_has_steps}

@@ -1,9 +1,5 @@
 -- Instructions are fetched in order.
-use Rattle.std.proofs.Common.{◌≤◌, List, AllPairs}
-use Rattle.rv_isa.specs.declared.values.Values.{Values}
-use Rattle.rv_hardware.specs.Hardware.{Hardware}
-use Rattle.rv_hardware.specs.Stamps.{rows_of}
-use Rattle.rv_hardware.specs.declared.step.Step.{Step}
+use Rattle.rv_hardware.proofs.Words.{◌≤◌, List, AllPairs, Values, Hardware, rows_of, Step}
 use Rattle.rv_hardware.proofs.LawsCycle.{History}
 use Rattle.rv_hardware.proofs.LawsLists.{AllPairs-EveryPair}
 use Rattle.rv_hardware.proofs.LawsOrder.{history_is_orderly}

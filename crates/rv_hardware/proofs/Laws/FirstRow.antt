@@ -1,12 +1,5 @@
 -- Where nothing ran before, an instruction that comes first is fetched in cycle 0 and dispatched in cycle 1.
-use Rattle.std.proofs.Common.{◌≡◌, List, [], ◌∷◌, refl, subst, arith}
-use Rattle.rv_isa.specs.declared.values.Values.{Values}
-use Rattle.rv_hardware.specs.Hardware.{Hardware}
-use Rattle.rv_hardware.specs.Laws.{IsFirst}
-use Rattle.rv_hardware.specs.Stamps.{rows_of}
-use Rattle.rv_hardware.specs.declared.step.Row.{Row}
-use Rattle.rv_hardware.specs.declared.step.Step.{Step}
-use Rattle.rv_hardware.specs.declared.step.Step.TheVariants.{Retired}
+use Rattle.rv_hardware.proofs.Words.{◌≡◌, List, [], ◌∷◌, refl, subst, arith, Values, Hardware, IsFirst, rows_of, Row, Step, Retired}
 use Rattle.rv_hardware.proofs.LawsCycle.{History, history_is_sound}
 use Rattle.rv_hardware.proofs.LawsFollow.{last_stamp, has_step, Follows, AllFollow}
 use Rattle.rv_hardware.proofs.LawsLists.{Every, EveryBehind-at}

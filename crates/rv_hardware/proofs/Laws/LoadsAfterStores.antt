@@ -1,14 +1,5 @@
 -- A load issues after the broadcasts of all older stores.
-use Rattle.std.proofs.Common.{◌≡◌, ℕ, ◌<◌, Bool, true, false, List, [], ◌∷◌, map, AllPairs, Option, Some, None, IfSome, refl, sym, ◌∙◌, true≢false}
-use Rattle.rv_isa.specs.declared.instructions.Instr.{Instr}
-use Rattle.rv_isa.specs.declared.values.Values.{Values}
-use Rattle.rv_hardware.specs.Hardware.{Hardware}
-use Rattle.rv_isa.specs.Instruction.{is_load}
-use Rattle.rv_hardware.specs.Laws.{LoadsAfterStore}
-use Rattle.rv_hardware.specs.Stamps.{rows_of, instruction_of_row, is_store_row, is_load_row}
-use Rattle.rv_hardware.specs.declared.step.Execution.{Execution}
-use Rattle.rv_hardware.specs.declared.step.Row.{Row}
-use Rattle.rv_hardware.specs.declared.step.Step.{Step}
+use Rattle.rv_hardware.proofs.Words.{◌≡◌, ℕ, ◌<◌, Bool, true, false, List, [], ◌∷◌, map, IfSome, Some, None, Option, AllPairs, sym, refl, ◌∙◌, true≢false, is_load, Instr, Values, Hardware, LoadsAfterStore, instruction_of_row, is_load_row, is_store_row, rows_of, Execution, Row, Step}
 use Rattle.rv_hardware.proofs.LawsAdvance.{IsBefore, IsKnownStore}
 use Rattle.rv_hardware.proofs.LawsCycle.{History}
 use Rattle.rv_hardware.proofs.LawsLists.{Every, Every-weaker, Every-unmap, EveryBehind-weaker, EveryPair-EveryBehind, AllPairs-EveryPair}

@@ -1,19 +1,5 @@
 -- The bus is not idle while a result waits.
-use Rattle.std.proofs.Common.{◌≡◌, ℕ, suc, ◌+◌, ◌≤◌, ◌<◌, ◌==◌, ◌&&◌, count_by, Bool, true, false, cond, nat_le, List, [], ◌∷◌, ◌++◌, map, length, append_assoc, Option, Some, None, IfSome, refl, sym, subst, ap, ◌∙◌, arith, le-leb, eq-eqb}
-use Rattle.rv_isa.specs.declared.values.Values.{Values}
-use Rattle.rv_front.specs.declared.fetched.Fetched.{Fetched}
-use Rattle.rv_rob.specs.Entry.{finished, predicting}
-use Rattle.rv_rob.specs.declared.entry.Entry.{Entry}
-use Rattle.rv_isa.specs.declared.broadcast.Message.{Message}
-use Rattle.rv_isa.specs.declared.issues.Issue.{Issue}
-use Rattle.rv_hardware.specs.Laws.{LeavesNoBusIdle}
-use Rattle.rv_hardware.specs.Broadcast.{broadcast, broadcast_turn, has_result, with_broadcast}
-use Rattle.rv_hardware.specs.Hardware.{Hardware}
-use Rattle.rv_hardware.specs.Repeated.{Turn}
-use Rattle.rv_hardware.specs.Stamps.{rows_of, passes, EachBehind, is_broadcast_in}
-use Rattle.rv_hardware.specs.declared.step.Execution.{Execution}
-use Rattle.rv_hardware.specs.declared.step.Row.{Row}
-use Rattle.rv_hardware.specs.declared.step.Step.{Step}
+use Rattle.rv_hardware.proofs.Words.{◌≡◌, ℕ, suc, ◌+◌, ◌<◌, ◌≤◌, Bool, true, false, cond, ◌&&◌, List, [], ◌∷◌, ◌++◌, map, length, IfSome, nat_le, ◌==◌, Some, None, count_by, Option, sym, refl, ap, ◌∙◌, subst, append_assoc, arith, eq-eqb, le-leb, Message, Issue, Values, finished, predicting, Entry, Fetched, broadcast, broadcast_turn, has_result, with_broadcast, Hardware, LeavesNoBusIdle, Turn, EachBehind, is_broadcast_in, passes, rows_of, Execution, Row, Step}
 use Rattle.rv_hardware.proofs.LawsAdvance.{IsBefore, IsSentIfReady, Advances, retires, starts, is_sent, enters, IsSent, Kept}
 use Rattle.rv_hardware.proofs.LawsBroadcast.{BroadcastTurn, none_ready as no_result, sends, mends, Sends, broadcast_turn_is, sent_entries, mended_entries}
 use Rattle.rv_hardware.proofs.LawsCounted.{until_not, behind_law, behind_count}

@@ -1,14 +1,5 @@
 -- Fetch waits for nothing but room: of rows.
-use Rattle.std.proofs.Common.{◌≡◌, ℕ, ◌≤◌, true, is_none, nat_le, nat_lt, List, [], ◌∷◌, ◌++◌, map, count_by, Option, Some, None, MatchOption, inl, inr, refl, sym, subst, ap, ◌∙◌, arith, append_assoc}
-use Rattle.std.proofs.lemmas.List.{map-append}
-use Rattle.rv_isa.specs.declared.values.Values.{Values}
-use Rattle.rv_hardware.specs.Hardware.{Hardware}
-use Rattle.rv_hardware.specs.Laws.{IsFetchedBehind}
-use Rattle.rv_hardware.specs.Stamps.{rows_of, EachNext, is_buffered_in}
-use Rattle.rv_hardware.specs.declared.step.Execution.{Execution}
-use Rattle.rv_hardware.specs.declared.step.Row.{Row}
-use Rattle.rv_hardware.specs.declared.step.Step.{Step}
-use Rattle.rv_hardware.specs.declared.step.Step.TheVariants.{Retired, Trap, Interrupt}
+use Rattle.rv_hardware.proofs.Words.{◌≡◌, ℕ, ◌≤◌, true, List, [], ◌∷◌, ◌++◌, map, is_none, nat_lt, nat_le, Some, None, count_by, Option, MatchOption, sym, refl, ap, ◌∙◌, subst, inl, inr, append_assoc, arith, map-append, Values, Hardware, IsFetchedBehind, EachNext, is_buffered_in, rows_of, Execution, Row, Step, Interrupt, Retired, Trap}
 use Rattle.rv_hardware.proofs.LawsBasics.{and_first, and_second, and_both}
 use Rattle.rv_hardware.proofs.LawsCycle.{History}
 use Rattle.rv_hardware.proofs.Laws.NoIdleDispatch.{none_until}

@@ -1,15 +1,5 @@
 -- The law that no pipelined unit is idle, of the rows.
-use Rattle.std.proofs.Common.{◌≡◌, ℕ, ◌+◌, ◌≤◌, ◌<◌, ◌&&◌, ◌==◌, Bool, true, false, cond, is_some, nat_le, List, [], ◌∷◌, map, count_by, Option, Some, None, IfSome, option_map, refl, sym, subst, ap, ◌∙◌, arith, le-leb}
-use Rattle.rv_isa.specs.PerKind.{at_kind}
-use Rattle.rv_isa.specs.declared.operations.Kind.{Kind}
-use Rattle.rv_isa.specs.declared.values.Values.{Values}
-use Rattle.rv_hardware.specs.Laws.{is_pipelined, LeaveNoUnitIdle, HasOperandsIn}
-use Rattle.rv_hardware.specs.Hardware.{Hardware}
-use Rattle.rv_isa.specs.Instruction.{is_serialising, kind_of_word}
-use Rattle.rv_hardware.specs.Stamps.{rows_of, last_from, last_that, instruction_of_row, is_row_of_kind, passes, producer_among, sources_of_row, writes_register, is_issued_in}
-use Rattle.rv_hardware.specs.declared.step.Execution.{Execution}
-use Rattle.rv_hardware.specs.declared.step.Row.{Row}
-use Rattle.rv_hardware.specs.declared.step.Step.{Step}
+use Rattle.rv_hardware.proofs.Words.{◌≡◌, ℕ, ◌+◌, ◌<◌, ◌≤◌, Bool, true, false, cond, ◌&&◌, List, [], ◌∷◌, map, is_some, IfSome, nat_le, ◌==◌, Some, None, count_by, Option, option_map, sym, refl, ap, ◌∙◌, subst, arith, le-leb, is_serialising, kind_of_word, at_kind, Kind, Values, Hardware, HasOperandsIn, LeaveNoUnitIdle, is_pipelined, instruction_of_row, is_issued_in, is_row_of_kind, last_from, last_that, passes, producer_among, rows_of, sources_of_row, writes_register, Execution, Row, Step}
 use Rattle.rv_hardware.proofs.LawsAdvance.{IsBefore, writes_mark, IsKnownMark, OperandsKnown}
 use Rattle.rv_hardware.proofs.LawsBasics.{and_first, and_second, and_both}
 use Rattle.rv_hardware.proofs.LawsCounted.{behind_law, behind_count, until_by}

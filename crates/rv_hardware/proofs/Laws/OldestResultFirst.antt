@@ -1,11 +1,5 @@
 -- Of the results that are ready the oldest is broadcast first.
-use Rattle.std.proofs.Common.{◌+◌, ◌≤◌, List, AllPairs, Option, Some, None, IfSome, arith}
-use Rattle.rv_isa.specs.declared.values.Values.{Values}
-use Rattle.rv_hardware.specs.Hardware.{Hardware}
-use Rattle.rv_hardware.specs.Laws.{IsBroadcastFirst}
-use Rattle.rv_hardware.specs.Stamps.{rows_of}
-use Rattle.rv_hardware.specs.declared.step.Execution.{Execution}
-use Rattle.rv_hardware.specs.declared.step.Step.{Step}
+use Rattle.rv_hardware.proofs.Words.{◌+◌, ◌≤◌, List, IfSome, Some, None, Option, AllPairs, arith, Values, Hardware, IsBroadcastFirst, rows_of, Execution, Step}
 use Rattle.rv_hardware.proofs.LawsBus.{OldestFirst, ReadyFirst, history_has_bus_order}
 use Rattle.rv_hardware.proofs.LawsCycle.{History}
 use Rattle.rv_hardware.proofs.LawsLists.{AllPairs-EveryPair}

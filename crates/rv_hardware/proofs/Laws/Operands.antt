@@ -1,14 +1,5 @@
 -- An instruction issues after the broadcasts of its operands.
-use Rattle.std.proofs.Common.{◌≡◌, ℕ, ◌≤◌, ◌<◌, Bool, true, false, cond, is_some, List, [], ◌∷◌, map, All, Option, Some, None, IfSome, MatchOption, option_map, refl, sym, subst, ap, ◌∙◌, arith}
-use Rattle.rv_isa.specs.declared.instructions.Instr.{Instr}
-use Rattle.rv_isa.specs.declared.values.Values.{Values}
-use Rattle.rv_hardware.specs.Hardware.{Hardware}
-use Rattle.rv_isa.specs.Instruction.{is_serialising, kind_of_word}
-use Rattle.rv_hardware.specs.Laws.{IsKnownBefore, IssuesWithOperands}
-use Rattle.rv_hardware.specs.Stamps.{rows_of, EachBehind, last_from, last_that, instruction_of_row, sources_of_row, writes_register, producer_among}
-use Rattle.rv_hardware.specs.declared.step.Execution.{Execution}
-use Rattle.rv_hardware.specs.declared.step.Row.{Row}
-use Rattle.rv_hardware.specs.declared.step.Step.{Step}
+use Rattle.rv_hardware.proofs.Words.{◌≡◌, ℕ, ◌<◌, ◌≤◌, Bool, true, false, cond, List, [], ◌∷◌, map, is_some, IfSome, Some, None, All, Option, MatchOption, option_map, sym, refl, ap, ◌∙◌, subst, arith, is_serialising, kind_of_word, Instr, Values, Hardware, IsKnownBefore, IssuesWithOperands, EachBehind, instruction_of_row, last_from, last_that, producer_among, rows_of, sources_of_row, writes_register, Execution, Row, Step}
 use Rattle.rv_hardware.proofs.LawsAdvance.{IsBefore, writes_mark, IsKnownMark, OperandsKnown}
 use Rattle.rv_hardware.proofs.LawsCycle.{History, history_is_sound}
 use Rattle.rv_hardware.proofs.LawsLists.{Every, Every-weaker, EveryBehind-both, EachBehind-EveryBehind, All-Every}

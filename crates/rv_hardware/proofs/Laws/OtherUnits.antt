@@ -1,18 +1,9 @@
 -- A unit that is not pipelined executes one instruction at a time.
-use Rattle.std.proofs.Common.{◌≡◌, ℕ, ◌+◌, ◌≤◌, ◌<◌, ◌&&◌, Bool, true, false, nat_le, nat_lt, List, Option, Some, None, refl, sym, subst, arith, le-leb}
-use Rattle.std.proofs.lemmas.Bool.{leb-true, ltb-true, le-ltb, and_right}
-use Rattle.rv_isa.specs.declared.operations.Kind.{Kind}
-use Rattle.rv_isa.specs.declared.values.Values.{Values}
-use Rattle.rv_hardware.specs.Hardware.{Hardware}
-use Rattle.rv_isa.specs.Instruction.{is_of_kind, kind_of_word}
-use Rattle.rv_hardware.specs.Stamps.{rows_of, passes, is_row_of_kind, is_executing_in}
-use Rattle.rv_hardware.specs.declared.step.Execution.{Execution}
-use Rattle.rv_hardware.specs.declared.step.Step.{Step}
+use Rattle.rv_hardware.proofs.Words.{◌≡◌, ℕ, ◌+◌, ◌<◌, ◌≤◌, Bool, true, false, ◌&&◌, List, nat_lt, nat_le, Some, None, Option, sym, refl, subst, arith, ltb-true, le-ltb, le-leb, leb-true, and_right, is_of_kind, kind_of_word, Kind, Values, Hardware, FitUnits, is_pipelined, is_executing_in, is_row_of_kind, passes, rows_of, Execution, Step}
 use Rattle.rv_hardware.proofs.LawsBasics.{and_first, and_second, and_both}
 use Rattle.rv_hardware.proofs.LawsCycle.{History}
 use Rattle.rv_hardware.proofs.LawsMarks.{Mark, start_until, start_of_execution}
 use Rattle.rv_hardware.proofs.LawsUnits.{start_holds}
-use Rattle.rv_hardware.specs.Laws.{FitUnits, is_pipelined}
 use Rattle.rv_hardware.proofs.LawsUnitRows.{Between, units_law}
 
 abbrev executes_mark : Kind → ℕ → Mark → Bool

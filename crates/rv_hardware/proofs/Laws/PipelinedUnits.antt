@@ -1,20 +1,10 @@
 -- A pipelined unit begins at most one instruction a cycle.
-use Rattle.std.proofs.Common.{◌≡◌, ℕ, ◌+◌, ◌≤◌, ◌<◌, ◌&&◌, ◌==◌, true, false, nat_le, nat_lt, List, Option, Some, None, refl, sym, subst, arith, le-leb, eqb-true, ne_eqb}
-use Rattle.std.proofs.lemmas.Bool.{lt-ltb, and_right}
-use Rattle.rv_isa.specs.PerKind.{at_kind}
-use Rattle.rv_isa.specs.declared.operations.Kind.{Kind}
-use Rattle.rv_isa.specs.declared.values.Values.{Values}
-use Rattle.rv_hardware.specs.Hardware.{Hardware}
-use Rattle.rv_isa.specs.Instruction.{is_of_kind, kind_of_word}
-use Rattle.rv_hardware.specs.Stamps.{rows_of, passes, is_row_of_kind, is_issued_in}
-use Rattle.rv_hardware.specs.declared.step.Execution.{Execution}
-use Rattle.rv_hardware.specs.declared.step.Step.{Step}
+use Rattle.rv_hardware.proofs.Words.{◌≡◌, ℕ, ◌+◌, ◌<◌, ◌≤◌, true, false, ◌&&◌, List, nat_lt, nat_le, ◌==◌, Some, None, Option, sym, refl, subst, arith, lt-ltb, ne_eqb, eqb-true, le-leb, and_right, is_of_kind, kind_of_word, at_kind, Kind, Values, Hardware, FitUnits, is_pipelined, is_issued_in, is_row_of_kind, passes, rows_of, Execution, Step}
 use Rattle.rv_hardware.proofs.LawsBasics.{and_first, and_second, and_both}
 use Rattle.rv_hardware.proofs.LawsCounted.{Shows}
 use Rattle.rv_hardware.proofs.LawsCycle.{History}
 use Rattle.rv_hardware.proofs.LawsMarks.{Start, start_until, start_of_execution}
 use Rattle.rv_hardware.proofs.LawsUnits.{start_holds}
-use Rattle.rv_hardware.specs.Laws.{FitUnits, is_pipelined}
 use Rattle.rv_hardware.proofs.LawsUnitRows.{Between, units_law, starts_at, begins_mark}
 
 begins_holds : (c : ℕ) (o : Option Start) → starts_at c o ≡ true → start_holds true c o ≡ true

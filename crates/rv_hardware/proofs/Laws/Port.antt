@@ -1,18 +1,5 @@
 -- The law of the port, of the rows.
-use Rattle.std.proofs.Common.{◌≡◌, ℕ, ◌+◌, ◌≤◌, ◌<◌, ◌⊎◌, ◌==◌, not, Bool, true, false, cond, nat_le, List, [], ◌∷◌, ◌++◌, map, AllPairs, Option, Some, None, IfSome, inl, inr, refl, sym, subst, ap, ◌∙◌, arith, le-leb, true≢false, append_assoc}
-use Rattle.std.proofs.lemmas.Bool.{cases_lt}
-use Rattle.rv_isa.specs.declared.instructions.Instr.{Instr}
-use Rattle.rv_isa.specs.declared.values.Values.{Values}
-use Rattle.rv_front.specs.declared.fetched.Fetched.{Fetched}
-use Rattle.rv_rob.specs.declared.entry.Entry.{Entry}
-use Rattle.rv_rob.specs.declared.entry.Stage.{Stage}
-use Rattle.rv_rob.specs.declared.entry.Stage.TheVariants.{Waiting, Running, Finished}
-use Rattle.rv_hardware.specs.Laws.{AreApartAtPort}
-use Rattle.rv_hardware.specs.Hardware.{Hardware}
-use Rattle.rv_hardware.specs.Stamps.{rows_of, EachBehind, instruction_of_row, is_load_row, passes, uses_port}
-use Rattle.rv_hardware.specs.declared.step.Execution.{Execution}
-use Rattle.rv_hardware.specs.declared.step.Row.{Row}
-use Rattle.rv_hardware.specs.declared.step.Step.{Step}
+use Rattle.rv_hardware.proofs.Words.{◌≡◌, ℕ, ◌+◌, ◌<◌, ◌≤◌, Bool, true, false, cond, not, ◌⊎◌, List, [], ◌∷◌, ◌++◌, map, IfSome, nat_le, ◌==◌, Some, None, Option, AllPairs, sym, refl, ap, ◌∙◌, subst, inl, inr, true≢false, append_assoc, arith, le-leb, cases_lt, Instr, Values, Entry, Stage, Finished, Running, Waiting, Fetched, Hardware, AreApartAtPort, EachBehind, instruction_of_row, is_load_row, passes, rows_of, uses_port, Execution, Row, Step}
 use Rattle.rv_hardware.proofs.LawsBasics.{and_first, and_second, and_both}
 use Rattle.rv_hardware.proofs.LawsCounted.{behind_law}
 use Rattle.rv_hardware.proofs.LawsCycle.{Anything, anything_is_kept, History, began, went_on, cycle_passes, dispatching, history_is_legal, history_is_sound}

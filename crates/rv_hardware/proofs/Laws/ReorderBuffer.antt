@@ -1,11 +1,5 @@
 -- The reorder buffer holds no more instructions than it has room for.
-use Rattle.std.proofs.Common.{◌&&◌, is_some, is_none, nat_le, nat_lt, List, Some, refl, arith, le-leb}
-use Rattle.std.proofs.lemmas.Bool.{leb-true, ltb-true}
-use Rattle.rv_isa.specs.declared.values.Values.{Values}
-use Rattle.rv_hardware.specs.Hardware.{Hardware}
-use Rattle.rv_hardware.specs.Laws.{NeverMoreThan}
-use Rattle.rv_hardware.specs.Stamps.{rows_of, is_in_flight_in}
-use Rattle.rv_hardware.specs.declared.step.Step.{Step}
+use Rattle.rv_hardware.proofs.Words.{◌&&◌, List, is_some, is_none, nat_lt, nat_le, Some, refl, arith, ltb-true, le-leb, leb-true, Values, Hardware, NeverMoreThan, is_in_flight_in, rows_of, Step}
 use Rattle.rv_hardware.proofs.LawsAdvance.{is_in_flight_mark}
 use Rattle.rv_hardware.proofs.LawsBasics.{and_first, and_second, and_both}
 use Rattle.rv_hardware.proofs.LawsCounted.{Shows, counted_law, until_by, until_not}

@@ -1,10 +1,5 @@
 -- Each instruction passes through the stages in order.
-use Rattle.std.proofs.Common.{List, All}
-use Rattle.rv_isa.specs.declared.values.Values.{Values}
-use Rattle.rv_hardware.specs.Hardware.{Hardware}
-use Rattle.rv_hardware.specs.Laws.{HasOrderedStamps}
-use Rattle.rv_hardware.specs.Stamps.{rows_of}
-use Rattle.rv_hardware.specs.declared.step.Step.{Step}
+use Rattle.rv_hardware.proofs.Words.{List, All, Values, Hardware, HasOrderedStamps, rows_of, Step}
 use Rattle.rv_hardware.proofs.LawsCycle.{History, history_is_sound}
 use Rattle.rv_hardware.proofs.LawsLists.{Every-weaker, All-Every}
 use Rattle.rv_hardware.proofs.LawsRow.{SoundRow}

@@ -1,14 +1,5 @@
 -- The stations of a kind hold no more instructions than they have room for.
-use Rattle.std.proofs.Common.{◌≡◌, ℕ, ◌+◌, ◌≤◌, ◌<◌, ◌&&◌, true, is_some, is_none, nat_le, nat_lt, List, Option, Some, None, IfSome, refl, arith, le-leb}
-use Rattle.std.proofs.lemmas.Bool.{leb-true, ltb-true, lt-leb}
-use Rattle.rv_isa.specs.PerKind.{at_kind}
-use Rattle.rv_isa.specs.declared.operations.Kind.{Kind}
-use Rattle.rv_isa.specs.declared.values.Values.{Values}
-use Rattle.rv_hardware.specs.Hardware.{Hardware}
-use Rattle.rv_hardware.specs.Laws.{NeverMoreThan, stations_of}
-use Rattle.rv_hardware.specs.Stamps.{rows_of, passes, is_row_of_kind, is_stationed_in}
-use Rattle.rv_hardware.specs.declared.step.Execution.{Execution}
-use Rattle.rv_hardware.specs.declared.step.Step.{Step}
+use Rattle.rv_hardware.proofs.Words.{◌≡◌, ℕ, ◌+◌, ◌<◌, ◌≤◌, true, ◌&&◌, List, is_some, is_none, IfSome, nat_lt, nat_le, Some, None, Option, refl, arith, ltb-true, le-leb, leb-true, lt-leb, at_kind, Kind, Values, Hardware, NeverMoreThan, stations_of, is_row_of_kind, is_stationed_in, passes, rows_of, Execution, Step}
 use Rattle.rv_hardware.proofs.LawsAdvance.{is_stationed_mark}
 use Rattle.rv_hardware.proofs.LawsBasics.{and_first, and_second, and_both}
 use Rattle.rv_hardware.proofs.LawsCounted.{Shows, counted_law, until_by}

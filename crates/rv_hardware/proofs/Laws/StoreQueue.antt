@@ -1,38 +1,6 @@
 -- Every cycle keeps the store queue's tie to the rows, and so it holds no more stores than it has room for.
-use Rattle.std.proofs.Common.{◌≡◌, ℕ, zero, suc, ◌+◌, ◌≤◌, ◌<◌, ◌&&◌, Bool, true, false, cond, is_some, nat_le, nat_lt, List, [], ◌∷◌, ◌++◌, map, filter, length, Option, Some, None, inl, inr, refl, sym, subst, ap, ◌∙◌, arith, append_assoc, append-nil, le-leb, lt-ltb}
-use Rattle.std.proofs.lemmas.Bool.{leb-true, ltb-true, cases_lt, le-ltb}
-use Rattle.std.specs.Ordering.{nat_cmp}
+use Rattle.rv_hardware.proofs.Words.{◌≡◌, ℕ, zero, suc, ◌+◌, ◌<◌, ◌≤◌, Bool, true, false, cond, ◌&&◌, List, [], ◌∷◌, ◌++◌, map, length, is_some, nat_lt, nat_le, Some, None, filter, Option, nat_cmp, sym, refl, ap, ◌∙◌, subst, inl, inr, append_assoc, append-nil, arith, ltb-true, le-ltb, lt-ltb, le-leb, leb-true, cases_lt, is_serialising, is_store, Message, Instr, Issue, Lines, Kind, CacheValues, Values, due, interrupt_cause, Each, Store, Entry, Stage, Finished, broadcast, Committing, commit_unless, with_fault, with_lines, dispatch, drain, Hardware, FromCache, has_port, issue, NeverMoreThan, Turn, Report, written_of, is_queued_in, is_store_row, rows_of, Row, Step, Interrupt, Retired, Trap}
 use Rattle.std.specs.FinSet as set
-use Rattle.rv_isa.specs.declared.broadcast.Message.{Message}
-use Rattle.rv_isa.specs.declared.instructions.Instr.{Instr}
-use Rattle.rv_isa.specs.declared.issues.Issue.{Issue}
-use Rattle.rv_isa.specs.declared.lines.Lines.{Lines}
-use Rattle.rv_isa.specs.declared.operations.Kind.{Kind}
-use Rattle.rv_isa.specs.declared.values.CacheValues.{CacheValues}
-use Rattle.rv_isa.specs.declared.values.Values.{Values}
-use Rattle.rv_arch.specs.Due.{due}
-use Rattle.rv_arch.specs.Trap.{interrupt_cause}
-use Rattle.rv_cache.specs.WriteBack.{Each}
-use Rattle.rv_rob.specs.declared.entry.Entry.{Entry}
-use Rattle.rv_rob.specs.declared.entry.Stage.{Stage}
-use Rattle.rv_rob.specs.declared.entry.Stage.TheVariants.{Finished}
-use Rattle.rv_stores.specs.declared.store.Store.{Store}
-use Rattle.rv_hardware.specs.Laws.{NeverMoreThan}
-use Rattle.rv_hardware.specs.Broadcast.{broadcast}
-use Rattle.rv_hardware.specs.Commit.{Committing, commit_unless, with_fault}
-use Rattle.rv_hardware.specs.Cycle.{with_lines}
-use Rattle.rv_hardware.specs.Dispatch.{dispatch}
-use Rattle.rv_hardware.specs.Drain.{drain}
-use Rattle.rv_hardware.specs.Hardware.{Hardware}
-use Rattle.rv_isa.specs.Instruction.{is_serialising, is_store}
-use Rattle.rv_hardware.specs.Issue.{issue, FromCache, has_port}
-use Rattle.rv_hardware.specs.Report.{Report}
-use Rattle.rv_hardware.specs.Repeated.{Turn}
-use Rattle.rv_hardware.specs.Retirement.{written_of}
-use Rattle.rv_hardware.specs.Stamps.{rows_of, is_store_row, is_queued_in}
-use Rattle.rv_hardware.specs.declared.step.Row.{Row}
-use Rattle.rv_hardware.specs.declared.step.Step.{Step}
-use Rattle.rv_hardware.specs.declared.step.Step.TheVariants.{Retired, Trap, Interrupt}
 use Rattle.rv_hardware.proofs.GapBroadcast.{IsKeptByBroadcast, broadcast-keeps}
 use Rattle.rv_hardware.proofs.GapCosts.{access_cost-least}
 use Rattle.rv_hardware.proofs.GapDispatch.{IsKeptByDispatch, dispatch-keeps}

@@ -1,9 +1,5 @@
 -- Each step is of a cycle of the run.
-use Rattle.std.proofs.Common.{◌<◌, List}
-use Rattle.rv_isa.specs.declared.values.Values.{Values}
-use Rattle.rv_hardware.specs.Hardware.{Hardware}
-use Rattle.rv_hardware.specs.Step.{stamp_of}
-use Rattle.rv_hardware.specs.declared.step.Step.{Step}
+use Rattle.rv_hardware.proofs.Words.{◌<◌, List, Values, Hardware, stamp_of, Step}
 use Rattle.rv_hardware.proofs.LawsCycle.{History}
 use Rattle.rv_hardware.proofs.LawsLists.{Every}
 use Rattle.rv_hardware.proofs.LawsSteps.{history_has_steps}
