@@ -1,4 +1,4 @@
--- What the broadcast phase keeps: what a result on the bus and the mending of a wrong prediction keep.
+-- The broadcast phase keeps what a result on the bus and the mending of a wrong prediction keep.
 use Rattle.rv_hardware.proofs.Words.{◌≡◌, ℕ, ◌+◌, ◌&&◌, List, [], ◌∷◌, ◌++◌, length, Some, None, Option, sym, refl, ap, ◌∙◌, subst, Message, finished, predicting, entries_below, with_entry, Entry, broadcast, broadcast_oldest, broadcast_result, broadcast_turn, has_result, is_mispredicted, mends_early, result_at, with_broadcast, with_recovery, Hardware, oldest, Ends, GoesOn, redirected}
 use Rattle.rv_hardware.proofs.GapForms.{with_entries}
 use Rattle.rv_hardware.proofs.GapLists.{by_test, oldest-found, with_entry-found, entries_below-found}

@@ -1,4 +1,4 @@
--- What an execution costs at most.
+-- An access to the cache costs a hit, a miss and a write-back at most, and an execution the longest one's time.
 use Rattle.rv_hardware.proofs.Words.{ℕ, ◌≤◌, Bool, true, false, cond, Some, None, Option, arith, greatest_access, greatest_latency, at_kind, Kind, CacheValues, Values, Memory, Contents, access_cost, cost_of_access, evicted, eviction_cost, line_of, set_of, is_held, CacheLine, Hardware, FromCache, FromStores, Path, Without, cost_of}
 use Rattle.rv_isa.specs.declared.operations.Kind.TheVariants as kind
 use Rattle.rv_hardware.proofs.GapForms.{longest_execution}

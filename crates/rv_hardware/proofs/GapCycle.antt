@@ -1,4 +1,4 @@
--- What a whole cycle keeps, and so what holds of all that a reset and cycles lead to.
+-- A whole cycle keeps what its phases and its fetch keep.
 use Rattle.rv_hardware.proofs.Words.{◌≡◌, ℕ, ◌+◌, sym, refl, ap, ◌∙◌, subst, Lines, Kind, Memory, Answers, FetchBuffer, FetchesInto, FetchStop, IsCycle, any_prediction, execute, with_lines, Hardware, Report}
 use Rattle.std.specs.FinSet as set
 use Rattle.rv_hardware.proofs.GapBroadcast.{IsKeptByBroadcast, broadcast-keeps}

@@ -1,4 +1,4 @@
--- What the dispatch phase keeps: what the dispatch of one fetched word keeps.
+-- The dispatch phase keeps what the dispatch of one fetched word keeps.
 use Rattle.rv_hardware.proofs.Words.{◌≡◌, ℕ, List, [], ◌∷◌, Some, None, Option, refl, Fetched, Dispatching, dispatch, dispatch_turn, dispatch_turn_of, dispatch_unless, reason_of, with_dispatched, Hardware, repeated, Stall}
 use Rattle.rv_hardware.proofs.Repeated.{Leaves, kept_by_turns}
 

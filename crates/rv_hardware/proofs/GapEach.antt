@@ -1,4 +1,4 @@
--- What holds of each element of a list.
+-- What holds of each element of a list holds of its parts, and of two lists together.
 use Rattle.rv_hardware.proofs.Words.{◌≡◌, Bool, List, [], ◌∷◌, ◌++◌, map, filter, ap, Each}
 use Rattle.rv_hardware.proofs.GapLists.{by_test}
 

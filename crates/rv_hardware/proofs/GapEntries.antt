@@ -1,5 +1,5 @@
--- What is true of each instruction in flight: one that waits has a unit to wait for or waits to be the oldest, only a store
--- tells what it writes, and where no word was fetched, a fault is known.
+-- An instruction in flight that waits has a unit to wait for or waits to be the oldest, and only a store tells what it writes.
+-- Where no word was fetched, a fault is known.
 use Rattle.rv_hardware.proofs.Words.{◌≡◌, ℕ, ◌+◌, Bool, true, false, cond, ◌||◌, List, ◌∷◌, ◌++◌, is_some, nat_le, Some, None, Option, option_and_then, sym, refl, subst, is_serialising, is_store, kind_of_word, Message, StoreAccess, Fault, Instr, Lines, Kind, Values, instruction_of, Layout, Memory, Effect, Faults, Retires, effect, State, Each, finished, predicting, started, Entry, Stage, Finished, Running, Waiting, IsFetchedAt, Fetched, result_at, any_prediction, entry_of_fetched, stage_by, Hardware, reset_hardware, access_of, effect_message, result_of_word, layout_of, seen_behind}
 use Rattle.rv_isa.specs.declared.instructions.Instr.TheVariants.{Store}
 use Rattle.rv_hardware.proofs.GapFetch.{each-fetched}

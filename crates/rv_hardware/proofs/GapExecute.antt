@@ -1,4 +1,4 @@
--- The hardware after commit: what its phases leave of it, and its patience in the cycle after.
+-- No phase after commit changes what was described, and the stage of the oldest bounds the patience in the next cycle.
 use Rattle.rv_hardware.proofs.Words.{◌≡◌, ℕ, ◌+◌, ◌≤◌, false, List, [], ◌∷◌, Some, Option, sym, refl, ap, ◌∙◌, subst, arith, is_serialising, Message, Instr, FenceI, Issue, CacheValues, Values, Each, finished, issue_of, predicting, Entry, Stage, Finished, Running, Waiting, FetchBuffer, broadcast, broadcast_turn, result_at, execute, dispatch, entry_of_fetched, drain, Hardware, issue}
 use Rattle.rv_hardware.proofs.GapDrain.{drain-keeps}
 use Rattle.rv_hardware.proofs.GapIssue.{issue-keeps}

@@ -1,4 +1,4 @@
--- The forms that the hardware takes from turn to turn, and what is known of each start of an execution.
+-- The forms that the hardware takes from turn to turn, and the longest times of an access, an execution and a write-back.
 use Rattle.rv_hardware.proofs.Words.{◌≡◌, ℕ, ◌+◌, ◌*◌, List, [], ◌∷◌, ◌++◌, Option, greatest_access, greatest_latency, at_kind, with_kind, Message, StoreAccess, Instr, Lines, Kind, Layout, State, started, Entry, Hardware, result_of_word, committed_store, redirected}
 use Rattle.rv_units.specs.Pool.{started as started_unit}
 

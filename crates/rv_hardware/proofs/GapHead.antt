@@ -1,4 +1,4 @@
--- The oldest instruction in flight, and what becomes of it in the phases after commit.
+-- The oldest instruction in flight stays the oldest in the phases after commit, whatever becomes of those that are younger.
 use Rattle.rv_hardware.proofs.Words.{◌≡◌, true, false, List, [], ◌∷◌, ◌++◌, Option, sym, ◌∙◌, subst, Instr, Entry, Stage, is_waiting}
 
 -- the oldest is this instruction, in such a stage

@@ -1,4 +1,4 @@
--- The instructions in flight around one of them: the oldest that passes a test, a change of it, and what is cut after it.
+-- The oldest instruction that passes a test is found among the others, and a change of it or a cut after it changes nothing else.
 use Rattle.rv_hardware.proofs.Words.{◌≡◌, ℕ, ◌+◌, ◌≤◌, Bool, true, false, cond, List, [], ◌∷◌, ◌++◌, length, Some, Option, refl, ap, append_assoc, arith, le-ltb, lt-ltb, eq-eqb, ne_eqb, entries_below, with_entry, Entry, oldest, oldest_from}
 
 -- a test decides between two states

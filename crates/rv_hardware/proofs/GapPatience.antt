@@ -1,4 +1,4 @@
--- How many cycles without a step the hardware can still have: what the oldest instruction waits for, counted with slack.
+-- How many cycles without a step the hardware can still have, by what the oldest instruction waits for, counted with slack.
 use Rattle.rv_hardware.proofs.Words.{ℕ, zero, suc, ◌+◌, ◌-◌, ◌*◌, max, Bool, cond, List, [], ◌∷◌, length, Some, None, Option, is_load, kind_of_word, at_kind, Instr, FenceI, Issue, Kind, is_draining, Store, Entry, Stage, Finished, Running, Waiting, Fetched, write_back_time, Hardware}
 use Rattle.rv_hardware.proofs.GapForms.{longest_access, longest_execution, longest_write_back}
 

@@ -1,4 +1,4 @@
--- When the oldest instruction is ready, and which instructions access the cache.
+-- The oldest instruction is ready where it waits and can go, and only a load of the memory unit accesses the cache.
 use Rattle.rv_hardware.proofs.Words.{◌≡◌, ℕ, ◌≤◌, Bool, true, false, not, ◌&&◌, ◌||◌, ◌⊎◌, List, [], ◌∷◌, ◌++◌, nat_le, Some, None, Option, sym, refl, ap, ◌∙◌, inl, inr, arith, and_from, or_right, nat_tests, list_all, is_same-own, is_same-true, is_load, is_of_kind, kind_of_word, sources_of_word, Instr, Load, Kind, State, is_known as is_known_store, Store as QueuedStore, Entry, Hardware, is_waiting, stores_of, FromCache, FromStores, Path, Without, has_operands, has_port, is_ready, may_load, path, path_of, seen_behind, stores_behind}
 use Rattle.rv_isa.specs.declared.operations.Kind.TheVariants as kind
 use Rattle.rv_hardware.proofs.GapIssue.{ready-parts}

@@ -1,4 +1,4 @@
--- What is known where a fetched word has no reason to wait.
+-- Where a fetched word has no reason to wait, nothing in flight serialises, and there is room for it.
 use Rattle.rv_hardware.proofs.Words.{◌≡◌, Bool, true, false, cond, ◌&&◌, List, length, nat_le, Some, None, Option, refl, list_any, is_serialising, is_store, kind_of_word, Entry, Fetched, has_full_stations, reason_of, Hardware, stores_behind, Stall}
 use Rattle.rv_hardware.specs.declared.report.Stall.TheVariants as stall
 

@@ -1,4 +1,4 @@
--- What holds of all hardware that a reset and cycles lead to.
+-- All that a reset and cycles lead to has its sizes, queue, executions, units, port and fetch within their bounds.
 use Rattle.rv_hardware.proofs.Words.{ℕ, List, IsLegal, Lines, Values, IsCycle, any_prediction, Hardware, Report, reset_hardware, Reachable}
 use Rattle.rv_hardware.proofs.GapCycle.{cycle-keeps}
 use Rattle.rv_hardware.proofs.GapHalted.{IsHalted, halted-kept, halted-at_reset}

@@ -1,4 +1,4 @@
--- How two values of the hardware are told apart: by the codes of its fields.
+-- The code of hardware is made of those of its fields, and tells two values apart.
 use Rattle.rv_hardware.proofs.Words.{nat_cmp, Hardware}
 use Rattle.std.specs.Coded.{Coded, codes, coded_ℕ}
 use Rattle.std.specs.FinSet as set

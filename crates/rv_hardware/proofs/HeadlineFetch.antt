@@ -1,4 +1,4 @@
--- The fetch phase: what RAM gives are the words of the program, unless they are stale.
+-- What the fetch phase reads from RAM are the words of the program, unless they are stale.
 use Rattle.rv_hardware.proofs.Words.{◌≡◌, ℕ, zero, suc, ◌-◌, ◌%◌, Bool, true, false, List, [], ◌∷◌, ◌++◌, length, Some, None, MatchBool, Option, MatchOption, sym, refl, ap, ◌∙◌, subst, arith, Values, Layout, Memory, fetched_word, word_of, State, Entry, Answers, FetchBuffer, Fetches, FetchesInto, IsFetchedAt, is_halted, stop_behind, FetchStop, Halted, Fetched, Hardware, layout_of, seen}
 use Rattle.std.specs.FinSet as set
 use Rattle.rv_hardware.proofs.HeadlineFold.{behind, IsWordAt, IsInBuffer, AreInBuffer}

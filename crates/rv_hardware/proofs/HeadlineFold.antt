@@ -1,4 +1,4 @@
--- The state after instructions in flight, had each of them executed in order: what the one-at-a-time machine will see there.
+-- The state after instructions in flight, each executed in order, is what the one-at-a-time machine will see there.
 use Rattle.rv_hardware.proofs.Words.{◌≡◌, ℕ, ◌%◌, false, List, [], ◌∷◌, Some, Option, option_and_then, no_lines, target_of_word, Message, instruction_of, Layout, fetched_word, word_of, State, Entry, Stage, Finished, Running, Waiting, Fetched, store_of_message, with_store, with_value, result_of_word, stale_after}
 use Rattle.std.specs.FinSet as set
 

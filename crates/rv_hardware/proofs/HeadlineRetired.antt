@@ -1,4 +1,4 @@
--- What a retirement, a trap and a flush leave.
+-- A retirement, a trap and a flush leave sound hardware, and programs see what the machine's step leaves.
 use Rattle.rv_hardware.proofs.Words.{◌≡◌, ℕ, ◌+◌, ◌*◌, ◌/◌, ◌%◌, ◌^◌, ◌≤◌, Bool, true, false, List, [], ◌∷◌, ◌++◌, length, IfSome, if◌then◌else◌, nat_le, slice_index_or as get_or, Some, None, Option, nat_cmp, sym, refl, ap, ◌∙◌, subst, ap₂, inl, inr, true≢false, append-nil, arith, le-leb, and_from, cases_eq, Message, StoreAccess, Values, Layout, Memory, fetched_word, is_in_ram, word_of, Kept, State, trap_taken, handler_of, Contents, is_draining, Store as QueuedStore, Committed, Filled, after_head, Entry, Fetched, Hardware, memory_behind, store_of_message, with_store, committed_store, stale_after, with_result, layout_of, seen, with_state, flushed, with_trap}
 use Rattle.std.specs.FinSet as set
 use Rattle.rv_hardware.proofs.HeadlineFold.{result_at, with_message, executed, behind, IsWordAt, AreInFlight, AreInBuffer}

@@ -1,4 +1,4 @@
--- Instructions in flight in two parts.
+-- Instructions in flight follow the program where the older of them do, and the younger from where those lead.
 use Rattle.rv_hardware.proofs.Words.{◌≡◌, ℕ, ◌+◌, Bool, true, false, List, [], ◌∷◌, ◌++◌, length, if◌then◌else◌, Some, None, Option, sym, refl, ap, ◌∙◌, subst, append_assoc, append-nil, arith, le-ltb, lt-ltb, eq-eqb, ne_eqb, Layout, State, entries_below, with_entry, Entry, oldest, oldest_from}
 use Rattle.rv_hardware.proofs.HeadlineFold.{executed, behind, AreInFlight}
 

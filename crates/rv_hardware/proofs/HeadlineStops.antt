@@ -1,4 +1,4 @@
--- Why a run stopped, in what programs see.
+-- The reason why a run stopped is true of what programs see.
 use Rattle.rv_hardware.proofs.Words.{◌≡◌, ℕ, ◌+◌, ◌^◌, true, false, List, [], ◌∷◌, ◌++◌, length, Some, All, sym, refl, ap, ◌∙◌, subst, inl, inr, true≢false, append_assoc, append-nil, arith, cases_Bool, false≢true, or_from, or_parts, or_right, All-head, All-tail, list_any-append, list_any, lines_at, Arrival, Layout, State, Stop, Hardware, EndAtBreakpoints, EndAtTraps, IsTrueCycle, IsTrueStop, Report, Cycles, IsStop, NoneStops, Reachable, steps_of, layout_of, seen, is_breakpoint, is_retirement, stamp_of, Step}
 use Rattle.rv_arch.specs.declared.outcome.Stop.TheVariants as stop
 use Rattle.rv_hardware.specs.declared.step.Step.TheVariants as step

@@ -1,4 +1,4 @@
--- Bytes, words, and the stores that retired: a store changes the bytes of its own word alone.
+-- A store changes the bytes of its own word alone, and so do all stores that retired.
 use Rattle.rv_hardware.proofs.Words.{◌≡◌, ℕ, ◌+◌, ◌-◌, ◌%◌, ◌≤◌, Bool, true, false, cond, ◌||◌, ◌≢◌, List, [], ◌∷◌, ◌++◌, length, slice_index_or as get_or, slice_range, Some, None, nat_cmp, sym, refl, ap, ◌∙◌, inl, inr, true≢false, arith, ext_get_or, eq-eqb, ne_eqb, cases_Bool, cases_lt, cond-false, eqb-false, or_left, or_parts, or_right, nat_tests, number_of, StoreAccess, overwritten, Layout, fetched_word, is_in_ram, number_at, word_of, get_or-overwritten_above, get_or-overwritten_below, get_or-overwritten_in, length-overwritten, Each, is_committed, Store as QueuedStore, StoreState, Filled, memory_behind, with_store}
 use Rattle.std.specs.Cmp.{nat_cmp_total, unsigned_tied}
 use Rattle.std.specs.FinSet as set

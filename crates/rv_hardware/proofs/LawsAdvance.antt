@@ -1,4 +1,4 @@
--- How a mark goes on in a cycle, after the marks of what is older.
+-- A mark goes on in a cycle by a retirement, a start, a broadcast or a dispatch, and stays what it was in earlier cycles.
 use Rattle.rv_hardware.proofs.Words.{◌≡◌, ℕ, ◌+◌, ◌<◌, ◌≤◌, Bool, true, ◌&&◌, List, ◌∷◌, ◌++◌, is_some, is_none, IfSome, Some, None, Option, sym, refl, ap, ◌∙◌, arith, is_load, is_of_kind, is_store, is_target, kind_of_word, sources_of_word, target_of_word, at_kind, Kind, Values, last_that}
 use Rattle.rv_hardware.proofs.LawsLists.{Every, count}
 use Rattle.rv_hardware.proofs.LawsMarks.{Start, Mark, Agree, Extends, Extends-trans, Extends-cut, Extends-change, at_end, until, until_now, start_until, start_until_now}

@@ -1,4 +1,4 @@
--- What every phase keeps: the shape, sound rows, instructions and words, and marks that only go on.
+-- An instruction that starts, is broadcast or is dispatched stays sound, and its mark goes on.
 use Rattle.rv_hardware.proofs.Words.{◌≡◌, ℕ, ◌+◌, ◌≤◌, Bool, true, false, ◌&&◌, ◌||◌, List, [], ◌∷◌, is_some, Some, None, Option, option_and_then, sym, refl, ap, ◌∙◌, subst, inl, inr, arith, list_any, is_of_kind, is_serialising, kind_of_word, sources_of_word, Message, Instr, Issue, Lines, Kind, Values, instruction_of, Layout, State, finished, issue_of, predicting, started, Entry, Stage, Finished, Running, Waiting, Fetched, entry_of_fetched, stage_by, Hardware, is_waiting, has_operands, is_ready, may_load, result_of_word, layout_of, seen_behind, rows_of, Step}
 use Rattle.rv_hardware.proofs.LawsLists.{Every, EveryPair}
 use Rattle.rv_hardware.proofs.LawsMarks.{mark_of_entry, mark_of_fetched, start_of_issue, start_of_stage, broadcast_of_stage}

@@ -1,4 +1,4 @@
--- From counts of marks at the end of each cycle to counts of rows.
+-- Where marks are counted at the end of each cycle, no more rows pass the test of a cycle than marks did.
 use Rattle.rv_hardware.proofs.Words.{◌≡◌, ℕ, suc, ◌<◌, ◌≤◌, Bool, true, false, cond, ◌&&◌, List, [], ◌∷◌, ◌++◌, map, Some, None, count_by, filter, refl, ap, ◌∙◌, subst, inl, inr, arith, le-leb, cases_lt, lt-leb, Lines, Values, Hardware, Report, rows_of, Row, Step}
 use Rattle.rv_hardware.proofs.LawsCycle.{Passed, History, history_is_sound}
 use Rattle.rv_hardware.proofs.LawsLists.{Every, EveryBehind, EveryBehind-at, Every-weaker, count, count-count_by, count-le, count-map, count-none, Beginning-count}

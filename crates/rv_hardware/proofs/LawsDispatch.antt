@@ -1,4 +1,4 @@
--- What a turn of the dispatch phase does.
+-- A turn of the dispatch phase finds no word, leaves the oldest waiting for room, or dispatches it.
 use Rattle.rv_hardware.proofs.Words.{◌≡◌, ◌+◌, Bool, true, false, cond, ◌&&◌, List, [], ◌∷◌, length, nat_le, Some, None, refl, list_any, is_serialising, is_store, kind_of_word, Fetched, Dispatching, dispatch_turn, dispatch_turn_of, dispatch_unless, has_full_stations, with_dispatched, Hardware, Ends, GoesOn, Turn, stores_behind, Stall}
 use Rattle.rv_hardware.specs.declared.report.Stall.TheVariants as stall
 

@@ -1,4 +1,4 @@
--- What the marks of older instructions show when an instruction starts, is broadcast or is dispatched.
+-- When an instruction starts, is broadcast or is dispatched, the marks of older ones show its operands, its turn and its room.
 use Rattle.rv_hardware.proofs.Words.{◌≡◌, ℕ, ◌+◌, ◌<◌, ◌≤◌, Bool, true, false, cond, not, ◌&&◌, List, [], ◌∷◌, ◌++◌, map, length, is_some, is_none, IfSome, nat_le, Some, None, filter, Option, sym, refl, ◌∙◌, true≢false, arith, leb-false, length-filter, list_all, is_of_kind, is_store, kind_of_word, Message, Instr, Issue, Kind, Values, instruction_of, is_known as is_known_store, Store as QueuedStore, Entry, Stage, Finished, Running, Waiting, has_result, result_at, is_stationed, broadcast_of, is_known_from, is_waiting, store_of_broadcast, stores_of, writes, has_operands, last_from, last_that, Execution, Row}
 use Rattle.rv_isa.specs.declared.instructions.Instr.TheVariants.{Store}
 use Rattle.rv_hardware.specs.InFlight.{is_known}

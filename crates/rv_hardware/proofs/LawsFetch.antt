@@ -1,4 +1,4 @@
--- What a cycle's fetch adds to the fetch buffer.
+-- A cycle's fetch adds new words at the end of the fetch buffer, within its width and its room.
 use Rattle.rv_hardware.proofs.Words.{◌≡◌, ℕ, zero, suc, ◌-◌, ◌<◌, ◌≤◌, Bool, true, false, ◌⊎◌, List, [], ◌∷◌, ◌++◌, length, Some, None, MatchBool, Option, MatchOption, option_and_then, sym, refl, ap, ◌∙◌, inl, inr, append-nil, arith, instruction_of, Memory, Answers, EndsFor, FetchBuffer, Fetches, FetchesInto, is_halted, stop_behind, FetchStop, Halted, Fetched}
 use Rattle.rv_hardware.proofs.LawsLists.{Every}
 

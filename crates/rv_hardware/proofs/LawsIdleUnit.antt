@@ -1,4 +1,4 @@
--- No pipelined unit is idle while an instruction that is no load has its operands.
+-- Marks that go on keep it that no pipelined unit is idle while an instruction that is no load has its operands.
 use Rattle.rv_hardware.proofs.Words.{◌≡◌, ℕ, ◌<◌, ◌≤◌, Bool, true, false, cond, not, ◌&&◌, ◌||◌, List, [], ◌∷◌, ◌++◌, map, is_some, IfSome, Some, None, Option, sym, refl, ap, ◌∙◌, subst, true≢false, append_assoc, arith, is_load, is_of_kind, is_serialising, is_target, kind_of_word, sources_of_word, target_of_word, Instr, Kind, Values, Entry, Stage, Finished, Running, Waiting, Fetched, Hardware, broadcast_of, is_known_from, is_waiting, writes, has_operands, is_ready, may_load, last_from, last_that, Execution, Row}
 use Rattle.rv_hardware.specs.InFlight.{is_known}
 use Rattle.rv_hardware.proofs.LawsAdvance.{IsBefore, writes_mark, IsKnownMark, OperandsKnown, Advances, retires, starts, is_sent, enters, Kept}

@@ -1,4 +1,4 @@
--- What every cycle keeps holds in every history, and what turns of the commit phase keep beside what is basic.
+-- What every cycle keeps holds in every history, and what each turn of the commit phase keeps all its turns keep.
 use Rattle.rv_hardware.proofs.Words.{ℕ, Bool, List, nat_cmp, Values, Committing, commit_turn, Hardware, Ends, GoesOn, Turn, repeated, reset_hardware, Step}
 use Rattle.std.specs.FinSet as set
 use Rattle.rv_hardware.proofs.GapCycle.{IsKept, cycle-keeps}

@@ -1,4 +1,4 @@
--- Marks of which each tells why the next one was not fetched earlier.
+-- Marks of which each tells why the next was not fetched earlier go on to do so.
 use Rattle.rv_hardware.proofs.Words.{◌≡◌, ℕ, suc, ◌+◌, ◌<◌, ◌≤◌, Bool, true, false, cond, ◌&&◌, ◌⊎◌, List, [], ◌∷◌, ◌++◌, length, Some, None, Option, sym, refl, ap, ◌∙◌, subst, inl, inr, append_assoc, arith, length-append, Early, Values}
 use Rattle.rv_hardware.proofs.LawsAdvance.{Advances, Kept, retires, starts, is_sent, enters, advances_agree}
 use Rattle.rv_hardware.proofs.LawsCycle.{is_buffered_mark}

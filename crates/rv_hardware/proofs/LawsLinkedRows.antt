@@ -1,4 +1,4 @@
--- Fetch waits for nothing but room: of marks.
+-- In every history each mark tells why the next was not fetched earlier.
 use Rattle.rv_hardware.proofs.Words.{◌≡◌, ℕ, ◌+◌, ◌-◌, ◌<◌, ◌≤◌, true, false, ◌⊎◌, List, [], ◌∷◌, ◌++◌, map, length, Some, None, Option, sym, refl, ap, ◌∙◌, subst, inl, inr, true≢false, append-nil, arith, length-append, cases_lt, Lines, Early, Values, due, FetchBuffer, Fetched, Committing, IsCycle, any_prediction, execute, with_lines, Dispatching, Hardware, Report, rows_of, Row, Step}
 use Rattle.std.specs.FinSet as set
 use Rattle.rv_hardware.proofs.GapFetch.{fetch-cases}

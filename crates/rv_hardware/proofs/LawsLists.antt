@@ -1,4 +1,4 @@
--- Lists: what holds of every element, counts, beginnings, and the place of an element.
+-- What holds of every element, counts and beginnings go over to parts of lists, to images, and where one element changes.
 use Rattle.rv_hardware.proofs.Words.{◌≡◌, ℕ, suc, ◌+◌, ◌≤◌, Bool, true, false, cond, List, [], ◌∷◌, ◌++◌, map, length, All, count_by, filter, AllPairs, sym, refl, ap, ◌∙◌, append_assoc, append-nil, arith, All-cons, All-nil, AllPairs-cons, EachBehind}
 use Rattle.std.proofs.lemmas.List.Recursion.{is_count_by}
 

@@ -1,4 +1,4 @@
--- The marks of a run's rows, of the instructions in flight and of the fetched words, and these as they stood at the end of a cycle.
+-- The marks of rows, instructions in flight and fetched words go on, and stand as they stood at the end of each earlier cycle.
 use Rattle.rv_hardware.proofs.Words.{◌≡◌, ℕ, ◌<◌, ◌≤◌, Bool, true, false, cond, List, [], ◌∷◌, ◌++◌, map, is_some, if◌then◌else◌, nat_le, Some, None, filter, Option, sym, refl, ap, ◌∙◌, append_assoc, append-nil, arith, lt-leb, filter-append, Message, Instr, Issue, instruction_of, Entry, Stage, Finished, Running, Waiting, Fetched, Hardware, rows_of, Execution, Row, Step, Interrupt, Retired, Trap}
 use Rattle.rv_hardware.proofs.LawsLists.{Every, Every-weaker, Beginning, Beginning-self, Beginning-trans}
 

@@ -1,4 +1,4 @@
--- The next instruction of the program, the oldest in flight or else the oldest fetched word, and what becomes of it after commit.
+-- The next instruction of the program, in flight or in the fetch buffer, keeps its reason not to have retired.
 use Rattle.rv_hardware.proofs.Words.{◌≡◌, ℕ, ◌+◌, ◌≤◌, Bool, true, false, ◌&&◌, ◌⊎◌, List, [], ◌∷◌, ◌++◌, Some, None, Option, nat_cmp, subst, inr, arith, is_fence_i, is_serialising, is_store, kind_of_word, Message, Instr, Kind, word_of, finished, issue_of, predicting, started, Entry, Stage, Finished, Running, Waiting, Fetched, broadcast, result_at, execute, entry_of_fetched, stage_by, drain, Hardware, issue, result_of_word, layout_of, seen_behind}
 use Rattle.std.specs.FinSet as set
 use Rattle.rv_hardware.proofs.GapBroadcast.{IsKeptByBroadcast, broadcast-keeps}

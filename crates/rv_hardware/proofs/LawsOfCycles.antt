@@ -1,4 +1,4 @@
--- What a single cycle reports: an interrupt that is due is its one step; it dispatches something or stalls for one reason.
+-- An interrupt that is due is the one step of its cycle, and a cycle dispatches something or stalls for one reason.
 use Rattle.rv_hardware.proofs.Words.{◌≡◌, ℕ, ◌+◌, List, [], ◌∷◌, ◌++◌, length, ◌==◌, Some, None, All, Option, sym, ap, ◌∙◌, subst, arith, Arrival, Lines, Values, due, interrupt_cause, Committing, commit_unless, IsCycle, any_prediction, with_lines, stall_of, Hardware, stall_cycles, Report, Cycles, Reachable, busy_of, cycled, ended, stalls_of, stamp_of, Step, Interrupt}
 use Rattle.std.specs.FinSet as set
 use Rattle.rv_hardware.proofs.LawsCounts.{IsCounted, AllTell, dispatch_tells, busy_and_stalls}

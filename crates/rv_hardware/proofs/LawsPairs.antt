@@ -1,4 +1,4 @@
--- Rows after others: from pairs of marks to pairs of rows, and what is known of older rows.
+-- A relation of each two marks gives one of each two rows, and the rows before a row are sound.
 use Rattle.rv_hardware.proofs.Words.{◌≡◌, ℕ, ◌≤◌, true, List, [], ◌∷◌, ◌++◌, map, Some, None, Option, refl, is_serialising, is_target, kind_of_word, target_of_word, Instr, Csr, FenceI, Mret, Values, Hardware, instruction_of_row, rows_of, Row, Step, Interrupt, Retired, Trap}
 use Rattle.rv_hardware.proofs.LawsCycle.{History, history_is_sound}
 use Rattle.rv_hardware.proofs.LawsLists.{Every, Every-append, Every-both, EveryPair, EveryPair-left, EveryPair-unmap, EveryPair-weaker, EveryBehind, EveryBehind-left, EveryBehind-unmap, EveryBehind-EveryPair}

@@ -1,4 +1,4 @@
--- The retired stores of the queue are the last store rows; the access of each earlier one is over, `hit` cycles after its retirement or later.
+-- The retired stores in the queue are the last store rows, and the access of each earlier one is over.
 use Rattle.rv_hardware.proofs.Words.{◌≡◌, ℕ, ◌+◌, ◌≤◌, Bool, true, false, cond, List, [], ◌∷◌, ◌++◌, length, is_some, Some, None, filter, Option, sym, refl, ap, ◌∙◌, append_assoc, append-nil, arith, filter-append, StoreAccess, with_oldest_draining, without_drained, is_draining, Store, committed_store, is_store_row, Row}
 use Rattle.rv_hardware.proofs.LawsLists.{Every, Every-append, Every-weaker}
 

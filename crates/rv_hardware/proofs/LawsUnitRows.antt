@@ -1,4 +1,4 @@
--- Of marks that hold a unit there are at most as many as there are units.
+-- Of rows that hold a unit in a cycle there are at most as many as there are units.
 use Rattle.rv_hardware.proofs.Words.{◌≡◌, ℕ, ◌+◌, ◌<◌, ◌≤◌, Bool, true, false, ◌&&◌, List, ◌++◌, map, IfSome, ◌==◌, Some, None, count_by, Option, ap, ◌∙◌, arith, is_of_kind, kind_of_word, at_kind, Lines, Kind, Values, Fetched, Hardware, Report, rows_of, Execution, Row, Step}
 use Rattle.rv_hardware.proofs.LawsCounted.{Shows, counted_law}
 use Rattle.rv_hardware.proofs.LawsCycle.{History, Passed, dispatching, history_is_legal}

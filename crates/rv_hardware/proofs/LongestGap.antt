@@ -1,4 +1,4 @@
--- The longest gap of a run, by the stamps of its steps.
+-- The longest gap of a run is what the stamps of its steps give.
 use Rattle.rv_hardware.proofs.Words.{◌≡◌, ℕ, ◌+◌, ◌-◌, ◌<◌, ◌≤◌, max, cond, ◌⊎◌, List, [], ◌∷◌, ◌++◌, All, subst, inl, inr, ⊎_elim, arith, All-append, All-head, All-nil, All-tail, All-weaker, Arrival, Layout, State, Hardware, Report, Cycles, Reachable, is_silent, longest_gap_from, longest_gap_of, steps_of, layout_of, stamp_of, Step}
 use Rattle.std.proofs.str.Laws.{order}
 use Rattle.rv_hardware.specs.LongestGap.{IsGap, IsLongestGap}

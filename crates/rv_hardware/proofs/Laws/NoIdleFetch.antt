@@ -1,4 +1,4 @@
--- Fetch waits for nothing but room: of rows.
+-- Fetch waits for nothing but room.
 use Rattle.rv_hardware.proofs.Words.{◌≡◌, ℕ, ◌≤◌, true, List, [], ◌∷◌, ◌++◌, map, is_none, nat_lt, nat_le, Some, None, count_by, Option, MatchOption, sym, refl, ap, ◌∙◌, subst, inl, inr, append_assoc, arith, map-append, Values, Hardware, IsFetchedBehind, EachNext, is_buffered_in, rows_of, Execution, Row, Step, Interrupt, Retired, Trap}
 use Rattle.rv_hardware.proofs.LawsBasics.{and_first, and_second, and_both}
 use Rattle.rv_hardware.proofs.LawsCycle.{History}

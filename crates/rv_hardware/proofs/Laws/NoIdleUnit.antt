@@ -1,4 +1,4 @@
--- The law that no pipelined unit is idle, of the rows.
+-- No pipelined unit is idle while an instruction that is no load has its operands.
 use Rattle.rv_hardware.proofs.Words.{◌≡◌, ℕ, ◌+◌, ◌<◌, ◌≤◌, Bool, true, false, cond, ◌&&◌, List, [], ◌∷◌, map, is_some, IfSome, nat_le, ◌==◌, Some, None, count_by, Option, option_map, sym, refl, ap, ◌∙◌, subst, arith, le-leb, is_serialising, kind_of_word, at_kind, Kind, Values, Hardware, HasOperandsIn, LeaveNoUnitIdle, is_pipelined, instruction_of_row, is_issued_in, is_row_of_kind, last_from, last_that, passes, producer_among, rows_of, sources_of_row, writes_register, Execution, Row, Step}
 use Rattle.rv_hardware.proofs.LawsAdvance.{IsBefore, writes_mark, IsKnownMark, OperandsKnown}
 use Rattle.rv_hardware.proofs.LawsBasics.{and_first, and_second, and_both}

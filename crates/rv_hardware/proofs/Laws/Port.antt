@@ -1,4 +1,4 @@
--- The law of the port, of the rows.
+-- Of two loads that use the cache's port one is over when the other begins.
 use Rattle.rv_hardware.proofs.Words.{◌≡◌, ℕ, ◌+◌, ◌<◌, ◌≤◌, Bool, true, false, cond, not, ◌⊎◌, List, [], ◌∷◌, ◌++◌, map, IfSome, nat_le, ◌==◌, Some, None, Option, AllPairs, sym, refl, ap, ◌∙◌, subst, inl, inr, true≢false, append_assoc, arith, le-leb, cases_lt, Instr, Values, Entry, Stage, Finished, Running, Waiting, Fetched, Hardware, AreApartAtPort, EachBehind, instruction_of_row, is_load_row, passes, rows_of, uses_port, Execution, Row, Step}
 use Rattle.rv_hardware.proofs.LawsBasics.{and_first, and_second, and_both}
 use Rattle.rv_hardware.proofs.LawsCounted.{behind_law}
