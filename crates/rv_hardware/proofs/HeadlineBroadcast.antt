@@ -113,5 +113,6 @@ module _ (values : Values) (cycle : ℕ) (state : State) where
   oldest_kept h None at is = is
   oldest_kept h (Some found) at is = result_kept h found.0 found.1 _ refl is (oldest_found (has_result h.cycle) h.rob.entries found.0 found.1 at)
 
+  -- the broadcast phase keeps the hardware sound, with the same state seen
   pub broadcast_kept : (h : Hardware) → IsSoundAt values cycle state h → IsSoundAt values cycle state (broadcast h)
   broadcast_kept h is = kept_by_turns (IsSoundAt values cycle state) broadcast_turn (λ now. oldest_kept now _ refl) h.values.bus_width h is

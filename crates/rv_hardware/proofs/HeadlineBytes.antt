@@ -11,6 +11,7 @@ IsStateInside layout Waiting = Unit {0}
 IsStateInside layout Faulted = Unit {0}
 IsStateInside layout (Filled access phase) = IsStoreAccess layout access
 
+-- what a queued store writes lies in the layout's RAM
 abbrev pub IsInside : Layout → QueuedStore → Type 0
 IsInside layout s = IsStateInside layout s.state
 

@@ -226,6 +226,7 @@ module _ (lines : Lines) (before : State) (old : Hardware) where
               (λ pc is. subst (λ n. MachineStep (layout_of c.hardware.values) (seen c.hardware) c.hardware.lines (machine.Stale n) (seen c.hardware)) (cc) found);
         }
 
+  -- a turn of the commit phase either goes on soundly or ends in a true cycle
   pub turn_done : (c : Committing) (entries : List Entry) → c.hardware.rob.entries ≡ entries → IsGoing lines before old c →
       LeavesEither (IsGoing lines before old) (IsDone lines before old) (commit_turn_of set.contains entries c)
   turn_done c [] are going = done c going
@@ -233,6 +234,7 @@ module _ (lines : Lines) (before : State) (old : Hardware) where
 
 -- ---- the whole phase
 module _ (h : Hardware) (is : IsSound h) where
+  -- where no interrupt is due, the phase begins with no step taken
   pub begins_going : due h.csrs h.lines ≡ None → IsGoing h.lines (seen h) h (record { hardware = h; steps = []; stop = None })
   begins_going now =
       record { values_are = refl; cycle_is = refl; lines_are = refl; calm = now; sound = is; leads = nowhere; retirements = tt; no_stop = refl }
@@ -250,5 +252,6 @@ module _ (h : Hardware) (is : IsSound h) where
       left_by_turns (IsGoing h.lines (seen h) h) (IsDone h.lines (seen h) h) (commit_turn set.contains) (λ c going. turn_done h.lines (seen h) h c c.hardware.rob.entries refl going) (done h.lines (seen h) h)
       h.values.commit_width (record { hardware = h; steps = []; stop = None }) (begins_going now)
 
+  -- the whole commit phase reports a true cycle, and leaves sound hardware
   pub commit_done : IsDone h.lines (seen h) h (commit set.contains h)
   commit_done = commit_by (due h.csrs h.lines) refl

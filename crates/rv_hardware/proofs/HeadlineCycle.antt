@@ -21,11 +21,13 @@ pub record GoesOnTrue (lines : Lines) (old : Hardware) (report : Report) (new : 
 pub lines_sound : (lines : Lines) (h : Hardware) → IsSound h → IsSound (with_lines lines h)
 lines_sound lines h is = record { pc_aligned = is.pc_aligned; mepc_aligned = is.mepc_aligned; memory = is.memory; program = is.program }
 
+-- the phases from drain to dispatch keep the hardware sound, with the same state seen
 pub execute_kept : (values : Values) (cycle : ℕ) (s : State) (h : Hardware) → IsSoundAt values cycle s h → IsSoundAt values cycle s (execute h).hardware
 execute_kept values cycle s h is =
     dispatch_kept values cycle s (broadcast (issue (drain h)))
     (broadcast_kept values cycle s (issue (drain h)) (issue_kept values cycle s (drain h) (drain_kept values cycle s h is)))
 
+-- a cycle of sound hardware is true, and leaves sound hardware
 pub cycle_true : (lines : Lines) (old : Hardware) (report : Report) (new : Hardware) → IsSound old → IsCycle any_prediction lines old report new → GoesOnTrue lines old report new
 cycle_true lines old report new is c =
     let committed : IsDone lines (seen old) (with_lines lines old) c.committing =

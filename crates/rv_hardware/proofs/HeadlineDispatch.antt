@@ -79,6 +79,7 @@ module _ (values : Values) (cycle : ℕ) (state : State) where
   turn_kept [] d are is = is
   turn_kept (fetched ∷ rest) d are is = unless_kept (reason_of d.hardware fetched) fetched rest d are is
 
+  -- the dispatch phase keeps the hardware sound, with the same state seen
   pub dispatch_kept : (h : Hardware) → IsSoundAt values cycle state h → IsSoundAt values cycle state (dispatch h).hardware
   dispatch_kept h is =
       kept_by_turns Kept dispatch_turn (λ d. turn_kept d.hardware.front.entries d refl) h.values.dispatch_width (record { hardware = h; dispatched = 0; waits_for = None }) is

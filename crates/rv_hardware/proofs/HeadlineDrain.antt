@@ -166,5 +166,6 @@ drain_by : (b : Bool) (values : Values) (cycle : ℕ) (state : State) (h : Hardw
 drain_by false values cycle state h sound = sound
 drain_by true values cycle state h sound = start_kept values cycle state h (without_drained h.committed) (end_kept values cycle state h h.committed sound)
 
+-- the drain phase keeps the hardware sound, with the same state seen
 pub drain_kept : (values : Values) (cycle : ℕ) (state : State) (h : Hardware) → IsSoundAt values cycle state h → IsSoundAt values cycle state (drain h)
 drain_kept values cycle state h sound = drain_by (nat_le h.port_free h.cycle) values cycle state h sound

@@ -20,6 +20,7 @@ with_message base e message next s = record {
 abbrev pub executed : Layout → Entry → State → State
 executed layout e s = with_message layout.base e (result_at layout s e) e.predicted_next s
 
+-- the state after some instructions in flight, each executed in order
 abbrev pub behind : Layout → List Entry → State → State
 behind layout [] s = s
 behind layout (e ∷ es) s = behind layout es (executed layout e s)
@@ -42,6 +43,7 @@ pub record IsInFlight (layout : Layout) (seen s : State) (e : Entry) : Type 0 wh
   pub aligned : e.predicted_next % 4 ≡ 0
   pub result : IsResult (result_at layout s e) e.stage
 
+-- instructions in flight follow the program from a state on, one after another
 abbrev pub AreInFlight : Layout → State → State → List Entry → Type 0
 AreInFlight layout seen s [] = Unit {0}
 AreInFlight layout seen s (e ∷ es) = IsInFlight layout seen s e × AreInFlight layout seen (executed layout e s) es
@@ -53,6 +55,7 @@ pub record IsInBuffer (layout : Layout) (seen : State) (pc : ℕ) (f : Fetched) 
   pub instruction : f.instruction ≡ option_and_then instruction_of f.word
   pub aligned : f.predicted % 4 ≡ 0
 
+-- fetched words follow one another from a pc, and lead to the next
 abbrev pub AreInBuffer : Layout → State → ℕ → List Fetched → ℕ → Type 0
 AreInBuffer layout seen pc [] next = next ≡ pc
 AreInBuffer layout seen pc (f ∷ fs) next = IsInBuffer layout seen pc f × AreInBuffer layout seen f.predicted fs next

@@ -39,12 +39,15 @@ module _ (layout : Layout) (s : State) (lines : Lines) where
   found : (word : ℕ) (instruction : Option Instr) → IsReady (Some word) instruction → IsFound (is_in_ram layout s.pc 4) (word_at_pc layout s) word
   found word instruction ready = inside_by (is_in_ram layout s.pc 4) (number_at layout s.ram s.pc 4) word (sym ready.word_is)
 
+  -- the word of a ready instruction can be fetched at the state's pc
   pub fetched : (word : ℕ) (instruction : Option Instr) → IsReady (Some word) instruction → IsFetched layout s lines
   fetched word instruction ready = record { undisturbed = ready.calm; in_ram = (found word instruction ready).within; fresh = ready.fresh }
 
+  -- the word of a ready instruction is the one that memory holds at the pc
   pub word_here : (word : ℕ) (instruction : Option Instr) → IsReady (Some word) instruction → word ≡ word_at_pc layout s
   word_here word instruction ready = (found word instruction ready).is
 
+  -- the instruction of a ready word is what the word decodes to
   pub decoded : (word : ℕ) (i : Instr) → IsReady (Some word) (Some i) → Decodes word i
   decoded word i ready = Decodes-instruction_of word i (sym ready.instruction_is)
 
@@ -59,6 +62,7 @@ module _ (layout : Layout) (s : State) (lines : Lines) where
     pub takes : Step layout s lines (Retired s.pc (unwrap_or word 0) (option_map (λ (r : ℕ). (r, message.value)) (target_of_word instruction))) next
     pub tells : IsRetirement layout s next (target_of_word instruction) message (option_map (λ (r : ℕ). (r, message.value)) (target_of_word instruction))
 
+  -- the machine's step that a message tells of: a retirement where it has no fault, else a trap
   abbrev pub IsStepOf : Option ℕ → Option Instr → Message → Option Fault → Type 0
   IsStepOf word instruction message None = Retires_as word instruction message
   IsStepOf word instruction message (Some fault) = Step layout s lines (Trap s.pc fault.cause fault.value) (trap_taken s (code_of fault.cause) fault.value)
@@ -82,6 +86,7 @@ module _ (layout : Layout) (s : State) (lines : Lines) where
   step_of_result here (Some word) (Some i) plain ready =
       step_of_effect word i (effect layout s lines word i) ready refl (effect_told layout s here lines word i plain)
 
+  -- where the message of the oldest instruction is its result, the machine takes that step
   pub step_of : s.pc % 4 ≡ 0 → (word : Option ℕ) (instruction : Option Instr) (message : Message) → is_serialising instruction ≡ false → IsReady word instruction →
       message ≡ result_of_word layout s no_lines word instruction → IsStepOf word instruction message message.fault
   step_of here word instruction message plain ready is =

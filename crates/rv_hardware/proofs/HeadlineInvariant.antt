@@ -33,6 +33,7 @@ pub record FollowsProgram (layout : Layout) (s : State) (entries : List Entry) (
   pub buffered : AreInBuffer layout s (behind layout entries s).pc front.entries front.next_pc
   pub aligned : front.next_pc % 4 ≡ 0
 
+-- pc and mepc are aligned, cache and queue hold the program's memory, and what is in flight follows the program
 pub record IsSound (h : Hardware) : Type 0 where
   pub pc_aligned : h.pc % 4 ≡ 0
   pub mepc_aligned : h.csrs.mepc % 4 ≡ 0

@@ -113,5 +113,6 @@ module _ (values : Values) (cycle : ℕ) (state : State) where
   kind_kept k h is =
       kept_by_turns (IsSoundAt values cycle state) (issue_turn k) (λ now. turn_by (is_free now.cycle (at_kind k now.units)) k now) (at_kind k h.values.kinds).units h is
 
+  -- the issue phase keeps the hardware sound, with the same state seen
   pub issue_kept : (h : Hardware) → IsSoundAt values cycle state h → IsSoundAt values cycle state (issue h)
   issue_kept h is = kind_kept kind.Mem _ (kind_kept kind.Div _ (kind_kept kind.Mul _ (kind_kept kind.Alu h is)))

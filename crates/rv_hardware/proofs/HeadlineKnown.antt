@@ -151,12 +151,14 @@ module _ (layout : Layout) (now : State) where
       known_by (is_store e.instruction) e es s seq bytes refl all.0.result same
       (λ bytes' same' known'. memory_known es (executed layout e s) (seq + 1) bytes' all.1 same' known') known
 
+-- memory after stores in two parts is memory after the second, begun after the first
 pub memory_behind-append : (base : ℕ) (xs ys : List QueuedStore) (bytes : List ℕ) → memory_behind base (xs ++ ys) bytes ≡ memory_behind base ys (memory_behind base xs bytes)
 memory_behind-append base [] ys bytes = refl
 memory_behind-append base (x ∷ xs) ys bytes = memory_behind-append base xs ys (with_store base x.state bytes)
 
 -- ---- so what an instruction gives that has its operands is the one-at-a-time machine's
 module _ (h : Hardware) (older : List Entry) (e : Entry) where
+  -- an instruction whose operands and older stores are known gives the result that it has in program order
   pub issued_result : AreInFlight (layout_of h.values) (seen h) (seen h) older → e.pc ≡ (behind (layout_of h.values) older (seen h)).pc →
       is_serialising e.instruction ≡ false → has_operands older (sources_of_word e.instruction) ≡ true →
       (is_load e.instruction ≡ true → list_all is_known_store (stores_behind h older) ≡ true) →

@@ -10,6 +10,7 @@ reached_by_cycles reached ended counted = reached
 reached_by_cycles reached (cycled cycle rest) counted =
     reached_by_cycles (by_cycle reached (omega (arith, never_less rest, ap (λ (h : Hardware). h.cycle) cycle.others_stay, counted)) cycle) rest counted
 
+-- each report of a run counts one cycle
 pub cycles_counted : {arrivals : List Arrival} {old new : Hardware} {reports : List Report} → Cycles arrivals old reports new → new.cycle ≡ old.cycle + length reports
 cycles_counted ended = omega arith
 cycles_counted (cycled cycle rest) = omega (arith, cycles_counted rest, ap (λ (h : Hardware). h.cycle) cycle.others_stay)

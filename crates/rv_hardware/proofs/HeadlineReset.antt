@@ -29,6 +29,7 @@ consistent_at_reset values image legal size =
       reach = omega (arith, size, legal.memory.base.0, legal.memory.size.1);
     })
 
+-- hardware that was just reset is sound
 pub reset_sound : (values : Values) (base : ℕ) (image : List ℕ) (start : ℕ) → IsLegal values → IsLoadable values base image start → IsSound (reset_hardware values image start)
 reset_sound values base image start legal loadable =
     let size = length-memory_at_reset values image loadable.fits in

@@ -103,6 +103,7 @@ module _ (s t : State) where
     same_result_in word word' Mret plain reads memory = absurd (true≢false plain)
     same_result_in word word' _ plain reads memory = goes_same _ _ (ap pc_plus_4 here)
 
+    -- in two states that agree on the sources, and for a load on RAM, an instruction gives the same result
     pub same_result : (word : Option ℕ) (instruction : Option Instr) → is_serialising instruction ≡ false → ReadsSame s t (sources_of_word instruction) → (is_load instruction ≡ true → s.ram ≡ t.ram) →
         result_of_word layout s lines word instruction ≡ result_of_word layout t lines' word instruction
     same_result None instruction plain reads memory = ap (fault_message _) here

@@ -34,6 +34,7 @@ module _ (values : Values) (stale : set.FinSet nat_cmp) (cache : Contents Memory
   ram_stored seq None = ap (λ (ss : List QueuedStore). memory_behind values.ram_base ss cache.bytes) (append-nil committed)
   ram_stored seq (Some access) = memory_behind-append values.ram_base committed (committed_store seq (Some access)) cache.bytes
 
+  -- a store that retires leaves cache and queue with the program's memory, its words marked stale
   pub memory_stored : (seq : ℕ) (store : Option StoreAccess) → IfSome store (IsStoreAccess layout) → HoldsMemory values (stale_after store stale) cache (committed ++ committed_store seq store)
   memory_stored seq None legal = subst (HoldsMemory values stale cache) (sym (append-nil committed)) was
   memory_stored seq (Some access) legal =
@@ -120,6 +121,7 @@ handler_by false base offset aligned = aligned
 pub handler_aligned : (kept : Kept) (cause : ℕ) → handler_of kept cause % 4 ≡ 0
 handler_aligned kept cause = handler_by _ (4 * (kept.mtvec / 4)) _ (omega arith)
 
+-- hardware that took a trap is sound
 pub trap_sound : (h : Hardware) (cause value : ℕ) → HoldsMemory h.values h.stale h.cache h.committed → IsSound (with_trap cause value h)
 trap_sound h cause value memory = flushed_sound (with_state (trap_taken (seen h) cause value) h) (handler_aligned h.csrs cause) (omega arith) memory
 
@@ -128,6 +130,7 @@ module _ (h : Hardware) (e : Entry) (message : Message) where
   abbrev next_state : State
   next_state = with_message h.values.ram_base e message message.next_pc (seen h)
 
+  -- a retirement with a result makes of the state what the machine's step makes of it
   pub seen_result : HoldsMemory h.values h.stale h.cache h.committed → seen (with_result e message h) ≡ next_state
   seen_result was = ap (λ (ram : List ℕ). record next_state { ram = ram }) (ram_stored h.values h.stale h.cache h.committed was h.rob.retired message.store)
 
@@ -152,6 +155,7 @@ module _ (h : Hardware) (e : Entry) (message : Message) where
           aligned = is.program.aligned;
         }
 
+    -- hardware whose oldest instruction retired with a result is sound
     pub result_sound : message.next_pc % 4 ≡ 0 → IsSound (with_result e message h)
     result_sound aligned =
         let rest : (with_result e message h).rob.entries ≡ es = ap (λ (xs : List Entry). (after_head h.rob xs).entries) entries in

@@ -32,6 +32,7 @@ abbrev pub IsTold : Layout → State → Option ℕ → Option StoreAccess → E
 IsTold layout s target access (Retires register next) = IsRetirement layout s next target (effect_message access (Retires register next)) register
 IsTold layout s target access (Faults cause value) = Unit {0}
 
+-- the pc after an aligned one is aligned
 pub aligned_next : (pc : ℕ) → pc % 4 ≡ 0 → pc_plus_4 pc % 4 ≡ 0
 aligned_next pc aligned = omega arith
 
@@ -138,6 +139,7 @@ module _ (layout : Layout) (s : State) (here : s.pc % 4 ≡ 0) where
       loads_by (is_aligned address (bytes_of (width_of form))) (is_in_ram layout address (bytes_of (width_of form))) LoadAddressMisaligned LoadAccessFault rd address
       (extended (is_sign_extended form) (bytes_of (width_of form)) (number_at layout s.ram address (bytes_of (width_of form))))
 
+  -- what an instruction's message tells is its effect on the state
   pub effect_told : (lines : Lines) (word : ℕ) (i : Instr) → is_serialising (Some i) ≡ false → IsTold layout s (target_of i) (access_of s i) (effect layout s lines word i)
   effect_told lines word (Lui rd immediate) plain = writes_told rd _ _ (aligned_next s.pc here)
   effect_told lines word (Auipc rd immediate) plain = writes_told rd _ _ (aligned_next s.pc here)

@@ -14,6 +14,7 @@ pub data TrueCycles (layout : Layout) (arrivals : List Arrival) : State → ℕ 
       IsTrueCycle layout (lines_at arrivals n) n s report.steps report.stop t → TrueCycles layout arrivals t (n + 1) reports u m →
       TrueCycles layout arrivals s n (report ∷ reports) u m
 
+-- the cycles of a run of sound hardware are true, one after another
 pub cycles_true : {arrivals : List Arrival} {old new : Hardware} {reports : List Report} → IsSound old → Cycles arrivals old reports new →
     TrueCycles (layout_of old.values) arrivals (seen old) old.cycle reports (seen new) new.cycle
 cycles_true is run.ended = none
@@ -56,6 +57,7 @@ module _ (layout : Layout) (arrivals : List Arrival) where
   abbrev IsWithin : ℕ → ℕ → Step → Type 0
   IsWithin first done x = (first ≤ stamp_of x) × (stamp_of x < done)
 
+  -- each step of true cycles is of one of these cycles
   pub true_within : {s u : State} {n m : ℕ} {reports : List Report} → TrueCycles layout arrivals s n reports u m → All (IsWithin n m) (steps_of reports)
   true_within {n = n} {m = m} none = All-nil (IsWithin n m)
   true_within {n = n} {m = m} (one_more {report = report} {reports = reports} cycle rest) =

@@ -18,6 +18,7 @@ pub record IsSerial (h : Hardware) (next : State) : Type 0 where
   pub mepc_aligned : next.csrs.mepc % 4 ≡ 0
   pub memory : HoldsMemory h.values next.stale h.cache h.committed
 
+-- an effect that leaves RAM as it was, pc and mepc aligned, and the cache with the memory that programs see
 abbrev pub IsSerialEffect : Hardware → Effect → Type 0
 IsSerialEffect h (Retires register next) = IsSerial h next
 IsSerialEffect h (Faults cause value) = Unit {0}
@@ -47,6 +48,7 @@ module _ (h : Hardware) (is : IsSound h) where
   access_by true found aligned = tt
   access_by false found aligned = aligned
 
+  -- the effect of a CSR instruction is such a one
   pub csr_serial : (lines : Lines) (word : ℕ) (op : CsrOp) (rd address : ℕ) (source : CsrSource) → IsSerialEffect h (effect (layout_of h.values) (seen h) lines word (Csr op rd address source))
   csr_serial lines word op rd address source =
       let operand = operand_of h.registers source in
@@ -54,6 +56,7 @@ module _ (h : Hardware) (is : IsSound h) where
       (access_by (does_write op operand.field_is_zero && is_read_only address) (option_map (access_csr h.csrs lines op operand.field_is_zero operand.value) (csr_at address))
       (found_aligned lines op operand.field_is_zero operand.value (csr_at address)))
 
+  -- the effect of MRET is such a one
   pub mret_serial : (lines : Lines) (word : ℕ) → IsSerialEffect h (effect (layout_of h.values) (seen h) lines word Mret)
   mret_serial lines word = record { ram_is = refl; pc_aligned = is.mepc_aligned; mepc_aligned = is.mepc_aligned; memory = is.memory }
 
@@ -62,6 +65,7 @@ module _ (h : Hardware) (is : IsSound h) where
   all_written : memory_written_back h.cache h.cache.backing.bytes ≡ h.cache.bytes
   all_written = memory_written h.cache.base h.cache.values h.cache.bytes h.cache.backing.bytes h.cache.sets is.memory.consistent
 
+  -- hardware whose cache was written back is sound
   pub written_back_sound : IsSound (with_write_back h)
   written_back_sound =
       let was = is.memory in
@@ -87,6 +91,7 @@ module _ (h : Hardware) (is : IsSound h) where
   none_left [] drained = refl
   none_left (s ∷ ss) drained = absurd (false≢true drained)
 
+  -- the effect of FENCE.I is such a one, once the queue is drained and the cache written back
   pub fence_serial : is_drained h ≡ true → (lines : Lines) (word : ℕ) → IsSerialEffect (with_write_back h) (effect (layout_of h.values) (seen h) lines word FenceI)
   fence_serial drained lines word =
       let was = is.memory in

@@ -14,6 +14,7 @@ module _ (layout : Layout) (s : State) where
     pub behind-staged : (stage : Stage) → behind layout (older ++ record e { stage = stage } ∷ younger) s ≡ behind layout (older ++ e ∷ younger) s
     behind-staged stage = behind-append layout older (record e { stage = stage } ∷ younger) s ∙ sym (behind-append layout older (e ∷ younger) s)
 
+    -- an instruction among those in flight follows the program at its place
     pub here_in_flight : AreInFlight layout s s (older ++ e ∷ younger) → IsInFlight layout s (behind layout older s) e
     here_in_flight all = (AreInFlight-younger layout s s older (e ∷ younger) all).0
 
@@ -24,6 +25,7 @@ module _ (layout : Layout) (s : State) where
         AreInFlight-append layout s s older (record e { stage = stage } ∷ younger) (AreInFlight-older layout s s older (e ∷ younger) all)
         (record { pc = rest.0.pc; word = rest.0.word; instruction = rest.0.instruction; aligned = rest.0.aligned; result = result }, rest.1)
 
+    -- a new stage that holds the right result leaves all that is in flight as the program has it
     pub FollowsProgram-staged : (stage : Stage) (front : FetchBuffer) (entries now : List Entry) → entries ≡ older ++ e ∷ younger → now ≡ older ++ record e { stage = stage } ∷ younger →
         IsResult (result_at layout (behind layout older s) e) stage → FollowsProgram layout s entries front → FollowsProgram layout s now front
     FollowsProgram-staged stage front entries now were are result program =

@@ -23,6 +23,7 @@ abbrev pub AreRetirements : ℕ → List Step → Type 0
 AreRetirements cycle [] = Unit {0}
 AreRetirements cycle (x ∷ xs) = (is_retirement x ≡ true) × (stamp_of x ≡ cycle) × AreRetirements cycle xs
 
+-- one more retirement of the cycle
 pub retirements_push : (cycle : ℕ) (xs : List Step) (x : Step) → AreRetirements cycle xs → is_retirement x ≡ true → stamp_of x ≡ cycle → AreRetirements cycle (xs ++ x ∷ [])
 retirements_push cycle [] x all retires stamped = (retires, stamped, tt)
 retirements_push cycle (y ∷ xs) x all retires stamped = (all.0, all.1, retirements_push cycle xs x all.2 retires stamped)
@@ -48,6 +49,7 @@ no_breakpoint : (cycle : ℕ) (xs : List Step) → AreRetirements cycle xs → l
 no_breakpoint cycle [] all = refl
 no_breakpoint cycle (x ∷ xs) all = or_from (is_breakpoint x) (list_any is_breakpoint xs) (retirement_breaks_nothing x all.0) (no_breakpoint cycle xs all.2)
 
+-- the machine's steps so far, and one more
 pub lead_push : {layout : Layout} {lines : Lines} {s t u : State} {xs : List Step} → Lead layout lines s xs t → (x : Step) → MachineStep layout t lines (told x) u → Lead layout lines s (xs ++ x ∷ []) u
 lead_push nowhere x takes = onwards takes nowhere
 lead_push (onwards first rest) x takes = onwards first (lead_push rest x takes)

@@ -10,6 +10,7 @@ use Rattle.rv_hardware.proofs.HeadlineRetires.{IsTold, IsStoreAccess, effect_tol
 use Rattle.rv_hardware.proofs.HeadlineSplit.{AreInFlight-older}
 use Rattle.rv_hardware.proofs.HeadlineWords.{IsRetiredStore, Each-weaker}
 
+-- a serialising instruction is no store
 pub serialising_is_no_store : (i : Option Instr) → is_serialising i ≡ true → is_store i ≡ false
 serialising_is_no_store (Some (Store width rs1 rs2 offset)) serial = absurd (false≢true serial)
 serialising_is_no_store _ serial = refl

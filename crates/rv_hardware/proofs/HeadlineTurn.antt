@@ -51,5 +51,6 @@ module _ (c : Committing) (is : IsSound c.hardware) where
   by_turn t (retires_last e es issue cycle message head plain at sound) =
       one_step c (retired_and_flushed e message c) (row_of e (written_of e message) c.hardware.cycle) refl (here e es head.place)
 
+  -- the steps that a turn of the commit phase adds begin at the committed pc
   pub turn_goes_from : LeavesEither (GoesFrom c) (GoesFrom c) (commit_turn set.contains c)
   turn_goes_from = by_turn (commit_turn set.contains c) (commit_turn_is set.contains c)

@@ -57,5 +57,6 @@ victim_mixed : (base line : ℕ) (bytes memory : List ℕ) (victim : Option Cach
 victim_mixed base line bytes memory None size = mixed_same bytes memory memory size refl
 victim_mixed base line bytes memory (Some v) size = line_mixed v.dirty bytes memory (offset_of base line v.number) line size
 
+-- after an access each byte of RAM is as it was or as the cache has it
 pub access_mixed : {M : Type 0} (cache : Contents M) (address : ℕ) (memory : List ℕ) → length memory ≡ length cache.bytes → IsMixed cache.bytes memory (memory_after cache address memory)
 access_mixed cache address memory size = victim_mixed cache.base cache.values.line cache.bytes memory (evicted cache address) size

@@ -10,6 +10,7 @@ use Rattle.rv_hardware.proofs.HeadlineRetires.{IsStoreAccess}
 pub still_marked : (words : set.FinSet nat_cmp) (k q : ℕ) → set.contains words q ≡ true → set.contains (set.insert words k) q ≡ true
 still_marked words k q marked = set.contains-insert nat_cmp_total words k q ∙ or_right _ _ marked
 
+-- a set of words holds what was just put into it
 pub now_marked : (words : set.FinSet nat_cmp) (k : ℕ) → set.contains (set.insert words k) k ≡ true
 now_marked words k =
     set.contains-insert nat_cmp_total words k k ∙ or_left _ _ (unsigned_tied k k ∙ eq-eqb k k refl)
@@ -55,6 +56,7 @@ module _ (layout : Layout) (access : StoreAccess) (legal : IsStoreAccess layout 
   fits : at + length access.bytes ≤ length xs
   fits = omega (arith, legal.above, legal.below)
 
+  -- a store leaves RAM as long as it is
   pub length-stored : length (overwritten xs at access.bytes) ≡ layout.size
   length-stored = length-overwritten xs access.bytes at fits ∙ size
 
@@ -98,6 +100,7 @@ module _ (layout : Layout) (words : set.FinSet nat_cmp) where
   pub length-with_retired : (s : QueuedStore) (xs : List ℕ) → IsRetiredStore layout words s → length xs ≡ layout.size → length (with_store layout.base s.state xs) ≡ layout.size
   length-with_retired s xs retired size = ap length (stored_is s xs retired) ∙ length-stored layout retired.access retired.legal xs size
 
+  -- retired stores leave RAM as long as it is
   pub length-memory_behind : (ss : List QueuedStore) (xs : List ℕ) → Each (IsRetiredStore layout words) ss → length xs ≡ layout.size → length (memory_behind layout.base ss xs) ≡ layout.size
   length-memory_behind [] xs all size = size
   length-memory_behind (s ∷ ss) xs all size = length-memory_behind ss (with_store layout.base s.state xs) all.1 (length-with_retired s xs all.0 size)
@@ -125,10 +128,12 @@ module _ (layout : Layout) (words : set.FinSet nat_cmp) where
   }
 
 module _ {X : Type 0} {P Q : X → Type 0} where
+  -- what follows from a property of each element holds of each
   pub Each-weaker : ((x : X) → P x → Q x) → (xs : List X) → Each P xs → Each Q xs
   Each-weaker weaker [] all = tt
   Each-weaker weaker (x ∷ xs) all = (weaker x all.0, Each-weaker weaker xs all.1)
 
+-- a property of each element, and of one more at the end
 pub Each-push : {X : Type 0} (P : X → Type 0) (xs : List X) (y : X) → Each P xs → P y → Each P (xs ++ y ∷ [])
 Each-push P [] y all one = (one, tt)
 Each-push P (x ∷ xs) y all one = (all.0, Each-push P xs y all.1 one)

@@ -12,12 +12,14 @@ pub kept_by_the_rest : {S : Type 0} (P : S → Type 0) (rest : S → S) → ((s 
 kept_by_the_rest P rest keeps (GoesOn s) left = keeps s left
 kept_by_the_rest P rest keeps (Ends s) left = left
 
+-- what each turn keeps all turns keep
 pub kept_by_turns : {S : Type 0} (P : S → Type 0) (turn : S → Turn S) → ((s : S) → P s → Leaves P (turn s)) →
     (width : ℕ) (s : S) → P s → P (repeated turn width s)
 kept_by_turns P turn keeps zero s holds = holds
 kept_by_turns P turn keeps (suc width) s holds =
     kept_by_the_rest P (repeated turn width) (kept_by_turns P turn keeps width) (turn s) (keeps s holds)
 
+-- what holds at reset and each cycle of reachable hardware keeps holds of all reachable hardware
 pub always : (P : Hardware → Type 0) →
     ((values : Values) (base : ℕ) (image : List ℕ) (start : ℕ) → IsLegal values → IsLoadable values base image start →
     P (reset_hardware values image start)) →
