@@ -8,6 +8,7 @@ abbrev pub IsBefore : ℕ → Option ℕ → Type 0
 IsBefore now None = ⊥
 IsBefore now (Some b) = b < now
 
+-- a mark's instruction writes the register
 abbrev pub writes_mark : ℕ → Mark → Bool
 writes_mark register m = is_target register (target_of_word m.instruction)
 
@@ -19,6 +20,7 @@ IsKnownMark now m = is_some (kind_of_word m.instruction) ≡ true → IsBefore n
 abbrev pub OperandsKnown : ℕ → List Mark → List (Option ℕ) → Type 0
 OperandsKnown now xs sources = Every (λ source. IfSome source (λ register. IfSome (last_that (writes_mark register) xs) (IsKnownMark now))) sources
 
+-- a store was broadcast before a cycle
 abbrev pub IsKnownStore : ℕ → Mark → Type 0
 IsKnownStore now m = is_store m.instruction ≡ true → IsBefore now m.broadcast
 
@@ -26,9 +28,11 @@ IsKnownStore now m = is_store m.instruction ≡ true → IsBefore now m.broadcas
 abbrev pub IsSentIfReady : ℕ → Mark → Type 0
 IsSentIfReady now m = IfSome m.start (λ s. s.cycle + s.cost ≤ now → IsBefore (now + 1) m.broadcast)
 
+-- it was dispatched and has not retired
 abbrev pub is_in_flight_mark : Mark → Bool
 is_in_flight_mark m = is_some m.dispatched && is_none m.retired
 
+-- it waits in a station of this kind
 abbrev pub is_stationed_mark : Kind → Mark → Bool
 is_stationed_mark k m = is_of_kind k (kind_of_word m.instruction) && (is_some m.dispatched && is_none m.start)
 
@@ -80,6 +84,7 @@ pub record Enters (v : Values) (now : ℕ) (xs : List Mark) (m n : Mark) : Type 
   pub room : count is_in_flight_mark xs < v.rob
   pub stations : (k : Kind) → is_of_kind k (kind_of_word m.instruction) ≡ true → count (is_stationed_mark k) xs < (at_kind k v.kinds).stations
 
+-- a mark goes on in one of four ways: it retires, starts, is broadcast or is dispatched
 pub data Advances (v : Values) (now : ℕ) (xs : List Mark) (m n : Mark) : Type 0 where
   retires : Retires now m n → Advances v now xs m n
   starts : Starts v now xs m n → Advances v now xs m n

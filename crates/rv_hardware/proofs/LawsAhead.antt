@@ -219,6 +219,7 @@ pub all_follow : (v : Values) {steps : List Step} {h : Hardware} → History v s
 all_follow v history = (history_has_next v history).follow
 
 module _ (v : Values) {steps : List Step} {h : Hardware} (history : History v steps h) where
+  -- of two neighbouring steps of a run the second follows the first without waiting
   pub follows : (first rest : List Step) (a b : Step) → steps ≡ first ++ a ∷ b ∷ rest → Follows (stamp_of a) true b
   follows first rest a b at =
       let all : AllFollow ((first ++ a ∷ []) ++ b ∷ rest) = subst AllFollow (at ∙ sym (append_assoc first (a ∷ []) (b ∷ rest))) (all_follow v history) in

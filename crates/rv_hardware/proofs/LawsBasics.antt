@@ -19,10 +19,12 @@ pub record Basics (v : Values) (now dispatch_bound issue_bound stage_bound fetch
   pub fetched : Every (SoundFetched fetch_bound) h.front.entries
   pub serial : SerialIsLast h.rob.entries
 
+-- the first of two tests that both pass
 pub and_first : (a b : Bool) → (a && b) ≡ true → a ≡ true
 and_first true b h = refl
 and_first false b h = absurd (cc)
 
+-- the second of two tests that both pass
 pub and_second : (a b : Bool) → (a && b) ≡ true → b ≡ true
 and_second true b h = h
 and_second false b h = absurd (cc)
@@ -31,6 +33,7 @@ pub and_fails : (a b : Bool) → (a && b) ≡ false → a ≡ true → b ≡ fal
 and_fails true b h is = h
 and_fails false b h is = absurd (cc)
 
+-- two tests that pass, together
 pub and_both : (a b : Bool) → a ≡ true → b ≡ true → (a && b) ≡ true
 and_both true b is h = h
 and_both false b is h = absurd (cc)
@@ -47,6 +50,7 @@ pub record Ready (h : Hardware) (k : Kind) (older : List Entry) (e : Entry) : Ty
   pub operands : has_operands older (sources_of_word e.instruction) ≡ true
   pub load : may_load h older e ≡ true
 
+-- an instruction that is ready waits, is of the kind, has its operands and may load
 pub ready_has : (h : Hardware) (k : Kind) (older : List Entry) (e : Entry) → is_ready h k older e ≡ true → Ready h k older e
 ready_has h k older e ready =
     let three = and_first (is_waiting e.stage && is_of_kind k (kind_of_word e.instruction) && has_operands older (sources_of_word e.instruction)) (may_load h older e) ready in
@@ -64,6 +68,7 @@ some_kind k (Some j) h = refl
 
 -- the entries of each phase are sound
 
+-- an instruction that starts to execute stays sound
 pub started_sound : (v : Values) (now b : ℕ) (k : Kind) (e : Entry) (cost : ℕ) (message : Message) → SoundEntry v now (now + 1) b e →
     is_of_kind k (kind_of_word e.instruction) ≡ true → SoundCost v e.instruction (start_of_issue (record { cycle = now; cost = cost }) message) →
     SoundEntry v now (now + 1) b (started (record { cycle = now; cost = cost }) message e)
@@ -84,6 +89,7 @@ finished_stage v i D now st issue message at over sound =
     let held = subst (SoundStage v i D (now + 1) (now + 1)) at sound in
     subst (λ o. SoundStage v i D (now + 1) (now + 1) (Finished o now message)) (sym (ap issue_of at)) (held.0, held.1, over, omega arith, held.3)
 
+-- an instruction whose result is broadcast stays sound
 pub finished_sound : (v : Values) (now : ℕ) (e : Entry) (issue : Issue) (message : Message) → SoundEntry v now (now + 1) (now + 1) e →
     e.stage ≡ Running issue message → issue.cycle + issue.cost ≤ now → SoundEntry v now (now + 1) (now + 1) (finished message now e)
 finished_sound v now e issue message sound at over = record {
@@ -93,9 +99,11 @@ finished_sound v now e issue message sound at over = record {
   stage = finished_stage v e.instruction e.dispatched now e.stage issue message at over sound.stage;
 }
 
+-- another predicted pc leaves an instruction sound
 pub predicting_sound : (v : Values) (d a b next : ℕ) (e : Entry) → SoundEntry v d a b e → SoundEntry v d a b (predicting next e)
 predicting_sound v d a b next e sound = record { decoded = sound.decoded; after_fetch = sound.after_fetch; by_now = sound.by_now; stage = sound.stage }
 
+-- the mark of an instruction whose result is broadcast is stamped with the cycle
 pub finished_mark : (now : ℕ) (e : Entry) (issue : Issue) (message : Message) → e.stage ≡ Running issue message →
     mark_of_entry (finished message now e) ≡ record (mark_of_entry e) { broadcast = Some now }
 finished_mark now e issue message at = λ i. record {
@@ -120,6 +128,7 @@ first_stage_sound v D bound i message (Some k) serial kind is faults = inl (ap i
 first_stage_sound v D bound i message None true kind is faults = inr is
 first_stage_sound v D bound i message None false kind is faults = (kind, is, refl, faults)
 
+-- an instruction that is dispatched is sound
 pub dispatched_sound : (v : Values) (now : ℕ) (h : Hardware) (f : Fetched) → h.cycle ≡ now → SoundFetched now f → SoundEntry v (now + 1) (now + 1) (now + 1) (entry_of_fetched h f)
 dispatched_sound v now h f at sound = record {
   decoded = sound.1;
@@ -139,6 +148,7 @@ first_broadcast D (Some k) serial message = refl
 first_broadcast D None true message = refl
 first_broadcast D None false message = refl
 
+-- the mark of a word that is dispatched is stamped with the cycle
 pub dispatched_mark : (h : Hardware) (f : Fetched) → mark_of_entry (entry_of_fetched h f) ≡ record (mark_of_fetched f) { dispatched = Some h.cycle }
 dispatched_mark h f =
     let message = result_of_word (layout_of h.values) (seen_behind h h.rob.entries f.pc) h.lines f.word f.instruction in
@@ -159,6 +169,7 @@ or_fails_second : (a b : Bool) → (a || b) ≡ false → b ≡ false
 or_fails_second true b h = absurd (cc)
 or_fails_second false b h = h
 
+-- where no instruction in flight serialises, each of them does not
 pub none_serialises : (es : List Entry) → list_any (λ e. is_serialising e.instruction) es ≡ false → Every (λ e. is_serialising e.instruction ≡ false) es
 none_serialises [] h = tt
 none_serialises (e ∷ es) h = (

@@ -53,6 +53,7 @@ found_turn h (Some found) finds =
     subst (λ r. BroadcastTurn h (broadcast_result h (h.rob.retired + length found.0) found.1 r)) (sym held.result)
     (entry_turn h found.0 finds.0 found.1 held.issue held.message is (mends_early h.values.recovery && is_mispredicted found.1 held.message) refl)
 
+-- what the definition's turn of the broadcast phase leaves is one of these outcomes
 pub broadcast_turn_is : (h : Hardware) → BroadcastTurn h (broadcast_turn h)
 broadcast_turn_is h = found_turn h (oldest (has_result h.cycle) h.rob.entries) (oldest_finds (has_result h.cycle) h.rob.entries)
 
@@ -63,6 +64,7 @@ sent_entries h older younger e message at =
     ap (λ es. with_entry (finished message h.cycle) (h.rob.retired + length older) h.rob.retired es) at ∙
     with_entry-behind (finished message h.cycle) h.rob.retired older younger e
 
+-- after a broadcast that early recovery mends, the entries end with the instruction that was broadcast
 pub mended_entries : (h : Hardware) (older younger : List Entry) (e : Entry) (message : Message) → h.rob.entries ≡ older ++ e ∷ younger →
     (with_recovery (h.rob.retired + length older) message (with_broadcast (h.rob.retired + length older) message h)).rob.entries ≡
     older ++ predicting message.next_pc (finished message h.cycle e) ∷ []

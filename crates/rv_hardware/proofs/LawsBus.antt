@@ -9,6 +9,7 @@ use Rattle.rv_hardware.proofs.LawsMarks.{Mark, Start, mark_of_fetched, marks_in}
 abbrev pub ReadyFirst : Option Start → Option ℕ → ℕ → Type 0
 ReadyFirst start sent b = IfSome start (λ s. s.cycle + s.cost ≤ b → IsBefore (b + 1) sent)
 
+-- of two marks, where the later was broadcast, the earlier was by then if its result was ready
 abbrev pub OldestFirst : Mark → Mark → Type 0
 OldestFirst m n = IfSome n.broadcast (λ b. ReadyFirst m.start m.broadcast b)
 
@@ -98,5 +99,6 @@ bus_is_kept v = record {
   };
 }
 
+-- in every history the results were broadcast oldest first
 pub history_has_bus_order : (v : Values) {steps : List Step} {h : Hardware} → History v steps h → BusOrder h.cycle (marks_in steps h)
 history_has_bus_order v history = marks_of_history v BusOrder (bus_is_kept v) history

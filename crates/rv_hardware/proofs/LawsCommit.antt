@@ -26,6 +26,7 @@ retired_with e message c = record c {
   steps = c.steps ++ row_of e (written_of e message) c.hardware.cycle ∷ [];
 }
 
+-- a result has retired, and everything younger is squashed
 abbrev pub retired_and_flushed : Entry → Message → Committing → Committing
 retired_and_flushed e message c = record c {
   hardware = flushed (with_result e message c.hardware);
@@ -105,5 +106,6 @@ module _ (is_stale : set.FinSet nat_cmp → ℕ → Bool) where
   turn_of c [] at = no_head at
   turn_of c (e ∷ es) at = by_stale c e es (is_stale c.hardware.stale (word_of e.pc)) at refl
 
+  -- what the definition's turn of the commit phase leaves is one of these outcomes
   pub commit_turn_is : (c : Committing) → CommitTurn c (commit_turn is_stale c)
   commit_turn_is c = turn_of c c.hardware.rob.entries refl

@@ -10,6 +10,7 @@ use Rattle.rv_hardware.proofs.LawsRow.{SoundRow}
 pub until_by : (c d : ℕ) → d ≤ c → until c (Some d) ≡ Some d
 until_by c d le = rw (le-leb d c le) refl
 
+-- a stamp of a later cycle was not there by an earlier one
 pub until_not : (c d : ℕ) → c < d → until c (Some d) ≡ None
 until_not c d lt = rw (lt-leb d c lt) refl
 
@@ -19,6 +20,7 @@ picked : (p : Mark → Bool) (c : ℕ) (b : Bool) (m : Mark) (ms : List Mark) �
 picked p c true m ms = refl
 picked p c false m ms = refl
 
+-- a count of marks as they stood at the end of a cycle is a count of the marks
 pub count-as_of : (p : Mark → Bool) (c : ℕ) (ms : List Mark) → count p (as_of c ms) ≡ count (λ m. was_fetched c m && p (at_end c m)) ms
 count-as_of p c [] = refl
 count-as_of p c (m ∷ ms) =
@@ -30,6 +32,7 @@ pub record Shows (v : Values) (row_test : ℕ → Row → Bool) (test : ℕ → 
   pub mark : (c bound : ℕ) (row : Row) → SoundRow v bound row → row_test c row ≡ true → (was_fetched c (mark_of_row row) && test c (at_end c (mark_of_row row))) ≡ true
   pub ends : (c bound : ℕ) (row : Row) → SoundRow v bound row → row_test c row ≡ true → c < row.retired
 
+-- a sound row that retired by a cycle fails the test of that cycle
 pub fails_later : {v : Values} (row_test : ℕ → Row → Bool) (test : ℕ → Mark → Bool) (shows : Shows v row_test test) (c bound : ℕ) (row : Row) → bound ≤ c → SoundRow v bound row → (b : Bool) → row_test c row ≡ b → row_test c row ≡ false
 fails_later row_test test shows c bound row le sound true is = absurd (let before = shows.ends c bound row sound is in omega (arith, le, before, sound.below))
 fails_later row_test test shows c bound row le sound false is = is
@@ -68,12 +71,14 @@ map-append : (before after : List Row) → map mark_of_row (before ++ after) ≡
 map-append [] after = refl
 map-append (row ∷ before) after = ap (λ l. mark_of_row row ∷ l) (map-append before after)
 
+-- what marks obeyed at the end of a cycle, of one row after others
 pub behind_law : (P : List Mark → Mark → Type 0) (c : ℕ) (rows before after : List Row) (row : Row) → EveryBehind P [] (as_of c (map mark_of_row rows)) → rows ≡ before ++ row ∷ after → row.fetched ≤ c →
     P (as_of c (map mark_of_row before)) (at_end c (mark_of_row row))
 behind_law P c rows before after row h at le =
     EveryBehind-at P (as_of c (map mark_of_row before)) (as_of c (map mark_of_row after)) (at_end c (mark_of_row row))
     (subst (EveryBehind P []) (ap (λ l. as_of c (map mark_of_row l)) at ∙ ap (as_of c) (map-append before (row ∷ after)) ∙ as_of_place c (map mark_of_row before) (map mark_of_row after) (mark_of_row row) (le-leb row.fetched c le)) h)
 
+-- where the test of marks shows that of rows, no more marks pass it than rows
 pub behind_count : (p : Mark → Bool) (q : Row → Bool) (c : ℕ) (before : List Row) → Every (λ a. (was_fetched c (mark_of_row a) && p (at_end c (mark_of_row a))) ≡ true → q a ≡ true) before →
     count p (as_of c (map mark_of_row before)) ≤ count_by q before
 behind_count p q c before shows =

@@ -31,6 +31,7 @@ dispatch_tells_turn k d _ (buffer_empty none) p = tells_some (d.dispatched == 0)
 dispatch_tells_turn k d _ (waits f fs reason at why) p = tells_some (d.dispatched == 0) reason
 dispatch_tells_turn k d _ (dispatches f fs at nothing) p = omega (arith, p)
 
+-- the dispatch phase dispatches something or gives a reason for its stall
 pub dispatch_tells : (h : Hardware) → 1 ≤ h.values.dispatch_width → Tells (dispatch h)
 dispatch_tells h le =
     turns_within h.values.dispatch_width Counts Tells dispatch_turn (λ k d lt p. dispatch_tells_turn k d (dispatch_turn d) (dispatch_turn_is d) p)

@@ -19,15 +19,19 @@ Sound v steps h = Basics v h.cycle h.cycle h.cycle h.cycle h.cycle h.cycle steps
 abbrev pub committing : Lines → Hardware → Committing
 committing lines old = commit_with set.contains lines old
 
+-- the hardware after the drain phase
 abbrev pub drained : Lines → Hardware → Hardware
 drained lines old = drain (committing lines old).hardware
 
+-- the hardware after the issue phase
 abbrev pub issued_all : Lines → Hardware → Hardware
 issued_all lines old = issue (drained lines old)
 
+-- the hardware after the broadcast phase
 abbrev pub sent_all : Lines → Hardware → Hardware
 sent_all lines old = broadcast (issued_all lines old)
 
+-- what the dispatch phase leaves
 abbrev pub dispatching : Lines → Hardware → Dispatching
 dispatching lines old = dispatch (sent_all lines old)
 
@@ -48,6 +52,7 @@ pub record Passed (v : Values) (R : List Mark → Type 0) (earlier : List Step) 
   pub new_marks : marks_in (earlier ++ report.steps) new ≡ marks_in (earlier ++ report.steps) (dispatching lines old).hardware ++ map mark_of_fetched fetches.added
 
 module _ (v : Values) (legal : IsLegal v) (R : List Mark → Type 0) (earlier : List Step) (lines : Lines) (old new : Hardware) (report : Report) (kept : Kept v old.cycle R) (begins : Sound v earlier old) (holds : R (marks_in earlier old)) where
+  -- with the cycle's lines, what held between two cycles holds before the commit phase
   pub begin : Goes v old.cycle old.cycle old.cycle old.cycle old.cycle (old.cycle + 1) R (earlier ++ []) (with_lines lines old)
   begin =
       rw (append-nil earlier)
@@ -91,6 +96,7 @@ module _ (v : Values) (legal : IsLegal v) (R : List Mark → Type 0) (earlier : 
         ap (λ fs. marks steps d.rob.entries fs) fetches.entries ∙
         marks_fetched steps d.rob.entries d.front.entries fetches.added
 
+  -- each phase of a cycle keeps what is basic and a property of marks that it may keep
   pub cycle_passes : IsCycle any_prediction lines old report new → Passed v R earlier lines old report new
   cycle_passes is =
       let steps : report.steps ≡ (committing lines old).steps = ap (λ r. r.steps) is.reports ∙ ap (λ (c : Committing). c.steps) is.commits in
@@ -130,6 +136,7 @@ pub data History (v : Values) : List Step → Hardware → Type 0 where
   went_on : {earlier : List Step} {old new : Hardware} {lines : Lines} {report : Report} →
       History v earlier old → IsCycle any_prediction lines old report new → History v (earlier ++ report.steps) new
 
+-- the description of every history is legal
 pub history_is_legal : (v : Values) {steps : List Step} {h : Hardware} → History v steps h → IsLegal v
 history_is_legal v (began image start legal) = legal
 history_is_legal v (went_on before is) = history_is_legal v before
@@ -144,12 +151,15 @@ sound_at_reset v image start = record {
   serial = tt;
 }
 
+-- the property that all marks have
 abbrev pub Anything : List Mark → Type 0
 Anything ms = Unit {0}
 
+-- every cycle keeps the property that all marks have
 pub anything_is_kept : (v : Values) (now : ℕ) → Kept v now Anything
 anything_is_kept v now = record { cut = λ xs ys r. tt; set = λ xs ys m n a r. tt }
 
+-- what is basic holds in every history
 pub history_is_sound : (v : Values) {steps : List Step} {h : Hardware} → History v steps h → Sound v steps h
 history_is_sound v (began image start legal) = sound_at_reset v image start
 history_is_sound v (went_on {earlier} {old} {new} {lines} {report} before is) = (cycle_passes v (history_is_legal v before) Anything earlier lines old new report (anything_is_kept v old.cycle) (history_is_sound v before) tt is).ends
@@ -158,6 +168,7 @@ history_is_sound v (went_on {earlier} {old} {new} {lines} {report} before is) = 
 abbrev pub is_buffered_mark : Mark → Bool
 is_buffered_mark m = is_none m.dispatched
 
+-- the words of this cycle come after those of earlier cycles, within the width and the room of the fetch buffer
 pub record NewWords (v : Values) (now : ℕ) (ms : List Mark) (fs : List Fetched) : Type 0 where
   pub by_now : Every (λ m. m.fetched < now) ms
   pub are_new : Every (IsNew now) fs
@@ -191,6 +202,7 @@ words_are_buffered : (fs : List Fetched) → count is_buffered_mark (map mark_of
 words_are_buffered [] = refl
 words_are_buffered (f ∷ fs) = ap suc (words_are_buffered fs)
 
+-- the marks that wait for dispatch are as many as the fetch buffer's words
 pub buffered_words : (steps : List Step) (es : List Entry) (fs : List Fetched) → count is_buffered_mark (marks steps es fs) ≡ length fs
 buffered_words steps es fs =
     let all = count-append is_buffered_mark (map mark_of_row (rows_of steps)) (map mark_of_entry es ++ map mark_of_fetched fs) in
@@ -200,6 +212,7 @@ buffered_words steps es fs =
     let c = words_are_buffered fs in
     omega (arith, all, rest, a, b, c)
 
+-- the words that a cycle fetches are new ones after the marks so far
 pub new_words : (v : Values) (R : List Mark → Type 0) (earlier : List Step) (lines : Lines) (old new : Hardware) (report : Report) (passed : Passed v R earlier lines old report new) →
     NewWords v old.cycle (marks_in (earlier ++ report.steps) (dispatching lines old).hardware) passed.fetches.added
 new_words v R earlier lines old new report passed =
@@ -213,6 +226,7 @@ new_words v R earlier lines old new report passed =
       within_room = omega (arith, passed.fetches.within_room, b.shape.room, held);
     }
 
+-- a property of marks that is kept holds in every history
 pub marks_of_history : (v : Values) (R : ℕ → List Mark → Type 0) → KeptMarks v R → {steps : List Step} {h : Hardware} → History v steps h → R h.cycle (marks_in steps h)
 marks_of_history v R r (began image start legal) = r.at_reset
 marks_of_history v R r (went_on {earlier} {old} {new} {lines} {report} before is) =

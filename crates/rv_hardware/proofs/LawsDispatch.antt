@@ -9,6 +9,7 @@ has_serial h = list_any (λ e. is_serialising e.instruction) h.rob.entries
 abbrev pub has_full_buffer : Hardware → Bool
 has_full_buffer h = nat_le h.rob.capacity (length h.rob.entries)
 
+-- a store has to wait, since the store queue is full
 abbrev pub has_full_queue : Hardware → Fetched → Bool
 has_full_queue h f = is_store f.instruction && nat_le h.values.store_queue (length (stores_behind h h.rob.entries))
 
@@ -59,5 +60,6 @@ turn_of : (d : Dispatching) (fs : List Fetched) → d.hardware.front.entries ≡
 turn_of d [] at = buffer_empty at
 turn_of d (f ∷ fs) at = by_serial d f fs at (has_serial d.hardware) refl
 
+-- what the definition's turn of the dispatch phase leaves is one of these outcomes
 pub dispatch_turn_is : (d : Dispatching) → DispatchTurn d (dispatch_turn d)
 dispatch_turn_is d = turn_of d d.hardware.front.entries refl

@@ -11,6 +11,7 @@ use Rattle.rv_hardware.proofs.LawsSound.{SoundEntry, SoundStage, is_of_kind_is}
 
 -- the last element that passes a test, of two lists
 
+-- the last that passes a test, of two lists, is searched in one and then in the other
 pub last_from-append : {X : Type 0} (found : Option X) (test : X → Bool) (xs ys : List X) → last_from found test (xs ++ ys) ≡ last_from (last_from found test xs) test ys
 last_from-append found test [] ys = refl
 last_from-append found test (x ∷ xs) ys = last_from-append (cond (test x) (Some x) found) test xs ys
@@ -19,6 +20,7 @@ picked : {X : Type 0} (P : X → Type 0) (b : Bool) (x : X) (found : Option X) �
 picked P true x found is h = is
 picked P false x found is h = h
 
+-- what holds of each element holds of the last that passes a test
 pub last_from-Every : {X : Type 0} (P : X → Type 0) (found : Option X) (test : X → Bool) (xs : List X) → IfSome found P → Every P xs → IfSome (last_from found test xs) P
 last_from-Every P found test [] h are = h
 last_from-Every P found test (x ∷ xs) h are = last_from-Every P (cond (test x) (Some x) found) test xs (picked P (test x) x found are.0 h) are.1
@@ -82,6 +84,7 @@ module _ (v : Values) (d a now : ℕ) where
         (known_from register true (last_from None (writes_mark register) (map mark_of_row rows)) older
         (λ e. last_from-Every (IsKnownMark now) None (writes_mark register) (map mark_of_row rows) tt rows_known) sound h)
 
+    -- where an instruction has its operands, the marks of their producers are known
     pub operands_known : (older : List Entry) (sources : List (Option ℕ)) → Every (SoundEntry v d a now) older → has_operands older sources ≡ true →
         OperandsKnown now (map mark_of_row rows ++ map mark_of_entry older) sources
     operands_known older [] sound h = tt
@@ -110,6 +113,7 @@ module _ (v : Values) (d a now : ℕ) where
     stores_all seq [] sound h = tt
     stores_all seq (e ∷ es) sound h = stores_by (is_store e.instruction) seq e es refl sound.0 (λ k. stores_all (seq + 1) es sound.1 k) h
 
+    -- where each older store in flight is known, the marks of all older stores are known
     pub stores_known : (committed : List QueuedStore) (seq : ℕ) (older : List Entry) → Every (SoundEntry v d a now) older → list_all is_known_store (committed ++ stores_of seq older) ≡ true →
         Every (IsKnownStore now) (map mark_of_row rows ++ map mark_of_entry older)
     stores_known committed seq older sound h =
@@ -135,13 +139,16 @@ stage_sent v i D a now (Running issue message) h none = λ ready. absurd (stage_
 stage_sent v i D a now (Finished None cycle message) h none = tt
 stage_sent v i D a now (Finished (Some issue) cycle message) h none = λ ready. h.3
 
+-- of entries of which none has a result for the bus, each that was ready was broadcast
 pub entries_sent : (v : Values) (d a now : ℕ) (before es : List Entry) → Every (SoundEntry v d a (now + 1)) es → EveryBehind (λ older e. has_result now older e ≡ false) before es → Every (IsSentIfReady now) (map mark_of_entry es)
 entries_sent v d a now before [] sound none = tt
 entries_sent v d a now before (e ∷ es) sound none = (stage_sent v e.instruction e.dispatched a now e.stage sound.0.stage none.0, entries_sent v d a now (before ++ e ∷ []) es sound.1 none.1)
 
+-- each row that was ready was broadcast
 pub rows_sent : (v : Values) (now : ℕ) (rows : List Row) → Every (SoundRow v (now + 1)) rows → Every (IsSentIfReady now) (map mark_of_row rows)
 rows_sent v now rows sound = Every-map (IsSentIfReady now) mark_of_row rows (Every-weaker (SoundRow v (now + 1)) (λ row. IsSentIfReady now (mark_of_row row)) (row_sent v now) rows sound)
 
+-- where nothing older has a result for the bus, each older mark that was ready was broadcast
 pub none_waits : (v : Values) (d a now : ℕ) (rows : List Row) (older : List Entry) → Every (SoundRow v (now + 1)) rows → Every (SoundEntry v d a (now + 1)) older →
     EveryBehind (λ before e. has_result now before e ≡ false) [] older → Every (IsSentIfReady now) (map mark_of_row rows ++ map mark_of_entry older)
 none_waits v d a now rows older sound_rows sound none =
@@ -151,6 +158,7 @@ none_waits v d a now rows older sound_rows sound none =
 
 -- there is room
 
+-- rows and instructions in flight were dispatched
 pub rows_and_entries_are_dispatched : (rows : List Row) (es : List Entry) → Every (λ x. is_some x.dispatched ≡ true) (map mark_of_row rows ++ map mark_of_entry es)
 rows_and_entries_are_dispatched [] [] = tt
 rows_and_entries_are_dispatched [] (e ∷ es) = (refl, rows_and_entries_are_dispatched [] es)
@@ -160,6 +168,7 @@ rows_not_in_flight : (rows : List Row) → Every (λ row. is_in_flight_mark (mar
 rows_not_in_flight [] = tt
 rows_not_in_flight (row ∷ rows) = (refl, rows_not_in_flight rows)
 
+-- no more marks are in flight than the reorder buffer has entries
 pub in_flight_room : (rows : List Row) (es : List Entry) → count is_in_flight_mark (map mark_of_row rows ++ map mark_of_entry es) ≤ length es
 in_flight_room rows es =
     let both = count-append is_in_flight_mark (map mark_of_row rows) (map mark_of_entry es) in
@@ -196,6 +205,7 @@ entries_stationed v d a b k es sound =
     Every-weaker (SoundEntry v d a b) (λ e. is_stationed_mark k (mark_of_entry e) ≡ true → is_stationed k e ≡ true)
     (λ e s h. stationed_by v e.instruction e.dispatched a b e.stage k s.stage h) es sound
 
+-- no more marks wait in a station of a kind than entries do
 pub stations_room : (v : Values) (d a b bound : ℕ) (k : Kind) (rows : List Row) (es : List Entry) → Every (SoundRow v bound) rows → Every (SoundEntry v d a b) es →
     count (is_stationed_mark k) (map mark_of_row rows ++ map mark_of_entry es) ≤ length (filter (is_stationed k) es)
 stations_room v d a b bound k rows es sound_rows sound =

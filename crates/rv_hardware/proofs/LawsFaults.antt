@@ -13,6 +13,7 @@ abbrev FindsFault : Effect → Type 0
 FindsFault (Retires written next) = Unit {0}
 FindsFault (Faults cause value) = needs_no_unit cause ≡ false
 
+-- a fault, if there is one, is one that a unit finds
 abbrev pub IsFound : Option Fault → Type 0
 IsFound None = Unit {0}
 IsFound (Some fault) = needs_no_unit fault.cause ≡ false
@@ -65,9 +66,11 @@ FoundIn (Running issue message) = IsFound message.fault
 FoundIn (Finished None cycle message) = Unit {0}
 FoundIn (Finished (Some issue) cycle message) = IsFound message.fault
 
+-- an instruction that a unit executed gives no fault but one that a unit finds
 abbrev pub Found : Entry → Type 0
 Found e = FoundIn e.stage
 
+-- each instruction in flight gives no fault but one that its unit finds
 abbrev pub HasFaults : Hardware → Type 0
 HasFaults h = HasShape h × Each Found h.rob.entries
 
@@ -97,6 +100,7 @@ shaped_at : (older younger : List Entry) (e : Entry) → Each Shaped (older ++ e
 shaped_at [] younger e each = each.0
 shaped_at (o ∷ older) younger e each = shaped_at older younger e each.1
 
+-- every cycle keeps it
 pub faults-kept : IsKept HasFaults
 faults-kept =
     let shape : IsKeptByPhases HasShape = shape-kept.phases in
@@ -147,5 +151,6 @@ faults-kept =
     cut [] younger e each = (each.0, tt)
     cut (o ∷ older) younger e each = (each.0, cut older younger e each.1)
 
+-- it holds at reset
 pub faults-at_reset : (values : Values) (image : List ℕ) (start : ℕ) → HasFaults (reset_hardware values image start)
 faults-at_reset values image start = (shape-at_reset values image start, tt)

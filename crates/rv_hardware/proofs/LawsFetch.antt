@@ -88,5 +88,6 @@ by_halted answers ram cycle old new stop false is h =
       halts_behind_one = λ e. inr (added.halts_behind_one (sym (ap (λ (front : FetchBuffer). front.halted) h.2) ∙ e));
     }
 
+-- a fetch adds new words at the end of the fetch buffer, within its width and room
 pub fetch_phase : (answers : Answers) (ram : Memory) (cycle : ℕ) (old new : FetchBuffer) (stop : FetchStop) → FetchesInto answers ram cycle old new stop → FetchPhase cycle old new
 fetch_phase answers ram cycle old new stop h = by_halted answers ram cycle old new stop old.halted refl h

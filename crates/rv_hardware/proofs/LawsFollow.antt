@@ -21,6 +21,7 @@ abbrev pub stamp_or_zero : Option Step → ℕ
 stamp_or_zero None = 0
 stamp_or_zero (Some s) = stamp_of s
 
+-- the cycle of the last step, 0 where there is none
 abbrev pub last_stamp : List Step → ℕ
 last_stamp steps = stamp_or_zero (last_that (λ s. true) steps)
 
@@ -28,9 +29,11 @@ last_stamp steps = stamp_or_zero (last_that (λ s. true) steps)
 abbrev pub has_step : List Step → Bool
 has_step steps = is_some (last_that (λ s. true) steps)
 
+-- the cycle of the last step is that of the step just taken
 pub last_stamp-push : (steps : List Step) (s : Step) → last_stamp (steps ++ s ∷ []) ≡ stamp_of s
 last_stamp-push steps s = ap stamp_or_zero (last_from-append None (λ s. true) steps (s ∷ []))
 
+-- after a step there is one
 pub has_step-push : (steps : List Step) (s : Step) → has_step (steps ++ s ∷ []) ≡ true
 has_step-push steps s = ap is_some (last_from-append None (λ s. true) steps (s ∷ []))
 
@@ -46,6 +49,7 @@ pub record Follows (c : ℕ) (store_waits : Bool) (b : Step) : Type 0 where
   pub ahead : IsAhead c store_waits b
   pub soon : IsTrappedSoon c b
 
+-- each step follows the one before it
 abbrev pub AllFollow : List Step → Type 0
 AllFollow steps = EveryBehind (λ before b. Follows (last_stamp before) (has_step before) b) [] steps
 
@@ -207,6 +211,7 @@ module _ (v : Values) (now : ℕ) (earlier : List Step) where
   abbrev NextIn : ℕ → Committing → Type 0
   NextIn n c = Next n now (last_stamp (earlier ++ c.steps)) (has_step (earlier ++ c.steps)) c.hardware.stale c.hardware.rob.entries c.hardware.front.entries
 
+  -- after the phase each step follows the one before, and the next instruction has not retired in this cycle
   pub record Committed (c : Committing) : Type 0 where
     pub follow : AllFollow (earlier ++ c.steps)
     pub next : NextIn (now + 1) c
@@ -313,6 +318,7 @@ module _ (v : Values) (now : ℕ) (earlier : List Step) where
   joined P Q R (GoesOn c) h g = (h, g)
   joined P Q R (Ends c) h g = g
 
+  -- the commit phase takes steps that follow one another, and leaves the next instruction with its reason to wait
   pub commit_leads_by : (total : ℕ) → 1 ≤ total → (o : Option ℕ) (h : Hardware) → h.values.commit_width ≡ total → Goes v now now now now now (now + 1) Anything (earlier ++ []) h → AllFollow (earlier ++ []) →
       Next now now (last_stamp (earlier ++ [])) (has_step (earlier ++ [])) h.stale h.rob.entries h.front.entries → Each Found h.rob.entries → Committed (commit_unless set.contains o h)
   commit_leads_by total le (Some code) h width goes follow next found =

@@ -54,6 +54,7 @@ module _ (c : ℕ) (m n : Mark) (instruction : n.instruction ≡ m.instruction) 
   operands_back xs mid (Some register ∷ sources) h = (last_back register xs mid h.0, operands_back xs mid sources h.1)
 
   module _ (serial : (is_serialising n.instruction ≡ true → IsBefore c n.retired) → is_serialising m.instruction ≡ true → IsBefore c m.retired) where
+    -- what could start behind a mark that went on could start behind it before
     pub may_back : (k : Kind) (xs mid : List Mark) (z : Mark) → MayStart k c (xs ++ n ∷ mid) z → MayStart k c (xs ++ m ∷ mid) z
     may_back k xs mid z may = record {
       kind = may.kind;
@@ -132,6 +133,7 @@ still_begins k v now xs m n (starts a) h = none_begins (is_of_kind k (kind_of_wo
 still_begins k v now xs m n (is_sent a) h = rw (a.becomes) h
 still_begins k v now xs m n (enters a) h = rw (a.becomes) h
 
+-- marks that go on keep it that, where one could start but does not, so many that are older did
 pub busy_units_are_kept : (k : Kind) (j : ℕ) (v : Values) (now : ℕ) → Kept v now (EveryBehind (BusyUnits k j now) [])
 busy_units_are_kept k j v now = record {
   cut = λ xs ys h. EveryBehind-left (BusyUnits k j now) [] xs ys h;
@@ -215,15 +217,18 @@ module _ (v : Values) (k : Kind) (now : ℕ) where
   row_not_by None i same kind none = absurd (let is = is_of_kind_is k (kind_of_word i) kind in let some = same ∙ ap is_some is in cc)
   row_not_by (Some x) i same kind none = absurd (cc)
 
+  -- rows do not start any more
   pub rows_do_not_start : (bound : ℕ) (before : List Mark) (rows : List Row) → Every (SoundRow v bound) rows → EveryBehind (λ b m. MayStart k now b m → ⊥) before (map mark_of_row rows)
   rows_do_not_start bound before [] sound = tt
   rows_do_not_start bound before (row ∷ rows) sound =
       ((λ may. row_not_by row.execution (mark_of_row row).instruction sound.0.stamps.executed_by_a_unit may.kind may.not_yet), rows_do_not_start bound (before ++ mark_of_row row ∷ []) rows sound.1)
 
+  -- fetched words cannot start yet
   pub words_do_not_start : (before : List Mark) (fs : List Fetched) → EveryBehind (λ b m. MayStart k now b m → ⊥) before (map mark_of_fetched fs)
   words_do_not_start before [] = tt
   words_do_not_start before (f ∷ fs) = ((λ may. may.dispatched), words_do_not_start (before ++ mark_of_fetched f ∷ []) fs)
 
+  -- instructions that are not ready cannot start
   pub entries_do_not_start : (d i j : ℕ) (rows : List Row) (h : Hardware) (before es : List Entry) → Every (SoundEntry v d i j) before → Every (SoundEntry v d i j) es → EveryBehind (λ b e. is_ready h k b e ≡ false) before es →
       EveryBehind (λ b m. MayStart k now b m → ⊥) (map mark_of_row rows ++ map mark_of_entry before) (map mark_of_entry es)
   entries_do_not_start d i j rows h before [] sounds sound none = tt

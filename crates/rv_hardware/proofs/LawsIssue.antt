@@ -21,6 +21,7 @@ turn_by : (kind : Kind) (h : Hardware) (free : Bool) → is_free h.cycle (at_kin
 turn_by kind h true is = found_turn kind h (oldest (is_ready h kind) h.rob.entries) (oldest_finds (is_ready h kind) h.rob.entries) is
 turn_by kind h false is = no_unit is
 
+-- what the definition's turn of the issue phase leaves is one of these outcomes
 pub issue_turn_is : (kind : Kind) (h : Hardware) → IssueTurn kind h (issue_turn kind h)
 issue_turn_is kind h = turn_by kind h (is_free h.cycle (at_kind kind h.units)) refl
 
@@ -35,6 +36,7 @@ pub record SameBesideCache (g h : Hardware) : Type 0 where
   pub cache_values : g.cache.values ≡ h.cache.values
   pub stale : g.stale ≡ h.stale
 
+-- a load's access to the cache changes the cache and the port alone
 pub access_keeps : (p : Path) (h : Hardware) → SameBesideCache (with_access p h) h
 access_keeps Without h = record { values = refl; rob = refl; front = refl; units = refl; cycle = refl; committed = refl; cache_values = refl; stale = refl }
 access_keeps FromStores h = record { values = refl; rob = refl; front = refl; units = refl; cycle = refl; committed = refl; cache_values = refl; stale = refl }

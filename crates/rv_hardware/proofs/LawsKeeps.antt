@@ -7,6 +7,7 @@ use Rattle.rv_hardware.proofs.LawsCycle.{Anything, anything_is_kept, History, be
 use Rattle.rv_hardware.proofs.LawsPhases.{Commits, commit_turn_keeps}
 use Rattle.rv_hardware.proofs.LawsTurns.{Leads, turns_keep}
 
+-- what holds at reset and every cycle keeps holds in every history
 pub history_keeps : (v : Values) (P : Hardware → Type 0) → IsKept P → ((image : List ℕ) (start : ℕ) → P (reset_hardware v image start)) → {steps : List Step} {h : Hardware} → History v steps h → P h
 history_keeps v P kept first (began image start legal) = first image start
 history_keeps v P kept first (went_on before is) = cycle-keeps kept is (history_keeps v P kept first before)
@@ -16,6 +17,7 @@ leads_both P Q (GoesOn s) h g = (h, g)
 leads_both P Q (Ends s) h g = (h, g)
 
 module _ (v : Values) (now : ℕ) (earlier : List Step) (is_stale : set.FinSet nat_cmp → ℕ → Bool) where
+  -- what is basic in the commit phase
   abbrev pub Committed : Committing → Type 0
   Committed c = Commits v now Anything (anything_is_kept v now) earlier is_stale c
 
@@ -25,5 +27,6 @@ module _ (v : Values) (now : ℕ) (earlier : List Step) (is_stale : set.FinSet n
         let is = commit_turn_is is_stale c in
         leads_both Committed Q (commit_turn is_stale c) (commit_turn_keeps v now Anything (anything_is_kept v now) earlier is_stale c (commit_turn is_stale c) is p.0) (keeps c (commit_turn is_stale c) is p.0 p.1)
 
+    -- what each turn of the commit phase keeps, where what is basic holds, all turns keep
     pub commit_turns_keep : (width : ℕ) (c : Committing) → Committed c → Q c → Q (repeated (commit_turn is_stale) width c)
     commit_turns_keep width c p q = (turns_keep (λ c. Committed c × Q c) (commit_turn is_stale) turn_keeps width c (p, q)).1

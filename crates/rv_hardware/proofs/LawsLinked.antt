@@ -17,6 +17,7 @@ with_word held m c = cond (is_word c m) (suc (held c)) (held c)
 abbrev pub Filled : Values → (ℕ → ℕ) → Mark → ℕ → Type 0
 Filled v held m t = (c : ℕ) → m.fetched < c → c < t → v.fetch_buffer ≤ with_word held m c
 
+-- there is a cycle, and it is no later than t
 abbrev pub IsBy : Option ℕ → ℕ → Type 0
 IsBy None t = ⊥
 IsBy (Some c) t = c ≤ t
@@ -36,6 +37,7 @@ abbrev pub Joint : Values → ℕ → ((ℕ → ℕ) → Mark → Type 0) → (�
 Joint v now last held m [] = last held m
 Joint v now last held m (n ∷ ns) = Followed v now held m n
 
+-- each mark is joined to the next, and of the last something is known
 abbrev pub Linked : Values → ℕ → ((ℕ → ℕ) → Mark → Type 0) → (ℕ → ℕ) → List Mark → Type 0
 Linked v now last held [] = Unit {0}
 Linked v now last held (m ∷ ms) = Joint v now last held m ms × Linked v now last (with_word held m) ms
@@ -46,11 +48,13 @@ LastIs P [] = Unit {0}
 LastIs P (x ∷ []) = P x
 LastIs P (x ∷ y ∷ ys) = LastIs P (y ∷ ys)
 
+-- what is known of an element is known of the last, where that one stands at the end
 pub last_at : {X : Type 0} (P : X → Type 0) (xs : List X) (y : X) → P y → LastIs P (xs ++ y ∷ [])
 last_at P [] y is = is
 last_at P (x ∷ []) y is = is
 last_at P (x ∷ z ∷ zs) y is = last_at P (z ∷ zs) y is
 
+-- what is known of the last is known of the last of the rest
 pub last_of : {X : Type 0} (P : X → Type 0) (x : X) (xs : List X) → LastIs P (x ∷ xs) → LastIs P xs
 last_of P x [] last = tt
 last_of P x (y ∷ ys) last = last
@@ -64,6 +68,7 @@ held_more : (b : Bool) (h n k : ℕ) → k ≡ cond b (suc h) h + n → k ≡ h 
 held_more true h n k is = omega (arith, is)
 held_more false h n k is = is
 
+-- the buffer held as many words as before, and those of the marks that are words
 pub held_count : (held : ℕ → ℕ) (ms : List Mark) (c : ℕ) → held_behind held ms c ≡ held c + count (is_word c) ms
 held_count held [] c = omega arith
 held_count held (m ∷ ms) c = held_more (is_word c m) (held c) (count (is_word c) ms) (held_behind (with_word held m) ms c) (held_count (with_word held m) ms c)
@@ -157,6 +162,7 @@ module _ (v : Values) (now : ℕ) (halted : Bool) where
   same_size : (xs zs : List Mark) (m n : Mark) → length (xs ++ m ∷ zs) ≡ length (xs ++ n ∷ zs)
   same_size xs zs m n = length-append xs (m ∷ zs) ∙ sym (length-append xs (n ∷ zs))
 
+  -- marks that go on, and a cut, keep it that they were linked
   pub was_linked_kept : (size : ℕ) → Kept v now (WasLinked size)
   was_linked_kept size = record {
     cut = λ xs ys r. (ys ++ r.0, rw (← append_assoc xs ys r.0) r.1, rw (← append_assoc xs ys r.0) r.2);
@@ -179,6 +185,7 @@ module _ (v : Values) (now : ℕ) (last next : (ℕ → ℕ) → Mark → Type 0
   joint_stays held m [] f h = f held m refl h
   joint_stays held m (n ∷ ns) f h = followed_later v now held m n h
 
+  -- where nothing is fetched, linked marks stay linked in the next cycle
   pub linked_stays : (held : ℕ → ℕ) (ms : List Mark) → ((h : ℕ → ℕ) (x : Mark) → with_word h x now ≡ held_behind held ms now → last h x → next h x) → Linked v now last held ms → Linked v (now + 1) next held ms
   linked_stays held [] f h = tt
   linked_stays held (m ∷ ms) f h = (joint_stays held m ms f h.0, linked_stays (with_word held m) ms f h.1)
@@ -199,6 +206,7 @@ module _ (v : Values) (now : ℕ) (last : (ℕ → ℕ) → Mark → Type 0) (P 
   joint_cut held m [] rest is h = is
   joint_cut held m (n ∷ ns) rest is h = h
 
+  -- the first of linked marks are linked
   pub linked_cut : (held : ℕ → ℕ) (ms rest : List Mark) → LastIs P ms → Linked v now last held (ms ++ rest) → Linked v now (λ h x. P x) held ms
   linked_cut held [] rest is h = tt
   linked_cut held (m ∷ ms) rest is h = (joint_cut held m ms rest is h.0, linked_cut (with_word held m) ms rest (last_of P m ms is) h.1)
@@ -210,6 +218,7 @@ module _ (v : Values) (now : ℕ) (halted : Bool) where
   joint_words held f [] at all = inr (inr (λ c after before. absurd (omega (arith, at, after, before))))
   joint_words held f (g ∷ gs) at all = (let same = all.0 in omega (arith, same), inr (inr (λ c after before. let same = all.0 in absurd (omega (arith, same, at, after, before)))))
 
+  -- words of the present cycle are linked
   pub linked_words : (held : ℕ → ℕ) (fs : List Mark) → Every (λ x. x.fetched ≡ now) fs → Linked v (now + 1) (IsOpen v halted (now + 1)) held fs
   linked_words held [] all = tt
   linked_words held (f ∷ fs) all = (joint_words held f fs all.0 all.1, linked_words (with_word held f) fs all.1)

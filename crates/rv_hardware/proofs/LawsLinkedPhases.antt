@@ -17,6 +17,7 @@ use Rattle.rv_hardware.proofs.LawsTurns.{Leads, turns_keep, turns_lead}
 abbrev pub size : List Step → Hardware → ℕ
 size steps h = length (rows_of steps) + (length h.rob.entries + length h.front.entries)
 
+-- there is a mark for each row, each instruction in flight and each fetched word
 pub size_of_marks : (steps : List Step) (h : Hardware) → length (marks_in steps h) ≡ size steps h
 size_of_marks steps h =
     omega (
@@ -85,6 +86,7 @@ module _ (n : ℕ) (halted : Bool) where
     commit_goes c _ (retires e es issue cycle message head plain at none) (inr p) = not_empty e es (sym head.place ∙ p.0)
     commit_goes c _ (retires_last e es issue cycle message head plain at none) p = inr (refl, refl, refl)
 
+    -- the commit phase squashes nothing, or everything
     pub commit_goes_by : (o : Option ℕ) (h : Hardware) → WholeOrNone (earlier ++ []) h → Committed (commit_unless is_stale o h)
     commit_goes_by (Some code) h p = inr (refl, refl, refl)
     commit_goes_by None h p =
@@ -147,8 +149,10 @@ module _ (n : ℕ) (halted : Bool) where
     dispatch_goes : IsKeptByDispatch Left
     dispatch_goes = record { dispatches = λ h f fs p first none. inl (inl (dispatch_left h f fs first p)) }
 
+    -- the drain and the issue phase squash nothing
     pub drain_and_issue : (h : Hardware) → WholeOrNone steps h → WholeOrNone steps (issue (drain h))
     drain_and_issue h p = issue-keeps (WholeOrNone steps) issue_goes (drain h) (drain-keeps drain_goes h p)
 
+    -- the broadcast and the dispatch phase squash nothing but what early recovery does
     pub broadcast_and_dispatch : (h : Hardware) → h.cycle ≡ now → h.values ≡ v → WholeOrNone steps h → Left (dispatch (broadcast h)).hardware
     broadcast_and_dispatch h cycle values p = dispatch-keeps dispatch_goes (broadcast h) (broadcast_goes h (cycle, values, p))

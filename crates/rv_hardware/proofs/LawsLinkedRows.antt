@@ -169,6 +169,7 @@ module _ (v : Values) {earlier : List Step} {old new : Hardware} {lines : Lines}
       let next : new.cycle ≡ old.cycle + 1 = ap (λ (h : Hardware). h.cycle) passed.others_stay in
       rw (next, passed.new_marks) (by_squash left)
 
+-- in every history each mark tells why the next one was not fetched earlier
 pub marks_are_linked : (v : Values) {steps : List Step} {h : Hardware} → History v steps h → Linked v h.cycle (IsOpen v h.front.halted h.cycle) (λ c. 0) (marks_in steps h)
 marks_are_linked v (began image start legal) = tt
 marks_are_linked v (went_on before is) = linked_in_cycle v before is (marks_are_linked v before)

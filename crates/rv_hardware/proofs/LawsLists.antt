@@ -27,38 +27,47 @@ abbrev pub Beginning : {X : Type 0} → List X → List X → Type 0
 Beginning {X} xs ys = (rest : List X) × (ys ≡ xs ++ rest)
 
 module _ {X : Type 0} (P : X → Type 0) where
+  -- by recursion, and so of each place
   pub All-Every : (xs : List X) → Every P xs → All P xs
   All-Every [] h = All-nil P
   All-Every (x ∷ xs) h = All-cons P x xs h.0 (All-Every xs h.1)
 
+  -- of two lists, and so of both together
   pub Every-append : (xs ys : List X) → Every P xs → Every P ys → Every P (xs ++ ys)
   Every-append [] ys h g = g
   Every-append (x ∷ xs) ys h g = (h.0, Every-append xs ys h.1 g)
 
+  -- of both together, and so of the first
   pub Every-left : (xs ys : List X) → Every P (xs ++ ys) → Every P xs
   Every-left [] ys h = tt
   Every-left (x ∷ xs) ys h = (h.0, Every-left xs ys h.1)
 
+  -- of both together, and so of the second
   pub Every-right : (xs ys : List X) → Every P (xs ++ ys) → Every P ys
   Every-right [] ys h = h
   Every-right (x ∷ xs) ys h = Every-right xs ys h.1
 
+  -- what follows from a property of each element holds of each
   pub Every-weaker : (Q : X → Type 0) → ((x : X) → P x → Q x) → (xs : List X) → Every P xs → Every Q xs
   Every-weaker Q f [] h = tt
   Every-weaker Q f (x ∷ xs) h = (f x h.0, Every-weaker Q f xs h.1)
 
+  -- what holds of everything holds of each element
   pub Every-all : ((x : X) → P x) → (xs : List X) → Every P xs
   Every-all f [] = tt
   Every-all f (x ∷ xs) = (f x, Every-all f xs)
 
+  -- what follows from two properties of each element holds of each
   pub Every-both : (Q R : X → Type 0) → ((x : X) → P x → Q x → R x) → (xs : List X) → Every P xs → Every Q xs → Every R xs
   Every-both Q R f [] h g = tt
   Every-both Q R f (x ∷ xs) h g = (f x h.0 g.0, Every-both Q R f xs h.1 g.1)
 
+  -- of the image of each element, and so of each element of the image
   pub Every-map : {Y : Type 0} (f : Y → X) (ys : List Y) → Every (λ y. P (f y)) ys → Every P (map f ys)
   Every-map f [] h = tt
   Every-map f (y ∷ ys) h = (h.0, Every-map f ys h.1)
 
+  -- of each element of the image, and so of the image of each element
   pub Every-unmap : {Y : Type 0} (f : Y → X) (ys : List Y) → Every P (map f ys) → Every (λ y. P (f y)) ys
   Every-unmap f [] h = tt
   Every-unmap f (y ∷ ys) h = (h.0, Every-unmap f ys h.1)
@@ -67,11 +76,13 @@ module _ {X : Type 0} (P : X → Type 0) where
   Every-pick true x xs h g = (h, g)
   Every-pick false x xs h g = g
 
+  -- of each element, and so of those that pass a test
   pub Every-filter : (p : X → Bool) (xs : List X) → Every P xs → Every P (filter p xs)
   Every-filter p [] h = tt
   Every-filter p (x ∷ xs) h = Every-pick (p x) x (filter p xs) h.0 (Every-filter p xs h.1)
 
 module _ {X : Type 0} (R : X → X → Type 0) where
+  -- by recursion, and so of each two places
   pub AllPairs-EveryPair : (xs : List X) → EveryPair R xs → AllPairs R xs
   AllPairs-EveryPair [] h = λ i j d lt within. absurd (omega arith)
   AllPairs-EveryPair (x ∷ xs) h = AllPairs-cons R x xs (All-Every (R x) xs h.0) (AllPairs-EveryPair xs h.1)
@@ -80,30 +91,37 @@ module _ {X : Type 0} (R : X → X → Type 0) where
   abbrev pub Across : List X → List X → Type 0
   Across xs ys = Every (λ x. Every (R x) ys) xs
 
+  -- of two lists and across them, and so of both together
   pub EveryPair-append : (xs ys : List X) → EveryPair R xs → EveryPair R ys → Across xs ys → EveryPair R (xs ++ ys)
   EveryPair-append [] ys h g a = g
   EveryPair-append (x ∷ xs) ys h g a = (Every-append (R x) xs ys h.0 a.0, EveryPair-append xs ys h.1 g a.1)
 
+  -- of both together, and so of the first
   pub EveryPair-left : (xs ys : List X) → EveryPair R (xs ++ ys) → EveryPair R xs
   EveryPair-left [] ys h = tt
   EveryPair-left (x ∷ xs) ys h = (Every-left (R x) xs ys h.0, EveryPair-left xs ys h.1)
 
+  -- of both together, and so of the second
   pub EveryPair-right : (xs ys : List X) → EveryPair R (xs ++ ys) → EveryPair R ys
   EveryPair-right [] ys h = h
   EveryPair-right (x ∷ xs) ys h = EveryPair-right xs ys h.1
 
+  -- of both together, and so across them
   pub EveryPair-across : (xs ys : List X) → EveryPair R (xs ++ ys) → Across xs ys
   EveryPair-across [] ys h = tt
   EveryPair-across (x ∷ xs) ys h = (Every-right (R x) xs ys h.0, EveryPair-across xs ys h.1)
 
+  -- what follows from a relation of each pair holds of each pair
   pub EveryPair-weaker : (S : X → X → Type 0) → ((x y : X) → R x y → S x y) → (xs : List X) → EveryPair R xs → EveryPair S xs
   EveryPair-weaker S f [] h = tt
   EveryPair-weaker S f (x ∷ xs) h = (Every-weaker (R x) (S x) (f x) xs h.0, EveryPair-weaker S f xs h.1)
 
+  -- of the images of each pair, and so of each pair of images
   pub EveryPair-map : {Y : Type 0} (f : Y → X) (ys : List Y) → EveryPair (λ x y. R (f x) (f y)) ys → EveryPair R (map f ys)
   EveryPair-map f [] h = tt
   EveryPair-map f (y ∷ ys) h = (Every-map (R (f y)) f ys h.0, EveryPair-map f ys h.1)
 
+  -- of each pair of images, and so of the images of each pair
   pub EveryPair-unmap : {Y : Type 0} (f : Y → X) (ys : List Y) → EveryPair R (map f ys) → EveryPair (λ x y. R (f x) (f y)) ys
   EveryPair-unmap f [] h = tt
   EveryPair-unmap f (y ∷ ys) h = (Every-unmap (R (f y)) f ys h.0, EveryPair-unmap f ys h.1)
@@ -115,15 +133,18 @@ module _ {X : Type 0} (R : X → X → Type 0) where
       (Every-append (R z) xs (y ∷ ys) (Every-left (R z) xs (x ∷ ys) h.0) (f z (Every-right (R z) xs (x ∷ ys) h.0).0, (Every-right (R z) xs (x ∷ ys) h.0).1), EveryPair-set xs ys x y f g h.1)
 
 module _ {X : Type 0} (P : X → Type 0) where
+  -- of each element, and so of each where one gives way to another that has the property
   pub Every-set : (xs ys : List X) (x y : X) → P y → Every P (xs ++ x ∷ ys) → Every P (xs ++ y ∷ ys)
   Every-set [] ys x y is h = (is, h.1)
   Every-set (z ∷ xs) ys x y is h = (h.0, Every-set xs ys x y is h.1)
 
+  -- of each element, and so of the one at a place
   pub Every-place : (xs ys : List X) (x : X) → Every P (xs ++ x ∷ ys) → P x
   Every-place [] ys x h = h.0
   Every-place (z ∷ xs) ys x h = Every-place xs ys x h.1
 
 module _ {X : Type 0} (p : X → Bool) where
+  -- the count by recursion is std's
   pub count-count_by : (xs : List X) → count p xs ≡ count_by p xs
   count-count_by xs = is_count_by (count p) p refl (λ y ys. ap (λ n. cond (p y) n (count p ys)) (suc_is (count p ys))) xs
     where
@@ -134,20 +155,24 @@ module _ {X : Type 0} (p : X → Bool) where
   cond-suc true n m = omega arith
   cond-suc false n m = refl
 
+  -- the count of two lists together is the sum of their counts
   pub count-append : (xs ys : List X) → count p (xs ++ ys) ≡ count p xs + count p ys
   count-append [] ys = omega arith
   count-append (x ∷ xs) ys = rw (count-append xs ys) (cond-suc (p x) (count p xs) (count p ys))
 
+  -- where no element passes, the count is 0
   pub count-none : (xs : List X) → Every (λ x. p x ≡ false) xs → count p xs ≡ 0
   count-none [] h = refl
   count-none (x ∷ xs) h = rw h.0 (count-none xs h.1)
 
+  -- an element that passes counts one
   pub count-yes : (x : X) (xs : List X) → p x ≡ true → count p (x ∷ xs) ≡ suc (count p xs)
   count-yes x xs h = rw h refl
 
   pub count-no : (x : X) (xs : List X) → p x ≡ false → count p (x ∷ xs) ≡ count p xs
   count-no x xs h = rw h refl
 
+  -- a count of images is a count of the elements
   pub count-map : {Y : Type 0} (f : Y → X) (ys : List Y) → count p (map f ys) ≡ count (λ y. p (f y)) ys
   count-map f [] = refl
   count-map f (y ∷ ys) = rw (count-map f ys) refl
@@ -161,10 +186,12 @@ module _ {X : Type 0} (p : X → Bool) where
   cond-le false true n m f le = omega arith
   cond-le false false n m f le = le
 
+  -- where each element that passes one test passes another, the other counts no fewer
   pub count-le : (q : X → Bool) (xs : List X) → Every (λ x. p x ≡ true → q x ≡ true) xs → count p xs ≤ count q xs
   count-le q [] h = omega arith
   count-le q (x ∷ xs) h = cond-le (p x) (q x) (count p xs) (count q xs) h.0 (count-le q xs h.1)
 
+  -- no more elements pass than there are
   pub count-length : (xs : List X) → count p xs ≤ length xs
   count-length [] = omega arith
   count-length (x ∷ xs) = cond-le (p x) true (count p xs) (length xs) (λ e. refl) (count-length xs)
@@ -189,6 +216,7 @@ module _ {X : Type 0} (p : X → Bool) where
   cond-bounds true n = (omega arith, omega arith)
   cond-bounds false n = (omega arith, omega arith)
 
+  -- another element at a place counts one more at most
   pub count-set-more : (xs ys : List X) (x y : X) → count p (xs ++ y ∷ ys) ≤ suc (count p (xs ++ x ∷ ys))
   count-set-more xs ys x y =
       let old = count-append xs (x ∷ ys) in
@@ -220,39 +248,46 @@ module _ {X : Type 0} (p : X → Bool) where
       let low = cond-bounds (p x) (count p ys) in
       omega (arith, old, new, low.0)
 
+  -- one more element counts one more at most
   pub count-push : (xs : List X) (x : X) → count p (xs ++ x ∷ []) ≤ suc (count p xs)
   count-push xs x =
       let new = count-append xs (x ∷ []) in
       let high = cond-bounds (p x) 0 in
       omega (arith, new, high.1)
 
+  -- one more element that does not pass counts none
   pub count-push-no : (xs : List X) (x : X) → p x ≡ false → count p (xs ++ x ∷ []) ≡ count p xs
   count-push-no xs x fails = count-append xs (x ∷ []) ∙ ap (λ b. count p xs + cond b 1 0) fails ∙ plus_none (count p xs)
     where
       plus_none : (n : ℕ) → n + 0 ≡ n
       plus_none n = omega arith
 
+  -- one more element between two lists counts one more at most
   pub count-push-most : (xs ys : List X) (x : X) → count p (xs ++ x ∷ ys) ≤ suc (count p xs + count p ys)
   count-push-most xs ys x =
       let all = count-append xs (x ∷ ys) in
       let high = cond-bounds (p x) (count p ys) in
       omega (arith, all, high.1)
 
+  -- no more pass of the first than of both together
   pub count-left : (xs ys : List X) → count p xs ≤ count p (xs ++ ys)
   count-left xs ys = let all = count-append xs ys in omega (arith, all)
 
 -- beginnings
 
 module _ {X : Type 0} where
+  -- a list begins with itself
   pub Beginning-self : (xs : List X) → Beginning xs xs
   Beginning-self xs = ([], sym (append-nil xs))
 
+  -- a beginning of a beginning is one
   pub Beginning-trans : (xs ys zs : List X) → Beginning xs ys → Beginning ys zs → Beginning xs zs
   Beginning-trans xs ys zs f g = (f.0 ++ g.0, g.1 ∙ ap (λ l. l ++ g.0) f.1 ∙ append_assoc xs f.0 g.0)
 
   pub Beginning-append : (xs ys : List X) → Beginning xs (xs ++ ys)
   Beginning-append xs ys = (ys, refl)
 
+  -- no more pass of a beginning than of the whole
   pub Beginning-count : (p : X → Bool) (xs ys : List X) → Beginning xs ys → count p xs ≤ count p ys
   Beginning-count p xs ys f = rw (f.1, count-append p xs f.0) (omega arith)
 
@@ -262,18 +297,22 @@ module _ {X : Type 0} where
   pub Beginning-EveryPair : (R : X → X → Type 0) (xs ys : List X) → Beginning xs ys → EveryPair R ys → EveryPair R xs
   Beginning-EveryPair R xs ys f h = EveryPair-left R xs f.0 (rw f.1 at h)
 
+  -- of both together, and so of the first
   pub EveryBehind-left : (P : List X → X → Type 0) (before xs ys : List X) → EveryBehind P before (xs ++ ys) → EveryBehind P before xs
   EveryBehind-left P before [] ys h = tt
   EveryBehind-left P before (x ∷ xs) ys h = (h.0, EveryBehind-left P (before ++ x ∷ []) xs ys h.1)
 
+  -- of one list, and of another behind it, and so of both together
   pub EveryBehind-append : (P : List X → X → Type 0) (before xs ys : List X) → EveryBehind P before xs → EveryBehind P (before ++ xs) ys → EveryBehind P before (xs ++ ys)
   EveryBehind-append P before [] ys h g = rw (append-nil before) at g
   EveryBehind-append P before (x ∷ xs) ys h g = (h.0, EveryBehind-append P (before ++ x ∷ []) xs ys h.1 (rw (← append_assoc before (x ∷ []) xs) at g))
 
+  -- of both together, and so of the second behind the first
   pub EveryBehind-right : (P : List X → X → Type 0) (before xs ys : List X) → EveryBehind P before (xs ++ ys) → EveryBehind P (before ++ xs) ys
   EveryBehind-right P before [] ys h = rw (append-nil before) h
   EveryBehind-right P before (x ∷ xs) ys h = rw (← append_assoc before (x ∷ []) xs) (EveryBehind-right P (before ++ x ∷ []) xs ys h.1)
 
+  -- of the whole, and so of a beginning
   pub Beginning-EveryBehind : (P : List X → X → Type 0) (xs ys : List X) → Beginning xs ys → EveryBehind P [] ys → EveryBehind P [] xs
   Beginning-EveryBehind P xs ys f h = EveryBehind-left P [] xs f.0 (rw f.1 at h)
 
@@ -284,6 +323,7 @@ module _ {X : Type 0} where
   moved P Q pre pre' f acc (y ∷ ys) h =
       (f acc y h.0, rw (append_assoc pre' acc (y ∷ [])) (moved P Q pre pre' f (acc ++ y ∷ []) ys (rw (append_assoc pre acc (y ∷ [])) at h.1)))
 
+  -- of a list behind another beginning
   pub EveryBehind-moved : (P Q : List X → X → Type 0) (pre pre' : List X) → ((mid : List X) (z : X) → P (pre ++ mid) z → Q (pre' ++ mid) z) → (ys : List X) → EveryBehind P pre ys → EveryBehind Q pre' ys
   EveryBehind-moved P Q pre pre' f ys h = rw (append-nil pre') at (moved P Q pre pre' f [] ys (rw (append-nil pre) (h)))
 
@@ -315,14 +355,17 @@ map-append : {X Y : Type 0} (f : X → Y) (xs ys : List X) → map f (xs ++ ys) 
 map-append f [] ys = refl
 map-append f (x ∷ xs) ys = ap (λ l. f x ∷ l) (map-append f xs ys)
 
+-- of each element of the image, and so of the image of each
 pub EveryBehind-unmap : {X Y : Type 0} (P : List X → X → Type 0) (f : Y → X) (before ys : List Y) → EveryBehind P (map f before) (map f ys) → EveryBehind (λ b y. P (map f b) (f y)) before ys
 EveryBehind-unmap P f before [] h = tt
 EveryBehind-unmap P f before (y ∷ ys) h = (h.0, EveryBehind-unmap P f (before ++ y ∷ []) ys (rw (map-append f before (y ∷ [])) (h.1)))
 
+-- what follows from what holds of each element behind others holds of each
 pub EveryBehind-weaker : {X : Type 0} (P Q : List X → X → Type 0) → ((before : List X) (x : X) → P before x → Q before x) → (before xs : List X) → EveryBehind P before xs → EveryBehind Q before xs
 EveryBehind-weaker P Q f before [] h = tt
 EveryBehind-weaker P Q f before (x ∷ xs) h = (f before x h.0, EveryBehind-weaker P Q f (before ++ x ∷ []) xs h.1)
 
+-- what follows from a property of each element and what holds of each behind others holds of each
 pub EveryBehind-both : {X : Type 0} (P : X → Type 0) (Q R : List X → X → Type 0) → ((before : List X) (x : X) → P x → Q before x → R before x) → (before xs : List X) → Every P xs → EveryBehind Q before xs → EveryBehind R before xs
 EveryBehind-both P Q R f before [] g h = tt
 EveryBehind-both P Q R f before (x ∷ xs) g h = (f before x g.0 h.0, EveryBehind-both P Q R f (before ++ x ∷ []) xs g.1 h.1)
@@ -335,10 +378,12 @@ module _ {X : Type 0} (R : X → X → Type 0) where
   behind_one before x more (y ∷ ys) h =
       (Every-place (λ a. R a y) before more x h.0, behind_one before x (more ++ y ∷ []) ys (rw (append_assoc before (x ∷ more) (y ∷ [])) at h.1))
 
+  -- a relation of each element to all before it is one of each pair
   pub EveryPair-EveryBehind : (before xs : List X) → EveryBehind (λ b y. Every (λ a. R a y) b) before xs → EveryPair R xs
   EveryPair-EveryBehind before [] h = tt
   EveryPair-EveryBehind before (x ∷ xs) h = (behind_one before x [] xs h.1, EveryPair-EveryBehind (before ++ x ∷ []) xs h.1)
 
+  -- a relation of each pair is one of each element to all before it
   pub EveryBehind-EveryPair : (before xs : List X) → Across R before xs → EveryPair R xs → EveryBehind (λ b y. Every (λ a. R a y) b) before xs
   EveryBehind-EveryPair before [] a h = tt
   EveryBehind-EveryPair before (x ∷ xs) a h = (

@@ -18,6 +18,7 @@ abbrev pub HasReason : ℕ → ℕ → set.FinSet nat_cmp → Entry → Type 0
 HasReason n s stale e =
     (n ≤ s + 1) ⊎ (set.contains stale (word_of e.pc) ≡ true) ⊎ (is_fence_i e.instruction ≡ true) ⊎ IsKnownSince n e.instruction e.dispatched e.stage
 
+-- the oldest in flight was fetched and dispatched in time, and has a reason not to have retired
 pub record NextEntry (n s : ℕ) (store_waits : Bool) (stale : set.FinSet nat_cmp) (e : Entry) : Type 0 where
   pub fetched : e.fetched ≤ s
   pub dispatched : (store_waits && is_store e.instruction) ≡ false → e.dispatched ≤ s + 1
@@ -43,6 +44,7 @@ module _ (n m s : ℕ) (store_waits : Bool) (stale : set.FinSet nat_cmp) where
 
 -- ---- the phases of cycle `now`
 module _ (now s : ℕ) (store_waits : Bool) where
+  -- what is known of the next instruction after the commit phase of cycle `now`
   abbrev pub HasNext : Hardware → Type 0
   HasNext h = (h.cycle ≡ now) × Next (now + 1) now s store_waits h.stale h.rob.entries h.front.entries
 
@@ -100,6 +102,7 @@ module _ (now s : ℕ) (store_waits : Bool) where
     );
   }
 
+  -- the phases from drain to dispatch keep it
   pub next_executed : (h : Hardware) → HasNext h → HasNext (execute h).hardware
   next_executed h has =
       dispatch-keeps next_dispatched (broadcast (issue (drain h))) (broadcast-keeps next_broadcast (issue (drain h)) (issue-keeps HasNext next_issued (drain h) (drain-keeps next_drained h has)))

@@ -17,6 +17,7 @@ due_interrupt_is_taken lines old new report code is at =
     ap (λ r. r.steps) is.reports ∙ ap (λ (c : Committing). c.steps) is.commits ∙ interrupted_by (due old.csrs lines) (with_lines lines old) code at
 
 module _ (v : Values) {steps : List Step} {old new : Hardware} {lines : Lines} {report : Report} (history : History v steps old) (is : IsCycle any_prediction lines old report new) where
+  -- a cycle that goes on from a history passes through its phases
   pub passes_here : Passed v Anything steps lines old report new
   passes_here = cycle_passes v (history_is_legal v history) Anything steps lines old new report (anything_is_kept v old.cycle) (history_is_sound v history) tt is
 

@@ -24,6 +24,7 @@ finds_from test before (e ∷ es) none =
     finds_here test (test before e) before es e (oldest_from test (before ++ e ∷ []) es) refl none
     (λ fails. finds_from test (before ++ e ∷ []) es (one_behind (λ older x. test older x ≡ false) before e none fails))
 
+-- what the search for the oldest finds is the oldest that passes, or none passes
 pub oldest_finds : (test : List Entry → Entry → Bool) (es : List Entry) → Finds test es (oldest test es)
 oldest_finds test es = finds_from test [] es tt
 

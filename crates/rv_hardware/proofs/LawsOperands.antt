@@ -11,6 +11,7 @@ pub record Found (before : List Mark) (i : Option Instr) (cycle : ℕ) : Type 0 
   pub operands : OperandsKnown cycle before (sources_of_word i)
   pub stores : is_load i ≡ true → Every (IsKnownStore cycle) before
 
+-- where a mark started, its operands and, for a load, all older stores were known
 abbrev pub StartsBehind : List Mark → Mark → Type 0
 StartsBehind before m = IfSome m.start (λ s. Found before m.instruction s.cycle)
 
@@ -103,5 +104,6 @@ starts_are_kept v = record {
   more = λ now ms fs words h. EveryBehind-append StartsBehind [] ms (map mark_of_fetched fs) h (new_have_not_started ms fs);
 }
 
+-- in every history each mark started behind what it waits for
 pub history_starts_behind : (v : Values) {steps : List Step} {h : Hardware} → History v steps h → EveryBehind StartsBehind [] (marks_in steps h)
 history_starts_behind v history = marks_of_history v (λ now ms. EveryBehind StartsBehind [] ms) (starts_are_kept v) history

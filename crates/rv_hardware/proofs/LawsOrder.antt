@@ -180,5 +180,6 @@ orderly_is_kept v = record {
   more = orderly_more v;
 }
 
+-- in every history marks are in order and within the room
 pub history_is_orderly : (v : Values) {steps : List Step} {h : Hardware} → History v steps h → Orderly v h.cycle (marks_in steps h)
 history_is_orderly v history = marks_of_history v (Orderly v) (orderly_is_kept v) history

@@ -19,6 +19,7 @@ rows_start_behind v {steps} {h} history =
     EveryBehind-unmap StartsBehind mark_of_row [] (rows_of steps)
     (EveryBehind-left StartsBehind [] (map mark_of_row (rows_of steps)) (map mark_of_entry h.rob.entries ++ map mark_of_fetched h.front.entries) (history_starts_behind v history))
 
+-- an instruction that writes a register and uses no unit serialises
 pub writer_serialises : (register : ℕ) (i : Option Instr) → kind_of_word i ≡ None → is_target register (target_of_word i) ≡ true → is_serialising i ≡ true
 writer_serialises register None kind writes = absurd (cc)
 writer_serialises register (Some FenceI) kind writes = refl
@@ -52,10 +53,12 @@ every_before : {X : Type 0} (P : X → Type 0) (before xs : List X) → Every P 
 every_before P before [] h g = tt
 every_before P before (x ∷ xs) h g = (h, every_before P (before ++ x ∷ []) xs (Every-append P before (x ∷ []) h (g.0, tt)) g.1)
 
+-- what follows from two facts of each element behind others holds of each
 pub two_behind : {X : Type 0} (P Q R : List X → X → Type 0) → ((b : List X) (x : X) → P b x → Q b x → R b x) → (before xs : List X) → EveryBehind P before xs → EveryBehind Q before xs → EveryBehind R before xs
 two_behind P Q R f before [] h g = tt
 two_behind P Q R f before (x ∷ xs) h g = (f before x h.0 g.0, two_behind P Q R f (before ++ x ∷ []) xs h.1 g.1)
 
+-- in every history what is known of older rows holds of all before a row
 pub rows_are_older : (v : Values) {steps : List Step} {h : Hardware} → History v steps h → EveryBehind (λ before row. Every (Older v h.cycle row) before) [] (rows_of steps)
 rows_are_older v {steps} {h} history =
     two_behind (λ before row. Every (SoundRow v h.cycle) before) (λ before row. Every (λ a. SerialFirst a row) before) (λ before row. Every (Older v h.cycle row) before)

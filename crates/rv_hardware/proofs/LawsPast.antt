@@ -22,6 +22,7 @@ start_past now s le = rw (le-leb s.cycle now le) refl
 settled_keep : (now : ℕ) (m : Mark) (ms : List Mark) → Settled now m → as_of now ms ≡ ms → as_of now (m ∷ ms) ≡ m ∷ ms
 settled_keep now m ms settled rest = rw (le-leb m.fetched now settled.0) (λ i. settled.1 i ∷ rest i)
 
+-- marks of which nothing is later stand at the end of a cycle as they are
 pub as_of_now : (now : ℕ) (ms : List Mark) → Every (Settled now) ms → as_of now ms ≡ ms
 as_of_now now [] settled = refl
 as_of_now now (m ∷ ms) settled = settled_keep now m ms settled.0 (as_of_now now ms settled.1)
@@ -69,6 +70,7 @@ entry_settled v now e sound =
 fetched_settled : (now : ℕ) (f : Fetched) → SoundFetched (now + 1) f → Settled now (mark_of_fetched f)
 fetched_settled now f sound = (omega (arith, sound.0), refl)
 
+-- between two cycles nothing of a mark is later than the last
 pub marks_settled : (v : Values) (now : ℕ) (steps : List Step) (es : List Entry) (fs : List Fetched) → Every (SoundRow v (now + 1)) (rows_of steps) →
     Every (SoundEntry v (now + 1) (now + 1) (now + 1)) es → Every (SoundFetched (now + 1)) fs → Every (Settled now) (marks steps es fs)
 marks_settled v now steps es fs rows entries words =

@@ -27,6 +27,7 @@ marks_from : (R : List Mark → Type 0) (steps further : List Step) (g h : Hardw
 marks_from R steps further g h es fs at at' went goes = rw (at, at') (goes went)
 
 module _ (v : Values) (now : ℕ) (R : List Mark → Type 0) (kept : Kept v now R) (earlier : List Step) (is_stale : set.FinSet nat_cmp → ℕ → Bool) where
+  -- what holds in the commit phase
   abbrev pub Commits : Committing → Type 0
   Commits c = Goes v now now now now now (now + 1) R (earlier ++ c.steps) c.hardware
 
@@ -84,6 +85,7 @@ module _ (v : Values) (now : ℕ) (R : List Mark → Type 0) (kept : Kept v now 
       g.front.capacity ≡ c.hardware.front.capacity → g.front.width ≡ c.hardware.front.width → g.units ≡ c.hardware.units → SameShape g c.hardware
   flushed_shape c g values cache buffer room width units = record { values = values; cache = cache; buffer = buffer; room = room; width = width; units = λ k i. (at_kind k (units i)).units; pipelined = λ k i. (at_kind k (units i)).is_pipelined }
 
+  -- each turn of the commit phase keeps it
   pub commit_turn_keeps : (c : Committing) (t : Turn Committing) → CommitTurn is_stale c t → Commits c → Leads Commits Commits t
   commit_turn_keeps c _ (no_head none) p = p
   commit_turn_keeps c _ (stale_head e es at is) p = p
@@ -147,6 +149,7 @@ module _ (v : Values) (now : ℕ) (R : List Mark → Type 0) (kept : Kept v now 
   commit_by_due None h p =
       turns_keep Commits (commit_turn is_stale) (λ c q. commit_turn_keeps c (commit_turn is_stale c) (commit_turn_is is_stale c) q) h.values.commit_width (record { hardware = h; steps = []; stop = None }) p
 
+  -- the commit phase keeps it
   pub commit_keeps : (h : Hardware) → Goes v now now now now now (now + 1) R (earlier ++ []) h → Commits (commit is_stale h)
   commit_keeps h p = commit_by_due (due h.csrs h.lines) h p
 
@@ -162,9 +165,11 @@ drain_by true o h =
     (same.0, same.1, same.2, record { values = same.3.values; cache = same.3.cache; buffer = same.3.buffer; room = same.3.room; width = same.3.width; units = same.3.units; pipelined = same.3.pipelined })
 drain_by false o h = (refl, refl, refl, record { values = refl; cache = refl; buffer = refl; room = refl; width = refl; units = λ k. refl; pipelined = λ k. refl })
 
+-- the drain phase leaves reorder buffer, fetch buffer, cycle and shape as they were
 pub drain_same : (h : Hardware) → ((drain h).rob ≡ h.rob) × ((drain h).front ≡ h.front) × ((drain h).cycle ≡ h.cycle) × SameShape (drain h) h
 drain_same h = drain_by (nat_le h.port_free h.cycle) (oldest_to_drain (end_drain h).committed) h
 
+-- the drain phase keeps what is basic and the marks
 pub drain_keeps : (v : Values) (now d a b f r : ℕ) (R : List Mark → Type 0) (steps : List Step) (h : Hardware) → Goes v now d a b f r R steps h → Goes v now d a b f r R steps (drain h)
 drain_keeps v now d a b f r R steps h p =
     let same = drain_same h in
@@ -233,6 +238,7 @@ load_waits h older e load may = load_waits_by (is_load e.instruction) (list_all 
 -- issue: broadcasts lie in earlier cycles
 
 module _ (v : Values) (legal : IsLegal v) (now : ℕ) (R : List Mark → Type 0) (kept : Kept v now R) (steps : List Step) where
+  -- what holds in the issue phase
   abbrev pub Issues : Hardware → Type 0
   Issues h = Executes v now now R kept steps h
 
@@ -263,6 +269,7 @@ module _ (v : Values) (legal : IsLegal v) (now : ℕ) (R : List Mark → Type 0)
         stores = λ load. stores_known v now (now + 1) now (rows_of steps) p.basics.rows h.committed h.rob.retired older olders (load_waits h older e load ready.load);
       }
 
+  -- each turn of the issue phase keeps it
   pub issue_turn_keeps : (k : Kind) (h : Hardware) (t : Turn Hardware) → IssueTurn k h t → Issues h → Leads Issues Issues t
   issue_turn_keeps k h _ (no_unit held) p = p
   issue_turn_keeps k h _ (none_ready none) p = p
@@ -280,9 +287,11 @@ module _ (v : Values) (legal : IsLegal v) (now : ℕ) (R : List Mark → Type 0)
       refl
       (a_starts (start_is k h older younger e at is p)) p
 
+  -- the turns of one kind keep it
   pub issue_kind_keeps : (k : Kind) (h : Hardware) → Issues h → Issues (issue_kind k h)
   issue_kind_keeps k h p = turns_keep Issues (issue_turn k) (λ g q. issue_turn_keeps k g (issue_turn k g) (issue_turn_is k g) q) (at_kind k h.values.kinds).units h p
 
+  -- the issue phase keeps it
   pub issue_keeps : (h : Hardware) → Issues h → Issues (issue h)
   issue_keeps h p =
       issue_kind_keeps kind.Mem (issue_kind kind.Div (issue_kind kind.Mul (issue_kind kind.Alu h)))
@@ -293,6 +302,7 @@ module _ (v : Values) (legal : IsLegal v) (now : ℕ) (R : List Mark → Type 0)
 -- broadcast: starts lie in this cycle at the latest
 
 module _ (v : Values) (now : ℕ) (R : List Mark → Type 0) (kept : Kept v now R) (steps : List Step) where
+  -- what holds in the broadcast phase
   abbrev pub Broadcasts : Hardware → Type 0
   Broadcasts h = Executes v now (now + 1) R kept steps h
 
@@ -348,6 +358,7 @@ module _ (v : Values) (now : ℕ) (R : List Mark → Type 0) (kept : Kept v now 
       (subst (λ n. SoundEntry v now (now + 1) (now + 1) (finished message n e)) (sym p.basics.cycle) (finished_sound v now e issue message sound sent.runs (omega (arith, sent.over, p.basics.cycle)))) refl
       (a_is_sent (send_is h older younger e issue message sent p)) p
 
+  -- each turn of the broadcast phase keeps it
   pub broadcast_turn_keeps : (h : Hardware) (t : Turn Hardware) → BroadcastTurn h t → Broadcasts h → Leads Broadcasts Broadcasts t
   broadcast_turn_keeps h _ (no_result none) p = p
   broadcast_turn_keeps h _ (sends older younger e issue message sent late) p = send h older younger e issue message sent p
@@ -360,6 +371,7 @@ module _ (v : Values) (now : ℕ) (R : List Mark → Type 0) (kept : Kept v now 
       squash r g older younger x y (sent_entries h older younger e message sent.place) (mended_entries h older younger e message sent.place) refl refl (sent_shape g r refl refl refl refl refl refl)
       (λ sound. predicting_sound v now (now + 1) (now + 1) message.next_pc x sound) refl (send h older younger e issue message sent p)
 
+  -- the broadcast phase keeps it
   pub broadcast_keeps : (h : Hardware) → Broadcasts h → Broadcasts (broadcast h)
   broadcast_keeps h p = turns_keep Broadcasts broadcast_turn (λ g q. broadcast_turn_keeps g (broadcast_turn g) (broadcast_turn_is g) q) h.values.bus_width h p
 
@@ -410,6 +422,7 @@ module _ (v : Values) (now : ℕ) (R : List Mark → Type 0) (kept : Kept v now 
             }))));
       }
 
+  -- the dispatch phase keeps what is basic and the marks
   pub dispatch_keeps : (h : Hardware) → Goes v now (now + 1) (now + 1) (now + 1) now (now + 1) R steps h → Dispatches (dispatch h)
   dispatch_keeps h p =
       turns_keep Dispatches dispatch_turn (λ d q. dispatch_turn_keeps d (dispatch_turn d) (dispatch_turn_is d) q) h.values.dispatch_width (record { hardware = h; dispatched = 0; waits_for = None }) p

@@ -39,6 +39,7 @@ module _ (v : Values) (h : Hardware) (shape : HasShape v h) (older : List Entry)
   load_path form rd rs1 offset true true aligned inside (Some w) none other =
       rw (aligned, inside) (from_cache (list_all is_some (take (bytes_of (width_of form)) (forwarded (stores_behind h older) (sum (register_of s rs1) (modulo_word offset)) (bytes_of (width_of form))))) (sum (register_of s rs1) (modulo_word offset)) (rw (aligned, inside) at other))
 
+  -- a load without a fault that costs another time than a forwarded one goes to the cache
   pub path_of_user : (i : Option Instr) (w : Option ℕ) → is_load i ≡ true → is_some (result_of_word (layout_of h.values) s h.lines w i).fault ≡ false → ((cost_of h k (path_of h older s i) == v.forward) ≡ false) → Goes_to_cache i
   path_of_user None w load none other = absurd (cc)
   path_of_user (Some (Load form rd rs1 offset)) w load none other = load_path form rd rs1 offset _ _ refl refl w none other
@@ -55,6 +56,7 @@ port_by true true d f h = h
 port_by true false d f h = absurd (cc)
 port_by false c d f h = f refl
 
+-- an instruction that may leave its station has the port that its path needs
 pub has_its_port : (h : Hardware) (older : List Entry) (e : Entry) → may_load h older e ≡ true → has_port h (path h older e) ≡ true
 has_its_port h older e may = port_by (is_load e.instruction) (list_all is_known_store (stores_behind h older)) (has_port h (path h older e)) (λ plain. path_without h older (seen_behind h older e.pc) e.instruction plain) may
 

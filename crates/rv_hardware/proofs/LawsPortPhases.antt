@@ -20,6 +20,7 @@ use Rattle.rv_hardware.proofs.LawsTurns.{Leads, turns_keep}
 abbrev pub Tied : Values → ℕ → Mark → Type 0
 Tied v c m = WhereUsed v m (λ s. (s.cycle + s.cost ≤ c) × (0 < s.cost))
 
+-- the port is busy until each load that uses the cache is over, and none began before another was
 pub record PortOk (v : Values) (now : ℕ) (h : Hardware) : Type 0 where
   pub tie : Every (λ e. Tied v h.port_free (mark_of_entry e)) h.rob.entries
   pub pairs : EveryPair (λ a b. OneAtATime v now (mark_of_entry a) (mark_of_entry b)) h.rob.entries
@@ -51,6 +52,7 @@ port_tail v now g h e es at at' port ok = record {
   pairs = rw at' (subst (EveryPair (λ a b. OneAtATime v now (mark_of_entry a) (mark_of_entry b))) at ok.pairs).1;
 }
 
+-- where the port is found idle, it is free by now
 pub drained_idle : (a : Bool) (h : Hardware) → (a && nat_le h.port_free h.cycle) ≡ true → h.port_free ≤ h.cycle
 drained_idle a h is = leb-true h.port_free h.cycle (and_second a (nat_le h.port_free h.cycle) is)
 
@@ -236,6 +238,7 @@ broadcast_port v now h _ (mends older younger e issue message sent early) p =
 not_started : (v : Values) (m : Mark) (P : Start → Type 0) → m.start ≡ None → WhereUsed v m P
 not_started v m P none = rw none tt
 
+-- a mark that has not started makes a good pair with each
 pub new_pair : (v : Values) (now : ℕ) (a n : Mark) → n.start ≡ None → OneAtATime v now a n
 new_pair v now a n none = pair_with_new v now a n (inr (not_started v n (λ t. ⊥) none))
 
@@ -254,6 +257,7 @@ dispatch_port v now d _ (dispatches f fs at nothing) p =
 
 -- a cycle
 
+-- the phases of a cycle up to dispatch keep it
 pub port_in_cycle : (v : Values) (legal : IsLegal v) (earlier : List Step) (lines : Lines) (old new : Hardware) (report : Report) (R : List Mark → Type 0) → Passed v R earlier lines old report new → PortOk v old.cycle old → PortOk v old.cycle (dispatching lines old).hardware
 port_in_cycle v legal earlier lines old new report R passed ok =
     let now : ℕ = old.cycle in

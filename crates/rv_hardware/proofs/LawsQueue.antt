@@ -9,6 +9,7 @@ AreQueued hit port [] (s ∷ ss) = ⊥
 AreQueued hit port (row ∷ rows) [] = ⊥
 AreQueued hit port (row ∷ rows) (s ∷ ss) = (is_draining s ≡ true → row.retired + hit ≤ port) × AreQueued hit port rows ss
 
+-- the store rows split into those whose access is over and those whose stores wait in the queue
 pub record QueueOk (hit now : ℕ) (rows : List Row) (port : ℕ) (committed : List Store) : Type 0 where
   pub gone : List Row
   pub kept : List Row
@@ -29,6 +30,7 @@ queued_push hit p [] (t ∷ ss) row s waits h = absurd h
 queued_push hit p (r ∷ rows) [] row s waits h = absurd h
 queued_push hit p (r ∷ rows) (t ∷ ss) row s waits h = (h.0, queued_push hit p rows ss row s waits h.1)
 
+-- there are as many of these rows as stores in the queue
 pub queued_length : (hit p : ℕ) (rows : List Row) (ss : List Store) → AreQueued hit p rows ss → length rows ≡ length ss
 queued_length hit p [] [] h = refl
 queued_length hit p [] (s ∷ ss) h = absurd h
@@ -72,6 +74,7 @@ module _ (hit now : ℕ) (rows : List Row) (port : ℕ) (committed : List Store)
     queued = queued_push hit port ok.kept committed row s waits ok.queued;
   }
 
+  -- a store that retires is the last row and the last in the queue
   pub queue_retires : (row : Row) (seq : ℕ) (access : Option StoreAccess) → is_some access ≡ is_store_row row → row.retired ≤ now → QueueOk hit now (rows ++ row ∷ []) port (committed ++ committed_store seq access)
   queue_retires row seq None tells le = rw (append-nil committed) (plain_retires row (sym tells))
   queue_retires row seq (Some access) tells le = store_retires row _ (sym tells) refl le

@@ -4,6 +4,7 @@ use Rattle.rv_hardware.proofs.LawsAdvance.{IsBefore, IsKnownMark, Retires}
 use Rattle.rv_hardware.proofs.LawsMarks.{Start, mark_of_row, mark_of_entry, start_of_execution, broadcast_of_execution, start_of_stage, broadcast_of_stage}
 use Rattle.rv_hardware.proofs.LawsSound.{SoundCost, SoundStage, SoundEntry, kind_is_plain, serial_has_no_kind, row_decodes}
 
+-- a row's stamps are in order, its execution took its cost, and it retired below a bound
 pub record SoundRow (v : Values) (bound : ℕ) (row : Row) : Type 0 where
   pub stamps : HasOrderedStamps row
   pub cost : HasCost v row
@@ -83,14 +84,17 @@ execution_is_sound v i D now (Running issue message) sound may = serial_executio
 execution_is_sound v i D now (Finished issue cycle message) sound (inl serial) = serial_execution v i D now (Finished issue cycle message) sound serial
 execution_is_sound v i D now (Finished issue cycle message) sound (inr none) = finished_execution v i D now issue cycle message sound none
 
+-- a serialising instruction may retire at any stage
 pub may_retire_serial : (i : Option Instr) (st : Stage) → is_serialising i ≡ true → MayRetire i st
 may_retire_serial i Waiting serial = serial
 may_retire_serial i (Running issue message) serial = serial
 may_retire_serial i (Finished issue cycle message) serial = inl serial
 
+-- an instruction whose result is no fault may retire
 pub may_retire_finished : (i : Option Instr) (st : Stage) (issue : Option Issue) (cycle : ℕ) (message : Message) → st ≡ Finished issue cycle message → message.fault ≡ None → MayRetire i st
 may_retire_finished i st issue cycle message at none = rw at (inr none)
 
+-- what may retire is an instruction
 pub retiring_is_one : (v : Values) (now : ℕ) (e : Entry) → SoundEntry v now now now e → MayRetire e.instruction e.stage → e.instruction ≡ None → ⊥
 retiring_is_one v now e sound may = (execution_is_sound v e.instruction e.dispatched now e.stage sound.stage may).is_one
 
@@ -101,6 +105,7 @@ module _ (v : Values) (now : ℕ) (e : Entry) (written : Option (ℕ × ℕ)) (s
   decoded : instruction_of (unwrap_or e.word 0) ≡ e.instruction
   decoded = row_decodes e sound.decoded held.is_one
 
+  -- the row that a sound instruction leaves is sound
   pub row_is_sound : SoundRow v (now + 1) (row_at e written now)
   row_is_sound = record {
     stamps = record {

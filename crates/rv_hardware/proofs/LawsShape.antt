@@ -22,6 +22,7 @@ pub record SameShape (g h : Hardware) : Type 0 where
   pub units : (k : Kind) → (at_kind k g.units).units ≡ (at_kind k h.units).units
   pub pipelined : (k : Kind) → (at_kind k g.units).is_pipelined ≡ (at_kind k h.units).is_pipelined
 
+-- hardware with the same sizes has the described shape
 pub same_shape : (v : Values) (g h : Hardware) → SameShape g h → HasShape v h → HasShape v g
 same_shape v g h same shape = record {
   values = same.values ∙ shape.values;
@@ -37,6 +38,7 @@ capacity_behind : (r : ReorderBuffer) (es : List Entry) → (after_head r es).ca
 capacity_behind r [] = refl
 capacity_behind r (e ∷ es) = refl
 
+-- the reorder buffer is as large after a retirement
 pub head_retired_capacity : (r : ReorderBuffer) → (head_retired r).capacity ≡ r.capacity
 head_retired_capacity r = capacity_behind r r.entries
 
@@ -44,6 +46,7 @@ entries_behind : (r : ReorderBuffer) (e : Entry) (es fs : List Entry) → fs ≡
 entries_behind r e es [] at = absurd (cc)
 entries_behind r e es (f ∷ fs) at = cc
 
+-- after a retirement the entries are those behind the head
 pub head_retired_entries : (r : ReorderBuffer) (e : Entry) (es : List Entry) → r.entries ≡ e ∷ es → (head_retired r).entries ≡ es
 head_retired_entries r e es at = entries_behind r e es r.entries at
 
@@ -51,5 +54,6 @@ head_retired_entries r e es at = entries_behind r e es r.entries at
 pub pool_units : (k j : Kind) (cost cycle : ℕ) (u : PerKind Pool) → (at_kind j (with_kind k (started_unit cost cycle (at_kind k u)) u)).units ≡ (at_kind j u).units
 pool_units k j cost cycle u = with_kind-each k (started_unit cost cycle (at_kind k u)) u (λ i p. p.units ≡ (at_kind i u).units) refl (λ other differs. refl) j
 
+-- a start leaves it whether a pool is pipelined
 pub pool_pipelined : (k j : Kind) (cost cycle : ℕ) (u : PerKind Pool) → (at_kind j (with_kind k (started_unit cost cycle (at_kind k u)) u)).is_pipelined ≡ (at_kind j u).is_pipelined
 pool_pipelined k j cost cycle u = with_kind-each k (started_unit cost cycle (at_kind k u)) u (λ i p. p.is_pipelined ≡ (at_kind i u).is_pipelined) refl (λ other differs. refl) j

@@ -18,12 +18,14 @@ SoundStage v i D issue_bound bound (Finished (Some issue) cycle message) =
 SoundStage v i D issue_bound bound (Finished None cycle message) =
     (kind_of_word i ≡ None) × (is_serialising i ≡ false) × (cycle ≡ D) × (i ≡ None → is_some message.fault ≡ true)
 
+-- an instruction in flight is its word's, its stamps are in order, and its stage is sound
 pub record SoundEntry (v : Values) (dispatched_below issue_bound bound : ℕ) (e : Entry) : Type 0 where
   pub decoded : e.instruction ≡ option_and_then instruction_of e.word
   pub after_fetch : e.fetched < e.dispatched
   pub by_now : e.dispatched < dispatched_below
   pub stage : SoundStage v e.instruction e.dispatched issue_bound bound e.stage
 
+-- a fetched word came below a bound, with the instruction that it decodes to
 abbrev pub SoundFetched : ℕ → Fetched → Type 0
 SoundFetched bound f = (f.cycle < bound) × (f.instruction ≡ option_and_then instruction_of f.word)
 
@@ -33,6 +35,7 @@ stage_later v i D a b a' b' (Running issue message) le le' h = (h.0, h.1, omega 
 stage_later v i D a b a' b' (Finished (Some issue) cycle message) le le' h = (h.0, h.1, h.2, omega (arith, h.3), h.4)
 stage_later v i D a b a' b' (Finished None cycle message) le le' h = h
 
+-- an instruction that is sound below some bounds is so below later ones
 pub sound_later : (v : Values) (d a b d' a' b' : ℕ) → d ≤ d' → a ≤ a' → b ≤ b' → (e : Entry) → SoundEntry v d a b e → SoundEntry v d' a' b' e
 sound_later v d a b d' a' b' le le' le'' e h = record {
   decoded = h.decoded;
@@ -49,6 +52,7 @@ kind_is_plain (Some (Csr op rd csr source)) h = absurd (cc)
 kind_is_plain (Some Mret) h = absurd (cc)
 kind_is_plain i h = refl
 
+-- a serialising instruction uses no unit
 pub serial_has_no_kind : (i : Option Instr) → is_serialising i ≡ true → kind_of_word i ≡ None
 serial_has_no_kind None h = refl
 serial_has_no_kind (Some FenceI) h = refl
@@ -66,6 +70,7 @@ decodes_by : (i : Option Instr) (word : Option ℕ) → i ≡ option_and_then in
 decodes_by i None is some = absurd (some is)
 decodes_by i (Some word) is some = sym is
 
+-- the word of the row decodes to the instruction
 pub row_decodes : (e : Entry) → e.instruction ≡ option_and_then instruction_of e.word → (e.instruction ≡ None → ⊥) → instruction_of (unwrap_or e.word 0) ≡ e.instruction
 row_decodes e is some = decodes_by e.instruction e.word is some
 
@@ -110,6 +115,7 @@ module _ (v : Values) (h : Hardware) (shape : HasShape v h) (older : List Entry)
   costs_of k (Some (Load form rd rs1 offset)) is = load_faults form rd rs1 offset _ _ k refl refl word
   costs_of k i is = inr (latency_of_kind k (kind_of_word i) is)
 
+-- an instruction that starts executes for its cost, unless it gives a fault
 pub issued_cost : (v : Values) (h : Hardware) → HasShape v h → (older : List Entry) (e : Entry) (k : Kind) → is_of_kind k (kind_of_word e.instruction) ≡ true →
     SoundCost v e.instruction (start_of_issue (record { cycle = h.cycle; cost = cost_of h k (path h older e) }) (message_at h older e))
 issued_cost v h shape older e k is = costs_of v h shape older (seen_behind h older e.pc) e.word k e.instruction is
@@ -123,6 +129,7 @@ positive_access : (c : CacheValues) (forward : ℕ) (hit : Bool) (dropped : Opti
 positive_access c forward true dropped le = le
 positive_access c forward false dropped le = omega (arith, le)
 
+-- every execution costs one cycle at least
 pub positive_cost : (v : Values) → IsLegal v → (h : Hardware) → HasShape v h → (k : Kind) (p : Path) → 0 < cost_of h k p
 positive_cost v legal h shape k Without = let latency = positive_latency v legal k in let same = ap (λ (w : Values). (at_kind k w.kinds).latency) shape.values in omega (arith, latency, same)
 positive_cost v legal h shape k FromStores = let same = ap (λ (w : Values). w.forward) shape.values in omega (arith, same, legal.pipeline.forward)

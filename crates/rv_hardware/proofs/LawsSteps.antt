@@ -246,6 +246,7 @@ module _ (v : Values) (legal : IsLegal v) (earlier : List Step) (old new : Hardw
       Every-weaker (IsNew old.cycle) (λ f. NotBefore (earlier ++ report.steps) f.cycle)
       (λ f w. Every-weaker (λ s. stamp_of s < old.cycle + 1) (λ a. flushes a ≡ true → stamp_of a ≤ f.cycle) (λ a lt i. omega (arith, lt, w.0)) (earlier ++ report.steps) by_now) passed.fetches.added passed.fetches.are_new
 
+  -- the steps of a cycle carry its number
   pub steps_of_cycle : Every (λ s. stamp_of s ≡ old.cycle) report.steps
   steps_of_cycle = subst (Every (λ s. stamp_of s ≡ old.cycle)) (sym passed.steps) committed.of_now
 
@@ -277,6 +278,7 @@ module _ (v : Values) (legal : IsLegal v) (earlier : List Step) (old new : Hardw
         words = rw (passed.fetches.entries) (Every-append (λ f. NotBefore (earlier ++ report.steps) f.cycle) d.front.entries passed.fetches.added (Every-weaker (λ f. FetchedAnew (earlier ++ report.steps) (mark_of_fetched f)) (λ f. NotBefore (earlier ++ report.steps) f.cycle) (λ f w. w refl) d.front.entries fs) new_words_anew);
       }
 
+-- in every history the steps are in order and within the width
 pub history_has_steps : (v : Values) {steps : List Step} {h : Hardware} → History v steps h → StepsPast v steps h
 history_has_steps v (began image start legal) = record { before = tt; pairs = tt; width = λ c. omega arith; entries = tt; words = tt }
 history_has_steps v (went_on {earlier} {old} {new} {lines} {report} before is) =

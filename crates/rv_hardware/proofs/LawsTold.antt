@@ -8,14 +8,17 @@ use Rattle.rv_hardware.proofs.GapForms.{IsResult}
 abbrev pub Tells : Option Instr → Message → Type 0
 Tells i message = message.fault ≡ None → is_some message.store ≡ is_store i
 
+-- what is written is told where a store's result is known
 abbrev pub TellsIn : Option Instr → Stage → Type 0
 TellsIn i Waiting = Unit {0}
 TellsIn i (Running issue message) = Tells i message
 TellsIn i (Finished issue cycle message) = Tells i message
 
+-- an instruction in flight tells what it writes where it is a store, and nowhere else
 abbrev pub Telling : Entry → Type 0
 Telling e = TellsIn e.instruction e.stage
 
+-- each instruction in flight does
 abbrev pub AreTelling : Hardware → Type 0
 AreTelling h = Each Telling h.rob.entries
 
@@ -60,6 +63,7 @@ entry_tells h f =
     stage_tells f.instruction (kind_of_word f.instruction) (is_serialising f.instruction) h.cycle _
     (word_tells (layout_of h.values) (seen_behind h h.rob.entries f.pc) h.lines f.word f.instruction)
 
+-- every cycle keeps it
 pub telling-kept : IsKept AreTelling
 telling-kept = record {
   phases = record {

@@ -8,6 +8,7 @@ use Rattle.rv_hardware.proofs.LawsRow.{SoundRow}
 use Rattle.rv_hardware.proofs.LawsUnits.{holds_mark, units_in_cycle, units_of_history}
 use Rattle.rv_hardware.proofs.LawsWidths.{count_marks}
 
+-- an execution lies between the dispatch and the retirement
 abbrev pub Between : ℕ → ℕ → Option Execution → Type 0
 Between D C x = IfSome x (λ x. (D < x.issued) × (x.issued + x.cost ≤ x.broadcast) × (x.broadcast < C))
 
@@ -33,12 +34,15 @@ module _ (v : Values) (k : Kind) (test : ℕ → Mark → Bool)
       omega (arith, all, parts, rows, words, added, entries, tied, within)
 
   module _ (row_test : ℕ → Row → Bool) (shows : Shows v row_test test) where
+    -- in no cycle do more rows pass a test of holding a unit than there are units
     pub units_law : {steps : List Step} {h : Hardware} → History v steps h → (c : ℕ) → count_by (row_test c) (rows_of steps) ≤ (at_kind k v.kinds).units
     units_law history = counted_law v row_test test shows (at_kind k v.kinds).units held_at_end history
 
+-- a start in a cycle
 abbrev pub starts_at : ℕ → Option Start → Bool
 starts_at c None = false
 starts_at c (Some s) = s.cycle == c
 
+-- a mark's instruction starts on a unit of this kind in a cycle
 abbrev pub begins_mark : Kind → ℕ → Mark → Bool
 begins_mark k c m = is_of_kind k (kind_of_word m.instruction) && starts_at c m.start

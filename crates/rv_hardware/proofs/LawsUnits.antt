@@ -21,6 +21,7 @@ abbrev pub start_holds : Bool → ℕ → Option Start → Bool
 start_holds pipelined c None = false
 start_holds pipelined c (Some s) = nat_le s.cycle c && nat_lt c (s.cycle + held_for pipelined s.cost)
 
+-- a mark's execution holds a unit of this kind in a cycle
 abbrev pub holds_mark : Values → Kind → ℕ → Mark → Bool
 holds_mark v k c m = is_of_kind k (kind_of_word m.instruction) && start_holds (at_kind k v.kinds).pipelined c m.start
 
@@ -145,11 +146,13 @@ drain_units_by true None h = refl
 drain_units_by true (Some access) h = refl
 drain_units_by false o h = refl
 
+-- the drain phase leaves the units as they were
 pub drain_units : (h : Hardware) → (drain h).units ≡ h.units
 drain_units h = drain_units_by (nat_le h.port_free h.cycle) (oldest_to_drain (end_drain h).committed) h
 
 -- issue
 
+-- an instruction that starts takes a unit of its kind, and no other changes
 pub issued_units : (k : Kind) (h : Hardware) (older : List Entry) (e : Entry) → (issued k h older e).units ≡ with_kind k (started_unit (cost_of h k (path h older e)) h.cycle (at_kind k h.units)) h.units
 issued_units k h older e =
     let keep = access_keeps (path h older e) h in
@@ -240,6 +243,7 @@ dispatch_units v now d _ (dispatches f fs at nothing) p =
 
 -- a cycle
 
+-- the phases of a cycle up to dispatch keep it that all units are held within their number
 pub units_in_cycle : (v : Values) (legal : IsLegal v) (earlier : List Step) (lines : Lines) (old new : Hardware) (report : Report) (R : List Mark → Type 0) → Passed v R earlier lines old report new → AllHeld v old.cycle old → AllHeld v old.cycle (dispatching lines old).hardware
 units_in_cycle v legal earlier lines old new report R passed held =
     let now : ℕ = old.cycle in
@@ -256,6 +260,7 @@ units_in_cycle v legal earlier lines old new report R passed held =
 units_at_reset : (v : Values) (k : Kind) → Held v 0 k (at_kind k (for_each free_pool v.kinds)) []
 units_at_reset v k = rw (at_kind-for_each free_pool v.kinds k) (record { tied = λ c le. omega arith; within = λ c le. omega arith; begun = tt })
 
+-- in every history all units are held within their number
 pub units_of_history : (v : Values) {steps : List Step} {h : Hardware} → History v steps h → AllHeld v h.cycle h
 units_of_history v (began image start legal) = units_at_reset v
 units_of_history v (went_on {earlier} {old} {new} {lines} {report} before is) = λ k.

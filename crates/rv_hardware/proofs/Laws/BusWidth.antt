@@ -19,6 +19,7 @@ sent_shows_by c D C (Some x) h is =
     let same : x.broadcast ≡ c = eqb-true x.broadcast c is in
     (rw (until_by c x.broadcast (omega (arith, same))) is, omega (arith, same, h.0, h.1), omega (arith, same, h.2))
 
+-- that a row's result is broadcast in a cycle shows in its mark
 pub sent_shows : (v : Values) → Shows v is_broadcast_in (λ c m. is_at c m.broadcast)
 sent_shows v = record {
   mark = λ c bound row sound h.
@@ -75,6 +76,7 @@ row_sent_earlier : (D C now : ℕ) (x : Option Execution) → C ≤ now → IfSo
 row_sent_earlier D C now None le h = refl
 row_sent_earlier D C now (Some x) le h = ne_eqb x.broadcast now (omega (arith, le, h.2))
 
+-- the field `bus_width` of `Laws`, over every history
 pub law_of_bus_width : (v : Values) {steps : List Step} {h : Hardware} → History v steps h → NeverMoreThan v.bus_width is_broadcast_in (rows_of steps)
 law_of_bus_width v history =
     counted_law v is_broadcast_in (λ c m. is_at c m.broadcast) (sent_shows v) v.bus_width (λ earlier old new lines report before after passed.

@@ -4,6 +4,7 @@ use Rattle.rv_hardware.proofs.LawsCycle.{History, history_is_sound}
 use Rattle.rv_hardware.proofs.LawsLists.{Every-weaker, All-Every}
 use Rattle.rv_hardware.proofs.LawsRow.{SoundRow}
 
+-- the field `costs` of `Laws`, over every history
 pub law_of_costs : (v : Values) {steps : List Step} {h : Hardware} → History v steps h → All (HasCost v) (rows_of steps)
 law_of_costs v {steps} {h} history =
     All-Every (HasCost v) (rows_of steps) (Every-weaker (SoundRow v h.cycle) (HasCost v) (λ row sound. sound.cost) (rows_of steps) (history_is_sound v history).rows)

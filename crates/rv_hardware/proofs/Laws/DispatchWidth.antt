@@ -11,6 +11,7 @@ use Rattle.rv_hardware.proofs.LawsSound.{SoundEntry}
 use Rattle.rv_hardware.proofs.LawsTurns.{Leads, turns_within}
 use Rattle.rv_hardware.proofs.LawsWidths.{is_at, count_marks}
 
+-- that a row is dispatched in a cycle shows in its mark
 pub dispatched_shows : (v : Values) → Shows v is_dispatched_in (λ c m. is_at c m.dispatched)
 dispatched_shows v = record {
   mark = λ c bound row sound h.
@@ -34,6 +35,7 @@ module _ (now total : ℕ) where
       turns_within total DispatchedNow (DispatchedNow total) dispatch_turn (λ k d lt p. dispatch_leads k d (dispatch_turn d) lt (dispatch_turn_is d) p) (λ d p. p)
       h.values.dispatch_width 0 (record { hardware = h; dispatched = 0; waits_for = None }) (omega (arith, width)) none
 
+-- the field `dispatch_width` of `Laws`, over every history
 pub law_of_dispatch_width : (v : Values) {steps : List Step} {h : Hardware} → History v steps h → NeverMoreThan v.dispatch_width is_dispatched_in (rows_of steps)
 law_of_dispatch_width v history =
     counted_law v is_dispatched_in (λ c m. is_at c m.dispatched) (dispatched_shows v) v.dispatch_width (λ earlier old new lines report before after passed.

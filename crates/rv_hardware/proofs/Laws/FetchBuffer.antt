@@ -6,6 +6,7 @@ use Rattle.rv_hardware.proofs.LawsCycle.{History, is_buffered_mark}
 use Rattle.rv_hardware.proofs.LawsMarks.{until}
 use Rattle.rv_hardware.proofs.LawsOrder.{history_is_orderly}
 
+-- that a row's word is in the fetch buffer in a cycle shows in its mark
 pub buffered_shows : (v : Values) → Shows v is_buffered_in (λ c. is_buffered_mark)
 buffered_shows v = record {
   mark = λ c bound row sound h.
@@ -14,6 +15,7 @@ buffered_shows v = record {
   ends = λ c bound row sound h. let lt = ltb-true c row.dispatched (and_second (nat_le row.fetched c) (nat_lt c row.dispatched) h) in omega (arith, lt, sound.stamps.retired_after_dispatch);
 }
 
+-- the field `fetch_buffer` of `Laws`, over every history
 pub law_of_fetch_buffer : (v : Values) {steps : List Step} {h : Hardware} → History v steps h → NeverMoreThan v.fetch_buffer is_buffered_in (rows_of steps)
 law_of_fetch_buffer v history =
     counted_law v is_buffered_in (λ c. is_buffered_mark) (buffered_shows v) v.fetch_buffer (λ earlier old new lines report before after passed. (history_is_orderly v after).words) history

@@ -12,6 +12,7 @@ fetched_shows v = record {
   ends = λ c bound row sound h. let same : row.fetched ≡ c = eqb-true row.fetched c h in omega (arith, same, sound.stamps.dispatched_after_fetch, sound.stamps.retired_after_dispatch);
 }
 
+-- the field `fetch_width` of `Laws`, over every history
 pub law_of_fetch_width : (v : Values) {steps : List Step} {h : Hardware} → History v steps h → NeverMoreThan v.fetch_width is_fetched_in (rows_of steps)
 law_of_fetch_width v history =
     counted_law v is_fetched_in (λ c m. m.fetched == c) (fetched_shows v) v.fetch_width (λ earlier old new lines report before after passed.

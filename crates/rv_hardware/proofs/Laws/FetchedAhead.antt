@@ -9,5 +9,6 @@ by_step c (Retired row) h = h
 by_step c (Trap pc cause value cycle) h = tt
 by_step c (Interrupt pc cause cycle) h = tt
 
+-- the field `fetched_ahead` of `Laws`, over every history
 pub law_of_fetched_ahead : (v : Values) {steps : List Step} {h : Hardware} → History v steps h → EachNext (λ a b. IsFetchedAhead (stamp_of a) b) steps
 law_of_fetched_ahead v history first rest a b at = by_step (stamp_of a) b (follows v history first rest a b at).ahead

@@ -4,6 +4,7 @@ use Rattle.rv_hardware.proofs.LawsCycle.{History}
 use Rattle.rv_hardware.proofs.LawsLists.{EveryPair-weaker, AllPairs-EveryPair}
 use Rattle.rv_hardware.proofs.LawsSteps.{InOrder, history_has_steps}
 
+-- the field `fetched_anew` of `Laws`, over every history
 pub law_of_fetched_anew : (v : Values) {steps : List Step} {h : Hardware} → History v steps h → AllPairs (λ a b. flushes a ≡ true → IsFetchedSince a b) steps
 law_of_fetched_anew v {steps} history =
     AllPairs-EveryPair (λ a b. flushes a ≡ true → IsFetchedSince a b) steps (EveryPair-weaker InOrder (λ a b. flushes a ≡ true → IsFetchedSince a b) (λ a b o. o.anew) steps (history_has_steps v history).pairs)

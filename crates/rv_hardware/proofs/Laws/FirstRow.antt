@@ -6,6 +6,7 @@ use Rattle.rv_hardware.proofs.LawsLists.{Every, EveryBehind-at}
 use Rattle.rv_hardware.proofs.LawsRow.{SoundRow}
 use Rattle.rv_hardware.proofs.LawsAhead.{all_follow}
 
+-- the field `first_row` of `Laws`, over every history
 pub law_of_first_row : (v : Values) {steps : List Step} {h : Hardware} → History v steps h → (row : Row) (rest : List Step) → steps ≡ Retired row ∷ rest → IsFirst row
 law_of_first_row v {steps} {h} history row rest at =
     let first = EveryBehind-at (λ before x. Follows (last_stamp before) (has_step before) x) [] rest (Retired row) (subst AllFollow at (all_follow v history)) in

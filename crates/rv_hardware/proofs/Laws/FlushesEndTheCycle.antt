@@ -4,6 +4,7 @@ use Rattle.rv_hardware.proofs.LawsCycle.{History}
 use Rattle.rv_hardware.proofs.LawsLists.{EveryPair-weaker, AllPairs-EveryPair}
 use Rattle.rv_hardware.proofs.LawsSteps.{InOrder, history_has_steps}
 
+-- the field `flushes_end_the_cycle` of `Laws`, over every history
 pub law_of_flushes_end_the_cycle : (v : Values) {steps : List Step} {h : Hardware} → History v steps h → AllPairs (λ a b. flushes a ≡ true → stamp_of a < stamp_of b) steps
 law_of_flushes_end_the_cycle v {steps} history =
     AllPairs-EveryPair (λ a b. flushes a ≡ true → stamp_of a < stamp_of b) steps (EveryPair-weaker InOrder (λ a b. flushes a ≡ true → stamp_of a < stamp_of b) (λ a b o. o.last) steps (history_has_steps v history).pairs)

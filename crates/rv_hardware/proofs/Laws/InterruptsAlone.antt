@@ -4,6 +4,7 @@ use Rattle.rv_hardware.proofs.LawsCycle.{History}
 use Rattle.rv_hardware.proofs.LawsLists.{EveryPair-weaker, AllPairs-EveryPair}
 use Rattle.rv_hardware.proofs.LawsSteps.{InOrder, history_has_steps}
 
+-- the field `interrupts_alone` of `Laws`, over every history
 pub law_of_interrupts_alone : (v : Values) {steps : List Step} {h : Hardware} → History v steps h → AllPairs (λ a b. is_interrupt b ≡ true → stamp_of a < stamp_of b) steps
 law_of_interrupts_alone v {steps} history =
     AllPairs-EveryPair (λ a b. is_interrupt b ≡ true → stamp_of a < stamp_of b) steps (EveryPair-weaker InOrder (λ a b. is_interrupt b ≡ true → stamp_of a < stamp_of b) (λ a b o. o.alone) steps (history_has_steps v history).pairs)

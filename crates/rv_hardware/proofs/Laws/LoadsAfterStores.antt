@@ -44,6 +44,7 @@ loads_by before row h = by_load (is_load_row row) refl
         nothing [] = tt
         nothing (r ∷ rows) = ((λ store load. absurd (true≢false (sym load ∙ is))), nothing rows)
 
+-- the field `loads_after_stores` of `Laws`, over every history
 pub law_of_loads_after_stores : (v : Values) {steps : List Step} {h : Hardware} → History v steps h → AllPairs LoadsAfterStore (rows_of steps)
 law_of_loads_after_stores v {steps} history =
     AllPairs-EveryPair LoadsAfterStore (rows_of steps)

@@ -55,6 +55,7 @@ module _ (v : Values) (now : ℕ) where
       let one = count-yes dispatched_now (entry_of_fetched d.hardware f) [] (eq-eqb d.hardware.cycle now p.0) in
       (p.0, omega (arith, all, one, p.1))
 
+  -- after the dispatch phase the width is used up, or the oldest word has a reason to wait
   pub dispatch_leaves : (h : Hardware) → h.values.dispatch_width ≡ v.dispatch_width → h.cycle ≡ now → Left (dispatch h)
   dispatch_leaves h width cycle =
       turns_within v.dispatch_width Entering Left dispatch_turn (λ k d lt p. left_leads k d (dispatch_turn d) (dispatch_turn_is d) p) (λ d p f fs at. inl p.1)
@@ -171,10 +172,12 @@ soon_marks v history =
 
 -- so of the rows
 
+-- of each place, and so by recursion
 pub Every-All : {X : Type 0} (P : X → Type 0) (xs : List X) → All P xs → Every P xs
 Every-All P [] h = tt
 Every-All P (x ∷ xs) h = (All-head P x xs h, Every-All P xs (All-tail P x xs h))
 
+-- what holds of each row's mark at the end of a cycle holds of the marks as they stood then
 pub as_of_rows : (P : Mark → Type 0) (c : ℕ) (rows : List Row) → Every (λ row. P (at_end c (mark_of_row row))) rows → Every P (as_of c (map mark_of_row rows))
 as_of_rows P c rows h =
     Every-map P (at_end c) (filter (was_fetched c) (map mark_of_row rows))
@@ -188,6 +191,7 @@ some_until : (c d : ℕ) (b : Bool) → nat_le d c ≡ b → is_some (cond b (So
 some_until c d true is h = is
 some_until c d false is h = absurd (cc)
 
+-- a stamp that was not there by the end of a cycle is later
 pub none_until : (c d : ℕ) (b : Bool) → nat_le d c ≡ b → is_none (cond b (Some d) None) ≡ true → nat_lt c d ≡ true
 none_until c d true is h = absurd (cc)
 none_until c d false is h = lt-ltb c d (leb-false d c is)
@@ -238,6 +242,7 @@ module _ (v : Values) (bound c : ℕ) (before : List Row) (row : Row) (older : E
         (λ a o is. let late = o.serial is in ap is_some (until_by c a.retired (omega (arith, late, after)))) before older);
   }
 
+-- the field `no_idle_dispatch` of `Laws`, over every history
 pub law_of_no_idle_dispatch : (v : Values) {steps : List Step} {h : Hardware} → History v steps h → EachBehind (WaitsForRoom v 0) (rows_of steps)
 law_of_no_idle_dispatch v {steps} {h} history before after row at plain c from fetched later all =
     let sound : SoundRow v h.cycle row = Every-place (SoundRow v h.cycle) before after row (subst (Every (SoundRow v h.cycle)) at (history_is_sound v history).rows) in

@@ -73,5 +73,6 @@ module _ (v : Values) {steps : List Step} {h : Hardware} (history : History v st
   next_rows before after (Trap pc cause value cycle) t at = tt
   next_rows before after (Interrupt pc cause cycle) t at = tt
 
+  -- the field `no_idle_fetch` of `Laws`, over every history
   pub law_of_no_idle_fetch : EachNext (IsFetchedBehind v 0 (rows_of steps)) steps
   law_of_no_idle_fetch before after s t at = next_rows before after s t at

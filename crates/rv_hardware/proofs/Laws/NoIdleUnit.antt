@@ -74,6 +74,7 @@ begun_at c (Some x) h = by_stamp (nat_le x.issued c) h
     by_stamp true h' = h'
     by_stamp false h' = absurd (cc)
 
+-- the field `no_idle_unit` of `Laws`, over every history
 pub law_of_no_idle_unit : (v : Values) {steps : List Step} {h : Hardware} → History v steps h → (k : Kind) → is_pipelined v k ≡ true → LeaveNoUnitIdle v k 0 (rows_of steps)
 law_of_no_idle_unit v {steps} {h} history k line before after row at kind plain = by_execution row.execution refl
   where

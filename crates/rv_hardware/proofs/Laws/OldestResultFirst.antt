@@ -12,6 +12,7 @@ oldest_by None y h = tt
 oldest_by (Some s) None h = tt
 oldest_by (Some s) (Some t) h = λ ready. let sent = h ready in omega (arith, sent)
 
+-- the field `oldest_result_first` of `Laws`, over every history
 pub law_of_oldest_result_first : (v : Values) {steps : List Step} {h : Hardware} → History v steps h → AllPairs IsBroadcastFirst (rows_of steps)
 law_of_oldest_result_first v {steps} {h} history =
     AllPairs-EveryPair IsBroadcastFirst (rows_of steps)

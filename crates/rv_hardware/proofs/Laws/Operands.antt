@@ -63,6 +63,7 @@ operands_by v bound before row None sound older h = tt
 operands_by v bound before row (Some x) sound older h =
     All-Every (λ source. IfSome (producer_among before source) (IsKnownBefore row x)) (sources_of_row row) (sources_known v bound before row x sound older (sources_of_row row) h.operands)
 
+-- the field `operands` of `Laws`, over every history
 pub law_of_operands : (v : Values) {steps : List Step} {h : Hardware} → History v steps h → EachBehind IssuesWithOperands (rows_of steps)
 law_of_operands v {steps} {h} history =
     EachBehind-EveryBehind IssuesWithOperands (rows_of steps)

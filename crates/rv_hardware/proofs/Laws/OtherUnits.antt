@@ -21,6 +21,7 @@ executing_row c D C (Some x) h is =
     let lt = ltb-true c (x.issued + x.cost) (and_second (nat_le x.issued c) (nat_lt c (x.issued + x.cost)) is) in
     (rw begun (is), omega (arith, le, h.0), omega (arith, lt, h.1, h.2))
 
+-- the field `other_units` of `Laws`, over every history
 pub law_of_other_units : (v : Values) {steps : List Step} {h : Hardware} → History v steps h → (k : Kind) → is_pipelined v k ≡ false → FitUnits v k is_executing_in (rows_of steps)
 law_of_other_units v history k pipelined =
     units_law v k (executes_mark k)

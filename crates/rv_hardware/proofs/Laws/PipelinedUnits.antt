@@ -23,6 +23,7 @@ begun_row c D C (Some x) h is =
     let same : x.issued ≡ c = eqb-true x.issued c is in
     (rw (le-leb x.issued c (omega (arith, same))) is, omega (arith, same, h.0), omega (arith, same, h.1, h.2))
 
+-- that a row's execution begins in a cycle shows in its mark
 pub begun_shows : (v : Values) (k : Kind) → Shows v (is_issued_in k) (begins_mark k)
 begun_shows v k = record {
   mark = λ c bound row sound h.
@@ -32,6 +33,7 @@ begun_shows v k = record {
   ends = λ c bound row sound h. (begun_row c row.dispatched row.retired row.execution sound.stamps.executed_between (and_second (is_row_of_kind k row) (passes (λ y. y.issued == c) row.execution) h)).2;
 }
 
+-- the field `pipelined_units` of `Laws`, over every history
 pub law_of_pipelined_units : (v : Values) {steps : List Step} {h : Hardware} → History v steps h → (k : Kind) → is_pipelined v k ≡ true → FitUnits v k is_issued_in (rows_of steps)
 law_of_pipelined_units v history k pipelined =
     units_law v k (begins_mark k)

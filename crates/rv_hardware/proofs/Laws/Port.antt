@@ -170,6 +170,7 @@ each_behind : {X : Type 0} (P : List X → X → Type 0) (before xs all : List X
 each_behind P before [] all at h = tt
 each_behind P before (x ∷ xs) all at h = (h before xs x at, each_behind P (before ++ x ∷ []) xs all (at ∙ sym (append_assoc before (x ∷ []) xs)) h)
 
+-- the field `port` of `Laws`, over every history
 pub law_of_port : (v : Values) {steps : List Step} {h : Hardware} → History v steps h → AllPairs (AreApartAtPort v.forward) (rows_of steps)
 law_of_port v {steps} history =
     AllPairs-EveryPair (PortApart v) (rows_of steps)

@@ -7,6 +7,7 @@ use Rattle.rv_hardware.proofs.LawsCycle.{History}
 use Rattle.rv_hardware.proofs.LawsMarks.{until}
 use Rattle.rv_hardware.proofs.LawsOrder.{history_is_orderly}
 
+-- that a row is in flight in a cycle shows in its mark
 pub in_flight_shows : (v : Values) → Shows v is_in_flight_in (λ c. is_in_flight_mark)
 in_flight_shows v = record {
   mark = λ c bound row sound h.
@@ -17,6 +18,7 @@ in_flight_shows v = record {
   ends = λ c bound row sound h. ltb-true c row.retired (and_second (nat_le row.dispatched c) (nat_lt c row.retired) h);
 }
 
+-- the field `reorder_buffer` of `Laws`, over every history
 pub law_of_reorder_buffer : (v : Values) {steps : List Step} {h : Hardware} → History v steps h → NeverMoreThan v.rob is_in_flight_in (rows_of steps)
 law_of_reorder_buffer v history =
     counted_law v is_in_flight_in (λ c. is_in_flight_mark) (in_flight_shows v) v.rob (λ earlier old new lines report before after passed. (history_is_orderly v after).buffer) history

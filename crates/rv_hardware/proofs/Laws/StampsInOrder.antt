@@ -4,6 +4,7 @@ use Rattle.rv_hardware.proofs.LawsCycle.{History, history_is_sound}
 use Rattle.rv_hardware.proofs.LawsLists.{Every-weaker, All-Every}
 use Rattle.rv_hardware.proofs.LawsRow.{SoundRow}
 
+-- the field `stamps_in_order` of `Laws`, over every history
 pub law_of_stamps_in_order : (v : Values) {steps : List Step} {h : Hardware} → History v steps h → All HasOrderedStamps (rows_of steps)
 law_of_stamps_in_order v {steps} {h} history =
     All-Every HasOrderedStamps (rows_of steps) (Every-weaker (SoundRow v h.cycle) HasOrderedStamps (λ row sound. sound.stamps) (rows_of steps) (history_is_sound v history).rows)

@@ -15,6 +15,7 @@ retired_after : (c D C : ℕ) (x : Option Execution) → IfSome x (λ x. (D < x.
 retired_after c D C None h is = absurd (cc)
 retired_after c D C (Some x) h is = let lt = ltb-true c x.issued is in omega (arith, lt, h.1, h.2)
 
+-- that a row waits in a station in a cycle shows in its mark
 pub stationed_shows : (v : Values) (k : Kind) → Shows v (is_stationed_in k) (λ c. is_stationed_mark k)
 stationed_shows v k = record {
   mark = λ c bound row sound h.
@@ -27,6 +28,7 @@ stationed_shows v k = record {
   ends = λ c bound row sound h. retired_after c row.dispatched row.retired row.execution sound.stamps.executed_between (and_second (is_row_of_kind k row && nat_le row.dispatched c) (passes (λ x. nat_lt c x.issued) row.execution) h);
 }
 
+-- the field `stations` of `Laws`, over every history
 pub law_of_stations : (v : Values) {steps : List Step} {h : Hardware} → History v steps h → (k : Kind) → NeverMoreThan (stations_of v k) (is_stationed_in k) (rows_of steps)
 law_of_stations v history k =
     counted_law v (is_stationed_in k) (λ c. is_stationed_mark k) (stationed_shows v k) (at_kind k v.kinds).stations (λ earlier old new lines report before after passed. (history_is_orderly v after).stations k) history

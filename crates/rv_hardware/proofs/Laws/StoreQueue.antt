@@ -251,6 +251,7 @@ module _ (v : Values) {steps : List Step} {h : Hardware} (history : History v st
       let law = queued_before now (omega (arith, at)) in
       omega (arith, fewer, law)
 
+  -- the field `store_queue` of `Laws`, over every history
   pub law_of_store_queue : NeverMoreThan v.store_queue (is_queued_in v.cache.hit) (rows_of steps)
   law_of_store_queue c =
       let same = count-count_by (is_queued_in v.cache.hit c) (rows_of steps) in

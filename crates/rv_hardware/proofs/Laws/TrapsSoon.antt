@@ -3,5 +3,6 @@ use Rattle.rv_hardware.proofs.Words.{List, Values, Hardware, IsTrappedSoon, Each
 use Rattle.rv_hardware.proofs.LawsCycle.{History}
 use Rattle.rv_hardware.proofs.LawsAhead.{follows}
 
+-- the field `traps_soon` of `Laws`, over every history
 pub law_of_traps_soon : (v : Values) {steps : List Step} {h : Hardware} → History v steps h → EachNext (λ a b. IsTrappedSoon (stamp_of a) b) steps
 law_of_traps_soon v history first rest a b at = (follows v history first rest a b at).soon
