@@ -12,10 +12,12 @@ pub unit_time-most : (cycle longest : ℕ) (starts : List Issue) → Each (Holds
 unit_time-most cycle longest [] held = omega arith
 unit_time-most cycle longest (start ∷ starts) held = omega (arith, held.0, unit_time-most cycle longest starts held.1)
 
+-- where a unit is free within the longest execution, one is free within the port's time and a longest execution
 pub free_time-most : (port unit longest : ℕ) → unit ≤ longest → free_time port unit longest ≤ port + longest
 free_time-most zero unit longest held = omega arith
 free_time-most (suc port) unit longest held = omega arith
 
+-- no load waits for the port longer than it is busy
 pub no_more : (load : Bool) (port : ℕ) → cond load port 0 ≤ port
 no_more true port = omega arith
 no_more false port = omega arith
@@ -24,6 +26,7 @@ one_access : (begun : Bool) (access : ℕ) → cond begun 0 access ≤ access
 one_access true access = omega arith
 one_access false access = omega arith
 
+-- the retired stores take an access each and one cycle at most
 pub time_of_stores-most : (access : ℕ) (stores : List Store) → time_of_stores access stores ≤ 1 + length stores * access
 time_of_stores-most access [] = omega arith
 time_of_stores-most access (s ∷ ss) = omega (arith, one_access (is_draining s) access)

@@ -10,6 +10,7 @@ with_mended next es h = record h { rob = record h.rob { entries = es }; front = 
 
 -- what holds once the result of an instruction was broadcast, and is kept where a wrong prediction is mended
 module _ (P : Hardware → List Entry → Entry → Type 0) (Q : Hardware → Type 0) where
+  -- a result on the bus leads from P to Q, and the mending of a wrong prediction keeps Q
   pub record IsMadeByBroadcast : Type 0 where
     pub broadcasts : (h : Hardware) (older younger : List Entry) (e : Entry) (message : Message) → P h older e →
         h.rob.entries ≡ older ++ e ∷ younger → result_at h.cycle e.stage ≡ Some message →
@@ -17,6 +18,7 @@ module _ (P : Hardware → List Entry → Entry → Type 0) (Q : Hardware → Ty
     pub mends : (h : Hardware) (older younger : List Entry) (e : Entry) (next : ℕ) → Q h →
         h.rob.entries ≡ older ++ e ∷ younger → Q (with_mended next (older ++ predicting next e ∷ []) h)
 
+-- a result on the bus and the mending of a wrong prediction keep the property
 abbrev pub IsKeptByBroadcast : (Hardware → Type 0) → Type 0
 IsKeptByBroadcast P = IsMadeByBroadcast (λ h older e. P h) P
 
@@ -70,8 +72,10 @@ module _ {P : Hardware → Type 0} (kept : IsKeptByBroadcast P) where
       let found = oldest-found (has_result h.cycle) h.rob.entries older e is in
       after_result h older found.younger e (result_at h.cycle e.stage) holds found.split refl
 
+  -- so a turn of the broadcast phase keeps it
   pub broadcast_turn-keeps : (h : Hardware) → P h → Leaves P (broadcast_turn h)
   broadcast_turn-keeps h holds = after_oldest h (oldest (has_result h.cycle) h.rob.entries) refl holds
 
+  -- and so the broadcast phase does
   pub broadcast-keeps : (h : Hardware) → P h → P (broadcast h)
   broadcast-keeps h holds = kept_by_turns P broadcast_turn broadcast_turn-keeps h.values.bus_width h holds

@@ -7,6 +7,7 @@ use Rattle.rv_hardware.proofs.GapLists.{by_test}
 use Rattle.rv_hardware.proofs.Repeated.{Leaves, kept_by_turns}
 
 module _ (P : Hardware → Type 0) where
+  -- a squash of everything, a retirement and FENCE.I's write-back keep the property
   pub record IsKeptByCommit : Type 0 where
     pub empties : (h : Hardware) (s : State) (retired : ℕ) → P h → P (emptied s retired h)
     pub retires : (h : Hardware) (e : Entry) (es : List Entry) (s : State) (message : Message) → P h → h.rob.entries ≡ e ∷ es →
@@ -96,5 +97,6 @@ module _ {P : Hardware → Type 0} (kept : IsKeptByCommit P) where
     unless-keeps None h holds = kept_by_turns Holds (commit_turn is_stale) commit_turn-keeps h.values.commit_width _ holds
     unless-keeps (Some code) h holds = kept.empties h (trap_taken (seen h) (interrupt_cause code) 0) h.rob.retired holds
 
+    -- so the commit phase keeps it
     pub commit-keeps : (h : Hardware) → P h → P (commit is_stale h).hardware
     commit-keeps h holds = unless-keeps (due h.csrs h.lines) h holds

@@ -19,9 +19,11 @@ cost_at_least : (values : CacheValues) (hit : Bool) (dropped : Option CacheLine)
 cost_at_least values true dropped = omega arith
 cost_at_least values false dropped = omega arith
 
+-- an access costs a hit, a miss and a write-back at most
 pub access_cost-most : (cache : Contents Memory) (address : ℕ) → access_cost cache address ≤ greatest_access cache.values
 access_cost-most cache address = cost_at_most cache.values (is_held (line_of cache address) (set_of cache (line_of cache address))) (evicted cache address)
 
+-- an access costs a hit at least
 pub access_cost-least : (cache : Contents Memory) (address : ℕ) → cache.values.hit ≤ access_cost cache address
 access_cost-least cache address = cost_at_least cache.values (is_held (line_of cache address) (set_of cache (line_of cache address))) (evicted cache address)
 
@@ -34,6 +36,7 @@ latency_at_most values kind.Mem = omega arith
 forward_at_most : (values : Values) → values.forward ≤ greatest_latency values
 forward_at_most values = omega arith
 
+-- an execution costs the longest execution's time at most
 pub cost_of-most : (h : Hardware) (k : Kind) (path : Path) → cost_of h k path ≤ longest_execution h
 cost_of-most h k Without = omega (arith, latency_at_most h.values k)
 cost_of-most h k FromStores = omega (arith, forward_at_most h.values)

@@ -8,6 +8,7 @@ use Rattle.rv_hardware.proofs.GapDrain.{IsKeptByDrain, drain-keeps}
 use Rattle.rv_hardware.proofs.GapIssue.{IsKeptByIssue, issue-keeps}
 
 module _ (P : Hardware → Type 0) where
+  -- new line levels and the phases from commit to dispatch keep the property
   pub record IsKeptByPhases : Type 0 where
     pub lines : (h : Hardware) (levels : Lines) → P h → P (with_lines levels h)
     pub commit : IsKeptByCommit P
@@ -20,16 +21,19 @@ module _ (P : Hardware → Type 0) where
     pub fetches : (ram : Memory) (cycle : ℕ) (h : Hardware) (front : FetchBuffer) (stop : FetchStop) → P h → FetchesInto any_prediction ram cycle h.front front stop →
         P (record h { front = front; cycle = h.cycle + 1 })
 
+  -- the phases keep the property, and a fetch does
   pub record IsKept : Type 0 where
     pub phases : IsKeptByPhases
     pub fetch : IsKeptByFetch
 
 -- the hardware after its commit, and after its dispatch
 module _ {P : Hardware → Type 0} (kept : IsKeptByPhases P) where
+  -- so the phases from drain to dispatch keep it
   pub execute-keeps : (h : Hardware) → P h → P (execute h).hardware
   execute-keeps h holds =
       dispatch-keeps kept.dispatch _ (broadcast-keeps kept.broadcast _ (issue-keeps P kept.issue _ (drain-keeps kept.drain h holds)))
 
+  -- and so do those of a cycle up to its dispatch
   pub phases-keep : {answers : Answers} {lines : Lines} {old new : Hardware} {report : Report} (cycle : IsCycle answers lines old report new) → P old → P cycle.dispatching.hardware
   phases-keep {lines = lines} {old = old} cycle holds =
       let committed : P cycle.committing.hardware =
@@ -57,6 +61,7 @@ same_cycle number = record {
   dispatch = record { dispatches = λ h fetched rest same first none. same };
 }
 
+-- and a whole cycle does
 pub cycle-keeps : {P : Hardware → Type 0} {lines : Lines} {old new : Hardware} {report : Report} → IsKept P → IsCycle any_prediction lines old report new → P old → P new
 cycle-keeps {P} {lines} {old} {new} kept cycle holds =
     let after = phases-keep kept.phases cycle holds in

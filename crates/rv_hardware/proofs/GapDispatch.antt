@@ -3,6 +3,7 @@ use Rattle.rv_hardware.proofs.Words.{◌≡◌, ℕ, List, [], ◌∷◌, Some, 
 use Rattle.rv_hardware.proofs.Repeated.{Leaves, kept_by_turns}
 
 module _ (P : Hardware → Type 0) where
+  -- the dispatch of one fetched word keeps the property
   pub record IsKeptByDispatch : Type 0 where
     pub dispatches : (h : Hardware) (fetched : Fetched) (rest : List Fetched) → P h → h.front.entries ≡ fetched ∷ rest → reason_of h fetched ≡ None → P (with_dispatched fetched rest h)
 
@@ -20,8 +21,10 @@ module _ {P : Hardware → Type 0} (kept : IsKeptByDispatch P) where
   pub dispatch_turn-keeps : (d : Dispatching) → P d.hardware → Leaves (λ (after : Dispatching). P after.hardware) (dispatch_turn d)
   dispatch_turn-keeps d holds = after_words d d.hardware.front.entries refl holds
 
+  -- so the turns of the dispatch phase keep it
   pub dispatch_turns-keep : (width : ℕ) (d : Dispatching) → P d.hardware → P (repeated dispatch_turn width d).hardware
   dispatch_turns-keep width d holds = kept_by_turns (λ (after : Dispatching). P after.hardware) dispatch_turn dispatch_turn-keeps width d holds
 
+  -- and so the dispatch phase does
   pub dispatch-keeps : (h : Hardware) → P h → P (dispatch h).hardware
   dispatch-keeps h holds = dispatch_turns-keep h.values.dispatch_width _ holds

@@ -3,6 +3,7 @@ use Rattle.rv_hardware.proofs.Words.{◌≡◌, true, nat_le, Some, None, Option
 use Rattle.rv_hardware.proofs.GapLists.{by_test}
 
 module _ (P : Hardware → Type 0) where
+  -- the end of a store's access and the start of another's keep the property
   pub record IsKeptByDrain : Type 0 where
     pub leaves : (h : Hardware) → P h → nat_le h.port_free h.cycle ≡ true → P (end_drain h)
     pub drains : (h : Hardware) (access : StoreAccess) → P h → nat_le h.port_free h.cycle ≡ true → oldest_to_drain h.committed ≡ Some access →
@@ -14,6 +15,7 @@ module _ {P : Hardware → Type 0} (kept : IsKeptByDrain P) where
   start_drain-keeps h None holds idle is = holds
   start_drain-keeps h (Some access) holds idle is = kept.drains h access holds idle is
 
+  -- so the drain phase keeps it
   pub drain-keeps : (h : Hardware) → P h → P (drain h)
   drain-keeps h holds =
       by_test P (nat_le h.port_free h.cycle) (start_drain (oldest_to_drain (end_drain h).committed) (end_drain h)) h

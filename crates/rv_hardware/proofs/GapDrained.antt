@@ -13,6 +13,7 @@ use Rattle.rv_hardware.proofs.GapBound.{time_of_stores-most}
 abbrev pub next_port_time : Hardware → ℕ
 next_port_time h = (h.port_free - (h.cycle + 1)) + time_of_stores (longest_access h) h.committed
 
+-- the port is nearer to idle, and it is busy or no retired store waits for it
 pub record Drains (h after : Hardware) : Type 0 where
   pub fall : next_port_time after ≤ port_time h - 1
   pub port : ((h.cycle < after.port_free) × (1 ≤ port_time h)) ⊎ ((after.committed ≡ []) × (after.port_free ≤ h.cycle))
@@ -72,6 +73,7 @@ module _ (h : Hardware) (idle : h.port_free ≤ h.cycle) (costs : 1 ≤ h.cache.
       rw (← one) waits)
       (omega (arith, time)))
 
+-- the drain phase brings the port nearer to idle, and leaves it busy or with no store that waits
 pub drains : (h : Hardware) → HasQueue h → 1 ≤ h.cache.values.hit → Drains h (drain h)
 drains h queue costs =
     by_test (Drains h) (nat_le h.port_free h.cycle) (start_drain (oldest_to_drain (end_drain h).committed) (end_drain h)) h
@@ -105,5 +107,6 @@ drain_keeps_same h = record {
   drains = λ g access same idle is. still_same h g (with_drained access g) same refl refl refl refl refl refl;
 }
 
+-- the drain phase changes the port, the cache's lines, memory and the retired stores alone
 pub drain-same : (h : Hardware) → SameButPort h (drain h)
 drain-same h = drain-keeps (drain_keeps_same h) h (record { values = refl; cache = refl; rob = refl; front = refl; units = refl; cycle = refl })

@@ -21,12 +21,14 @@ HasWordOr (Some fault) None = Unit {0}
 abbrev IsTold : Option ℕ → Option Instr → Message → Type 0
 IsTold word instruction message = HasWordOr message.fault word × TellsStore instruction message.store
 
+-- by its stage, an instruction waits for a unit or to be the oldest, or its message tells no more than it may
 abbrev pub IsShaped : Option ℕ → Option Instr → Stage → Type 0
 IsShaped word instruction Waiting =
     HasWordOr None word × ((is_some (kind_of_word instruction) || is_serialising instruction) ≡ true)
 IsShaped word instruction (Running issue message) = IsTold word instruction message
 IsShaped word instruction (Finished issue cycle message) = IsTold word instruction message
 
+-- an instruction in flight is so
 abbrev pub Shaped : Entry → Type 0
 Shaped e = IsShaped e.word e.instruction e.stage
 
@@ -39,6 +41,7 @@ HasWordFor None (Some instruction) = ⊥
 abbrev pub FetchedShape : Fetched → Type 0
 FetchedShape f = HasWordFor f.word f.instruction
 
+-- each instruction in flight is so, and no fetched word that was not there has an instruction
 abbrev pub HasShape : Hardware → Type 0
 HasShape h = Each Shaped h.rob.entries × Each FetchedShape h.front.entries
 
@@ -108,6 +111,7 @@ no_word None (Some instruction) is = absurd (cc)
 fetched_shape : (ram : Memory) (cycle pc : ℕ) (f : Fetched) → IsFetchedAt any_prediction ram cycle pc f → FetchedShape f
 fetched_shape ram cycle pc f at = no_word f.word f.instruction at.instruction_is
 
+-- every cycle keeps it
 pub shape-kept : IsKept HasShape
 shape-kept = record {
   phases = record {
@@ -144,5 +148,6 @@ shape-kept = record {
   };
 }
 
+-- it holds at reset
 pub shape-at_reset : (values : Values) (image : List ℕ) (start : ℕ) → HasShape (reset_hardware values image start)
 shape-at_reset values image start = (tt, tt)

@@ -19,6 +19,7 @@ later front h = record h { front = front; cycle = h.cycle + 1 }
 abbrev pub SameAs : Values → CacheValues → ℕ → Hardware → Type 0
 SameAs values cache cycle h = (h.values ≡ values) × (h.cache.values ≡ cache) × (h.cycle ≡ cycle)
 
+-- no phase from commit to dispatch changes what was described or the cycle's number
 pub same-kept : (values : Values) (cache : CacheValues) (cycle : ℕ) → IsKeptByPhases (SameAs values cache cycle)
 same-kept values cache cycle = record {
   lines = λ h levels same. same;
@@ -39,17 +40,21 @@ same-kept values cache cycle = record {
   dispatch = record { dispatches = λ h fetched rest same first none. same };
 }
 
+-- so the phases from drain to dispatch do not
 pub execute-same : (h : Hardware) → SameAs h.values h.cache.values h.cycle (execute h).hardware
 execute-same h = execute-keeps (same-kept h.values h.cache.values h.cycle) h (refl, refl, refl)
 
+-- nor do drain and issue
 pub issued-same : (h : Hardware) → SameAs h.values h.cache.values h.cycle (issue (drain h))
 issued-same h =
     let kept = same-kept h.values h.cache.values h.cycle in
     issue-keeps (SameAs h.values h.cache.values h.cycle) kept.issue (drain h) (drain-keeps kept.drain h (refl, refl, refl))
 
+-- nor does broadcast change the cycle's number
 pub broadcast-same : (h : Hardware) → (broadcast h).cycle ≡ h.cycle
 broadcast-same h = (broadcast-keeps (same-kept h.values h.cache.values h.cycle).broadcast h (refl, refl, refl)).2
 
+-- in the next cycle the longest execution is the same
 pub same-longest : (h : Hardware) (front : FetchBuffer) → longest_execution (later front (execute h).hardware) ≡ longest_execution h
 same-longest h front =
     let same = execute-same h in
@@ -82,12 +87,15 @@ module _ (instruction : Option Instr) (R : Stage → Type 0) (cycle : ℕ)
     dispatches = λ h fetched rest head first none. (head-push instruction R h.rob.entries (entry_of_fetched h fetched) head.0, head.1);
   }
 
+  -- the dispatch phase leaves the oldest instruction as it was
   pub head-dispatched : (h : Hardware) → HeadIs instruction R h.rob.entries → h.cycle ≡ cycle → HeadIs instruction R (dispatch h).hardware.rob.entries
   head-dispatched h head is = (dispatch-keeps head_dispatch h (head, is)).0
 
+  -- the broadcast phase leaves the oldest instruction in such a stage
   pub head-broadcasted : (h : Hardware) → HeadIs instruction R h.rob.entries → h.cycle ≡ cycle → HeadIs instruction R (broadcast h).rob.entries
   head-broadcasted h head is = (broadcast-keeps head_broadcast h (head, is)).0
 
+  -- a turn of the broadcast phase does
   pub head-turn : (h : Hardware) → HasHead h → Leaves HasHead (broadcast_turn h)
   head-turn h has = broadcast_turn-keeps head_broadcast h has
 
@@ -101,9 +109,11 @@ module _ (h : Hardware) (instruction : Option Instr) (R : Stage → Type 0) (mos
   head_in [] bound head ends = absurd head
   head_in (e ∷ es) bound head ends = subst (λ i. head_time h i e.stage ≤ most) (sym head.0) (bound e.stage head.1 ends.0)
 
+  -- the patience is no greater than what the oldest instruction's stage allows
   pub head-patience : ((stage : Stage) → R stage → EndsBy limit stage → head_time h instruction stage ≤ most) → HeadIs instruction R h.rob.entries → Each (Ending limit) h.rob.entries → patience h ≤ most
   head-patience bound head ends = head_in h.rob.entries bound head ends
 
+  -- the same, where the oldest does not serialise
   pub plain-patience : is_serialising instruction ≡ false → ((stage : Stage) → R stage → EndsBy limit stage → stage_time h instruction stage ≤ most) → HeadIs instruction R h.rob.entries → Each (Ending limit) h.rob.entries → patience h ≤ most
   plain-patience plain bound head ends =
       head-patience (λ stage is by. subst (λ n. n ≤ most) (sym (plain_time h instruction stage plain)) (bound stage is by)) head ends
@@ -118,6 +128,7 @@ begun_stage h instruction Waiting begun ends = absurd (cc)
 begun_stage h instruction (Running issue message) begun ends = omega arith
 begun_stage h instruction (Finished issue cycle message) begun ends = omega arith
 
+-- where the oldest has begun its execution, the patience is the longest execution's time and one at most
 pub begun-patience : (h : Hardware) (instruction : Option Instr) → is_serialising instruction ≡ false → HeadIs instruction HasBegun h.rob.entries → AreEnding h → patience h ≤ longest_execution h + 1
 begun-patience h instruction plain head ends =
     plain-patience h instruction HasBegun (longest_execution h + 1) (h.cycle + longest_execution h) plain (λ stage is by. begun_stage h instruction stage is by) head ends
@@ -126,6 +137,7 @@ begun-patience h instruction plain head ends =
 pub begun_closed : (cycle : ℕ) (stage : Stage) (message : Message) (issue : Option Issue) → result_at cycle stage ≡ Some message → HasBegun stage → HasBegun (Finished issue cycle message)
 begun_closed cycle stage message issue gives begun = refl
 
+-- an instruction that waits gives no result
 pub waits_closed : (cycle : ℕ) (stage : Stage) (message : Message) (issue : Option Issue) → result_at cycle stage ≡ Some message → Waits stage → Waits (Finished issue cycle message)
 waits_closed cycle Waiting message issue gives waits = absurd (cc)
 waits_closed cycle (Running given m) message issue gives waits = absurd (cc)

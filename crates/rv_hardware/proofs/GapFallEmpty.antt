@@ -228,5 +228,6 @@ module _ (h : Hardware) (front : FetchBuffer) (ram : Memory) (cycle : ℕ) (stop
       let stores = some_time (longest_access last) last.committed (omega (arith, many, last_sizes.legal.pipeline.store_queue.0)) in
       omega (arith, empty_is still, no_fetch_time front.entries stay, port, same_lines, same-longest h front, before_is, drains.fall, stores, nothing.1)
 
+  -- where nothing is in flight, a cycle without a step lowers the patience
   pub fall_empty : patience new + 1 ≤ patience h
   fall_empty = by_dispatch (dispatched last last_sizes nothing.0 time nothing.1)

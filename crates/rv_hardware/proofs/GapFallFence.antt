@@ -117,6 +117,7 @@ fence_waits h (s ∷ ss) stores drains room waits =
     let all : dirty_time h h.committed ≡ longest_write_back h = ap (dirty_time h) stores in
     omega (arith, drains.fall, some, most, same_lines h (drain h) (drain-same h), all)
 
+-- where FENCE.I waits for the retired stores and the port, a cycle lowers the patience
 pub fall_fence_waits : (h : Hardware) (front : FetchBuffer) (e : Entry) → h.rob.entries ≡ e ∷ [] → e.instruction ≡ Some FenceI → Drains h (drain h) → HasRoom h → is_drained h ≡ false →
     AreEnding (later front (execute h).hardware) → patience (later front (execute h).hardware) + 1 ≤ port_time h + dirty_time h h.committed + 1
 fall_fence_waits h front e split is drains room waits ending =
@@ -130,6 +131,7 @@ drained_none h (s ∷ ss) is drained = absurd (cc)
 le_yes : (a b : ℕ) → b < a → nat_le a b ≡ false
 le_yes a b is = grind (arith, nat_tests)
 
+-- a cycle in which FENCE.I's write-back begins lowers the patience
 pub fall_write_back : (h : Hardware) (front : FetchBuffer) (e : Entry) → h.rob.entries ≡ e ∷ [] → e.instruction ≡ Some FenceI → is_drained h ≡ true → (write_back_time h == 0) ≡ false →
     AreEnding (later front (execute (with_write_back h)).hardware) → patience (later front (execute (with_write_back h)).hardware) + 1 ≤ port_time h + dirty_time h h.committed + 1
 fall_write_back h front e split is drained dirty ending =

@@ -11,6 +11,7 @@ use Rattle.rv_hardware.proofs.GapRunning.{AreEnding}
 use Rattle.rv_hardware.proofs.Repeated.{Leaves, kept_by_the_rest, kept_by_turns}
 use Rattle.rv_hardware.proofs.GapForms.{longest_execution}
 
+-- it executes until a cycle
 abbrev pub RunsUntil : ℕ → Stage → Type 0
 RunsUntil end Waiting = ⊥
 RunsUntil end (Running issue message) = issue.cycle + issue.cost ≡ end
@@ -121,6 +122,7 @@ module _ (h : Hardware) (front : FetchBuffer) (instruction : Option Instr) (end 
   abbrev new : Hardware
   new = later front (execute h).hardware
 
+  -- where the oldest executes, a cycle lowers the patience
   pub fall_running : 1 ≤ h.values.bus_width → AreEnding new → patience h ≡ 1 + (end - h.cycle) → patience new + 1 ≤ patience h
   fall_running wide ending is =
       let limit : ℕ = new.cycle + longest_execution new in

@@ -190,6 +190,7 @@ module _ (h : Hardware) (front : FetchBuffer) (instruction : Option Instr) (k : 
       ) in
       by_start ending held is (after_issue instruction k of_kind pool h.cycle (drain h) start)
 
+  -- where the oldest waits for a unit or the port, a cycle lowers the patience
   pub fall_waiting : Drains h (drain h) → AreEnding new → AreHeld h → AreHeld new → patience h ≡ waiting_time h (is_load instruction) (kind_of_word instruction) → patience new + 1 ≤ patience h
   fall_waiting drained ending held holding is = by_load (is_load instruction) refl drained.port where
     all : patience h ≡ free_time (cond (is_load instruction) (port_time h) 0) (unit_time h.cycle pool.starts) (longest_execution h) + longest_execution h + 2

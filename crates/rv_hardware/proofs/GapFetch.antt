@@ -16,9 +16,11 @@ module _ (answers : Answers) (ram : Memory) (cycle : ℕ) (old new : FetchBuffer
   cases_by P true is halted runs (same, why) = halted is same
   cases_by P false is halted runs (added, words, becomes) = runs is (record { added = added; words = words; is = becomes })
 
+  -- fetch is halted and nothing changes, or it adds words
   pub fetch-cases : (P : Type 0) → (old.halted ≡ true → new ≡ old → P) → (old.halted ≡ false → Adds answers ram cycle old new stop → P) → FetchesInto answers ram cycle old new stop → P
   fetch-cases P halted runs fetches = cases_by P old.halted refl halted runs fetches
 
+  -- a fetch leaves the fetch buffer's room and width as they were
   pub fetch-same : FetchesInto answers ram cycle old new stop → (new.capacity ≡ old.capacity) × (new.width ≡ old.width)
   fetch-same fetches =
       fetch-cases ((new.capacity ≡ old.capacity) × (new.width ≡ old.width))

@@ -12,6 +12,7 @@ word_of_entry e = e.word
 abbrev word_of_fetched : Fetched → Option ℕ
 word_of_fetched f = f.word
 
+-- the words in flight and in the fetch buffer
 abbrev pub words_of : List Entry → List Fetched → List (Option ℕ)
 words_of entries fetched = map word_of_entry entries ++ map word_of_fetched fetched
 
@@ -20,10 +21,12 @@ abbrev pub last_of : Option ℕ → List (Option ℕ) → Option ℕ
 last_of before [] = before
 last_of before (w ∷ ws) = last_of w ws
 
+-- where fetch is halted, the last of some words was not there
 abbrev pub HaltsBehind : Bool → List (Option ℕ) → Type 0
 HaltsBehind true ws = last_of (Some 0) ws ≡ None
 HaltsBehind false ws = Unit {0}
 
+-- where fetch is halted, the last word, fetched or in flight, was not there
 abbrev pub IsHalted : Hardware → Type 0
 IsHalted h = HasShape h × HaltsBehind h.front.halted (words_of h.rob.entries h.front.entries)
 
@@ -105,6 +108,7 @@ module _ (ram : Memory) (cycle : ℕ) where
       subst (λ f. HaltsBehind f.halted (words_of entries f.entries)) (sym adds.is) (behind_added entries old adds.added new.next_pc stop adds.words))
       fetches
 
+-- every cycle keeps it
 pub halted-kept : IsKept IsHalted
 halted-kept =
     let shape : IsKeptByPhases HasShape = shape-kept.phases in
@@ -147,5 +151,6 @@ halted-kept =
       };
     }
 
+-- it holds at reset
 pub halted-at_reset : (values : Values) (image : List ℕ) (start : ℕ) → IsHalted (reset_hardware values image start)
 halted-at_reset values image start = (shape-at_reset values image start, tt)

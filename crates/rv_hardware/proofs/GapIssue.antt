@@ -13,6 +13,7 @@ pub record IsReady (h : Hardware) (k : Kind) (older : List Entry) (e : Entry) : 
   pub operands : has_operands older (sources_of_word e.instruction) ≡ true
   pub loads : may_load h older e ≡ true
 
+-- an instruction that is ready waits, is of the kind, has its operands and may load
 pub ready-parts : (h : Hardware) (k : Kind) (older : List Entry) (e : Entry) → is_ready h k older e ≡ true → IsReady h k older e
 ready-parts h k older e ready =
     let three = and_parts (is_waiting e.stage && is_of_kind k (kind_of_word e.instruction) && has_operands older (sources_of_word e.instruction)) (may_load h older e) ready in
@@ -66,11 +67,13 @@ module _ {P : Hardware → Type 0} {k : Kind} (kept : IsKeptByIssue P k) where
   after_oldest h None is holds = holds
   after_oldest h (Some (older, e)) is holds = after_found h older e holds (oldest-found (is_ready h k) h.rob.entries older e is)
 
+  -- so a turn of the issue phase keeps it
   pub issue_turn-keeps : (h : Hardware) → P h → Leaves P (issue_turn k h)
   issue_turn-keeps h holds =
       by_test (Leaves P) (is_free h.cycle (at_kind k h.units)) (issue_oldest k h (oldest (is_ready h k) h.rob.entries)) (Ends h)
       (λ free. after_oldest h (oldest (is_ready h k) h.rob.entries) refl holds) (λ held. holds)
 
+  -- and so the turns of a kind do
   pub issue_kind-keeps : (h : Hardware) → P h → P (issue_kind k h)
   issue_kind-keeps h holds = kept_by_turns P (issue_turn k) issue_turn-keeps (at_kind k h.values.kinds).units h holds
 

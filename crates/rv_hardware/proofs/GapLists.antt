@@ -38,11 +38,13 @@ module _ (test : List Entry → Entry → Bool) where
   found_from before (first ∷ es) older e is =
       found_at (test before first) before es older first e refl (λ later. found_from (before ++ first ∷ []) es older e later) is
 
+  -- what the search for the oldest finds is an instruction among the others that passes the test
   pub oldest-found : (entries older : List Entry) (e : Entry) → oldest test entries ≡ answer older e → IsFound test entries older e
   oldest-found entries older e is = found_from [] entries older e is
 
 -- a change of the instruction of a number is a change of the one at its place
 module _ (change : Entry → Entry) where
+  -- a change by sequence number changes the instruction at its place alone
   pub with_entry-found : (seq first : ℕ) (older younger : List Entry) (e : Entry) → seq ≡ first + length older →
       with_entry change seq first (older ++ e ∷ younger) ≡ older ++ change e ∷ younger
   with_entry-found seq first [] younger e at = rw (eq-eqb seq first (omega arith)) refl

@@ -26,16 +26,19 @@ abbrev pub free_time : ℕ → ℕ → ℕ → ℕ
 free_time zero unit longest = unit
 free_time (suc port) unit longest = suc port + longest
 
+-- until an instruction that waits has left for a unit and is over
 abbrev pub waiting_time : Hardware → Bool → Option Kind → ℕ
 waiting_time h load None = 0
 waiting_time h load (Some k) =
     free_time (cond load (port_time h) 0) (unit_time h.cycle (at_kind k h.units).starts) (longest_execution h) + longest_execution h + 2
 
+-- until an instruction that is not the oldest FENCE.I is over, by its stage
 abbrev pub stage_time : Hardware → Option Instr → Stage → ℕ
 stage_time h instruction Waiting = waiting_time h (is_load instruction) (kind_of_word instruction)
 stage_time h instruction (Running issue message) = 1 + (issue.cycle + issue.cost - h.cycle)
 stage_time h instruction (Finished issue cycle message) = 0
 
+-- until the oldest instruction can retire, by its stage
 abbrev pub head_time : Hardware → Option Instr → Stage → ℕ
 head_time h (Some FenceI) stage = port_time h + dirty_time h h.committed + 1
 head_time h instruction stage = stage_time h instruction stage
@@ -45,9 +48,11 @@ abbrev pub fetch_time : List Fetched → ℕ
 fetch_time [] = 1
 fetch_time (fetched ∷ rest) = 0
 
+-- until something in flight can retire, or something comes into flight
 abbrev pub flight_time : Hardware → List Entry → ℕ
 flight_time h [] = port_time h + longest_write_back h + 2 * longest_execution h + 3 + fetch_time h.front.entries
 flight_time h (e ∷ es) = head_time h e.instruction e.stage
 
+-- how many cycles without a step the hardware can still have
 abbrev pub patience : Hardware → ℕ
 patience h = flight_time h h.rob.entries

@@ -8,9 +8,11 @@ use Rattle.rv_hardware.proofs.GapSets.{HasRoom, room-kept, room-at_reset, write_
 abbrev pub IsBusyUntil : ℕ → ℕ → Type 0
 IsBusyUntil limit port_free = port_free ≤ limit
 
+-- the cache has room for its lines, and its port is busy no longer than for an access and a whole write-back
 abbrev pub HasPort : Hardware → Type 0
 HasPort h = HasRoom h × (h.port_free ≤ h.cycle + (longest_access h + longest_write_back h))
 
+-- every cycle keeps it
 pub port-kept : IsKept HasPort
 port-kept =
     let room : IsKeptByPhases HasRoom = room-kept.phases in
@@ -40,5 +42,6 @@ port-kept =
       fetch = record { fetches = λ ram cycle h front stop has fetches. (has.0, omega (arith, has.1)) };
     }
 
+-- it holds at reset
 pub port-at_reset : (values : Values) (image : List ℕ) (start : ℕ) → HasPort (reset_hardware values image start)
 port-at_reset values image start = (room-at_reset values image start, omega arith)

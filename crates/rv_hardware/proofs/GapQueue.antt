@@ -9,13 +9,16 @@ use Rattle.rv_hardware.proofs.GapLists.{by_test}
 abbrev pub CanDrain : Store → Type 0
 CanDrain s = (is_committed s ≡ true) × (is_draining s ≡ false)
 
+-- all stores are retired, and none behind the oldest has begun its access
 abbrev pub IsQueue : List Store → Type 0
 IsQueue [] = Unit {0}
 IsQueue (s ∷ ss) = (is_committed s ≡ true) × Each CanDrain ss
 
+-- the stores that wait for the port are such a queue
 abbrev pub HasQueue : Hardware → Type 0
 HasQueue h = IsQueue h.committed
 
+-- stores of which none has begun its access are a queue
 pub queue_of_all : (ss : List Store) → Each CanDrain ss → IsQueue ss
 queue_of_all [] each = tt
 queue_of_all (s ∷ ss) each = (each.0.0, each.1)
@@ -41,6 +44,7 @@ pub queue_draining : (ss : List Store) → IsQueue ss → IsQueue (with_oldest_d
 queue_draining [] queue = tt
 queue_draining (s ∷ ss) queue = (still_committed s.state queue.0, queue.1)
 
+-- every cycle keeps it
 pub queue-kept : IsKept HasQueue
 queue-kept = record {
   phases = record {
@@ -67,5 +71,6 @@ queue-kept = record {
   fetch = record { fetches = λ ram cycle h front stop queue fetches. queue };
 }
 
+-- it holds at reset
 pub queue-at_reset : (values : Values) (image : List ℕ) (start : ℕ) → HasQueue (reset_hardware values image start)
 queue-at_reset values image start = tt

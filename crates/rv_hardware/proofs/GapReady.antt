@@ -3,6 +3,7 @@ use Rattle.rv_hardware.proofs.Words.{◌≡◌, ℕ, ◌≤◌, Bool, true, fals
 use Rattle.rv_isa.specs.declared.operations.Kind.TheVariants as kind
 use Rattle.rv_hardware.proofs.GapIssue.{ready-parts}
 
+-- a load is an instruction of the memory unit
 pub loads_of_mem : (instruction : Option Instr) → is_load instruction ≡ true → kind_of_word instruction ≡ Some kind.Mem
 loads_of_mem (Some (Load form rd rs1 offset)) is = refl
 loads_of_mem instruction is = absurd (cc)
@@ -22,6 +23,7 @@ pub record IsAccess (h : Hardware) (k : Kind) (e : Entry) : Type 0 where
   pub of_mem : k ≡ kind.Mem
   pub idle : nat_le h.port_free h.cycle ≡ true
 
+-- an instruction that is ready and goes to the cache is a load, and the port is idle
 pub cache_access : (h : Hardware) (k : Kind) (older : List Entry) (e : Entry) (address : ℕ) → is_ready h k older e ≡ true → path h older e ≡ FromCache address → IsAccess h k e
 cache_access h k older e address ready by =
     let parts = ready-parts h k older e ready in
@@ -58,6 +60,7 @@ may_go h e (inr (none, idle)) =
     or_right (not (is_load e.instruction)) (list_all is_known_store (stores_behind h []) && has_port h (path h [] e))
     (and_from (list_all is_known_store (stores_behind h [])) (has_port h (path h [] e)) known (idle_port h (path h [] e) idle))
 
+-- the oldest instruction is ready where it waits and can go
 pub ready_head : (h : Hardware) (k : Kind) (e : Entry) → is_waiting e.stage ≡ true → kind_of_word e.instruction ≡ Some k → CanGo e.instruction h → is_ready h k [] e ≡ true
 ready_head h k e waits of_kind can =
     let of : is_of_kind k (kind_of_word e.instruction) ≡ true = ap (is_of_kind k) of_kind ∙ is_same-own k in

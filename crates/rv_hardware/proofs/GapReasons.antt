@@ -2,6 +2,7 @@
 use Rattle.rv_hardware.proofs.Words.{◌≡◌, Bool, true, false, cond, ◌&&◌, List, length, nat_le, Some, None, Option, refl, list_any, is_serialising, is_store, kind_of_word, Entry, Fetched, has_full_stations, reason_of, Hardware, stores_behind, Stall}
 use Rattle.rv_hardware.specs.declared.report.Stall.TheVariants as stall
 
+-- one of some instructions in flight serialises
 abbrev pub is_any_serialising : List Entry → Bool
 is_any_serialising entries = list_any (λ e. is_serialising e.instruction) entries
 
@@ -15,6 +16,7 @@ none_then : (b : Bool) (reason : Stall) (rest : Option Stall) → cond b (Some r
 none_then true reason rest is = absurd (cc)
 none_then false reason rest is = (refl, is)
 
+-- where a fetched word has no reason to wait, nothing serialises, and there is room for it
 pub no_reason : (h : Hardware) (fetched : Fetched) → reason_of h fetched ≡ None → HasNoReason h fetched
 no_reason h fetched is =
     let full : Bool = is_store fetched.instruction && nat_le h.values.store_queue (length (stores_behind h h.rob.entries)) in

@@ -108,6 +108,7 @@ one_more (report ∷ next ∷ earlier) last none = (none.0, one_more (next ∷ e
 pub ends_with-only_last : (reason : Stop) (reports : List Report) → EndsWith reason reports → OnlyLastStops reports
 ends_with-only_last reason reports ends = subst OnlyLastStops (sym ends.all) (one_more ends.earlier ends.last ends.none_before)
 
+-- in a run that stops for a reason, no cycle but the last stops
 pub is_stop-only_last : (limit : ℕ) (reports : List Report) (new : Hardware) (reason : Stop) → IsStop limit reports new reason → OnlyLastStops reports
 is_stop-only_last limit reports new stop.Limit is = none_stops-only_last reports is.0
 is_stop-only_last limit reports new stop.Breakpoint is = ends_with-only_last stop.Breakpoint reports is.0

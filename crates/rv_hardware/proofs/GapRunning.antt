@@ -4,14 +4,17 @@ use Rattle.rv_hardware.proofs.GapCycle.{IsKept}
 use Rattle.rv_hardware.proofs.GapEach.{Each-back, Each-change, Each-front, Each-push, Each-weaken}
 use Rattle.rv_hardware.proofs.GapForms.{longest_execution}
 
+-- where it executes, it is over by a cycle
 abbrev pub EndsBy : ℕ → Stage → Type 0
 EndsBy limit Waiting = Unit {0}
 EndsBy limit (Running issue message) = issue.cycle + issue.cost ≤ limit
 EndsBy limit (Finished issue cycle message) = Unit {0}
 
+-- an instruction in flight that executes is over by a cycle
 abbrev pub Ending : ℕ → Entry → Type 0
 Ending limit e = EndsBy limit e.stage
 
+-- each execution is over within the longest one's time
 abbrev pub AreEnding : Hardware → Type 0
 AreEnding h = Each (Ending (h.cycle + longest_execution h)) h.rob.entries
 
@@ -25,6 +28,7 @@ dispatched_by limit (Some kind) serialising cycle message = tt
 dispatched_by limit None true cycle message = tt
 dispatched_by limit None false cycle message = tt
 
+-- every cycle keeps it
 pub ending-kept : IsKept AreEnding
 ending-kept = record {
   phases = record {
@@ -68,5 +72,6 @@ ending-kept = record {
   };
 }
 
+-- it holds at reset
 pub ending-at_reset : (values : Values) (image : List ℕ) (start : ℕ) → AreEnding (reset_hardware values image start)
 ending-at_reset values image start = tt

@@ -10,10 +10,12 @@ abbrev WhereOthers : List (Option Instr) → Type 0 → Type 0
 WhereOthers [] claim = Unit {0}
 WhereOthers (x ∷ xs) claim = claim
 
+-- of some instructions, each before the last does not serialise
 abbrev pub AreSerialLast : List (Option Instr) → Type 0
 AreSerialLast [] = Unit {0}
 AreSerialLast (x ∷ xs) = WhereOthers xs (is_serialising x ≡ false) × AreSerialLast xs
 
+-- an instruction in flight that serialises is the youngest
 abbrev pub IsSerialLast : Hardware → Type 0
 IsSerialLast h = AreSerialLast (instructions_of h.rob.entries)
 
@@ -48,6 +50,7 @@ mended_last older younger old new same last =
     let back : AreSerialLast (instructions_of (older ++ old ∷ [])) = subst AreSerialLast (sym (map-append instruction_of_entry older (old ∷ []))) cut in
     subst AreSerialLast (sym (map-change instruction_of_entry older [] old new same)) back
 
+-- every cycle keeps it
 pub last-kept : IsKept IsSerialLast
 last-kept = record {
   phases = record {
@@ -79,6 +82,7 @@ last-kept = record {
   fetch = record { fetches = λ ram cycle h front stop last fetches. last };
 }
 
+-- it holds at reset
 pub last-at_reset : (values : Values) (image : List ℕ) (start : ℕ) → IsSerialLast (reset_hardware values image start)
 last-at_reset values image start = tt
 

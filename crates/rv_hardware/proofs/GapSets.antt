@@ -12,6 +12,7 @@ Fits ways lines = length lines ≤ ways
 abbrev pub FitIn : CacheValues → List (List CacheLine) → Type 0
 FitIn values sets = (length sets ≤ values.sets) × Each (Fits values.ways) sets
 
+-- the cache has no more sets than described, and no set more lines than ways
 abbrev pub HasRoom : Hardware → Type 0
 HasRoom h = FitIn h.cache.values h.cache.sets
 
@@ -49,6 +50,7 @@ total_at_most ways [] fit = omega arith
 total_at_most ways (lines ∷ sets) fit =
     omega (arith, count_at_most lines, total_at_most ways sets fit.1, fit.0)
 
+-- a write-back takes no longer than one of all lines
 pub write_back_time-most : (h : Hardware) → HasRoom h → write_back_time h ≤ longest_write_back h
 write_back_time-most h fits =
     let lines = total_at_most h.cache.values.ways h.cache.sets fits.1 in
@@ -61,10 +63,12 @@ none_dirty : (lines : List CacheLine) → dirty_count (map cleaned lines) ≡ 0
 none_dirty [] = refl
 none_dirty (line ∷ lines) = omega (arith, none_dirty lines)
 
+-- after a write-back no line is dirty
 pub clean-after : (sets : List (List CacheLine)) → dirty_total (map (map cleaned) sets) ≡ 0
 clean-after [] = refl
 clean-after (lines ∷ sets) = omega (arith, none_dirty lines, clean-after sets)
 
+-- every cycle keeps it
 pub room-kept : IsKept HasRoom
 room-kept = record {
   phases = record {
@@ -88,6 +92,7 @@ room-kept = record {
   fetch = record { fetches = λ ram cycle h front stop fits fetches. fits };
 }
 
+-- it holds at reset
 pub room-at_reset : (values : Values) (image : List ℕ) (start : ℕ) → HasRoom (reset_hardware values image start)
 room-at_reset values image start =
     let none : List CacheLine = [] in

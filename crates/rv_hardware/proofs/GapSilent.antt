@@ -58,12 +58,14 @@ abbrev pub SilentFence : Hardware → Hardware → Type 0
 SilentFence h after =
     ((is_drained h ≡ false) × (after ≡ h)) ⊎ ((is_drained h ≡ true) × ((write_back_time h == 0) ≡ false) × (after ≡ with_write_back h))
 
+-- by the oldest instruction, nothing changed, or FENCE.I waits or wrote back
 abbrev pub SilentHead : Option Instr → Stage → Hardware → Hardware → Type 0
 SilentHead (Some FenceI) stage h after = SilentFence h after
 SilentHead (Some (Csr op rd csr source)) stage h after = ⊥
 SilentHead (Some Mret) stage h after = ⊥
 SilentHead _ stage h after = (broadcast_of stage ≡ None) × (after ≡ h)
 
+-- the same, by all instructions in flight
 abbrev pub SilentAt : List Entry → Hardware → Hardware → Type 0
 SilentAt [] h after = after ≡ h
 SilentAt (e ∷ es) h after = SilentHead e.instruction e.stage h after
@@ -132,5 +134,6 @@ module _ (is_stale : set.FinSet nat_cmp → ℕ → Bool) where
       subst (λ w. (repeated (commit_turn is_stale) w first).steps ≡ [] → (repeated (commit_turn is_stale) w first).stop ≡ None → SilentAt h.rob.entries h (repeated (commit_turn is_stale) w first).hardware)
       (sym width) (entries_outcome h (h.values.commit_width - 1) h.rob.entries) silent going
 
+  -- a commit phase that reports no step and does not stop leaves its oldest waiting
   pub silent_commit : (h : Hardware) → 1 ≤ h.values.commit_width → (commit is_stale h).steps ≡ [] → (commit is_stale h).stop ≡ None → SilentAt h.rob.entries h (commit is_stale h).hardware
   silent_commit h wide silent going = unless_silent (due h.csrs h.lines) h wide silent going

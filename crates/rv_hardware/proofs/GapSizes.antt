@@ -15,6 +15,7 @@ pub record AreSizes (values : Values) (cache : CacheValues) (rob buffer width : 
   pub width_is : width ≡ values.fetch_width
   pub units_are : AreDescribed values units
 
+-- the description is legal, and the hardware's sizes are the described ones
 abbrev pub HasSizes : Hardware → Type 0
 HasSizes h = AreSizes h.values h.cache.values h.rob.capacity h.front.capacity h.front.width h.units
 
@@ -22,6 +23,7 @@ units_stay : (h : Hardware) (k : Kind) (cost : ℕ) → HasSizes h → AreDescri
 units_stay h k cost sizes =
     with_kind-each k (started_unit cost h.cycle (at_kind k h.units)) h.units (λ other pool. pool.units ≡ (at_kind other h.values.kinds).units) (sizes.units_are k) (λ other differs. sizes.units_are other)
 
+-- every cycle keeps it
 pub sizes-kept : IsKept HasSizes
 sizes-kept = record {
   phases = record {
@@ -63,6 +65,7 @@ sizes-kept = record {
   };
 }
 
+-- it holds at reset
 pub sizes-at_reset : (values : Values) (image : List ℕ) (start : ℕ) → IsLegal values → HasSizes (reset_hardware values image start)
 sizes-at_reset values image start legal = record {
   legal = legal;

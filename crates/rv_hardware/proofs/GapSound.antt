@@ -11,6 +11,7 @@ use Rattle.rv_hardware.proofs.GapStores.{HasStores, stores-kept, stores-at_reset
 use Rattle.rv_hardware.proofs.GapUnits.{AreHeld, held-kept, held-at_reset}
 use Rattle.rv_hardware.proofs.Repeated.{always}
 
+-- all that is known of hardware for its gaps
 pub record IsSound (h : Hardware) : Type 0 where
   pub sizes : HasSizes h
   pub queue : HasQueue h
@@ -21,6 +22,7 @@ pub record IsSound (h : Hardware) : Type 0 where
   pub last : IsSerialLast h
   pub halted : IsHalted h
 
+-- every cycle keeps it
 pub sound-cycle : {lines : Lines} {old new : Hardware} {report : Report} → IsCycle any_prediction lines old report new → IsSound old → IsSound new
 sound-cycle cycle sound = record {
   sizes = cycle-keeps sizes-kept cycle sound.sizes;
@@ -45,6 +47,7 @@ sound-at_reset values image start legal = record {
   halted = halted-at_reset values image start;
 }
 
+-- it holds of all reachable hardware
 pub sound : {h : Hardware} → Reachable h → IsSound h
 sound reached =
     always IsSound (λ values base image start legal loadable. sound-at_reset values image start legal)

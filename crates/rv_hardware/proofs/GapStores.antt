@@ -6,12 +6,15 @@ use Rattle.rv_hardware.proofs.GapEntries.{HasShape, IsShaped, Shaped, TellsStore
 use Rattle.rv_hardware.proofs.GapLists.{by_test}
 use Rattle.rv_hardware.proofs.GapReasons.{no_reason}
 
+-- the instruction of an entry
 abbrev pub instruction_of_entry : Entry → Option Instr
 instruction_of_entry e = e.instruction
 
+-- the instructions in flight
 abbrev pub instructions_of : List Entry → List (Option Instr)
 instructions_of entries = map instruction_of_entry entries
 
+-- how many instructions are stores
 abbrev pub store_count : List (Option Instr) → ℕ
 store_count [] = 0
 store_count (instruction ∷ instructions) = cond (is_store instruction) 1 0 + store_count instructions
@@ -40,6 +43,7 @@ instructions-append (x ∷ xs) ys = ap (λ l. x.instruction ∷ l) (instructions
 abbrev FitQueue : Hardware → List Store → List Entry → Type 0
 FitQueue h committed entries = length committed + store_count (instructions_of entries) ≤ h.values.store_queue
 
+-- the stores, retired and in flight, are no more than the queue holds
 abbrev pub HasStores : Hardware → Type 0
 HasStores h = HasShape h × FitQueue h h.committed h.rob.entries
 
@@ -93,6 +97,7 @@ fits_dispatched h fetched has none =
     let one = fits_one_more (is_store fetched.instruction) all h.values.store_queue (no_reason h fetched none).store (omega (arith, counted, has.1)) in
     omega (arith, counted, one, count_of h.rob.entries (entry_of_fetched h fetched ∷ []))
 
+-- every cycle keeps it
 pub stores-kept : IsKept HasStores
 stores-kept =
     let shape : IsKeptByPhases HasShape = shape-kept.phases in
@@ -137,5 +142,6 @@ stores-kept =
       fetch = record { fetches = λ ram cycle h front stop has fetches. (shape-kept.fetch.fetches ram cycle h front stop has.0 fetches, has.1) };
     }
 
+-- it holds at reset
 pub stores-at_reset : (values : Values) (image : List ℕ) (start : ℕ) → HasStores (reset_hardware values image start)
 stores-at_reset values image start = (shape-at_reset values image start, omega arith)

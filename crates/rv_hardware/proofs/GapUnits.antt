@@ -5,12 +5,14 @@ use Rattle.rv_hardware.proofs.GapCycle.{IsKept}
 use Rattle.rv_hardware.proofs.GapEach.{Each-filter, Each-push, Each-weaken}
 use Rattle.rv_hardware.proofs.GapForms.{longest_execution}
 
+-- an execution holds its unit until a cycle
 abbrev pub HoldsUntil : ℕ → Issue → Type 0
 HoldsUntil limit start = start.cycle + start.cost ≤ limit
 
 abbrev pub HoldUntil : ℕ → PerKind Pool → Type 0
 HoldUntil limit units = (k : Kind) → Each (HoldsUntil limit) (at_kind k units).starts
 
+-- no unit is held for longer than the longest execution
 abbrev pub AreHeld : Hardware → Type 0
 AreHeld h = HoldUntil (h.cycle + longest_execution h) h.units
 
@@ -29,6 +31,7 @@ held_by_start h k cost costs held =
     with_kind-each k (started_unit cost h.cycle pool) h.units (λ other p. Each (HoldsUntil limit) p.starts)
     (Each-push (HoldsUntil limit) (holding h.cycle pool.starts) start ends (Each-filter (HoldsUntil limit) (holds_unit h.cycle) pool.starts (held k))) (λ other differs. held other)
 
+-- every cycle keeps it
 pub held-kept : IsKept AreHeld
 held-kept = record {
   phases = record {
@@ -60,5 +63,6 @@ held-kept = record {
   later : {limit more : ℕ} (start : Issue) → start.cycle + start.cost ≤ limit → limit ≤ more → start.cycle + start.cost ≤ more
   later start before past = omega arith
 
+-- it holds at reset
 pub held-at_reset : (values : Values) (image : List ℕ) (start : ℕ) → AreHeld (reset_hardware values image start)
 held-at_reset values image start k = rw (at_kind-for_each free_pool values.kinds k) tt

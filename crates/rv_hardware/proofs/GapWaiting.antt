@@ -24,6 +24,7 @@ module _ (instruction : Option Instr) (k : Kind) (of_kind : kind_of_word instruc
   abbrev pub CanStart : Hardware → Type 0
   CanStart h = HeadIs instruction Waits h.rob.entries × (at_kind k h.units ≡ pool) × (h.cycle ≡ cycle) × CanGo instruction h × (1 ≤ (at_kind k h.values.kinds).units)
 
+  -- it still waits and no unit is free, or it has begun
   abbrev pub IsAfterIssue : Hardware → Type 0
   IsAfterIssue h = (CanStart h × (is_free cycle pool ≡ false)) ⊎ HeadIs instruction HasBegun h.rob.entries
 
