@@ -8,7 +8,7 @@ use Rattle.rv_hardware.proofs.GapIssue.{IsKeptByIssue, issue-keeps}
 use Rattle.rv_hardware.proofs.GapLists.{answer, by_test}
 use Rattle.rv_hardware.proofs.GapPatience.{patience, stage_time}
 use Rattle.rv_hardware.proofs.GapRunning.{AreEnding}
-use Rattle.rv_hardware.proofs.Repeated.{Leaves, kept_by_the_rest, kept_by_turns}
+use Rattle.rv_hardware.proofs.Repeated.{Leaves, left_by_the_rest, kept_by_turns}
 use Rattle.rv_hardware.proofs.GapForms.{longest_execution}
 
 -- it executes until a cycle
@@ -109,7 +109,7 @@ module _ (h : Hardware) (front : FetchBuffer) (instruction : Option Instr) (end 
       let width : issued.values.bus_width ≡ suc (issued.values.bus_width - 1) = omega (arith, wide) in
       let rest : ℕ = issued.values.bus_width - 1 in
       let turns : Over (repeated broadcast_turn (suc rest) issued) =
-      kept_by_the_rest Over (repeated broadcast_turn rest) (λ g over. kept_by_turns Over broadcast_turn (head-turn instruction IsOver h.cycle over_closed) rest g over)
+      left_by_the_rest Over Over (repeated broadcast_turn rest) (λ g over. kept_by_turns Over broadcast_turn (head-turn instruction IsOver h.cycle over_closed) rest g over)
       (broadcast_turn issued) (first_result due issued.rob.entries refl runs_issued) in
       let all : Over (broadcast issued) = subst (λ n. Over (repeated broadcast_turn n issued)) (sym width) turns in
       head-dispatched instruction IsOver h.cycle over_closed (broadcast issued) all.0 all.1

@@ -1,11 +1,11 @@
 -- The oldest instruction that waits and can go leaves for a unit in the issue phase, or no unit of its kind is free.
-use Rattle.rv_hardware.proofs.Words.{◌≡◌, ℕ, suc, ◌+◌, ◌-◌, ◌≤◌, true, false, ◌⊎◌, List, [], ◌∷◌, Some, Option, sym, refl, ap, ◌∙◌, subst, inl, inr, arith, cases_Bool, false≢true, is_same-own, is_same-true, with_kind-other, is_load, is_of_kind, kind_of_word, at_kind, is_same, Message, Instr, Kind, Pool, is_free, started, with_entry, Entry, Hardware, FromCache, FromStores, Path, Without, is_ready, issue, issue_kind, issue_oldest, issue_turn, issued, oldest, oldest_from, path, with_access, with_start, Ends, GoesOn, Turn, followed_by, repeated}
+use Rattle.rv_hardware.proofs.Words.{◌≡◌, ℕ, suc, ◌+◌, ◌-◌, ◌≤◌, true, false, ◌⊎◌, List, [], ◌∷◌, Some, Option, sym, refl, ap, ◌∙◌, subst, inl, inr, arith, cases_Bool, false≢true, is_same-own, is_same-true, with_kind-other, is_load, is_of_kind, kind_of_word, at_kind, is_same, Message, Instr, Kind, Pool, is_free, started, with_entry, Entry, Hardware, FromCache, FromStores, Path, Without, is_ready, issue, issue_kind, issue_oldest, issue_turn, issued, oldest, oldest_from, path, with_access, with_start, Ends, Turn, followed_by, repeated}
 use Rattle.rv_isa.specs.declared.operations.Kind.TheVariants as kind
 use Rattle.rv_hardware.proofs.GapHead.{HasBegun, HeadIs, Waits, head-change}
 use Rattle.rv_hardware.proofs.GapIssue.{IsKeptByIssue, issue_kind-keeps, issue_turn-keeps}
 use Rattle.rv_hardware.proofs.GapLists.{answer, by_test, with_entry-found}
 use Rattle.rv_hardware.proofs.GapReady.{CanGo, cache_access, loads_of_mem, ready_head}
-use Rattle.rv_hardware.proofs.Repeated.{Leaves, kept_by_turns}
+use Rattle.rv_hardware.proofs.Repeated.{Leaves, left_by_the_rest, kept_by_turns}
 
 -- ---- once it has begun, it has
 begun_by_issue : (instruction : Option Instr) (j : Kind) → IsKeptByIssue (λ h. HeadIs instruction HasBegun h.rob.entries) j
@@ -85,8 +85,9 @@ module _ (instruction : Option Instr) (k : Kind) (of_kind : kind_of_word instruc
       (λ yes_ready. begun) (λ not_ready. absurd (cc (ready, not_ready)))
 
   begun_after : (units : ℕ) (t : Turn Hardware) → Leaves (λ (after : Hardware). HeadIs instruction HasBegun after.rob.entries) t → HeadIs instruction HasBegun (followed_by (repeated (issue_turn k) units) t).rob.entries
-  begun_after units (GoesOn h) begun = kept_by_turns (λ (after : Hardware). HeadIs instruction HasBegun after.rob.entries) (issue_turn k) (issue_turn-keeps (begun_by_issue instruction k)) units h begun
-  begun_after units (Ends h) begun = begun
+  begun_after units t begun =
+      let Begun : Hardware → Type 0 = λ after. HeadIs instruction HasBegun after.rob.entries in
+      left_by_the_rest Begun Begun (repeated (issue_turn k) units) (kept_by_turns Begun (issue_turn k) (issue_turn-keeps (begun_by_issue instruction k)) units) t begun
 
   own_turns : (units : ℕ) (h : Hardware) → CanStart h → IsAfterIssue (repeated (issue_turn k) (suc units) h)
   own_turns units h can =

@@ -11,7 +11,8 @@ use Rattle.rv_hardware.proofs.HeadlineInvariant.{IsSound}
 use Rattle.rv_hardware.proofs.HeadlineKnown.{broadcast_is}
 use Rattle.rv_hardware.proofs.HeadlineRetired.{flushed_sound, trap_sound, seen_result, result_sound, memory_stored}
 use Rattle.rv_hardware.proofs.HeadlineSerial.{IsSerialEffect, csr_serial, mret_serial, fence_serial, written_back_sound}
-use Rattle.rv_hardware.proofs.HeadlineSteps.{LeavesEither, left_by_turns, AreRetirements, retirements_push, lead_push, true_retirements, true_push}
+use Rattle.rv_hardware.proofs.HeadlineSteps.{AreRetirements, retirements_push, lead_push, true_retirements, true_push}
+use Rattle.rv_hardware.proofs.Repeated.{Leads, left_by_turns}
 
 -- the phase while it goes on: so far instructions retired
 pub record IsGoing (lines : Lines) (before : State) (old : Hardware) (c : Committing) : Type 0 where
@@ -105,7 +106,7 @@ module _ (lines : Lines) (before : State) (old : Hardware) where
             (subst (λ pc. MachineStep layout s h.lines (machine.Retired pc (unwrap_or e.word 0) (written_of e message)) takes.next) (sym here) takes.takes)
 
         retire_done : (straight : Bool) → nat_eq message.next_pc e.predicted_next ≡ straight →
-            LeavesEither (IsGoing lines before old) (IsDone lines before old)
+            Leads (IsGoing lines before old) (IsDone lines before old)
             (if straight then GoesOn (record c { hardware = after; steps = c.steps ++ row ∷ [] }) else Ends (record c { hardware = flushed after; steps = c.steps ++ row ∷ [] }))
         retire_done true is = record {
           values_are = going.values_are;
@@ -127,17 +128,17 @@ module _ (lines : Lines) (before : State) (old : Hardware) where
         }
 
       step_done : (message : Message) → message ≡ result_at layout s e → (fault : Option Fault) → message.fault ≡ fault → IsStepOf layout s h.lines e.word e.instruction message fault →
-          LeavesEither (IsGoing lines before old) (IsDone lines before old) (finish_head e message fault c)
+          Leads (IsGoing lines before old) (IsDone lines before old) (finish_head e message fault c)
       step_done message result None is takes = retire_done message result takes (nat_eq message.next_pc e.predicted_next) refl
       step_done message result (Some fault) is takes = trap_done e fault.cause fault.value here takes
 
       broadcast_done : is_serialising e.instruction ≡ false → (o : Option Message) → IfSome o (λ b. b ≡ result_at layout s e) →
-          LeavesEither (IsGoing lines before old) (IsDone lines before old) (finish_broadcast e o c)
+          Leads (IsGoing lines before old) (IsDone lines before old) (finish_broadcast e o c)
       broadcast_done plain None result = done c going
       broadcast_done plain (Some message) result =
           step_done message result message.fault refl (step_of layout s h.lines going.sound.pc_aligned e.word e.instruction message plain ready result)
 
-      plain_done : is_serialising e.instruction ≡ false → LeavesEither (IsGoing lines before old) (IsDone lines before old) (finish_broadcast e (broadcast_of e.stage) c)
+      plain_done : is_serialising e.instruction ≡ false → Leads (IsGoing lines before old) (IsDone lines before old) (finish_broadcast e (broadcast_of e.stage) c)
       plain_done plain = broadcast_done plain (broadcast_of e.stage) (broadcast_is e.stage (result_at layout s e) all.0.result)
 
       -- ---- a serialising instruction executes
@@ -193,7 +194,7 @@ module _ (lines : Lines) (before : State) (old : Hardware) where
           effect_done written_back going_on e es entries not_stale FenceI is _ refl
           (fence_serial c.hardware going.sound drained c.hardware.lines (unwrap_or e.word 0))
 
-      head_done : (i : Option Instr) → e.instruction ≡ i → LeavesEither (IsGoing lines before old) (IsDone lines before old) (head_turn e i c)
+      head_done : (i : Option Instr) → e.instruction ≡ i → Leads (IsGoing lines before old) (IsDone lines before old) (head_turn e i c)
       head_done (Some FenceI) is = fence_by (is_drained c.hardware) (write_back_time c.hardware == 0) refl is
       head_done (Some (Csr op rd address source)) is =
           effect_done c going e es entries not_stale (Csr op rd address source) is _ refl (csr_serial c.hardware going.sound c.hardware.lines (unwrap_or e.word 0) op rd address source)
@@ -211,7 +212,7 @@ module _ (lines : Lines) (before : State) (old : Hardware) where
         subst (λ n. MachineStep (layout_of c.hardware.values) (seen c.hardware) c.hardware.lines (machine.Stale n) (seen c.hardware)) (sym here) (stale going.calm inside at)
 
     turn_by : (e : Entry) (es : List Entry) → c.hardware.rob.entries ≡ e ∷ es → (b : Bool) → set.contains c.hardware.stale (word_of e.pc) ≡ b →
-        LeavesEither (IsGoing lines before old) (IsDone lines before old) (if b then Ends (record c { stop = Some (stop.Stale e.pc) }) else head_turn e e.instruction c)
+        Leads (IsGoing lines before old) (IsDone lines before old) (if b then Ends (record c { stop = Some (stop.Stale e.pc) }) else head_turn e e.instruction c)
     turn_by e es entries false marked = head_done e es entries marked e.instruction refl
     turn_by e es entries true marked =
         let all = subst (AreInFlight (layout_of c.hardware.values) (seen c.hardware) (seen c.hardware)) entries going.sound.program.in_flight in
@@ -228,7 +229,7 @@ module _ (lines : Lines) (before : State) (old : Hardware) where
 
   -- a turn of the commit phase either goes on soundly or ends in a true cycle
   pub turn_done : (c : Committing) (entries : List Entry) → c.hardware.rob.entries ≡ entries → IsGoing lines before old c →
-      LeavesEither (IsGoing lines before old) (IsDone lines before old) (commit_turn_of set.contains entries c)
+      Leads (IsGoing lines before old) (IsDone lines before old) (commit_turn_of set.contains entries c)
   turn_done c [] are going = done c going
   turn_done c (e ∷ es) are going = turn_by c going e es are (set.contains c.hardware.stale (word_of e.pc)) refl
 

@@ -1,22 +1,10 @@
 -- Retirements that a cycle reports one after another, and one other step at most at their end, make a true cycle.
-use Rattle.rv_hardware.proofs.Words.{◌≡◌, ℕ, zero, suc, Bool, true, false, ◌||◌, ◌↔◌, List, [], ◌∷◌, ◌++◌, Some, All, Option, sym, refl, ap, ◌∙◌, true≢false, false≢true, or_from, All-append, All-cons, All-nil, list_any-append, list_any, Lines, Layout, State, Stop, EndAtTraps, IsTrueCycle, Lead, nowhere, onwards, told, Ends, GoesOn, Turn, followed_by, repeated, is_breakpoint, is_retirement, stamp_of, Step}
+use Rattle.rv_hardware.proofs.Words.{◌≡◌, ℕ, Bool, true, false, ◌||◌, ◌↔◌, List, [], ◌∷◌, ◌++◌, Some, All, Option, sym, refl, ap, ◌∙◌, true≢false, false≢true, or_from, All-append, All-cons, All-nil, list_any-append, list_any, Lines, Layout, State, Stop, EndAtTraps, IsTrueCycle, Lead, nowhere, onwards, told, is_breakpoint, is_retirement, stamp_of, Step}
 use Rattle.rv_arch.specs.Step.{Step as MachineStep}
 use Rattle.rv_arch.specs.declared.outcome.RefStep.TheVariants as machine
 use Rattle.rv_arch.specs.declared.outcome.Stop.TheVariants as stop
 use Rattle.rv_hardware.specs.declared.step.Step.TheVariants as step
-
--- ---- turns that keep one property while they go on, and leave another
-abbrev pub LeavesEither : {S : Type 0} → (S → Type 0) → (S → Type 0) → Turn S → Type 0
-LeavesEither P Q (GoesOn s) = P s
-LeavesEither P Q (Ends s) = Q s
-
-pub left_by_turns : {S : Type 0} (P Q : S → Type 0) (turn : S → Turn S) → ((s : S) → P s → LeavesEither P Q (turn s)) → ((s : S) → P s → Q s) →
-    (width : ℕ) (s : S) → P s → Q (repeated turn width s)
-left_by_turns P Q turn keeps stops zero s holds = stops s holds
-left_by_turns P Q turn keeps stops (suc width) s holds = rest (turn s) (keeps s holds) (left_by_turns P Q turn keeps stops width) where
-  rest : (t : Turn _) → LeavesEither P Q t → ((s : _) → P s → Q (repeated turn width s)) → Q (followed_by (repeated turn width) t)
-  rest (GoesOn next) left more = more next left
-  rest (Ends next) left more = left
+pub use Rattle.rv_hardware.proofs.Repeated.{Leads as LeavesEither}
 
 -- ---- retirements in one cycle
 abbrev pub AreRetirements : ℕ → List Step → Type 0

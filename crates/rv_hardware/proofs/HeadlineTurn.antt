@@ -5,8 +5,8 @@ use Rattle.rv_arch.specs.declared.outcome.Stop.TheVariants as stop
 use Rattle.rv_hardware.specs.declared.step.Step.TheVariants as step
 use Rattle.rv_hardware.proofs.HeadlineFold.{AreInFlight}
 use Rattle.rv_hardware.proofs.HeadlineInvariant.{IsSound}
-use Rattle.rv_hardware.proofs.HeadlineSteps.{LeavesEither}
 use Rattle.rv_hardware.proofs.LawsCommit.{CommitTurn, commit_turn_is, executed, retired_and_flushed, retired_with, written_back, no_head, stale_head, unfinished, fence_waits, fence_writes, fence_retires, executes, serial_faults, traps, retires, retires_last}
+use Rattle.rv_hardware.proofs.Repeated.{Leads}
 
 -- from one turn to the next: a step begins at the committed pc, which stays where there is none
 pub record GoesFrom (c d : Committing) : Type 0 where
@@ -32,7 +32,7 @@ module _ (c : Committing) (is : IsSound c.hardware) where
   here : (e : Entry) (es : List Entry) → c.hardware.rob.entries ≡ e ∷ es → e.pc ≡ c.hardware.pc
   here e es place = (subst (AreInFlight (layout_of c.hardware.values) (seen c.hardware) (seen c.hardware)) place is.program.in_flight).0.pc
 
-  by_turn : (t : Turn Committing) → CommitTurn set.contains c t → LeavesEither (GoesFrom c) (GoesFrom c) t
+  by_turn : (t : Turn Committing) → CommitTurn set.contains c t → Leads (GoesFrom c) (GoesFrom c) t
   by_turn t (no_head at) = no_step c c refl refl
   by_turn t (stale_head e es at stale) = no_step c (record c { stop = Some (stop.Stale e.pc) }) refl refl
   by_turn t (unfinished e es head plain waits) = no_step c c refl refl
@@ -52,5 +52,5 @@ module _ (c : Committing) (is : IsSound c.hardware) where
       one_step c (retired_and_flushed e message c) (row_of e (written_of e message) c.hardware.cycle) refl (here e es head.place)
 
   -- the steps that a turn of the commit phase adds begin at the committed pc
-  pub turn_goes_from : LeavesEither (GoesFrom c) (GoesFrom c) (commit_turn set.contains c)
+  pub turn_goes_from : Leads (GoesFrom c) (GoesFrom c) (commit_turn set.contains c)
   turn_goes_from = by_turn (commit_turn set.contains c) (commit_turn_is set.contains c)

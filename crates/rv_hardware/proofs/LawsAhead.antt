@@ -18,7 +18,7 @@ use Rattle.rv_hardware.proofs.Laws.NoIdleDispatch.{dispatch_leaves}
 use Rattle.rv_hardware.proofs.LawsLists.{Every, EveryBehind-at, count}
 use Rattle.rv_hardware.proofs.LawsNext.{Next, HasNext, next_executed}
 use Rattle.rv_hardware.proofs.LawsShape.{HasShape}
-use Rattle.rv_hardware.proofs.LawsTurns.{Leads, turns_keep}
+use Rattle.rv_hardware.proofs.Repeated.{Leads, kept_by_turns}
 
 some_station : (v : Values) → IsLegal v → (k : Kind) → 0 < (at_kind k v.kinds).stations
 some_station v legal k = omega (arith, (legal.kinds k).stations)
@@ -126,7 +126,7 @@ turn_unused c _ (retires_last e es issue cycle message head plain at none) p = �
 
 commit_unused : (o : Option ℕ) (h : Hardware) → h.committed ≡ [] → IsUnused (commit_unless set.contains o h)
 commit_unused (Some code) h none = λ empty. absurd (cc)
-commit_unused None h none = turns_keep IsUnused (commit_turn set.contains) (λ c p. turn_unused c (commit_turn set.contains c) (commit_turn_is set.contains c) p) h.values.commit_width (record { hardware = h; steps = []; stop = None }) (λ empty. none)
+commit_unused None h none = kept_by_turns IsUnused (commit_turn set.contains) (λ c p. turn_unused c (commit_turn set.contains c) (commit_turn_is set.contains c) p) h.values.commit_width (record { hardware = h; steps = []; stop = None }) (λ empty. none)
 
 execute_unused : (h : Hardware) → h.committed ≡ [] → (execute h).hardware.committed ≡ []
 execute_unused h none =

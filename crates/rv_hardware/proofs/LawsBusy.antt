@@ -9,7 +9,7 @@ use Rattle.rv_hardware.proofs.LawsMarks.{Mark, mark_of_row, mark_of_entry, mark_
 use Rattle.rv_hardware.proofs.LawsOfCycles.{counts_of_runs}
 use Rattle.rv_hardware.proofs.LawsRow.{SoundRow}
 use Rattle.rv_hardware.proofs.LawsSound.{SoundEntry}
-use Rattle.rv_hardware.proofs.LawsTurns.{Leads, turns_keep}
+use Rattle.rv_hardware.proofs.Repeated.{Leads, kept_by_turns}
 
 -- it was not dispatched in cycle c
 abbrev IsElsewhere : ℕ → Mark → Type 0
@@ -67,7 +67,7 @@ module _ (now : ℕ) where
 
   none_now : (h : Hardware) → Every (λ (e : Entry). e.dispatched < now) h.rob.entries → NoneNow (dispatch h)
   none_now h all =
-      turns_keep NoneNow dispatch_turn (λ d p. none_now_turn d (dispatch_turn d) (dispatch_turn_is d) p) h.values.dispatch_width (record { hardware = h; dispatched = 0; waits_for = None }) (λ none. all)
+      kept_by_turns NoneNow dispatch_turn (λ d p. none_now_turn d (dispatch_turn d) (dispatch_turn_is d) p) h.values.dispatch_width (record { hardware = h; dispatched = 0; waits_for = None }) (λ none. all)
 
 module _ (v : Values) {earlier : List Step} {old new : Hardware} {lines : Lines} {report : Report} (before : History v earlier old) (is : IsCycle any_prediction lines old report new) (idle : report.dispatched ≡ 0) where
   passed : Passed v Anything earlier lines old report new

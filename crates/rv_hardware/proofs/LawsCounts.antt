@@ -4,7 +4,7 @@ use Rattle.rv_hardware.specs.declared.report.Stall.TheVariants as stall
 use Rattle.rv_hardware.specs.declared.report.StallCounts.{StallCounts}
 use Rattle.rv_hardware.proofs.LawsDispatch.{DispatchTurn, buffer_empty, waits, dispatches, dispatch_turn_is}
 use Rattle.rv_hardware.proofs.LawsLists.{count, count-count_by}
-use Rattle.rv_hardware.proofs.LawsTurns.{Leads, turns_within}
+use Rattle.rv_hardware.proofs.Repeated.{Leads, turns_within}
 
 -- a cycle is busy, or stalls for one reason
 abbrev pub IsCounted : Bool → Option Stall → Type 0

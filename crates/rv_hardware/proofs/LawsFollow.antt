@@ -14,7 +14,7 @@ use Rattle.rv_hardware.proofs.LawsPhases.{Goes, Commits, commit_turn_keeps}
 use Rattle.rv_hardware.proofs.LawsRow.{MayRetire, may_retire_serial, may_retire_finished, retiring_is_one, row_at}
 use Rattle.rv_hardware.proofs.LawsShape.{head_retired_entries}
 use Rattle.rv_hardware.proofs.LawsSound.{SoundEntry, SoundFetched, SoundStage, kind_is_plain, serial_has_no_kind, row_decodes}
-use Rattle.rv_hardware.proofs.LawsTurns.{Leads, turns_within}
+use Rattle.rv_hardware.proofs.Repeated.{Leads, leads_both, turns_within}
 
 -- the cycle of the last of some steps, 0 where there is none
 abbrev pub stamp_or_zero : Option Step → ℕ
@@ -314,10 +314,6 @@ module _ (v : Values) (now : ℕ) (earlier : List Step) where
       flushing c (Retired (row_at e (written_of e message) c.hardware.cycle)) (retired_and_flushed e message c).hardware c.stop q.basics.cycle p.follow
       (retired_follows k c e es head q p (written_of e message) (may_retire_finished e.instruction e.stage issue cycle message at none)) refl refl
 
-  joined : (P Q R : Committing → Type 0) (t : Turn Committing) → Leads P P t → Leads Q R t → Leads (λ c. P c × Q c) R t
-  joined P Q R (GoesOn c) h g = (h, g)
-  joined P Q R (Ends c) h g = g
-
   -- the commit phase takes steps that follow one another, and leaves the next instruction with its reason to wait
   pub commit_leads_by : (total : ℕ) → 1 ≤ total → (o : Option ℕ) (h : Hardware) → h.values.commit_width ≡ total → Goes v now now now now now (now + 1) Anything (earlier ++ []) h → AllFollow (earlier ++ []) →
       Next now now (last_stamp (earlier ++ [])) (has_step (earlier ++ [])) h.stale h.rob.entries h.front.entries → Each Found h.rob.entries → Committed (commit_unless set.contains o h)
@@ -328,5 +324,5 @@ module _ (v : Values) (now : ℕ) (earlier : List Step) where
       let first : Committing = record { hardware = h; steps = []; stop = None } in
       turns_within total (λ k c. InCommit c × Going k c) Committed (commit_turn set.contains)
       (λ k c lt p. let goes_on = commit_turn_keeps v now Anything (anything_is_kept v now) earlier set.contains c (commit_turn set.contains c) (commit_turn_is set.contains c) p.0 in
-      joined InCommit (Going (suc k)) Committed (commit_turn set.contains c) goes_on (turn_leads total k c (commit_turn set.contains c) refl (commit_turn_is set.contains c) p.0 p.1 goes_on))
+      leads_both InCommit (Going (suc k)) Committed (commit_turn set.contains c) goes_on (turn_leads total k c (commit_turn set.contains c) refl (commit_turn_is set.contains c) p.0 p.1 goes_on))
       (λ c p. record { follow = p.1.follow; next = p.1.later le }) h.values.commit_width 0 first (omega (arith, width)) (goes, record { follow = follow; next = next; later = λ some. absurd (omega (arith, some)); found = found })

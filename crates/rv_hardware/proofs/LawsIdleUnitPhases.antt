@@ -15,7 +15,7 @@ use Rattle.rv_hardware.proofs.LawsLists.{Every, Every-all, Every-append, Every-f
 use Rattle.rv_hardware.proofs.LawsMarks.{Mark, mark_of_row, mark_of_entry, mark_of_fetched, marks, marks_in, marks_at_entry}
 use Rattle.rv_hardware.proofs.LawsPhases.{Issues, issue_turn_keeps, issue_kind_keeps, start_is, with_marks, goes_later, broadcast_keeps, dispatch_keeps}
 use Rattle.rv_hardware.proofs.LawsSound.{SoundEntry}
-use Rattle.rv_hardware.proofs.LawsTurns.{Leads, turns_keep, turns_within}
+use Rattle.rv_hardware.proofs.Repeated.{Leads, turns_within, kept_by_turns}
 use Rattle.rv_hardware.proofs.LawsUnitRows.{starts_at, begins_mark}
 use Rattle.rv_hardware.proofs.LawsUnits.{issued_units, drain_units}
 
@@ -158,7 +158,7 @@ commit_units is_stale u c _ (retires_last e es issue cycle message head plain at
 commit_units_by : (o : Option ℕ) (h : Hardware) → (commit_unless set.contains o h).hardware.units ≡ h.units
 commit_units_by (Some code) h = refl
 commit_units_by None h =
-    turns_keep (λ c. c.hardware.units ≡ h.units) (commit_turn set.contains) (λ c q. commit_units set.contains h.units c (commit_turn set.contains c) (commit_turn_is set.contains c) q) h.values.commit_width (record { hardware = h; steps = []; stop = None }) refl
+    kept_by_turns (λ c. c.hardware.units ≡ h.units) (commit_turn set.contains) (λ c q. commit_units set.contains h.units c (commit_turn set.contains c) (commit_turn_is set.contains c) q) h.values.commit_width (record { hardware = h; steps = []; stop = None }) refl
 
 broadcast_units : (u : PerKind Pool) (h : Hardware) (t : Turn Hardware) → BroadcastTurn h t → h.units ≡ u → Leads (λ g. g.units ≡ u) (λ g. g.units ≡ u) t
 broadcast_units u h _ (no_result none) p = p
@@ -179,8 +179,8 @@ end_units : (lines : Lines) (old : Hardware) → (dispatching lines old).hardwar
 end_units lines old =
     let i : Hardware = issued_all lines old in
     let s : Hardware = sent_all lines old in
-    turns_keep (λ d. d.hardware.units ≡ s.units) dispatch_turn (λ d q. dispatch_units s.units d (dispatch_turn d) (dispatch_turn_is d) q) s.values.dispatch_width (record { hardware = s; dispatched = 0; waits_for = None }) refl ∙
-    turns_keep (λ g. g.units ≡ i.units) broadcast_turn (λ g q. broadcast_units i.units g (broadcast_turn g) (broadcast_turn_is g) q) i.values.bus_width i refl
+    kept_by_turns (λ d. d.hardware.units ≡ s.units) dispatch_turn (λ d q. dispatch_units s.units d (dispatch_turn d) (dispatch_turn_is d) q) s.values.dispatch_width (record { hardware = s; dispatched = 0; waits_for = None }) refl ∙
+    kept_by_turns (λ g. g.units ≡ i.units) broadcast_turn (λ g q. broadcast_units i.units g (broadcast_turn g) (broadcast_turn_is g) q) i.values.bus_width i refl
 
 -- the starts of a pipelined kind are over in the next cycle
 
@@ -212,7 +212,7 @@ module _ (v : Values) (legal : IsLegal v) (now : ℕ) (steps : List Step) (k : K
 
   timely_kind : (j : Kind) (h : Hardware) → Timely h → Timely (issue_kind j h)
   timely_kind j h p =
-      turns_keep Timely (issue_turn j) (λ g q. timely_turn j g (issue_turn j g) (issue_turn_is j g) q (issue_turn_keeps v legal now Anything (anything_is_kept v now) steps j g (issue_turn j g) (issue_turn_is j g) q.0)) (at_kind j h.values.kinds).units h p
+      kept_by_turns Timely (issue_turn j) (λ g q. timely_turn j g (issue_turn j g) (issue_turn_is j g) q (issue_turn_keeps v legal now Anything (anything_is_kept v now) steps j g (issue_turn j g) (issue_turn_is j g) q.0)) (at_kind j h.values.kinds).units h p
 
   timely_issue : (h : Hardware) → Timely h → Timely (issue h)
   timely_issue h p =
@@ -230,7 +230,7 @@ module _ (v : Values) (legal : IsLegal v) (now : ℕ) (steps : List Step) (k : K
       ap (at_kind k) (issued_units j h older e) ∙ with_kind-other j (started_unit (cost_of h j (path h older e)) h.cycle (at_kind j h.units)) h.units k other ∙ p
 
   apart_kind : (pool : Pool) (j : Kind) (h : Hardware) → is_of_kind k (Some j) ≡ false → Apart pool h → Apart pool (issue_kind j h)
-  apart_kind pool j h other p = turns_keep (Apart pool) (issue_turn j) (λ g q. apart_turn pool j g (issue_turn j g) other (issue_turn_is j g) q) (at_kind j h.values.kinds).units h p
+  apart_kind pool j h other p = kept_by_turns (Apart pool) (issue_turn j) (λ g q. apart_turn pool j g (issue_turn j g) other (issue_turn_is j g) q) (at_kind j h.values.kinds).units h p
 
   -- what a kind's phase leaves is kept by the others
   abbrev BusyNow : List Mark → Type 0

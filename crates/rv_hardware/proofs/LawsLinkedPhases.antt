@@ -11,7 +11,7 @@ use Rattle.rv_hardware.proofs.LawsCommit.{CommitTurn, no_head, stale_head, unfin
 use Rattle.rv_hardware.proofs.LawsMarks.{Mark, mark_of_row, mark_of_entry, mark_of_fetched, marks_in, broadcast_of_stage, rows_append}
 use Rattle.rv_hardware.proofs.LawsRow.{row_at}
 use Rattle.rv_hardware.proofs.LawsShape.{head_retired_entries}
-use Rattle.rv_hardware.proofs.LawsTurns.{Leads, turns_keep, turns_lead}
+use Rattle.rv_hardware.proofs.Repeated.{Leads, left_by_turns, kept_by_turns}
 
 -- how many instructions retired, are in flight and were fetched
 abbrev pub size : List Step → Hardware → ℕ
@@ -90,7 +90,7 @@ module _ (n : ℕ) (halted : Bool) where
     pub commit_goes_by : (o : Option ℕ) (h : Hardware) → WholeOrNone (earlier ++ []) h → Committed (commit_unless is_stale o h)
     commit_goes_by (Some code) h p = inr (refl, refl, refl)
     commit_goes_by None h p =
-        turns_keep Committed (commit_turn is_stale) (λ c q. commit_goes c (commit_turn is_stale c) (commit_turn_is is_stale c) q) h.values.commit_width (record { hardware = h; steps = []; stop = None }) p
+        kept_by_turns Committed (commit_turn is_stale) (λ c q. commit_goes c (commit_turn is_stale c) (commit_turn_is is_stale c) q) h.values.commit_width (record { hardware = h; steps = []; stop = None }) p
 
   module _ (v : Values) (now : ℕ) (steps : List Step) where
     drain_goes : IsKeptByDrain (WholeOrNone steps)
@@ -136,7 +136,7 @@ module _ (n : ℕ) (halted : Bool) where
         })
 
     broadcast_goes : (h : Hardware) → Sending h → Left (broadcast h)
-    broadcast_goes h p = turns_lead (λ k g. Sending g) Left broadcast_turn (λ k g q. broadcast_leads g (broadcast_turn g) (broadcast_turn_is g) q) h.values.bus_width 0 h (λ g q. inl q.2) p
+    broadcast_goes h p = left_by_turns Sending Left broadcast_turn (λ g q. broadcast_leads g (broadcast_turn g) (broadcast_turn_is g) q) (λ g q. inl q.2) h.values.bus_width h p
 
     no_words : {P : Type 0} (h : Hardware) (f : Fetched) (fs : List Fetched) → h.front.entries ≡ f ∷ fs → h.front.entries ≡ [] → P
     no_words h f fs first none = not_empty f fs (sym first ∙ none)

@@ -16,7 +16,7 @@ use Rattle.rv_hardware.proofs.LawsLists.{Every, Every-weaker}
 use Rattle.rv_hardware.proofs.LawsRow.{row_at}
 use Rattle.rv_hardware.proofs.LawsShape.{head_retired_entries}
 use Rattle.rv_hardware.proofs.LawsSound.{SoundEntry, SoundFetched}
-use Rattle.rv_hardware.proofs.LawsTurns.{Leads}
+use Rattle.rv_hardware.proofs.Repeated.{Leads}
 
 -- a row was fetched by a cycle
 abbrev pub IsFetchedBy : ℕ → Step → Type 0

@@ -14,7 +14,7 @@ use Rattle.rv_hardware.proofs.LawsMarks.{Mark, start_of_issue, start_of_stage, b
 use Rattle.rv_hardware.proofs.LawsRow.{SoundRow, row_at, row_is_sound, row_advances, may_retire_serial, may_retire_finished, MayRetire}
 use Rattle.rv_hardware.proofs.LawsShape.{HasShape, SameShape, same_shape, head_retired_capacity, head_retired_entries, pool_units, pool_pipelined}
 use Rattle.rv_hardware.proofs.LawsSound.{SoundCost, SoundEntry, SoundFetched, sound_later, is_of_kind_is, issued_cost, positive_cost}
-use Rattle.rv_hardware.proofs.LawsTurns.{Leads, turns_keep}
+use Rattle.rv_hardware.proofs.Repeated.{Leads, kept_by_turns}
 
 -- what is basic holds, and something of the marks that beginnings keep and marks that go on
 pub record Goes (v : Values) (now dispatch_bound issue_bound stage_bound fetch_bound row_bound : ℕ) (R : List Mark → Type 0) (steps : List Step) (h : Hardware) : Type 0 where
@@ -147,7 +147,7 @@ module _ (v : Values) (now : ℕ) (R : List Mark → Type 0) (kept : Kept v now 
       let s : Step = Interrupt h.pc (interrupt_cause code) h.cycle in
       flush c g s p (flushed_shape c g refl refl refl refl refl refl) refl refl refl tt (no_row c s refl)
   commit_by_due None h p =
-      turns_keep Commits (commit_turn is_stale) (λ c q. commit_turn_keeps c (commit_turn is_stale c) (commit_turn_is is_stale c) q) h.values.commit_width (record { hardware = h; steps = []; stop = None }) p
+      kept_by_turns Commits (commit_turn is_stale) (λ c q. commit_turn_keeps c (commit_turn is_stale c) (commit_turn_is is_stale c) q) h.values.commit_width (record { hardware = h; steps = []; stop = None }) p
 
   -- the commit phase keeps it
   pub commit_keeps : (h : Hardware) → Goes v now now now now now (now + 1) R (earlier ++ []) h → Commits (commit is_stale h)
@@ -289,7 +289,7 @@ module _ (v : Values) (legal : IsLegal v) (now : ℕ) (R : List Mark → Type 0)
 
   -- the turns of one kind keep it
   pub issue_kind_keeps : (k : Kind) (h : Hardware) → Issues h → Issues (issue_kind k h)
-  issue_kind_keeps k h p = turns_keep Issues (issue_turn k) (λ g q. issue_turn_keeps k g (issue_turn k g) (issue_turn_is k g) q) (at_kind k h.values.kinds).units h p
+  issue_kind_keeps k h p = kept_by_turns Issues (issue_turn k) (λ g q. issue_turn_keeps k g (issue_turn k g) (issue_turn_is k g) q) (at_kind k h.values.kinds).units h p
 
   -- the issue phase keeps it
   pub issue_keeps : (h : Hardware) → Issues h → Issues (issue h)
@@ -373,7 +373,7 @@ module _ (v : Values) (now : ℕ) (R : List Mark → Type 0) (kept : Kept v now 
 
   -- the broadcast phase keeps it
   pub broadcast_keeps : (h : Hardware) → Broadcasts h → Broadcasts (broadcast h)
-  broadcast_keeps h p = turns_keep Broadcasts broadcast_turn (λ g q. broadcast_turn_keeps g (broadcast_turn g) (broadcast_turn_is g) q) h.values.bus_width h p
+  broadcast_keeps h p = kept_by_turns Broadcasts broadcast_turn (λ g q. broadcast_turn_keeps g (broadcast_turn g) (broadcast_turn_is g) q) h.values.bus_width h p
 
 -- dispatch
 
@@ -425,7 +425,7 @@ module _ (v : Values) (now : ℕ) (R : List Mark → Type 0) (kept : Kept v now 
   -- the dispatch phase keeps what is basic and the marks
   pub dispatch_keeps : (h : Hardware) → Goes v now (now + 1) (now + 1) (now + 1) now (now + 1) R steps h → Dispatches (dispatch h)
   dispatch_keeps h p =
-      turns_keep Dispatches dispatch_turn (λ d q. dispatch_turn_keeps d (dispatch_turn d) (dispatch_turn_is d) q) h.values.dispatch_width (record { hardware = h; dispatched = 0; waits_for = None }) p
+      kept_by_turns Dispatches dispatch_turn (λ d q. dispatch_turn_keeps d (dispatch_turn d) (dispatch_turn_is d) q) h.values.dispatch_width (record { hardware = h; dispatched = 0; waits_for = None }) p
 
 -- bounds that are further on
 pub goes_later : (v : Values) (now d a b f r d' a' b' r' : ℕ) (R : List Mark → Type 0) (steps : List Step) (h : Hardware) → d ≤ d' → a ≤ a' → b ≤ b' → r ≤ r' →

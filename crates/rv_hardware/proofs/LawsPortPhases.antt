@@ -14,7 +14,7 @@ use Rattle.rv_hardware.proofs.LawsPhases.{Issues, issue_turn_keeps, drain_same, 
 use Rattle.rv_hardware.proofs.LawsPort.{uses_cache, WhereUsed, OverBy, OneAtATime, path_of_user, has_its_port, port_grows}
 use Rattle.rv_hardware.proofs.LawsShape.{head_retired_entries}
 use Rattle.rv_hardware.proofs.LawsSound.{positive_cost}
-use Rattle.rv_hardware.proofs.LawsTurns.{Leads, turns_keep}
+use Rattle.rv_hardware.proofs.Repeated.{Leads, kept_by_turns}
 
 -- the port is busy until it is over
 abbrev pub Tied : Values → ℕ → Mark → Type 0
@@ -73,7 +73,7 @@ commit_port is_stale v now c _ (retires_last e es issue cycle message head plain
 commit_port_by : (v : Values) (now : ℕ) (o : Option ℕ) (h : Hardware) → PortOk v now h → PortOk v now (commit_unless set.contains o h).hardware
 commit_port_by v now (Some code) h ok = port_none v now (commit_unless set.contains (Some code) h).hardware refl
 commit_port_by v now None h ok =
-    turns_keep (λ c. PortOk v now c.hardware) (commit_turn set.contains) (λ c q. commit_port set.contains v now c (commit_turn set.contains c) (commit_turn_is set.contains c) q) h.values.commit_width (record { hardware = h; steps = []; stop = None }) ok
+    kept_by_turns (λ c. PortOk v now c.hardware) (commit_turn set.contains) (λ c q. commit_port set.contains v now c (commit_turn set.contains c) (commit_turn_is set.contains c) q) h.values.commit_width (record { hardware = h; steps = []; stop = None }) ok
 
 drain_grows_by : (b : Bool) (o : Option StoreAccess) (h : Hardware) → nat_le h.port_free h.cycle ≡ b → h.port_free ≤ (cond b (start_drain o (end_drain h)) h).port_free
 drain_grows_by true None h is = omega arith
@@ -183,7 +183,7 @@ module _ (v : Values) (legal : IsLegal v) (now : ℕ) (steps : List Step) where
 
   kind_port : (k : Kind) (h : Hardware) → IssuingPort h → IssuingPort (issue_kind k h)
   kind_port k h p =
-      turns_keep IssuingPort (issue_turn k) (λ g q. issue_port k g (issue_turn k g) (issue_turn_is k g) q (issue_turn_keeps v legal now Anything (anything_is_kept v now) steps k g (issue_turn k g) (issue_turn_is k g) q.0)) (at_kind k h.values.kinds).units h p
+      kept_by_turns IssuingPort (issue_turn k) (λ g q. issue_port k g (issue_turn k g) (issue_turn_is k g) q (issue_turn_keeps v legal now Anything (anything_is_kept v now) steps k g (issue_turn k g) (issue_turn_is k g) q.0)) (at_kind k h.values.kinds).units h p
 
   pub issue_keeps_port : (h : Hardware) → IssuingPort h → IssuingPort (issue h)
   issue_keeps_port h p =
@@ -267,5 +267,5 @@ port_in_cycle v legal earlier lines old new report R passed ok =
     let committed = commit_port_by v now (due g.csrs g.lines) g (port_same v now g old refl (omega arith) ok) in
     let drains = port_same v now (drain c) c (ap (λ (r : ReorderBuffer). r.entries) (drain_same c).0) (drain_grows c) committed in
     let issues = issue_keeps_port v legal now all (drained lines old) (with_marks v now now (now + 1) now now (now + 1) R Anything all (drained lines old) tt passed.drains, drains) in
-    let sends = turns_keep (PortOk v now) broadcast_turn (λ h q. broadcast_port v now h (broadcast_turn h) (broadcast_turn_is h) q) (issued_all lines old).values.bus_width (issued_all lines old) issues.1 in
-    turns_keep (λ d. PortOk v now d.hardware) dispatch_turn (λ d q. dispatch_port v now d (dispatch_turn d) (dispatch_turn_is d) q) (sent_all lines old).values.dispatch_width (record { hardware = sent_all lines old; dispatched = 0; waits_for = None }) sends
+    let sends = kept_by_turns (PortOk v now) broadcast_turn (λ h q. broadcast_port v now h (broadcast_turn h) (broadcast_turn_is h) q) (issued_all lines old).values.bus_width (issued_all lines old) issues.1 in
+    kept_by_turns (λ d. PortOk v now d.hardware) dispatch_turn (λ d q. dispatch_port v now d (dispatch_turn d) (dispatch_turn_is d) q) (sent_all lines old).values.dispatch_width (record { hardware = sent_all lines old; dispatched = 0; waits_for = None }) sends

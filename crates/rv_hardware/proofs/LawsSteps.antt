@@ -1,5 +1,5 @@
 -- Steps come in order, within the width; interrupts alone, flushes last; after a flush everything is fetched anew.
-use Rattle.rv_hardware.proofs.Words.{◌≡◌, ℕ, suc, ◌+◌, ◌<◌, ◌≤◌, Bool, true, false, List, [], ◌∷◌, ◌++◌, map, length, nat_eq as eqb, ◌==◌, Some, None, Option, nat_cmp, unwrap_or, sym, refl, ap, ◌∙◌, subst, true≢false, append_assoc, append-nil, arith, length-append, ne_eqb, eqb-true, IsLegal, is_serialising, Message, Issue, Lines, Values, instruction_of, due, interrupt_cause, Stop, Entry, Finished, Committing, commit_turn, commit_unless, with_fault, IsCycle, any_prediction, with_lines, Hardware, IsFetchedSince, Ends, GoesOn, Turn, Report, written_of, flushes, rows_of, is_interrupt, stamp_of, Row, Step, Interrupt, Retired, Trap}
+use Rattle.rv_hardware.proofs.Words.{◌≡◌, ℕ, suc, ◌+◌, ◌<◌, ◌≤◌, Bool, true, false, List, [], ◌∷◌, ◌++◌, map, length, nat_eq as eqb, ◌==◌, Some, None, Option, nat_cmp, unwrap_or, sym, refl, ap, ◌∙◌, subst, true≢false, append_assoc, append-nil, arith, length-append, ne_eqb, eqb-true, IsLegal, is_serialising, Message, Issue, Lines, Values, instruction_of, due, interrupt_cause, Stop, Entry, Finished, Committing, commit_turn, commit_unless, with_fault, IsCycle, any_prediction, with_lines, Hardware, IsFetchedSince, Turn, Report, written_of, flushes, rows_of, is_interrupt, stamp_of, Row, Step, Interrupt, Retired, Trap}
 use Rattle.std.specs.FinSet as set
 use Rattle.rv_hardware.proofs.LawsAdvance.{Kept, Advances, retires as a_retires, starts as a_starts, is_sent as a_is_sent, enters as a_enters}
 use Rattle.rv_hardware.proofs.LawsFetch.{IsNew}
@@ -11,7 +11,7 @@ use Rattle.rv_hardware.proofs.LawsPhases.{Goes, Commits, commit_turn_keeps, comm
 use Rattle.rv_hardware.proofs.LawsRow.{retiring_is_one, row_at, may_retire_finished}
 use Rattle.rv_hardware.proofs.LawsShape.{head_retired_entries}
 use Rattle.rv_hardware.proofs.LawsSound.{SoundEntry, row_decodes}
-use Rattle.rv_hardware.proofs.LawsTurns.{Leads, turns_within}
+use Rattle.rv_hardware.proofs.Repeated.{Leads, leads_both, turns_within}
 
 -- every flush among some steps was no later than a cycle
 abbrev pub NotBefore : List Step → ℕ → Type 0
@@ -144,10 +144,6 @@ module _ (v : Values) (now : ℕ) (earlier : List Step) (before : Every (λ s. s
   turn_leads total k c _ lt (retires_last e es issue cycle message head plain at none) q p goes =
       steps_up_to (suc k) total _ lt (flushing k c (Retired (row_at e (written_of e message) c.hardware.cycle)) p q.basics.cycle refl (row_since c e es (written_of e message) head.place p.steps.entries) (retired_and_flushed e message c).hardware c.stop goes refl refl)
 
-  joined : (P Q R : Committing → Type 0) (t : Turn Committing) → Leads P P t → Leads Q R t → Leads (λ c. P c × Q c) R t
-  joined P Q R (GoesOn c) h g = (h, g)
-  joined P Q R (Ends c) h g = g
-
   commit_leads_by : (total : ℕ) → 1 ≤ total → (o : Option ℕ) (h : Hardware) → h.values.commit_width ≡ total → Goes v now now now now now (now + 1) Anything (earlier ++ []) h → EveryPair InOrder (earlier ++ []) →
       Every (λ e. NotBefore (earlier ++ []) e.fetched) h.rob.entries → Every (λ f. NotBefore (earlier ++ []) f.cycle) h.front.entries → Commits v now Anything (anything_is_kept v now) earlier is_stale (commit_unless is_stale o h) →
       Steps v now earlier total (commit_unless is_stale o h)
@@ -166,7 +162,7 @@ module _ (v : Values) (now : ℕ) (earlier : List Step) (before : Every (λ s. s
       let first : Committing = record { hardware = h; steps = []; stop = None } in
       turns_within total (λ k c. Commits v now Anything (anything_is_kept v now) earlier is_stale c × Going k c) (Steps v now earlier total) (commit_turn is_stale)
       (λ k c lt p. let goes_on = commit_turn_keeps v now Anything (anything_is_kept v now) earlier is_stale c (commit_turn is_stale c) (commit_turn_is is_stale c) p.0 in
-      joined (Commits v now Anything (anything_is_kept v now) earlier is_stale) (Going (suc k)) (Steps v now earlier total) (commit_turn is_stale c) goes_on (turn_leads total k c (commit_turn is_stale c) lt (commit_turn_is is_stale c) p.0 p.1 goes_on))
+      leads_both (Commits v now Anything (anything_is_kept v now) earlier is_stale) (Going (suc k)) (Steps v now earlier total) (commit_turn is_stale c) goes_on (turn_leads total k c (commit_turn is_stale c) lt (commit_turn_is is_stale c) p.0 p.1 goes_on))
       (λ c p. p.1.steps) h.values.commit_width 0 first (omega (arith, width)) (goes, record { steps = record { goes = goes; pairs = pairs; of_now = tt; within = omega arith; entries = entries; words = words }; plain = tt })
 
 pub record StepsPast (v : Values) (steps : List Step) (h : Hardware) : Type 0 where

@@ -13,7 +13,7 @@ use Rattle.rv_hardware.proofs.LawsLists.{Every, Every-append, Every-filter, Ever
 use Rattle.rv_hardware.proofs.LawsPhases.{Issues, issue_turn_keeps, drain_same, with_marks}
 use Rattle.rv_hardware.proofs.LawsShape.{head_retired_entries}
 use Rattle.rv_hardware.proofs.LawsSound.{is_of_kind_is}
-use Rattle.rv_hardware.proofs.LawsTurns.{Leads, turns_keep}
+use Rattle.rv_hardware.proofs.Repeated.{Leads, kept_by_turns}
 use Rattle.rv_hardware.proofs.LawsMarks.{Mark, Start, mark_of_entry, start_of_issue, start_of_stage}
 
 -- an execution holds a unit in a cycle
@@ -137,7 +137,7 @@ commit_units is_stale v now c _ (retires_last e es issue cycle message head plai
 commit_units_by : (v : Values) (now : ℕ) (o : Option ℕ) (h : Hardware) → AllHeld v now h → AllHeld v now (commit_unless set.contains o h).hardware
 commit_units_by v now (Some code) h held = all_fewer v now (commit_unless set.contains (Some code) h).hardware h refl (λ k n le. omega arith) held
 commit_units_by v now None h held =
-    turns_keep (λ c. AllHeld v now c.hardware) (commit_turn set.contains) (λ c q. commit_units set.contains v now c (commit_turn set.contains c) (commit_turn_is set.contains c) q) h.values.commit_width (record { hardware = h; steps = []; stop = None }) held
+    kept_by_turns (λ c. AllHeld v now c.hardware) (commit_turn set.contains) (λ c q. commit_units set.contains v now c (commit_turn set.contains c) (commit_turn_is set.contains c) q) h.values.commit_width (record { hardware = h; steps = []; stop = None }) held
 
 -- drain
 
@@ -198,7 +198,7 @@ module _ (v : Values) (legal : IsLegal v) (now : ℕ) (steps : List Step) where
 
   kind_units : (k : Kind) (h : Hardware) → Issuing h → Issuing (issue_kind k h)
   kind_units k h p =
-      turns_keep Issuing (issue_turn k) (λ g q. issue_units k g (issue_turn k g) (issue_turn_is k g) q (issue_turn_keeps v legal now Anything (anything_is_kept v now) steps k g (issue_turn k g) (issue_turn_is k g) q.0)) (at_kind k h.values.kinds).units h p
+      kept_by_turns Issuing (issue_turn k) (λ g q. issue_units k g (issue_turn k g) (issue_turn_is k g) q (issue_turn_keeps v legal now Anything (anything_is_kept v now) steps k g (issue_turn k g) (issue_turn_is k g) q.0)) (at_kind k h.values.kinds).units h p
 
   pub issue_keeps_units : (h : Hardware) → Issuing h → Issuing (issue h)
   issue_keeps_units h p =
@@ -254,8 +254,8 @@ units_in_cycle v legal earlier lines old new report R passed held =
     let drain_rob = ap (λ (r : ReorderBuffer). r.entries) (drain_same c).0 in
     let drains = all_fewer v now (drain c) c (drain_units c) (λ k n le. let same = ap (count (λ z. holds_mark v k n (mark_of_entry z))) drain_rob in omega (arith, same)) committed in
     let issues = issue_keeps_units v legal now all (drained lines old) (with_marks v now now (now + 1) now now (now + 1) R Anything all (drained lines old) tt passed.drains, drains) in
-    let sends = turns_keep (AllHeld v now) broadcast_turn (λ h q. broadcast_units v now h (broadcast_turn h) (broadcast_turn_is h) q) (issued_all lines old).values.bus_width (issued_all lines old) issues.1 in
-    turns_keep (λ d. AllHeld v now d.hardware) dispatch_turn (λ d q. dispatch_units v now d (dispatch_turn d) (dispatch_turn_is d) q) (sent_all lines old).values.dispatch_width (record { hardware = sent_all lines old; dispatched = 0; waits_for = None }) sends
+    let sends = kept_by_turns (AllHeld v now) broadcast_turn (λ h q. broadcast_units v now h (broadcast_turn h) (broadcast_turn_is h) q) (issued_all lines old).values.bus_width (issued_all lines old) issues.1 in
+    kept_by_turns (λ d. AllHeld v now d.hardware) dispatch_turn (λ d q. dispatch_units v now d (dispatch_turn d) (dispatch_turn_is d) q) (sent_all lines old).values.dispatch_width (record { hardware = sent_all lines old; dispatched = 0; waits_for = None }) sends
 
 units_at_reset : (v : Values) (k : Kind) → Held v 0 k (at_kind k (for_each free_pool v.kinds)) []
 units_at_reset v k = rw (at_kind-for_each free_pool v.kinds k) (record { tied = λ c le. omega arith; within = λ c le. omega arith; begun = tt })

@@ -70,7 +70,6 @@ pub mod HeadlineStores
 pub mod Laws
 pub mod LawsLists
 pub mod LawsOldest
-pub mod LawsTurns
 pub mod LawsMarks
 pub mod LawsAdvance
 pub mod LawsEvidence

@@ -1,23 +1,41 @@
 -- A property that each turn keeps is kept by all turns, and what holds at reset and is kept by each cycle always holds.
-use Rattle.rv_hardware.proofs.Words.{ℕ, zero, suc, ◌^◌, ◌<◌, List, IsLegal, Lines, Values, IsCycle, any_prediction, Hardware, Ends, GoesOn, Turn, followed_by, repeated, Report, IsLoadable, reset_hardware, Reachable, at_reset, by_cycle}
+use Rattle.rv_hardware.proofs.Words.{◌≡◌, ℕ, zero, suc, ◌+◌, ◌^◌, ◌<◌, List, arith, IsLegal, Lines, Values, IsCycle, any_prediction, Hardware, Ends, GoesOn, Turn, followed_by, repeated, Report, IsLoadable, reset_hardware, Reachable, at_reset, by_cycle}
 
--- what holds of the state that a turn leaves
+-- P of what a turn leaves to a further one, Q of what it leaves to no other
+abbrev pub Leads : {S : Type 0} → (S → Type 0) → (S → Type 0) → Turn S → Type 0
+Leads P Q (GoesOn s) = P s
+Leads P Q (Ends s) = Q s
+
+-- P of what a turn leaves, to a further one or to no other
 abbrev pub Leaves : {S : Type 0} → (S → Type 0) → Turn S → Type 0
-Leaves P (GoesOn s) = P s
-Leaves P (Ends s) = P s
+Leaves P t = Leads P P t
 
--- what a turn leaves keeps it through the turns that follow
-pub kept_by_the_rest : {S : Type 0} (P : S → Type 0) (rest : S → S) → ((s : S) → P s → P (rest s)) →
-    (t : Turn S) → Leaves P t → P (followed_by rest t)
-kept_by_the_rest P rest keeps (GoesOn s) left = keeps s left
-kept_by_the_rest P rest keeps (Ends s) left = left
+-- two facts of what a turn leaves to a further one, and the second of what it leaves to no other
+pub leads_both : {S : Type 0} (P Q R : S → Type 0) (t : Turn S) → Leads P P t → Leads Q R t → Leads (λ s. P s × Q s) R t
+leads_both P Q R (GoesOn s) p q = (p, q)
+leads_both P Q R (Ends s) p q = q
+
+-- what a turn leads to, and so what it leads to after the turns that follow
+pub left_by_the_rest : {S : Type 0} (P Q : S → Type 0) (rest : S → S) → ((s : S) → P s → Q (rest s)) → (t : Turn S) → Leads P Q t → Q (followed_by rest t)
+left_by_the_rest P Q rest goes (GoesOn s) left = goes s left
+left_by_the_rest P Q rest goes (Ends s) left = left
+
+-- where after k turns P k holds, until a turn ends in Q or so many were taken, the turns lead to Q
+module _ {S : Type 0} (total : ℕ) (P : ℕ → S → Type 0) (Q : S → Type 0) (turn : S → Turn S) (leads : (k : ℕ) (s : S) → k < total → P k s → Leads (P (suc k)) Q (turn s)) (last : (s : S) → P total s → Q s) where
+  pub turns_within : (width k : ℕ) (s : S) → width + k ≡ total → P k s → Q (repeated turn width s)
+  turns_within zero k s all h = last s (let same : total ≡ k = omega (arith, all) in rw same h)
+  turns_within (suc width) k s all h =
+      left_by_the_rest (P (suc k)) Q (repeated turn width) (λ t g. turns_within width (suc k) t (omega (arith, all)) g) (turn s) (leads k s (omega (arith, all)) h)
+
+-- turns that keep P while they go on, and leave Q
+pub left_by_turns : {S : Type 0} (P Q : S → Type 0) (turn : S → Turn S) → ((s : S) → P s → Leads P Q (turn s)) → ((s : S) → P s → Q s) →
+    (width : ℕ) (s : S) → P s → Q (repeated turn width s)
+left_by_turns P Q turn keeps stops width s holds = turns_within width (λ k. P) Q turn (λ k t lt p. keeps t p) stops width 0 s (omega arith) holds
 
 -- what each turn keeps all turns keep
 pub kept_by_turns : {S : Type 0} (P : S → Type 0) (turn : S → Turn S) → ((s : S) → P s → Leaves P (turn s)) →
     (width : ℕ) (s : S) → P s → P (repeated turn width s)
-kept_by_turns P turn keeps zero s holds = holds
-kept_by_turns P turn keeps (suc width) s holds =
-    kept_by_the_rest P (repeated turn width) (kept_by_turns P turn keeps width) (turn s) (keeps s holds)
+kept_by_turns P turn keeps width s holds = left_by_turns P P turn keeps (λ t p. p) width s holds
 
 -- what holds at reset and each cycle of reachable hardware keeps holds of all reachable hardware
 pub always : (P : Hardware → Type 0) →

@@ -9,7 +9,7 @@ use Rattle.rv_hardware.proofs.LawsLists.{Every-weaker, Every-all, count, count-a
 use Rattle.rv_hardware.proofs.LawsMarks.{Mark, mark_of_row, mark_of_fetched, marks_in, until, broadcast_of_stage, broadcast_of_execution}
 use Rattle.rv_hardware.proofs.LawsRow.{SoundRow}
 use Rattle.rv_hardware.proofs.LawsSound.{SoundEntry, SoundStage}
-use Rattle.rv_hardware.proofs.LawsTurns.{Leads, turns_within, turns_keep}
+use Rattle.rv_hardware.proofs.Repeated.{Leads, turns_within, kept_by_turns}
 use Rattle.rv_hardware.proofs.LawsWidths.{is_at, count_marks}
 
 sent_shows_by : (c D C : ℕ) (x : Option Execution) → IfSome x (λ x. (D < x.issued) × (x.issued + x.cost ≤ x.broadcast) × (x.broadcast < C)) → passes (λ y. y.broadcast == c) x ≡ true →
@@ -64,7 +64,7 @@ module _ (now total : ℕ) where
 
   pub dispatch_keeps_sent : (h : Hardware) → SentNow total h → SentNow total (dispatch h).hardware
   dispatch_keeps_sent h p =
-      turns_keep (λ d. SentNow total d.hardware) dispatch_turn (λ d q. dispatch_sends_none d (dispatch_turn d) (dispatch_turn_is d) q) h.values.dispatch_width (record { hardware = h; dispatched = 0; waits_for = None }) p
+      kept_by_turns (λ d. SentNow total d.hardware) dispatch_turn (λ d q. dispatch_sends_none d (dispatch_turn d) (dispatch_turn_is d) q) h.values.dispatch_width (record { hardware = h; dispatched = 0; waits_for = None }) p
 
 sent_earlier : (v : Values) (i : Option Instr) (D a now : ℕ) (st : Stage) → SoundStage v i D a now st → is_at now (broadcast_of_stage st) ≡ false
 sent_earlier v i D a now Waiting h = refl

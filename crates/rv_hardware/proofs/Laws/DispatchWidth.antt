@@ -8,7 +8,7 @@ use Rattle.rv_hardware.proofs.LawsLists.{Every-weaker, Every-all, count, count-a
 use Rattle.rv_hardware.proofs.LawsMarks.{Mark, mark_of_row, mark_of_fetched, marks_in, until}
 use Rattle.rv_hardware.proofs.LawsRow.{SoundRow}
 use Rattle.rv_hardware.proofs.LawsSound.{SoundEntry}
-use Rattle.rv_hardware.proofs.LawsTurns.{Leads, turns_within}
+use Rattle.rv_hardware.proofs.Repeated.{Leads, turns_within}
 use Rattle.rv_hardware.proofs.LawsWidths.{is_at, count_marks}
 
 -- that a row is dispatched in a cycle shows in its mark

@@ -10,7 +10,7 @@ use Rattle.rv_hardware.proofs.LawsPast.{rows_obey}
 use Rattle.rv_hardware.proofs.LawsPhases.{Broadcasts, broadcast_turn_keeps, dispatch_keeps, goes_later, send_is, with_marks}
 use Rattle.rv_hardware.proofs.LawsRow.{SoundRow}
 use Rattle.rv_hardware.proofs.LawsBasics.{and_second}
-use Rattle.rv_hardware.proofs.LawsTurns.{Leads, turns_within}
+use Rattle.rv_hardware.proofs.Repeated.{Leads, turns_within}
 use Rattle.rv_hardware.proofs.LawsMarks.{Mark, Start, mark_of_row, mark_of_entry, mark_of_fetched, marks, marks_in, marks_at_entry, as_of, at_end, was_fetched, until, broadcast_of_execution}
 use Rattle.rv_hardware.proofs.LawsWidths.{is_at}
 

@@ -23,7 +23,7 @@ use Rattle.rv_hardware.proofs.LawsRow.{SoundRow, row_at, retiring_is_one, may_re
 use Rattle.rv_hardware.proofs.LawsShape.{head_retired_entries}
 use Rattle.rv_hardware.proofs.LawsSound.{SoundEntry, row_decodes}
 use Rattle.rv_hardware.proofs.LawsTold.{Telling, AreTelling, TellsIn, telling-kept}
-use Rattle.rv_hardware.proofs.LawsTurns.{Leads}
+use Rattle.rv_hardware.proofs.Repeated.{Leads}
 use Rattle.rv_hardware.proofs.LawsWidths.{count_marks}
 
 abbrev pub Queue : Values → ℕ → List Step → Hardware → Type 0
