@@ -1,10 +1,9 @@
 -- An instruction in flight that waits has a unit to wait for or waits to be the oldest, and only a store tells what it writes.
 -- Where no word was fetched, a fault is known.
-use Rattle.rv_hardware.proofs.Words.{◌≡◌, ℕ, ◌+◌, Bool, true, false, cond, ◌||◌, List, ◌∷◌, ◌++◌, is_some, nat_le, Some, None, Option, option_and_then, sym, refl, subst, is_serialising, is_store, kind_of_word, Message, StoreAccess, Fault, Instr, Lines, Kind, Values, instruction_of, Layout, Memory, Effect, Faults, Retires, effect, State, Each, finished, predicting, started, Entry, Stage, Finished, Running, Waiting, IsFetchedAt, Fetched, result_at, any_prediction, entry_of_fetched, stage_by, Hardware, reset_hardware, access_of, effect_message, result_of_word, layout_of, seen_behind}
+use Rattle.rv_hardware.proofs.Words.{◌≡◌, ℕ, ◌+◌, Bool, true, false, cond, ◌||◌, List, ◌∷◌, ◌++◌, is_some, nat_le, Some, None, Option, option_and_then, sym, refl, subst, is_serialising, is_store, kind_of_word, Message, StoreAccess, Fault, Instr, Lines, Kind, Values, instruction_of, Layout, Memory, Effect, Faults, Retires, effect, State, Each, finished, predicting, started, Entry, Stage, Finished, Running, Waiting, IsFetchedAt, Fetched, result_at, any_prediction, entry_of_fetched, stage_by, Hardware, reset_hardware, access_of, effect_message, result_of_word, layout_of, seen_behind, Each-left, Each-right, Each-push, Each-change}
 use Rattle.rv_isa.specs.declared.instructions.Instr.TheVariants.{Store}
 use Rattle.rv_hardware.proofs.GapFetch.{each-fetched}
 use Rattle.rv_hardware.proofs.GapCycle.{IsKept}
-use Rattle.rv_hardware.proofs.GapEach.{Each-back, Each-change, Each-front, Each-push}
 use Rattle.rv_hardware.proofs.GapForms.{IsResult}
 
 -- what a message says of a store is said by a store
@@ -134,7 +133,7 @@ shape-kept = record {
           (Each-change Shaped older younger e (finished message h.cycle e) (told_at h.cycle e.word e.instruction e.stage message gives) (subst (Each Shaped) split shape.0), shape.1);
       mends = λ h older younger e next shape split.
           let all : Each Shaped (older ++ e ∷ younger) = subst (Each Shaped) split shape.0 in
-          (Each-push Shaped older (predicting next e) (Each-back Shaped older (e ∷ younger) all).0 (Each-front Shaped older (e ∷ younger) all), tt);
+          (Each-push Shaped older (predicting next e) (Each-right Shaped older (e ∷ younger) all).0 (Each-left Shaped older (e ∷ younger) all), tt);
     };
     dispatch = record {
       dispatches = λ h fetched rest shape first none.

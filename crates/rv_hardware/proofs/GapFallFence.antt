@@ -1,10 +1,9 @@
 -- Where FENCE.I is the oldest instruction, a cycle brings the port, the retired stores and the dirty lines nearer to their end.
-use Rattle.rv_hardware.proofs.Words.{◌≡◌, ℕ, ◌+◌, ◌*◌, ◌<◌, ◌≤◌, true, false, List, [], ◌∷◌, ◌++◌, nat_le, ◌==◌, Some, Option, sym, refl, ap, ◌∙◌, subst, arith, eqb-false, false≢true, nat_tests, is_of_kind, kind_of_word, Message, Instr, FenceI, Issue, Kind, CacheValues, Values, Each, oldest_to_drain, Store, Entry, Stage, Finished, FetchBuffer, broadcast, result_at, is_drained, with_write_back, write_back_time, execute, drain, end_drain, start_drain, Hardware, issue}
+use Rattle.rv_hardware.proofs.Words.{◌≡◌, ℕ, ◌+◌, ◌*◌, ◌<◌, ◌≤◌, true, false, List, [], ◌∷◌, ◌++◌, nat_le, ◌==◌, Some, Option, sym, refl, ap, ◌∙◌, subst, arith, eqb-false, false≢true, nat_tests, is_of_kind, kind_of_word, Message, Instr, FenceI, Issue, Kind, CacheValues, Values, Each, oldest_to_drain, Store, Entry, Stage, Finished, FetchBuffer, broadcast, result_at, is_drained, with_write_back, write_back_time, execute, drain, end_drain, start_drain, Hardware, issue, Each-right}
 use Rattle.rv_hardware.proofs.GapBroadcast.{IsKeptByBroadcast, broadcast-keeps}
 use Rattle.rv_hardware.proofs.GapDispatch.{IsKeptByDispatch, dispatch-keeps}
 use Rattle.rv_hardware.proofs.GapDrain.{drain-keeps}
 use Rattle.rv_hardware.proofs.GapDrained.{Drains, SameButPort, drain-same, next_port_time}
-use Rattle.rv_hardware.proofs.GapEach.{Each-back}
 use Rattle.rv_hardware.proofs.GapExecute.{broadcast-same, head-broadcasted, head-dispatched, head-patience, issued-same, later}
 use Rattle.rv_hardware.proofs.GapForms.{longest_access, longest_execution, longest_write_back}
 use Rattle.rv_hardware.proofs.GapHead.{HeadIs}
@@ -25,7 +24,7 @@ IsAnywhere stage = Unit {0}
 
 never_issued : (k : Kind) (older younger : List Entry) (e : Entry) (entries : List Entry) → Each IsFence entries → entries ≡ older ++ e ∷ younger → is_of_kind k (kind_of_word e.instruction) ≡ true → ⊥
 never_issued k older younger e entries each split of_kind =
-    let own = (Each-back IsFence older (e ∷ younger) (subst (Each IsFence) split each)).0 in
+    let own = (Each-right IsFence older (e ∷ younger) (subst (Each IsFence) split each)).0 in
     false≢true (sym (ap (λ i. is_of_kind k (kind_of_word i)) own) ∙ of_kind)
 
 -- ---- the phases after drain

@@ -1,6 +1,5 @@
 -- A fetch adds words or nothing, and leaves the fetch buffer's room and width as they were.
-use Rattle.rv_hardware.proofs.Words.{◌≡◌, ℕ, zero, suc, ◌-◌, Bool, true, false, List, [], ◌∷◌, ◌++◌, length, Some, None, MatchBool, Option, MatchOption, sym, refl, ap, subst, Memory, Each, Answers, FetchBuffer, Fetches, FetchesInto, IsFetchedAt, is_halted, stop_behind, FetchStop, Halted, Fetched, any_prediction}
-use Rattle.rv_hardware.proofs.GapEach.{Each-append}
+use Rattle.rv_hardware.proofs.Words.{◌≡◌, ℕ, zero, suc, ◌-◌, Bool, true, false, List, [], ◌∷◌, ◌++◌, length, Some, None, MatchBool, Option, MatchOption, sym, refl, ap, subst, Memory, Each, Answers, FetchBuffer, Fetches, FetchesInto, IsFetchedAt, is_halted, stop_behind, FetchStop, Halted, Fetched, any_prediction, Each-append}
 
 -- what a fetch adds where the front was not halted
 pub record Adds (answers : Answers) (ram : Memory) (cycle : ℕ) (old new : FetchBuffer) (stop : FetchStop) : Type 0 where

@@ -1,8 +1,7 @@
 -- Where fetch is halted, the last word, fetched or in flight, is the one that was not there.
-use Rattle.rv_hardware.proofs.Words.{◌≡◌, ℕ, zero, suc, ◌-◌, Bool, true, false, List, [], ◌∷◌, ◌++◌, map, length, ◌==◌, Some, None, Option, MatchOption, sym, refl, ap, ◌∙◌, subst, append_assoc, map-append, pc_plus_4, Message, Values, Memory, Each, finished, started, Entry, Stage, Finished, Running, Waiting, FetchBuffer, Fetches, FetchesInto, is_halted, stop_behind, stop_for, FetchStop, Halted, Prediction, Room, Fetched, any_prediction, entry_of_fetched, Hardware, broadcast_of, reset_hardware}
+use Rattle.rv_hardware.proofs.Words.{◌≡◌, ℕ, zero, suc, ◌-◌, Bool, true, false, List, [], ◌∷◌, ◌++◌, map, length, ◌==◌, Some, None, Option, MatchOption, sym, refl, ap, ◌∙◌, subst, append_assoc, map-append, pc_plus_4, Message, Values, Memory, Each, finished, started, Entry, Stage, Finished, Running, Waiting, FetchBuffer, Fetches, FetchesInto, is_halted, stop_behind, stop_for, FetchStop, Halted, Prediction, Room, Fetched, any_prediction, entry_of_fetched, Hardware, broadcast_of, reset_hardware, map-change}
 use Rattle.rv_front.specs.declared.fetched.FetchStop.TheVariants.{Width}
 use Rattle.rv_hardware.proofs.GapCycle.{IsKept, IsKeptByPhases}
-use Rattle.rv_hardware.proofs.GapEach.{map-change}
 use Rattle.rv_hardware.proofs.GapEntries.{HasShape, HasWordOr, IsShaped, Shaped, shape-kept, shape-at_reset}
 use Rattle.rv_hardware.proofs.GapFetch.{fetch-cases}
 

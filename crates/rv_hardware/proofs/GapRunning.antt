@@ -1,7 +1,6 @@
 -- An execution is over within the longest one's time.
-use Rattle.rv_hardware.proofs.Words.{ℕ, ◌+◌, ◌≤◌, Bool, true, false, List, ◌∷◌, ◌++◌, Some, None, Option, subst, arith, is_serialising, kind_of_word, Message, Kind, Values, Each, finished, predicting, started, Entry, Stage, Finished, Running, Waiting, entry_of_fetched, stage_by, Hardware, reset_hardware}
+use Rattle.rv_hardware.proofs.Words.{ℕ, ◌+◌, ◌≤◌, Bool, true, false, List, ◌∷◌, ◌++◌, Some, None, Option, subst, arith, is_serialising, kind_of_word, Message, Kind, Values, Each, finished, predicting, started, Entry, Stage, Finished, Running, Waiting, entry_of_fetched, stage_by, Hardware, reset_hardware, Each-left, Each-right, Each-push, Each-change, Each-weaker}
 use Rattle.rv_hardware.proofs.GapCycle.{IsKept}
-use Rattle.rv_hardware.proofs.GapEach.{Each-back, Each-change, Each-front, Each-push, Each-weaken}
 use Rattle.rv_hardware.proofs.GapForms.{longest_execution}
 
 -- where it executes, it is over by a cycle
@@ -55,7 +54,7 @@ ending-kept = record {
       mends = λ h older younger e next ends split.
           let limit : ℕ = h.cycle + longest_execution h in
           let all : Each (Ending limit) (older ++ e ∷ younger) = subst (Each (Ending limit)) split ends in
-          Each-push (Ending limit) older (predicting next e) (Each-back (Ending limit) older (e ∷ younger) all).0 (Each-front (Ending limit) older (e ∷ younger) all);
+          Each-push (Ending limit) older (predicting next e) (Each-right (Ending limit) older (e ∷ younger) all).0 (Each-left (Ending limit) older (e ∷ younger) all);
     };
     dispatch = record {
       dispatches = λ h fetched rest ends first none.
@@ -68,7 +67,7 @@ ending-kept = record {
         let limit : ℕ = h.cycle + longest_execution h in
         let more : ℕ = h.cycle + 1 + longest_execution h in
         let past : limit ≤ more = omega arith in
-        Each-weaken (Ending limit) (Ending more) (λ e before. one_later limit more e.stage past before) h.rob.entries ends;
+        Each-weaker (Ending limit) (Ending more) (λ e before. one_later limit more e.stage past before) h.rob.entries ends;
   };
 }
 

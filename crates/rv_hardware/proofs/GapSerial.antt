@@ -1,7 +1,6 @@
 -- An instruction that waits to be the oldest is the youngest: nothing younger is in flight beside it.
-use Rattle.rv_hardware.proofs.Words.{◌≡◌, ℕ, true, false, List, [], ◌∷◌, ◌++◌, Option, sym, refl, ap, ◌∙◌, subst, or_parts, map-append, is_serialising, Instr, Values, finished, predicting, started, Entry, entry_of_fetched, Hardware, reset_hardware}
+use Rattle.rv_hardware.proofs.Words.{◌≡◌, ℕ, true, false, List, [], ◌∷◌, ◌++◌, Option, sym, refl, ap, ◌∙◌, subst, or_parts, map-append, is_serialising, Instr, Values, finished, predicting, started, Entry, entry_of_fetched, Hardware, reset_hardware, map-change}
 use Rattle.rv_hardware.proofs.GapCycle.{IsKept}
-use Rattle.rv_hardware.proofs.GapEach.{map-change}
 use Rattle.rv_hardware.proofs.GapReasons.{is_any_serialising, no_reason}
 use Rattle.rv_hardware.proofs.GapStores.{instruction_of_entry, instructions_of}
 

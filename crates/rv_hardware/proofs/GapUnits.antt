@@ -1,8 +1,7 @@
 -- A unit is held no longer than for the longest execution.
-use Rattle.rv_hardware.proofs.Words.{ℕ, ◌+◌, ◌≤◌, Bool, true, false, List, arith, at_kind-for_each, with_kind-each, at_kind, with_kind, Issue, Kind, PerKind, Values, Each, Pool, free_pool, held_for, holding, holds_unit, Hardware, reset_hardware}
+use Rattle.rv_hardware.proofs.Words.{ℕ, ◌+◌, ◌≤◌, Bool, true, false, List, arith, at_kind-for_each, with_kind-each, at_kind, with_kind, Issue, Kind, PerKind, Values, Each, Pool, free_pool, held_for, holding, holds_unit, Hardware, reset_hardware, Each-push, Each-weaker, Each-filter}
 use Rattle.rv_units.specs.Pool.{started as started_unit}
 use Rattle.rv_hardware.proofs.GapCycle.{IsKept}
-use Rattle.rv_hardware.proofs.GapEach.{Each-filter, Each-push, Each-weaken}
 use Rattle.rv_hardware.proofs.GapForms.{longest_execution}
 
 -- an execution holds its unit until a cycle
@@ -57,7 +56,7 @@ held-kept = record {
         let limit : ℕ = h.cycle + longest_execution h in
         let more : ℕ = h.cycle + 1 + longest_execution h in
         let past : limit ≤ more = omega arith in
-        λ k. Each-weaken (HoldsUntil limit) (HoldsUntil more) (λ start before. later start before past) (at_kind k h.units).starts (held k);
+        λ k. Each-weaker (HoldsUntil limit) (HoldsUntil more) (λ start before. later start before past) (at_kind k h.units).starts (held k);
   };
 } where
   later : {limit more : ℕ} (start : Issue) → start.cycle + start.cost ≤ limit → limit ≤ more → start.cycle + start.cost ≤ more

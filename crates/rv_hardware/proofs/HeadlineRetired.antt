@@ -1,17 +1,17 @@
 -- A retirement, a trap and a flush leave sound hardware, and programs see what the machine's step leaves.
-use Rattle.rv_hardware.proofs.Words.{◌≡◌, ℕ, ◌+◌, ◌*◌, ◌/◌, ◌%◌, ◌^◌, ◌≤◌, Bool, true, false, List, [], ◌∷◌, ◌++◌, length, IfSome, if◌then◌else◌, nat_le, slice_index_or as get_or, Some, None, Option, nat_cmp, sym, refl, ap, ◌∙◌, subst, ap₂, inl, inr, true≢false, append-nil, arith, le-leb, and_from, cases_eq, Message, StoreAccess, Values, Layout, Memory, fetched_word, is_in_ram, word_of, Kept, State, trap_taken, handler_of, Contents, is_draining, Store as QueuedStore, Committed, Filled, after_head, Entry, Fetched, Hardware, memory_behind, store_of_message, with_store, committed_store, stale_after, with_result, layout_of, seen, with_state, flushed, with_trap}
+use Rattle.rv_hardware.proofs.Words.{◌≡◌, ℕ, ◌+◌, ◌*◌, ◌/◌, ◌%◌, ◌^◌, ◌≤◌, Bool, true, false, List, [], ◌∷◌, ◌++◌, length, IfSome, if◌then◌else◌, nat_le, slice_index_or as get_or, Some, None, Option, nat_cmp, sym, refl, ap, ◌∙◌, subst, ap₂, inl, inr, true≢false, append-nil, arith, le-leb, and_from, cases_eq, Message, StoreAccess, Values, Layout, Memory, fetched_word, is_in_ram, word_of, Kept, State, trap_taken, handler_of, Contents, is_draining, Store as QueuedStore, Committed, Filled, after_head, Entry, Fetched, Hardware, memory_behind, store_of_message, with_store, committed_store, stale_after, with_result, layout_of, seen, with_state, flushed, with_trap, Each-push, Each-weaker}
 use Rattle.std.specs.FinSet as set
 use Rattle.rv_hardware.proofs.HeadlineFold.{result_at, with_message, executed, behind, IsWordAt, AreInFlight, AreInBuffer}
 use Rattle.rv_hardware.proofs.HeadlineInvariant.{DrainInOrder, HoldsMemory, FollowsProgram, IsSound}
 use Rattle.rv_hardware.proofs.HeadlineKnown.{memory_behind-append}
 use Rattle.rv_hardware.proofs.HeadlineRetires.{IsStoreAccess}
 use Rattle.rv_hardware.proofs.HeadlineStage.{behind_aligned}
-use Rattle.rv_hardware.proofs.HeadlineWords.{IsRetiredStore, IsRetiredStore-more, Each-weaker, Each-push, not_marked, now_marked, marked_before, fetched_same, stored_elsewhere, length-stored, length-memory_behind}
+use Rattle.rv_hardware.proofs.HeadlineWords.{IsRetiredStore, IsRetiredStore-more, not_marked, now_marked, marked_before, fetched_same, stored_elsewhere, length-stored, length-memory_behind}
 
 -- ---- what a store leaves
 drains_push : (base : ℕ) (bytes : List ℕ) (ss : List QueuedStore) (s : QueuedStore) → is_draining s ≡ false → DrainInOrder base bytes ss → DrainInOrder base bytes (ss ++ s ∷ [])
 drains_push base bytes [] s none drains = (λ is. absurd (true≢false (sym is ∙ none)), tt)
-drains_push base bytes (t ∷ ts) s none drains = (drains.0, Each-push (λ u. is_draining u ≡ false) ts s drains.1 none)
+drains_push base bytes (t ∷ ts) s none drains = (drains.0, Each-push (λ u. is_draining u ≡ false) ts s none drains.1)
 
 -- the word of an access lies in RAM
 word_inside : (layout : Layout) (access : StoreAccess) → layout.base % 4 ≡ 0 → layout.size % 4 ≡ 0 → IsStoreAccess layout access → (1 ≤ length access.bytes) → is_in_ram layout (4 * word_of access.address) 4 ≡ true
@@ -47,8 +47,9 @@ module _ (values : Values) (stale : set.FinSet nat_cmp) (cache : Contents Memory
         cache_base = was.cache_base;
         cache_size = was.cache_size;
         consistent = was.consistent;
-        retired = Each-push (IsRetiredStore layout (set.insert stale word)) committed new (Each-weaker (λ s. IsRetiredStore-more layout stale word s) committed was.retired)
-            (record { access = access; phase = Committed; state_is = refl; retired = refl; legal = legal; marked = now_marked stale word });
+        retired = Each-push (IsRetiredStore layout (set.insert stale word)) committed new
+            (record { access = access; phase = Committed; state_is = refl; retired = refl; legal = legal; marked = now_marked stale word })
+            (Each-weaker (IsRetiredStore layout stale) (IsRetiredStore layout (set.insert stale word)) (λ s. IsRetiredStore-more layout stale word s) committed was.retired);
         drains = drains_push values.ram_base cache.bytes committed new refl was.drains;
         fresh = λ i fresh.
             let parts = not_marked stale word (word_of (values.ram_base + i)) fresh in

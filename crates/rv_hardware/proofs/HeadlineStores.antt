@@ -1,5 +1,5 @@
 -- What the stores in flight write lies in writable RAM.
-use Rattle.rv_hardware.proofs.Words.{◌≡◌, ℕ, ◌+◌, ◌%◌, Bool, true, false, List, [], ◌∷◌, ◌++◌, IfSome, if◌then◌else◌, Some, None, Option, sym, refl, subst, inl, inr, cases_Bool, false≢true, no_lines, is_serialising, is_store, target_of, Message, StoreAccess, Instr, Lines, Layout, Effect, Faults, Retires, effect, State, Each, Entry, Stage, Finished, Running, Waiting, Hardware, broadcast_of, store_of_broadcast, store_of_message, stores_of, access_of, effect_message, result_of_word, Reachable, layout_of, seen, stores_behind}
+use Rattle.rv_hardware.proofs.Words.{◌≡◌, ℕ, ◌+◌, ◌%◌, Bool, true, false, List, [], ◌∷◌, ◌++◌, IfSome, if◌then◌else◌, Some, None, Option, sym, refl, subst, inl, inr, cases_Bool, false≢true, no_lines, is_serialising, is_store, target_of, Message, StoreAccess, Instr, Lines, Layout, Effect, Faults, Retires, effect, State, Each, Entry, Stage, Finished, Running, Waiting, Hardware, broadcast_of, store_of_broadcast, store_of_message, stores_of, access_of, effect_message, result_of_word, Reachable, layout_of, seen, stores_behind, Each-append, Each-weaker}
 use Rattle.rv_isa.specs.declared.instructions.Instr.TheVariants.{Store}
 use Rattle.rv_hardware.proofs.HeadlineBytes.{IsStateInside, IsInside}
 use Rattle.rv_hardware.proofs.HeadlineCycle.{always_sound}
@@ -8,7 +8,7 @@ use Rattle.rv_hardware.proofs.HeadlineInvariant.{IsSound}
 use Rattle.rv_hardware.proofs.HeadlineKnown.{no_store}
 use Rattle.rv_hardware.proofs.HeadlineRetires.{IsTold, IsStoreAccess, effect_told}
 use Rattle.rv_hardware.proofs.HeadlineSplit.{AreInFlight-older}
-use Rattle.rv_hardware.proofs.HeadlineWords.{IsRetiredStore, Each-weaker}
+use Rattle.rv_hardware.proofs.HeadlineWords.{IsRetiredStore}
 
 -- a serialising instruction is no store
 pub serialising_is_no_store : (i : Option Instr) → is_serialising i ≡ true → is_store i ≡ false
@@ -61,10 +61,6 @@ stores_of_inside layout (e ∷ es) seq all = by_test (is_store e.instruction) (s
   by_test true rest = (broadcast_inside layout e.stage all.0, rest)
   by_test false rest = rest
 
-Each-append : {X : Type 0} (P : X → Type 0) (xs ys : List X) → Each P xs → Each P ys → Each P (xs ++ ys)
-Each-append P [] ys before after = after
-Each-append P (x ∷ xs) ys before after = (before.0, Each-append P xs ys before.1 after)
-
 -- the stores that are older than an instruction in flight
 pub stores_inside : (h : Hardware) → Reachable h → (older younger : List Entry) → h.rob.entries ≡ older ++ younger → Each (IsInside (layout_of h.values)) (stores_behind h older)
 stores_inside h reached older younger entries =
@@ -72,7 +68,7 @@ stores_inside h reached older younger entries =
     let layout = layout_of h.values in
     let all : AreInFlight layout (seen h) (seen h) older = AreInFlight-older layout (seen h) (seen h) older younger (subst (AreInFlight layout (seen h) (seen h)) entries is.program.in_flight) in
     Each-append (IsInside layout) h.committed (stores_of h.rob.retired older)
-    (Each-weaker (λ s retired. subst (IsStateInside layout) (sym retired.state_is) retired.legal) h.committed is.memory.retired)
+    (Each-weaker (IsRetiredStore layout h.stale) (IsInside layout) (λ s retired. subst (IsStateInside layout) (sym retired.state_is) retired.legal) h.committed is.memory.retired)
     (stores_of_inside layout older h.rob.retired (stages_inside layout (seen h) older (seen h) is.pc_aligned all))
 
 -- ... and those that retired, each of which made its word stale

@@ -1,5 +1,5 @@
 -- A store changes the bytes of its own word alone, and so do all stores that retired.
-use Rattle.rv_hardware.proofs.Words.{◌≡◌, ℕ, ◌+◌, ◌-◌, ◌%◌, ◌≤◌, Bool, true, false, cond, ◌||◌, ◌≢◌, List, [], ◌∷◌, ◌++◌, length, slice_index_or as get_or, slice_range, Some, None, nat_cmp, sym, refl, ap, ◌∙◌, inl, inr, true≢false, arith, ext_get_or, eq-eqb, ne_eqb, cases_Bool, cases_lt, cond-false, eqb-false, or_left, or_parts, or_right, nat_tests, number_of, StoreAccess, overwritten, Layout, fetched_word, is_in_ram, number_at, word_of, get_or-overwritten_above, get_or-overwritten_below, get_or-overwritten_in, length-overwritten, Each, is_committed, Store as QueuedStore, StoreState, Filled, memory_behind, with_store}
+use Rattle.rv_hardware.proofs.Words.{◌≡◌, ℕ, ◌+◌, ◌-◌, ◌%◌, ◌≤◌, Bool, true, false, cond, ◌||◌, ◌≢◌, List, [], ◌∷◌, length, slice_index_or as get_or, slice_range, Some, None, nat_cmp, sym, refl, ap, ◌∙◌, inl, inr, true≢false, arith, ext_get_or, eq-eqb, ne_eqb, cases_Bool, cases_lt, cond-false, eqb-false, or_left, or_parts, or_right, nat_tests, number_of, StoreAccess, overwritten, Layout, fetched_word, is_in_ram, number_at, word_of, get_or-overwritten_above, get_or-overwritten_below, get_or-overwritten_in, length-overwritten, Each, is_committed, Store as QueuedStore, StoreState, Filled, memory_behind, with_store}
 use Rattle.std.specs.Cmp.{nat_cmp_total, unsigned_tied}
 use Rattle.std.specs.FinSet as set
 use Rattle.std.proofs.lemmas.List.Edits.{get_or-between, length-between}
@@ -126,14 +126,3 @@ module _ (layout : Layout) (words : set.FinSet nat_cmp) where
     legal = retired.legal;
     marked = still_marked words k (word_of retired.access.address) retired.marked;
   }
-
-module _ {X : Type 0} {P Q : X → Type 0} where
-  -- what follows from a property of each element holds of each
-  pub Each-weaker : ((x : X) → P x → Q x) → (xs : List X) → Each P xs → Each Q xs
-  Each-weaker weaker [] all = tt
-  Each-weaker weaker (x ∷ xs) all = (weaker x all.0, Each-weaker weaker xs all.1)
-
--- a property of each element, and of one more at the end
-pub Each-push : {X : Type 0} (P : X → Type 0) (xs : List X) (y : X) → Each P xs → P y → Each P (xs ++ y ∷ [])
-Each-push P [] y all one = (one, tt)
-Each-push P (x ∷ xs) y all one = (all.0, Each-push P xs y all.1 one)

@@ -1,6 +1,5 @@
 -- A mark goes on in a cycle by a retirement, a start, a broadcast or a dispatch, and stays what it was in earlier cycles.
-use Rattle.rv_hardware.proofs.Words.{◌≡◌, ℕ, ◌+◌, ◌<◌, ◌≤◌, Bool, true, ◌&&◌, List, ◌∷◌, ◌++◌, is_some, is_none, IfSome, Some, None, Option, sym, refl, ap, ◌∙◌, arith, is_load, is_of_kind, is_store, is_target, kind_of_word, sources_of_word, target_of_word, at_kind, Kind, Values, last_that}
-use Rattle.rv_hardware.proofs.LawsLists.{Every, count}
+use Rattle.rv_hardware.proofs.Words.{◌≡◌, ℕ, ◌+◌, ◌<◌, ◌≤◌, Bool, true, ◌&&◌, List, ◌∷◌, ◌++◌, is_some, is_none, IfSome, Some, None, Option, sym, refl, ap, ◌∙◌, arith, is_load, is_of_kind, is_store, is_target, kind_of_word, sources_of_word, target_of_word, at_kind, Kind, Values, Each, last_that, count}
 use Rattle.rv_hardware.proofs.LawsMarks.{Start, Mark, Agree, Extends, Extends-trans, Extends-cut, Extends-change, at_end, until, until_now, start_until, start_until_now}
 
 -- it was so before a cycle
@@ -18,7 +17,7 @@ IsKnownMark now m = is_some (kind_of_word m.instruction) ≡ true → IsBefore n
 
 -- the producers of some sources are known
 abbrev pub OperandsKnown : ℕ → List Mark → List (Option ℕ) → Type 0
-OperandsKnown now xs sources = Every (λ source. IfSome source (λ register. IfSome (last_that (writes_mark register) xs) (IsKnownMark now))) sources
+OperandsKnown now xs sources = Each (λ source. IfSome source (λ register. IfSome (last_that (writes_mark register) xs) (IsKnownMark now))) sources
 
 -- a store was broadcast before a cycle
 abbrev pub IsKnownStore : ℕ → Mark → Type 0
@@ -60,7 +59,7 @@ pub record Starts (v : Values) (now : ℕ) (xs : List Mark) (m n : Mark) : Type 
   pub kind : Kind
   pub is_kind : is_of_kind kind (kind_of_word m.instruction) ≡ true
   pub operands : OperandsKnown now xs (sources_of_word m.instruction)
-  pub stores : is_load m.instruction ≡ true → Every (IsKnownStore now) xs
+  pub stores : is_load m.instruction ≡ true → Each (IsKnownStore now) xs
 
 -- its result is broadcast: it is ready, and none that is older waits
 pub record IsSent (now : ℕ) (xs : List Mark) (m n : Mark) : Type 0 where
@@ -70,7 +69,7 @@ pub record IsSent (now : ℕ) (xs : List Mark) (m n : Mark) : Type 0 where
   pub ready : start.cycle + start.cost ≤ now
   pub not_yet : m.broadcast ≡ None
   pub not_retired : m.retired ≡ None
-  pub oldest : Every (IsSentIfReady now) xs
+  pub oldest : Each (IsSentIfReady now) xs
 
 -- it is dispatched: there is room
 pub record Enters (v : Values) (now : ℕ) (xs : List Mark) (m n : Mark) : Type 0 where
@@ -80,7 +79,7 @@ pub record Enters (v : Values) (now : ℕ) (xs : List Mark) (m n : Mark) : Type 
   pub not_sent : m.broadcast ≡ None
   pub not_retired : m.retired ≡ None
   pub before : m.fetched < now
-  pub in_order : Every (λ x. is_some x.dispatched ≡ true) xs
+  pub in_order : Each (λ x. is_some x.dispatched ≡ true) xs
   pub room : count is_in_flight_mark xs < v.rob
   pub stations : (k : Kind) → is_of_kind k (kind_of_word m.instruction) ≡ true → count (is_stationed_mark k) xs < (at_kind k v.kinds).stations
 

@@ -1,5 +1,5 @@
 -- In every run a finished head does not wait, and the front keeps ahead.
-use Rattle.rv_hardware.proofs.Words.{◌≡◌, ℕ, ◌+◌, ◌-◌, ◌<◌, ◌≤◌, Bool, true, false, ◌&&◌, ◌⊎◌, List, [], ◌∷◌, ◌++◌, length, is_some, ◌==◌, Some, None, filter, Option, nat_cmp, sym, refl, ap, ◌∙◌, subst, inl, inr, true≢false, append_assoc, append-nil, arith, length-append, leb-true, list_any, IsLegal, is_serialising, is_store, kind_of_word, at_kind, Lines, Kind, Values, due, with_oldest_draining, without_drained, Store as QueuedStore, Entry, FetchBuffer, Fetched, broadcast, Committing, commit_turn, commit_unless, IsCycle, any_prediction, execute, with_lines, Dispatching, dispatch, has_full_stations, is_stationed, drain, Hardware, issue, Turn, Report, stores_behind, last_from, stamp_of, Step}
+use Rattle.rv_hardware.proofs.Words.{◌≡◌, ℕ, ◌+◌, ◌-◌, ◌<◌, ◌≤◌, Bool, true, false, ◌&&◌, ◌⊎◌, List, [], ◌∷◌, ◌++◌, length, is_some, ◌==◌, Some, None, filter, Option, nat_cmp, sym, refl, ap, ◌∙◌, subst, inl, inr, true≢false, append_assoc, append-nil, arith, length-append, leb-true, list_any, IsLegal, is_serialising, is_store, kind_of_word, at_kind, Lines, Kind, Values, due, Each, with_oldest_draining, without_drained, Store as QueuedStore, Entry, FetchBuffer, Fetched, broadcast, Committing, commit_turn, commit_unless, IsCycle, any_prediction, execute, with_lines, Dispatching, dispatch, has_full_stations, is_stationed, drain, Hardware, issue, Turn, Report, stores_behind, last_from, stamp_of, Step, count, EveryBehind-at}
 use Rattle.std.specs.FinSet as set
 use Rattle.rv_hardware.proofs.GapBroadcast.{IsKeptByBroadcast, broadcast-keeps}
 use Rattle.rv_hardware.proofs.GapCycle.{cycle-keeps, phases-keep}
@@ -15,7 +15,6 @@ use Rattle.rv_hardware.proofs.LawsFaults.{HasFaults, faults-kept, faults-at_rese
 use Rattle.rv_hardware.proofs.LawsFetch.{IsNew}
 use Rattle.rv_hardware.proofs.LawsFollow.{last_stamp, last_stamp-push, has_step, has_step-push, Follows, AllFollow, Committed, commit_leads_by}
 use Rattle.rv_hardware.proofs.Laws.NoIdleDispatch.{dispatch_leaves}
-use Rattle.rv_hardware.proofs.LawsLists.{Every, EveryBehind-at, count}
 use Rattle.rv_hardware.proofs.LawsNext.{Next, HasNext, next_executed}
 use Rattle.rv_hardware.proofs.LawsShape.{HasShape}
 use Rattle.rv_hardware.proofs.Repeated.{Leads, kept_by_turns}
@@ -64,7 +63,7 @@ module _ (v : Values) (legal : IsLegal v) where
       by_left (inr why) = waits_as_store store_waits d.hardware f shape none unused why
 
   -- a front with nothing in flight and nothing fetched fetches
-  module _ (now s : ℕ) (store_waits : Bool) (stale : set.FinSet nat_cmp) (front : FetchBuffer) (added : List Fetched) (new : Every (IsNew now) added) (width : front.width ≡ v.fetch_width) (room : front.capacity ≡ v.fetch_buffer)
+  module _ (now s : ℕ) (store_waits : Bool) (stale : set.FinSet nat_cmp) (front : FetchBuffer) (added : List Fetched) (new : Each (IsNew now) added) (width : front.width ≡ v.fetch_width) (room : front.capacity ≡ v.fetch_buffer)
       (goes_on : added ≡ [] → (front.halted ≡ true) ⊎ ((front.width ≡ 0) ⊎ (front.capacity - length front.entries ≡ 0))) where
     fetches_one : (b : Bool) → front.halted ≡ b → HaltsBehind b [] → length front.entries ≡ 0 → added ≡ [] → ⊥
     fetches_one true is behind empty none = absurd (cc)
@@ -75,7 +74,7 @@ module _ (v : Values) (legal : IsLegal v) where
         by_cause (inr (inl narrow)) = omega (arith, narrow, width, legal.pipeline.fetch_width)
         by_cause (inr (inr full)) = omega (arith, full, room, empty, legal.pipeline.fetch_buffer)
 
-    next_added : (more : List Fetched) → Every (IsNew now) more → (more ≡ [] → ⊥) → now ≤ s → Next (now + 1) (now + 1) s store_waits stale [] more
+    next_added : (more : List Fetched) → Each (IsNew now) more → (more ≡ [] → ⊥) → now ≤ s → Next (now + 1) (now + 1) s store_waits stale [] more
     next_added [] are none_of le = absurd (none_of refl)
     next_added (f ∷ fs) are none_of le = (omega (arith, are.0.0, le), λ plain. omega (arith, le))
 

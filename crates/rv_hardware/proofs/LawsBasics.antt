@@ -1,6 +1,5 @@
 -- An instruction that starts, is broadcast or is dispatched stays sound, and its mark goes on.
-use Rattle.rv_hardware.proofs.Words.{◌≡◌, ℕ, ◌+◌, ◌≤◌, Bool, true, false, ◌&&◌, ◌||◌, List, [], ◌∷◌, is_some, Some, None, Option, option_and_then, sym, refl, ap, ◌∙◌, subst, inl, inr, arith, list_any, is_of_kind, is_serialising, kind_of_word, sources_of_word, Message, Instr, Issue, Lines, Kind, Values, instruction_of, Layout, State, finished, issue_of, predicting, started, Entry, Stage, Finished, Running, Waiting, Fetched, entry_of_fetched, stage_by, Hardware, is_waiting, has_operands, is_ready, may_load, result_of_word, layout_of, seen_behind, rows_of, Step}
-use Rattle.rv_hardware.proofs.LawsLists.{Every, EveryPair}
+use Rattle.rv_hardware.proofs.Words.{◌≡◌, ℕ, ◌+◌, ◌≤◌, Bool, true, false, ◌&&◌, ◌||◌, List, [], ◌∷◌, is_some, Some, None, Option, option_and_then, sym, refl, ap, ◌∙◌, subst, inl, inr, arith, list_any, is_of_kind, is_serialising, kind_of_word, sources_of_word, Message, Instr, Issue, Lines, Kind, Values, instruction_of, Layout, State, Each, finished, issue_of, predicting, started, Entry, Stage, Finished, Running, Waiting, Fetched, entry_of_fetched, stage_by, Hardware, is_waiting, has_operands, is_ready, may_load, result_of_word, layout_of, seen_behind, rows_of, Step, EveryPair}
 use Rattle.rv_hardware.proofs.LawsMarks.{mark_of_entry, mark_of_fetched, start_of_issue, start_of_stage, broadcast_of_stage}
 use Rattle.rv_hardware.proofs.LawsRow.{SoundRow}
 use Rattle.rv_hardware.proofs.LawsShape.{HasShape}
@@ -14,9 +13,9 @@ SerialIsLast es = EveryPair (λ a x. is_serialising a.instruction ≡ false) es
 pub record Basics (v : Values) (now dispatch_bound issue_bound stage_bound fetch_bound row_bound : ℕ) (steps : List Step) (h : Hardware) : Type 0 where
   pub cycle : h.cycle ≡ now
   pub shape : HasShape v h
-  pub rows : Every (SoundRow v row_bound) (rows_of steps)
-  pub entries : Every (SoundEntry v dispatch_bound issue_bound stage_bound) h.rob.entries
-  pub fetched : Every (SoundFetched fetch_bound) h.front.entries
+  pub rows : Each (SoundRow v row_bound) (rows_of steps)
+  pub entries : Each (SoundEntry v dispatch_bound issue_bound stage_bound) h.rob.entries
+  pub fetched : Each (SoundFetched fetch_bound) h.front.entries
   pub serial : SerialIsLast h.rob.entries
 
 -- the first of two tests that both pass
@@ -32,11 +31,6 @@ and_second false b h = absurd (cc)
 pub and_fails : (a b : Bool) → (a && b) ≡ false → a ≡ true → b ≡ false
 and_fails true b h is = h
 and_fails false b h is = absurd (cc)
-
--- two tests that pass, together
-pub and_both : (a b : Bool) → a ≡ true → b ≡ true → (a && b) ≡ true
-and_both true b is h = h
-and_both false b is h = absurd (cc)
 
 pub is_waiting_is : (st : Stage) → is_waiting st ≡ true → st ≡ Waiting
 is_waiting_is Waiting h = refl
@@ -170,7 +164,7 @@ or_fails_second true b h = absurd (cc)
 or_fails_second false b h = h
 
 -- where no instruction in flight serialises, each of them does not
-pub none_serialises : (es : List Entry) → list_any (λ e. is_serialising e.instruction) es ≡ false → Every (λ e. is_serialising e.instruction ≡ false) es
+pub none_serialises : (es : List Entry) → list_any (λ e. is_serialising e.instruction) es ≡ false → Each (λ e. is_serialising e.instruction ≡ false) es
 none_serialises [] h = tt
 none_serialises (e ∷ es) h = (
   or_fails_first (is_serialising e.instruction) (list_any (λ x. is_serialising x.instruction) es) h,

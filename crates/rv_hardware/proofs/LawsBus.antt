@@ -1,8 +1,7 @@
 -- Of the results that are ready the oldest is broadcast first.
-use Rattle.rv_hardware.proofs.Words.{◌≡◌, ℕ, ◌+◌, ◌<◌, ◌≤◌, List, [], ◌∷◌, ◌++◌, map, IfSome, Some, None, Option, sym, ap, ◌∙◌, subst, arith, Values, Fetched, Hardware, Step}
+use Rattle.rv_hardware.proofs.Words.{◌≡◌, ℕ, ◌+◌, ◌<◌, ◌≤◌, List, [], ◌∷◌, ◌++◌, map, IfSome, Some, None, Option, sym, ap, ◌∙◌, subst, arith, Values, Each, Fetched, Hardware, Step, Each-append, Each-left, Each-right, Each-set, Each-place, Each-weaker, Each-all, Each-both, Each-map, EveryPair, EveryPair-append, EveryPair-left, EveryPair-right, EveryPair-across, EveryPair-set}
 use Rattle.rv_hardware.proofs.LawsAdvance.{IsBefore, Advances, retires, starts, is_sent, enters, Starts, IsSent, IsSentIfReady}
 use Rattle.rv_hardware.proofs.LawsCycle.{KeptMarks, History, marks_of_history}
-use Rattle.rv_hardware.proofs.LawsLists.{Every, EveryPair, Every-append, Every-all, Every-left, Every-right, Every-place, Every-set, Every-map, Every-weaker, Every-both, EveryPair-left, EveryPair-right, EveryPair-append, EveryPair-across, EveryPair-set}
 use Rattle.rv_hardware.proofs.LawsMarks.{Mark, Start, mark_of_fetched, marks_in}
 
 -- where b was broadcast, an earlier a whose result was ready by then was broadcast by then
@@ -18,7 +17,7 @@ SentBy now m = IfSome m.broadcast (λ b. b ≤ now)
 
 pub record BusOrder (now : ℕ) (ms : List Mark) : Type 0 where
   pub oldest_first : EveryPair OldestFirst ms
-  pub by_now : Every (SentBy now) ms
+  pub by_now : Each (SentBy now) ms
 
 -- a mark that keeps its broadcast
 pair_second : (m n z : Mark) → n.broadcast ≡ m.broadcast → OldestFirst z m → OldestFirst z n
@@ -42,7 +41,7 @@ module _ (now : ℕ) (xs ys : List Mark) (m n : Mark) where
   same_bus : n.start ≡ m.start → n.broadcast ≡ m.broadcast → BusOrder now (xs ++ m ∷ ys) → BusOrder now (xs ++ n ∷ ys)
   same_bus start same o = record {
     oldest_first = EveryPair-set OldestFirst xs ys m n (λ z w. pair_second m n z same w) (λ z w. pair_first m n z start same w) o.oldest_first;
-    by_now = Every-set (SentBy now) xs ys m n (rw same (Every-place (SentBy now) xs ys m o.by_now)) o.by_now;
+    by_now = Each-set (SentBy now) xs ys m n (rw same (Each-place (SentBy now) xs ys m o.by_now)) o.by_now;
   }
 
   started_bus : (v : Values) → Starts v now xs m n → BusOrder now (xs ++ m ∷ ys) → BusOrder now (xs ++ n ∷ ys)
@@ -51,11 +50,11 @@ module _ (now : ℕ) (xs ys : List Mark) (m n : Mark) where
       let start : n.start ≡ Some a.start = ap (λ x. x.start) a.becomes in
       record {
         oldest_first = EveryPair-append OldestFirst xs (n ∷ ys) (EveryPair-left OldestFirst xs (m ∷ ys) o.oldest_first) (
-          Every-weaker (SentBy now) (OldestFirst n) (λ z by. subst (λ q. IfSome z.broadcast (λ b. ReadyFirst q n.broadcast b)) (sym start) (started_later a.start now z.broadcast n.broadcast a.now_is a.positive by)) ys (Every-right (SentBy now) xs (m ∷ ys) o.by_now).1,
+          Each-weaker (SentBy now) (OldestFirst n) (λ z by. subst (λ q. IfSome z.broadcast (λ b. ReadyFirst q n.broadcast b)) (sym start) (started_later a.start now z.broadcast n.broadcast a.now_is a.positive by)) ys (Each-right (SentBy now) xs (m ∷ ys) o.by_now).1,
           (EveryPair-right OldestFirst xs (m ∷ ys) o.oldest_first).1,
         )
-            (Every-weaker (λ x. Every (OldestFirst x) (m ∷ ys)) (λ x. Every (OldestFirst x) (n ∷ ys)) (λ x w. (pair_second m n x same w.0, w.1)) xs (EveryPair-across OldestFirst xs (m ∷ ys) o.oldest_first));
-        by_now = Every-set (SentBy now) xs ys m n (rw same (Every-place (SentBy now) xs ys m o.by_now)) o.by_now;
+            (Each-weaker (λ x. Each (OldestFirst x) (m ∷ ys)) (λ x. Each (OldestFirst x) (n ∷ ys)) (λ x w. (pair_second m n x same w.0, w.1)) xs (EveryPair-across OldestFirst xs (m ∷ ys) o.oldest_first));
+        by_now = Each-set (SentBy now) xs ys m n (rw same (Each-place (SentBy now) xs ys m o.by_now)) o.by_now;
       }
 
   sent_bus : IsSent now xs m n → BusOrder now (xs ++ m ∷ ys) → BusOrder now (xs ++ n ∷ ys)
@@ -65,9 +64,9 @@ module _ (now : ℕ) (xs ys : List Mark) (m n : Mark) where
       let behind = EveryPair-right OldestFirst xs (m ∷ ys) o.oldest_first in
       record {
         oldest_first = EveryPair-append OldestFirst xs (n ∷ ys) (EveryPair-left OldestFirst xs (m ∷ ys) o.oldest_first)
-            (Every-weaker (OldestFirst m) (OldestFirst n) (λ z w. rw (start, sent) (sent_later a.start now z.broadcast (rw (a.started, a.not_yet) at w))) ys behind.0, behind.1)
-            (Every-both (λ x. Every (OldestFirst x) (m ∷ ys)) (IsSentIfReady now) (λ x. Every (OldestFirst x) (n ∷ ys)) (λ x w ready. (rw sent ready, w.1)) xs (EveryPair-across OldestFirst xs (m ∷ ys) o.oldest_first) a.oldest);
-        by_now = Every-set (SentBy now) xs ys m n (rw sent (omega arith)) o.by_now;
+            (Each-weaker (OldestFirst m) (OldestFirst n) (λ z w. rw (start, sent) (sent_later a.start now z.broadcast (rw (a.started, a.not_yet) at w))) ys behind.0, behind.1)
+            (Each-both (λ x. Each (OldestFirst x) (m ∷ ys)) (IsSentIfReady now) (λ x. Each (OldestFirst x) (n ∷ ys)) (λ x w ready. (rw sent ready, w.1)) xs (EveryPair-across OldestFirst xs (m ∷ ys) o.oldest_first) a.oldest);
+        by_now = Each-set (SentBy now) xs ys m n (rw sent (omega arith)) o.by_now;
       }
 
 bus_set : (v : Values) (now : ℕ) (xs ys : List Mark) (m n : Mark) → Advances v now xs m n → BusOrder now (xs ++ m ∷ ys) → BusOrder now (xs ++ n ∷ ys)
@@ -78,7 +77,7 @@ bus_set v now xs ys m n (enters a) o = same_bus now xs ys m n (ap (λ x. x.start
 
 none_sent : (fs : List Fetched) → EveryPair OldestFirst (map mark_of_fetched fs)
 none_sent [] = tt
-none_sent (f ∷ fs) = (Every-map (OldestFirst (mark_of_fetched f)) mark_of_fetched fs (Every-all (λ g. Unit {0}) (λ g. tt) fs), none_sent fs)
+none_sent (f ∷ fs) = (Each-map (OldestFirst (mark_of_fetched f)) mark_of_fetched fs (Each-all (λ g. Unit {0}) (λ g. tt) fs), none_sent fs)
 
 sent_by_later : (now : ℕ) (m : Mark) (o : Option ℕ) → IfSome o (λ b. b ≤ now) → IfSome o (λ b. b ≤ now + 1)
 sent_by_later now m None h = tt
@@ -88,14 +87,14 @@ pub bus_is_kept : (v : Values) → KeptMarks v BusOrder
 bus_is_kept v = record {
   at_reset = record { oldest_first = tt; by_now = tt };
   kept = λ now. record {
-    cut = λ xs ys o. record { oldest_first = EveryPair-left OldestFirst xs ys o.oldest_first; by_now = Every-left (SentBy now) xs ys o.by_now };
+    cut = λ xs ys o. record { oldest_first = EveryPair-left OldestFirst xs ys o.oldest_first; by_now = Each-left (SentBy now) xs ys o.by_now };
     set = bus_set v now;
   };
   more = λ now ms fs words o. record {
     oldest_first = EveryPair-append OldestFirst ms (map mark_of_fetched fs) o.oldest_first (none_sent fs)
-        (Every-all (λ m. Every (OldestFirst m) (map mark_of_fetched fs)) (λ m. Every-map (OldestFirst m) mark_of_fetched fs (Every-all (λ g. Unit {0}) (λ g. tt) fs)) ms);
-    by_now = Every-append (SentBy (now + 1)) ms (map mark_of_fetched fs) (Every-weaker (SentBy now) (SentBy (now + 1)) (λ m w. sent_by_later now m m.broadcast w) ms o.by_now)
-        (Every-map (SentBy (now + 1)) mark_of_fetched fs (Every-all (λ g. Unit {0}) (λ g. tt) fs));
+        (Each-all (λ m. Each (OldestFirst m) (map mark_of_fetched fs)) (λ m. Each-map (OldestFirst m) mark_of_fetched fs (Each-all (λ g. Unit {0}) (λ g. tt) fs)) ms);
+    by_now = Each-append (SentBy (now + 1)) ms (map mark_of_fetched fs) (Each-weaker (SentBy now) (SentBy (now + 1)) (λ m w. sent_by_later now m m.broadcast w) ms o.by_now)
+        (Each-map (SentBy (now + 1)) mark_of_fetched fs (Each-all (λ g. Unit {0}) (λ g. tt) fs));
   };
 }
 

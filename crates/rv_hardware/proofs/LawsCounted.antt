@@ -1,7 +1,6 @@
 -- Where marks are counted at the end of each cycle, no more rows pass the test of a cycle than marks did.
-use Rattle.rv_hardware.proofs.Words.{◌≡◌, ℕ, suc, ◌<◌, ◌≤◌, Bool, true, false, cond, ◌&&◌, List, [], ◌∷◌, ◌++◌, map, Some, None, count_by, filter, refl, ap, ◌∙◌, subst, inl, inr, arith, le-leb, cases_lt, lt-leb, Lines, Values, Hardware, Report, rows_of, Row, Step}
+use Rattle.rv_hardware.proofs.Words.{◌≡◌, ℕ, suc, ◌<◌, ◌≤◌, Bool, true, false, cond, ◌&&◌, List, [], ◌∷◌, ◌++◌, map, Some, None, count_by, filter, refl, ap, ◌∙◌, subst, inl, inr, arith, le-leb, cases_lt, lt-leb, map-append, Lines, Values, Each, Hardware, Report, rows_of, Row, Step, Each-weaker, EveryBehind, count, count-count_by, count-none, count-map, count-le, Beginning-count, EveryBehind-at}
 use Rattle.rv_hardware.proofs.LawsCycle.{Passed, History, history_is_sound}
-use Rattle.rv_hardware.proofs.LawsLists.{Every, EveryBehind, EveryBehind-at, Every-weaker, count, count-count_by, count-le, count-map, count-none, Beginning-count}
 use Rattle.rv_hardware.proofs.LawsMarks.{Mark, mark_of_row, marks_in, at_end, as_of, as_of-append, as_of-cons, was_fetched, until, Extends}
 use Rattle.rv_hardware.proofs.LawsPast.{rows_obey}
 use Rattle.rv_hardware.proofs.LawsRow.{SoundRow}
@@ -45,12 +44,12 @@ module _ (v : Values) (row_test : ℕ → Row → Bool) (test : ℕ → Mark →
       let obeys = rows_obey v (λ n ms. count (test n) ms ≤ most) (λ n xs ys b le. let less = Beginning-count (test n) xs ys b in omega (arith, less, le)) own history c lt in
       let counts = count-as_of (test c) c (map mark_of_row (rows_of steps)) ∙ count-map (λ m. was_fetched c m && test c (at_end c m)) mark_of_row (rows_of steps) in
       let fewer = count-le (row_test c) (λ row. was_fetched c (mark_of_row row) && test c (at_end c (mark_of_row row))) (rows_of steps)
-      (Every-weaker (SoundRow v h.cycle) (λ row. row_test c row ≡ true → (was_fetched c (mark_of_row row) && test c (at_end c (mark_of_row row))) ≡ true) (λ row sound. shows.mark c h.cycle row sound) (rows_of steps) (history_is_sound v history).rows) in
+      (Each-weaker (SoundRow v h.cycle) (λ row. row_test c row ≡ true → (was_fetched c (mark_of_row row) && test c (at_end c (mark_of_row row))) ≡ true) (λ row sound. shows.mark c h.cycle row sound) (rows_of steps) (history_is_sound v history).rows) in
       omega (arith, obeys, counts, fewer)
 
   counted_after : {steps : List Step} {h : Hardware} → History v steps h → (c : ℕ) → h.cycle ≤ c → count (row_test c) (rows_of steps) ≤ most
   counted_after {steps} {h} history c le =
-      let none = count-none (row_test c) (rows_of steps) (Every-weaker (SoundRow v h.cycle) (λ row. row_test c row ≡ false) (λ row sound. fails_later row_test test shows c h.cycle row le sound (row_test c row) refl) (rows_of steps) (history_is_sound v history).rows) in
+      let none = count-none (row_test c) (rows_of steps) (Each-weaker (SoundRow v h.cycle) (λ row. row_test c row ≡ false) (λ row sound. fails_later row_test test shows c h.cycle row le sound (row_test c row) refl) (rows_of steps) (history_is_sound v history).rows) in
       omega (arith, none)
 
   -- at most so many rows pass
@@ -67,19 +66,15 @@ module _ (v : Values) (row_test : ℕ → Row → Bool) (test : ℕ → Mark →
 pub as_of_place : (c : ℕ) (before after : List Mark) (m : Mark) → was_fetched c m ≡ true → as_of c (before ++ m ∷ after) ≡ as_of c before ++ at_end c m ∷ as_of c after
 as_of_place c before after m is = as_of-append c before (m ∷ after) ∙ ap (λ l. as_of c before ++ l) (as_of-cons c m after ∙ ap (λ b. cond b (at_end c m ∷ as_of c after) (as_of c after)) is)
 
-map-append : (before after : List Row) → map mark_of_row (before ++ after) ≡ map mark_of_row before ++ map mark_of_row after
-map-append [] after = refl
-map-append (row ∷ before) after = ap (λ l. mark_of_row row ∷ l) (map-append before after)
-
 -- what marks obeyed at the end of a cycle, of one row after others
 pub behind_law : (P : List Mark → Mark → Type 0) (c : ℕ) (rows before after : List Row) (row : Row) → EveryBehind P [] (as_of c (map mark_of_row rows)) → rows ≡ before ++ row ∷ after → row.fetched ≤ c →
     P (as_of c (map mark_of_row before)) (at_end c (mark_of_row row))
 behind_law P c rows before after row h at le =
     EveryBehind-at P (as_of c (map mark_of_row before)) (as_of c (map mark_of_row after)) (at_end c (mark_of_row row))
-    (subst (EveryBehind P []) (ap (λ l. as_of c (map mark_of_row l)) at ∙ ap (as_of c) (map-append before (row ∷ after)) ∙ as_of_place c (map mark_of_row before) (map mark_of_row after) (mark_of_row row) (le-leb row.fetched c le)) h)
+    (subst (EveryBehind P []) (ap (λ l. as_of c (map mark_of_row l)) at ∙ ap (as_of c) (map-append mark_of_row before (row ∷ after)) ∙ as_of_place c (map mark_of_row before) (map mark_of_row after) (mark_of_row row) (le-leb row.fetched c le)) h)
 
 -- where the test of marks shows that of rows, no more marks pass it than rows
-pub behind_count : (p : Mark → Bool) (q : Row → Bool) (c : ℕ) (before : List Row) → Every (λ a. (was_fetched c (mark_of_row a) && p (at_end c (mark_of_row a))) ≡ true → q a ≡ true) before →
+pub behind_count : (p : Mark → Bool) (q : Row → Bool) (c : ℕ) (before : List Row) → Each (λ a. (was_fetched c (mark_of_row a) && p (at_end c (mark_of_row a))) ≡ true → q a ≡ true) before →
     count p (as_of c (map mark_of_row before)) ≤ count_by q before
 behind_count p q c before shows =
     let counts = count-as_of p c (map mark_of_row before) ∙ count-map (λ m. was_fetched c m && p (at_end c m)) mark_of_row before in

@@ -1,10 +1,9 @@
 -- A cycle passes through its phases, and a history is all cycles since the reset with all their steps.
-use Rattle.rv_hardware.proofs.Words.{◌≡◌, ℕ, suc, ◌+◌, ◌-◌, ◌<◌, ◌≤◌, Bool, List, [], ◌∷◌, ◌++◌, map, length, is_none, sym, refl, ap, ◌∙◌, subst, append-nil, arith, at_kind-for_each, IsLegal, at_kind, Lines, Values, Pool, free_pool, Entry, Fetched, broadcast, Committing, IsCycle, any_prediction, commit_with, execute, with_lines, Dispatching, dispatch, stall_of, drain, Hardware, issue, Report, reset_hardware, Reachable, at_reset, by_cycle, rows_of, Row, Step}
+use Rattle.rv_hardware.proofs.Words.{◌≡◌, ℕ, suc, ◌+◌, ◌-◌, ◌<◌, ◌≤◌, Bool, List, [], ◌∷◌, ◌++◌, map, length, is_none, sym, refl, ap, ◌∙◌, subst, append-nil, arith, at_kind-for_each, IsLegal, at_kind, Lines, Values, Each, Pool, free_pool, Entry, Fetched, broadcast, Committing, IsCycle, any_prediction, commit_with, execute, with_lines, Dispatching, dispatch, stall_of, drain, Hardware, issue, Report, reset_hardware, Reachable, at_reset, by_cycle, rows_of, Row, Step, Each-append, Each-weaker, Each-map, count, count-append}
 use Rattle.std.specs.FinSet as set
 use Rattle.rv_hardware.proofs.LawsAdvance.{Kept}
 use Rattle.rv_hardware.proofs.LawsBasics.{Basics, SerialIsLast}
 use Rattle.rv_hardware.proofs.LawsFetch.{FetchPhase, IsNew, fetch_phase}
-use Rattle.rv_hardware.proofs.LawsLists.{Every, Every-append, Every-weaker, Every-map, count, count-append}
 use Rattle.rv_hardware.proofs.LawsMarks.{Mark, mark_of_row, mark_of_entry, mark_of_fetched, marks, marks_in, marks_fetched}
 use Rattle.rv_hardware.proofs.LawsPhases.{Goes, commit_keeps, drain_keeps, issue_keeps, broadcast_keeps, dispatch_keeps, goes_later}
 use Rattle.rv_hardware.proofs.LawsRow.{SoundRow}
@@ -83,10 +82,10 @@ module _ (v : Values) (legal : IsLegal v) (R : List Mark → Type 0) (earlier : 
         pipelined = λ k. ap (λ (h : Hardware). (at_kind k h.units).is_pipelined) others_stay;
       }) dispatched.basics.shape;
       rows = dispatched.basics.rows;
-      entries = subst (Every (SoundEntry v (old.cycle + 1) (old.cycle + 1) (old.cycle + 1))) (sym (ap (λ (h : Hardware). h.rob.entries) others_stay)) dispatched.basics.entries;
-      fetched = rw (fetches.entries) (Every-append (SoundFetched (old.cycle + 1)) d.front.entries fetches.added
-          (Every-weaker (SoundFetched old.cycle) (SoundFetched (old.cycle + 1)) (λ f w. (omega (arith, w.0), w.1)) d.front.entries dispatched.basics.fetched)
-          (Every-weaker (IsNew old.cycle) (SoundFetched (old.cycle + 1)) (λ f w. (omega (arith, w.0), w.1)) fetches.added fetches.are_new));
+      entries = subst (Each (SoundEntry v (old.cycle + 1) (old.cycle + 1) (old.cycle + 1))) (sym (ap (λ (h : Hardware). h.rob.entries) others_stay)) dispatched.basics.entries;
+      fetched = rw (fetches.entries) (Each-append (SoundFetched (old.cycle + 1)) d.front.entries fetches.added
+          (Each-weaker (SoundFetched old.cycle) (SoundFetched (old.cycle + 1)) (λ f w. (omega (arith, w.0), w.1)) d.front.entries dispatched.basics.fetched)
+          (Each-weaker (IsNew old.cycle) (SoundFetched (old.cycle + 1)) (λ f w. (omega (arith, w.0), w.1)) fetches.added fetches.are_new));
       serial = subst SerialIsLast (sym (ap (λ (h : Hardware). h.rob.entries) others_stay)) dispatched.basics.serial;
     }
 
@@ -170,8 +169,8 @@ is_buffered_mark m = is_none m.dispatched
 
 -- the words of this cycle come after those of earlier cycles, within the width and the room of the fetch buffer
 pub record NewWords (v : Values) (now : ℕ) (ms : List Mark) (fs : List Fetched) : Type 0 where
-  pub by_now : Every (λ m. m.fetched < now) ms
-  pub are_new : Every (IsNew now) fs
+  pub by_now : Each (λ m. m.fetched < now) ms
+  pub are_new : Each (IsNew now) fs
   pub within_width : length fs ≤ v.fetch_width
   pub within_room : length fs ≤ v.fetch_buffer - count is_buffered_mark ms
 
@@ -181,14 +180,14 @@ pub record KeptMarks (v : Values) (R : ℕ → List Mark → Type 0) : Type 0 wh
   pub kept : (now : ℕ) → Kept v now (R now)
   pub more : (now : ℕ) (ms : List Mark) (fs : List Fetched) → NewWords v now ms fs → R now ms → R (now + 1) (ms ++ map mark_of_fetched fs)
 
-pub fetched_before : (v : Values) (now : ℕ) (steps : List Step) (es : List Entry) (fs : List Fetched) → Every (SoundRow v (now + 1)) (rows_of steps) → Every (SoundEntry v (now + 1) (now + 1) (now + 1)) es → Every (SoundFetched now) fs →
-    Every (λ m. m.fetched < now) (marks steps es fs)
+pub fetched_before : (v : Values) (now : ℕ) (steps : List Step) (es : List Entry) (fs : List Fetched) → Each (SoundRow v (now + 1)) (rows_of steps) → Each (SoundEntry v (now + 1) (now + 1) (now + 1)) es → Each (SoundFetched now) fs →
+    Each (λ m. m.fetched < now) (marks steps es fs)
 fetched_before v now steps es fs rows entries words =
-    Every-append (λ m. m.fetched < now) (map mark_of_row (rows_of steps)) (map mark_of_entry es ++ map mark_of_fetched fs)
-    (Every-map (λ m. m.fetched < now) mark_of_row (rows_of steps) (Every-weaker (SoundRow v (now + 1)) (λ row. row.fetched < now) (λ row w. omega (arith, w.stamps.dispatched_after_fetch, w.stamps.retired_after_dispatch, w.below)) (rows_of steps) rows))
-    (Every-append (λ m. m.fetched < now) (map mark_of_entry es) (map mark_of_fetched fs)
-    (Every-map (λ m. m.fetched < now) mark_of_entry es (Every-weaker (SoundEntry v (now + 1) (now + 1) (now + 1)) (λ e. e.fetched < now) (λ e w. omega (arith, w.after_fetch, w.by_now)) es entries))
-    (Every-map (λ m. m.fetched < now) mark_of_fetched fs (Every-weaker (SoundFetched now) (λ f. f.cycle < now) (λ f w. w.0) fs words)))
+    Each-append (λ m. m.fetched < now) (map mark_of_row (rows_of steps)) (map mark_of_entry es ++ map mark_of_fetched fs)
+    (Each-map (λ m. m.fetched < now) mark_of_row (rows_of steps) (Each-weaker (SoundRow v (now + 1)) (λ row. row.fetched < now) (λ row w. omega (arith, w.stamps.dispatched_after_fetch, w.stamps.retired_after_dispatch, w.below)) (rows_of steps) rows))
+    (Each-append (λ m. m.fetched < now) (map mark_of_entry es) (map mark_of_fetched fs)
+    (Each-map (λ m. m.fetched < now) mark_of_entry es (Each-weaker (SoundEntry v (now + 1) (now + 1) (now + 1)) (λ e. e.fetched < now) (λ e w. omega (arith, w.after_fetch, w.by_now)) es entries))
+    (Each-map (λ m. m.fetched < now) mark_of_fetched fs (Each-weaker (SoundFetched now) (λ f. f.cycle < now) (λ f w. w.0) fs words)))
 
 rows_not_buffered : (rows : List Row) → count is_buffered_mark (map mark_of_row rows) ≡ 0
 rows_not_buffered [] = refl

@@ -1,19 +1,18 @@
 -- Over a run, an interrupt that is due in a cycle is its one step.
-use Rattle.rv_hardware.proofs.Words.{◌≡◌, ℕ, ◌+◌, ◌<◌, ◌≤◌, Bool, true, false, List, [], ◌∷◌, ◌++◌, map, nat_lt, ◌==◌, Some, filter, sym, refl, ap, ◌∙◌, subst, inl, inr, append_assoc, append-nil, arith, le-ltb, lt-ltb, eq-eqb, ne_eqb, cases_lt, filter-append, lines_at, Arrival, Values, due, Run, State, interrupt_cause, IsCycle, any_prediction, Hardware, told, TakesDueInterrupts, Report, Cycles, Reachable, cycled, ended, steps_of, layout_of, seen, steps_below, steps_in, stamp_of, Step, Interrupt}
+use Rattle.rv_hardware.proofs.Words.{◌≡◌, ℕ, ◌+◌, ◌<◌, ◌≤◌, Bool, true, false, List, [], ◌∷◌, ◌++◌, map, nat_lt, ◌==◌, Some, filter, sym, refl, ap, ◌∙◌, subst, inl, inr, append_assoc, append-nil, arith, le-ltb, lt-ltb, eq-eqb, ne_eqb, cases_lt, filter-append, lines_at, Arrival, Values, due, Run, State, interrupt_cause, Each, IsCycle, any_prediction, Hardware, told, TakesDueInterrupts, Report, Cycles, Reachable, cycled, ended, steps_of, layout_of, seen, steps_below, steps_in, stamp_of, Step, Interrupt, Each-right, Each-weaker}
 use Rattle.rv_hardware.proofs.HeadlineRun.{headline_of_run}
 use Rattle.rv_hardware.proofs.LawsCycle.{History, went_on, reachable_has_history, history_is_legal, history_is_sound}
-use Rattle.rv_hardware.proofs.LawsLists.{Every, Every-right, Every-weaker}
 use Rattle.rv_hardware.proofs.LawsOfCycles.{due_interrupt_is_taken}
 use Rattle.rv_hardware.proofs.LawsOfRuns.{history_runs, since_by}
 use Rattle.rv_hardware.proofs.LawsSteps.{history_has_steps, steps_of_cycle}
 
 -- what a test keeps of a list where all pass, and where none does
 module _ {X : Type 0} (p : X → Bool) where
-  kept_all : (xs : List X) → Every (λ x. p x ≡ true) xs → filter p xs ≡ xs
+  kept_all : (xs : List X) → Each (λ x. p x ≡ true) xs → filter p xs ≡ xs
   kept_all [] h = refl
   kept_all (x ∷ xs) h = rw h.0 (ap (λ l. x ∷ l) (kept_all xs h.1))
 
-  kept_none : (xs : List X) → Every (λ x. p x ≡ false) xs → filter p xs ≡ []
+  kept_none : (xs : List X) → Each (λ x. p x ≡ false) xs → filter p xs ≡ []
   kept_none [] h = refl
   kept_none (x ∷ xs) h = rw h.0 (kept_none xs h.1)
 
@@ -63,17 +62,17 @@ module _ (v : Values) (earlier : List Step) (arrivals : List Arrival) (c : ℕ) 
   next_is : a.ends.cycle ≡ a.begins.cycle + 1
   next_is = ap (λ (h : Hardware). h.cycle) a.is.others_stay
 
-  first_below : Every (λ s. stamp_of s < c) (steps_of a.first)
-  first_below = Every-weaker (λ s. stamp_of s < a.begins.cycle) (λ s. stamp_of s < c) (λ s lt. omega (arith, lt, a.cycle)) (steps_of a.first) (Every-right (λ s. stamp_of s < a.begins.cycle) earlier (steps_of a.first) (history_has_steps v history_here).before)
+  first_below : Each (λ s. stamp_of s < c) (steps_of a.first)
+  first_below = Each-weaker (λ s. stamp_of s < a.begins.cycle) (λ s. stamp_of s < c) (λ s lt. omega (arith, lt, a.cycle)) (steps_of a.first) (Each-right (λ s. stamp_of s < a.begins.cycle) earlier (steps_of a.first) (history_has_steps v history_here).before)
 
-  here_in : Every (λ s. stamp_of s ≡ c) a.here.steps
+  here_in : Each (λ s. stamp_of s ≡ c) a.here.steps
   here_in =
-      Every-weaker (λ s. stamp_of s ≡ a.begins.cycle) (λ s. stamp_of s ≡ c) (λ s at. omega (arith, at, a.cycle)) a.here.steps
+      Each-weaker (λ s. stamp_of s ≡ a.begins.cycle) (λ s. stamp_of s ≡ c) (λ s at. omega (arith, at, a.cycle)) a.here.steps
       (steps_of_cycle v (history_is_legal v history_here) (earlier ++ steps_of a.first) a.begins a.ends (lines_at arrivals a.begins.cycle) a.here (history_is_sound v history_here) (history_has_steps v history_here) a.is)
 
-  later_behind : Every (λ s. c < stamp_of s) (steps_of a.later)
+  later_behind : Each (λ s. c < stamp_of s) (steps_of a.later)
   later_behind =
-      Every-weaker (λ s. c + 1 ≤ stamp_of s) (λ s. c < stamp_of s) (λ s le. omega (arith, le)) (steps_of a.later)
+      Each-weaker (λ s. c + 1 ≤ stamp_of s) (λ s. c < stamp_of s) (λ s le. omega (arith, le)) (steps_of a.later)
       (since_by v (c + 1) ((earlier ++ steps_of a.first) ++ a.here.steps) a.after (went_on history_here a.is) (omega (arith, next_is, a.cycle)))
 
   all_below : steps_below c (steps_of reports) ≡ steps_of a.first
@@ -81,9 +80,9 @@ module _ (v : Values) (earlier : List Step) (arrivals : List Arrival) (c : ℕ) 
       let below : Step → Bool = λ s. nat_lt (stamp_of s) c in
       ap (filter below) a.steps
       ∙ filter-three below (steps_of a.first) a.here.steps (steps_of a.later)
-      ∙ ap (λ l. l ++ (filter below a.here.steps ++ filter below (steps_of a.later))) (kept_all below (steps_of a.first) (Every-weaker (λ s. stamp_of s < c) (λ s. below s ≡ true) (λ s lt. lt-ltb (stamp_of s) c lt) (steps_of a.first) first_below))
-      ∙ ap (λ l. steps_of a.first ++ (l ++ filter below (steps_of a.later))) (kept_none below a.here.steps (Every-weaker (λ s. stamp_of s ≡ c) (λ s. below s ≡ false) (λ s at. le-ltb (stamp_of s) c (omega (arith, at))) a.here.steps here_in))
-      ∙ ap (λ l. steps_of a.first ++ l) (kept_none below (steps_of a.later) (Every-weaker (λ s. c < stamp_of s) (λ s. below s ≡ false) (λ s lt. le-ltb (stamp_of s) c (omega (arith, lt))) (steps_of a.later) later_behind))
+      ∙ ap (λ l. l ++ (filter below a.here.steps ++ filter below (steps_of a.later))) (kept_all below (steps_of a.first) (Each-weaker (λ s. stamp_of s < c) (λ s. below s ≡ true) (λ s lt. lt-ltb (stamp_of s) c lt) (steps_of a.first) first_below))
+      ∙ ap (λ l. steps_of a.first ++ (l ++ filter below (steps_of a.later))) (kept_none below a.here.steps (Each-weaker (λ s. stamp_of s ≡ c) (λ s. below s ≡ false) (λ s at. le-ltb (stamp_of s) c (omega (arith, at))) a.here.steps here_in))
+      ∙ ap (λ l. steps_of a.first ++ l) (kept_none below (steps_of a.later) (Each-weaker (λ s. c < stamp_of s) (λ s. below s ≡ false) (λ s lt. le-ltb (stamp_of s) c (omega (arith, lt))) (steps_of a.later) later_behind))
       ∙ append-nil (steps_of a.first)
 
   all_in : steps_in c (steps_of reports) ≡ a.here.steps
@@ -91,9 +90,9 @@ module _ (v : Values) (earlier : List Step) (arrivals : List Arrival) (c : ℕ) 
       let test : Step → Bool = λ s. stamp_of s == c in
       ap (filter test) a.steps
       ∙ filter-three test (steps_of a.first) a.here.steps (steps_of a.later)
-      ∙ ap (λ l. l ++ (filter test a.here.steps ++ filter test (steps_of a.later))) (kept_none test (steps_of a.first) (Every-weaker (λ s. stamp_of s < c) (λ s. test s ≡ false) (λ s lt. ne_eqb (stamp_of s) c (omega (arith, lt))) (steps_of a.first) first_below))
-      ∙ ap (λ l. l ++ filter test (steps_of a.later)) (kept_all test a.here.steps (Every-weaker (λ s. stamp_of s ≡ c) (λ s. test s ≡ true) (λ s at. eq-eqb (stamp_of s) c at) a.here.steps here_in))
-      ∙ ap (λ l. a.here.steps ++ l) (kept_none test (steps_of a.later) (Every-weaker (λ s. c < stamp_of s) (λ s. test s ≡ false) (λ s lt. ne_eqb (stamp_of s) c (omega (arith, lt))) (steps_of a.later) later_behind))
+      ∙ ap (λ l. l ++ (filter test a.here.steps ++ filter test (steps_of a.later))) (kept_none test (steps_of a.first) (Each-weaker (λ s. stamp_of s < c) (λ s. test s ≡ false) (λ s lt. ne_eqb (stamp_of s) c (omega (arith, lt))) (steps_of a.first) first_below))
+      ∙ ap (λ l. l ++ filter test (steps_of a.later)) (kept_all test a.here.steps (Each-weaker (λ s. stamp_of s ≡ c) (λ s. test s ≡ true) (λ s at. eq-eqb (stamp_of s) c at) a.here.steps here_in))
+      ∙ ap (λ l. a.here.steps ++ l) (kept_none test (steps_of a.later) (Each-weaker (λ s. c < stamp_of s) (λ s. test s ≡ false) (λ s lt. ne_eqb (stamp_of s) c (omega (arith, lt))) (steps_of a.later) later_behind))
       ∙ append-nil a.here.steps
 
   abbrev Reaches : List Step → Type 0

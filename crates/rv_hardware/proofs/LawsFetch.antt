@@ -1,6 +1,5 @@
 -- A cycle's fetch adds new words at the end of the fetch buffer, within its width and its room.
-use Rattle.rv_hardware.proofs.Words.{◌≡◌, ℕ, zero, suc, ◌-◌, ◌<◌, ◌≤◌, Bool, true, false, ◌⊎◌, List, [], ◌∷◌, ◌++◌, length, Some, None, MatchBool, Option, MatchOption, option_and_then, sym, refl, ap, ◌∙◌, inl, inr, append-nil, arith, instruction_of, Memory, Answers, EndsFor, FetchBuffer, Fetches, FetchesInto, is_halted, stop_behind, FetchStop, Halted, Fetched}
-use Rattle.rv_hardware.proofs.LawsLists.{Every}
+use Rattle.rv_hardware.proofs.Words.{◌≡◌, ℕ, zero, suc, ◌-◌, ◌<◌, ◌≤◌, Bool, true, false, ◌⊎◌, List, [], ◌∷◌, ◌++◌, length, Some, None, MatchBool, Option, MatchOption, option_and_then, sym, refl, ap, ◌∙◌, inl, inr, append-nil, arith, instruction_of, Memory, Each, Answers, EndsFor, FetchBuffer, Fetches, FetchesInto, is_halted, stop_behind, FetchStop, Halted, Fetched}
 
 -- a word that a fetch adds
 abbrev pub IsNew : ℕ → Fetched → Type 0
@@ -8,7 +7,7 @@ IsNew cycle f = (f.cycle ≡ cycle) × (f.instruction ≡ option_and_then instru
 
 -- what some added words are
 pub record Added (cycle width room : ℕ) (added : List Fetched) (stop : FetchStop) : Type 0 where
-  pub are_new : Every (IsNew cycle) added
+  pub are_new : Each (IsNew cycle) added
   pub within_width : length added ≤ width
   pub within_room : length added ≤ room
   pub goes_on : added ≡ [] → (width ≡ 0) ⊎ (room ≡ 0)
@@ -49,7 +48,7 @@ fetches_add answers ram cycle (suc width) (suc room) pc (f ∷ fs) next stop h =
 pub record FetchPhase (cycle : ℕ) (old new : FetchBuffer) : Type 0 where
   pub added : List Fetched
   pub entries : new.entries ≡ old.entries ++ added
-  pub are_new : Every (IsNew cycle) added
+  pub are_new : Each (IsNew cycle) added
   pub within_width : length added ≤ old.width
   pub within_room : length added ≤ old.capacity - length old.entries
   pub capacity : new.capacity ≡ old.capacity

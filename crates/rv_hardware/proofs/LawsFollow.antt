@@ -1,5 +1,5 @@
 -- After a step the next instruction neither waits without need nor was it fetched late.
-use Rattle.rv_hardware.proofs.Words.{◌≡◌, ℕ, suc, ◌+◌, ◌<◌, ◌≤◌, max, Bool, true, false, cond, ◌&&◌, ◌⊎◌, List, [], ◌∷◌, ◌++◌, length, is_some, ◌==◌, Some, None, Option, option_map, nat_cmp, unwrap_or, sym, refl, ap, ◌∙◌, subst, inl, inr, true≢false, append_assoc, arith, length-append, is_fence_i, is_serialising, is_store, kind_of_word, Message, Cause, Fault, Instr, FenceI, Issue, Values, word_of, interrupt_cause, Stop, Each, Entry, Stage, Finished, Running, Waiting, Fetched, Committing, commit_turn, commit_turn_of, commit_unless, execute_head, fence_instructions, head_turn, is_drained, with_fault, write_back_time, Hardware, broadcast_of, DoesNotWait, IsTrappedSoon, Ends, GoesOn, Turn, execution_of, written_of, is_store_row, last_that, needs_no_unit, stamp_of, Execution, Row, Step, Interrupt, Retired, Trap}
+use Rattle.rv_hardware.proofs.Words.{◌≡◌, ℕ, suc, ◌+◌, ◌<◌, ◌≤◌, max, Bool, true, false, cond, ◌&&◌, ◌⊎◌, List, [], ◌∷◌, ◌++◌, length, is_some, ◌==◌, Some, None, Option, option_map, nat_cmp, unwrap_or, sym, refl, ap, ◌∙◌, subst, inl, inr, true≢false, append_assoc, arith, length-append, is_fence_i, is_serialising, is_store, kind_of_word, Message, Cause, Fault, Instr, FenceI, Issue, Values, word_of, interrupt_cause, Stop, Each, Entry, Stage, Finished, Running, Waiting, Fetched, Committing, commit_turn, commit_turn_of, commit_unless, execute_head, fence_instructions, head_turn, is_drained, with_fault, write_back_time, Hardware, broadcast_of, DoesNotWait, IsTrappedSoon, Ends, GoesOn, Turn, execution_of, written_of, is_store_row, last_that, needs_no_unit, stamp_of, Execution, Row, Step, Interrupt, Retired, Trap, EveryBehind, EveryBehind-append}
 use Rattle.std.specs.FinSet as set
 use Rattle.rv_isa.specs.declared.instructions.Instr.TheVariants.{Store}
 use Rattle.rv_arch.specs.declared.outcome.Stop.TheVariants as stop
@@ -8,7 +8,6 @@ use Rattle.rv_hardware.proofs.LawsCommit.{CommitTurn, Head, no_head, stale_head,
 use Rattle.rv_hardware.proofs.LawsCycle.{Anything, anything_is_kept}
 use Rattle.rv_hardware.proofs.LawsEvidence.{last_from-append}
 use Rattle.rv_hardware.proofs.LawsFaults.{Found, FoundIn, IsFound}
-use Rattle.rv_hardware.proofs.LawsLists.{Every, EveryBehind, EveryBehind-append}
 use Rattle.rv_hardware.proofs.LawsNext.{IsKnownSince, HasReason, NextEntry, Next}
 use Rattle.rv_hardware.proofs.LawsPhases.{Goes, Commits, commit_turn_keeps}
 use Rattle.rv_hardware.proofs.LawsRow.{MayRetire, may_retire_serial, may_retire_finished, retiring_is_one, row_at}
@@ -195,7 +194,7 @@ next-raise n n' m s store_waits stale [] (f ∷ fs) goes next = next
 next-raise n n' m s store_waits stale (e ∷ es) fs goes next = goes e es refl next
 
 -- after a step of the present cycle
-next-now : (v : Values) (n now : ℕ) (store_waits : Bool) (stale : set.FinSet nat_cmp) (es : List Entry) (fs : List Fetched) → n ≤ now + 1 → Every (SoundEntry v now now now) es → Every (SoundFetched now) fs → Next n now now store_waits stale es fs
+next-now : (v : Values) (n now : ℕ) (store_waits : Bool) (stale : set.FinSet nat_cmp) (es : List Entry) (fs : List Fetched) → n ≤ now + 1 → Each (SoundEntry v now now now) es → Each (SoundFetched now) fs → Next n now now store_waits stale es fs
 next-now v n now store_waits stale [] [] le sound words = omega arith
 next-now v n now store_waits stale [] (f ∷ fs) le sound words = (omega (arith, words.0.0), λ plain. omega arith)
 next-now v n now store_waits stale (e ∷ es) fs le sound words =
@@ -256,7 +255,7 @@ module _ (v : Values) (now : ℕ) (earlier : List Step) where
     s = last_stamp (earlier ++ c.steps)
 
     head_sound : SoundEntry v now now now e
-    head_sound = (subst (Every (SoundEntry v now now now)) head.place q.basics.entries).0
+    head_sound = (subst (Each (SoundEntry v now now now)) head.place q.basics.entries).0
 
     head_next : NextEntry now (last_stamp (earlier ++ c.steps)) (has_step (earlier ++ c.steps)) c.hardware.stale e
     head_next = subst (λ l. Next now now (last_stamp (earlier ++ c.steps)) (has_step (earlier ++ c.steps)) c.hardware.stale l c.hardware.front.entries) head.place p.next

@@ -1,10 +1,9 @@
 -- Marks that go on keep it that no pipelined unit is idle while an instruction that is no load has its operands.
-use Rattle.rv_hardware.proofs.Words.{◌≡◌, ℕ, ◌<◌, ◌≤◌, Bool, true, false, cond, not, ◌&&◌, ◌||◌, List, [], ◌∷◌, ◌++◌, map, is_some, IfSome, Some, None, Option, sym, refl, ap, ◌∙◌, subst, true≢false, append_assoc, arith, is_load, is_of_kind, is_serialising, is_target, kind_of_word, sources_of_word, target_of_word, Instr, Kind, Values, Entry, Stage, Finished, Running, Waiting, Fetched, Hardware, broadcast_of, is_known_from, is_waiting, writes, has_operands, is_ready, may_load, last_from, last_that, Execution, Row}
+use Rattle.rv_hardware.proofs.Words.{◌≡◌, ℕ, ◌<◌, ◌≤◌, Bool, true, false, cond, not, ◌&&◌, ◌||◌, List, [], ◌∷◌, ◌++◌, map, is_some, IfSome, Some, None, Option, sym, refl, ap, ◌∙◌, subst, true≢false, append_assoc, arith, and_from, is_load, is_of_kind, is_serialising, is_target, kind_of_word, sources_of_word, target_of_word, Instr, Kind, Values, Each, Entry, Stage, Finished, Running, Waiting, Fetched, Hardware, broadcast_of, is_known_from, is_waiting, writes, has_operands, is_ready, may_load, last_from, last_that, Execution, Row, Each-append, Each-right, Each-set, Each-place, EveryBehind, count, count-set-grows, EveryBehind-left, EveryBehind-set}
 use Rattle.rv_hardware.specs.InFlight.{is_known}
 use Rattle.rv_hardware.proofs.LawsAdvance.{IsBefore, writes_mark, IsKnownMark, OperandsKnown, Advances, retires, starts, is_sent, enters, Kept}
-use Rattle.rv_hardware.proofs.LawsBasics.{and_second, and_both}
+use Rattle.rv_hardware.proofs.LawsBasics.{and_second}
 use Rattle.rv_hardware.proofs.LawsEvidence.{last_from-append}
-use Rattle.rv_hardware.proofs.LawsLists.{Every, Every-append, Every-right, Every-place, Every-set, EveryBehind, EveryBehind-left, EveryBehind-set, count, count-set-grows}
 use Rattle.rv_hardware.proofs.LawsMarks.{Mark, mark_of_row, mark_of_entry, mark_of_fetched, broadcast_of_stage, marks_append, start_of_execution, start_of_stage}
 use Rattle.rv_hardware.proofs.LawsPairs.{writer_serialises}
 use Rattle.rv_hardware.proofs.LawsRow.{SoundRow}
@@ -18,7 +17,7 @@ pub record MayStart (k : Kind) (c : ℕ) (before : List Mark) (m : Mark) : Type 
   pub dispatched : IsBefore c m.dispatched
   pub not_yet : m.start ≡ None
   pub operands : OperandsKnown c before (sources_of_word m.instruction)
-  pub serial : Every (λ x. is_serialising x.instruction ≡ true → IsBefore c x.retired) before
+  pub serial : Each (λ x. is_serialising x.instruction ≡ true → IsBefore c x.retired) before
 
 -- where one does not, so many that are older did
 abbrev pub BusyUnits : Kind → ℕ → ℕ → List Mark → Mark → Type 0
@@ -62,7 +61,7 @@ module _ (c : ℕ) (m n : Mark) (instruction : n.instruction ≡ m.instruction) 
       dispatched = may.dispatched;
       not_yet = may.not_yet;
       operands = operands_back xs mid (sources_of_word z.instruction) may.operands;
-      serial = Every-set (λ x. is_serialising x.instruction ≡ true → IsBefore c x.retired) xs mid n m (serial (Every-place (λ x. is_serialising x.instruction ≡ true → IsBefore c x.retired) xs mid n may.serial)) may.serial;
+      serial = Each-set (λ x. is_serialising x.instruction ≡ true → IsBefore c x.retired) xs mid n m (serial (Each-place (λ x. is_serialising x.instruction ≡ true → IsBefore c x.retired) xs mid n may.serial)) may.serial;
     }
 
 -- each way of going on
@@ -173,19 +172,19 @@ module _ (v : Values) (k : Kind) (now : ℕ) where
   known_either true d i j e register known found is sound plain before h = writer_known d i j e register sound plain is h
   known_either false d i j e register known found is sound plain before h = before h
 
-  known_from : (d i j register : ℕ) (known : Bool) (found : Option Mark) (es : List Entry) → Every (SoundEntry v d i j) es → Every (λ e. is_serialising e.instruction ≡ false) es → (IfSome found (IsKnownMark now) → known ≡ true) →
+  known_from : (d i j register : ℕ) (known : Bool) (found : Option Mark) (es : List Entry) → Each (SoundEntry v d i j) es → Each (λ e. is_serialising e.instruction ≡ false) es → (IfSome found (IsKnownMark now) → known ≡ true) →
       IfSome (last_from found (writes_mark register) (map mark_of_entry es)) (IsKnownMark now) → is_known_from known es register ≡ true
   known_from d i j register known found [] sound plain before h = before h
   known_from d i j register known found (e ∷ es) sound plain before h =
       known_from d i j register (cond (writes e register) (is_some (broadcast_of e.stage)) known) (cond (writes e register) (Some (mark_of_entry e)) found) es sound.1 plain.1
       (known_either (writes e register) d i j e register known found refl sound.0 plain.0 before) h
 
-  operands_by : (d i j : ℕ) (rows : List Row) (older : List Entry) (sources : List (Option ℕ)) → Every (SoundEntry v d i j) older → Every (λ e. is_serialising e.instruction ≡ false) older →
+  operands_by : (d i j : ℕ) (rows : List Row) (older : List Entry) (sources : List (Option ℕ)) → Each (SoundEntry v d i j) older → Each (λ e. is_serialising e.instruction ≡ false) older →
       OperandsKnown now (map mark_of_row rows ++ map mark_of_entry older) sources → has_operands older sources ≡ true
   operands_by d i j rows older [] sound plain h = refl
   operands_by d i j rows older (None ∷ sources) sound plain h = operands_by d i j rows older sources sound plain h.1
   operands_by d i j rows older (Some register ∷ sources) sound plain h =
-      and_both (is_known older register) (has_operands older sources)
+      and_from (is_known older register) (has_operands older sources)
       (known_from d i j register true (last_from None (writes_mark register) (map mark_of_row rows)) older sound plain (λ k. refl)
       (rw (last_from-append None (writes_mark register) (map mark_of_row rows) (map mark_of_entry older)) at h.0))
       (operands_by d i j rows older sources sound plain h.1)
@@ -194,7 +193,7 @@ module _ (v : Values) (k : Kind) (now : ℕ) where
   plain_by true h = absurd (h refl)
   plain_by false h = refl
 
-  plain_entries : (es : List Entry) → Every (λ x. is_serialising x.instruction ≡ true → IsBefore now x.retired) (map mark_of_entry es) → Every (λ e. is_serialising e.instruction ≡ false) es
+  plain_entries : (es : List Entry) → Each (λ x. is_serialising x.instruction ≡ true → IsBefore now x.retired) (map mark_of_entry es) → Each (λ e. is_serialising e.instruction ≡ false) es
   plain_entries [] h = tt
   plain_entries (e ∷ es) h = (plain_by (is_serialising e.instruction) (λ is. h.0 is), plain_entries es h.1)
 
@@ -202,13 +201,13 @@ module _ (v : Values) (k : Kind) (now : ℕ) where
   loads_by true c is = absurd (cc)
   loads_by false c is = refl
 
-  pub may_is_ready : (d i j : ℕ) (rows : List Row) (h : Hardware) (older : List Entry) (e : Entry) → Every (SoundEntry v d i j) older → SoundEntry v d i j e → MayStart k now (map mark_of_row rows ++ map mark_of_entry older) (mark_of_entry e) →
+  pub may_is_ready : (d i j : ℕ) (rows : List Row) (h : Hardware) (older : List Entry) (e : Entry) → Each (SoundEntry v d i j) older → SoundEntry v d i j e → MayStart k now (map mark_of_row rows ++ map mark_of_entry older) (mark_of_entry e) →
       is_ready h k older e ≡ true
   may_is_ready d i j rows h older e sounds sound may =
-      let plain = plain_entries older (Every-right (λ x. is_serialising x.instruction ≡ true → IsBefore now x.retired) (map mark_of_row rows) (map mark_of_entry older) may.serial) in
-      and_both (is_waiting e.stage && is_of_kind k (kind_of_word e.instruction) && has_operands older (sources_of_word e.instruction)) (may_load h older e)
-      (and_both (is_waiting e.stage && is_of_kind k (kind_of_word e.instruction)) (has_operands older (sources_of_word e.instruction))
-      (and_both (is_waiting e.stage) (is_of_kind k (kind_of_word e.instruction)) (waiting_by e.instruction e.dispatched i j e.stage sound.stage may.kind may.not_yet) may.kind)
+      let plain = plain_entries older (Each-right (λ x. is_serialising x.instruction ≡ true → IsBefore now x.retired) (map mark_of_row rows) (map mark_of_entry older) may.serial) in
+      and_from (is_waiting e.stage && is_of_kind k (kind_of_word e.instruction) && has_operands older (sources_of_word e.instruction)) (may_load h older e)
+      (and_from (is_waiting e.stage && is_of_kind k (kind_of_word e.instruction)) (has_operands older (sources_of_word e.instruction))
+      (and_from (is_waiting e.stage) (is_of_kind k (kind_of_word e.instruction)) (waiting_by e.instruction e.dispatched i j e.stage sound.stage may.kind may.not_yet) may.kind)
       (operands_by d i j rows older (sources_of_word e.instruction) sounds plain may.operands))
       (loads_by (is_load e.instruction) _ may.plain)
 
@@ -218,7 +217,7 @@ module _ (v : Values) (k : Kind) (now : ℕ) where
   row_not_by (Some x) i same kind none = absurd (cc)
 
   -- rows do not start any more
-  pub rows_do_not_start : (bound : ℕ) (before : List Mark) (rows : List Row) → Every (SoundRow v bound) rows → EveryBehind (λ b m. MayStart k now b m → ⊥) before (map mark_of_row rows)
+  pub rows_do_not_start : (bound : ℕ) (before : List Mark) (rows : List Row) → Each (SoundRow v bound) rows → EveryBehind (λ b m. MayStart k now b m → ⊥) before (map mark_of_row rows)
   rows_do_not_start bound before [] sound = tt
   rows_do_not_start bound before (row ∷ rows) sound =
       ((λ may. row_not_by row.execution (mark_of_row row).instruction sound.0.stamps.executed_by_a_unit may.kind may.not_yet), rows_do_not_start bound (before ++ mark_of_row row ∷ []) rows sound.1)
@@ -229,12 +228,12 @@ module _ (v : Values) (k : Kind) (now : ℕ) where
   words_do_not_start before (f ∷ fs) = ((λ may. may.dispatched), words_do_not_start (before ++ mark_of_fetched f ∷ []) fs)
 
   -- instructions that are not ready cannot start
-  pub entries_do_not_start : (d i j : ℕ) (rows : List Row) (h : Hardware) (before es : List Entry) → Every (SoundEntry v d i j) before → Every (SoundEntry v d i j) es → EveryBehind (λ b e. is_ready h k b e ≡ false) before es →
+  pub entries_do_not_start : (d i j : ℕ) (rows : List Row) (h : Hardware) (before es : List Entry) → Each (SoundEntry v d i j) before → Each (SoundEntry v d i j) es → EveryBehind (λ b e. is_ready h k b e ≡ false) before es →
       EveryBehind (λ b m. MayStart k now b m → ⊥) (map mark_of_row rows ++ map mark_of_entry before) (map mark_of_entry es)
   entries_do_not_start d i j rows h before [] sounds sound none = tt
   entries_do_not_start d i j rows h before (e ∷ es) sounds sound none = (
     (λ may. absurd (true≢false (sym (may_is_ready d i j rows h before e sounds sound.0 may) ∙ none.0))),
     subst (λ l. EveryBehind (λ b m. MayStart k now b m → ⊥) l (map mark_of_entry es))
         (ap (λ l. map mark_of_row rows ++ l) (marks_append before (e ∷ [])) ∙ sym (append_assoc (map mark_of_row rows) (map mark_of_entry before) (mark_of_entry e ∷ [])))
-        (entries_do_not_start d i j rows h (before ++ e ∷ []) es (Every-append (SoundEntry v d i j) before (e ∷ []) sounds (sound.0, tt)) sound.1 none.1),
+        (entries_do_not_start d i j rows h (before ++ e ∷ []) es (Each-append (SoundEntry v d i j) before (e ∷ []) sounds (sound.0, tt)) sound.1 none.1),
   )

@@ -1,17 +1,16 @@
 -- The issue phase leaves no pipelined unit idle, and the other phases keep it so.
-use Rattle.rv_hardware.proofs.Words.{◌≡◌, ℕ, suc, ◌+◌, ◌<◌, ◌≤◌, Bool, true, false, cond, List, [], ◌∷◌, ◌++◌, map, length, nat_lt, nat_le, Some, None, filter, Option, nat_cmp, sym, refl, ap, ◌∙◌, subst, append_assoc, append-nil, arith, ltb-false, le-ltb, eq-eqb, and_right, at_kind-for_each, with_kind-each, with_kind-other, with_kind-own, IsLegal, is_of_kind, kind_of_word, at_kind, for_each, with_kind, Issue, Lines, Kind, PerKind, Values, due, Pool, free_pool, held_for, holding, holds_unit, is_free, started, Entry, broadcast_turn, Committing, commit_turn, commit_unless, with_lines, Dispatching, dispatch_turn, Hardware, cost_of, is_ready, issue, issue_kind, issue_turn, issued, path, Turn, Report, rows_of, Step}
+use Rattle.rv_hardware.proofs.Words.{◌≡◌, ℕ, suc, ◌+◌, ◌<◌, ◌≤◌, Bool, true, false, cond, List, [], ◌∷◌, ◌++◌, map, length, nat_lt, nat_le, Some, None, filter, Option, nat_cmp, sym, refl, ap, ◌∙◌, subst, append_assoc, append-nil, arith, ltb-false, le-ltb, eq-eqb, and_from, and_right, at_kind-for_each, with_kind-each, with_kind-other, with_kind-own, IsLegal, is_of_kind, kind_of_word, at_kind, for_each, with_kind, Issue, Lines, Kind, PerKind, Values, due, Each, Pool, free_pool, held_for, holding, holds_unit, is_free, started, Entry, broadcast_turn, Committing, commit_turn, commit_unless, with_lines, Dispatching, dispatch_turn, Hardware, cost_of, is_ready, issue, issue_kind, issue_turn, issued, path, Turn, Report, rows_of, Step, Each-append, Each-left, Each-weaker, Each-all, Each-filter, EveryBehind, count, count-set-one_more, EveryBehind-append, EveryBehind-right, EveryBehind-moved, EveryBehind-all, EveryBehind-weaker}
 use Rattle.std.specs.FinSet as set
 use Rattle.rv_isa.specs.declared.operations.Kind.TheVariants as kind
 use Rattle.rv_units.specs.Pool.{started as started_unit}
 use Rattle.rv_hardware.proofs.LawsAdvance.{IsBefore, Starts}
-use Rattle.rv_hardware.proofs.LawsBasics.{ready_has, and_both}
+use Rattle.rv_hardware.proofs.LawsBasics.{ready_has}
 use Rattle.rv_hardware.proofs.LawsBroadcast.{BroadcastTurn, none_ready as no_result, sends, mends, broadcast_turn_is}
 use Rattle.rv_hardware.proofs.LawsCommit.{CommitTurn, no_head, stale_head, unfinished, fence_waits, fence_writes, fence_retires, executes, serial_faults, traps, retires, retires_last, commit_turn_is}
 use Rattle.rv_hardware.proofs.LawsCycle.{Anything, anything_is_kept, History, began, went_on, Passed, cycle_passes, history_is_legal, history_is_sound, committing, drained, issued_all, sent_all, dispatching}
 use Rattle.rv_hardware.proofs.LawsDispatch.{DispatchTurn, buffer_empty, waits, dispatches, dispatch_turn_is}
 use Rattle.rv_hardware.proofs.LawsIdleUnit.{MayStart, BusyUnits, may_back, busy_units_are_kept, rows_do_not_start, words_do_not_start, entries_do_not_start}
 use Rattle.rv_hardware.proofs.LawsIssue.{IssueTurn, no_unit, none_ready, starts, issue_turn_is, access_keeps, message_at, started_entries}
-use Rattle.rv_hardware.proofs.LawsLists.{Every, Every-all, Every-append, Every-filter, Every-left, Every-weaker, EveryBehind, EveryBehind-all, EveryBehind-append, EveryBehind-moved, EveryBehind-right, EveryBehind-weaker, count, count-set-one_more}
 use Rattle.rv_hardware.proofs.LawsMarks.{Mark, mark_of_row, mark_of_entry, mark_of_fetched, marks, marks_in, marks_at_entry}
 use Rattle.rv_hardware.proofs.LawsPhases.{Issues, issue_turn_keeps, issue_kind_keeps, start_is, with_marks, goes_later, broadcast_keeps, dispatch_keeps}
 use Rattle.rv_hardware.proofs.LawsSound.{SoundEntry}
@@ -21,9 +20,9 @@ use Rattle.rv_hardware.proofs.LawsUnits.{issued_units, drain_units}
 
 -- every start of a pipelined kind was over by a cycle
 abbrev pub Over : ℕ → Pool → Type 0
-Over now pool = Every (λ s. s.cycle + s.cost ≤ now) pool.starts
+Over now pool = Each (λ s. s.cycle + s.cost ≤ now) pool.starts
 
-none_holds : (now : ℕ) (starts : List Issue) → Every (λ s. s.cycle + s.cost ≤ now) starts → holding now starts ≡ []
+none_holds : (now : ℕ) (starts : List Issue) → Each (λ s. s.cycle + s.cost ≤ now) starts → holding now starts ≡ []
 none_holds now [] h = refl
 none_holds now (s ∷ ss) h = rw (and_right (nat_le s.cycle now) (nat_lt now (s.cycle + s.cost)) (le-ltb now (s.cycle + s.cost) h.0)) (none_holds now ss h.1)
 
@@ -89,7 +88,7 @@ module _ (v : Values) (legal : IsLegal v) (now : ℕ) (steps : List Step) (k : K
         let m : Mark = mark_of_entry e in
         let n : Mark = mark_of_entry begun in
         let front = ap (λ r. r.entries) (access_keeps (path h older e) h).front in
-        let olders = Every-left (SoundEntry v now (now + 1) now) older (e ∷ younger) (subst (Every (SoundEntry v now (now + 1) now)) at p.0.basics.entries) in
+        let olders = Each-left (SoundEntry v now (now + 1) now) older (e ∷ younger) (subst (Each (SoundEntry v now (now + 1) now)) at p.0.basics.entries) in
         let old = EveryBehind-right (BusyUnits k j now) [] xs (m ∷ ys) (subst (EveryBehind (BusyUnits k j now) []) (ap (λ es. marks steps es h.front.entries) at ∙ marks_at_entry steps older younger e h.front.entries) p.1) in
         let same_start : n.start ≡ Some evidence.start = ap (λ x. x.start) evidence.becomes in
         rw (started_entries k h older younger e at, front, marks_at_entry steps older younger begun h.front.entries)
@@ -103,7 +102,7 @@ module _ (v : Values) (legal : IsLegal v) (now : ℕ) (steps : List Step) (k : K
               let before = busy (subst (λ l. MayStart k now l z) (sym (append_assoc xs (m ∷ []) mid)) here) in
               let grown : count (begins_mark k now) ((xs ++ n ∷ []) ++ mid) ≡ suc (count (begins_mark k now) ((xs ++ m ∷ []) ++ mid)) = rw (append_assoc xs (n ∷ []) mid, append_assoc xs (m ∷ []) mid) (count-set-one_more (begins_mark k now) xs mid m n
               (and_right (is_of_kind k (kind_of_word e.instruction)) (starts_at now m.start) (ap (starts_at now) evidence.not_yet))
-              (and_both (is_of_kind k (kind_of_word e.instruction)) (starts_at now n.start) (ready_has h k older e is).kind (eq-eqb h.cycle now p.0.basics.cycle))) in
+              (and_from (is_of_kind k (kind_of_word e.instruction)) (starts_at now n.start) (ready_has h k older e is).kind (eq-eqb h.cycle now p.0.basics.cycle))) in
               omega (arith, before, grown))
               ys old.1,
         ))
@@ -138,7 +137,7 @@ module _ (v : Values) (legal : IsLegal v) (now : ℕ) (steps : List Step) (k : K
       turns_within units_here Busy (λ g. EveryBehind (BusyUnits k units_here now) [] (marks_in steps g)) (issue_turn k)
       (λ j g lt q. busy_leads j g (issue_turn k g) lt (issue_turn_is k g) q (issue_turn_keeps v legal now Anything (anything_is_kept v now) steps k g (issue_turn k g) (issue_turn_is k g) q.0))
       (λ g q. q.1) (at_kind k h.values.kinds).units 0 h (let same = ap (λ (w : Values). (at_kind k w.kinds).units) p.basics.shape.values in omega (arith, same))
-      (p, EveryBehind-all (λ m. Unit {0}) (BusyUnits k 0 now) (λ b m u may. omega arith) [] (marks_in steps h) (Every-all (λ m. Unit {0}) (λ m. tt) (marks_in steps h)), omega (arith, none))
+      (p, EveryBehind-all (λ m. Unit {0}) (BusyUnits k 0 now) (λ b m u may. omega arith) [] (marks_in steps h) (Each-all (λ m. Unit {0}) (λ m. tt) (marks_in steps h)), omega (arith, none))
 
 -- the other phases leave the units as they are
 
@@ -192,8 +191,8 @@ module _ (v : Values) (legal : IsLegal v) (now : ℕ) (steps : List Step) (k : K
   over_by : (j : Kind) (cost : ℕ) (u : PerKind Pool) → (at_kind k u).is_pipelined ≡ true → Over (now + 1) (at_kind k u) → Over (now + 1) (at_kind k (with_kind j (started_unit cost now (at_kind j u)) u))
   over_by j cost u = with_kind-each j (started_unit cost now (at_kind j u)) u (λ i pool. (at_kind i u).is_pipelined ≡ true → Over (now + 1) (at_kind i u) → Over (now + 1) pool)
       (λ line over.
-      Every-append (λ s. s.cycle + s.cost ≤ now + 1) (holding now (at_kind j u).starts) (record { cycle = now; cost = held_for (at_kind j u).is_pipelined cost } ∷ [])
-      (Every-filter (λ s. s.cycle + s.cost ≤ now + 1) (holds_unit now) (at_kind j u).starts over) (one_cycle (at_kind j u).is_pipelined line, tt))
+      Each-append (λ s. s.cycle + s.cost ≤ now + 1) (holding now (at_kind j u).starts) (record { cycle = now; cost = held_for (at_kind j u).is_pipelined cost } ∷ [])
+      (Each-filter (λ s. s.cycle + s.cost ≤ now + 1) (holds_unit now) (at_kind j u).starts over) (one_cycle (at_kind j u).is_pipelined line, tt))
       (λ other differs line over. over) k
     where
       one_cycle : (b : Bool) → b ≡ true → now + held_for b cost ≤ now + 1
@@ -288,7 +287,7 @@ over_of_history v k line (went_on {earlier} {old} {new} {lines} {report} before 
     let legal = history_is_legal v before in
     let passed = cycle_passes v legal Anything earlier lines old new report (anything_is_kept v old.cycle) (history_is_sound v before) tt is in
     let begins = subst (λ u. Over old.cycle (at_kind k u)) (sym (begin_units lines old)) (over_of_history v k line before) in
-    let later = Every-weaker (λ s. s.cycle + s.cost ≤ old.cycle) (λ s. s.cycle + s.cost ≤ old.cycle + 1) (λ s le. omega (arith, le)) (at_kind k (drained lines old).units).starts begins in
+    let later = Each-weaker (λ s. s.cycle + s.cost ≤ old.cycle) (λ s. s.cycle + s.cost ≤ old.cycle + 1) (λ s le. omega (arith, le)) (at_kind k (drained lines old).units).starts begins in
     let issues = timely_issue v legal old.cycle (earlier ++ report.steps) k line (drained lines old) (passed.drains, later) in
     let next : new.cycle ≡ old.cycle + 1 = ap (λ (h : Hardware). h.cycle) passed.others_stay in
     let units : new.units ≡ (issued_all lines old).units = ap (λ (h : Hardware). h.units) passed.others_stay ∙ end_units lines old in

@@ -1,6 +1,5 @@
 -- A turn of the issue phase finds no free unit, nothing that is ready, or the oldest that is, which starts.
-use Rattle.rv_hardware.proofs.Words.{◌≡◌, ℕ, ◌+◌, Bool, true, false, cond, List, [], ◌∷◌, ◌++◌, length, Some, None, Option, refl, ap, ◌∙◌, at_kind, Message, Kind, is_free, started, with_entry, Entry, Hardware, FromCache, FromStores, Path, Without, cost_of, is_ready, issue_oldest, issue_turn, issued, oldest, path, with_access, Ends, GoesOn, Turn, result_of_word, layout_of, seen_behind}
-use Rattle.rv_hardware.proofs.LawsLists.{EveryBehind}
+use Rattle.rv_hardware.proofs.Words.{◌≡◌, ℕ, ◌+◌, Bool, true, false, cond, List, [], ◌∷◌, ◌++◌, length, Some, None, Option, refl, ap, ◌∙◌, at_kind, Message, Kind, is_free, started, with_entry, Entry, Hardware, FromCache, FromStores, Path, Without, cost_of, is_ready, issue_oldest, issue_turn, issued, oldest, path, with_access, Ends, GoesOn, Turn, result_of_word, layout_of, seen_behind, EveryBehind}
 use Rattle.rv_hardware.proofs.LawsOldest.{Finds, oldest_finds, with_entry-behind}
 
 -- no unit is free, no instruction is ready, or the oldest ready one starts

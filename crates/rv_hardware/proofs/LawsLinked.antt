@@ -1,8 +1,7 @@
 -- Marks of which each tells why the next was not fetched earlier go on to do so.
-use Rattle.rv_hardware.proofs.Words.{◌≡◌, ℕ, suc, ◌+◌, ◌<◌, ◌≤◌, Bool, true, false, cond, ◌&&◌, ◌⊎◌, List, [], ◌∷◌, ◌++◌, length, Some, None, Option, sym, refl, ap, ◌∙◌, subst, inl, inr, append_assoc, arith, length-append, Early, Values}
+use Rattle.rv_hardware.proofs.Words.{◌≡◌, ℕ, suc, ◌+◌, ◌<◌, ◌≤◌, Bool, true, false, cond, ◌&&◌, ◌⊎◌, List, [], ◌∷◌, ◌++◌, length, Some, None, Option, sym, refl, ap, ◌∙◌, subst, inl, inr, append_assoc, arith, length-append, Early, Values, Each, count}
 use Rattle.rv_hardware.proofs.LawsAdvance.{Advances, Kept, retires, starts, is_sent, enters, advances_agree}
 use Rattle.rv_hardware.proofs.LawsCycle.{is_buffered_mark}
-use Rattle.rv_hardware.proofs.LawsLists.{Every, count}
 use Rattle.rv_hardware.proofs.LawsMarks.{Mark, at_end, was_fetched}
 
 -- at the end of a cycle the word is in the fetch buffer
@@ -214,11 +213,11 @@ module _ (v : Values) (now : ℕ) (last : (ℕ → ℕ) → Mark → Type 0) (P 
 -- words of the present cycle
 
 module _ (v : Values) (now : ℕ) (halted : Bool) where
-  joint_words : (held : ℕ → ℕ) (f : Mark) (fs : List Mark) → f.fetched ≡ now → Every (λ x. x.fetched ≡ now) fs → Joint v (now + 1) (IsOpen v halted (now + 1)) held f fs
+  joint_words : (held : ℕ → ℕ) (f : Mark) (fs : List Mark) → f.fetched ≡ now → Each (λ x. x.fetched ≡ now) fs → Joint v (now + 1) (IsOpen v halted (now + 1)) held f fs
   joint_words held f [] at all = inr (inr (λ c after before. absurd (omega (arith, at, after, before))))
   joint_words held f (g ∷ gs) at all = (let same = all.0 in omega (arith, same), inr (inr (λ c after before. let same = all.0 in absurd (omega (arith, same, at, after, before)))))
 
   -- words of the present cycle are linked
-  pub linked_words : (held : ℕ → ℕ) (fs : List Mark) → Every (λ x. x.fetched ≡ now) fs → Linked v (now + 1) (IsOpen v halted (now + 1)) held fs
+  pub linked_words : (held : ℕ → ℕ) (fs : List Mark) → Each (λ x. x.fetched ≡ now) fs → Linked v (now + 1) (IsOpen v halted (now + 1)) held fs
   linked_words held [] all = tt
   linked_words held (f ∷ fs) all = (joint_words held f fs all.0 all.1, linked_words (with_word held f) fs all.1)

@@ -1,5 +1,5 @@
 -- In every history each mark tells why the next was not fetched earlier.
-use Rattle.rv_hardware.proofs.Words.{◌≡◌, ℕ, ◌+◌, ◌-◌, ◌<◌, ◌≤◌, true, false, ◌⊎◌, List, [], ◌∷◌, ◌++◌, map, length, Some, None, Option, sym, refl, ap, ◌∙◌, subst, inl, inr, true≢false, append-nil, arith, length-append, cases_lt, Lines, Early, Values, due, FetchBuffer, Fetched, Committing, IsCycle, any_prediction, execute, with_lines, Dispatching, Hardware, Report, rows_of, Row, Step}
+use Rattle.rv_hardware.proofs.Words.{◌≡◌, ℕ, ◌+◌, ◌-◌, ◌<◌, ◌≤◌, true, false, ◌⊎◌, List, [], ◌∷◌, ◌++◌, map, length, Some, None, Option, sym, refl, ap, ◌∙◌, subst, inl, inr, true≢false, append-nil, arith, length-append, cases_lt, Lines, Early, Values, due, Each, FetchBuffer, Fetched, Committing, IsCycle, any_prediction, execute, with_lines, Dispatching, Hardware, Report, rows_of, Row, Step, Each-weaker, Each-map, count}
 use Rattle.std.specs.FinSet as set
 use Rattle.rv_hardware.proofs.GapFetch.{fetch-cases}
 use Rattle.rv_hardware.proofs.LawsCounted.{count-as_of}
@@ -7,7 +7,6 @@ use Rattle.rv_hardware.proofs.LawsCycle.{Passed, History, began, went_on, is_buf
 use Rattle.rv_hardware.proofs.LawsFetch.{IsNew}
 use Rattle.rv_hardware.proofs.LawsLinked.{with_word, IsBy, Followed, IsOpen, Linked, LastIs, held_behind, held_count, WasLinked, was_linked_kept, linked_stays, linked_on, linked_cut, linked_words, last_at}
 use Rattle.rv_hardware.proofs.LawsLinkedPhases.{size, size_of_marks, Uncut, Left, commit_goes_by, drain_and_issue, broadcast_and_dispatch}
-use Rattle.rv_hardware.proofs.LawsLists.{Every, Every-map, Every-weaker, count}
 use Rattle.rv_hardware.proofs.LawsMarks.{Mark, mark_of_row, mark_of_entry, mark_of_fetched, marks_in, marks, marks_at_entry}
 use Rattle.rv_hardware.proofs.LawsPast.{as_of_now, marks_settled}
 use Rattle.rv_hardware.proofs.LawsRow.{SoundRow}
@@ -17,7 +16,7 @@ use Rattle.rv_hardware.proofs.LawsSound.{SoundFetched}
 abbrev Squashes : Values → ℕ → Mark → Type 0
 Squashes v now m = IsBy m.retired now ⊎ ((v.recovery ≡ Early) × (m.broadcast ≡ Some now))
 
-last_row : (v : Values) (now : ℕ) (rows : List Row) → Every (SoundRow v (now + 1)) rows → LastIs (Squashes v now) (map mark_of_row rows)
+last_row : (v : Values) (now : ℕ) (rows : List Row) → Each (SoundRow v (now + 1)) rows → LastIs (Squashes v now) (map mark_of_row rows)
 last_row v now [] sound = tt
 last_row v now (row ∷ []) sound = inl (let below = sound.0 in omega (arith, below.below))
 last_row v now (row ∷ r ∷ rs) sound = last_row v now (r ∷ rs) sound.1
@@ -72,8 +71,8 @@ module _ (v : Values) {earlier : List Step} {old new : Hardware} {lines : Lines}
   abbrev Next : List Mark → Type 0
   Next ms = Linked v (old.cycle + 1) (IsOpen v new.front.halted (old.cycle + 1)) (λ c. 0) ms
 
-  new_ones : (fs : List Fetched) → passed.fetches.added ≡ fs → Every (λ m. m.fetched ≡ old.cycle) (map mark_of_fetched fs)
-  new_ones fs at = Every-map (λ m. m.fetched ≡ old.cycle) mark_of_fetched fs (Every-weaker (IsNew old.cycle) (λ f. f.cycle ≡ old.cycle) (λ f w. w.0) fs (subst (Every (IsNew old.cycle)) at passed.fetches.are_new))
+  new_ones : (fs : List Fetched) → passed.fetches.added ≡ fs → Each (λ m. m.fetched ≡ old.cycle) (map mark_of_fetched fs)
+  new_ones fs at = Each-map (λ m. m.fetched ≡ old.cycle) mark_of_fetched fs (Each-weaker (IsNew old.cycle) (λ f. f.cycle ≡ old.cycle) (λ f w. w.0) fs (subst (Each (IsNew old.cycle)) at passed.fetches.are_new))
 
   -- after a squash
 
@@ -116,7 +115,7 @@ module _ (v : Values) {earlier : List Step} {old new : Hardware} {lines : Lines}
     full_now : d.front.capacity - length d.front.entries ≡ 0 → v.fetch_buffer ≤ held_behind (λ c. 0) (marks_in all d) old.cycle
     full_now full =
         let b = passed.dispatches.basics in
-        let words = Every-weaker (SoundFetched old.cycle) (SoundFetched (old.cycle + 1)) (λ f w. (omega (arith, w.0), w.1)) d.front.entries b.fetched in
+        let words = Each-weaker (SoundFetched old.cycle) (SoundFetched (old.cycle + 1)) (λ f w. (omega (arith, w.0), w.1)) d.front.entries b.fetched in
         let held = held_count (λ c. 0) (marks_in all d) old.cycle in
         let counts = count-as_of is_buffered_mark old.cycle (marks_in all d) in
         let settled = ap (count is_buffered_mark) (as_of_now old.cycle (marks_in all d) (marks_settled v old.cycle all d.rob.entries d.front.entries b.rows b.entries words)) in

@@ -1,6 +1,5 @@
 -- The marks of rows, instructions in flight and fetched words go on, and stand as they stood at the end of each earlier cycle.
-use Rattle.rv_hardware.proofs.Words.{◌≡◌, ℕ, ◌<◌, ◌≤◌, Bool, true, false, cond, List, [], ◌∷◌, ◌++◌, map, is_some, if◌then◌else◌, nat_le, Some, None, filter, Option, sym, refl, ap, ◌∙◌, append_assoc, append-nil, arith, lt-leb, filter-append, Message, Instr, Issue, instruction_of, Entry, Stage, Finished, Running, Waiting, Fetched, Hardware, rows_of, Execution, Row, Step, Interrupt, Retired, Trap}
-use Rattle.rv_hardware.proofs.LawsLists.{Every, Every-weaker, Beginning, Beginning-self, Beginning-trans}
+use Rattle.rv_hardware.proofs.Words.{◌≡◌, ℕ, ◌<◌, ◌≤◌, Bool, true, false, cond, List, [], ◌∷◌, ◌++◌, map, is_some, if◌then◌else◌, nat_le, Some, None, filter, Option, sym, refl, ap, ◌∙◌, append_assoc, append-nil, arith, lt-leb, map-append, filter-append, Message, Instr, Issue, instruction_of, Each, Entry, Stage, Finished, Running, Waiting, Fetched, Hardware, rows_of, Execution, Row, Step, Interrupt, Retired, Trap, Each-weaker, Beginning, Beginning-self, Beginning-trans}
 
 -- the start of an execution, and whether what it gives is a fault
 pub record Start : Type 0 where
@@ -127,10 +126,6 @@ Extends-self now ms c lt = Beginning-self (as_of c ms)
 pub Extends-trans : (now : ℕ) (xs ys zs : List Mark) → Extends now xs ys → Extends now ys zs → Extends now xs zs
 Extends-trans now xs ys zs f g c lt = Beginning-trans (as_of c zs) (as_of c ys) (as_of c xs) (g c lt) (f c lt)
 
-map-append : {X Y : Type 0} (f : X → Y) (xs ys : List X) → map f (xs ++ ys) ≡ map f xs ++ map f ys
-map-append f [] ys = refl
-map-append f (x ∷ xs) ys = ap (λ l. f x ∷ l) (map-append f xs ys)
-
 -- the marks of instructions in flight in two parts
 pub marks_append : (xs ys : List Entry) → map mark_of_entry (xs ++ ys) ≡ map mark_of_entry xs ++ map mark_of_entry ys
 marks_append xs ys = map-append mark_of_entry xs ys
@@ -153,7 +148,7 @@ pub as_of-append : (c : ℕ) (xs ys : List Mark) → as_of c (xs ++ ys) ≡ as_o
 as_of-append c xs ys = ap (map (at_end c)) (filter-append (was_fetched c) xs ys) ∙ map-append (at_end c) (filter (was_fetched c) xs) (filter (was_fetched c) ys)
 
 -- a mark that was not fetched by then
-pub as_of-later : (c : ℕ) (ms : List Mark) → Every (λ m. c < m.fetched) ms → as_of c ms ≡ []
+pub as_of-later : (c : ℕ) (ms : List Mark) → Each (λ m. c < m.fetched) ms → as_of c ms ≡ []
 as_of-later c [] later = refl
 as_of-later c (m ∷ ms) later = rw (lt-leb m.fetched c later.0) (as_of-later c ms later.1)
 
@@ -185,9 +180,9 @@ Extends-change now before after m n agree c lt =
     ([], as_of-append c before (m ∷ after) ∙ ap (λ l. as_of c before ++ l) (as_of-agree now c m n after lt agree) ∙ sym (as_of-append c before (n ∷ after)) ∙ sym (append-nil (as_of c (before ++ n ∷ after))))
 
 -- words of the present cycle come after the marks
-pub Extends-more : (now : ℕ) (ms more : List Mark) → Every (λ m. now ≤ m.fetched) more → Extends now ms (ms ++ more)
+pub Extends-more : (now : ℕ) (ms more : List Mark) → Each (λ m. now ≤ m.fetched) more → Extends now ms (ms ++ more)
 Extends-more now ms more later c lt =
-    let none = as_of-later c more (Every-weaker (λ m. now ≤ m.fetched) (λ m. c < m.fetched) (λ m le. omega arith) more later) in
+    let none = as_of-later c more (Each-weaker (λ m. now ≤ m.fetched) (λ m. c < m.fetched) (λ m le. omega arith) more later) in
     ([], sym (as_of-append c ms more ∙ ap (λ l. as_of c ms ++ l) none ∙ append-nil (as_of c ms)) ∙ sym (append-nil (as_of c (ms ++ more))))
 
 pub Extends-equal : (now : ℕ) (xs ys : List Mark) → xs ≡ ys → Extends now xs ys

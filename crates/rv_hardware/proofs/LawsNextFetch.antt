@@ -1,5 +1,5 @@
 -- What is in flight, or is fetched next, was fetched no later than the last step.
-use Rattle.rv_hardware.proofs.Words.{◌≡◌, ℕ, ◌+◌, ◌-◌, ◌≤◌, Bool, true, false, ◌⊎◌, List, [], ◌∷◌, ◌++◌, length, Some, None, Option, nat_cmp, sym, refl, ap, ◌∙◌, subst, inl, inr, true≢false, append_assoc, append-nil, arith, length-append, Lines, Kind, Values, due, interrupt_cause, finished, predicting, started, Entry, FetchBuffer, Fetched, broadcast, Committing, commit_unless, with_fault, IsCycle, any_prediction, with_lines, dispatch, entry_of_fetched, drain, Hardware, issue, Turn, Report, written_of, EachNext, stamp_of, Step, Interrupt, Retired, Trap}
+use Rattle.rv_hardware.proofs.Words.{◌≡◌, ℕ, ◌+◌, ◌-◌, ◌≤◌, Bool, true, false, ◌⊎◌, List, [], ◌∷◌, ◌++◌, length, Some, None, Option, nat_cmp, sym, refl, ap, ◌∙◌, subst, inl, inr, true≢false, append_assoc, append-nil, arith, length-append, Lines, Kind, Values, due, interrupt_cause, Each, finished, predicting, started, Entry, FetchBuffer, Fetched, broadcast, Committing, commit_unless, with_fault, IsCycle, any_prediction, with_lines, dispatch, entry_of_fetched, drain, Hardware, issue, Turn, Report, written_of, EachNext, stamp_of, Step, Interrupt, Retired, Trap, Each-weaker}
 use Rattle.std.specs.FinSet as set
 use Rattle.rv_hardware.proofs.GapBroadcast.{IsKeptByBroadcast, broadcast-keeps}
 use Rattle.rv_hardware.proofs.GapDispatch.{IsKeptByDispatch, dispatch-keeps}
@@ -12,7 +12,6 @@ use Rattle.rv_hardware.proofs.LawsKeeps.{history_keeps, Committed, commit_turns_
 use Rattle.rv_hardware.proofs.LawsLinked.{LastIs, last_at, last_of}
 use Rattle.rv_hardware.proofs.LawsLinkedRows.{stays_halted}
 use Rattle.rv_hardware.proofs.LawsFetch.{IsNew}
-use Rattle.rv_hardware.proofs.LawsLists.{Every, Every-weaker}
 use Rattle.rv_hardware.proofs.LawsRow.{row_at}
 use Rattle.rv_hardware.proofs.LawsShape.{head_retired_entries}
 use Rattle.rv_hardware.proofs.LawsSound.{SoundEntry, SoundFetched}
@@ -68,7 +67,7 @@ coming_dispatched : (now : ℕ) (es : List Entry) (e : Entry) (f : Fetched) (fs 
 coming_dispatched now [] e f fs same = same
 coming_dispatched now (x ∷ xs) e f fs same = refl
 
-coming_by : (v : Values) (now : ℕ) (es : List Entry) (fs : List Fetched) → Every (SoundEntry v now now now) es → Every (SoundFetched now) fs → coming now es fs ≤ now
+coming_by : (v : Values) (now : ℕ) (es : List Entry) (fs : List Fetched) → Each (SoundEntry v now now now) es → Each (SoundFetched now) fs → coming now es fs ≤ now
 coming_by v now (e ∷ es) fs entries words = let sound = entries.0 in omega (arith, sound.after_fetch, sound.by_now)
 coming_by v now [] (f ∷ fs) entries words = let sound = words.0 in omega (arith, sound.0)
 coming_by v now [] [] entries words = omega arith
@@ -107,7 +106,7 @@ module _ (v : Values) (now : ℕ) (earlier : List Step) (is_stale : set.FinSet n
   commit_follows c _ (serial_faults e es cause value head serial) q p = one_more c (Trap e.pc cause value c.hardware.cycle) (with_fault e cause value c).hardware q.basics.cycle (omega arith) (no_row_next c (Trap e.pc cause value c.hardware.cycle) (λ a. tt) p) p
   commit_follows c _ (traps e es begun cycle message fault head plain at is) q p = one_more c (Trap e.pc fault.cause fault.value c.hardware.cycle) (with_fault e fault.cause fault.value c).hardware q.basics.cycle (omega arith) (no_row_next c (Trap e.pc fault.cause fault.value c.hardware.cycle) (λ a. tt) p) p
   commit_follows c _ (retires e es begun cycle message head plain at none) q p =
-      let these = subst (Every (SoundEntry v now now now)) head.place q.basics.entries in
+      let these = subst (Each (SoundEntry v now now now)) head.place q.basics.entries in
       let by = coming_by v now es c.hardware.front.entries these.1 q.basics.fetched in
       one_more c (Retired (row_at e (written_of e message) c.hardware.cycle)) (retired_with e message c).hardware q.basics.cycle (subst (λ l. coming now l c.hardware.front.entries ≤ now) (sym (head_retired_entries c.hardware.rob e es head.place)) by) (head_next c e es (written_of e message) head.place p) p
   commit_follows c _ (retires_last e es begun cycle message head plain at none) q p = one_more c (Retired (row_at e (written_of e message) c.hardware.cycle)) (retired_and_flushed e message c).hardware q.basics.cycle (omega arith) (head_next c e es (written_of e message) head.place p) p
@@ -159,7 +158,7 @@ runs_when_empty : (halted : Bool) → HaltsBehind halted [] → halted ≡ false
 runs_when_empty true h = absurd (cc)
 runs_when_empty false h = refl
 
-coming_fetched : (now : ℕ) (es : List Entry) (fs added : List Fetched) → Every (λ f. f.cycle ≡ now) added → (es ≡ [] → fs ++ added ≡ [] → ⊥) → coming (now + 1) es (fs ++ added) ≡ coming now es fs
+coming_fetched : (now : ℕ) (es : List Entry) (fs added : List Fetched) → Each (λ f. f.cycle ≡ now) added → (es ≡ [] → fs ++ added ≡ [] → ⊥) → coming (now + 1) es (fs ++ added) ≡ coming now es fs
 coming_fetched now (e ∷ es) fs added new some = refl
 coming_fetched now [] (f ∷ fs) added new some = refl
 coming_fetched now [] [] (f ∷ fs) new some = new.0
@@ -201,7 +200,7 @@ module _ (v : Values) {earlier : List Step} {old new : Hardware} {lines : Lines}
       let c : Hardware = (committing lines old).hardware in
       let after = commit_follows_by v old.cycle earlier set.contains (due g.csrs g.lines) g first (rw (append-nil earlier) p) in
       let executed = executed_comes old.cycle (coming old.cycle c.rob.entries c.front.entries) c refl in
-      let fetched = coming_fetched old.cycle d.rob.entries d.front.entries passed.fetches.added (Every-weaker (IsNew old.cycle) (λ f. f.cycle ≡ old.cycle) (λ f w. w.0) passed.fetches.added passed.fetches.are_new) (something_is_there passed) in
+      let fetched = coming_fetched old.cycle d.rob.entries d.front.entries passed.fetches.added (Each-weaker (IsNew old.cycle) (λ f. f.cycle ≡ old.cycle) (λ f w. w.0) passed.fetches.added passed.fetches.are_new) (something_is_there passed) in
       let here = ap (λ (h : Hardware). coming h.cycle h.rob.entries new.front.entries) passed.others_stay ∙ ap (coming (old.cycle + 1) d.rob.entries) passed.fetches.entries ∙ fetched ∙ executed in
       rw (passed.steps, here) after
 

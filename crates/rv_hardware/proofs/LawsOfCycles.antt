@@ -1,9 +1,8 @@
 -- An interrupt that is due is the one step of its cycle, and a cycle dispatches something or stalls for one reason.
-use Rattle.rv_hardware.proofs.Words.{◌≡◌, ℕ, ◌+◌, List, [], ◌∷◌, ◌++◌, length, ◌==◌, Some, None, All, Option, sym, ap, ◌∙◌, subst, arith, Arrival, Lines, Values, due, interrupt_cause, Committing, commit_unless, IsCycle, any_prediction, with_lines, stall_of, Hardware, stall_cycles, Report, Cycles, Reachable, busy_of, cycled, ended, stalls_of, stamp_of, Step, Interrupt}
+use Rattle.rv_hardware.proofs.Words.{◌≡◌, ℕ, ◌+◌, List, [], ◌∷◌, ◌++◌, length, ◌==◌, Some, None, All, Option, sym, ap, ◌∙◌, subst, arith, Arrival, Lines, Values, due, interrupt_cause, Committing, commit_unless, IsCycle, any_prediction, with_lines, stall_of, Hardware, stall_cycles, Report, Cycles, Reachable, busy_of, cycled, ended, stalls_of, stamp_of, Step, Interrupt, All-Each}
 use Rattle.std.specs.FinSet as set
 use Rattle.rv_hardware.proofs.LawsCounts.{IsCounted, AllTell, dispatch_tells, busy_and_stalls}
 use Rattle.rv_hardware.proofs.LawsCycle.{Anything, anything_is_kept, History, went_on, Passed, cycle_passes, history_is_legal, history_is_sound, reachable_has_history, sent_all, dispatching}
-use Rattle.rv_hardware.proofs.LawsLists.{All-Every}
 use Rattle.rv_hardware.proofs.LawsSteps.{history_has_steps, steps_of_cycle}
 
 interrupted_by : (o : Option ℕ) (h : Hardware) (code : ℕ) → o ≡ Some code → (commit_unless set.contains o h).steps ≡ Interrupt h.pc (interrupt_cause code) h.cycle ∷ []
@@ -24,7 +23,7 @@ module _ (v : Values) {steps : List Step} {old new : Hardware} {lines : Lines} {
   -- each step has the cycle's number
   pub stamps_of_cycle : All (λ step. stamp_of step ≡ old.cycle) report.steps
   stamps_of_cycle =
-      All-Every (λ step. stamp_of step ≡ old.cycle) report.steps
+      All-Each (λ step. stamp_of step ≡ old.cycle) report.steps
       (steps_of_cycle v (history_is_legal v history) steps old new lines report (history_is_sound v history) (history_has_steps v history) is)
 
   -- it dispatches something, or else stalls for one reason

@@ -1,5 +1,5 @@
 -- The laws hold of every run of the hardware, on hardware that was just reset and on hardware that has run.
-use Rattle.rv_hardware.proofs.Words.{◌≡◌, ℕ, suc, ◌+◌, ◌<◌, ◌≤◌, Bool, true, false, cond, List, [], ◌∷◌, ◌++◌, IfSome, ◌==◌, Some, None, All, count_by, Option, AllPairs, sym, refl, ap, ◌∙◌, subst, inl, inr, append_assoc, append-nil, arith, All-append, All-tail, All-weaker, at_kind, Arrival, Kind, Values, Hardware, AreApartAtPort, DoesNotWait, EachProducer, HasCost, HasOperandsIn, HasOrderedStamps, IsBroadcastFirst, IsFetchedAhead, IsFetchedBehind, IsFetchedSince, IsKnownBefore, IsTrappedSoon, IssuesWithOperands, LacksRoom, Laws, LeaveNoUnitIdle, LeavesNoBusIdle, LeavesNoUnitIdle, LoadsAfterStore, WaitsForBus, WaitsForRoom, WaitsForUnits, is_pipelined, units_of, Report, Cycles, Reachable, cycled, ended, steps_of, EachBehind, EachNext, flushes, is_broadcast_in, is_buffered_in, is_dispatched_in, is_executing_in, is_fetched_in, is_in_flight_in, is_issued_in, is_queued_in, is_stationed_in, last_from, producer_among, rows_of, sources_of_row, writes_register, is_interrupt, stamp_of, Execution, Row, Step, Interrupt, Retired, Trap}
+use Rattle.rv_hardware.proofs.Words.{◌≡◌, ℕ, suc, ◌+◌, ◌<◌, ◌≤◌, Bool, true, false, cond, List, [], ◌∷◌, ◌++◌, IfSome, ◌==◌, Some, None, All, count_by, Option, AllPairs, sym, refl, ap, ◌∙◌, subst, inl, inr, append_assoc, append-nil, arith, All-append, All-weaker, at_kind, Arrival, Kind, Values, Each, Hardware, AreApartAtPort, DoesNotWait, EachProducer, HasCost, HasOperandsIn, HasOrderedStamps, IsBroadcastFirst, IsFetchedAhead, IsFetchedBehind, IsFetchedSince, IsKnownBefore, IsTrappedSoon, IssuesWithOperands, LacksRoom, Laws, LeaveNoUnitIdle, LeavesNoBusIdle, LeavesNoUnitIdle, LoadsAfterStore, WaitsForBus, WaitsForRoom, WaitsForUnits, is_pipelined, units_of, Report, Cycles, Reachable, cycled, ended, steps_of, EachBehind, EachNext, flushes, is_broadcast_in, is_buffered_in, is_dispatched_in, is_executing_in, is_fetched_in, is_in_flight_in, is_issued_in, is_queued_in, is_stationed_in, last_from, producer_among, rows_of, sources_of_row, writes_register, is_interrupt, stamp_of, Execution, Row, Step, Interrupt, Retired, Trap, All-Each, All-right, Each-append, Each-right, Each-weaker, Each-both, count-count_by, count-append, count-none}
 use Rattle.rv_hardware.proofs.Laws.HeadsDoNotWait.{law_of_heads_do_not_wait}
 use Rattle.rv_hardware.proofs.Laws.FetchedAhead.{law_of_fetched_ahead}
 use Rattle.rv_hardware.proofs.Laws.TrapsSoon.{law_of_traps_soon}
@@ -7,13 +7,12 @@ use Rattle.rv_hardware.proofs.Laws.FirstRow.{law_of_first_row}
 use Rattle.rv_hardware.proofs.LawsCounted.{Shows, fails_later}
 use Rattle.rv_hardware.proofs.LawsCycle.{History, went_on, reachable_has_history, history_is_sound, history_is_legal}
 use Rattle.rv_hardware.proofs.LawsOfCycles.{passes_here}
-use Rattle.rv_hardware.proofs.LawsEvidence.{last_from-append, last_from-Every}
+use Rattle.rv_hardware.proofs.LawsEvidence.{last_from-append, last_from-Each}
 use Rattle.rv_hardware.proofs.Laws.Within.{law_of_within}
 use Rattle.rv_hardware.proofs.Laws.NoIdleBus.{law_of_no_idle_bus}
 use Rattle.rv_hardware.proofs.Laws.NoIdleDispatch.{law_of_no_idle_dispatch}
 use Rattle.rv_hardware.proofs.Laws.NoIdleFetch.{law_of_no_idle_fetch}
 use Rattle.rv_hardware.proofs.Laws.NoIdleUnit.{law_of_no_idle_unit}
-use Rattle.rv_hardware.proofs.LawsLists.{Every, Every-weaker, All-Every, count-append, count-none, count-count_by, Every-append, Every-both, Every-right}
 use Rattle.rv_hardware.proofs.LawsMarks.{Mark, rows_append}
 use Rattle.rv_hardware.proofs.Laws.OldestResultFirst.{law_of_oldest_result_first}
 use Rattle.rv_hardware.proofs.Laws.LoadsAfterStores.{law_of_loads_after_stores}
@@ -46,20 +45,16 @@ history_runs v steps ended h = rw (append-nil steps) h
 history_runs v steps (cycled {report = report} {reports = reports} is rest) h = rw (← append_assoc steps report.steps (steps_of reports)) (history_runs v (steps ++ report.steps) rest (went_on h is))
 
 -- the steps of a run are of its cycles
-pub since_by : (v : Values) {arrivals : List Arrival} (b : ℕ) (steps : List Step) {old new : Hardware} {reports : List Report} → Cycles arrivals old reports new → History v steps old → b ≤ old.cycle → Every (λ s. b ≤ stamp_of s) (steps_of reports)
+pub since_by : (v : Values) {arrivals : List Arrival} (b : ℕ) (steps : List Step) {old new : Hardware} {reports : List Report} → Cycles arrivals old reports new → History v steps old → b ≤ old.cycle → Each (λ s. b ≤ stamp_of s) (steps_of reports)
 since_by v b steps ended h le = tt
 since_by v b steps (cycled {old = old} {middle = middle} {report = report} {reports = reports} is rest) h le =
     let passed = passes_here v h is in
     let next : middle.cycle ≡ old.cycle + 1 = ap (λ (g : Hardware). g.cycle) passed.others_stay in
-    Every-append (λ s. b ≤ stamp_of s) report.steps (steps_of reports)
-    (Every-weaker (λ s. stamp_of s ≡ old.cycle) (λ s. b ≤ stamp_of s) (λ s at. omega (arith, at, le)) report.steps (steps_of_cycle v (history_is_legal v h) steps old middle _ report (history_is_sound v h) (history_has_steps v h) is))
+    Each-append (λ s. b ≤ stamp_of s) report.steps (steps_of reports)
+    (Each-weaker (λ s. stamp_of s ≡ old.cycle) (λ s. b ≤ stamp_of s) (λ s at. omega (arith, at, le)) report.steps (steps_of_cycle v (history_is_legal v h) steps old middle _ report (history_is_sound v h) (history_has_steps v h) is))
     (since_by v b (steps ++ report.steps) rest (went_on h is) (omega (arith, next, le)))
 
 -- the last part of a list
-
-All-last : {X : Type 0} (P : X → Type 0) (xs ys : List X) → All P (xs ++ ys) → All P ys
-All-last P [] ys h = h
-All-last P (x ∷ xs) ys h = All-last P xs ys (All-tail P x (xs ++ ys) h)
 
 AllPairs-last : {X : Type 0} (R : X → X → Type 0) (xs ys : List X) → AllPairs R (xs ++ ys) → AllPairs R ys
 AllPairs-last R [] ys h = h
@@ -69,7 +64,7 @@ EachNext-last : {X : Type 0} (R : X → X → Type 0) (xs ys : List X) → EachN
 EachNext-last R xs ys h before after x y at = h (xs ++ before) after x y (ap (λ l. xs ++ l) at ∙ sym (append_assoc xs before (x ∷ y ∷ after)))
 
 -- no step is of a cycle below 0
-none_below_zero : (steps : List Step) (n : ℕ) → n ≡ 0 → Every (λ s. stamp_of s < n) steps → steps ≡ []
+none_below_zero : (steps : List Step) (n : ℕ) → n ≡ 0 → Each (λ s. stamp_of s < n) steps → steps ≡ []
 none_below_zero [] n none below = refl
 none_below_zero (s ∷ steps) n none below = absurd (omega (arith, none, below.0))
 
@@ -81,7 +76,7 @@ count_by-last p xs ys n le =
     omega (arith, le, all, whole, part)
 
 -- where none of the first part passes
-count_by-rest : {X : Type 0} (p : X → Bool) (xs ys : List X) → Every (λ x. p x ≡ false) xs → count_by p (xs ++ ys) ≡ count_by p ys
+count_by-rest : {X : Type 0} (p : X → Bool) (xs ys : List X) → Each (λ x. p x ≡ false) xs → count_by p (xs ++ ys) ≡ count_by p ys
 count_by-rest p xs ys none =
     let all = count-append p xs ys in
     let zero_first = count-none p xs none in
@@ -103,12 +98,12 @@ producer_of_all P first before None h = tt
 producer_of_all P first before (Some register) h =
     last_stays P (last_from None (writes_register register) first) None (writes_register register) before (λ k. tt) (rw (last_from-append None (writes_register register) first before) at h)
 
-module _ (v : Values) (earlier steps : List Step) (old new : Hardware) (before_run : History v earlier old) (history : History v (earlier ++ steps) new) (since : Every (λ s. old.cycle ≤ stamp_of s) steps) where
+module _ (v : Values) (earlier steps : List Step) (old new : Hardware) (before_run : History v earlier old) (history : History v (earlier ++ steps) new) (since : Each (λ s. old.cycle ≤ stamp_of s) steps) where
   rows_of_all : rows_of (earlier ++ steps) ≡ rows_of earlier ++ rows_of steps
   rows_of_all = rows_append earlier steps
 
   rows_all : (P : Row → Type 0) → All P (rows_of (earlier ++ steps)) → All P (rows_of steps)
-  rows_all P h = All-last P (rows_of earlier) (rows_of steps) (rw (rows_of_all) at h)
+  rows_all P h = All-right P (rows_of earlier) (rows_of steps) (rw (rows_of_all) at h)
 
   rows_pairs : (R : Row → Row → Type 0) → AllPairs R (rows_of (earlier ++ steps)) → AllPairs R (rows_of steps)
   rows_pairs R h = AllPairs-last R (rows_of earlier) (rows_of steps) (rw (rows_of_all) at h)
@@ -125,7 +120,7 @@ module _ (v : Values) (earlier steps : List Step) (old new : Hardware) (before_r
   none_earlier : (row_test : ℕ → Row → Bool) (test : ℕ → Mark → Bool) → Shows v row_test test → (c : ℕ) → old.cycle ≤ c → (before : List Row) → count_by (row_test c) (rows_of earlier ++ before) ≡ count_by (row_test c) before
   none_earlier row_test test shows c le before =
       count_by-rest (row_test c) (rows_of earlier) before
-      (Every-weaker (SoundRow v old.cycle) (λ row. row_test c row ≡ false) (λ row sound. fails_later row_test test shows c old.cycle row le sound (row_test c row) refl) (rows_of earlier) (history_is_sound v before_run).rows)
+      (Each-weaker (SoundRow v old.cycle) (λ row. row_test c row ≡ false) (λ row sound. fails_later row_test test shows c old.cycle row le sound (row_test c row) refl) (rows_of earlier) (history_is_sound v before_run).rows)
 
   operands_of_run : EachBehind IssuesWithOperands (rows_of steps)
   operands_of_run before after row at = by_execution row.execution (rows_behind IssuesWithOperands (law_of_operands v history) before after row at)
@@ -152,15 +147,15 @@ module _ (v : Values) (earlier steps : List Step) (old new : Hardware) (before_r
       sent_by D C None le k = tt
       sent_by D C (Some x) le k = omega (arith, le, k.2)
 
-      all_sent : Every (λ p. IfSome p.execution (λ y. y.broadcast < c)) (rows_of earlier)
-      all_sent = Every-weaker (SoundRow v old.cycle) (λ p. IfSome p.execution (λ y. y.broadcast < c)) (λ p s. sent_by p.dispatched p.retired p.execution (omega (arith, s.below, from)) s.stamps.executed_between) (rows_of earlier) (history_is_sound v before_run).rows
+      all_sent : Each (λ p. IfSome p.execution (λ y. y.broadcast < c)) (rows_of earlier)
+      all_sent = Each-weaker (SoundRow v old.cycle) (λ p. IfSome p.execution (λ y. y.broadcast < c)) (λ p s. sent_by p.dispatched p.retired p.execution (omega (arith, s.below, from)) s.stamps.executed_between) (rows_of earlier) (history_is_sound v before_run).rows
 
       by_source : (source : Option ℕ) → IfSome (producer_among before source) (λ p. IfSome p.execution (λ y. y.broadcast < c)) → IfSome (producer_among (rows_of earlier ++ before) source) (λ p. IfSome p.execution (λ y. y.broadcast < c))
       by_source None k = tt
       by_source (Some register) k =
           rw (last_from-append None (writes_register register) (rows_of earlier) before)
           (last_stays (λ p. IfSome p.execution (λ y. y.broadcast < c)) None (last_from None (writes_register register) (rows_of earlier)) (writes_register register) before
-          (λ u. last_from-Every (λ p. IfSome p.execution (λ y. y.broadcast < c)) None (writes_register register) (rows_of earlier) tt all_sent) k)
+          (λ u. last_from-Each (λ p. IfSome p.execution (λ y. y.broadcast < c)) None (writes_register register) (rows_of earlier) tt all_sent) k)
 
   units_of_run : (kind : Kind) → is_pipelined v kind ≡ true → LeaveNoUnitIdle v kind old.cycle (rows_of steps)
   units_of_run kind line before after row at is plain = by_execution row.execution (rows_behind (LeavesNoUnitIdle kind (units_of v kind) 0) (law_of_no_idle_unit v history kind line) before after row at is plain)
@@ -176,7 +171,7 @@ module _ (v : Values) (earlier steps : List Step) (old new : Hardware) (before_r
   dispatch_of_run : EachBehind (WaitsForRoom v old.cycle) (rows_of steps)
   dispatch_of_run before after row at plain c from fetched later all =
       by_cases (rows_behind (WaitsForRoom v 0) (law_of_no_idle_dispatch v history) before after row at plain c (omega arith) fetched later
-      (All-append (λ e. e.dispatched ≤ c) (rows_of earlier) before (All-Every (λ e. e.dispatched ≤ c) (rows_of earlier) (Every-weaker (SoundRow v old.cycle) (λ e. e.dispatched ≤ c) (λ e s. omega (arith, s.stamps.retired_after_dispatch, s.below, from)) (rows_of earlier) (history_is_sound v before_run).rows)) all))
+      (All-append (λ e. e.dispatched ≤ c) (rows_of earlier) before (All-Each (λ e. e.dispatched ≤ c) (rows_of earlier) (Each-weaker (SoundRow v old.cycle) (λ e. e.dispatched ≤ c) (λ e s. omega (arith, s.stamps.retired_after_dispatch, s.below, from)) (rows_of earlier) (history_is_sound v before_run).rows)) all))
     where
       by_cases : LacksRoom v c (rows_of earlier ++ before) row → LacksRoom v c before row
       by_cases (inl wide) = let same = none_earlier is_dispatched_in _ (dispatched_shows v) c from before in inl (omega (arith, wide, same))
@@ -205,8 +200,8 @@ module _ (v : Values) (earlier steps : List Step) (old new : Hardware) (before_r
 
   pub laws_of_steps : Laws v old.cycle new.cycle steps
   laws_of_steps = record {
-    within = All-Every (λ step. (old.cycle ≤ stamp_of step) × (stamp_of step < new.cycle)) steps
-        (Every-both (λ s. old.cycle ≤ stamp_of s) (λ s. stamp_of s < new.cycle) (λ s. (old.cycle ≤ stamp_of s) × (stamp_of s < new.cycle)) (λ s le lt. (le, lt)) steps since (Every-right (λ s. stamp_of s < new.cycle) earlier steps (law_of_within v history)));
+    within = All-Each (λ step. (old.cycle ≤ stamp_of step) × (stamp_of step < new.cycle)) steps
+        (Each-both (λ s. old.cycle ≤ stamp_of s) (λ s. stamp_of s < new.cycle) (λ s. (old.cycle ≤ stamp_of s) × (stamp_of s < new.cycle)) (λ s le lt. (le, lt)) steps since (Each-right (λ s. stamp_of s < new.cycle) earlier steps (law_of_within v history)));
     stamps_in_order = rows_all HasOrderedStamps (law_of_stamps_in_order v history);
     costs = rows_all (HasCost v) (law_of_costs v history);
     steps_in_order = AllPairs-last (λ a b. stamp_of a ≤ stamp_of b) earlier steps (law_of_steps_in_order v history);

@@ -1,6 +1,5 @@
 -- The oldest instruction that passes a test stands after some that do not, and a change of it changes nothing else.
-use Rattle.rv_hardware.proofs.Words.{◌≡◌, ℕ, suc, ◌+◌, ◌≤◌, Bool, true, false, cond, List, [], ◌∷◌, ◌++◌, length, Some, None, Option, sym, refl, ap, ◌∙◌, append_assoc, append-nil, arith, le-ltb, lt-ltb, eq-eqb, ne_eqb, entries_below, with_entry, Entry, oldest, oldest_from}
-use Rattle.rv_hardware.proofs.LawsLists.{EveryBehind, EveryBehind-append}
+use Rattle.rv_hardware.proofs.Words.{◌≡◌, ℕ, suc, ◌+◌, ◌≤◌, Bool, true, false, cond, List, [], ◌∷◌, ◌++◌, length, Some, None, Option, sym, refl, ap, ◌∙◌, append_assoc, append-nil, arith, le-ltb, lt-ltb, eq-eqb, ne_eqb, entries_below, with_entry, Entry, oldest, oldest_from, EveryBehind, EveryBehind-append}
 
 -- what a search for the oldest finds
 abbrev pub Finds : (List Entry → Entry → Bool) → List Entry → Option (List Entry × Entry) → Type 0

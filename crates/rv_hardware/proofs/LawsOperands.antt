@@ -1,15 +1,14 @@
 -- An instruction starts after the broadcasts of its operands' producers, and a load after those of all older stores.
-use Rattle.rv_hardware.proofs.Words.{◌≡◌, ℕ, Bool, true, false, cond, List, [], ◌∷◌, ◌++◌, map, is_some, IfSome, Some, None, Option, sym, ap, subst, is_load, is_store, is_target, kind_of_word, sources_of_word, target_of_word, Instr, Values, Fetched, Hardware, last_from, last_that, Step}
+use Rattle.rv_hardware.proofs.Words.{◌≡◌, ℕ, Bool, true, false, cond, List, [], ◌∷◌, ◌++◌, map, is_some, IfSome, Some, None, Option, sym, ap, subst, is_load, is_store, is_target, kind_of_word, sources_of_word, target_of_word, Instr, Values, Each, Fetched, Hardware, last_from, last_that, Step, Each-set, Each-place, EveryBehind, EveryBehind-left, EveryBehind-append, EveryBehind-set}
 use Rattle.rv_hardware.proofs.LawsAdvance.{IsBefore, Advances, retires, starts, is_sent, enters, Starts, writes_mark, IsKnownMark, OperandsKnown, IsKnownStore}
 use Rattle.rv_hardware.proofs.LawsCycle.{KeptMarks, History, marks_of_history}
 use Rattle.rv_hardware.proofs.LawsEvidence.{last_from-append}
-use Rattle.rv_hardware.proofs.LawsLists.{Every, Every-place, Every-set, EveryBehind, EveryBehind-set, EveryBehind-left, EveryBehind-append}
 use Rattle.rv_hardware.proofs.LawsMarks.{Mark, mark_of_fetched, marks_in, Start}
 
 -- what a start finds of what is older
 pub record Found (before : List Mark) (i : Option Instr) (cycle : ℕ) : Type 0 where
   pub operands : OperandsKnown cycle before (sources_of_word i)
-  pub stores : is_load i ≡ true → Every (IsKnownStore cycle) before
+  pub stores : is_load i ≡ true → Each (IsKnownStore cycle) before
 
 -- where a mark started, its operands and, for a load, all older stores were known
 abbrev pub StartsBehind : List Mark → Mark → Type 0
@@ -64,8 +63,8 @@ module _ (m n : Mark) (goes : GoesOnWith m n) where
   operands_go_on c xs mid (None ∷ sources) h = (tt, operands_go_on c xs mid sources h.1)
   operands_go_on c xs mid (Some register ∷ sources) h = (last_goes_on c register xs mid h.0, operands_go_on c xs mid sources h.1)
 
-  stores_go_on : (c : ℕ) (xs mid : List Mark) → Every (IsKnownStore c) (xs ++ m ∷ mid) → Every (IsKnownStore c) (xs ++ n ∷ mid)
-  stores_go_on c xs mid h = Every-set (IsKnownStore c) xs mid m n (store_goes_on c (Every-place (IsKnownStore c) xs mid m h)) h
+  stores_go_on : (c : ℕ) (xs mid : List Mark) → Each (IsKnownStore c) (xs ++ m ∷ mid) → Each (IsKnownStore c) (xs ++ n ∷ mid)
+  stores_go_on c xs mid h = Each-set (IsKnownStore c) xs mid m n (store_goes_on c (Each-place (IsKnownStore c) xs mid m h)) h
 
   found_goes_on : (xs mid : List Mark) (z : Mark) (o : Option Start) → IfSome o (λ s. Found (xs ++ m ∷ mid) z.instruction s.cycle) → IfSome o (λ s. Found (xs ++ n ∷ mid) z.instruction s.cycle)
   found_goes_on xs mid z None h = tt

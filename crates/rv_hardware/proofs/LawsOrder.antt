@@ -1,10 +1,9 @@
 -- Instructions are fetched and dispatched in order, and the reorder buffer and the stations hold no more than they have room for.
-use Rattle.rv_hardware.proofs.Words.{◌≡◌, ℕ, ◌+◌, ◌<◌, ◌≤◌, Bool, true, false, ◌&&◌, List, [], ◌∷◌, ◌++◌, map, is_some, is_none, IfSome, Some, None, Option, sym, refl, ap, ◌∙◌, subst, arith, and_left, and_right, is_of_kind, kind_of_word, at_kind, Kind, Values, Fetched, Hardware, Step}
+use Rattle.rv_hardware.proofs.Words.{◌≡◌, ℕ, ◌+◌, ◌<◌, ◌≤◌, Bool, true, false, ◌&&◌, List, [], ◌∷◌, ◌++◌, map, is_some, is_none, IfSome, Some, None, Option, sym, refl, ap, ◌∙◌, subst, arith, and_left, and_right, is_of_kind, kind_of_word, at_kind, Kind, Values, Each, Fetched, Hardware, Step, Each-append, Each-left, Each-set, Each-place, Each-weaker, Each-all, Each-both, Each-map, EveryPair, count, Across, EveryPair-append, EveryPair-left, EveryPair-right, EveryPair-across, EveryPair-set, count-append, count-none, count-map, count-length, count-set-same, count-set-less, count-push-most, count-left}
 use Rattle.rv_hardware.proofs.LawsAdvance.{IsBefore, Advances, retires, starts, is_sent, enters, Enters, is_in_flight_mark, is_stationed_mark}
 use Rattle.rv_hardware.proofs.LawsBasics.{and_second}
 use Rattle.rv_hardware.proofs.LawsCycle.{NewWords, is_buffered_mark, KeptMarks, History, marks_of_history}
 use Rattle.rv_hardware.proofs.LawsFetch.{IsNew}
-use Rattle.rv_hardware.proofs.LawsLists.{Every, EveryPair, Across, Every-append, Every-both, Every-left, Every-place, Every-set, Every-weaker, Every-all, Every-map, EveryPair-set, EveryPair-left, EveryPair-right, EveryPair-append, EveryPair-across, count, count-append, count-length, count-none, count-set-same, count-set-less, count-push-most, count-left, count-map}
 use Rattle.rv_hardware.proofs.LawsMarks.{Mark, mark_of_fetched, marks_in}
 
 -- a later instruction was dispatched no earlier
@@ -17,7 +16,7 @@ DispatchedBy now m = IfSome m.dispatched (λ d. d ≤ now)
 pub record Orderly (v : Values) (now : ℕ) (ms : List Mark) : Type 0 where
   pub fetched : EveryPair (λ m n. m.fetched ≤ n.fetched) ms
   pub dispatched : EveryPair Dispatched ms
-  pub by_now : Every (DispatchedBy now) ms
+  pub by_now : Each (DispatchedBy now) ms
   pub buffer : count is_in_flight_mark ms ≤ v.rob
   pub words : count is_buffered_mark ms ≤ v.fetch_buffer
   pub stations : (k : Kind) → count (is_stationed_mark k) ms ≤ (at_kind k v.kinds).stations
@@ -40,7 +39,7 @@ module _ (v : Values) (now : ℕ) (xs ys : List Mark) (m n : Mark) where
   stays fetched dispatched flight station o = record {
     fetched = EveryPair-set (λ x y. x.fetched ≤ y.fetched) xs ys m n (λ z w. omega (arith, w, fetched)) (λ z w. omega (arith, w, fetched)) o.fetched;
     dispatched = EveryPair-set Dispatched xs ys m n (λ z w. subst (λ x. IfSome x (λ d. IsBefore (d + 1) z.dispatched)) (sym dispatched) w) (λ z w. subst (λ x. IfSome z.dispatched (λ d. IsBefore (d + 1) x)) (sym dispatched) w) o.dispatched;
-    by_now = Every-set (DispatchedBy now) xs ys m n (subst (λ x. IfSome x (λ d. d ≤ now)) (sym dispatched) (Every-place (DispatchedBy now) xs ys m o.by_now)) o.by_now;
+    by_now = Each-set (DispatchedBy now) xs ys m n (subst (λ x. IfSome x (λ d. d ≤ now)) (sym dispatched) (Each-place (DispatchedBy now) xs ys m o.by_now)) o.by_now;
     buffer = fewer is_in_flight_mark flight v.rob o.buffer;
     words = fewer is_buffered_mark (λ h. rw (dispatched) at h) v.fetch_buffer o.words;
     stations = λ k. fewer (is_stationed_mark k) (station k) (at_kind k v.kinds).stations (o.stations k);
@@ -68,26 +67,26 @@ module _ (v : Values) (now : ℕ) (xs ys : List Mark) (m n : Mark) where
     across : Across Dispatched xs (m ∷ ys)
     across = EveryPair-across Dispatched xs (m ∷ ys) o.dispatched
 
-    younger : Every (λ y. y.dispatched ≡ None) ys
-    younger = Every-weaker (Dispatched m) (λ y. y.dispatched ≡ None) (λ y w. none_before y.dispatched (subst (λ x. IfSome y.dispatched (λ d. IsBefore (d + 1) x)) a.not_yet w)) ys (pairs).0
+    younger : Each (λ y. y.dispatched ≡ None) ys
+    younger = Each-weaker (Dispatched m) (λ y. y.dispatched ≡ None) (λ y w. none_before y.dispatched (subst (λ x. IfSome y.dispatched (λ d. IsBefore (d + 1) x)) a.not_yet w)) ys (pairs).0
 
     n_dispatched : n.dispatched ≡ Some now
     n_dispatched = ap (λ x. x.dispatched) a.becomes
 
-    olders : Every (λ x. IsBefore (now + 1) x.dispatched) xs
-    olders = Every-both (λ x. is_some x.dispatched ≡ true) (DispatchedBy now) (λ x. IsBefore (now + 1) x.dispatched) (λ x is le. some_before x.dispatched is le) xs a.in_order (Every-left (DispatchedBy now) xs (m ∷ ys) o.by_now)
+    olders : Each (λ x. IsBefore (now + 1) x.dispatched) xs
+    olders = Each-both (λ x. is_some x.dispatched ≡ true) (DispatchedBy now) (λ x. IsBefore (now + 1) x.dispatched) (λ x is le. some_before x.dispatched is le) xs a.in_order (Each-left (DispatchedBy now) xs (m ∷ ys) o.by_now)
 
     entered_pairs : EveryPair Dispatched (xs ++ n ∷ ys)
     entered_pairs =
         EveryPair-append Dispatched xs (n ∷ ys) (EveryPair-left Dispatched xs (m ∷ ys) o.dispatched)
-        (Every-weaker (λ y. y.dispatched ≡ None) (Dispatched n) (λ y none. rw none tt) ys younger, (pairs).1)
-        (Every-both (λ x. Every (Dispatched x) (m ∷ ys)) (λ x. IsBefore (now + 1) x.dispatched) (λ x. Every (Dispatched x) (n ∷ ys)) (λ x w b. (rw n_dispatched b, w.1)) xs across olders)
+        (Each-weaker (λ y. y.dispatched ≡ None) (Dispatched n) (λ y none. rw none tt) ys younger, (pairs).1)
+        (Each-both (λ x. Each (Dispatched x) (m ∷ ys)) (λ x. IsBefore (now + 1) x.dispatched) (λ x. Each (Dispatched x) (n ∷ ys)) (λ x w b. (rw n_dispatched b, w.1)) xs across olders)
 
     not_in_flight : count is_in_flight_mark ys ≡ 0
-    not_in_flight = count-none is_in_flight_mark ys (Every-weaker (λ y. y.dispatched ≡ None) (λ y. is_in_flight_mark y ≡ false) (λ y none. rw none refl) ys younger)
+    not_in_flight = count-none is_in_flight_mark ys (Each-weaker (λ y. y.dispatched ≡ None) (λ y. is_in_flight_mark y ≡ false) (λ y none. rw none refl) ys younger)
 
     not_stationed : (k : Kind) → count (is_stationed_mark k) ys ≡ 0
-    not_stationed k = count-none (is_stationed_mark k) ys (Every-weaker (λ y. y.dispatched ≡ None) (λ y. is_stationed_mark k y ≡ false) (λ y none. rw none (and_right (is_of_kind k (kind_of_word y.instruction)) false refl)) ys younger)
+    not_stationed k = count-none (is_stationed_mark k) ys (Each-weaker (λ y. y.dispatched ≡ None) (λ y. is_stationed_mark k y ≡ false) (λ y none. rw none (and_right (is_of_kind k (kind_of_word y.instruction)) false refl)) ys younger)
 
     station_by : (k : Kind) (b : Bool) → is_of_kind k (kind_of_word m.instruction) ≡ b → count (is_stationed_mark k) (xs ++ n ∷ ys) ≤ (at_kind k v.kinds).stations
     station_by k true is =
@@ -104,7 +103,7 @@ module _ (v : Values) (now : ℕ) (xs ys : List Mark) (m n : Mark) where
         record {
           fetched = EveryPair-set (λ x y. x.fetched ≤ y.fetched) xs ys m n (λ z w. omega (arith, w, same)) (λ z w. omega (arith, w, same)) o.fetched;
           dispatched = entered_pairs;
-          by_now = Every-set (DispatchedBy now) xs ys m n (subst (λ x. IfSome x (λ d. d ≤ now)) (sym n_dispatched) (omega arith)) o.by_now;
+          by_now = Each-set (DispatchedBy now) xs ys m n (subst (λ x. IfSome x (λ d. d ≤ now)) (sym n_dispatched) (omega arith)) o.by_now;
           buffer = omega (arith, more, not_in_flight, a.room);
           words = let less = count-set-less is_buffered_mark xs ys m n (ap is_none n_dispatched) in omega (arith, less, o.words);
           stations = λ k. station_by k (is_of_kind k (kind_of_word m.instruction)) refl;
@@ -131,7 +130,7 @@ orderly_cut : (v : Values) (now : ℕ) (xs ys : List Mark) → Orderly v now (xs
 orderly_cut v now xs ys o = record {
   fetched = EveryPair-left (λ x y. x.fetched ≤ y.fetched) xs ys o.fetched;
   dispatched = EveryPair-left Dispatched xs ys o.dispatched;
-  by_now = Every-left (DispatchedBy now) xs ys o.by_now;
+  by_now = Each-left (DispatchedBy now) xs ys o.by_now;
   buffer = let less = count-left is_in_flight_mark xs ys in omega (arith, less, o.buffer);
   words = let less = count-left is_buffered_mark xs ys in omega (arith, less, o.words);
   stations = λ k. let less = count-left (is_stationed_mark k) xs ys in omega (arith, less, o.stations k);
@@ -140,27 +139,27 @@ orderly_cut v now xs ys o = record {
 not_there : (p : Mark → Bool) (ms : List Mark) (fs : List Fetched) → ((f : Fetched) → p (mark_of_fetched f) ≡ false) → count p (ms ++ map mark_of_fetched fs) ≡ count p ms
 not_there p ms fs none =
     let all = count-append p ms (map mark_of_fetched fs) in
-    let zero_more = count-map p mark_of_fetched fs ∙ count-none (λ f. p (mark_of_fetched f)) fs (Every-all (λ f. p (mark_of_fetched f) ≡ false) none fs) in
+    let zero_more = count-map p mark_of_fetched fs ∙ count-none (λ f. p (mark_of_fetched f)) fs (Each-all (λ f. p (mark_of_fetched f) ≡ false) none fs) in
     omega (arith, all, zero_more)
 
-new_in_order : (now : ℕ) (fs : List Fetched) → Every (IsNew now) fs → EveryPair (λ x y. x.fetched ≤ y.fetched) (map mark_of_fetched fs)
+new_in_order : (now : ℕ) (fs : List Fetched) → Each (IsNew now) fs → EveryPair (λ x y. x.fetched ≤ y.fetched) (map mark_of_fetched fs)
 new_in_order now [] are = tt
 new_in_order now (f ∷ fs) are =
-    (Every-map (λ y. f.cycle ≤ y.fetched) mark_of_fetched fs (Every-weaker (IsNew now) (λ g. f.cycle ≤ g.cycle) (λ g w. omega (arith, w.0, are.0.0)) fs are.1), new_in_order now fs are.1)
+    (Each-map (λ y. f.cycle ≤ y.fetched) mark_of_fetched fs (Each-weaker (IsNew now) (λ g. f.cycle ≤ g.cycle) (λ g w. omega (arith, w.0, are.0.0)) fs are.1), new_in_order now fs are.1)
 
 none_dispatched : (fs : List Fetched) → EveryPair Dispatched (map mark_of_fetched fs)
 none_dispatched [] = tt
-none_dispatched (f ∷ fs) = (Every-map (Dispatched (mark_of_fetched f)) mark_of_fetched fs (Every-all (λ g. Dispatched (mark_of_fetched f) (mark_of_fetched g)) (λ g. tt) fs), none_dispatched fs)
+none_dispatched (f ∷ fs) = (Each-map (Dispatched (mark_of_fetched f)) mark_of_fetched fs (Each-all (λ g. Dispatched (mark_of_fetched f) (mark_of_fetched g)) (λ g. tt) fs), none_dispatched fs)
 
 orderly_more : (v : Values) (now : ℕ) (ms : List Mark) (fs : List Fetched) → NewWords v now ms fs → Orderly v now ms → Orderly v (now + 1) (ms ++ map mark_of_fetched fs)
 orderly_more v now ms fs words o = record {
   fetched = EveryPair-append (λ x y. x.fetched ≤ y.fetched) ms (map mark_of_fetched fs) o.fetched (new_in_order now fs words.are_new)
-      (Every-weaker (λ m. m.fetched < now) (λ m. Every (λ y. m.fetched ≤ y.fetched) (map mark_of_fetched fs)) (λ m le. Every-map (λ y. m.fetched ≤ y.fetched) mark_of_fetched fs (Every-weaker (IsNew now) (λ g. m.fetched ≤ g.cycle) (λ g w. omega (arith, w.0, le)) fs words.are_new)) ms words.by_now);
+      (Each-weaker (λ m. m.fetched < now) (λ m. Each (λ y. m.fetched ≤ y.fetched) (map mark_of_fetched fs)) (λ m le. Each-map (λ y. m.fetched ≤ y.fetched) mark_of_fetched fs (Each-weaker (IsNew now) (λ g. m.fetched ≤ g.cycle) (λ g w. omega (arith, w.0, le)) fs words.are_new)) ms words.by_now);
   dispatched = EveryPair-append Dispatched ms (map mark_of_fetched fs) o.dispatched (none_dispatched fs)
-      (Every-all (λ m. Every (Dispatched m) (map mark_of_fetched fs)) (λ m. Every-map (Dispatched m) mark_of_fetched fs (Every-all (λ g. Dispatched m (mark_of_fetched g)) (λ g. tt) fs)) ms);
-  by_now = Every-append (DispatchedBy (now + 1)) ms (map mark_of_fetched fs)
-      (Every-weaker (DispatchedBy now) (DispatchedBy (now + 1)) (λ m w. later m.dispatched w) ms o.by_now)
-      (Every-map (DispatchedBy (now + 1)) mark_of_fetched fs (Every-all (λ f. DispatchedBy (now + 1) (mark_of_fetched f)) (λ f. tt) fs));
+      (Each-all (λ m. Each (Dispatched m) (map mark_of_fetched fs)) (λ m. Each-map (Dispatched m) mark_of_fetched fs (Each-all (λ g. Dispatched m (mark_of_fetched g)) (λ g. tt) fs)) ms);
+  by_now = Each-append (DispatchedBy (now + 1)) ms (map mark_of_fetched fs)
+      (Each-weaker (DispatchedBy now) (DispatchedBy (now + 1)) (λ m w. later m.dispatched w) ms o.by_now)
+      (Each-map (DispatchedBy (now + 1)) mark_of_fetched fs (Each-all (λ f. DispatchedBy (now + 1) (mark_of_fetched f)) (λ f. tt) fs));
   buffer = let same = not_there is_in_flight_mark ms fs (λ f. refl) in omega (arith, same, o.buffer);
   words =
       let all = count-append is_buffered_mark ms (map mark_of_fetched fs) in

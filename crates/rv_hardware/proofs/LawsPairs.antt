@@ -1,7 +1,6 @@
 -- A relation of each two marks gives one of each two rows, and the rows before a row are sound.
-use Rattle.rv_hardware.proofs.Words.{◌≡◌, ℕ, ◌≤◌, true, List, [], ◌∷◌, ◌++◌, map, Some, None, Option, refl, is_serialising, is_target, kind_of_word, target_of_word, Instr, Csr, FenceI, Mret, Values, Hardware, instruction_of_row, rows_of, Row, Step, Interrupt, Retired, Trap}
+use Rattle.rv_hardware.proofs.Words.{◌≡◌, ℕ, ◌≤◌, true, List, [], ◌∷◌, ◌++◌, map, Some, None, Option, refl, is_serialising, is_target, kind_of_word, target_of_word, Instr, Csr, FenceI, Mret, Values, Each, Hardware, instruction_of_row, rows_of, Row, Step, Interrupt, Retired, Trap, Each-append, Each-both, EveryPair, EveryBehind, EveryPair-left, EveryPair-weaker, EveryPair-unmap, EveryBehind-left, EveryBehind-unmap, EveryBehind-EveryPair}
 use Rattle.rv_hardware.proofs.LawsCycle.{History, history_is_sound}
-use Rattle.rv_hardware.proofs.LawsLists.{Every, Every-append, Every-both, EveryPair, EveryPair-left, EveryPair-unmap, EveryPair-weaker, EveryBehind, EveryBehind-left, EveryBehind-unmap, EveryBehind-EveryPair}
 use Rattle.rv_hardware.proofs.LawsMarks.{Mark, marks_in, mark_of_row, mark_of_entry, mark_of_fetched}
 use Rattle.rv_hardware.proofs.LawsOperands.{StartsBehind, history_starts_behind}
 use Rattle.rv_hardware.proofs.LawsRow.{SoundRow}
@@ -36,7 +35,7 @@ pub record Older (v : Values) (bound : ℕ) (row a : Row) : Type 0 where
 abbrev SerialFirst : Row → Row → Type 0
 SerialFirst a b = is_serialising (instruction_of_row a) ≡ true → a.retired ≤ b.fetched
 
-rows_after : (a : Row) (steps : List Step) → Every (InOrder (Retired a)) steps → Every (SerialFirst a) (rows_of steps)
+rows_after : (a : Row) (steps : List Step) → Each (InOrder (Retired a)) steps → Each (SerialFirst a) (rows_of steps)
 rows_after a [] h = tt
 rows_after a (Retired row ∷ steps) h = (h.0.anew, rows_after a steps h.1)
 rows_after a (Trap pc cause value cycle ∷ steps) h = rows_after a steps h.1
@@ -49,9 +48,9 @@ rows_in_pairs (Trap pc cause value cycle ∷ steps) h = rows_in_pairs steps h.1
 rows_in_pairs (Interrupt pc cause cycle ∷ steps) h = rows_in_pairs steps h.1
 
 -- each row after those that are older, which are sound
-every_before : {X : Type 0} (P : X → Type 0) (before xs : List X) → Every P before → Every P xs → EveryBehind (λ b x. Every P b) before xs
+every_before : {X : Type 0} (P : X → Type 0) (before xs : List X) → Each P before → Each P xs → EveryBehind (λ b x. Each P b) before xs
 every_before P before [] h g = tt
-every_before P before (x ∷ xs) h g = (h, every_before P (before ++ x ∷ []) xs (Every-append P before (x ∷ []) h (g.0, tt)) g.1)
+every_before P before (x ∷ xs) h g = (h, every_before P (before ++ x ∷ []) xs (Each-append P before (x ∷ []) h (g.0, tt)) g.1)
 
 -- what follows from two facts of each element behind others holds of each
 pub two_behind : {X : Type 0} (P Q R : List X → X → Type 0) → ((b : List X) (x : X) → P b x → Q b x → R b x) → (before xs : List X) → EveryBehind P before xs → EveryBehind Q before xs → EveryBehind R before xs
@@ -59,9 +58,9 @@ two_behind P Q R f before [] h g = tt
 two_behind P Q R f before (x ∷ xs) h g = (f before x h.0 g.0, two_behind P Q R f (before ++ x ∷ []) xs h.1 g.1)
 
 -- in every history what is known of older rows holds of all before a row
-pub rows_are_older : (v : Values) {steps : List Step} {h : Hardware} → History v steps h → EveryBehind (λ before row. Every (Older v h.cycle row) before) [] (rows_of steps)
+pub rows_are_older : (v : Values) {steps : List Step} {h : Hardware} → History v steps h → EveryBehind (λ before row. Each (Older v h.cycle row) before) [] (rows_of steps)
 rows_are_older v {steps} {h} history =
-    two_behind (λ before row. Every (SoundRow v h.cycle) before) (λ before row. Every (λ a. SerialFirst a row) before) (λ before row. Every (Older v h.cycle row) before)
-    (λ before row sounds serials. Every-both (SoundRow v h.cycle) (λ a. SerialFirst a row) (Older v h.cycle row) (λ a s t. record { sound = s; serial = t }) before sounds serials) [] (rows_of steps)
+    two_behind (λ before row. Each (SoundRow v h.cycle) before) (λ before row. Each (λ a. SerialFirst a row) before) (λ before row. Each (Older v h.cycle row) before)
+    (λ before row sounds serials. Each-both (SoundRow v h.cycle) (λ a. SerialFirst a row) (Older v h.cycle row) (λ a s t. record { sound = s; serial = t }) before sounds serials) [] (rows_of steps)
     (every_before (SoundRow v h.cycle) [] (rows_of steps) tt (history_is_sound v history).rows)
     (EveryBehind-EveryPair SerialFirst [] (rows_of steps) tt (rows_in_pairs steps (history_has_steps v history).pairs))

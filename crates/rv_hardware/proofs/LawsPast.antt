@@ -1,10 +1,9 @@
 -- What each cycle obeys at its end is so of the marks as they stood then, ever after.
-use Rattle.rv_hardware.proofs.Words.{◌≡◌, ℕ, ◌+◌, ◌<◌, ◌≤◌, false, List, [], ◌∷◌, ◌++◌, map, IfSome, Some, None, Option, sym, refl, ap, subst, inl, inr, arith, le-leb, cases_lt, Instr, Lines, Values, Entry, Stage, Finished, Running, Waiting, Fetched, Hardware, Report, rows_of, Execution, Row, Step}
+use Rattle.rv_hardware.proofs.Words.{◌≡◌, ℕ, ◌+◌, ◌<◌, ◌≤◌, false, List, [], ◌∷◌, ◌++◌, map, IfSome, Some, None, Option, sym, refl, ap, subst, inl, inr, arith, le-leb, cases_lt, Instr, Lines, Values, Each, Entry, Stage, Finished, Running, Waiting, Fetched, Hardware, Report, rows_of, Execution, Row, Step, Each-append, Each-weaker, Each-map, Beginning}
 use Rattle.rv_hardware.proofs.LawsBasics.{Basics}
 use Rattle.rv_hardware.proofs.LawsAdvance.{extends_kept}
 use Rattle.rv_hardware.proofs.LawsFetch.{IsNew}
 use Rattle.rv_hardware.proofs.LawsCycle.{dispatching, Passed, History, began, went_on, cycle_passes, history_is_legal, history_is_sound}
-use Rattle.rv_hardware.proofs.LawsLists.{Every, Every-append, Every-weaker, Every-map, Beginning}
 use Rattle.rv_hardware.proofs.LawsMarks.{Mark, Start, mark_of_row, mark_of_entry, mark_of_fetched, marks, marks_in, at_end, as_of, as_of-append, until, start_until, start_of_execution, broadcast_of_execution, start_of_stage, broadcast_of_stage, Extends, Extends-self, Extends-trans, Extends-more}
 use Rattle.rv_hardware.proofs.LawsRow.{SoundRow}
 use Rattle.rv_hardware.proofs.LawsSound.{SoundEntry, SoundFetched, SoundStage}
@@ -23,7 +22,7 @@ settled_keep : (now : ℕ) (m : Mark) (ms : List Mark) → Settled now m → as_
 settled_keep now m ms settled rest = rw (le-leb m.fetched now settled.0) (λ i. settled.1 i ∷ rest i)
 
 -- marks of which nothing is later stand at the end of a cycle as they are
-pub as_of_now : (now : ℕ) (ms : List Mark) → Every (Settled now) ms → as_of now ms ≡ ms
+pub as_of_now : (now : ℕ) (ms : List Mark) → Each (Settled now) ms → as_of now ms ≡ ms
 as_of_now now [] settled = refl
 as_of_now now (m ∷ ms) settled = settled_keep now m ms settled.0 (as_of_now now ms settled.1)
 
@@ -71,14 +70,14 @@ fetched_settled : (now : ℕ) (f : Fetched) → SoundFetched (now + 1) f → Set
 fetched_settled now f sound = (omega (arith, sound.0), refl)
 
 -- between two cycles nothing of a mark is later than the last
-pub marks_settled : (v : Values) (now : ℕ) (steps : List Step) (es : List Entry) (fs : List Fetched) → Every (SoundRow v (now + 1)) (rows_of steps) →
-    Every (SoundEntry v (now + 1) (now + 1) (now + 1)) es → Every (SoundFetched (now + 1)) fs → Every (Settled now) (marks steps es fs)
+pub marks_settled : (v : Values) (now : ℕ) (steps : List Step) (es : List Entry) (fs : List Fetched) → Each (SoundRow v (now + 1)) (rows_of steps) →
+    Each (SoundEntry v (now + 1) (now + 1) (now + 1)) es → Each (SoundFetched (now + 1)) fs → Each (Settled now) (marks steps es fs)
 marks_settled v now steps es fs rows entries words =
-    Every-append (Settled now) (map mark_of_row (rows_of steps)) (map mark_of_entry es ++ map mark_of_fetched fs)
-    (Every-map (Settled now) mark_of_row (rows_of steps) (Every-weaker (SoundRow v (now + 1)) (λ row. Settled now (mark_of_row row)) (row_settled v now) (rows_of steps) rows))
-    (Every-append (Settled now) (map mark_of_entry es) (map mark_of_fetched fs)
-    (Every-map (Settled now) mark_of_entry es (Every-weaker (SoundEntry v (now + 1) (now + 1) (now + 1)) (λ e. Settled now (mark_of_entry e)) (entry_settled v now) es entries))
-    (Every-map (Settled now) mark_of_fetched fs (Every-weaker (SoundFetched (now + 1)) (λ f. Settled now (mark_of_fetched f)) (fetched_settled now) fs words)))
+    Each-append (Settled now) (map mark_of_row (rows_of steps)) (map mark_of_entry es ++ map mark_of_fetched fs)
+    (Each-map (Settled now) mark_of_row (rows_of steps) (Each-weaker (SoundRow v (now + 1)) (λ row. Settled now (mark_of_row row)) (row_settled v now) (rows_of steps) rows))
+    (Each-append (Settled now) (map mark_of_entry es) (map mark_of_fetched fs)
+    (Each-map (Settled now) mark_of_entry es (Each-weaker (SoundEntry v (now + 1) (now + 1) (now + 1)) (λ e. Settled now (mark_of_entry e)) (entry_settled v now) es entries))
+    (Each-map (Settled now) mark_of_fetched fs (Each-weaker (SoundFetched (now + 1)) (λ f. Settled now (mark_of_fetched f)) (fetched_settled now) fs words)))
 
 -- what the marks of each past cycle obey
 abbrev pub Past : (ℕ → List Mark → Type 0) → List Step → Hardware → Type 0
@@ -95,7 +94,7 @@ module _ (v : Values) (P : ℕ → List Mark → Type 0) (closed : IsKeptByBegin
       let next : new.cycle ≡ old.cycle + 1 = ap (λ (h : Hardware). h.cycle) passed.others_stay in
       let ends = subst (λ n. Basics v n n n n n n (earlier ++ report.steps) new) next passed.ends in
       let d : Hardware = (dispatching lines old).hardware in
-      let words = Every-map (λ m. old.cycle ≤ m.fetched) mark_of_fetched passed.fetches.added (Every-weaker (IsNew old.cycle) (λ f. old.cycle ≤ f.cycle) (λ f w. omega (arith, w.0)) passed.fetches.added passed.fetches.are_new) in
+      let words = Each-map (λ m. old.cycle ≤ m.fetched) mark_of_fetched passed.fetches.added (Each-weaker (IsNew old.cycle) (λ f. old.cycle ≤ f.cycle) (λ f w. omega (arith, w.0)) passed.fetches.added passed.fetches.are_new) in
       let goes = subst (Extends old.cycle (marks_in earlier old)) (sym passed.new_marks)
       (Extends-trans old.cycle (marks_in earlier old) (marks_in (earlier ++ report.steps) d) (marks_in (earlier ++ report.steps) d ++ map mark_of_fetched passed.fetches.added) passed.dispatches.marks
       (Extends-more old.cycle (marks_in (earlier ++ report.steps) d) (map mark_of_fetched passed.fetches.added) words)) in

@@ -1,5 +1,5 @@
 -- Every phase keeps what is basic, turn by turn, and its marks go on.
-use Rattle.rv_hardware.proofs.Words.{◌≡◌, ℕ, ◌+◌, ◌<◌, ◌≤◌, Bool, true, false, cond, not, ◌&&◌, ◌||◌, List, [], ◌∷◌, ◌++◌, map, length, nat_le, Some, None, filter, Option, nat_cmp, sym, refl, ap, ◌∙◌, subst, append_assoc, append-nil, arith, leb-false, list_all, IsLegal, is_load, is_of_kind, is_serialising, kind_of_word, sources_of_word, at_kind, Message, StoreAccess, Issue, Kind, PerKind, Values, due, interrupt_cause, oldest_to_drain, is_known as is_known_store, Pool, finished, predicting, started, Entry, Fetched, broadcast, broadcast_turn, has_result, with_broadcast, with_recovery, Committing, commit, commit_turn, commit_unless, with_fault, Dispatching, dispatch, dispatch_turn, entry_of_fetched, has_full_stations, is_stationed, with_dispatched, drain, end_drain, start_drain, Hardware, cost_of, has_port, is_ready, issue, issue_kind, issue_turn, issued, may_load, path, with_access, Turn, written_of, stores_behind, rows_of, Step, Interrupt, Retired, Trap}
+use Rattle.rv_hardware.proofs.Words.{◌≡◌, ℕ, ◌+◌, ◌<◌, ◌≤◌, Bool, true, false, cond, not, ◌&&◌, ◌||◌, List, [], ◌∷◌, ◌++◌, map, length, nat_le, Some, None, filter, Option, nat_cmp, sym, refl, ap, ◌∙◌, subst, append_assoc, append-nil, arith, leb-false, list_all, IsLegal, is_load, is_of_kind, is_serialising, kind_of_word, sources_of_word, at_kind, Message, StoreAccess, Issue, Kind, PerKind, Values, due, interrupt_cause, Each, oldest_to_drain, is_known as is_known_store, Pool, finished, predicting, started, Entry, Fetched, broadcast, broadcast_turn, has_result, with_broadcast, with_recovery, Committing, commit, commit_turn, commit_unless, with_fault, Dispatching, dispatch, dispatch_turn, entry_of_fetched, has_full_stations, is_stationed, with_dispatched, drain, end_drain, start_drain, Hardware, cost_of, has_port, is_ready, issue, issue_kind, issue_turn, issued, may_load, path, with_access, Turn, written_of, stores_behind, rows_of, Step, Interrupt, Retired, Trap, Each-append, Each-left, Each-set, Each-place, Each-weaker, EveryBehind, EveryPair-append, EveryPair-left, EveryPair-across, EveryPair-set}
 use Rattle.std.specs.FinSet as set
 use Rattle.rv_isa.specs.declared.operations.Kind.TheVariants as kind
 use Rattle.rv_hardware.proofs.LawsAdvance.{Advances, Starts, IsSent, retires as a_retires, starts as a_starts, is_sent as a_is_sent, enters as a_enters, Kept}
@@ -9,7 +9,6 @@ use Rattle.rv_hardware.proofs.LawsBroadcast.{BroadcastTurn, none_ready as no_res
 use Rattle.rv_hardware.proofs.LawsCommit.{CommitTurn, no_head, stale_head, unfinished, fence_waits, fence_writes, fence_retires, executes, serial_faults, traps, retires, retires_last, executed, written_back, retired_with, retired_and_flushed, commit_turn_is}
 use Rattle.rv_hardware.proofs.LawsDispatch.{DispatchTurn, buffer_empty, waits, dispatches, dispatch_turn_is}
 use Rattle.rv_hardware.proofs.LawsIssue.{IssueTurn, no_unit, none_ready, starts, issue_turn_is, access_keeps, message_at, started_entries}
-use Rattle.rv_hardware.proofs.LawsLists.{Every, EveryBehind, Every-append, Every-weaker, Every-left, Every-place, Every-set, EveryPair-set, EveryPair-left, EveryPair-append, EveryPair-across}
 use Rattle.rv_hardware.proofs.LawsMarks.{Mark, start_of_issue, start_of_stage, broadcast_of_stage, mark_of_row, mark_of_entry, mark_of_fetched, marks, marks_in, marks_squashed, rows_append, marks_at_entry, marks_retired, marks_dispatched}
 use Rattle.rv_hardware.proofs.LawsRow.{SoundRow, row_at, row_is_sound, row_advances, may_retire_serial, may_retire_finished, MayRetire}
 use Rattle.rv_hardware.proofs.LawsShape.{HasShape, SameShape, same_shape, head_retired_capacity, head_retired_entries, pool_units, pool_pipelined}
@@ -36,14 +35,14 @@ module _ (v : Values) (now : ℕ) (R : List Mark → Type 0) (kept : Kept v now 
 
   -- everything is flushed after a step
   flush : (c : Committing) (g : Hardware) (s : Step) → Commits c → SameShape g c.hardware → g.cycle ≡ c.hardware.cycle → g.rob.entries ≡ [] → g.front.entries ≡ [] →
-      Every (SoundRow v (now + 1)) (rows_of (s ∷ [])) → (R (marks_in (earlier ++ c.steps) c.hardware) → R (marks ((earlier ++ c.steps) ++ s ∷ []) [] [])) →
+      Each (SoundRow v (now + 1)) (rows_of (s ∷ [])) → (R (marks_in (earlier ++ c.steps) c.hardware) → R (marks ((earlier ++ c.steps) ++ s ∷ []) [] [])) →
       Goes v now now now now now (now + 1) R (earlier ++ (c.steps ++ s ∷ [])) g
   flush c g s p shape cycle none none' row goes =
       rw (push c s) (record {
         basics = record {
           cycle = cycle ∙ p.basics.cycle;
           shape = same_shape v g c.hardware shape p.basics.shape;
-          rows = rw (rows_append (earlier ++ c.steps) (s ∷ [])) (Every-append (SoundRow v (now + 1)) (rows_of (earlier ++ c.steps)) (rows_of (s ∷ [])) p.basics.rows row);
+          rows = rw (rows_append (earlier ++ c.steps) (s ∷ [])) (Each-append (SoundRow v (now + 1)) (rows_of (earlier ++ c.steps)) (rows_of (s ∷ [])) p.basics.rows row);
           entries = rw none tt;
           fetched = rw none' tt;
           serial = rw none tt;
@@ -66,7 +65,7 @@ module _ (v : Values) (now : ℕ) (R : List Mark → Type 0) (kept : Kept v now 
 
   module _ (c : Committing) (e : Entry) (es : List Entry) (written : Option (ℕ × ℕ)) (place : c.hardware.rob.entries ≡ e ∷ es) (may : MayRetire e.instruction e.stage) (p : Commits c) where
     head_sound : SoundEntry v now now now e
-    head_sound = (subst (Every (SoundEntry v now now now)) place p.basics.entries).0
+    head_sound = (subst (Each (SoundEntry v now now now)) place p.basics.entries).0
 
     row_sound : SoundRow v (now + 1) (row_at e written c.hardware.cycle)
     row_sound = rw (p.basics.cycle) (row_is_sound v now e written head_sound may)
@@ -126,8 +125,8 @@ module _ (v : Values) (now : ℕ) (R : List Mark → Type 0) (kept : Kept v now 
           cycle = p.basics.cycle;
           shape = same_shape v g c.hardware (flushed_shape c g refl refl (head_retired_capacity c.hardware.rob) refl refl refl) p.basics.shape;
           rows = rw (rows_append (earlier ++ c.steps) (Retired (row_at e (written_of e message) c.hardware.cycle) ∷ []))
-              (Every-append (SoundRow v (now + 1)) (rows_of (earlier ++ c.steps)) (row_at e (written_of e message) c.hardware.cycle ∷ []) p.basics.rows (row_sound c e es (written_of e message) head.place may p, tt));
-          entries = subst (Every (SoundEntry v now now now)) (sym here) (subst (Every (SoundEntry v now now now)) head.place p.basics.entries).1;
+              (Each-append (SoundRow v (now + 1)) (rows_of (earlier ++ c.steps)) (row_at e (written_of e message) c.hardware.cycle ∷ []) p.basics.rows (row_sound c e es (written_of e message) head.place may p, tt));
+          entries = subst (Each (SoundEntry v now now now)) (sym here) (subst (Each (SoundEntry v now now now)) head.place p.basics.entries).1;
           fetched = p.basics.fetched;
           serial = subst SerialIsLast (sym here) (subst SerialIsLast head.place p.basics.serial).1;
         };
@@ -200,7 +199,7 @@ module _ (v : Values) (now bound : ℕ) (R : List Mark → Type 0) (kept : Kept 
       cycle = cycle ∙ p.basics.cycle;
       shape = same_shape v g h shape p.basics.shape;
       rows = p.basics.rows;
-      entries = rw at' (Every-set (SoundEntry v now (now + 1) bound) older younger e x sound (subst (Every (SoundEntry v now (now + 1) bound)) at p.basics.entries));
+      entries = rw at' (Each-set (SoundEntry v now (now + 1) bound) older younger e x sound (subst (Each (SoundEntry v now (now + 1) bound)) at p.basics.entries));
       fetched = rw front (p.basics.fetched);
       serial = rw at' (EveryPair-set (λ a y. is_serialising a.instruction ≡ false) older younger e x (λ z w. w) (λ z w. ap is_serialising same ∙ w) (subst SerialIsLast at p.basics.serial));
     };
@@ -210,7 +209,7 @@ module _ (v : Values) (now bound : ℕ) (R : List Mark → Type 0) (kept : Kept 
   }
 
   entry_sound : (h : Hardware) (older younger : List Entry) (e : Entry) → h.rob.entries ≡ older ++ e ∷ younger → Executes h → SoundEntry v now (now + 1) bound e
-  entry_sound h older younger e at p = Every-place (SoundEntry v now (now + 1) bound) older younger e (subst (Every (SoundEntry v now (now + 1) bound)) at p.basics.entries)
+  entry_sound h older younger e at p = Each-place (SoundEntry v now (now + 1) bound) older younger e (subst (Each (SoundEntry v now (now + 1) bound)) at p.basics.entries)
 
   issued_shape : (k : Kind) (h : Hardware) (older : List Entry) (e : Entry) → SameShape (issued k h older e) h
   issued_shape k h older e =
@@ -251,7 +250,7 @@ module _ (v : Values) (legal : IsLegal v) (now : ℕ) (R : List Mark → Type 0)
       let message : Message = message_at h older e in
       let x : Entry = started (record { cycle = h.cycle; cost = cost }) message e in
       let sound : SoundEntry v now (now + 1) now e = entry_sound v now now R kept steps h older younger e at p in
-      let olders : Every (SoundEntry v now (now + 1) now) older = Every-left (SoundEntry v now (now + 1) now) older (e ∷ younger) (subst (Every (SoundEntry v now (now + 1) now)) at p.basics.entries) in
+      let olders : Each (SoundEntry v now (now + 1) now) older = Each-left (SoundEntry v now (now + 1) now) older (e ∷ younger) (subst (Each (SoundEntry v now (now + 1) now)) at p.basics.entries) in
       record {
         start = start_of_issue (record { cycle = h.cycle; cost = cost }) message;
         becomes = λ i. record (mark_of_entry x) { broadcast = sym (ap broadcast_of_stage ready.waits) i };
@@ -313,17 +312,17 @@ module _ (v : Values) (now : ℕ) (R : List Mark → Type 0) (kept : Kept v now 
   squash : (r g : Hardware) (older younger : List Entry) (x y : Entry) → g.rob.entries ≡ older ++ x ∷ younger → r.rob.entries ≡ older ++ y ∷ [] → r.front.entries ≡ [] →
       r.cycle ≡ g.cycle → SameShape r g → (SoundEntry v now (now + 1) (now + 1) x → SoundEntry v now (now + 1) (now + 1) y) → mark_of_entry x ≡ mark_of_entry y → Broadcasts g → Broadcasts r
   squash r g older younger x y at at' none cycle shape sound same q =
-      let entries = subst (Every (SoundEntry v now (now + 1) (now + 1))) at q.basics.entries in
+      let entries = subst (Each (SoundEntry v now (now + 1) (now + 1))) at q.basics.entries in
       let serial = subst SerialIsLast at q.basics.serial in
       record {
         basics = record {
           cycle = cycle ∙ q.basics.cycle;
           shape = same_shape v r g shape q.basics.shape;
           rows = q.basics.rows;
-          entries = rw at' (Every-append (SoundEntry v now (now + 1) (now + 1)) older (y ∷ []) (Every-left (SoundEntry v now (now + 1) (now + 1)) older (x ∷ younger) entries) (sound (Every-place (SoundEntry v now (now + 1) (now + 1)) older younger x entries), tt));
+          entries = rw at' (Each-append (SoundEntry v now (now + 1) (now + 1)) older (y ∷ []) (Each-left (SoundEntry v now (now + 1) (now + 1)) older (x ∷ younger) entries) (sound (Each-place (SoundEntry v now (now + 1) (now + 1)) older younger x entries), tt));
           fetched = rw none tt;
           serial = rw at' (EveryPair-append (λ a z. is_serialising a.instruction ≡ false) older (y ∷ []) (EveryPair-left (λ a z. is_serialising a.instruction ≡ false) older (x ∷ younger) serial) (tt, tt)
-              (Every-weaker (λ a. Every (λ z. is_serialising a.instruction ≡ false) (x ∷ younger)) (λ a. Every (λ z. is_serialising a.instruction ≡ false) (y ∷ [])) (λ a w. (w.0, tt)) older
+              (Each-weaker (λ a. Each (λ z. is_serialising a.instruction ≡ false) (x ∷ younger)) (λ a. Each (λ z. is_serialising a.instruction ≡ false) (y ∷ [])) (λ a w. (w.0, tt)) older
               (EveryPair-across (λ a z. is_serialising a.instruction ≡ false) older (x ∷ younger) serial)));
         };
         marks = marks_from R steps steps r g (older ++ y ∷ []) [] at' none q.marks
@@ -336,7 +335,7 @@ module _ (v : Values) (now : ℕ) (R : List Mark → Type 0) (kept : Kept v now 
   pub send_is : (h : Hardware) (older younger : List Entry) (e : Entry) (issue : Issue) (message : Message) → Sends h older younger e issue message → Broadcasts h →
       IsSent now (map mark_of_row (rows_of steps) ++ map mark_of_entry older) (mark_of_entry e) (mark_of_entry (finished message h.cycle e))
   send_is h older younger e issue message sent p =
-      let olders : Every (SoundEntry v now (now + 1) (now + 1)) older = Every-left (SoundEntry v now (now + 1) (now + 1)) older (e ∷ younger) (subst (Every (SoundEntry v now (now + 1) (now + 1))) sent.place p.basics.entries) in
+      let olders : Each (SoundEntry v now (now + 1) (now + 1)) older = Each-left (SoundEntry v now (now + 1) (now + 1)) older (e ∷ younger) (subst (Each (SoundEntry v now (now + 1) (now + 1))) sent.place p.basics.entries) in
       record {
         start = start_of_issue issue message;
         becomes = ap (λ n. mark_of_entry (finished message n e)) p.basics.cycle ∙ finished_mark now e issue message sent.runs;
@@ -394,17 +393,17 @@ module _ (v : Values) (now : ℕ) (R : List Mark → Type 0) (kept : Kept v now 
       let h : Hardware = d.hardware in
       let g : Hardware = with_dispatched f fs h in
       let e : Entry = entry_of_fetched h f in
-      let sound = subst (Every (SoundFetched now)) at p.basics.fetched in
+      let sound = subst (Each (SoundFetched now)) at p.basics.fetched in
       let buffer = leb-false h.rob.capacity (length h.rob.entries) nothing.buffer in
       record {
         basics = record {
           cycle = p.basics.cycle;
           shape = same_shape v g h (record { values = refl; cache = refl; buffer = refl; room = refl; width = refl; units = λ k. refl; pipelined = λ k. refl }) p.basics.shape;
           rows = p.basics.rows;
-          entries = Every-append (SoundEntry v (now + 1) (now + 1) (now + 1)) h.rob.entries (e ∷ []) p.basics.entries (dispatched_sound v now h f p.basics.cycle sound.0, tt);
+          entries = Each-append (SoundEntry v (now + 1) (now + 1) (now + 1)) h.rob.entries (e ∷ []) p.basics.entries (dispatched_sound v now h f p.basics.cycle sound.0, tt);
           fetched = sound.1;
           serial = EveryPair-append (λ a z. is_serialising a.instruction ≡ false) h.rob.entries (e ∷ []) p.basics.serial (tt, tt)
-              (Every-weaker (λ a. is_serialising a.instruction ≡ false) (λ a. Every (λ z. is_serialising a.instruction ≡ false) (e ∷ [])) (λ a w. (w, tt)) h.rob.entries (none_serialises h.rob.entries nothing.serial));
+              (Each-weaker (λ a. is_serialising a.instruction ≡ false) (λ a. Each (λ z. is_serialising a.instruction ≡ false) (e ∷ [])) (λ a w. (w, tt)) h.rob.entries (none_serialises h.rob.entries nothing.serial));
         };
         marks = marks_from R steps steps g h (h.rob.entries ++ e ∷ []) fs refl refl p.marks
             (rw (at, marks_dispatched steps h.rob.entries f fs, marks_at_entry steps h.rob.entries [] e fs)
@@ -434,8 +433,8 @@ goes_later v now d a b f r d' a' b' r' R steps h le le' le'' le''' p = record {
   basics = record {
     cycle = p.basics.cycle;
     shape = p.basics.shape;
-    rows = Every-weaker (SoundRow v r) (SoundRow v r') (λ row w. record { stamps = w.stamps; cost = w.cost; below = omega (arith, w.below) }) (rows_of steps) p.basics.rows;
-    entries = Every-weaker (SoundEntry v d a b) (SoundEntry v d' a' b') (λ e w. sound_later v d a b d' a' b' le le' le'' e w) h.rob.entries p.basics.entries;
+    rows = Each-weaker (SoundRow v r) (SoundRow v r') (λ row w. record { stamps = w.stamps; cost = w.cost; below = omega (arith, w.below) }) (rows_of steps) p.basics.rows;
+    entries = Each-weaker (SoundEntry v d a b) (SoundEntry v d' a' b') (λ e w. sound_later v d a b d' a' b' le le' le'' e w) h.rob.entries p.basics.entries;
     fetched = p.basics.fetched;
     serial = p.basics.serial;
   };

@@ -1,5 +1,5 @@
 -- Through every phase the port is busy until each load that uses the cache is over, and one begins when all others are.
-use Rattle.rv_hardware.proofs.Words.{◌≡◌, ℕ, ◌+◌, ◌<◌, ◌≤◌, Bool, true, false, cond, not, ◌&&◌, ◌⊎◌, List, [], ◌∷◌, ◌++◌, length, IfSome, nat_le, ◌==◌, Some, None, Option, nat_cmp, sym, refl, ap, ◌∙◌, subst, inl, inr, true≢false, append_assoc, arith, leb-true, IsLegal, is_load, at_kind, StoreAccess, Instr, Lines, Kind, Values, due, oldest_to_drain, finished, predicting, started, ReorderBuffer, Entry, broadcast_turn, with_broadcast, with_recovery, Committing, commit_turn, commit_unless, with_fault, with_lines, Dispatching, dispatch_turn, entry_of_fetched, drain, end_drain, start_drain, Hardware, cost_of, has_port, issue, issue_kind, issue_turn, issued, path, with_access, Turn, Report, seen_behind, Step}
+use Rattle.rv_hardware.proofs.Words.{◌≡◌, ℕ, ◌+◌, ◌<◌, ◌≤◌, Bool, true, false, cond, not, ◌&&◌, ◌⊎◌, List, [], ◌∷◌, ◌++◌, length, IfSome, nat_le, ◌==◌, Some, None, Option, nat_cmp, sym, refl, ap, ◌∙◌, subst, inl, inr, true≢false, append_assoc, arith, leb-true, IsLegal, is_load, at_kind, StoreAccess, Instr, Lines, Kind, Values, due, Each, oldest_to_drain, finished, predicting, started, ReorderBuffer, Entry, broadcast_turn, with_broadcast, with_recovery, Committing, commit_turn, commit_unless, with_fault, with_lines, Dispatching, dispatch_turn, entry_of_fetched, drain, end_drain, start_drain, Hardware, cost_of, has_port, issue, issue_kind, issue_turn, issued, path, with_access, Turn, Report, seen_behind, Step, Each-append, Each-left, Each-right, Each-set, Each-place, Each-weaker, Each-all, Each-both, EveryPair, EveryPair-append, EveryPair-left, EveryPair-right, EveryPair-across, EveryPair-set}
 use Rattle.std.specs.FinSet as set
 use Rattle.rv_isa.specs.declared.operations.Kind.TheVariants as kind
 use Rattle.rv_hardware.proofs.LawsBasics.{Ready, ready_has, finished_mark, dispatched_mark, and_first, and_second}
@@ -8,7 +8,6 @@ use Rattle.rv_hardware.proofs.LawsCommit.{CommitTurn, no_head, stale_head, unfin
 use Rattle.rv_hardware.proofs.LawsCycle.{Anything, anything_is_kept, Passed, committing, drained, issued_all, sent_all, dispatching}
 use Rattle.rv_hardware.proofs.LawsDispatch.{DispatchTurn, buffer_empty, waits, dispatches, dispatch_turn_is}
 use Rattle.rv_hardware.proofs.LawsIssue.{IssueTurn, no_unit, none_ready, starts, issue_turn_is, message_at, started_entries}
-use Rattle.rv_hardware.proofs.LawsLists.{Every, EveryPair, Every-append, Every-all, Every-both, Every-weaker, Every-left, Every-right, Every-place, Every-set, EveryPair-append, EveryPair-left, EveryPair-right, EveryPair-across, EveryPair-set}
 use Rattle.rv_hardware.proofs.LawsMarks.{Mark, Start, mark_of_entry, start_of_issue}
 use Rattle.rv_hardware.proofs.LawsPhases.{Issues, issue_turn_keeps, drain_same, with_marks}
 use Rattle.rv_hardware.proofs.LawsPort.{uses_cache, WhereUsed, OverBy, OneAtATime, path_of_user, has_its_port, port_grows}
@@ -22,7 +21,7 @@ Tied v c m = WhereUsed v m (λ s. (s.cycle + s.cost ≤ c) × (0 < s.cost))
 
 -- the port is busy until each load that uses the cache is over, and none began before another was
 pub record PortOk (v : Values) (now : ℕ) (h : Hardware) : Type 0 where
-  pub tie : Every (λ e. Tied v h.port_free (mark_of_entry e)) h.rob.entries
+  pub tie : Each (λ e. Tied v h.port_free (mark_of_entry e)) h.rob.entries
   pub pairs : EveryPair (λ a b. OneAtATime v now (mark_of_entry a) (mark_of_entry b)) h.rob.entries
 
 used_weaker : (v : Values) (i : Option Instr) (o : Option Start) (P Q : Start → Type 0) → ((s : Start) → P s → Q s) → IfSome o (λ s. uses_cache v i s ≡ true → P s) → IfSome o (λ s. uses_cache v i s ≡ true → Q s)
@@ -39,7 +38,7 @@ tied_over v c d m le h = used_weaker v m.instruction m.start (λ s. (s.cycle + s
 
 pub port_same : (v : Values) (now : ℕ) (g h : Hardware) → g.rob.entries ≡ h.rob.entries → h.port_free ≤ g.port_free → PortOk v now h → PortOk v now g
 port_same v now g h at le ok = record {
-  tie = rw at (Every-weaker (λ e. Tied v h.port_free (mark_of_entry e)) (λ e. Tied v g.port_free (mark_of_entry e)) (λ e k. tied_later v h.port_free g.port_free (mark_of_entry e) le k) h.rob.entries ok.tie);
+  tie = rw at (Each-weaker (λ e. Tied v h.port_free (mark_of_entry e)) (λ e. Tied v g.port_free (mark_of_entry e)) (λ e k. tied_later v h.port_free g.port_free (mark_of_entry e) le k) h.rob.entries ok.tie);
   pairs = rw at (ok.pairs);
 }
 
@@ -48,7 +47,7 @@ port_none v now g at = record { tie = rw at tt; pairs = rw at tt }
 
 port_tail : (v : Values) (now : ℕ) (g h : Hardware) (e : Entry) (es : List Entry) → h.rob.entries ≡ e ∷ es → g.rob.entries ≡ es → g.port_free ≡ h.port_free → PortOk v now h → PortOk v now g
 port_tail v now g h e es at at' port ok = record {
-  tie = rw (at', port) (subst (Every (λ x. Tied v h.port_free (mark_of_entry x))) at ok.tie).1;
+  tie = rw (at', port) (subst (Each (λ x. Tied v h.port_free (mark_of_entry x))) at ok.tie).1;
   pairs = rw at' (subst (EveryPair (λ a b. OneAtATime v now (mark_of_entry a) (mark_of_entry b))) at ok.pairs).1;
 }
 
@@ -147,32 +146,32 @@ module _ (v : Values) (legal : IsLegal v) (now : ℕ) (steps : List Step) where
     grows : h.port_free ≤ new_port
     grows = port_grows h (path h older e) (has_its_port h older e ready.load)
 
-    others : (xs : List Entry) → Every (λ z. Tied v h.port_free (mark_of_entry z)) xs → Every (λ z. OneAtATime v now (mark_of_entry z) (mark_of_entry new_entry)) xs
+    others : (xs : List Entry) → Each (λ z. Tied v h.port_free (mark_of_entry z)) xs → Each (λ z. OneAtATime v now (mark_of_entry z) (mark_of_entry new_entry)) xs
     others xs tie = by_use (uses_cache v e.instruction (new_start)) refl
       where
-        by_use : (b : Bool) → uses_cache v e.instruction (new_start) ≡ b → Every (λ z. OneAtATime v now (mark_of_entry z) (mark_of_entry new_entry)) xs
+        by_use : (b : Bool) → uses_cache v e.instruction (new_start) ≡ b → Each (λ z. OneAtATime v now (mark_of_entry z) (mark_of_entry new_entry)) xs
         by_use true used =
-            Every-weaker (λ z. Tied v h.port_free (mark_of_entry z)) (λ z. OneAtATime v now (mark_of_entry z) (mark_of_entry new_entry))
+            Each-weaker (λ z. Tied v h.port_free (mark_of_entry z)) (λ z. OneAtATime v now (mark_of_entry z) (mark_of_entry new_entry))
             (λ z k. pair_with_new v now (mark_of_entry z) (mark_of_entry new_entry) (inl (tied_later v h.port_free now (mark_of_entry z) (let idle = (by_cache used).0 in omega (arith, idle, p.0.basics.cycle)) k))) xs tie
         by_use false used =
-            Every-weaker (λ z. Tied v h.port_free (mark_of_entry z)) (λ z. OneAtATime v now (mark_of_entry z) (mark_of_entry new_entry))
+            Each-weaker (λ z. Tied v h.port_free (mark_of_entry z)) (λ z. OneAtATime v now (mark_of_entry z) (mark_of_entry new_entry))
             (λ z k. pair_with_new v now (mark_of_entry z) (mark_of_entry new_entry) (inr (λ is. absurd (true≢false (sym is ∙ used))))) xs tie
 
     pub started_port : PortOk v now (issued k h older e)
     started_port =
-        let tie = subst (Every (λ z. Tied v h.port_free (mark_of_entry z))) at p.1.tie in
+        let tie = subst (Each (λ z. Tied v h.port_free (mark_of_entry z))) at p.1.tie in
         let pairs = subst (EveryPair (λ a b. OneAtATime v now (mark_of_entry a) (mark_of_entry b))) at p.1.pairs in
-        let olders = Every-left (λ z. Tied v h.port_free (mark_of_entry z)) older (e ∷ younger) tie in
-        let youngers = (Every-right (λ z. Tied v h.port_free (mark_of_entry z)) older (e ∷ younger) tie).1 in
+        let olders = Each-left (λ z. Tied v h.port_free (mark_of_entry z)) older (e ∷ younger) tie in
+        let youngers = (Each-right (λ z. Tied v h.port_free (mark_of_entry z)) older (e ∷ younger) tie).1 in
         let right = EveryPair-right (λ a b. OneAtATime v now (mark_of_entry a) (mark_of_entry b)) older (e ∷ younger) pairs in
         record {
           tie = rw (started_entries k h older younger e at)
-              (Every-set (λ z. Tied v new_port (mark_of_entry z)) older younger e new_entry (λ used. ((by_cache used).1, positive_cost v legal h p.0.basics.shape k (path h older e)))
-              (Every-weaker (λ z. Tied v h.port_free (mark_of_entry z)) (λ z. Tied v new_port (mark_of_entry z)) (λ z w. tied_later v h.port_free new_port (mark_of_entry z) grows w) (older ++ e ∷ younger) tie));
+              (Each-set (λ z. Tied v new_port (mark_of_entry z)) older younger e new_entry (λ used. ((by_cache used).1, positive_cost v legal h p.0.basics.shape k (path h older e)))
+              (Each-weaker (λ z. Tied v h.port_free (mark_of_entry z)) (λ z. Tied v new_port (mark_of_entry z)) (λ z w. tied_later v h.port_free new_port (mark_of_entry z) grows w) (older ++ e ∷ younger) tie));
           pairs = rw (started_entries k h older younger e at)
               (EveryPair-append (λ a b. OneAtATime v now (mark_of_entry a) (mark_of_entry b)) older (new_entry ∷ younger) (EveryPair-left (λ a b. OneAtATime v now (mark_of_entry a) (mark_of_entry b)) older (e ∷ younger) pairs)
-              (Every-weaker (λ z. OneAtATime v now (mark_of_entry z) (mark_of_entry new_entry)) (λ z. OneAtATime v now (mark_of_entry new_entry) (mark_of_entry z)) (λ z w. turned v now (mark_of_entry z) (mark_of_entry new_entry) w) younger (others younger youngers), right.1)
-              (Every-both (λ a. Every (λ b. OneAtATime v now (mark_of_entry a) (mark_of_entry b)) (e ∷ younger)) (λ a. OneAtATime v now (mark_of_entry a) (mark_of_entry new_entry)) (λ a. Every (λ b. OneAtATime v now (mark_of_entry a) (mark_of_entry b)) (new_entry ∷ younger)) (λ a w n. (n, w.1)) older
+              (Each-weaker (λ z. OneAtATime v now (mark_of_entry z) (mark_of_entry new_entry)) (λ z. OneAtATime v now (mark_of_entry new_entry) (mark_of_entry z)) (λ z w. turned v now (mark_of_entry z) (mark_of_entry new_entry) w) younger (others younger youngers), right.1)
+              (Each-both (λ a. Each (λ b. OneAtATime v now (mark_of_entry a) (mark_of_entry b)) (e ∷ younger)) (λ a. OneAtATime v now (mark_of_entry a) (mark_of_entry new_entry)) (λ a. Each (λ b. OneAtATime v now (mark_of_entry a) (mark_of_entry b)) (new_entry ∷ younger)) (λ a w n. (n, w.1)) older
               (EveryPair-across (λ a b. OneAtATime v now (mark_of_entry a) (mark_of_entry b)) older (e ∷ younger) pairs) (others older olders)));
         }
 
@@ -204,10 +203,10 @@ same_second v now m n z instruction start h = turned v now n z (same_first v now
 
 module _ (v : Values) (now : ℕ) (g h : Hardware) (older younger : List Entry) (e x : Entry) (at : h.rob.entries ≡ older ++ e ∷ younger)
     (instruction : (mark_of_entry x).instruction ≡ (mark_of_entry e).instruction) (start : (mark_of_entry x).start ≡ (mark_of_entry e).start) (port : g.port_free ≡ h.port_free) (ok : PortOk v now h) where
-  set_tie : Every (λ z. Tied v g.port_free (mark_of_entry z)) (older ++ x ∷ younger)
+  set_tie : Each (λ z. Tied v g.port_free (mark_of_entry z)) (older ++ x ∷ younger)
   set_tie =
-      rw port (let tie = subst (Every (λ z. Tied v h.port_free (mark_of_entry z))) at ok.tie in
-      Every-set (λ z. Tied v h.port_free (mark_of_entry z)) older younger e x (same_tied v h.port_free (mark_of_entry e) (mark_of_entry x) instruction start (Every-place (λ z. Tied v h.port_free (mark_of_entry z)) older younger e tie)) tie)
+      rw port (let tie = subst (Each (λ z. Tied v h.port_free (mark_of_entry z))) at ok.tie in
+      Each-set (λ z. Tied v h.port_free (mark_of_entry z)) older younger e x (same_tied v h.port_free (mark_of_entry e) (mark_of_entry x) instruction start (Each-place (λ z. Tied v h.port_free (mark_of_entry z)) older younger e tie)) tie)
 
   set_pairs : EveryPair (λ a b. OneAtATime v now (mark_of_entry a) (mark_of_entry b)) (older ++ x ∷ younger)
   set_pairs =
@@ -220,7 +219,7 @@ module _ (v : Values) (now : ℕ) (g h : Hardware) (older younger : List Entry) 
 
   port_cut : g.rob.entries ≡ older ++ x ∷ [] → PortOk v now g
   port_cut at' = record {
-    tie = rw at' (Every-left (λ z. Tied v g.port_free (mark_of_entry z)) (older ++ x ∷ []) younger (rw (append_assoc older (x ∷ []) younger) set_tie));
+    tie = rw at' (Each-left (λ z. Tied v g.port_free (mark_of_entry z)) (older ++ x ∷ []) younger (rw (append_assoc older (x ∷ []) younger) set_tie));
     pairs = rw at' (EveryPair-left (λ a b. OneAtATime v now (mark_of_entry a) (mark_of_entry b)) (older ++ x ∷ []) younger (rw (append_assoc older (x ∷ []) younger) set_pairs));
   }
 
@@ -250,9 +249,9 @@ dispatch_port v now d _ (dispatches f fs at nothing) p =
     let e : Entry = entry_of_fetched h f in
     let none = ap (λ (m : Mark). m.start) (dispatched_mark h f) in
     record {
-      tie = Every-append (λ z. Tied v h.port_free (mark_of_entry z)) h.rob.entries (e ∷ []) p.tie (not_started v (mark_of_entry e) (λ s. (s.cycle + s.cost ≤ h.port_free) × (0 < s.cost)) none, tt);
+      tie = Each-append (λ z. Tied v h.port_free (mark_of_entry z)) h.rob.entries (e ∷ []) p.tie (not_started v (mark_of_entry e) (λ s. (s.cycle + s.cost ≤ h.port_free) × (0 < s.cost)) none, tt);
       pairs = EveryPair-append (λ a b. OneAtATime v now (mark_of_entry a) (mark_of_entry b)) h.rob.entries (e ∷ []) p.pairs (tt, tt)
-          (Every-all (λ a. Every (λ b. OneAtATime v now (mark_of_entry a) (mark_of_entry b)) (e ∷ [])) (λ a. (new_pair v now (mark_of_entry a) (mark_of_entry e) none, tt)) h.rob.entries);
+          (Each-all (λ a. Each (λ b. OneAtATime v now (mark_of_entry a) (mark_of_entry b)) (e ∷ [])) (λ a. (new_pair v now (mark_of_entry a) (mark_of_entry e) none, tt)) h.rob.entries);
     }
 
 -- a cycle

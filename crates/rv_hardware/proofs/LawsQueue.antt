@@ -1,6 +1,5 @@
 -- The retired stores in the queue are the last store rows, and the access of each earlier one is over.
-use Rattle.rv_hardware.proofs.Words.{◌≡◌, ℕ, ◌+◌, ◌≤◌, Bool, true, false, cond, List, [], ◌∷◌, ◌++◌, length, is_some, Some, None, filter, Option, sym, refl, ap, ◌∙◌, append_assoc, append-nil, arith, filter-append, StoreAccess, with_oldest_draining, without_drained, is_draining, Store, committed_store, is_store_row, Row}
-use Rattle.rv_hardware.proofs.LawsLists.{Every, Every-append, Every-weaker}
+use Rattle.rv_hardware.proofs.Words.{◌≡◌, ℕ, ◌+◌, ◌≤◌, Bool, true, false, cond, List, [], ◌∷◌, ◌++◌, length, is_some, Some, None, filter, Option, sym, refl, ap, ◌∙◌, append_assoc, append-nil, arith, filter-append, StoreAccess, Each, with_oldest_draining, without_drained, is_draining, Store, committed_store, is_store_row, Row, Each-append, Each-weaker}
 
 -- row by row, the queue's retired stores; the port is busy until the access is over that one has begun
 abbrev pub AreQueued : ℕ → ℕ → List Row → List Store → Type 0
@@ -14,8 +13,8 @@ pub record QueueOk (hit now : ℕ) (rows : List Row) (port : ℕ) (committed : L
   pub gone : List Row
   pub kept : List Row
   pub split : filter is_store_row rows ≡ gone ++ kept
-  pub over : Every (λ row. row.retired + hit ≤ now) gone
-  pub by_now : Every (λ row. row.retired ≤ now) kept
+  pub over : Each (λ row. row.retired + hit ≤ now) gone
+  pub by_now : Each (λ row. row.retired ≤ now) kept
   pub queued : AreQueued hit port kept committed
 
 queued_later : (hit p q : ℕ) (rows : List Row) (ss : List Store) → p ≤ q → AreQueued hit p rows ss → AreQueued hit q rows ss
@@ -48,8 +47,8 @@ module _ (hit now : ℕ) (rows : List Row) (port : ℕ) (committed : List Store)
     gone = ok.gone;
     kept = ok.kept;
     split = ok.split;
-    over = Every-weaker (λ row. row.retired + hit ≤ now) (λ row. row.retired + hit ≤ next) (λ row by. omega (arith, by, le)) ok.gone ok.over;
-    by_now = Every-weaker (λ row. row.retired ≤ now) (λ row. row.retired ≤ next) (λ row by. omega (arith, by, le)) ok.kept ok.by_now;
+    over = Each-weaker (λ row. row.retired + hit ≤ now) (λ row. row.retired + hit ≤ next) (λ row by. omega (arith, by, le)) ok.gone ok.over;
+    by_now = Each-weaker (λ row. row.retired ≤ now) (λ row. row.retired ≤ next) (λ row by. omega (arith, by, le)) ok.kept ok.by_now;
     queued = ok.queued;
   }
 
@@ -70,7 +69,7 @@ module _ (hit now : ℕ) (rows : List Row) (port : ℕ) (committed : List Store)
     kept = ok.kept ++ row ∷ [];
     split = filter-append is_store_row rows (row ∷ []) ∙ ap (λ b. filter is_store_row rows ++ cond b (row ∷ []) []) store ∙ ap (λ l. l ++ row ∷ []) ok.split ∙ append_assoc ok.gone ok.kept (row ∷ []);
     over = ok.over;
-    by_now = Every-append (λ r. r.retired ≤ now) ok.kept (row ∷ []) ok.by_now (le, tt);
+    by_now = Each-append (λ r. r.retired ≤ now) ok.kept (row ∷ []) ok.by_now (le, tt);
     queued = queued_push hit port ok.kept committed row s waits ok.queued;
   }
 
@@ -82,19 +81,19 @@ module _ (hit now : ℕ) (rows : List Row) (port : ℕ) (committed : List Store)
 -- a drain
 
 module _ (hit now : ℕ) (rows : List Row) (port : ℕ) (idle : port ≤ now) where
-  leaves_by : (b : Bool) (s : Store) (ss : List Store) (gone kept : List Row) (row : Row) → is_draining s ≡ b → filter is_store_row rows ≡ gone ++ row ∷ kept → Every (λ r. r.retired + hit ≤ now) gone →
-      Every (λ r. r.retired ≤ now) (row ∷ kept) → AreQueued hit port (row ∷ kept) (s ∷ ss) → QueueOk hit now rows port (cond b ss (s ∷ ss))
+  leaves_by : (b : Bool) (s : Store) (ss : List Store) (gone kept : List Row) (row : Row) → is_draining s ≡ b → filter is_store_row rows ≡ gone ++ row ∷ kept → Each (λ r. r.retired + hit ≤ now) gone →
+      Each (λ r. r.retired ≤ now) (row ∷ kept) → AreQueued hit port (row ∷ kept) (s ∷ ss) → QueueOk hit now rows port (cond b ss (s ∷ ss))
   leaves_by true s ss gone kept row begun split over by_now queued = record {
     gone = gone ++ row ∷ [];
     kept = kept;
     split = split ∙ sym (append_assoc gone (row ∷ []) kept);
-    over = Every-append (λ r. r.retired + hit ≤ now) gone (row ∷ []) over (let by = queued.0 begun in omega (arith, by, idle), tt);
+    over = Each-append (λ r. r.retired + hit ≤ now) gone (row ∷ []) over (let by = queued.0 begun in omega (arith, by, idle), tt);
     by_now = by_now.1;
     queued = queued.1;
   }
   leaves_by false s ss gone kept row begun split over by_now queued = record { gone = gone; kept = row ∷ kept; split = split; over = over; by_now = by_now; queued = queued }
 
-  leaves_from : (gone kept : List Row) (committed : List Store) → filter is_store_row rows ≡ gone ++ kept → Every (λ r. r.retired + hit ≤ now) gone → Every (λ r. r.retired ≤ now) kept → AreQueued hit port kept committed →
+  leaves_from : (gone kept : List Row) (committed : List Store) → filter is_store_row rows ≡ gone ++ kept → Each (λ r. r.retired + hit ≤ now) gone → Each (λ r. r.retired ≤ now) kept → AreQueued hit port kept committed →
       QueueOk hit now rows port (without_drained committed)
   leaves_from gone [] [] split over by_now queued = record { gone = gone; kept = []; split = split; over = over; by_now = tt; queued = tt }
   leaves_from gone [] (s ∷ ss) split over by_now queued = absurd queued
@@ -105,7 +104,7 @@ module _ (hit now : ℕ) (rows : List Row) (port : ℕ) (idle : port ≤ now) wh
   pub queue_leaves : (committed : List Store) → QueueOk hit now rows port committed → QueueOk hit now rows port (without_drained committed)
   queue_leaves committed ok = leaves_from ok.gone ok.kept committed ok.split ok.over ok.by_now ok.queued
 
-  begins_from : (later : ℕ) → now + hit ≤ later → (kept : List Row) (committed : List Store) → Every (λ r. r.retired ≤ now) kept → AreQueued hit port kept committed → AreQueued hit later kept (with_oldest_draining committed)
+  begins_from : (later : ℕ) → now + hit ≤ later → (kept : List Row) (committed : List Store) → Each (λ r. r.retired ≤ now) kept → AreQueued hit port kept committed → AreQueued hit later kept (with_oldest_draining committed)
   begins_from later le [] [] by_now queued = tt
   begins_from later le [] (s ∷ ss) by_now queued = absurd queued
   begins_from later le (row ∷ kept) [] by_now queued = absurd queued

@@ -1,8 +1,7 @@
 -- A result that is no fault tells what is written where it is a store's, and nowhere else.
-use Rattle.rv_hardware.proofs.Words.{◌≡◌, ℕ, ◌+◌, Bool, true, false, cond, ◌∷◌, ◌++◌, is_some, nat_le, Some, None, Option, sym, refl, subst, is_serialising, is_store, kind_of_word, Message, Instr, Lines, Kind, Layout, Effect, Faults, Retires, effect, State, Each, finished, predicting, started, Entry, Stage, Finished, Running, Waiting, Fetched, result_at, entry_of_fetched, stage_by, Hardware, access_of, effect_message, result_of_word, layout_of, seen_behind}
+use Rattle.rv_hardware.proofs.Words.{◌≡◌, ℕ, ◌+◌, Bool, true, false, cond, ◌∷◌, ◌++◌, is_some, nat_le, Some, None, Option, sym, refl, subst, is_serialising, is_store, kind_of_word, Message, Instr, Lines, Kind, Layout, Effect, Faults, Retires, effect, State, Each, finished, predicting, started, Entry, Stage, Finished, Running, Waiting, Fetched, result_at, entry_of_fetched, stage_by, Hardware, access_of, effect_message, result_of_word, layout_of, seen_behind, Each-left, Each-right, Each-push, Each-change}
 use Rattle.rv_isa.specs.declared.instructions.Instr.TheVariants.{Store}
 use Rattle.rv_hardware.proofs.GapCycle.{IsKept}
-use Rattle.rv_hardware.proofs.GapEach.{Each-back, Each-change, Each-front, Each-push}
 use Rattle.rv_hardware.proofs.GapForms.{IsResult}
 
 abbrev pub Tells : Option Instr → Message → Type 0
@@ -84,7 +83,7 @@ telling-kept = record {
           Each-change Telling older younger e (finished message h.cycle e) (result_at_tells h.cycle e.instruction e.stage message gives) (subst (Each Telling) split all);
       mends = λ h older younger e next all split.
           let these : Each Telling (older ++ e ∷ younger) = subst (Each Telling) split all in
-          Each-push Telling older (predicting next e) (Each-back Telling older (e ∷ younger) these).0 (Each-front Telling older (e ∷ younger) these);
+          Each-push Telling older (predicting next e) (Each-right Telling older (e ∷ younger) these).0 (Each-left Telling older (e ∷ younger) these);
     };
     dispatch = record { dispatches = λ h fetched rest all first none. Each-push Telling h.rob.entries (entry_of_fetched h fetched) (entry_tells h fetched) all };
   };

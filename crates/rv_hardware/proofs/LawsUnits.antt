@@ -1,15 +1,14 @@
 -- A unit executes one instruction at a time, or begins one a cycle where it is pipelined.
-use Rattle.rv_hardware.proofs.Words.{◌≡◌, ℕ, suc, ◌+◌, ◌≤◌, Bool, true, false, cond, ◌&&◌, List, [], ◌∷◌, ◌++◌, length, nat_lt, nat_le, Some, None, filter, Option, nat_cmp, sym, refl, ap, ◌∙◌, subst, true≢false, arith, ltb-true, lt-ltb, le-leb, and_left, and_right, at_kind-for_each, with_kind-each, IsLegal, is_of_kind, kind_of_word, at_kind, for_each, with_kind, StoreAccess, Issue, Lines, Kind, Values, due, oldest_to_drain, Pool, free_pool, held_for, holding, holds_unit, is_free, finished, predicting, started, ReorderBuffer, Entry, broadcast_turn, with_broadcast, with_recovery, Committing, commit_turn, commit_unless, with_fault, with_lines, Dispatching, dispatch_turn, entry_of_fetched, with_dispatched, drain, end_drain, start_drain, Hardware, cost_of, issue, issue_kind, issue_turn, issued, path, Turn, Report, Step}
+use Rattle.rv_hardware.proofs.Words.{◌≡◌, ℕ, suc, ◌+◌, ◌≤◌, Bool, true, false, cond, ◌&&◌, List, [], ◌∷◌, ◌++◌, length, nat_lt, nat_le, Some, None, filter, Option, nat_cmp, sym, refl, ap, ◌∙◌, subst, true≢false, arith, ltb-true, lt-ltb, le-leb, and_from, and_left, and_right, at_kind-for_each, with_kind-each, IsLegal, is_of_kind, kind_of_word, at_kind, for_each, with_kind, StoreAccess, Issue, Lines, Kind, Values, due, Each, oldest_to_drain, Pool, free_pool, held_for, holding, holds_unit, is_free, finished, predicting, started, ReorderBuffer, Entry, broadcast_turn, with_broadcast, with_recovery, Committing, commit_turn, commit_unless, with_fault, with_lines, Dispatching, dispatch_turn, entry_of_fetched, with_dispatched, drain, end_drain, start_drain, Hardware, cost_of, issue, issue_kind, issue_turn, issued, path, Turn, Report, Step, Each-append, Each-weaker, Each-filter, count, count-append, count-yes, count-length, count-set-same, count-set-more, count-set-less, count-push-no}
 use Rattle.std.specs.FinSet as set
 use Rattle.rv_isa.specs.declared.operations.Kind.TheVariants as kind
 use Rattle.rv_units.specs.Pool.{started as started_unit}
-use Rattle.rv_hardware.proofs.LawsBasics.{Ready, ready_has, finished_mark, dispatched_mark, and_second, and_both}
+use Rattle.rv_hardware.proofs.LawsBasics.{Ready, ready_has, finished_mark, dispatched_mark, and_second}
 use Rattle.rv_hardware.proofs.LawsBroadcast.{BroadcastTurn, none_ready as no_result, sends, mends, broadcast_turn_is, sent_entries, mended_entries}
 use Rattle.rv_hardware.proofs.LawsDispatch.{DispatchTurn, buffer_empty, waits, dispatches, dispatch_turn_is}
 use Rattle.rv_hardware.proofs.LawsCommit.{CommitTurn, no_head, stale_head, unfinished, fence_waits, fence_writes, fence_retires, executes, serial_faults, traps, retires, retires_last, executed, written_back, retired_with, retired_and_flushed, commit_turn_is}
 use Rattle.rv_hardware.proofs.LawsCycle.{Anything, anything_is_kept, History, began, went_on, Passed, cycle_passes, history_is_legal, history_is_sound, committing, drained, issued_all, sent_all, dispatching}
 use Rattle.rv_hardware.proofs.LawsIssue.{IssueTurn, no_unit, none_ready, starts, issue_turn_is, access_keeps, message_at, started_entries}
-use Rattle.rv_hardware.proofs.LawsLists.{Every, Every-append, Every-filter, Every-weaker, count, count-append, count-length, count-yes, count-set-less, count-set-more, count-set-same, count-push-no}
 use Rattle.rv_hardware.proofs.LawsPhases.{Issues, issue_turn_keeps, drain_same, with_marks}
 use Rattle.rv_hardware.proofs.LawsShape.{head_retired_entries}
 use Rattle.rv_hardware.proofs.LawsSound.{is_of_kind_is}
@@ -29,13 +28,13 @@ holds_mark v k c m = is_of_kind k (kind_of_word m.instruction) && start_holds (a
 pub record Held (v : Values) (now : ℕ) (k : Kind) (pool : Pool) (es : List Entry) : Type 0 where
   pub tied : (c : ℕ) → now ≤ c → count (λ e. holds_mark v k c (mark_of_entry e)) es ≤ count (holds_unit c) pool.starts
   pub within : (c : ℕ) → now ≤ c → count (holds_unit c) pool.starts ≤ (at_kind k v.kinds).units
-  pub begun : Every (λ s. s.cycle ≤ now) pool.starts
+  pub begun : Each (λ s. s.cycle ≤ now) pool.starts
 
 -- what held a unit and holds one later holds it now
 holds_between : (now c : ℕ) (s : Issue) → now ≤ c → s.cycle ≤ now → holds_unit c s ≡ true → holds_unit now s ≡ true
 holds_between now c s le begun h =
     let lt = ltb-true c (s.cycle + s.cost) (and_second (nat_le s.cycle c) (nat_lt c (s.cycle + s.cost)) h) in
-    and_both (nat_le s.cycle now) (nat_lt now (s.cycle + s.cost)) (le-leb s.cycle now begun) (lt-ltb now (s.cycle + s.cost) (omega (arith, lt, le)))
+    and_from (nat_le s.cycle now) (nat_lt now (s.cycle + s.cost)) (le-leb s.cycle now begun) (lt-ltb now (s.cycle + s.cost) (omega (arith, lt, le)))
 
 picks : {X : Type 0} (p q : X → Bool) (b : Bool) (x : X) (xs ys : List X) → (p x ≡ true → b ≡ true) → count p xs ≤ count p ys → count p (x ∷ xs) ≤ count p (cond b (x ∷ ys) ys)
 picks p q true x xs ys f le = by_test (p x)
@@ -49,7 +48,7 @@ picks p q false x xs ys f le = by_test (p x) refl
     by_test true is = absurd (true≢false (sym (f is)))
     by_test false is = le
 
-filter_holds : {X : Type 0} (p q : X → Bool) (xs : List X) → Every (λ x. p x ≡ true → q x ≡ true) xs → count p xs ≤ count p (filter q xs)
+filter_holds : {X : Type 0} (p q : X → Bool) (xs : List X) → Each (λ x. p x ≡ true → q x ≡ true) xs → count p xs ≤ count p (filter q xs)
 filter_holds p q [] h = omega arith
 filter_holds p q (x ∷ xs) h = picks p q (q x) x xs (filter q xs) h.0 (filter_holds p q xs h.1)
 
@@ -66,7 +65,7 @@ module _ (v : Values) (now : ℕ) (k : Kind) (pool : Pool) where
   held_later later es le h = record {
     tied = λ c le'. h.tied c (omega (arith, le, le'));
     within = λ c le'. h.within c (omega (arith, le, le'));
-    begun = Every-weaker (λ s. s.cycle ≤ now) (λ s. s.cycle ≤ later) (λ s b. omega (arith, b, le)) pool.starts h.begun;
+    begun = Each-weaker (λ s. s.cycle ≤ now) (λ s. s.cycle ≤ later) (λ s b. omega (arith, b, le)) pool.starts h.begun;
   }
 
   -- one more start, on a free unit
@@ -84,14 +83,14 @@ module _ (v : Values) (now : ℕ) (k : Kind) (pool : Pool) where
             let some = count-length (holds_unit c) kept in
             let one = count-length (holds_unit c) (fresh ∷ []) in
             omega (arith, all, some, one, room, units);
-        begun = Every-append (λ s. s.cycle ≤ now) kept (fresh ∷ []) (Every-filter (λ s. s.cycle ≤ now) (holds_unit now) pool.starts h.begun) (omega arith, tt);
+        begun = Each-append (λ s. s.cycle ≤ now) kept (fresh ∷ []) (Each-filter (λ s. s.cycle ≤ now) (holds_unit now) pool.starts h.begun) (omega arith, tt);
       }
     where
       tie : (c : ℕ) → now ≤ c → (fresh : Issue) (kept : List Issue) → count (λ z. holds_mark v k c (mark_of_entry z)) (older ++ x ∷ younger) ≤ count (holds_unit c) (holding now pool.starts ++ record { cycle = now; cost = held_for pool.is_pipelined cost } ∷ [])
       tie c le fresh kept = by_test (holds_mark v k c (mark_of_entry x)) refl
         where
           old : count (holds_unit c) pool.starts ≤ count (holds_unit c) (holding now pool.starts)
-          old = filter_holds (holds_unit c) (holds_unit now) pool.starts (Every-weaker (λ s. s.cycle ≤ now) (λ s. holds_unit c s ≡ true → holds_unit now s ≡ true) (λ s begun hold. holds_between now c s le begun hold) pool.starts h.begun)
+          old = filter_holds (holds_unit c) (holds_unit now) pool.starts (Each-weaker (λ s. s.cycle ≤ now) (λ s. holds_unit c s ≡ true → holds_unit now s ≡ true) (λ s begun hold. holds_between now c s le begun hold) pool.starts h.begun)
 
           by_test : (b : Bool) → holds_mark v k c (mark_of_entry x) ≡ b → count (λ z. holds_mark v k c (mark_of_entry z)) (older ++ x ∷ younger) ≤ count (holds_unit c) (holding now pool.starts ++ record { cycle = now; cost = held_for pool.is_pipelined cost } ∷ [])
           by_test true is =

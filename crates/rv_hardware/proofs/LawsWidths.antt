@@ -1,6 +1,5 @@
 -- A count of marks is the sum of those of rows, of instructions in flight and of fetched words.
-use Rattle.rv_hardware.proofs.Words.{◌≡◌, ℕ, ◌+◌, Bool, false, List, ◌++◌, map, ◌==◌, Some, None, Option, arith, Entry, Fetched, rows_of, Step}
-use Rattle.rv_hardware.proofs.LawsLists.{count, count-append, count-map}
+use Rattle.rv_hardware.proofs.Words.{◌≡◌, ℕ, ◌+◌, Bool, false, List, ◌++◌, map, ◌==◌, Some, None, Option, arith, Entry, Fetched, rows_of, Step, count, count-append, count-map}
 use Rattle.rv_hardware.proofs.LawsMarks.{Mark, mark_of_row, mark_of_entry, mark_of_fetched, marks}
 
 -- the stamp is of a cycle

@@ -1,3 +1,5 @@
+pub mod Each
+pub mod Lists
 pub mod Words
 pub mod HardwareCode
 pub mod Repeated
@@ -10,7 +12,6 @@ pub mod GapDispatch
 pub mod GapDrain
 pub mod GapCommit
 pub mod GapCycle
-pub mod GapEach
 pub mod GapFetch
 pub mod GapSizes
 pub mod GapSets
@@ -68,7 +69,6 @@ pub mod HeadlineReached
 pub mod HeadlineBytes
 pub mod HeadlineStores
 pub mod Laws
-pub mod LawsLists
 pub mod LawsOldest
 pub mod LawsMarks
 pub mod LawsAdvance

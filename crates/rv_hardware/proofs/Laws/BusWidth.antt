@@ -1,11 +1,10 @@
 -- At most `bus_width` results are broadcast in a cycle.
-use Rattle.rv_hardware.proofs.Words.{◌≡◌, ℕ, suc, ◌+◌, ◌<◌, ◌≤◌, Bool, true, false, List, ◌∷◌, ◌++◌, map, IfSome, nat_le, ◌==◌, Some, None, Option, refl, ap, ◌∙◌, arith, ne_eqb, eqb-true, le-leb, Instr, Values, finished, predicting, Entry, Stage, Finished, Running, Waiting, broadcast, broadcast_turn, Dispatching, dispatch, dispatch_turn, entry_of_fetched, Hardware, NeverMoreThan, Turn, is_broadcast_in, passes, rows_of, Execution, Step}
-use Rattle.rv_hardware.proofs.LawsBasics.{and_both, dispatched_mark}
+use Rattle.rv_hardware.proofs.Words.{◌≡◌, ℕ, suc, ◌+◌, ◌<◌, ◌≤◌, Bool, true, false, List, ◌∷◌, ◌++◌, map, IfSome, nat_le, ◌==◌, Some, None, Option, refl, ap, ◌∙◌, arith, ne_eqb, eqb-true, le-leb, and_from, Instr, Values, finished, predicting, Entry, Stage, Finished, Running, Waiting, broadcast, broadcast_turn, Dispatching, dispatch, dispatch_turn, entry_of_fetched, Hardware, NeverMoreThan, Turn, is_broadcast_in, passes, rows_of, Execution, Step, Each-weaker, Each-all, count, count-append, count-none, count-map, count-set-more, count-push, count-push-no, count-left}
+use Rattle.rv_hardware.proofs.LawsBasics.{dispatched_mark}
 use Rattle.rv_hardware.proofs.LawsBroadcast.{BroadcastTurn, none_ready, sends, mends, broadcast_turn_is, sent_entries, mended_entries}
 use Rattle.rv_hardware.proofs.LawsCounted.{Shows, counted_law, until_by}
 use Rattle.rv_hardware.proofs.LawsCycle.{History, dispatching, issued_all, sent_all}
 use Rattle.rv_hardware.proofs.LawsDispatch.{DispatchTurn, buffer_empty, waits, dispatches, dispatch_turn_is}
-use Rattle.rv_hardware.proofs.LawsLists.{Every-weaker, Every-all, count, count-append, count-none, count-map, count-push, count-push-no, count-left, count-set-more}
 use Rattle.rv_hardware.proofs.LawsMarks.{Mark, mark_of_row, mark_of_fetched, marks_in, until, broadcast_of_stage, broadcast_of_execution}
 use Rattle.rv_hardware.proofs.LawsRow.{SoundRow}
 use Rattle.rv_hardware.proofs.LawsSound.{SoundEntry, SoundStage}
@@ -24,7 +23,7 @@ pub sent_shows : (v : Values) → Shows v is_broadcast_in (λ c m. is_at c m.bro
 sent_shows v = record {
   mark = λ c bound row sound h.
       let x = sent_shows_by c row.dispatched row.retired row.execution sound.stamps.executed_between h in
-      and_both (nat_le row.fetched c) (is_at c (until c (broadcast_of_execution row.execution))) (le-leb row.fetched c (omega (arith, x.1, sound.stamps.dispatched_after_fetch))) x.0;
+      and_from (nat_le row.fetched c) (is_at c (until c (broadcast_of_execution row.execution))) (le-leb row.fetched c (omega (arith, x.1, sound.stamps.dispatched_after_fetch))) x.0;
   ends = λ c bound row sound h. (sent_shows_by c row.dispatched row.retired row.execution sound.stamps.executed_between h).2;
 }
 
@@ -84,9 +83,9 @@ law_of_bus_width v history =
     let d : Hardware = (dispatching lines old).hardware in
     let all = ap (count p) passed.new_marks ∙ count-append p (marks_in (earlier ++ report.steps) d) (map mark_of_fetched passed.fetches.added) in
     let parts = count_marks p (earlier ++ report.steps) d.rob.entries d.front.entries in
-    let rows = count-none (λ row. p (mark_of_row row)) (rows_of (earlier ++ report.steps)) (Every-weaker (SoundRow v (old.cycle + 1)) (λ row. p (mark_of_row row) ≡ false) (λ row w. row_sent_earlier row.dispatched row.retired old.cycle row.execution (omega (arith, w.below)) w.stamps.executed_between) (rows_of (earlier ++ report.steps)) passed.dispatches.basics.rows) in
-    let words = count-none (λ f. p (mark_of_fetched f)) d.front.entries (Every-all (λ f. p (mark_of_fetched f) ≡ false) (λ f. refl) d.front.entries) in
-    let added = count-map p mark_of_fetched passed.fetches.added ∙ count-none (λ f. p (mark_of_fetched f)) passed.fetches.added (Every-all (λ f. p (mark_of_fetched f) ≡ false) (λ f. refl) passed.fetches.added) in
-    let at_start = count-none (is_sent_now old.cycle v.bus_width) (issued_all lines old).rob.entries (Every-weaker (SoundEntry v old.cycle (old.cycle + 1) old.cycle) (λ e. is_at old.cycle (broadcast_of_stage e.stage) ≡ false) (λ e w. sent_earlier v e.instruction e.dispatched (old.cycle + 1) old.cycle e.stage w.stage) (issued_all lines old).rob.entries passed.issues.basics.entries) in
+    let rows = count-none (λ row. p (mark_of_row row)) (rows_of (earlier ++ report.steps)) (Each-weaker (SoundRow v (old.cycle + 1)) (λ row. p (mark_of_row row) ≡ false) (λ row w. row_sent_earlier row.dispatched row.retired old.cycle row.execution (omega (arith, w.below)) w.stamps.executed_between) (rows_of (earlier ++ report.steps)) passed.dispatches.basics.rows) in
+    let words = count-none (λ f. p (mark_of_fetched f)) d.front.entries (Each-all (λ f. p (mark_of_fetched f) ≡ false) (λ f. refl) d.front.entries) in
+    let added = count-map p mark_of_fetched passed.fetches.added ∙ count-none (λ f. p (mark_of_fetched f)) passed.fetches.added (Each-all (λ f. p (mark_of_fetched f) ≡ false) (λ f. refl) passed.fetches.added) in
+    let at_start = count-none (is_sent_now old.cycle v.bus_width) (issued_all lines old).rob.entries (Each-weaker (SoundEntry v old.cycle (old.cycle + 1) old.cycle) (λ e. is_at old.cycle (broadcast_of_stage e.stage) ≡ false) (λ e w. sent_earlier v e.instruction e.dispatched (old.cycle + 1) old.cycle e.stage w.stage) (issued_all lines old).rob.entries passed.issues.basics.entries) in
     let within = dispatch_keeps_sent old.cycle v.bus_width (sent_all lines old) (broadcast_within old.cycle v.bus_width (issued_all lines old) (ap (λ (w : Values). w.bus_width) passed.issues.basics.shape.values) (omega (arith, at_start))) in
     omega (arith, all, parts, rows, words, added, within)) history

@@ -1,7 +1,6 @@
 -- At most `commit_width` steps come in a cycle.
-use Rattle.rv_hardware.proofs.Words.{List, ◌==◌, arith, Values, Hardware, NeverMoreThan, stamp_of, Step}
+use Rattle.rv_hardware.proofs.Words.{List, ◌==◌, arith, Values, Hardware, NeverMoreThan, stamp_of, Step, count-count_by}
 use Rattle.rv_hardware.proofs.LawsCycle.{History}
-use Rattle.rv_hardware.proofs.LawsLists.{count-count_by}
 use Rattle.rv_hardware.proofs.LawsSteps.{history_has_steps}
 
 -- the field `commit_width` of `Laws`, over every history

@@ -1,10 +1,9 @@
 -- Each row that used a unit took one of the described costs.
-use Rattle.rv_hardware.proofs.Words.{List, All, Values, Hardware, HasCost, rows_of, Step}
+use Rattle.rv_hardware.proofs.Words.{List, All, Values, Hardware, HasCost, rows_of, Step, All-Each, Each-weaker}
 use Rattle.rv_hardware.proofs.LawsCycle.{History, history_is_sound}
-use Rattle.rv_hardware.proofs.LawsLists.{Every-weaker, All-Every}
 use Rattle.rv_hardware.proofs.LawsRow.{SoundRow}
 
 -- the field `costs` of `Laws`, over every history
 pub law_of_costs : (v : Values) {steps : List Step} {h : Hardware} → History v steps h → All (HasCost v) (rows_of steps)
 law_of_costs v {steps} {h} history =
-    All-Every (HasCost v) (rows_of steps) (Every-weaker (SoundRow v h.cycle) (HasCost v) (λ row sound. sound.cost) (rows_of steps) (history_is_sound v history).rows)
+    All-Each (HasCost v) (rows_of steps) (Each-weaker (SoundRow v h.cycle) (HasCost v) (λ row sound. sound.cost) (rows_of steps) (history_is_sound v history).rows)

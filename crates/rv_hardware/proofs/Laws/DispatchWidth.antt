@@ -1,10 +1,8 @@
 -- At most `dispatch_width` instructions are dispatched in a cycle.
-use Rattle.rv_hardware.proofs.Words.{◌≡◌, ℕ, suc, ◌+◌, ◌<◌, ◌≤◌, Bool, false, List, ◌++◌, map, nat_le, ◌==◌, Some, None, refl, ap, ◌∙◌, arith, ne_eqb, eqb-true, le-leb, Values, Dispatching, dispatch, dispatch_turn, entry_of_fetched, Hardware, NeverMoreThan, Turn, is_dispatched_in, rows_of, Step}
-use Rattle.rv_hardware.proofs.LawsBasics.{and_both}
+use Rattle.rv_hardware.proofs.Words.{◌≡◌, ℕ, suc, ◌+◌, ◌<◌, ◌≤◌, Bool, false, List, ◌++◌, map, nat_le, ◌==◌, Some, None, refl, ap, ◌∙◌, arith, ne_eqb, eqb-true, le-leb, and_from, Values, Dispatching, dispatch, dispatch_turn, entry_of_fetched, Hardware, NeverMoreThan, Turn, is_dispatched_in, rows_of, Step, Each-weaker, Each-all, count, count-append, count-none, count-map, count-push}
 use Rattle.rv_hardware.proofs.LawsCounted.{Shows, counted_law, until_by}
 use Rattle.rv_hardware.proofs.LawsCycle.{History, dispatching, sent_all}
 use Rattle.rv_hardware.proofs.LawsDispatch.{DispatchTurn, buffer_empty, waits, dispatches, dispatch_turn_is}
-use Rattle.rv_hardware.proofs.LawsLists.{Every-weaker, Every-all, count, count-append, count-none, count-map, count-push}
 use Rattle.rv_hardware.proofs.LawsMarks.{Mark, mark_of_row, mark_of_fetched, marks_in, until}
 use Rattle.rv_hardware.proofs.LawsRow.{SoundRow}
 use Rattle.rv_hardware.proofs.LawsSound.{SoundEntry}
@@ -16,7 +14,7 @@ pub dispatched_shows : (v : Values) → Shows v is_dispatched_in (λ c m. is_at 
 dispatched_shows v = record {
   mark = λ c bound row sound h.
       let same : row.dispatched ≡ c = eqb-true row.dispatched c h in
-      and_both (nat_le row.fetched c) (is_at c (until c (Some row.dispatched))) (le-leb row.fetched c (omega (arith, same, sound.stamps.dispatched_after_fetch))) (rw (until_by c row.dispatched (omega (arith, same))) h);
+      and_from (nat_le row.fetched c) (is_at c (until c (Some row.dispatched))) (le-leb row.fetched c (omega (arith, same, sound.stamps.dispatched_after_fetch))) (rw (until_by c row.dispatched (omega (arith, same))) h);
   ends = λ c bound row sound h. let same : row.dispatched ≡ c = eqb-true row.dispatched c h in omega (arith, same, sound.stamps.retired_after_dispatch);
 }
 
@@ -43,9 +41,9 @@ law_of_dispatch_width v history =
     let d : Hardware = (dispatching lines old).hardware in
     let all = ap (count p) passed.new_marks ∙ count-append p (marks_in (earlier ++ report.steps) d) (map mark_of_fetched passed.fetches.added) in
     let parts = count_marks p (earlier ++ report.steps) d.rob.entries d.front.entries in
-    let rows = count-none (λ row. p (mark_of_row row)) (rows_of (earlier ++ report.steps)) (Every-weaker (SoundRow v (old.cycle + 1)) (λ row. p (mark_of_row row) ≡ false) (λ row w. ne_eqb row.dispatched old.cycle (omega (arith, w.stamps.retired_after_dispatch, w.below))) (rows_of (earlier ++ report.steps)) passed.dispatches.basics.rows) in
-    let words = count-none (λ f. p (mark_of_fetched f)) d.front.entries (Every-all (λ f. p (mark_of_fetched f) ≡ false) (λ f. refl) d.front.entries) in
-    let added = count-map p mark_of_fetched passed.fetches.added ∙ count-none (λ f. p (mark_of_fetched f)) passed.fetches.added (Every-all (λ f. p (mark_of_fetched f) ≡ false) (λ f. refl) passed.fetches.added) in
-    let at_start = count-none (λ e. e.dispatched == old.cycle) (sent_all lines old).rob.entries (Every-weaker (SoundEntry v old.cycle (old.cycle + 1) (old.cycle + 1)) (λ e. (e.dispatched == old.cycle) ≡ false) (λ e w. ne_eqb e.dispatched old.cycle (omega (arith, w.by_now))) (sent_all lines old).rob.entries passed.sends.basics.entries) in
+    let rows = count-none (λ row. p (mark_of_row row)) (rows_of (earlier ++ report.steps)) (Each-weaker (SoundRow v (old.cycle + 1)) (λ row. p (mark_of_row row) ≡ false) (λ row w. ne_eqb row.dispatched old.cycle (omega (arith, w.stamps.retired_after_dispatch, w.below))) (rows_of (earlier ++ report.steps)) passed.dispatches.basics.rows) in
+    let words = count-none (λ f. p (mark_of_fetched f)) d.front.entries (Each-all (λ f. p (mark_of_fetched f) ≡ false) (λ f. refl) d.front.entries) in
+    let added = count-map p mark_of_fetched passed.fetches.added ∙ count-none (λ f. p (mark_of_fetched f)) passed.fetches.added (Each-all (λ f. p (mark_of_fetched f) ≡ false) (λ f. refl) passed.fetches.added) in
+    let at_start = count-none (λ e. e.dispatched == old.cycle) (sent_all lines old).rob.entries (Each-weaker (SoundEntry v old.cycle (old.cycle + 1) (old.cycle + 1)) (λ e. (e.dispatched == old.cycle) ≡ false) (λ e w. ne_eqb e.dispatched old.cycle (omega (arith, w.by_now))) (sent_all lines old).rob.entries passed.sends.basics.entries) in
     let within = dispatch_within old.cycle v.dispatch_width (sent_all lines old) (ap (λ (w : Values). w.dispatch_width) passed.sends.basics.shape.values) (omega (arith, at_start)) in
     omega (arith, all, parts, rows, words, added, within)) history

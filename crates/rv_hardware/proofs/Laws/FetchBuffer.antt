@@ -1,6 +1,6 @@
 -- The fetch buffer holds no more words than it has room for.
-use Rattle.rv_hardware.proofs.Words.{List, is_none, nat_lt, nat_le, Some, refl, arith, ltb-true, Values, Hardware, NeverMoreThan, is_buffered_in, rows_of, Step}
-use Rattle.rv_hardware.proofs.LawsBasics.{and_first, and_second, and_both}
+use Rattle.rv_hardware.proofs.Words.{List, is_none, nat_lt, nat_le, Some, refl, arith, ltb-true, and_from, Values, Hardware, NeverMoreThan, is_buffered_in, rows_of, Step}
+use Rattle.rv_hardware.proofs.LawsBasics.{and_first, and_second}
 use Rattle.rv_hardware.proofs.LawsCounted.{Shows, counted_law, until_not}
 use Rattle.rv_hardware.proofs.LawsCycle.{History, is_buffered_mark}
 use Rattle.rv_hardware.proofs.LawsMarks.{until}
@@ -11,7 +11,7 @@ pub buffered_shows : (v : Values) → Shows v is_buffered_in (λ c. is_buffered_
 buffered_shows v = record {
   mark = λ c bound row sound h.
       let lt = ltb-true c row.dispatched (and_second (nat_le row.fetched c) (nat_lt c row.dispatched) h) in
-      and_both (nat_le row.fetched c) (is_none (until c (Some row.dispatched))) (and_first (nat_le row.fetched c) (nat_lt c row.dispatched) h) (rw (until_not c row.dispatched lt) refl);
+      and_from (nat_le row.fetched c) (is_none (until c (Some row.dispatched))) (and_first (nat_le row.fetched c) (nat_lt c row.dispatched) h) (rw (until_not c row.dispatched lt) refl);
   ends = λ c bound row sound h. let lt = ltb-true c row.dispatched (and_second (nat_le row.fetched c) (nat_lt c row.dispatched) h) in omega (arith, lt, sound.stamps.retired_after_dispatch);
 }
 

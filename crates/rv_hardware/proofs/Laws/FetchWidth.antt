@@ -1,14 +1,12 @@
 -- At most `fetch_width` words are fetched in a cycle.
-use Rattle.rv_hardware.proofs.Words.{◌≡◌, ◌<◌, Bool, false, List, ◌++◌, map, nat_le, ◌==◌, ap, ◌∙◌, arith, ne_eqb, eqb-true, le-leb, Values, Hardware, NeverMoreThan, is_fetched_in, rows_of, Step}
-use Rattle.rv_hardware.proofs.LawsBasics.{and_both}
+use Rattle.rv_hardware.proofs.Words.{◌≡◌, ◌<◌, Bool, false, List, ◌++◌, map, nat_le, ◌==◌, ap, ◌∙◌, arith, ne_eqb, eqb-true, le-leb, and_from, Values, Hardware, NeverMoreThan, is_fetched_in, rows_of, Step, Each-weaker, count, count-append, count-none, count-map, count-length}
 use Rattle.rv_hardware.proofs.LawsCounted.{Shows, counted_law}
 use Rattle.rv_hardware.proofs.LawsCycle.{History, new_words, dispatching}
-use Rattle.rv_hardware.proofs.LawsLists.{Every-weaker, count, count-append, count-none, count-length, count-map}
 use Rattle.rv_hardware.proofs.LawsMarks.{Mark, mark_of_fetched, marks_in}
 
 fetched_shows : (v : Values) → Shows v is_fetched_in (λ c m. m.fetched == c)
 fetched_shows v = record {
-  mark = λ c bound row sound h. and_both (nat_le row.fetched c) (row.fetched == c) (le-leb row.fetched c (let same : row.fetched ≡ c = eqb-true row.fetched c h in omega (arith, same))) h;
+  mark = λ c bound row sound h. and_from (nat_le row.fetched c) (row.fetched == c) (le-leb row.fetched c (let same : row.fetched ≡ c = eqb-true row.fetched c h in omega (arith, same))) h;
   ends = λ c bound row sound h. let same : row.fetched ≡ c = eqb-true row.fetched c h in omega (arith, same, sound.stamps.dispatched_after_fetch, sound.stamps.retired_after_dispatch);
 }
 
@@ -21,7 +19,7 @@ law_of_fetch_width v history =
     let ms : List Mark = marks_in (earlier ++ report.steps) d in
     let words = new_words v _ earlier lines old new report passed in
     let all = ap (count p) passed.new_marks ∙ count-append p ms (map mark_of_fetched passed.fetches.added) in
-    let none = count-none p ms (Every-weaker (λ m. m.fetched < old.cycle) (λ m. p m ≡ false) (λ m lt. ne_eqb m.fetched old.cycle (omega (arith, lt))) ms words.by_now) in
+    let none = count-none p ms (Each-weaker (λ m. m.fetched < old.cycle) (λ m. p m ≡ false) (λ m lt. ne_eqb m.fetched old.cycle (omega (arith, lt))) ms words.by_now) in
     let some = count-map p mark_of_fetched passed.fetches.added in
     let most = count-length (λ f. p (mark_of_fetched f)) passed.fetches.added in
     omega (arith, all, none, some, most, words.within_width)) history

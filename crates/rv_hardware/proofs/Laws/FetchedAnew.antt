@@ -1,7 +1,6 @@
 -- After a trap, an interrupt or a serialising instruction everything is fetched anew.
-use Rattle.rv_hardware.proofs.Words.{◌≡◌, true, List, AllPairs, Values, Hardware, IsFetchedSince, flushes, Step}
+use Rattle.rv_hardware.proofs.Words.{◌≡◌, true, List, AllPairs, Values, Hardware, IsFetchedSince, flushes, Step, AllPairs-EveryPair, EveryPair-weaker}
 use Rattle.rv_hardware.proofs.LawsCycle.{History}
-use Rattle.rv_hardware.proofs.LawsLists.{EveryPair-weaker, AllPairs-EveryPair}
 use Rattle.rv_hardware.proofs.LawsSteps.{InOrder, history_has_steps}
 
 -- the field `fetched_anew` of `Laws`, over every history

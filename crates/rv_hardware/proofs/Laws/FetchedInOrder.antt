@@ -1,7 +1,6 @@
 -- Instructions are fetched in order.
-use Rattle.rv_hardware.proofs.Words.{◌≤◌, List, AllPairs, Values, Hardware, rows_of, Step}
+use Rattle.rv_hardware.proofs.Words.{◌≤◌, List, AllPairs, Values, Hardware, rows_of, Step, AllPairs-EveryPair}
 use Rattle.rv_hardware.proofs.LawsCycle.{History}
-use Rattle.rv_hardware.proofs.LawsLists.{AllPairs-EveryPair}
 use Rattle.rv_hardware.proofs.LawsOrder.{history_is_orderly}
 use Rattle.rv_hardware.proofs.LawsPairs.{row_pairs}
 

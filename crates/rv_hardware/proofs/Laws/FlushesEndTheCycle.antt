@@ -1,7 +1,6 @@
 -- A trap or a serialising instruction is the last step of its cycle.
-use Rattle.rv_hardware.proofs.Words.{◌≡◌, ◌<◌, true, List, AllPairs, Values, Hardware, flushes, stamp_of, Step}
+use Rattle.rv_hardware.proofs.Words.{◌≡◌, ◌<◌, true, List, AllPairs, Values, Hardware, flushes, stamp_of, Step, AllPairs-EveryPair, EveryPair-weaker}
 use Rattle.rv_hardware.proofs.LawsCycle.{History}
-use Rattle.rv_hardware.proofs.LawsLists.{EveryPair-weaker, AllPairs-EveryPair}
 use Rattle.rv_hardware.proofs.LawsSteps.{InOrder, history_has_steps}
 
 -- the field `flushes_end_the_cycle` of `Laws`, over every history

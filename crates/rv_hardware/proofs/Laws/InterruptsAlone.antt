@@ -1,7 +1,6 @@
 -- An interrupt is the one step of its cycle.
-use Rattle.rv_hardware.proofs.Words.{◌≡◌, ◌<◌, true, List, AllPairs, Values, Hardware, is_interrupt, stamp_of, Step}
+use Rattle.rv_hardware.proofs.Words.{◌≡◌, ◌<◌, true, List, AllPairs, Values, Hardware, is_interrupt, stamp_of, Step, AllPairs-EveryPair, EveryPair-weaker}
 use Rattle.rv_hardware.proofs.LawsCycle.{History}
-use Rattle.rv_hardware.proofs.LawsLists.{EveryPair-weaker, AllPairs-EveryPair}
 use Rattle.rv_hardware.proofs.LawsSteps.{InOrder, history_has_steps}
 
 -- the field `interrupts_alone` of `Laws`, over every history

@@ -1,8 +1,7 @@
 -- A load issues after the broadcasts of all older stores.
-use Rattle.rv_hardware.proofs.Words.{◌≡◌, ℕ, ◌<◌, Bool, true, false, List, [], ◌∷◌, map, IfSome, Some, None, Option, AllPairs, sym, refl, ◌∙◌, true≢false, is_load, Instr, Values, Hardware, LoadsAfterStore, instruction_of_row, is_load_row, is_store_row, rows_of, Execution, Row, Step}
+use Rattle.rv_hardware.proofs.Words.{◌≡◌, ℕ, ◌<◌, Bool, true, false, List, [], ◌∷◌, map, IfSome, Some, None, Option, AllPairs, sym, refl, ◌∙◌, true≢false, is_load, Instr, Values, Each, Hardware, LoadsAfterStore, instruction_of_row, is_load_row, is_store_row, rows_of, Execution, Row, Step, Each-weaker, Each-unmap, AllPairs-EveryPair, EveryBehind-weaker, EveryPair-EveryBehind}
 use Rattle.rv_hardware.proofs.LawsAdvance.{IsBefore, IsKnownStore}
 use Rattle.rv_hardware.proofs.LawsCycle.{History}
-use Rattle.rv_hardware.proofs.LawsLists.{Every, Every-weaker, Every-unmap, EveryBehind-weaker, EveryPair-EveryBehind, AllPairs-EveryPair}
 use Rattle.rv_hardware.proofs.LawsMarks.{mark_of_row, start_of_execution, broadcast_of_execution}
 use Rattle.rv_hardware.proofs.LawsOperands.{Found, StartsBehind}
 use Rattle.rv_hardware.proofs.LawsPairs.{rows_start_behind}
@@ -17,30 +16,30 @@ both_executed (Some s) None h = tt
 both_executed (Some s) (Some t) h = h
 
 load_by : (a : Row) (i : Option Instr) (before : List Row) (y : Option Execution) → IfSome (start_of_execution y) (λ s. Found (map mark_of_row before) i s.cycle) →
-    is_load i ≡ true → IfSome y (λ t. Every (λ a. is_store_row a ≡ true → IfSome a.execution (λ s. s.broadcast < t.issued)) before)
+    is_load i ≡ true → IfSome y (λ t. Each (λ a. is_store_row a ≡ true → IfSome a.execution (λ s. s.broadcast < t.issued)) before)
 load_by a i before None h load = tt
 load_by a i before (Some t) h load =
-    Every-weaker (λ a. IsKnownStore t.issued (mark_of_row a)) (λ a. is_store_row a ≡ true → IfSome a.execution (λ s. s.broadcast < t.issued))
-    (λ a known store. store_by t.issued a.execution (known store)) before (Every-unmap (IsKnownStore t.issued) mark_of_row before (h.stores load))
+    Each-weaker (λ a. IsKnownStore t.issued (mark_of_row a)) (λ a. is_store_row a ≡ true → IfSome a.execution (λ s. s.broadcast < t.issued))
+    (λ a known store. store_by t.issued a.execution (known store)) before (Each-unmap (IsKnownStore t.issued) mark_of_row before (h.stores load))
 
-loads_by : (before : List Row) (row : Row) → StartsBehind (map mark_of_row before) (mark_of_row row) → Every (λ a. LoadsAfterStore a row) before
+loads_by : (before : List Row) (row : Row) → StartsBehind (map mark_of_row before) (mark_of_row row) → Each (λ a. LoadsAfterStore a row) before
 loads_by before row h = by_load (is_load_row row) refl
   where
-    by_execution : (y : Option Execution) → IfSome y (λ t. Every (λ a. is_store_row a ≡ true → IfSome a.execution (λ s. s.broadcast < t.issued)) before) → Every (λ a. is_store_row a ≡ true → IfSome a.execution (λ s. IfSome y (λ t. s.broadcast < t.issued))) before
-    by_execution None g = Every-weaker (λ a. Unit {0}) (λ a. is_store_row a ≡ true → IfSome a.execution (λ s. Unit {0})) (λ a u store. both_executed a.execution None tt) before (everything before)
+    by_execution : (y : Option Execution) → IfSome y (λ t. Each (λ a. is_store_row a ≡ true → IfSome a.execution (λ s. s.broadcast < t.issued)) before) → Each (λ a. is_store_row a ≡ true → IfSome a.execution (λ s. IfSome y (λ t. s.broadcast < t.issued))) before
+    by_execution None g = Each-weaker (λ a. Unit {0}) (λ a. is_store_row a ≡ true → IfSome a.execution (λ s. Unit {0})) (λ a u store. both_executed a.execution None tt) before (everything before)
       where
-        everything : (rows : List Row) → Every (λ a. Unit {0}) rows
+        everything : (rows : List Row) → Each (λ a. Unit {0}) rows
         everything [] = tt
         everything (r ∷ rows) = (tt, everything rows)
     by_execution (Some t) g = g
 
-    by_load : (b : Bool) → is_load_row row ≡ b → Every (λ a. LoadsAfterStore a row) before
+    by_load : (b : Bool) → is_load_row row ≡ b → Each (λ a. LoadsAfterStore a row) before
     by_load true is =
-        Every-weaker (λ a. is_store_row a ≡ true → IfSome a.execution (λ s. IfSome row.execution (λ t. s.broadcast < t.issued))) (λ a. LoadsAfterStore a row) (λ a f store load. f store) before
+        Each-weaker (λ a. is_store_row a ≡ true → IfSome a.execution (λ s. IfSome row.execution (λ t. s.broadcast < t.issued))) (λ a. LoadsAfterStore a row) (λ a f store load. f store) before
         (by_execution row.execution (load_by row (instruction_of_row row) before row.execution h is))
     by_load false is = nothing before
       where
-        nothing : (rows : List Row) → Every (λ a. LoadsAfterStore a row) rows
+        nothing : (rows : List Row) → Each (λ a. LoadsAfterStore a row) rows
         nothing [] = tt
         nothing (r ∷ rows) = ((λ store load. absurd (true≢false (sym load ∙ is))), nothing rows)
 
@@ -48,4 +47,4 @@ loads_by before row h = by_load (is_load_row row) refl
 pub law_of_loads_after_stores : (v : Values) {steps : List Step} {h : Hardware} → History v steps h → AllPairs LoadsAfterStore (rows_of steps)
 law_of_loads_after_stores v {steps} history =
     AllPairs-EveryPair LoadsAfterStore (rows_of steps)
-    (EveryPair-EveryBehind LoadsAfterStore [] (rows_of steps) (EveryBehind-weaker (λ before row. StartsBehind (map mark_of_row before) (mark_of_row row)) (λ before row. Every (λ a. LoadsAfterStore a row) before) loads_by [] (rows_of steps) (rows_start_behind v history)))
+    (EveryPair-EveryBehind LoadsAfterStore [] (rows_of steps) (EveryBehind-weaker (λ before row. StartsBehind (map mark_of_row before) (mark_of_row row)) (λ before row. Each (λ a. LoadsAfterStore a row) before) loads_by [] (rows_of steps) (rows_start_behind v history)))

@@ -1,11 +1,10 @@
 -- The bus is not idle while a result waits.
-use Rattle.rv_hardware.proofs.Words.{◌≡◌, ℕ, suc, ◌+◌, ◌<◌, ◌≤◌, Bool, true, false, cond, ◌&&◌, List, [], ◌∷◌, ◌++◌, map, length, IfSome, nat_le, ◌==◌, Some, None, count_by, Option, sym, refl, ap, ◌∙◌, subst, append_assoc, arith, eq-eqb, le-leb, Message, Issue, Values, finished, predicting, Entry, Fetched, broadcast, broadcast_turn, has_result, with_broadcast, Hardware, LeavesNoBusIdle, Turn, EachBehind, is_broadcast_in, passes, rows_of, Execution, Row, Step}
+use Rattle.rv_hardware.proofs.Words.{◌≡◌, ℕ, suc, ◌+◌, ◌<◌, ◌≤◌, Bool, true, false, cond, ◌&&◌, List, [], ◌∷◌, ◌++◌, map, length, IfSome, nat_le, ◌==◌, Some, None, count_by, Option, sym, refl, ap, ◌∙◌, subst, append_assoc, arith, eq-eqb, le-leb, Message, Issue, Values, Each, finished, predicting, Entry, Fetched, broadcast, broadcast_turn, has_result, with_broadcast, Hardware, LeavesNoBusIdle, Turn, EachBehind, is_broadcast_in, passes, rows_of, Execution, Row, Step, Each-append, Each-place, Each-all, EveryBehind, count, count-set-grows, count-set-one_more, EveryBehind-left, EveryBehind-append, EveryBehind-right, Beginning-EveryBehind, EveryBehind-moved, EveryBehind-all, EveryBehind-set}
 use Rattle.rv_hardware.proofs.LawsAdvance.{IsBefore, IsSentIfReady, Advances, retires, starts, is_sent, enters, IsSent, Kept}
 use Rattle.rv_hardware.proofs.LawsBroadcast.{BroadcastTurn, none_ready as no_result, sends, mends, Sends, broadcast_turn_is, sent_entries, mended_entries}
 use Rattle.rv_hardware.proofs.LawsCounted.{until_not, behind_law, behind_count}
 use Rattle.rv_hardware.proofs.LawsCycle.{Anything, anything_is_kept, History, history_is_legal, history_is_sound, issued_all, sent_all, dispatching}
 use Rattle.rv_hardware.proofs.LawsEvidence.{rows_sent, entries_sent}
-use Rattle.rv_hardware.proofs.LawsLists.{Every, Every-all, Every-place, Every-append, EveryBehind, EveryBehind-all, EveryBehind-left, EveryBehind-append, EveryBehind-moved, EveryBehind-set, EveryBehind-right, Beginning-EveryBehind, count, count-set-grows, count-set-one_more}
 use Rattle.rv_hardware.proofs.LawsPast.{rows_obey}
 use Rattle.rv_hardware.proofs.LawsPhases.{Broadcasts, broadcast_turn_keeps, dispatch_keeps, goes_later, send_is, with_marks}
 use Rattle.rv_hardware.proofs.LawsRow.{SoundRow}
@@ -37,10 +36,10 @@ ready_is_sent now (Some s) p h ready none = subst (IsBefore (now + 1)) none (h r
 none_waits_here : (k now : ℕ) (before : List Mark) (m : Mark) → IsSentIfReady now m → BusyBus k now before m
 none_waits_here k now before m sent waits = absurd (ready_is_sent now m.start m.broadcast sent waits.0 waits.1)
 
-pub none_waits : (k now : ℕ) (before xs : List Mark) → Every (IsSentIfReady now) xs → EveryBehind (BusyBus k now) before xs
+pub none_waits : (k now : ℕ) (before xs : List Mark) → Each (IsSentIfReady now) xs → EveryBehind (BusyBus k now) before xs
 none_waits k now before xs h = EveryBehind-all (IsSentIfReady now) (BusyBus k now) (none_waits_here k now) before xs h
 
-pub words_do_not_wait : (now : ℕ) (fs : List Fetched) → Every (IsSentIfReady now) (map mark_of_fetched fs)
+pub words_do_not_wait : (now : ℕ) (fs : List Fetched) → Each (IsSentIfReady now) (map mark_of_fetched fs)
 words_do_not_wait now [] = tt
 words_do_not_wait now (f ∷ fs) = (tt, words_do_not_wait now fs)
 
@@ -94,11 +93,11 @@ module _ (v : Values) (now total : ℕ) (steps : List Step) where
   abbrev Bus : ℕ → Hardware → Type 0
   Bus k h = Broadcasts v now Anything (anything_is_kept v now) steps h × EveryBehind (BusyBus k now) [] (marks_in steps h)
 
-  rows_wait_not : (h : Hardware) → Broadcasts v now Anything (anything_is_kept v now) steps h → Every (IsSentIfReady now) (map mark_of_entry h.rob.entries) → EveryBehind (BusyBus total now) [] (marks_in steps h)
+  rows_wait_not : (h : Hardware) → Broadcasts v now Anything (anything_is_kept v now) steps h → Each (IsSentIfReady now) (map mark_of_entry h.rob.entries) → EveryBehind (BusyBus total now) [] (marks_in steps h)
   rows_wait_not h p es =
       none_waits total now [] (marks_in steps h)
-      (Every-append (IsSentIfReady now) (map mark_of_row (rows_of steps)) (map mark_of_entry h.rob.entries ++ map mark_of_fetched h.front.entries) (rows_sent v now (rows_of steps) p.basics.rows)
-      (Every-append (IsSentIfReady now) (map mark_of_entry h.rob.entries) (map mark_of_fetched h.front.entries) es (words_do_not_wait now h.front.entries)))
+      (Each-append (IsSentIfReady now) (map mark_of_row (rows_of steps)) (map mark_of_entry h.rob.entries ++ map mark_of_fetched h.front.entries) (rows_sent v now (rows_of steps) p.basics.rows)
+      (Each-append (IsSentIfReady now) (map mark_of_entry h.rob.entries) (map mark_of_fetched h.front.entries) es (words_do_not_wait now h.front.entries)))
 
   after_send : (k : ℕ) (h : Hardware) (older younger : List Entry) (e : Entry) (issue : Issue) (message : Message) (sent : Sends h older younger e issue message) → Bus k h →
       EveryBehind (BusyBus (suc k) now) [] (marks_in steps (with_broadcast (h.rob.retired + length older) message h))
@@ -131,7 +130,7 @@ module _ (v : Values) (now total : ℕ) (steps : List Step) where
   bus_is_busy h width p =
       turns_within total Bus (λ g. EveryBehind (BusyBus total now) [] (marks_in steps g)) broadcast_turn
       (λ k g lt q. bus_leads k g (broadcast_turn g) lt (broadcast_turn_is g) q (broadcast_turn_keeps v now Anything (anything_is_kept v now) steps g (broadcast_turn g) (broadcast_turn_is g) q.0))
-      (λ g q. q.1) h.values.bus_width 0 h (omega (arith, width)) (p, EveryBehind-all (λ m. Unit {0}) (BusyBus 0 now) (λ before m u waits. omega arith) [] (marks_in steps h) (Every-all (λ m. Unit {0}) (λ m. tt) (marks_in steps h)))
+      (λ g q. q.1) h.values.bus_width 0 h (omega (arith, width)) (p, EveryBehind-all (λ m. Unit {0}) (BusyBus 0 now) (λ before m u waits. omega arith) [] (marks_in steps h) (Each-all (λ m. Unit {0}) (λ m. tt) (marks_in steps h)))
 
 -- at the end of each cycle, and so of the rows
 
@@ -166,7 +165,7 @@ bus_by v c before row None at busy = tt
 bus_by v c before row (Some x) at busy = λ ready later.
     let waits : WaitsForBus c (at_end c (mark_of_row row)) = (rw (at, le-leb x.issued c (omega (arith, ready))) ready, ap (λ o. until c (broadcast_of_execution o)) at ∙ until_not c x.broadcast later) in
     let held = busy waits in
-    let fewer = behind_count (is_sent_in c) (is_broadcast_in c) c before (Every-all (λ a. (was_fetched c (mark_of_row a) && is_sent_in c (at_end c (mark_of_row a))) ≡ true → is_broadcast_in c a ≡ true) (λ a h. sent_row c a.execution (and_second (was_fetched c (mark_of_row a)) (is_sent_in c (at_end c (mark_of_row a))) h)) before) in
+    let fewer = behind_count (is_sent_in c) (is_broadcast_in c) c before (Each-all (λ a. (was_fetched c (mark_of_row a) && is_sent_in c (at_end c (mark_of_row a))) ≡ true → is_broadcast_in c a ≡ true) (λ a h. sent_row c a.execution (and_second (was_fetched c (mark_of_row a)) (is_sent_in c (at_end c (mark_of_row a))) h)) before) in
     omega (arith, held, fewer)
 
 in_cycle : (v : Values) (c bound : ℕ) (row : Row) (o : Option Execution) → row.execution ≡ o → SoundRow v bound row → IfSome o (λ x. x.issued + x.cost ≤ c → c < x.broadcast → (row.fetched ≤ c) × (c < bound))
@@ -183,7 +182,7 @@ pub law_of_no_idle_bus : (v : Values) {steps : List Step} {h : Hardware} → His
 law_of_no_idle_bus v {steps} {h} history before after row at = by_execution row.execution refl
   where
     sound : SoundRow v h.cycle row
-    sound = Every-place (SoundRow v h.cycle) before after row (subst (Every (SoundRow v h.cycle)) at (history_is_sound v history).rows)
+    sound = Each-place (SoundRow v h.cycle) before after row (subst (Each (SoundRow v h.cycle)) at (history_is_sound v history).rows)
 
     by_execution : (o : Option Execution) → row.execution ≡ o → IfSome o (λ x. (c : ℕ) → 0 ≤ c → x.issued + x.cost ≤ c → c < x.broadcast → v.bus_width ≤ count_by (is_broadcast_in c) before)
     by_execution None e = tt

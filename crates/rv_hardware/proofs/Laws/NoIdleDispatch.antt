@@ -1,12 +1,11 @@
 -- A fetched instruction that is no store waits for nothing but room and the width.
-use Rattle.rv_hardware.proofs.Words.{◌≡◌, ℕ, suc, ◌<◌, ◌≤◌, Bool, true, false, cond, ◌&&◌, ◌||◌, ◌⊎◌, List, [], ◌∷◌, ◌++◌, map, length, is_some, is_none, nat_lt, nat_le, ◌==◌, Some, None, All, count_by, filter, Option, sym, refl, ap, ◌∙◌, subst, inl, inr, true≢false, arith, lt-ltb, eq-eqb, leb-false, leb-true, All-head, All-tail, length-filter, list_any, is_same-own, is_of_kind, is_serialising, is_store, kind_of_word, at_kind, Kind, Values, Entry, Stage, Finished, Running, Waiting, Fetched, Dispatching, dispatch, dispatch_turn, entry_of_fetched, has_full_stations, is_stationed, Hardware, is_waiting, WaitsForRoom, Turn, EachBehind, instruction_of_row, is_dispatched_in, is_in_flight_in, is_row_of_kind, is_stationed_in, is_store_row, passes, rows_of, Execution, Row, Step}
+use Rattle.rv_hardware.proofs.Words.{◌≡◌, ℕ, suc, ◌<◌, ◌≤◌, Bool, true, false, cond, ◌&&◌, ◌||◌, ◌⊎◌, List, [], ◌∷◌, ◌++◌, map, length, is_some, is_none, nat_lt, nat_le, ◌==◌, Some, None, count_by, filter, Option, sym, refl, ap, ◌∙◌, subst, inl, inr, true≢false, arith, lt-ltb, eq-eqb, leb-false, leb-true, and_from, length-filter, list_any, is_same-own, is_of_kind, is_serialising, is_store, kind_of_word, at_kind, Kind, Values, Each, Entry, Stage, Finished, Running, Waiting, Fetched, Dispatching, dispatch, dispatch_turn, entry_of_fetched, has_full_stations, is_stationed, Hardware, is_waiting, WaitsForRoom, Turn, EachBehind, instruction_of_row, is_dispatched_in, is_in_flight_in, is_row_of_kind, is_stationed_in, is_store_row, passes, rows_of, Execution, Row, Step, Each-All, Each-left, Each-right, Each-place, Each-weaker, Each-all, Each-map, Each-filter, EveryBehind, count, count-count_by, count-append, count-yes, count-map, count-le, EveryBehind-append, Beginning-EveryBehind, EveryBehind-all, EachBehind-EveryBehind}
 use Rattle.rv_hardware.proofs.LawsAdvance.{is_in_flight_mark, is_stationed_mark}
-use Rattle.rv_hardware.proofs.LawsBasics.{and_first, and_second, and_both}
+use Rattle.rv_hardware.proofs.LawsBasics.{and_first, and_second}
 use Rattle.rv_hardware.proofs.LawsCycle.{History, history_is_sound, sent_all, dispatching}
 use Rattle.rv_hardware.proofs.LawsCounted.{behind_law, behind_count, until_by, until_not}
 use Rattle.rv_hardware.proofs.LawsDispatch.{DispatchTurn, buffer_empty, waits, dispatches, dispatch_turn_is, WaitsFor, for_serial, for_buffer, for_station, for_queue}
 use Rattle.rv_hardware.proofs.LawsFetch.{IsNew}
-use Rattle.rv_hardware.proofs.LawsLists.{Every, EachBehind-EveryBehind, Every-all, Every-filter, Every-left, Every-right, Every-map, Every-place, Every-weaker, EveryBehind, EveryBehind-all, EveryBehind-append, Beginning-EveryBehind, count, count-append, count-le, count-map, count-count_by, count-yes}
 use Rattle.rv_hardware.proofs.LawsMarks.{Mark, Start, mark_of_row, mark_of_entry, mark_of_fetched, at_end, as_of, was_fetched, until, start_until, start_of_stage, start_of_execution}
 use Rattle.rv_hardware.proofs.LawsPairs.{Older, rows_are_older}
 use Rattle.rv_hardware.proofs.LawsPast.{rows_obey}
@@ -21,8 +20,8 @@ pub record MayEnter (c : ℕ) (before : List Mark) (m : Mark) : Type 0 where
   pub fetched : m.fetched < c
   pub not_yet : m.dispatched ≡ None
   pub plain : is_store m.instruction ≡ false
-  pub olders : Every (λ x. is_some x.dispatched ≡ true) before
-  pub serial : Every (λ x. is_serialising x.instruction ≡ true → is_some x.retired ≡ true) before
+  pub olders : Each (λ x. is_some x.dispatched ≡ true) before
+  pub serial : Each (λ x. is_serialising x.instruction ≡ true → is_some x.retired ≡ true) before
 
 -- the width or a room was used up
 abbrev pub NoRoom : Values → ℕ → List Mark → Mark → Type 0
@@ -68,7 +67,7 @@ in_flight_entries [] = refl
 in_flight_entries (e ∷ es) = ap suc (in_flight_entries es)
 
 stationed_mark : (k : Kind) (i : Bool) (st : Stage) → (is_waiting st && i) ≡ true → (i && (true && is_none (start_of_stage st))) ≡ true
-stationed_mark k i Waiting h = and_both i true h refl
+stationed_mark k i Waiting h = and_from i true h refl
 stationed_mark k i (Running issue message) h = absurd (cc)
 stationed_mark k i (Finished issue cycle message) h = absurd (cc)
 
@@ -76,14 +75,14 @@ stationed_entries : (k : Kind) (es : List Entry) → length (filter (is_statione
 stationed_entries k es =
     let same = length-filter (is_stationed k) es ∙ sym (count-count_by (is_stationed k) es) in
     let all = count-map (is_stationed_mark k) mark_of_entry es in
-    let some = count-le (is_stationed k) (λ e. is_stationed_mark k (mark_of_entry e)) es (Every-all (λ e. is_stationed k e ≡ true → is_stationed_mark k (mark_of_entry e) ≡ true) (λ e h. stationed_mark k (is_of_kind k (kind_of_word e.instruction)) e.stage h) es) in
+    let some = count-le (is_stationed k) (λ e. is_stationed_mark k (mark_of_entry e)) es (Each-all (λ e. is_stationed k e ≡ true → is_stationed_mark k (mark_of_entry e) ≡ true) (λ e h. stationed_mark k (is_of_kind k (kind_of_word e.instruction)) e.stage h) es) in
     omega (arith, same, all, some)
 
 serial_by : (b : Bool) (rest : Bool) (r : Bool) → (b ≡ true → false ≡ true) → (rest ≡ true → ⊥) → (b || rest) ≡ true → ⊥
 serial_by true rest r first others any = absurd (true≢false (sym (first refl)))
 serial_by false rest r first others any = others any
 
-no_serial : (es : List Entry) → Every (λ x. is_serialising x.instruction ≡ true → is_some x.retired ≡ true) (map mark_of_entry es) → list_any (λ e. is_serialising e.instruction) es ≡ true → ⊥
+no_serial : (es : List Entry) → Each (λ x. is_serialising x.instruction ≡ true → is_some x.retired ≡ true) (map mark_of_entry es) → list_any (λ e. is_serialising e.instruction) es ≡ true → ⊥
 no_serial [] h any = absurd (cc)
 no_serial (e ∷ es) h any = serial_by (is_serialising e.instruction) (list_any (λ x. is_serialising x.instruction) es) true h.0 (λ rest. no_serial es h.1 rest) any
 
@@ -104,7 +103,7 @@ module _ (v : Values) (now : ℕ) (rows : List Row) (h : Hardware) (shape : HasS
       inr (inr (k, ap (is_of_kind k) is ∙ is_same-own k, omega (arith, held, same, some, all)))
 
   by_reason : MayEnter now olders_of (mark_of_fetched f) → WaitsFor h f → NoRoom v now olders_of (mark_of_fetched f)
-  by_reason may (for_serial is) = absurd (no_serial h.rob.entries (Every-right (λ x. is_serialising x.instruction ≡ true → is_some x.retired ≡ true) (map mark_of_row rows) (map mark_of_entry h.rob.entries) may.serial) is)
+  by_reason may (for_serial is) = absurd (no_serial h.rob.entries (Each-right (λ x. is_serialising x.instruction ≡ true → is_some x.retired ≡ true) (map mark_of_row rows) (map mark_of_entry h.rob.entries) may.serial) is)
   by_reason may (for_buffer is) =
       let full = leb-true h.rob.capacity (length h.rob.entries) is in
       let some = in_flight_entries h.rob.entries in
@@ -124,9 +123,9 @@ was_dispatched : {P : Type 0} (m : Mark) → is_some m.dispatched ≡ true → m
 was_dispatched m is none = absurd (true≢false (sym is ∙ ap is_some none))
 
 -- after a word that was not dispatched none may enter
-none_behind : (v : Values) (now : ℕ) (pre xs : List Mark) → (Every (λ x. is_some x.dispatched ≡ true) pre → ⊥) → EveryBehind (EntersSoon v now) pre xs
+none_behind : (v : Values) (now : ℕ) (pre xs : List Mark) → (Each (λ x. is_some x.dispatched ≡ true) pre → ⊥) → EveryBehind (EntersSoon v now) pre xs
 none_behind v now pre [] no_more = tt
-none_behind v now pre (x ∷ xs) no_more = ((λ may. absurd (no_more may.olders)), none_behind v now (pre ++ x ∷ []) xs (λ all. no_more (Every-left (λ z. is_some z.dispatched ≡ true) pre (x ∷ []) all)))
+none_behind v now pre (x ∷ xs) no_more = ((λ may. absurd (no_more may.olders)), none_behind v now (pre ++ x ∷ []) xs (λ all. no_more (Each-left (λ z. is_some z.dispatched ≡ true) pre (x ∷ []) all)))
 
 words_wait : (v : Values) (now : ℕ) (rows : List Row) (h : Hardware) (shape : HasShape v h) (fs : List Fetched) → h.front.entries ≡ fs →
     ((f : Fetched) (gs : List Fetched) → h.front.entries ≡ f ∷ gs → (v.dispatch_width ≤ count (dispatched_now v now) h.rob.entries) ⊎ WaitsFor h f) →
@@ -135,17 +134,17 @@ words_wait v now rows h shape [] at left = tt
 words_wait v now rows h shape (f ∷ fs) at left = (
   head_waits v now rows h shape f (left f fs at),
   none_behind v now ((map mark_of_row rows ++ map mark_of_entry h.rob.entries) ++ mark_of_fetched f ∷ []) (map mark_of_fetched fs)
-      (λ all. was_dispatched (mark_of_fetched f) (Every-place (λ x. is_some x.dispatched ≡ true) (map mark_of_row rows ++ map mark_of_entry h.rob.entries) [] (mark_of_fetched f) all) refl),
+      (λ all. was_dispatched (mark_of_fetched f) (Each-place (λ x. is_some x.dispatched ≡ true) (map mark_of_row rows ++ map mark_of_entry h.rob.entries) [] (mark_of_fetched f) all) refl),
 )
 
-dispatched_ones : (v : Values) (now : ℕ) (before xs : List Mark) → Every (λ x. is_some x.dispatched ≡ true) xs → EveryBehind (EntersSoon v now) before xs
+dispatched_ones : (v : Values) (now : ℕ) (before xs : List Mark) → Each (λ x. is_some x.dispatched ≡ true) xs → EveryBehind (EntersSoon v now) before xs
 dispatched_ones v now before xs h = EveryBehind-all (λ x. is_some x.dispatched ≡ true) (EntersSoon v now) (λ b x is may. was_dispatched x is may.not_yet) before xs h
 
-rows_dispatched : (rows : List Row) → Every (λ x. is_some x.dispatched ≡ true) (map mark_of_row rows)
+rows_dispatched : (rows : List Row) → Each (λ x. is_some x.dispatched ≡ true) (map mark_of_row rows)
 rows_dispatched [] = tt
 rows_dispatched (row ∷ rows) = (refl, rows_dispatched rows)
 
-entries_dispatched : (es : List Entry) → Every (λ x. is_some x.dispatched ≡ true) (map mark_of_entry es)
+entries_dispatched : (es : List Entry) → Each (λ x. is_some x.dispatched ≡ true) (map mark_of_entry es)
 entries_dispatched [] = tt
 entries_dispatched (e ∷ es) = (refl, entries_dispatched es)
 
@@ -164,7 +163,7 @@ soon_marks v history =
     (EveryBehind-append (EntersSoon v now) [] rows (es ++ fs) (dispatched_ones v now [] rows (rows_dispatched (rows_of all)))
     (EveryBehind-append (EntersSoon v now) rows es fs (dispatched_ones v now rows es (entries_dispatched d.rob.entries)) (words_wait v now (rows_of all) d passed.dispatches.basics.shape d.front.entries refl left)))
     (EveryBehind-all (λ m. now ≤ m.fetched) (EntersSoon v now) (λ b x le may. absurd (too_new now x le may.fetched)) (rows ++ (es ++ fs)) (map mark_of_fetched passed.fetches.added)
-    (Every-map (λ m. now ≤ m.fetched) mark_of_fetched passed.fetches.added (Every-weaker (IsNew now) (λ f. now ≤ f.cycle) (λ f w. omega (arith, w.0)) passed.fetches.added passed.fetches.are_new)))))
+    (Each-map (λ m. now ≤ m.fetched) mark_of_fetched passed.fetches.added (Each-weaker (IsNew now) (λ f. now ≤ f.cycle) (λ f w. omega (arith, w.0)) passed.fetches.added passed.fetches.are_new)))))
     history
   where
     too_new : (now : ℕ) (x : Mark) → now ≤ x.fetched → x.fetched < now → ⊥
@@ -172,16 +171,11 @@ soon_marks v history =
 
 -- so of the rows
 
--- of each place, and so by recursion
-pub Every-All : {X : Type 0} (P : X → Type 0) (xs : List X) → All P xs → Every P xs
-Every-All P [] h = tt
-Every-All P (x ∷ xs) h = (All-head P x xs h, Every-All P xs (All-tail P x xs h))
-
 -- what holds of each row's mark at the end of a cycle holds of the marks as they stood then
-pub as_of_rows : (P : Mark → Type 0) (c : ℕ) (rows : List Row) → Every (λ row. P (at_end c (mark_of_row row))) rows → Every P (as_of c (map mark_of_row rows))
+pub as_of_rows : (P : Mark → Type 0) (c : ℕ) (rows : List Row) → Each (λ row. P (at_end c (mark_of_row row))) rows → Each P (as_of c (map mark_of_row rows))
 as_of_rows P c rows h =
-    Every-map P (at_end c) (filter (was_fetched c) (map mark_of_row rows))
-    (Every-filter (λ m. P (at_end c m)) (was_fetched c) (map mark_of_row rows) (Every-map (λ m. P (at_end c m)) mark_of_row rows h))
+    Each-map P (at_end c) (filter (was_fetched c) (map mark_of_row rows))
+    (Each-filter (λ m. P (at_end c m)) (was_fetched c) (map mark_of_row rows) (Each-map (λ m. P (at_end c m)) mark_of_row rows h))
 
 dispatched_row : (c d : ℕ) (b : Bool) → nat_le d c ≡ b → is_at c (cond b (Some d) None) ≡ true → (d == c) ≡ true
 dispatched_row c d true is h = h
@@ -200,7 +194,7 @@ flight_row : (c : ℕ) (row : Row) → is_in_flight_mark (at_end c (mark_of_row 
 flight_row c row h =
     let two = and_first (is_some (until c (Some row.dispatched))) (is_none (until c (Some row.retired))) h in
     let one = and_second (is_some (until c (Some row.dispatched))) (is_none (until c (Some row.retired))) h in
-    and_both (nat_le row.dispatched c) (nat_lt c row.retired) (some_until c row.dispatched (nat_le row.dispatched c) refl two) (none_until c row.retired (nat_le row.retired c) refl one)
+    and_from (nat_le row.dispatched c) (nat_lt c row.retired) (some_until c row.dispatched (nat_le row.dispatched c) refl two) (none_until c row.retired (nat_le row.retired c) refl one)
 
 started_row : (c : ℕ) (x : Option Execution) → is_some x ≡ true → is_none (start_until c (start_of_execution x)) ≡ true → passes (λ y. nat_lt c y.issued) x ≡ true
 started_row c None some h = absurd (cc)
@@ -220,11 +214,11 @@ station_row v bound c k row sound h =
     let both = and_second (is_row_of_kind k row) (is_some (until c (Some row.dispatched)) && is_none (start_until c (start_of_execution row.execution))) h in
     let held = some_until c row.dispatched (nat_le row.dispatched c) refl (and_first (is_some (until c (Some row.dispatched))) (is_none (start_until c (start_of_execution row.execution))) both) in
     let later = started_row c row.execution (sound.stamps.executed_by_a_unit ∙ some_kind k _ kind) (and_second (is_some (until c (Some row.dispatched))) (is_none (start_until c (start_of_execution row.execution))) both) in
-    and_both (is_row_of_kind k row && nat_le row.dispatched c) (passes (λ y. nat_lt c y.issued) row.execution) (and_both (is_row_of_kind k row) (nat_le row.dispatched c) kind held) later
+    and_from (is_row_of_kind k row && nat_le row.dispatched c) (passes (λ y. nat_lt c y.issued) row.execution) (and_from (is_row_of_kind k row) (nat_le row.dispatched c) kind held) later
 
-module _ (v : Values) (bound c : ℕ) (before : List Row) (row : Row) (older : Every (Older v bound row) before) (row_sound : SoundRow v bound row) where
+module _ (v : Values) (bound c : ℕ) (before : List Row) (row : Row) (older : Each (Older v bound row) before) (row_sound : SoundRow v bound row) where
   fewer : (p : Mark → Bool) (q : Row → Bool) → ((a : Row) → SoundRow v bound a → p (at_end c (mark_of_row a)) ≡ true → q a ≡ true) → count p (as_of c (map mark_of_row before)) ≤ count_by q before
-  fewer p q f = behind_count p q c before (Every-weaker (Older v bound row) (λ a. (was_fetched c (mark_of_row a) && p (at_end c (mark_of_row a))) ≡ true → q a ≡ true) (λ a o h. f a o.sound (and_second (was_fetched c (mark_of_row a)) (p (at_end c (mark_of_row a))) h)) before older)
+  fewer p q f = behind_count p q c before (Each-weaker (Older v bound row) (λ a. (was_fetched c (mark_of_row a) && p (at_end c (mark_of_row a))) ≡ true → q a ≡ true) (λ a o h. f a o.sound (and_second (was_fetched c (mark_of_row a)) (p (at_end c (mark_of_row a))) h)) before older)
 
   room_of_rows : NoRoom v c (as_of c (map mark_of_row before)) (at_end c (mark_of_row row)) →
       (v.dispatch_width ≤ count_by (is_dispatched_in c) before) ⊎ (v.rob ≤ count_by (is_in_flight_in c) before) ⊎ ((kind : Kind) × (is_row_of_kind kind row ≡ true) × ((at_kind kind v.kinds).stations ≤ count_by (is_stationed_in kind c) before))
@@ -232,20 +226,20 @@ module _ (v : Values) (bound c : ℕ) (before : List Row) (row : Row) (older : E
   room_of_rows (inr (inl full)) = let less = fewer is_in_flight_mark (is_in_flight_in c) (λ a s h. flight_row c a h) in inr (inl (omega (arith, full, less)))
   room_of_rows (inr (inr full)) = let less = fewer (is_stationed_mark full.0) (is_stationed_in full.0 c) (λ a s h. station_row v bound c full.0 a s h) in inr (inr (full.0, full.1, omega (arith, full.2, less)))
 
-  may_enter : is_store_row row ≡ false → row.fetched < c → c < row.dispatched → Every (λ a. a.dispatched ≤ c) before → MayEnter c (as_of c (map mark_of_row before)) (at_end c (mark_of_row row))
+  may_enter : is_store_row row ≡ false → row.fetched < c → c < row.dispatched → Each (λ a. a.dispatched ≤ c) before → MayEnter c (as_of c (map mark_of_row before)) (at_end c (mark_of_row row))
   may_enter plain after later all = record {
     fetched = after;
     not_yet = until_not c row.dispatched later;
     plain = plain;
-    olders = as_of_rows (λ x. is_some x.dispatched ≡ true) c before (Every-weaker (λ a. a.dispatched ≤ c) (λ a. is_some (until c (Some a.dispatched)) ≡ true) (λ a le. ap is_some (until_by c a.dispatched le)) before all);
-    serial = as_of_rows (λ x. is_serialising x.instruction ≡ true → is_some x.retired ≡ true) c before (Every-weaker (Older v bound row) (λ a. is_serialising (instruction_of_row a) ≡ true → is_some (until c (Some a.retired)) ≡ true)
+    olders = as_of_rows (λ x. is_some x.dispatched ≡ true) c before (Each-weaker (λ a. a.dispatched ≤ c) (λ a. is_some (until c (Some a.dispatched)) ≡ true) (λ a le. ap is_some (until_by c a.dispatched le)) before all);
+    serial = as_of_rows (λ x. is_serialising x.instruction ≡ true → is_some x.retired ≡ true) c before (Each-weaker (Older v bound row) (λ a. is_serialising (instruction_of_row a) ≡ true → is_some (until c (Some a.retired)) ≡ true)
         (λ a o is. let late = o.serial is in ap is_some (until_by c a.retired (omega (arith, late, after)))) before older);
   }
 
 -- the field `no_idle_dispatch` of `Laws`, over every history
 pub law_of_no_idle_dispatch : (v : Values) {steps : List Step} {h : Hardware} → History v steps h → EachBehind (WaitsForRoom v 0) (rows_of steps)
 law_of_no_idle_dispatch v {steps} {h} history before after row at plain c from fetched later all =
-    let sound : SoundRow v h.cycle row = Every-place (SoundRow v h.cycle) before after row (subst (Every (SoundRow v h.cycle)) at (history_is_sound v history).rows) in
-    let older = EachBehind-EveryBehind (λ b r. Every (Older v h.cycle r) b) (rows_of steps) (rows_are_older v history) before after row at in
+    let sound : SoundRow v h.cycle row = Each-place (SoundRow v h.cycle) before after row (subst (Each (SoundRow v h.cycle)) at (history_is_sound v history).rows) in
+    let older = EachBehind-EveryBehind (λ b r. Each (Older v h.cycle r) b) (rows_of steps) (rows_are_older v history) before after row at in
     let soon = behind_law (EntersSoon v c) c (rows_of steps) before after row (soon_marks v history c (omega (arith, later, sound.stamps.retired_after_dispatch, sound.below))) at (omega (arith, fetched)) in
-    room_of_rows v h.cycle c before row older sound (soon (may_enter v h.cycle c before row older sound plain fetched later (Every-All (λ a. a.dispatched ≤ c) before all)))
+    room_of_rows v h.cycle c before row older sound (soon (may_enter v h.cycle c before row older sound plain fetched later (Each-All (λ a. a.dispatched ≤ c) before all)))

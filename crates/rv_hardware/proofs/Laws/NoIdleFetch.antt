@@ -1,11 +1,10 @@
 -- Fetch waits for nothing but room.
-use Rattle.rv_hardware.proofs.Words.{◌≡◌, ℕ, ◌≤◌, true, List, [], ◌∷◌, ◌++◌, map, is_none, nat_lt, nat_le, Some, None, count_by, Option, MatchOption, sym, refl, ap, ◌∙◌, subst, inl, inr, append_assoc, arith, map-append, Values, Hardware, IsFetchedBehind, EachNext, is_buffered_in, rows_of, Execution, Row, Step, Interrupt, Retired, Trap}
-use Rattle.rv_hardware.proofs.LawsBasics.{and_first, and_second, and_both}
+use Rattle.rv_hardware.proofs.Words.{◌≡◌, ℕ, ◌≤◌, true, List, [], ◌∷◌, ◌++◌, map, is_none, nat_lt, nat_le, Some, None, count_by, Option, MatchOption, sym, refl, ap, ◌∙◌, subst, inl, inr, append_assoc, arith, and_from, map-append, Values, Hardware, IsFetchedBehind, EachNext, is_buffered_in, rows_of, Execution, Row, Step, Interrupt, Retired, Trap, Each-all, count-count_by, count-append, count-map, count-le}
+use Rattle.rv_hardware.proofs.LawsBasics.{and_first, and_second}
 use Rattle.rv_hardware.proofs.LawsCycle.{History}
 use Rattle.rv_hardware.proofs.Laws.NoIdleDispatch.{none_until}
 use Rattle.rv_hardware.proofs.LawsLinked.{is_word, with_word, Followed, IsOpen, Linked, held_behind, held_count}
 use Rattle.rv_hardware.proofs.LawsLinkedRows.{marks_are_linked}
-use Rattle.rv_hardware.proofs.LawsLists.{Every-all, count-append, count-count_by, count-le, count-map}
 use Rattle.rv_hardware.proofs.LawsMarks.{Mark, mark_of_row, mark_of_entry, mark_of_fetched, until, broadcast_of_execution, rows_append}
 use Rattle.rv_hardware.proofs.LawsNextFetch.{next_was_fetched}
 
@@ -16,7 +15,7 @@ linked_at v now last held (x ∷ xs) ys m n h = linked_at v now last (with_word 
 -- a word in the buffer is one of the rows that were
 word_is_buffered : (c : ℕ) (row : Row) → is_word c (mark_of_row row) ≡ true → is_buffered_in c row ≡ true
 word_is_buffered c row is =
-    and_both (nat_le row.fetched c) (nat_lt c row.dispatched) (and_first (nat_le row.fetched c) (is_none (until c (Some row.dispatched))) is)
+    and_from (nat_le row.fetched c) (nat_lt c row.dispatched) (and_first (nat_le row.fetched c) (is_none (until c (Some row.dispatched))) is)
     (none_until c row.dispatched (nat_le row.dispatched c) refl (and_second (nat_le row.fetched c) (is_none (until c (Some row.dispatched))) is))
 
 -- they are no more than all
@@ -24,7 +23,7 @@ held_rows : (c : ℕ) (before after : List Row) → held_behind (λ n. 0) (map m
 held_rows c before after =
     let held = held_count (λ n. 0) (map mark_of_row before) c in
     let marks = count-map (is_word c) mark_of_row before in
-    let fewer = count-le (λ row. is_word c (mark_of_row row)) (is_buffered_in c) before (Every-all (λ row. is_word c (mark_of_row row) ≡ true → is_buffered_in c row ≡ true) (word_is_buffered c) before) in
+    let fewer = count-le (λ row. is_word c (mark_of_row row)) (is_buffered_in c) before (Each-all (λ row. is_word c (mark_of_row row) ≡ true → is_buffered_in c row ≡ true) (word_is_buffered c) before) in
     let both = count-append (is_buffered_in c) before after in
     let all = count-count_by (is_buffered_in c) (before ++ after) in
     omega (arith, held, marks, fewer, both, all)

@@ -1,13 +1,12 @@
 -- No pipelined unit is idle while an instruction that is no load has its operands.
-use Rattle.rv_hardware.proofs.Words.{◌≡◌, ℕ, ◌+◌, ◌<◌, ◌≤◌, Bool, true, false, cond, ◌&&◌, List, [], ◌∷◌, map, is_some, IfSome, nat_le, ◌==◌, Some, None, count_by, Option, option_map, sym, refl, ap, ◌∙◌, subst, arith, le-leb, is_serialising, kind_of_word, at_kind, Kind, Values, Hardware, HasOperandsIn, LeaveNoUnitIdle, is_pipelined, instruction_of_row, is_issued_in, is_row_of_kind, last_from, last_that, passes, producer_among, rows_of, sources_of_row, writes_register, Execution, Row, Step}
+use Rattle.rv_hardware.proofs.Words.{◌≡◌, ℕ, ◌+◌, ◌<◌, ◌≤◌, Bool, true, false, cond, ◌&&◌, List, [], ◌∷◌, map, is_some, IfSome, nat_le, ◌==◌, Some, None, count_by, Option, option_map, sym, refl, ap, ◌∙◌, subst, arith, le-leb, and_from, is_serialising, kind_of_word, at_kind, Kind, Values, Each, Hardware, HasOperandsIn, LeaveNoUnitIdle, is_pipelined, instruction_of_row, is_issued_in, is_row_of_kind, last_from, last_that, passes, producer_among, rows_of, sources_of_row, writes_register, Execution, Row, Step, Each-All, Each-place, Each-weaker, EveryBehind, Beginning-EveryBehind, EachBehind-EveryBehind, EveryBehind-EveryPair}
 use Rattle.rv_hardware.proofs.LawsAdvance.{IsBefore, writes_mark, IsKnownMark, OperandsKnown}
-use Rattle.rv_hardware.proofs.LawsBasics.{and_first, and_second, and_both}
+use Rattle.rv_hardware.proofs.LawsBasics.{and_first, and_second}
 use Rattle.rv_hardware.proofs.LawsCounted.{behind_law, behind_count, until_by}
 use Rattle.rv_hardware.proofs.LawsCycle.{History, history_is_sound}
-use Rattle.rv_hardware.proofs.Laws.NoIdleDispatch.{Every-All, as_of_rows}
+use Rattle.rv_hardware.proofs.Laws.NoIdleDispatch.{as_of_rows}
 use Rattle.rv_hardware.proofs.LawsIdleUnit.{MayStart, BusyUnits}
 use Rattle.rv_hardware.proofs.LawsIdleUnitPhases.{units_are_busy}
-use Rattle.rv_hardware.proofs.LawsLists.{Every, Every-place, Every-weaker, EveryBehind, EachBehind-EveryBehind, EveryBehind-EveryPair, Beginning-EveryBehind}
 use Rattle.rv_hardware.proofs.LawsMarks.{Mark, mark_of_row, as_of, as_of-cons, at_end, was_fetched, until, start_until, start_until_now, start_of_execution, broadcast_of_execution}
 use Rattle.rv_hardware.proofs.LawsOrder.{history_is_orderly}
 use Rattle.rv_hardware.proofs.LawsPairs.{Older, rows_are_older, row_pairs}
@@ -21,7 +20,7 @@ busy_rows v k line history =
     (λ earlier old new lines report before after passed. units_are_busy v k line earlier lines old new report _ before passed) history
 
 -- rows that were all fetched
-all_fetched : (c : ℕ) (rows : List Row) → Every (λ a. a.fetched ≤ c) rows → as_of c (map mark_of_row rows) ≡ map (λ a. at_end c (mark_of_row a)) rows
+all_fetched : (c : ℕ) (rows : List Row) → Each (λ a. a.fetched ≤ c) rows → as_of c (map mark_of_row rows) ≡ map (λ a. at_end c (mark_of_row a)) rows
 all_fetched c [] h = refl
 all_fetched c (row ∷ rows) h =
     as_of-cons c (mark_of_row row) (map mark_of_row rows) ∙ ap (λ b. cond b (at_end c (mark_of_row row) ∷ as_of c (map mark_of_row rows)) (as_of c (map mark_of_row rows))) (le-leb row.fetched c h.0) ∙
@@ -45,12 +44,12 @@ module _ (c : ℕ) where
   known_by None some same h is = absurd (cc)
   known_by (Some x) some same h is = rw (until_by c x.broadcast (omega (arith, h))) h
 
-  module _ (v : Values) (bound : ℕ) (before : List Row) (row : Row) (older : Every (Older v bound row) before) where
+  module _ (v : Values) (bound : ℕ) (before : List Row) (row : Row) (older : Each (Older v bound row) before) where
     found_known : (o : Option Row) → IfSome o (SoundRow v bound) → IfSome o (λ p. IfSome p.execution (λ y. y.broadcast < c)) → IfSome (option_map ended_row o) (IsKnownMark c)
     found_known None s h = tt
     found_known (Some p) s h = λ some. known_by p.execution (is_some (kind_of_word (instruction_of_row p))) s.stamps.executed_by_a_unit h some
 
-    found_sound : (o : Option Row) (test : Row → Bool) (rows : List Row) → IfSome o (SoundRow v bound) → Every (SoundRow v bound) rows → IfSome (last_from o test rows) (SoundRow v bound)
+    found_sound : (o : Option Row) (test : Row → Bool) (rows : List Row) → IfSome o (SoundRow v bound) → Each (SoundRow v bound) rows → IfSome (last_from o test rows) (SoundRow v bound)
     found_sound o test [] h sound = h
     found_sound o test (r ∷ rows) h sound = found_sound (cond (test r) (Some r) o) test rows (pick (test r) h) sound.1
       where
@@ -58,11 +57,11 @@ module _ (c : ℕ) where
         pick true k = sound.0
         pick false k = k
 
-    sources_known : (sources : List (Option ℕ)) → Every (λ source. IfSome (producer_among before source) (λ p. IfSome p.execution (λ y. y.broadcast < c))) sources → OperandsKnown c (map ended_row before) sources
+    sources_known : (sources : List (Option ℕ)) → Each (λ source. IfSome (producer_among before source) (λ p. IfSome p.execution (λ y. y.broadcast < c))) sources → OperandsKnown c (map ended_row before) sources
     sources_known [] h = tt
     sources_known (None ∷ sources) h = (tt, sources_known sources h.1)
     sources_known (Some register ∷ sources) h = (
-      rw (last_of register None before) (found_known (last_that (writes_register register) before) (found_sound None (writes_register register) before tt (Every-weaker (Older v bound row) (SoundRow v bound) (λ a o. o.sound) before older)) h.0),
+      rw (last_of register None before) (found_known (last_that (writes_register register) before) (found_sound None (writes_register register) before tt (Each-weaker (Older v bound row) (SoundRow v bound) (λ a o. o.sound) before older)) h.0),
       sources_known sources h.1,
     )
 
@@ -79,31 +78,31 @@ pub law_of_no_idle_unit : (v : Values) {steps : List Step} {h : Hardware} → Hi
 law_of_no_idle_unit v {steps} {h} history k line before after row at kind plain = by_execution row.execution refl
   where
     sound : SoundRow v h.cycle row
-    sound = Every-place (SoundRow v h.cycle) before after row (subst (Every (SoundRow v h.cycle)) at (history_is_sound v history).rows)
+    sound = Each-place (SoundRow v h.cycle) before after row (subst (Each (SoundRow v h.cycle)) at (history_is_sound v history).rows)
 
-    older : Every (Older v h.cycle row) before
-    older = EachBehind-EveryBehind (λ b r. Every (Older v h.cycle r) b) (rows_of steps) (rows_are_older v history) before after row at
+    older : Each (Older v h.cycle row) before
+    older = EachBehind-EveryBehind (λ b r. Each (Older v h.cycle r) b) (rows_of steps) (rows_are_older v history) before after row at
 
-    in_order : Every (λ a. a.fetched ≤ row.fetched) before
-    in_order = EachBehind-EveryBehind (λ b r. Every (λ a. a.fetched ≤ r.fetched) b) (rows_of steps) (EveryBehind-EveryPair (λ a b. a.fetched ≤ b.fetched) [] (rows_of steps) tt (row_pairs (λ m n. m.fetched ≤ n.fetched) (λ a b. a.fetched ≤ b.fetched) (λ a b le. le) steps h (history_is_orderly v history).fetched)) before after row at
+    in_order : Each (λ a. a.fetched ≤ row.fetched) before
+    in_order = EachBehind-EveryBehind (λ b r. Each (λ a. a.fetched ≤ r.fetched) b) (rows_of steps) (EveryBehind-EveryPair (λ a b. a.fetched ≤ b.fetched) [] (rows_of steps) tt (row_pairs (λ m n. m.fetched ≤ n.fetched) (λ a b. a.fetched ≤ b.fetched) (λ a b le. le) steps h (history_is_orderly v history).fetched)) before after row at
 
     by_execution : (o : Option Execution) → row.execution ≡ o → IfSome o (λ x. (c : ℕ) → 0 ≤ c → row.dispatched < c → c < x.issued → HasOperandsIn c before row → (at_kind k v.kinds).units ≤ count_by (is_issued_in k c) before)
     by_execution None e = tt
     by_execution (Some x) e = λ c from dispatched later operands.
         let between = subst (λ o. IfSome o (λ x. (row.dispatched < x.issued) × (x.issued + x.cost ≤ x.broadcast) × (x.broadcast < row.retired))) e sound.stamps.executed_between in
         let fetched : row.fetched ≤ c = omega (arith, dispatched, sound.stamps.dispatched_after_fetch) in
-        let all = Every-weaker (λ a. a.fetched ≤ row.fetched) (λ a. a.fetched ≤ c) (λ a le. omega (arith, le, fetched)) before in_order in
+        let all = Each-weaker (λ a. a.fetched ≤ row.fetched) (λ a. a.fetched ≤ c) (λ a le. omega (arith, le, fetched)) before in_order in
         let may : MayStart k c (as_of c (map mark_of_row before)) (at_end c (mark_of_row row)) = record {
           kind = kind;
           plain = plain;
           dispatched = rw (until_by c row.dispatched (omega (arith, dispatched))) dispatched;
           not_yet = ap (λ o. start_until c (start_of_execution o)) e ∙ not_until c x later;
-          operands = rw (all_fetched c before all) (sources_known c v h.cycle before row older (sources_of_row row) (Every-All (λ source. IfSome (producer_among before source) (λ p. IfSome p.execution (λ y. y.broadcast < c))) (sources_of_row row) operands));
-          serial = as_of_rows (λ m. is_serialising m.instruction ≡ true → IsBefore c m.retired) c before (Every-weaker (Older v h.cycle row) (λ a. is_serialising (instruction_of_row a) ≡ true → IsBefore c (until c (Some a.retired))) (λ a o is. retired_before c a row (o.serial is) dispatched) before older);
+          operands = rw (all_fetched c before all) (sources_known c v h.cycle before row older (sources_of_row row) (Each-All (λ source. IfSome (producer_among before source) (λ p. IfSome p.execution (λ y. y.broadcast < c))) (sources_of_row row) operands));
+          serial = as_of_rows (λ m. is_serialising m.instruction ≡ true → IsBefore c m.retired) c before (Each-weaker (Older v h.cycle row) (λ a. is_serialising (instruction_of_row a) ≡ true → IsBefore c (until c (Some a.retired))) (λ a o is. retired_before c a row (o.serial is) dispatched) before older);
         } in
         let busy = behind_law (BusyUnits k (at_kind k v.kinds).units c) c (rows_of steps) before after row (busy_rows v k line history c (omega (arith, later, between.1, between.2, sound.below))) at fetched may in
-        let fewer = behind_count (begins_mark k c) (is_issued_in k c) c before (Every-weaker (Older v h.cycle row) (λ a. (was_fetched c (mark_of_row a) && begins_mark k c (at_end c (mark_of_row a))) ≡ true → is_issued_in k c a ≡ true)
-        (λ a o g. let both = and_second (was_fetched c (mark_of_row a)) (begins_mark k c (at_end c (mark_of_row a))) g in and_both (is_row_of_kind k a) (passes (λ y. y.issued == c) a.execution) (and_first (is_row_of_kind k a) (starts_at c (start_until c (start_of_execution a.execution))) both) (begun_at c a.execution (and_second (is_row_of_kind k a) (starts_at c (start_until c (start_of_execution a.execution))) both))) before older) in
+        let fewer = behind_count (begins_mark k c) (is_issued_in k c) c before (Each-weaker (Older v h.cycle row) (λ a. (was_fetched c (mark_of_row a) && begins_mark k c (at_end c (mark_of_row a))) ≡ true → is_issued_in k c a ≡ true)
+        (λ a o g. let both = and_second (was_fetched c (mark_of_row a)) (begins_mark k c (at_end c (mark_of_row a))) g in and_from (is_row_of_kind k a) (passes (λ y. y.issued == c) a.execution) (and_first (is_row_of_kind k a) (starts_at c (start_until c (start_of_execution a.execution))) both) (begun_at c a.execution (and_second (is_row_of_kind k a) (starts_at c (start_until c (start_of_execution a.execution))) both))) before older) in
         omega (arith, busy, fewer)
       where
         not_until : (c : ℕ) (x : Execution) → c < x.issued → start_until c (Some (record { cycle = x.issued; cost = x.cost; faults = false })) ≡ None

@@ -1,8 +1,7 @@
 -- Of the results that are ready the oldest is broadcast first.
-use Rattle.rv_hardware.proofs.Words.{◌+◌, ◌≤◌, List, IfSome, Some, None, Option, AllPairs, arith, Values, Hardware, IsBroadcastFirst, rows_of, Execution, Step}
+use Rattle.rv_hardware.proofs.Words.{◌+◌, ◌≤◌, List, IfSome, Some, None, Option, AllPairs, arith, Values, Hardware, IsBroadcastFirst, rows_of, Execution, Step, AllPairs-EveryPair}
 use Rattle.rv_hardware.proofs.LawsBus.{OldestFirst, ReadyFirst, history_has_bus_order}
 use Rattle.rv_hardware.proofs.LawsCycle.{History}
-use Rattle.rv_hardware.proofs.LawsLists.{AllPairs-EveryPair}
 use Rattle.rv_hardware.proofs.LawsMarks.{start_of_execution, broadcast_of_execution}
 use Rattle.rv_hardware.proofs.LawsPairs.{row_pairs}
 

@@ -1,8 +1,7 @@
 -- An instruction issues after the broadcasts of its operands.
-use Rattle.rv_hardware.proofs.Words.{◌≡◌, ℕ, ◌<◌, ◌≤◌, Bool, true, false, cond, List, [], ◌∷◌, map, is_some, IfSome, Some, None, All, Option, MatchOption, option_map, sym, refl, ap, ◌∙◌, subst, arith, is_serialising, kind_of_word, Instr, Values, Hardware, IsKnownBefore, IssuesWithOperands, EachBehind, instruction_of_row, last_from, last_that, producer_among, rows_of, sources_of_row, writes_register, Execution, Row, Step}
+use Rattle.rv_hardware.proofs.Words.{◌≡◌, ℕ, ◌<◌, ◌≤◌, Bool, true, false, cond, List, [], ◌∷◌, map, is_some, IfSome, Some, None, All, Option, MatchOption, option_map, sym, refl, ap, ◌∙◌, subst, arith, is_serialising, kind_of_word, Instr, Values, Each, Hardware, IsKnownBefore, IssuesWithOperands, EachBehind, instruction_of_row, last_from, last_that, producer_among, rows_of, sources_of_row, writes_register, Execution, Row, Step, All-Each, Each-weaker, EachBehind-EveryBehind, EveryBehind-both}
 use Rattle.rv_hardware.proofs.LawsAdvance.{IsBefore, writes_mark, IsKnownMark, OperandsKnown}
 use Rattle.rv_hardware.proofs.LawsCycle.{History, history_is_sound}
-use Rattle.rv_hardware.proofs.LawsLists.{Every, Every-weaker, EveryBehind-both, EachBehind-EveryBehind, All-Every}
 use Rattle.rv_hardware.proofs.LawsMarks.{mark_of_row, start_of_execution, broadcast_of_execution}
 use Rattle.rv_hardware.proofs.LawsOperands.{Found, StartsBehind}
 use Rattle.rv_hardware.proofs.LawsPairs.{Older, rows_start_behind, rows_are_older, two_behind, writer_serialises}
@@ -23,7 +22,7 @@ either_passes : (G : Row → Type 0) (test : Row → Bool) (b : Bool) (row : Row
 either_passes G test true row o is f h = f is
 either_passes G test false row o is f h = h
 
-last_passes : (G : Row → Type 0) (test : Row → Bool) (o : Option Row) (rows : List Row) → IfSome o G → Every (λ row. test row ≡ true → G row) rows → IfSome (last_from o test rows) G
+last_passes : (G : Row → Type 0) (test : Row → Bool) (o : Option Row) (rows : List Row) → IfSome o G → Each (λ row. test row ≡ true → G row) rows → IfSome (last_from o test rows) G
 last_passes G test o [] h are = h
 last_passes G test o (row ∷ rows) h are = last_passes G test (cond (test row) (Some row) o) rows (either_passes G test (test row) row o refl are.0 h) are.1
 
@@ -41,32 +40,32 @@ producer_known register row x p None after unit serial writes known =
     let late = serial (writer_serialises register (instruction_of_row p) (no_kind None (instruction_of_row p) refl unit) writes) in omega (arith, late, after)
 producer_known register row x p (Some t) after unit serial writes known = known (sym unit)
 
-source_known : (v : Values) (bound : ℕ) (before : List Row) (row : Row) (x : Execution) (sound : SoundRow v bound row) → Every (Older v bound row) before → (register : ℕ) →
+source_known : (v : Values) (bound : ℕ) (before : List Row) (row : Row) (x : Execution) (sound : SoundRow v bound row) → Each (Older v bound row) before → (register : ℕ) →
     IfSome (last_that (writes_mark register) (map mark_of_row before)) (IsKnownMark x.issued) → IfSome (last_that (writes_register register) before) (IsKnownBefore row x)
 source_known v bound before row x sound older register known =
     by_found (last_that (writes_register register) before) (subst (λ o. IfSome o (IsKnownMark x.issued)) (last_of_rows register None before) known)
-    (last_passes (λ p. Older v bound row p × (writes_register register p ≡ true)) (writes_register register) None before tt (Every-weaker (Older v bound row) (λ p. writes_register register p ≡ true → Older v bound row p × (writes_register register p ≡ true)) (λ p o w. (o, w)) before older))
+    (last_passes (λ p. Older v bound row p × (writes_register register p ≡ true)) (writes_register register) None before tt (Each-weaker (Older v bound row) (λ p. writes_register register p ≡ true → Older v bound row p × (writes_register register p ≡ true)) (λ p o w. (o, w)) before older))
   where
     by_found : (o : Option Row) → IfSome (option_map mark_of_row o) (IsKnownMark x.issued) → IfSome o (λ p. Older v bound row p × (writes_register register p ≡ true)) → IfSome o (IsKnownBefore row x)
     by_found None k f = tt
     by_found (Some p) k f = producer_known register row x p p.execution sound.stamps.dispatched_after_fetch f.0.sound.stamps.executed_by_a_unit f.0.serial f.1 k
 
-sources_known : (v : Values) (bound : ℕ) (before : List Row) (row : Row) (x : Execution) (sound : SoundRow v bound row) → Every (Older v bound row) before → (sources : List (Option ℕ)) →
-    OperandsKnown x.issued (map mark_of_row before) sources → Every (λ source. IfSome (producer_among before source) (IsKnownBefore row x)) sources
+sources_known : (v : Values) (bound : ℕ) (before : List Row) (row : Row) (x : Execution) (sound : SoundRow v bound row) → Each (Older v bound row) before → (sources : List (Option ℕ)) →
+    OperandsKnown x.issued (map mark_of_row before) sources → Each (λ source. IfSome (producer_among before source) (IsKnownBefore row x)) sources
 sources_known v bound before row x sound older [] h = tt
 sources_known v bound before row x sound older (None ∷ sources) h = (tt, sources_known v bound before row x sound older sources h.1)
 sources_known v bound before row x sound older (Some register ∷ sources) h = (source_known v bound before row x sound older register h.0, sources_known v bound before row x sound older sources h.1)
 
-operands_by : (v : Values) (bound : ℕ) (before : List Row) (row : Row) (y : Option Execution) → SoundRow v bound row → Every (Older v bound row) before →
+operands_by : (v : Values) (bound : ℕ) (before : List Row) (row : Row) (y : Option Execution) → SoundRow v bound row → Each (Older v bound row) before →
     IfSome (start_of_execution y) (λ s. Found (map mark_of_row before) (instruction_of_row row) s.cycle) → IfSome y (λ x. All (λ source. IfSome (producer_among before source) (IsKnownBefore row x)) (sources_of_row row))
 operands_by v bound before row None sound older h = tt
 operands_by v bound before row (Some x) sound older h =
-    All-Every (λ source. IfSome (producer_among before source) (IsKnownBefore row x)) (sources_of_row row) (sources_known v bound before row x sound older (sources_of_row row) h.operands)
+    All-Each (λ source. IfSome (producer_among before source) (IsKnownBefore row x)) (sources_of_row row) (sources_known v bound before row x sound older (sources_of_row row) h.operands)
 
 -- the field `operands` of `Laws`, over every history
 pub law_of_operands : (v : Values) {steps : List Step} {h : Hardware} → History v steps h → EachBehind IssuesWithOperands (rows_of steps)
 law_of_operands v {steps} {h} history =
     EachBehind-EveryBehind IssuesWithOperands (rows_of steps)
-    (EveryBehind-both (SoundRow v h.cycle) (λ before row. StartsBehind (map mark_of_row before) (mark_of_row row) × Every (Older v h.cycle row) before) IssuesWithOperands
+    (EveryBehind-both (SoundRow v h.cycle) (λ before row. StartsBehind (map mark_of_row before) (mark_of_row row) × Each (Older v h.cycle row) before) IssuesWithOperands
     (λ before row sound both. operands_by v h.cycle before row row.execution sound both.1 both.0) [] (rows_of steps) (history_is_sound v history).rows
-    (two_behind (λ before row. StartsBehind (map mark_of_row before) (mark_of_row row)) (λ before row. Every (Older v h.cycle row) before) (λ before row. StartsBehind (map mark_of_row before) (mark_of_row row) × Every (Older v h.cycle row) before) (λ b x p q. (p, q)) [] (rows_of steps) (rows_start_behind v history) (rows_are_older v history)))
+    (two_behind (λ before row. StartsBehind (map mark_of_row before) (mark_of_row row)) (λ before row. Each (Older v h.cycle row) before) (λ before row. StartsBehind (map mark_of_row before) (mark_of_row row) × Each (Older v h.cycle row) before) (λ b x p q. (p, q)) [] (rows_of steps) (rows_start_behind v history) (rows_are_older v history)))

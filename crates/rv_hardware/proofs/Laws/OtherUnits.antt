@@ -1,6 +1,6 @@
 -- A unit that is not pipelined executes one instruction at a time.
-use Rattle.rv_hardware.proofs.Words.{◌≡◌, ℕ, ◌+◌, ◌<◌, ◌≤◌, Bool, true, false, ◌&&◌, List, nat_lt, nat_le, Some, None, Option, sym, refl, subst, arith, ltb-true, le-ltb, le-leb, leb-true, and_right, is_of_kind, kind_of_word, Kind, Values, Hardware, FitUnits, is_pipelined, is_executing_in, is_row_of_kind, passes, rows_of, Execution, Step}
-use Rattle.rv_hardware.proofs.LawsBasics.{and_first, and_second, and_both}
+use Rattle.rv_hardware.proofs.Words.{◌≡◌, ℕ, ◌+◌, ◌<◌, ◌≤◌, Bool, true, false, ◌&&◌, List, nat_lt, nat_le, Some, None, Option, sym, refl, subst, arith, ltb-true, le-ltb, le-leb, leb-true, and_from, and_right, is_of_kind, kind_of_word, Kind, Values, Hardware, FitUnits, is_pipelined, is_executing_in, is_row_of_kind, passes, rows_of, Execution, Step}
+use Rattle.rv_hardware.proofs.LawsBasics.{and_first, and_second}
 use Rattle.rv_hardware.proofs.LawsCycle.{History}
 use Rattle.rv_hardware.proofs.LawsMarks.{Mark, start_until, start_of_execution}
 use Rattle.rv_hardware.proofs.LawsUnits.{start_holds}
@@ -31,7 +31,7 @@ law_of_other_units v history k pipelined =
     (is_executing_in k) (record {
       mark = λ c bound row sound h.
           let x = executing_row c row.dispatched row.retired row.execution sound.stamps.executed_between (and_second (is_row_of_kind k row) (passes (λ y. nat_le y.issued c && nat_lt c (y.issued + y.cost)) row.execution) h) in
-          and_both (nat_le row.fetched c) (is_row_of_kind k row && start_holds false c (start_until c (start_of_execution row.execution))) (le-leb row.fetched c (omega (arith, x.1, sound.stamps.dispatched_after_fetch)))
-          (and_both (is_row_of_kind k row) (start_holds false c (start_until c (start_of_execution row.execution))) (and_first (is_row_of_kind k row) (passes (λ y. nat_le y.issued c && nat_lt c (y.issued + y.cost)) row.execution) h) x.0);
+          and_from (nat_le row.fetched c) (is_row_of_kind k row && start_holds false c (start_until c (start_of_execution row.execution))) (le-leb row.fetched c (omega (arith, x.1, sound.stamps.dispatched_after_fetch)))
+          (and_from (is_row_of_kind k row) (start_holds false c (start_until c (start_of_execution row.execution))) (and_first (is_row_of_kind k row) (passes (λ y. nat_le y.issued c && nat_lt c (y.issued + y.cost)) row.execution) h) x.0);
       ends = λ c bound row sound h. (executing_row c row.dispatched row.retired row.execution sound.stamps.executed_between (and_second (is_row_of_kind k row) (passes (λ y. nat_le y.issued c && nat_lt c (y.issued + y.cost)) row.execution) h)).2;
     }) history

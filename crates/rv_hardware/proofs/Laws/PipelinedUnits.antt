@@ -1,6 +1,6 @@
 -- A pipelined unit begins at most one instruction a cycle.
-use Rattle.rv_hardware.proofs.Words.{◌≡◌, ℕ, ◌+◌, ◌<◌, ◌≤◌, true, false, ◌&&◌, List, nat_lt, nat_le, ◌==◌, Some, None, Option, sym, refl, subst, arith, lt-ltb, ne_eqb, eqb-true, le-leb, and_right, is_of_kind, kind_of_word, at_kind, Kind, Values, Hardware, FitUnits, is_pipelined, is_issued_in, is_row_of_kind, passes, rows_of, Execution, Step}
-use Rattle.rv_hardware.proofs.LawsBasics.{and_first, and_second, and_both}
+use Rattle.rv_hardware.proofs.Words.{◌≡◌, ℕ, ◌+◌, ◌<◌, ◌≤◌, true, false, ◌&&◌, List, nat_lt, nat_le, ◌==◌, Some, None, Option, sym, refl, subst, arith, lt-ltb, ne_eqb, eqb-true, le-leb, and_from, and_right, is_of_kind, kind_of_word, at_kind, Kind, Values, Hardware, FitUnits, is_pipelined, is_issued_in, is_row_of_kind, passes, rows_of, Execution, Step}
+use Rattle.rv_hardware.proofs.LawsBasics.{and_first, and_second}
 use Rattle.rv_hardware.proofs.LawsCounted.{Shows}
 use Rattle.rv_hardware.proofs.LawsCycle.{History}
 use Rattle.rv_hardware.proofs.LawsMarks.{Start, start_until, start_of_execution}
@@ -11,7 +11,7 @@ begins_holds : (c : ℕ) (o : Option Start) → starts_at c o ≡ true → start
 begins_holds c None h = absurd (cc)
 begins_holds c (Some s) h =
     let same : s.cycle ≡ c = eqb-true s.cycle c h in
-    and_both (nat_le s.cycle c) (nat_lt c (s.cycle + 1)) (le-leb s.cycle c (omega (arith, same))) (lt-ltb c (s.cycle + 1) (omega (arith, same)))
+    and_from (nat_le s.cycle c) (nat_lt c (s.cycle + 1)) (le-leb s.cycle c (omega (arith, same))) (lt-ltb c (s.cycle + 1) (omega (arith, same)))
 
 not_begun : (now D C : ℕ) (x : Option Execution) → C ≤ now → Between D C x → starts_at now (start_of_execution x) ≡ false
 not_begun now D C None le h = refl
@@ -28,8 +28,8 @@ pub begun_shows : (v : Values) (k : Kind) → Shows v (is_issued_in k) (begins_m
 begun_shows v k = record {
   mark = λ c bound row sound h.
       let x = begun_row c row.dispatched row.retired row.execution sound.stamps.executed_between (and_second (is_row_of_kind k row) (passes (λ y. y.issued == c) row.execution) h) in
-      and_both (nat_le row.fetched c) (is_row_of_kind k row && starts_at c (start_until c (start_of_execution row.execution))) (le-leb row.fetched c (omega (arith, x.1, sound.stamps.dispatched_after_fetch)))
-      (and_both (is_row_of_kind k row) (starts_at c (start_until c (start_of_execution row.execution))) (and_first (is_row_of_kind k row) (passes (λ y. y.issued == c) row.execution) h) x.0);
+      and_from (nat_le row.fetched c) (is_row_of_kind k row && starts_at c (start_until c (start_of_execution row.execution))) (le-leb row.fetched c (omega (arith, x.1, sound.stamps.dispatched_after_fetch)))
+      (and_from (is_row_of_kind k row) (starts_at c (start_until c (start_of_execution row.execution))) (and_first (is_row_of_kind k row) (passes (λ y. y.issued == c) row.execution) h) x.0);
   ends = λ c bound row sound h. (begun_row c row.dispatched row.retired row.execution sound.stamps.executed_between (and_second (is_row_of_kind k row) (passes (λ y. y.issued == c) row.execution) h)).2;
 }
 
@@ -37,7 +37,7 @@ begun_shows v k = record {
 pub law_of_pipelined_units : (v : Values) {steps : List Step} {h : Hardware} → History v steps h → (k : Kind) → is_pipelined v k ≡ true → FitUnits v k is_issued_in (rows_of steps)
 law_of_pipelined_units v history k pipelined =
     units_law v k (begins_mark k)
-    (λ c m h. and_both (is_of_kind k (kind_of_word m.instruction)) (start_holds (at_kind k v.kinds).pipelined c m.start) (and_first (is_of_kind k (kind_of_word m.instruction)) (starts_at c m.start) h)
+    (λ c m h. and_from (is_of_kind k (kind_of_word m.instruction)) (start_holds (at_kind k v.kinds).pipelined c m.start) (and_first (is_of_kind k (kind_of_word m.instruction)) (starts_at c m.start) h)
     (subst (λ b. start_holds b c m.start ≡ true) (sym pipelined) (begins_holds c m.start (and_second (is_of_kind k (kind_of_word m.instruction)) (starts_at c m.start) h))))
     (λ now row sound. and_right (is_row_of_kind k row) (starts_at now (start_of_execution row.execution)) (not_begun now row.dispatched row.retired row.execution (omega (arith, sound.below)) sound.stamps.executed_between))
     (λ now f. and_right (is_of_kind k (kind_of_word f.instruction)) false refl)

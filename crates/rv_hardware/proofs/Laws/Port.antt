@@ -1,9 +1,8 @@
 -- Of two loads that use the cache's port one is over when the other begins.
-use Rattle.rv_hardware.proofs.Words.{◌≡◌, ℕ, ◌+◌, ◌<◌, ◌≤◌, Bool, true, false, cond, not, ◌⊎◌, List, [], ◌∷◌, ◌++◌, map, IfSome, nat_le, ◌==◌, Some, None, Option, AllPairs, sym, refl, ap, ◌∙◌, subst, inl, inr, true≢false, append_assoc, arith, le-leb, cases_lt, Instr, Values, Entry, Stage, Finished, Running, Waiting, Fetched, Hardware, AreApartAtPort, EachBehind, instruction_of_row, is_load_row, passes, rows_of, uses_port, Execution, Row, Step}
-use Rattle.rv_hardware.proofs.LawsBasics.{and_first, and_second, and_both}
+use Rattle.rv_hardware.proofs.Words.{◌≡◌, ℕ, ◌+◌, ◌<◌, ◌≤◌, Bool, true, false, cond, not, ◌⊎◌, List, [], ◌∷◌, ◌++◌, map, IfSome, nat_le, ◌==◌, Some, None, Option, AllPairs, sym, refl, ap, ◌∙◌, subst, inl, inr, true≢false, append_assoc, arith, le-leb, and_from, cases_lt, Instr, Values, Each, Entry, Stage, Finished, Running, Waiting, Fetched, Hardware, AreApartAtPort, EachBehind, instruction_of_row, is_load_row, passes, rows_of, uses_port, Execution, Row, Step, Each-left, Each-place, Each-weaker, Each-all, Each-both, Each-map, EveryPair, EveryBehind, AllPairs-EveryPair, EveryPair-append, EveryPair-map, Beginning-EveryBehind, EveryPair-EveryBehind, EveryBehind-EveryPair}
+use Rattle.rv_hardware.proofs.LawsBasics.{and_first, and_second}
 use Rattle.rv_hardware.proofs.LawsCounted.{behind_law}
 use Rattle.rv_hardware.proofs.LawsCycle.{Anything, anything_is_kept, History, began, went_on, cycle_passes, dispatching, history_is_legal, history_is_sound}
-use Rattle.rv_hardware.proofs.LawsLists.{Every, EveryPair, Every-all, Every-map, Every-weaker, Every-both, Every-left, Every-place, EveryBehind, EveryPair-append, EveryBehind-EveryPair, EveryPair-EveryBehind, AllPairs-EveryPair, Beginning-EveryBehind, EveryPair-map}
 use Rattle.rv_hardware.proofs.LawsMarks.{Mark, Start, mark_of_row, mark_of_entry, mark_of_fetched, marks_in, as_of, as_of-cons, at_end, start_until, start_of_execution, start_of_stage}
 use Rattle.rv_hardware.proofs.LawsPast.{rows_obey}
 use Rattle.rv_hardware.proofs.LawsPort.{uses_cache, WhereUsed, OverBy, OneAtATime}
@@ -19,10 +18,10 @@ not_begun_stage v i D now (Running issue message) P h = λ used at. absurd (omeg
 not_begun_stage v i D now (Finished None cycle message) P h = tt
 not_begun_stage v i D now (Finished (Some issue) cycle message) P h = λ used at. absurd (omega (arith, h.2, h.3, at))
 
-fresh_pairs : (v : Values) (now : ℕ) (es : List Entry) → Every (SoundEntry v now now now) es → EveryPair (λ a b. OneAtATime v now (mark_of_entry a) (mark_of_entry b)) es
+fresh_pairs : (v : Values) (now : ℕ) (es : List Entry) → Each (SoundEntry v now now now) es → EveryPair (λ a b. OneAtATime v now (mark_of_entry a) (mark_of_entry b)) es
 fresh_pairs v now [] sound = tt
 fresh_pairs v now (e ∷ es) sound = (
-  Every-weaker (SoundEntry v now now now) (λ b. OneAtATime v now (mark_of_entry e) (mark_of_entry b))
+  Each-weaker (SoundEntry v now now now) (λ b. OneAtATime v now (mark_of_entry e) (mark_of_entry b))
       (λ b w. (not_begun_stage v e.instruction e.dispatched now e.stage (λ s. OverBy v now (mark_of_entry b)) sound.0.stage, not_begun_stage v b.instruction b.dispatched now b.stage (λ s. OverBy v now (mark_of_entry e)) w.stage)) es sound.1,
   fresh_pairs v now es sound.1,
 )
@@ -36,7 +35,7 @@ port_of_history v (went_on {earlier} {old} {new} {lines} {report} before is) =
     let ok = port_in_cycle v legal earlier lines old new report Anything passed (port_of_history v before) in
     let d : Hardware = (dispatching lines old).hardware in
     record {
-      tie = subst (λ (g : Hardware). Every (λ e. Tied v g.port_free (mark_of_entry e)) g.rob.entries) (sym passed.others_stay) ok.tie;
+      tie = subst (λ (g : Hardware). Each (λ e. Tied v g.port_free (mark_of_entry e)) g.rob.entries) (sym passed.others_stay) ok.tie;
       pairs = fresh_pairs v new.cycle new.rob.entries passed.ends.entries;
     }
 
@@ -63,22 +62,22 @@ row_pair v now row n sound = (
   over_whenever v now (mark_of_row row) n (row_over v now row.dispatched row.retired (instruction_of_row row) row.execution (omega (arith, sound.below)) sound.stamps.executed_between),
 )
 
-rows_first : (v : Values) (now : ℕ) (rows : List Row) (ms : List Mark) → Every (SoundRow v (now + 1)) rows → EveryPair (OneAtATime v now) ms → EveryPair (OneAtATime v now) (map mark_of_row rows ++ ms)
+rows_first : (v : Values) (now : ℕ) (rows : List Row) (ms : List Mark) → Each (SoundRow v (now + 1)) rows → EveryPair (OneAtATime v now) ms → EveryPair (OneAtATime v now) (map mark_of_row rows ++ ms)
 rows_first v now [] ms sound h = h
 rows_first v now (row ∷ rows) ms sound h =
-    (Every-all (λ n. OneAtATime v now (mark_of_row row) n) (λ n. row_pair v now row n sound.0) (map mark_of_row rows ++ ms), rows_first v now rows ms sound.1 h)
+    (Each-all (λ n. OneAtATime v now (mark_of_row row) n) (λ n. row_pair v now row n sound.0) (map mark_of_row rows ++ ms), rows_first v now rows ms sound.1 h)
 
 words_last : (v : Values) (now : ℕ) (ms : List Mark) (fs : List Fetched) → EveryPair (OneAtATime v now) ms → EveryPair (OneAtATime v now) (ms ++ map mark_of_fetched fs)
 words_last v now ms fs h =
     EveryPair-append (OneAtATime v now) ms (map mark_of_fetched fs) h (among fs)
-    (Every-all (λ m. Every (OneAtATime v now m) (map mark_of_fetched fs)) (λ m. Every-map (OneAtATime v now m) mark_of_fetched fs (Every-all (λ f. OneAtATime v now m (mark_of_fetched f)) (λ f. new_pair v now m (mark_of_fetched f) refl) fs)) ms)
+    (Each-all (λ m. Each (OneAtATime v now m) (map mark_of_fetched fs)) (λ m. Each-map (OneAtATime v now m) mark_of_fetched fs (Each-all (λ f. OneAtATime v now m (mark_of_fetched f)) (λ f. new_pair v now m (mark_of_fetched f) refl) fs)) ms)
   where
     among : (gs : List Fetched) → EveryPair (OneAtATime v now) (map mark_of_fetched gs)
     among [] = tt
-    among (g ∷ gs) = (Every-map (OneAtATime v now (mark_of_fetched g)) mark_of_fetched gs (Every-all (λ f. OneAtATime v now (mark_of_fetched g) (mark_of_fetched f)) (λ f. new_pair v now (mark_of_fetched g) (mark_of_fetched f) refl) gs), among gs)
+    among (g ∷ gs) = (Each-map (OneAtATime v now (mark_of_fetched g)) mark_of_fetched gs (Each-all (λ f. OneAtATime v now (mark_of_fetched g) (mark_of_fetched f)) (λ f. new_pair v now (mark_of_fetched g) (mark_of_fetched f) refl) gs), among gs)
 
 abbrev PortBehind : Values → ℕ → List Mark → Mark → Type 0
-PortBehind v c before m = Every (λ a. OneAtATime v c a m) before
+PortBehind v c before m = Each (λ a. OneAtATime v c a m) before
 
 port_marks : (v : Values) {steps : List Step} {h : Hardware} → History v steps h → (c : ℕ) → c < h.cycle → EveryBehind (PortBehind v c) [] (as_of c (map mark_of_row (rows_of steps)))
 port_marks v history =
@@ -95,16 +94,16 @@ port_marks v history =
 
 -- so of two rows
 
-of_rows : (P : Mark → Type 0) (c : ℕ) (rows : List Row) → Every P (as_of c (map mark_of_row rows)) → Every (λ a. a.fetched ≤ c → P (at_end c (mark_of_row a))) rows
+of_rows : (P : Mark → Type 0) (c : ℕ) (rows : List Row) → Each P (as_of c (map mark_of_row rows)) → Each (λ a. a.fetched ≤ c → P (at_end c (mark_of_row a))) rows
 of_rows P c [] h = tt
-of_rows P c (row ∷ rows) h = by_stamp (nat_le row.fetched c) refl (subst (Every P) (as_of-cons c (mark_of_row row) (map mark_of_row rows)) h) (λ k. of_rows P c rows k)
+of_rows P c (row ∷ rows) h = by_stamp (nat_le row.fetched c) refl (subst (Each P) (as_of-cons c (mark_of_row row) (map mark_of_row rows)) h) (λ k. of_rows P c rows k)
   where
-    by_stamp : (b : Bool) → nat_le row.fetched c ≡ b → Every P (cond b (at_end c (mark_of_row row) ∷ as_of c (map mark_of_row rows)) (as_of c (map mark_of_row rows))) →
-        (Every P (as_of c (map mark_of_row rows)) → Every (λ a. a.fetched ≤ c → P (at_end c (mark_of_row a))) rows) → Every (λ a. a.fetched ≤ c → P (at_end c (mark_of_row a))) (row ∷ rows)
+    by_stamp : (b : Bool) → nat_le row.fetched c ≡ b → Each P (cond b (at_end c (mark_of_row row) ∷ as_of c (map mark_of_row rows)) (as_of c (map mark_of_row rows))) →
+        (Each P (as_of c (map mark_of_row rows)) → Each (λ a. a.fetched ≤ c → P (at_end c (mark_of_row a))) rows) → Each (λ a. a.fetched ≤ c → P (at_end c (mark_of_row a))) (row ∷ rows)
     by_stamp true is k rest = ((λ le. k.0), rest k.1)
     by_stamp false is k rest = ((λ le. absurd (true≢false (sym (le-leb row.fetched c le) ∙ is))), rest k)
 
-every_swap : {X : Type 0} (Q : ℕ → Type 0) (S : ℕ → X → Type 0) (xs : List X) → ((c : ℕ) → Q c → Every (S c) xs) → Every (λ x. (c : ℕ) → Q c → S c x) xs
+every_swap : {X : Type 0} (Q : ℕ → Type 0) (S : ℕ → X → Type 0) (xs : List X) → ((c : ℕ) → Q c → Each (S c) xs) → Each (λ x. (c : ℕ) → Q c → S c x) xs
 every_swap Q S [] h = tt
 every_swap Q S (x ∷ xs) h = ((λ c q. (h c q).0), every_swap Q S xs (λ c q. (h c q).1))
 
@@ -119,7 +118,7 @@ begun_by c o x at le = ap (λ q. start_until c (start_of_execution q)) at ∙ he
 
 row_uses : (v : Values) (a : Row) (x : Execution) → a.execution ≡ Some x → uses_port v.forward a ≡ true → uses_cache v (instruction_of_row a) (start_of x) ≡ true
 row_uses v a x at used =
-    and_both (is_load_row a) (not (x.cost == v.forward)) (and_first (is_load_row a) (passes (λ y. not (y.cost == v.forward)) a.execution) used)
+    and_from (is_load_row a) (not (x.cost == v.forward)) (and_first (is_load_row a) (passes (λ y. not (y.cost == v.forward)) a.execution) used)
     (subst (λ o. passes (λ y. not (y.cost == v.forward)) o ≡ true) at (and_second (is_load_row a) (passes (λ y. not (y.cost == v.forward)) a.execution) used))
 
 over_row : (v : Values) (c : ℕ) (a : Row) (x : Execution) → a.execution ≡ Some x → x.issued ≤ c → uses_port v.forward a ≡ true → OverBy v c (at_end c (mark_of_row a)) → x.issued + x.cost ≤ c
@@ -155,13 +154,13 @@ module _ (v : Values) (bound : ℕ) (a b : Row) (sound_a : SoundRow v bound a) (
   by_executions (Some x) None at at' used used' = tt
   by_executions (Some x) (Some y) at at' used used' = two_apart x y at at' used used'
 
-rows_apart : (v : Values) {steps : List Step} {h : Hardware} → History v steps h → (before after : List Row) (b : Row) → rows_of steps ≡ before ++ b ∷ after → Every (λ a. PortApart v a b) before
+rows_apart : (v : Values) {steps : List Step} {h : Hardware} → History v steps h → (before after : List Row) (b : Row) → rows_of steps ≡ before ++ b ∷ after → Each (λ a. PortApart v a b) before
 rows_apart v {steps} {h} history before after b at =
-    let all = subst (Every (SoundRow v h.cycle)) at (history_is_sound v history).rows in
-    let sound_b : SoundRow v h.cycle b = Every-place (SoundRow v h.cycle) before after b all in
-    Every-both (SoundRow v h.cycle) (λ a. (c : ℕ) → (c < h.cycle) × (b.fetched ≤ c) → a.fetched ≤ c → OneAtATime v c (at_end c (mark_of_row a)) (at_end c (mark_of_row b))) (λ a. PortApart v a b)
+    let all = subst (Each (SoundRow v h.cycle)) at (history_is_sound v history).rows in
+    let sound_b : SoundRow v h.cycle b = Each-place (SoundRow v h.cycle) before after b all in
+    Each-both (SoundRow v h.cycle) (λ a. (c : ℕ) → (c < h.cycle) × (b.fetched ≤ c) → a.fetched ≤ c → OneAtATime v c (at_end c (mark_of_row a)) (at_end c (mark_of_row b))) (λ a. PortApart v a b)
     (λ a sound_a pair. by_executions v h.cycle a b sound_a sound_b pair a.execution b.execution refl refl) before
-    (Every-left (SoundRow v h.cycle) before (b ∷ after) all)
+    (Each-left (SoundRow v h.cycle) before (b ∷ after) all)
     (every_swap (λ c. (c < h.cycle) × (b.fetched ≤ c)) (λ c a. a.fetched ≤ c → OneAtATime v c (at_end c (mark_of_row a)) (at_end c (mark_of_row b))) before
     (λ c q. of_rows (λ m. OneAtATime v c m (at_end c (mark_of_row b))) c before (behind_law (PortBehind v c) c (rows_of steps) before after b (port_marks v history c q.0) at q.1)))
 
@@ -174,4 +173,4 @@ each_behind P before (x ∷ xs) all at h = (h before xs x at, each_behind P (bef
 pub law_of_port : (v : Values) {steps : List Step} {h : Hardware} → History v steps h → AllPairs (AreApartAtPort v.forward) (rows_of steps)
 law_of_port v {steps} history =
     AllPairs-EveryPair (PortApart v) (rows_of steps)
-    (EveryPair-EveryBehind (PortApart v) [] (rows_of steps) (each_behind (λ before b. Every (λ a. PortApart v a b) before) [] (rows_of steps) (rows_of steps) refl (rows_apart v history)))
+    (EveryPair-EveryBehind (PortApart v) [] (rows_of steps) (each_behind (λ before b. Each (λ a. PortApart v a b) before) [] (rows_of steps) (rows_of steps) refl (rows_apart v history)))

@@ -1,10 +1,9 @@
 -- Each instruction passes through the stages in order.
-use Rattle.rv_hardware.proofs.Words.{List, All, Values, Hardware, HasOrderedStamps, rows_of, Step}
+use Rattle.rv_hardware.proofs.Words.{List, All, Values, Hardware, HasOrderedStamps, rows_of, Step, All-Each, Each-weaker}
 use Rattle.rv_hardware.proofs.LawsCycle.{History, history_is_sound}
-use Rattle.rv_hardware.proofs.LawsLists.{Every-weaker, All-Every}
 use Rattle.rv_hardware.proofs.LawsRow.{SoundRow}
 
 -- the field `stamps_in_order` of `Laws`, over every history
 pub law_of_stamps_in_order : (v : Values) {steps : List Step} {h : Hardware} → History v steps h → All HasOrderedStamps (rows_of steps)
 law_of_stamps_in_order v {steps} {h} history =
-    All-Every HasOrderedStamps (rows_of steps) (Every-weaker (SoundRow v h.cycle) HasOrderedStamps (λ row sound. sound.stamps) (rows_of steps) (history_is_sound v history).rows)
+    All-Each HasOrderedStamps (rows_of steps) (Each-weaker (SoundRow v h.cycle) HasOrderedStamps (λ row sound. sound.stamps) (rows_of steps) (history_is_sound v history).rows)

@@ -1,7 +1,7 @@
 -- The stations of a kind hold no more instructions than they have room for.
-use Rattle.rv_hardware.proofs.Words.{◌≡◌, ℕ, ◌+◌, ◌<◌, ◌≤◌, true, ◌&&◌, List, is_some, is_none, IfSome, nat_lt, nat_le, Some, None, Option, refl, arith, ltb-true, le-leb, leb-true, lt-leb, at_kind, Kind, Values, Hardware, NeverMoreThan, stations_of, is_row_of_kind, is_stationed_in, passes, rows_of, Execution, Step}
+use Rattle.rv_hardware.proofs.Words.{◌≡◌, ℕ, ◌+◌, ◌<◌, ◌≤◌, true, ◌&&◌, List, is_some, is_none, IfSome, nat_lt, nat_le, Some, None, Option, refl, arith, ltb-true, le-leb, leb-true, and_from, lt-leb, at_kind, Kind, Values, Hardware, NeverMoreThan, stations_of, is_row_of_kind, is_stationed_in, passes, rows_of, Execution, Step}
 use Rattle.rv_hardware.proofs.LawsAdvance.{is_stationed_mark}
-use Rattle.rv_hardware.proofs.LawsBasics.{and_first, and_second, and_both}
+use Rattle.rv_hardware.proofs.LawsBasics.{and_first, and_second}
 use Rattle.rv_hardware.proofs.LawsCounted.{Shows, counted_law, until_by}
 use Rattle.rv_hardware.proofs.LawsCycle.{History}
 use Rattle.rv_hardware.proofs.LawsMarks.{until, start_until, start_of_execution}
@@ -23,8 +23,8 @@ stationed_shows v k = record {
       let kind = and_first (is_row_of_kind k row) (nat_le row.dispatched c) two in
       let le = leb-true row.dispatched c (and_second (is_row_of_kind k row) (nat_le row.dispatched c) two) in
       let later = issued_after c row.execution (and_second (is_row_of_kind k row && nat_le row.dispatched c) (passes (λ x. nat_lt c x.issued) row.execution) h) in
-      and_both (nat_le row.fetched c) (is_row_of_kind k row && (is_some (until c (Some row.dispatched)) && is_none (start_until c (start_of_execution row.execution)))) (le-leb row.fetched c (omega (arith, le, sound.stamps.dispatched_after_fetch)))
-      (and_both (is_row_of_kind k row) (is_some (until c (Some row.dispatched)) && is_none (start_until c (start_of_execution row.execution))) kind (rw (until_by c row.dispatched le) later));
+      and_from (nat_le row.fetched c) (is_row_of_kind k row && (is_some (until c (Some row.dispatched)) && is_none (start_until c (start_of_execution row.execution)))) (le-leb row.fetched c (omega (arith, le, sound.stamps.dispatched_after_fetch)))
+      (and_from (is_row_of_kind k row) (is_some (until c (Some row.dispatched)) && is_none (start_until c (start_of_execution row.execution))) kind (rw (until_by c row.dispatched le) later));
   ends = λ c bound row sound h. retired_after c row.dispatched row.retired row.execution sound.stamps.executed_between (and_second (is_row_of_kind k row && nat_le row.dispatched c) (passes (λ x. nat_lt c x.issued) row.execution) h);
 }
 

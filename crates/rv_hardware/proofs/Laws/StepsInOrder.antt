@@ -1,7 +1,6 @@
 -- Steps come in program order.
-use Rattle.rv_hardware.proofs.Words.{◌≤◌, List, AllPairs, Values, Hardware, stamp_of, Step}
+use Rattle.rv_hardware.proofs.Words.{◌≤◌, List, AllPairs, Values, Hardware, stamp_of, Step, AllPairs-EveryPair, EveryPair-weaker}
 use Rattle.rv_hardware.proofs.LawsCycle.{History}
-use Rattle.rv_hardware.proofs.LawsLists.{EveryPair-weaker, AllPairs-EveryPair}
 use Rattle.rv_hardware.proofs.LawsSteps.{InOrder, history_has_steps}
 
 -- the field `steps_in_order` of `Laws`, over every history

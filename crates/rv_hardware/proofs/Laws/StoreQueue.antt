@@ -1,5 +1,5 @@
 -- Every cycle keeps the store queue's tie to the rows, and so it holds no more stores than it has room for.
-use Rattle.rv_hardware.proofs.Words.{◌≡◌, ℕ, zero, suc, ◌+◌, ◌<◌, ◌≤◌, Bool, true, false, cond, ◌&&◌, List, [], ◌∷◌, ◌++◌, map, length, is_some, nat_lt, nat_le, Some, None, filter, Option, nat_cmp, sym, refl, ap, ◌∙◌, subst, inl, inr, append_assoc, append-nil, arith, ltb-true, le-ltb, lt-ltb, le-leb, leb-true, cases_lt, is_serialising, is_store, Message, Instr, Issue, Lines, Kind, CacheValues, Values, due, interrupt_cause, Each, Store, Entry, Stage, Finished, broadcast, Committing, commit_unless, with_fault, with_lines, dispatch, drain, Hardware, FromCache, has_port, issue, NeverMoreThan, Turn, Report, written_of, is_queued_in, is_store_row, rows_of, Row, Step, Interrupt, Retired, Trap}
+use Rattle.rv_hardware.proofs.Words.{◌≡◌, ℕ, zero, suc, ◌+◌, ◌<◌, ◌≤◌, Bool, true, false, cond, ◌&&◌, List, [], ◌∷◌, ◌++◌, map, length, is_some, nat_lt, nat_le, Some, None, filter, Option, nat_cmp, sym, refl, ap, ◌∙◌, subst, inl, inr, append_assoc, append-nil, arith, ltb-true, le-ltb, lt-ltb, le-leb, leb-true, and_from, cases_lt, is_serialising, is_store, Message, Instr, Issue, Lines, Kind, CacheValues, Values, due, interrupt_cause, Each, Store, Entry, Stage, Finished, broadcast, Committing, commit_unless, with_fault, with_lines, dispatch, drain, Hardware, FromCache, has_port, issue, NeverMoreThan, Turn, Report, written_of, is_queued_in, is_store_row, rows_of, Row, Step, Interrupt, Retired, Trap, Each-weaker, Each-all, count, count-count_by, count-append, count-none, count-map, count-le, count-length, Beginning-count}
 use Rattle.std.specs.FinSet as set
 use Rattle.rv_hardware.proofs.GapBroadcast.{IsKeptByBroadcast, broadcast-keeps}
 use Rattle.rv_hardware.proofs.GapCosts.{access_cost-least}
@@ -8,12 +8,11 @@ use Rattle.rv_hardware.proofs.GapDrain.{IsKeptByDrain, drain-keeps}
 use Rattle.rv_hardware.proofs.GapIssue.{IsKeptByIssue, issue-keeps, ready-parts}
 use Rattle.rv_hardware.proofs.GapStores.{HasStores, store_count, instructions_of, stores-kept, stores-at_reset}
 use Rattle.rv_hardware.proofs.HeadlineStores.{serialising_is_no_store}
-use Rattle.rv_hardware.proofs.LawsBasics.{and_first, and_second, and_both}
+use Rattle.rv_hardware.proofs.LawsBasics.{and_first, and_second}
 use Rattle.rv_hardware.proofs.LawsCommit.{CommitTurn, no_head, stale_head, unfinished, fence_waits, fence_writes, fence_retires, executes, serial_faults, traps, retires, retires_last, written_back, retired_with}
 use Rattle.rv_hardware.proofs.LawsCounted.{count-as_of, until_by}
 use Rattle.rv_hardware.proofs.LawsCycle.{Anything, anything_is_kept, Passed, History, began, went_on, begin, committing, drained, cycle_passes, history_is_legal, history_is_sound}
 use Rattle.rv_hardware.proofs.LawsKeeps.{history_keeps, Committed, commit_turns_keep}
-use Rattle.rv_hardware.proofs.LawsLists.{Every, Every-weaker, Every-all, count, count-append, count-none, count-length, count-le, count-map, count-count_by, Beginning-count}
 use Rattle.rv_hardware.proofs.LawsMarks.{Mark, mark_of_row, mark_of_entry, mark_of_fetched, marks_in, at_end, as_of, was_fetched, until, Extends, rows_append}
 use Rattle.rv_hardware.proofs.LawsPast.{rows_obey}
 use Rattle.rv_hardware.proofs.LawsPort.{has_its_port, port_grows}
@@ -46,7 +45,7 @@ module _ (v : Values) (now : ℕ) (earlier : List Step) (is_stale : set.FinSet n
   module _ (c : Committing) (e : Entry) (es : List Entry) (written : Option (ℕ × ℕ)) (place : c.hardware.rob.entries ≡ e ∷ es) (may : MayRetire e.instruction e.stage) (p : Committed v now earlier is_stale c) where
     row_is_store : is_store_row (row_at e written c.hardware.cycle) ≡ is_store e.instruction
     row_is_store =
-        let sound : SoundEntry v now now now e = (subst (Every (SoundEntry v now now now)) place p.basics.entries).0 in
+        let sound : SoundEntry v now now now e = (subst (Each (SoundEntry v now now now)) place p.basics.entries).0 in
         ap is_store (row_decodes e sound.decoded (retiring_is_one v now e sound may))
 
   -- a serialising instruction
@@ -174,7 +173,7 @@ module _ (hit now : ℕ) where
   queued_rows : (rows : List Row) (port : ℕ) (committed : List Store) → QueueOk hit now rows port committed → count (λ row. is_queued_mark hit now (mark_of_row row)) rows ≤ length committed
   queued_rows rows port committed ok =
       let all = late_rows rows ∙ ap (count is_late) ok.split ∙ count-append is_late ok.gone ok.kept in
-      let none = count-none is_late ok.gone (Every-weaker (λ row. row.retired + hit ≤ now) (λ row. is_late row ≡ false) (λ row by. le-ltb now (row.retired + hit) by) ok.gone ok.over) in
+      let none = count-none is_late ok.gone (Each-weaker (λ row. row.retired + hit ≤ now) (λ row. is_late row ≡ false) (λ row by. le-ltb now (row.retired + hit) by) ok.gone ok.over) in
       let some = count-length is_late ok.kept in
       let same = queued_length hit port ok.kept committed ok.queued in
       omega (arith, all, none, some, same)
@@ -196,7 +195,7 @@ law_by_cycle v history =
     let parts = count_marks p (earlier ++ report.steps) new.rob.entries new.front.entries in
     let rows = queued_rows v.cache.hit old.cycle (rows_of (earlier ++ report.steps)) new.port_free new.committed ok in
     let entries = queued_entries v.cache.hit old.cycle new.rob.entries in
-    let words = count-none (λ f. p (mark_of_fetched f)) new.front.entries (Every-all (λ f. p (mark_of_fetched f) ≡ false) (λ f. not_dispatched (is_store f.instruction)) new.front.entries) in
+    let words = count-none (λ f. p (mark_of_fetched f)) new.front.entries (Each-all (λ f. p (mark_of_fetched f) ≡ false) (λ f. not_dispatched (is_store f.instruction)) new.front.entries) in
     let room = (history_keeps v HasStores stores-kept (λ image start. stores-at_reset v image start) after).1 in
     let values = ap (λ (w : Values). w.store_queue) (history_is_sound v after).shape.values in
     omega (arith, parts, rows, entries, words, room, values)) history
@@ -213,8 +212,8 @@ row_is_queued v c bound row sound h =
     let store = and_first (is_store_row row) (nat_le row.dispatched c) two in
     let le = leb-true row.dispatched c (and_second (is_store_row row) (nat_le row.dispatched c) two) in
     let late = and_second (is_store_row row && nat_le row.dispatched c) (nat_lt c (row.retired + v.cache.hit)) h in
-    and_both (nat_le row.fetched c) (is_queued_mark v.cache.hit c (at_end c (mark_of_row row))) (le-leb row.fetched c (omega (arith, le, sound.stamps.dispatched_after_fetch)))
-    (and_both (is_store_row row) (is_some (until c (Some row.dispatched)) && stays v.cache.hit c (until c (Some row.retired))) store
+    and_from (nat_le row.fetched c) (is_queued_mark v.cache.hit c (at_end c (mark_of_row row))) (le-leb row.fetched c (omega (arith, le, sound.stamps.dispatched_after_fetch)))
+    (and_from (is_store_row row) (is_some (until c (Some row.dispatched)) && stays v.cache.hit c (until c (Some row.retired))) store
     (rw (until_by c row.dispatched le) (by_retirement (nat_le row.retired c) late)))
   where
     by_retirement : (b : Bool) → nat_lt c (row.retired + v.cache.hit) ≡ true → stays v.cache.hit c (cond b (Some row.retired) None) ≡ true
@@ -226,8 +225,8 @@ still_queued : (v : Values) (c now : ℕ) (row : Row) → now ≤ c → SoundRow
 still_queued v c now row le sound h =
     let two = and_first (is_store_row row && nat_le row.dispatched c) (nat_lt c (row.retired + v.cache.hit)) h in
     let late = ltb-true c (row.retired + v.cache.hit) (and_second (is_store_row row && nat_le row.dispatched c) (nat_lt c (row.retired + v.cache.hit)) h) in
-    and_both (is_store_row row && nat_le row.dispatched now) (nat_lt now (row.retired + v.cache.hit))
-    (and_both (is_store_row row) (nat_le row.dispatched now) (and_first (is_store_row row) (nat_le row.dispatched c) two) (le-leb row.dispatched now (omega (arith, sound.stamps.retired_after_dispatch, sound.below))))
+    and_from (is_store_row row && nat_le row.dispatched now) (nat_lt now (row.retired + v.cache.hit))
+    (and_from (is_store_row row) (nat_le row.dispatched now) (and_first (is_store_row row) (nat_le row.dispatched c) two) (le-leb row.dispatched now (omega (arith, sound.stamps.retired_after_dispatch, sound.below))))
     (lt-ltb now (row.retired + v.cache.hit) (omega (arith, le, late)))
 
 module _ (v : Values) {steps : List Step} {h : Hardware} (history : History v steps h) where
@@ -237,16 +236,16 @@ module _ (v : Values) {steps : List Step} {h : Hardware} (history : History v st
       let law = law_by_cycle v history c lt in
       let counts = count-as_of p c (map mark_of_row (rows_of steps)) ∙ count-map (λ m. was_fetched c m && p (at_end c m)) mark_of_row (rows_of steps) in
       let fewer = count-le (is_queued_in v.cache.hit c) (λ row. was_fetched c (mark_of_row row) && p (at_end c (mark_of_row row))) (rows_of steps)
-      (Every-weaker (SoundRow v h.cycle) (λ row. is_queued_in v.cache.hit c row ≡ true → (was_fetched c (mark_of_row row) && p (at_end c (mark_of_row row))) ≡ true) (λ row sound. row_is_queued v c h.cycle row sound) (rows_of steps) (history_is_sound v history).rows) in
+      (Each-weaker (SoundRow v h.cycle) (λ row. is_queued_in v.cache.hit c row ≡ true → (was_fetched c (mark_of_row row) && p (at_end c (mark_of_row row))) ≡ true) (λ row sound. row_is_queued v c h.cycle row sound) (rows_of steps) (history_is_sound v history).rows) in
       omega (arith, law, counts, fewer)
 
   queued_by : (n c : ℕ) → h.cycle ≡ n → n ≤ c → count (is_queued_in v.cache.hit c) (rows_of steps) ≤ v.store_queue
   queued_by zero c at le =
-      let none = count-none (is_queued_in v.cache.hit c) (rows_of steps) (Every-weaker (SoundRow v h.cycle) (λ row. is_queued_in v.cache.hit c row ≡ false) (λ row sound. absurd (omega (arith, sound.below, at))) (rows_of steps) (history_is_sound v history).rows) in
+      let none = count-none (is_queued_in v.cache.hit c) (rows_of steps) (Each-weaker (SoundRow v h.cycle) (λ row. is_queued_in v.cache.hit c row ≡ false) (λ row sound. absurd (omega (arith, sound.below, at))) (rows_of steps) (history_is_sound v history).rows) in
       omega (arith, none)
   queued_by (suc now) c at le =
       let fewer = count-le (is_queued_in v.cache.hit c) (is_queued_in v.cache.hit now) (rows_of steps)
-      (Every-weaker (SoundRow v h.cycle) (λ row. is_queued_in v.cache.hit c row ≡ true → is_queued_in v.cache.hit now row ≡ true)
+      (Each-weaker (SoundRow v h.cycle) (λ row. is_queued_in v.cache.hit c row ≡ true → is_queued_in v.cache.hit now row ≡ true)
       (λ row sound. still_queued v c now row (omega (arith, le)) (subst (λ n. SoundRow v n row) (omega (arith, at)) sound)) (rows_of steps) (history_is_sound v history).rows) in
       let law = queued_before now (omega (arith, at)) in
       omega (arith, fewer, law)

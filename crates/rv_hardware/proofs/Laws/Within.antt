@@ -1,9 +1,8 @@
 -- Each step is of a cycle of the run.
-use Rattle.rv_hardware.proofs.Words.{◌<◌, List, Values, Hardware, stamp_of, Step}
+use Rattle.rv_hardware.proofs.Words.{◌<◌, List, Values, Each, Hardware, stamp_of, Step}
 use Rattle.rv_hardware.proofs.LawsCycle.{History}
-use Rattle.rv_hardware.proofs.LawsLists.{Every}
 use Rattle.rv_hardware.proofs.LawsSteps.{history_has_steps}
 
 -- the field `within` of `Laws`, over every history
-pub law_of_within : (v : Values) {steps : List Step} {h : Hardware} → History v steps h → Every (λ step. stamp_of step < h.cycle) steps
+pub law_of_within : (v : Values) {steps : List Step} {h : Hardware} → History v steps h → Each (λ step. stamp_of step < h.cycle) steps
 law_of_within v history = (history_has_steps v history).before

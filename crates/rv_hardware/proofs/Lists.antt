@@ -1,16 +1,16 @@
--- What holds of every element, counts and beginnings go over to parts of lists, to images, and where one element changes.
-use Rattle.rv_hardware.proofs.Words.{◌≡◌, ℕ, suc, ◌+◌, ◌≤◌, Bool, true, false, cond, List, [], ◌∷◌, ◌++◌, map, length, All, count_by, filter, AllPairs, sym, refl, ap, ◌∙◌, append_assoc, append-nil, arith, All-cons, All-nil, AllPairs-cons, EachBehind}
+-- Relations of pairs, counts and beginnings go over to parts of lists, to images, and where one element changes.
+use Rattle.std.proofs.Common.{◌≡◌, ℕ, suc, ◌+◌, ◌≤◌, Bool, true, false, cond, List, [], ◌∷◌, ◌++◌, map, length, count_by, filter, AllPairs, sym, refl, ap, ◌∙◌, append_assoc, append-nil, arith}
+use Rattle.std.proofs.lemmas.List.{map-append}
+use Rattle.std.proofs.lemmas.List.Kept.{AllPairs-cons}
 use Rattle.std.proofs.lemmas.List.Recursion.{is_count_by}
-
--- P of each element, by recursion
-abbrev pub Every : {X : Type 0} → (X → Type 0) → List X → Type 0
-Every P [] = Unit {0}
-Every P (x ∷ xs) = P x × Every P xs
+use Rattle.rv_cache.specs.WriteBack.{Each}
+use Rattle.rv_hardware.specs.Stamps.{EachBehind}
+use Rattle.rv_hardware.proofs.Each.{All-Each, Each-append, Each-left, Each-right, Each-place, Each-weaker, Each-map, Each-unmap}
 
 -- R of each element and each later one, by recursion
 abbrev pub EveryPair : {X : Type 0} → (X → X → Type 0) → List X → Type 0
 EveryPair R [] = Unit {0}
-EveryPair R (x ∷ xs) = Every (R x) xs × EveryPair R xs
+EveryPair R (x ∷ xs) = Each (R x) xs × EveryPair R xs
 
 -- P of each element and of those before it, by recursion
 abbrev pub EveryBehind : {X : Type 0} → (List X → X → Type 0) → List X → List X → Type 0
@@ -26,80 +26,25 @@ count p (x ∷ xs) = cond (p x) (suc (count p xs)) (count p xs)
 abbrev pub Beginning : {X : Type 0} → List X → List X → Type 0
 Beginning {X} xs ys = (rest : List X) × (ys ≡ xs ++ rest)
 
-module _ {X : Type 0} (P : X → Type 0) where
-  -- by recursion, and so of each place
-  pub All-Every : (xs : List X) → Every P xs → All P xs
-  All-Every [] h = All-nil P
-  All-Every (x ∷ xs) h = All-cons P x xs h.0 (All-Every xs h.1)
-
-  -- of two lists, and so of both together
-  pub Every-append : (xs ys : List X) → Every P xs → Every P ys → Every P (xs ++ ys)
-  Every-append [] ys h g = g
-  Every-append (x ∷ xs) ys h g = (h.0, Every-append xs ys h.1 g)
-
-  -- of both together, and so of the first
-  pub Every-left : (xs ys : List X) → Every P (xs ++ ys) → Every P xs
-  Every-left [] ys h = tt
-  Every-left (x ∷ xs) ys h = (h.0, Every-left xs ys h.1)
-
-  -- of both together, and so of the second
-  pub Every-right : (xs ys : List X) → Every P (xs ++ ys) → Every P ys
-  Every-right [] ys h = h
-  Every-right (x ∷ xs) ys h = Every-right xs ys h.1
-
-  -- what follows from a property of each element holds of each
-  pub Every-weaker : (Q : X → Type 0) → ((x : X) → P x → Q x) → (xs : List X) → Every P xs → Every Q xs
-  Every-weaker Q f [] h = tt
-  Every-weaker Q f (x ∷ xs) h = (f x h.0, Every-weaker Q f xs h.1)
-
-  -- what holds of everything holds of each element
-  pub Every-all : ((x : X) → P x) → (xs : List X) → Every P xs
-  Every-all f [] = tt
-  Every-all f (x ∷ xs) = (f x, Every-all f xs)
-
-  -- what follows from two properties of each element holds of each
-  pub Every-both : (Q R : X → Type 0) → ((x : X) → P x → Q x → R x) → (xs : List X) → Every P xs → Every Q xs → Every R xs
-  Every-both Q R f [] h g = tt
-  Every-both Q R f (x ∷ xs) h g = (f x h.0 g.0, Every-both Q R f xs h.1 g.1)
-
-  -- of the image of each element, and so of each element of the image
-  pub Every-map : {Y : Type 0} (f : Y → X) (ys : List Y) → Every (λ y. P (f y)) ys → Every P (map f ys)
-  Every-map f [] h = tt
-  Every-map f (y ∷ ys) h = (h.0, Every-map f ys h.1)
-
-  -- of each element of the image, and so of the image of each element
-  pub Every-unmap : {Y : Type 0} (f : Y → X) (ys : List Y) → Every P (map f ys) → Every (λ y. P (f y)) ys
-  Every-unmap f [] h = tt
-  Every-unmap f (y ∷ ys) h = (h.0, Every-unmap f ys h.1)
-
-  Every-pick : (b : Bool) (x : X) (xs : List X) → P x → Every P xs → Every P (cond b (x ∷ xs) xs)
-  Every-pick true x xs h g = (h, g)
-  Every-pick false x xs h g = g
-
-  -- of each element, and so of those that pass a test
-  pub Every-filter : (p : X → Bool) (xs : List X) → Every P xs → Every P (filter p xs)
-  Every-filter p [] h = tt
-  Every-filter p (x ∷ xs) h = Every-pick (p x) x (filter p xs) h.0 (Every-filter p xs h.1)
-
 module _ {X : Type 0} (R : X → X → Type 0) where
   -- by recursion, and so of each two places
   pub AllPairs-EveryPair : (xs : List X) → EveryPair R xs → AllPairs R xs
   AllPairs-EveryPair [] h = λ i j d lt within. absurd (omega arith)
-  AllPairs-EveryPair (x ∷ xs) h = AllPairs-cons R x xs (All-Every (R x) xs h.0) (AllPairs-EveryPair xs h.1)
+  AllPairs-EveryPair (x ∷ xs) h = AllPairs-cons R x xs (All-Each (R x) xs h.0) (AllPairs-EveryPair xs h.1)
 
   -- each of a list to each of another
   abbrev pub Across : List X → List X → Type 0
-  Across xs ys = Every (λ x. Every (R x) ys) xs
+  Across xs ys = Each (λ x. Each (R x) ys) xs
 
   -- of two lists and across them, and so of both together
   pub EveryPair-append : (xs ys : List X) → EveryPair R xs → EveryPair R ys → Across xs ys → EveryPair R (xs ++ ys)
   EveryPair-append [] ys h g a = g
-  EveryPair-append (x ∷ xs) ys h g a = (Every-append (R x) xs ys h.0 a.0, EveryPair-append xs ys h.1 g a.1)
+  EveryPair-append (x ∷ xs) ys h g a = (Each-append (R x) xs ys h.0 a.0, EveryPair-append xs ys h.1 g a.1)
 
   -- of both together, and so of the first
   pub EveryPair-left : (xs ys : List X) → EveryPair R (xs ++ ys) → EveryPair R xs
   EveryPair-left [] ys h = tt
-  EveryPair-left (x ∷ xs) ys h = (Every-left (R x) xs ys h.0, EveryPair-left xs ys h.1)
+  EveryPair-left (x ∷ xs) ys h = (Each-left (R x) xs ys h.0, EveryPair-left xs ys h.1)
 
   -- of both together, and so of the second
   pub EveryPair-right : (xs ys : List X) → EveryPair R (xs ++ ys) → EveryPair R ys
@@ -109,39 +54,28 @@ module _ {X : Type 0} (R : X → X → Type 0) where
   -- of both together, and so across them
   pub EveryPair-across : (xs ys : List X) → EveryPair R (xs ++ ys) → Across xs ys
   EveryPair-across [] ys h = tt
-  EveryPair-across (x ∷ xs) ys h = (Every-right (R x) xs ys h.0, EveryPair-across xs ys h.1)
+  EveryPair-across (x ∷ xs) ys h = (Each-right (R x) xs ys h.0, EveryPair-across xs ys h.1)
 
   -- what follows from a relation of each pair holds of each pair
   pub EveryPair-weaker : (S : X → X → Type 0) → ((x y : X) → R x y → S x y) → (xs : List X) → EveryPair R xs → EveryPair S xs
   EveryPair-weaker S f [] h = tt
-  EveryPair-weaker S f (x ∷ xs) h = (Every-weaker (R x) (S x) (f x) xs h.0, EveryPair-weaker S f xs h.1)
+  EveryPair-weaker S f (x ∷ xs) h = (Each-weaker (R x) (S x) (f x) xs h.0, EveryPair-weaker S f xs h.1)
 
   -- of the images of each pair, and so of each pair of images
   pub EveryPair-map : {Y : Type 0} (f : Y → X) (ys : List Y) → EveryPair (λ x y. R (f x) (f y)) ys → EveryPair R (map f ys)
   EveryPair-map f [] h = tt
-  EveryPair-map f (y ∷ ys) h = (Every-map (R (f y)) f ys h.0, EveryPair-map f ys h.1)
+  EveryPair-map f (y ∷ ys) h = (Each-map (R (f y)) f ys h.0, EveryPair-map f ys h.1)
 
   -- of each pair of images, and so of the images of each pair
   pub EveryPair-unmap : {Y : Type 0} (f : Y → X) (ys : List Y) → EveryPair R (map f ys) → EveryPair (λ x y. R (f x) (f y)) ys
   EveryPair-unmap f [] h = tt
-  EveryPair-unmap f (y ∷ ys) h = (Every-unmap (R (f y)) f ys h.0, EveryPair-unmap f ys h.1)
+  EveryPair-unmap f (y ∷ ys) h = (Each-unmap (R (f y)) f ys h.0, EveryPair-unmap f ys h.1)
 
   -- another element at a place
   pub EveryPair-set : (xs ys : List X) (x y : X) → ((z : X) → R z x → R z y) → ((z : X) → R x z → R y z) → EveryPair R (xs ++ x ∷ ys) → EveryPair R (xs ++ y ∷ ys)
-  EveryPair-set [] ys x y f g h = (Every-weaker (R x) (R y) g ys h.0, h.1)
+  EveryPair-set [] ys x y f g h = (Each-weaker (R x) (R y) g ys h.0, h.1)
   EveryPair-set (z ∷ xs) ys x y f g h =
-      (Every-append (R z) xs (y ∷ ys) (Every-left (R z) xs (x ∷ ys) h.0) (f z (Every-right (R z) xs (x ∷ ys) h.0).0, (Every-right (R z) xs (x ∷ ys) h.0).1), EveryPair-set xs ys x y f g h.1)
-
-module _ {X : Type 0} (P : X → Type 0) where
-  -- of each element, and so of each where one gives way to another that has the property
-  pub Every-set : (xs ys : List X) (x y : X) → P y → Every P (xs ++ x ∷ ys) → Every P (xs ++ y ∷ ys)
-  Every-set [] ys x y is h = (is, h.1)
-  Every-set (z ∷ xs) ys x y is h = (h.0, Every-set xs ys x y is h.1)
-
-  -- of each element, and so of the one at a place
-  pub Every-place : (xs ys : List X) (x : X) → Every P (xs ++ x ∷ ys) → P x
-  Every-place [] ys x h = h.0
-  Every-place (z ∷ xs) ys x h = Every-place xs ys x h.1
+      (Each-append (R z) xs (y ∷ ys) (Each-left (R z) xs (x ∷ ys) h.0) (f z (Each-right (R z) xs (x ∷ ys) h.0).0, (Each-right (R z) xs (x ∷ ys) h.0).1), EveryPair-set xs ys x y f g h.1)
 
 module _ {X : Type 0} (p : X → Bool) where
   -- the count by recursion is std's
@@ -161,7 +95,7 @@ module _ {X : Type 0} (p : X → Bool) where
   count-append (x ∷ xs) ys = rw (count-append xs ys) (cond-suc (p x) (count p xs) (count p ys))
 
   -- where no element passes, the count is 0
-  pub count-none : (xs : List X) → Every (λ x. p x ≡ false) xs → count p xs ≡ 0
+  pub count-none : (xs : List X) → Each (λ x. p x ≡ false) xs → count p xs ≡ 0
   count-none [] h = refl
   count-none (x ∷ xs) h = rw h.0 (count-none xs h.1)
 
@@ -187,7 +121,7 @@ module _ {X : Type 0} (p : X → Bool) where
   cond-le false false n m f le = le
 
   -- where each element that passes one test passes another, the other counts no fewer
-  pub count-le : (q : X → Bool) (xs : List X) → Every (λ x. p x ≡ true → q x ≡ true) xs → count p xs ≤ count q xs
+  pub count-le : (q : X → Bool) (xs : List X) → Each (λ x. p x ≡ true → q x ≡ true) xs → count p xs ≤ count q xs
   count-le q [] h = omega arith
   count-le q (x ∷ xs) h = cond-le (p x) (q x) (count p xs) (count q xs) h.0 (count-le q xs h.1)
 
@@ -291,8 +225,8 @@ module _ {X : Type 0} where
   pub Beginning-count : (p : X → Bool) (xs ys : List X) → Beginning xs ys → count p xs ≤ count p ys
   Beginning-count p xs ys f = rw (f.1, count-append p xs f.0) (omega arith)
 
-  pub Beginning-Every : (P : X → Type 0) (xs ys : List X) → Beginning xs ys → Every P ys → Every P xs
-  Beginning-Every P xs ys f h = Every-left P xs f.0 (rw f.1 at h)
+  pub Beginning-Each : (P : X → Type 0) (xs ys : List X) → Beginning xs ys → Each P ys → Each P xs
+  Beginning-Each P xs ys f h = Each-left P xs f.0 (rw f.1 at h)
 
   pub Beginning-EveryPair : (R : X → X → Type 0) (xs ys : List X) → Beginning xs ys → EveryPair R ys → EveryPair R xs
   Beginning-EveryPair R xs ys f h = EveryPair-left R xs f.0 (rw f.1 at h)
@@ -328,7 +262,7 @@ module _ {X : Type 0} where
   EveryBehind-moved P Q pre pre' f ys h = rw (append-nil pre') at (moved P Q pre pre' f [] ys (rw (append-nil pre) (h)))
 
   -- where nothing is after it
-  pub EveryBehind-all : (Q : X → Type 0) (P : List X → X → Type 0) → ((before : List X) (x : X) → Q x → P before x) → (before xs : List X) → Every Q xs → EveryBehind P before xs
+  pub EveryBehind-all : (Q : X → Type 0) (P : List X → X → Type 0) → ((before : List X) (x : X) → Q x → P before x) → (before xs : List X) → Each Q xs → EveryBehind P before xs
   EveryBehind-all Q P f before [] h = tt
   EveryBehind-all Q P f before (x ∷ xs) h = (f before x h.0, EveryBehind-all Q P f (before ++ x ∷ []) xs h.1)
 
@@ -344,16 +278,12 @@ module _ {X : Type 0} where
   pub EveryBehind-at : (P : List X → X → Type 0) (before after : List X) (x : X) → EveryBehind P [] (before ++ x ∷ after) → P before x
   EveryBehind-at P before after x h = (EveryBehind-right P [] before (x ∷ after) h).0
 
-  pub Every-at : (P : X → Type 0) (before after : List X) (x : X) → Every P (before ++ x ∷ after) → P x
-  Every-at P before after x h = (Every-right P before (x ∷ after) h).0
+  pub Every-at : (P : X → Type 0) (before after : List X) (x : X) → Each P (before ++ x ∷ after) → P x
+  Every-at P before after x h = (Each-right P before (x ∷ after) h).0
 
   -- each element that stands after some others
   pub EachBehind-EveryBehind : (P : List X → X → Type 0) (xs : List X) → EveryBehind P [] xs → EachBehind P xs
   EachBehind-EveryBehind P xs h before after x at = EveryBehind-at P before after x (rw at at h)
-
-map-append : {X Y : Type 0} (f : X → Y) (xs ys : List X) → map f (xs ++ ys) ≡ map f xs ++ map f ys
-map-append f [] ys = refl
-map-append f (x ∷ xs) ys = ap (λ l. f x ∷ l) (map-append f xs ys)
 
 -- of each element of the image, and so of the image of each
 pub EveryBehind-unmap : {X Y : Type 0} (P : List X → X → Type 0) (f : Y → X) (before ys : List Y) → EveryBehind P (map f before) (map f ys) → EveryBehind (λ b y. P (map f b) (f y)) before ys
@@ -366,27 +296,27 @@ EveryBehind-weaker P Q f before [] h = tt
 EveryBehind-weaker P Q f before (x ∷ xs) h = (f before x h.0, EveryBehind-weaker P Q f (before ++ x ∷ []) xs h.1)
 
 -- what follows from a property of each element and what holds of each behind others holds of each
-pub EveryBehind-both : {X : Type 0} (P : X → Type 0) (Q R : List X → X → Type 0) → ((before : List X) (x : X) → P x → Q before x → R before x) → (before xs : List X) → Every P xs → EveryBehind Q before xs → EveryBehind R before xs
+pub EveryBehind-both : {X : Type 0} (P : X → Type 0) (Q R : List X → X → Type 0) → ((before : List X) (x : X) → P x → Q before x → R before x) → (before xs : List X) → Each P xs → EveryBehind Q before xs → EveryBehind R before xs
 EveryBehind-both P Q R f before [] g h = tt
 EveryBehind-both P Q R f before (x ∷ xs) g h = (f before x g.0 h.0, EveryBehind-both P Q R f (before ++ x ∷ []) xs g.1 h.1)
 
 -- pairs and what stands after
 
 module _ {X : Type 0} (R : X → X → Type 0) where
-  behind_one : (before : List X) (x : X) (more ys : List X) → EveryBehind (λ b y. Every (λ a. R a y) b) (before ++ x ∷ more) ys → Every (R x) ys
+  behind_one : (before : List X) (x : X) (more ys : List X) → EveryBehind (λ b y. Each (λ a. R a y) b) (before ++ x ∷ more) ys → Each (R x) ys
   behind_one before x more [] h = tt
   behind_one before x more (y ∷ ys) h =
-      (Every-place (λ a. R a y) before more x h.0, behind_one before x (more ++ y ∷ []) ys (rw (append_assoc before (x ∷ more) (y ∷ [])) at h.1))
+      (Each-place (λ a. R a y) before more x h.0, behind_one before x (more ++ y ∷ []) ys (rw (append_assoc before (x ∷ more) (y ∷ [])) at h.1))
 
   -- a relation of each element to all before it is one of each pair
-  pub EveryPair-EveryBehind : (before xs : List X) → EveryBehind (λ b y. Every (λ a. R a y) b) before xs → EveryPair R xs
+  pub EveryPair-EveryBehind : (before xs : List X) → EveryBehind (λ b y. Each (λ a. R a y) b) before xs → EveryPair R xs
   EveryPair-EveryBehind before [] h = tt
   EveryPair-EveryBehind before (x ∷ xs) h = (behind_one before x [] xs h.1, EveryPair-EveryBehind (before ++ x ∷ []) xs h.1)
 
   -- a relation of each pair is one of each element to all before it
-  pub EveryBehind-EveryPair : (before xs : List X) → Across R before xs → EveryPair R xs → EveryBehind (λ b y. Every (λ a. R a y) b) before xs
+  pub EveryBehind-EveryPair : (before xs : List X) → Across R before xs → EveryPair R xs → EveryBehind (λ b y. Each (λ a. R a y) b) before xs
   EveryBehind-EveryPair before [] a h = tt
   EveryBehind-EveryPair before (x ∷ xs) a h = (
-    Every-weaker (λ z. Every (R z) (x ∷ xs)) (λ z. R z x) (λ z w. w.0) before a,
-    EveryBehind-EveryPair (before ++ x ∷ []) xs (Every-append (λ z. Every (R z) xs) before (x ∷ []) (Every-weaker (λ z. Every (R z) (x ∷ xs)) (λ z. Every (R z) xs) (λ z w. w.1) before a) (h.0, tt)) h.1,
+    Each-weaker (λ z. Each (R z) (x ∷ xs)) (λ z. R z x) (λ z w. w.0) before a,
+    EveryBehind-EveryPair (before ++ x ∷ []) xs (Each-append (λ z. Each (R z) xs) before (x ∷ []) (Each-weaker (λ z. Each (R z) (x ∷ xs)) (λ z. Each (R z) xs) (λ z w. w.1) before a) (h.0, tt)) h.1,
   )
