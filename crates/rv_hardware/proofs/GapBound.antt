@@ -4,7 +4,7 @@ use Rattle.rv_hardware.proofs.GapForms.{longest_access, longest_execution, longe
 use Rattle.rv_hardware.proofs.GapPatience.{dirty_time, fetch_time, flight_time, free_time, head_time, patience, port_time, stage_time, time_of_stores, unit_time, waiting_time}
 use Rattle.rv_hardware.proofs.GapRunning.{Ending, EndsBy}
 use Rattle.rv_hardware.proofs.GapSets.{HasRoom, write_back_time-most}
-use Rattle.rv_hardware.proofs.GapSound.{IsSound}
+use Rattle.rv_hardware.proofs.GapSound.{IsBounded}
 use Rattle.rv_hardware.proofs.GapUnits.{HoldsUntil}
 
 -- ---- the parts
@@ -44,7 +44,7 @@ slack : (queue access latency lines patience : ℕ) → patience ≤ 2 * lines +
 slack queue access latency lines patience most = omega arith
 
 -- ---- the oldest instruction
-module _ (h : Hardware) (sound : IsSound h) where
+module _ (h : Hardware) (sound : IsBounded h) where
   waiting_most : (load : Bool) (kind : Option Kind) → waiting_time h load kind ≤ port_time h + 2 * longest_execution h + 2
   waiting_most load None = omega arith
   waiting_most load (Some k) =

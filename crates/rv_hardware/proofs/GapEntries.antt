@@ -4,7 +4,7 @@ use Rattle.rv_hardware.proofs.Words.{◌≡◌, ℕ, ◌+◌, Bool, true, false,
 use Rattle.rv_isa.specs.declared.instructions.Instr.TheVariants.{Store}
 use Rattle.rv_hardware.proofs.GapFetch.{each-fetched}
 use Rattle.rv_hardware.proofs.GapCycle.{IsKept}
-use Rattle.rv_hardware.proofs.GapForms.{IsResult}
+use Rattle.rv_hardware.proofs.GapForms.{IsResultOfWord}
 
 -- what a message says of a store is said by a store
 abbrev pub TellsStore : Option Instr → Option StoreAccess → Type 0
@@ -17,15 +17,15 @@ HasWordOr fault (Some word) = Unit {0}
 HasWordOr None None = ⊥
 HasWordOr (Some fault) None = Unit {0}
 
-abbrev IsTold : Option ℕ → Option Instr → Message → Type 0
-IsTold word instruction message = HasWordOr message.fault word × TellsStore instruction message.store
+abbrev TellsNoMore : Option ℕ → Option Instr → Message → Type 0
+TellsNoMore word instruction message = HasWordOr message.fault word × TellsStore instruction message.store
 
 -- by its stage, an instruction waits for a unit or to be the oldest, or its message tells no more than it may
 abbrev pub IsShaped : Option ℕ → Option Instr → Stage → Type 0
 IsShaped word instruction Waiting =
     HasWordOr None word × ((is_some (kind_of_word instruction) || is_serialising instruction) ≡ true)
-IsShaped word instruction (Running issue message) = IsTold word instruction message
-IsShaped word instruction (Finished issue cycle message) = IsTold word instruction message
+IsShaped word instruction (Running issue message) = TellsNoMore word instruction message
+IsShaped word instruction (Finished issue cycle message) = TellsNoMore word instruction message
 
 -- an instruction in flight is so
 abbrev pub Shaped : Entry → Type 0
@@ -41,35 +41,35 @@ abbrev pub FetchedShape : Fetched → Type 0
 FetchedShape f = HasWordFor f.word f.instruction
 
 -- each instruction in flight is so, and no fetched word that was not there has an instruction
-abbrev pub HasShape : Hardware → Type 0
-HasShape h = Each Shaped h.rob.entries × Each FetchedShape h.front.entries
+abbrev pub AreShaped : Hardware → Type 0
+AreShaped h = Each Shaped h.rob.entries × Each FetchedShape h.front.entries
 
 -- ---- what an instruction gives
 tells_store : (s : State) (instruction : Instr) → TellsStore (Some instruction) (access_of s instruction)
 tells_store s (Store width rs1 rs2 offset) = refl
 tells_store s _ = tt
 
-told_effect : (s : State) (word : ℕ) (instruction : Instr) (effect : Effect) → IsTold (Some word) (Some instruction) (effect_message (access_of s instruction) effect)
+told_effect : (s : State) (word : ℕ) (instruction : Instr) (effect : Effect) → TellsNoMore (Some word) (Some instruction) (effect_message (access_of s instruction) effect)
 told_effect s word instruction (Retires written next) = (tt, tells_store s instruction)
 told_effect s word instruction (Faults cause value) = (tt, tt)
 
-told_word : (layout : Layout) (s : State) (lines : Lines) (word : Option ℕ) (instruction : Option Instr) → IsTold word instruction (result_of_word layout s lines word instruction)
+told_word : (layout : Layout) (s : State) (lines : Lines) (word : Option ℕ) (instruction : Option Instr) → TellsNoMore word instruction (result_of_word layout s lines word instruction)
 told_word layout s lines None instruction = (tt, tt)
 told_word layout s lines (Some word) None = (tt, tt)
 told_word layout s lines (Some word) (Some instruction) = told_effect s word instruction (effect layout s lines word instruction)
 
-told_result : (word : Option ℕ) (instruction : Option Instr) (message : Message) → IsResult word instruction message → IsTold word instruction message
+told_result : (word : Option ℕ) (instruction : Option Instr) (message : Message) → IsResultOfWord word instruction message → TellsNoMore word instruction message
 told_result word instruction message result =
-    subst (IsTold word instruction) (sym result.is) (told_word result.layout result.state result.lines word instruction)
+    subst (TellsNoMore word instruction) (sym result.is) (told_word result.layout result.state result.lines word instruction)
 
 -- ---- a broadcast
-told_broadcast : (b : Bool) (word : Option ℕ) (instruction : Option Instr) (given message : Message) → cond b (Some given) None ≡ Some message → IsTold word instruction given → IsTold word instruction message
+told_broadcast : (b : Bool) (word : Option ℕ) (instruction : Option Instr) (given message : Message) → cond b (Some given) None ≡ Some message → TellsNoMore word instruction given → TellsNoMore word instruction message
 told_broadcast true word instruction given message is told =
     let same : given ≡ message = cc in
-    subst (IsTold word instruction) same told
+    subst (TellsNoMore word instruction) same told
 told_broadcast false word instruction given message is told = absurd (cc)
 
-told_at : (cycle : ℕ) (word : Option ℕ) (instruction : Option Instr) (stage : Stage) (message : Message) → result_at cycle stage ≡ Some message → IsShaped word instruction stage → IsTold word instruction message
+told_at : (cycle : ℕ) (word : Option ℕ) (instruction : Option Instr) (stage : Stage) (message : Message) → result_at cycle stage ≡ Some message → IsShaped word instruction stage → TellsNoMore word instruction message
 told_at cycle word instruction Waiting message is shaped = absurd (cc)
 told_at cycle word instruction (Running issue given) message is shaped =
     told_broadcast (nat_le (issue.cycle + issue.cost) cycle) word instruction given message is shaped
@@ -86,7 +86,7 @@ or_true true = refl
 or_true false = refl
 
 shaped_by : (word : Option ℕ) (instruction : Option Instr) (kind : Option Kind) (serialising : Bool) (cycle : ℕ) (message : Message) →
-    kind_of_word instruction ≡ kind → is_serialising instruction ≡ serialising → HasWordFor word instruction → IsTold word instruction message →
+    kind_of_word instruction ≡ kind → is_serialising instruction ≡ serialising → HasWordFor word instruction → TellsNoMore word instruction message →
     IsShaped word instruction (stage_by kind serialising (Finished None cycle message))
 shaped_by word instruction (Some kind) serialising cycle message of_kind serial has told =
     let waits : (is_some (kind_of_word instruction) || is_serialising instruction) ≡ true = rw of_kind refl in
@@ -111,7 +111,7 @@ fetched_shape : (ram : Memory) (cycle pc : ℕ) (f : Fetched) → IsFetchedAt an
 fetched_shape ram cycle pc f at = no_word f.word f.instruction at.instruction_is
 
 -- every cycle keeps it
-pub shape-kept : IsKept HasShape
+pub shape-kept : IsKept AreShaped
 shape-kept = record {
   phases = record {
     lines = λ h levels shape. shape;
@@ -148,5 +148,5 @@ shape-kept = record {
 }
 
 -- it holds at reset
-pub shape-at_reset : (values : Values) (image : List ℕ) (start : ℕ) → HasShape (reset_hardware values image start)
+pub shape-at_reset : (values : Values) (image : List ℕ) (start : ℕ) → AreShaped (reset_hardware values image start)
 shape-at_reset values image start = (tt, tt)

@@ -13,10 +13,10 @@ use Rattle.rv_hardware.proofs.GapHead.{HeadIs, Waits}
 use Rattle.rv_hardware.proofs.GapPatience.{dirty_time, flight_time, head_time, patience, port_time, stage_time}
 use Rattle.rv_hardware.proofs.GapSerial.{alone, AreSerialLast}
 use Rattle.rv_hardware.proofs.GapSilent.{SilentAt, SilentFence, SilentHead, silent_commit}
-use Rattle.rv_hardware.proofs.GapSound.{IsSound, sound-cycle}
+use Rattle.rv_hardware.proofs.GapSound.{IsBounded, sound-cycle}
 use Rattle.rv_hardware.proofs.GapStores.{instructions_of}
 
-module _ (lines : Lines) (old : Hardware) (sound : IsSound old) where
+module _ (lines : Lines) (old : Hardware) (sound : IsBounded old) where
   -- the hardware before the phases
   abbrev h : Hardware
   h = with_lines lines old
@@ -26,7 +26,7 @@ module _ (lines : Lines) (old : Hardware) (sound : IsSound old) where
   Falls after =
       (front : FetchBuffer) (ram : Memory) (cycle : ℕ) (stop : FetchStop) →
       FetchesInto any_prediction ram cycle (execute after).hardware.front front stop →
-      IsSound (later front (execute after).hardware) →
+      IsBounded (later front (execute after).hardware) →
       patience (later front (execute after).hardware) + 1 ≤ patience h
 
   drained : Drains h (drain h)
@@ -91,7 +91,7 @@ module _ (lines : Lines) (old : Hardware) (sound : IsSound old) where
   silent_falls after (e ∷ es) split silent = head_falls e es split after e.instruction refl silent
 
 -- the cycle as a whole
-pub fall : {lines : Lines} {old new : Hardware} {report : Report} → IsCycle any_prediction lines old report new → IsSound old → report.steps ≡ [] → report.stop ≡ None → patience new + 1 ≤ patience old
+pub fall : {lines : Lines} {old new : Hardware} {report : Report} → IsCycle any_prediction lines old report new → IsBounded old → report.steps ≡ [] → report.stop ≡ None → patience new + 1 ≤ patience old
 fall {lines} {old} {new} {report} cycle sound silent going =
     let h : Hardware = with_lines lines old in
     let committing : Committing = commit set.contains h in
@@ -108,6 +108,6 @@ fall {lines} {old} {new} {report} cycle sound silent going =
     cycle.others_stay ∙ ap (λ (x : Hardware). record x { front = new.front; cycle = old.cycle + 1 }) same ∙ ap (λ n. record d { front = new.front; cycle = n + 1 }) (sym number) in
     let fetches : FetchesInto any_prediction cycle.dispatching.hardware.cache.backing old.cycle d.front new.front cycle.fetch_stop =
     subst (λ (x : Hardware). FetchesInto any_prediction cycle.dispatching.hardware.cache.backing old.cycle x.front new.front cycle.fetch_stop) same cycle.fetches in
-    let after : IsSound (later new.front d) = subst IsSound is (sound-cycle cycle sound) in
+    let after : IsBounded (later new.front d) = subst IsBounded is (sound-cycle cycle sound) in
     let falling = falls new.front cycle.dispatching.hardware.cache.backing old.cycle cycle.fetch_stop fetches after in
     omega (arith, falling, ap patience is)

@@ -15,7 +15,7 @@ use Rattle.rv_hardware.proofs.GapIssue.{IsKeptByIssue, issue-keeps}
 use Rattle.rv_hardware.proofs.GapPatience.{fetch_time, flight_time, patience, port_time, time_of_stores}
 use Rattle.rv_hardware.proofs.GapReasons.{is_any_serialising}
 use Rattle.rv_hardware.proofs.GapSizes.{HasSizes, sizes-kept}
-use Rattle.rv_hardware.proofs.GapSound.{IsSound}
+use Rattle.rv_hardware.proofs.GapSound.{IsBounded}
 
 -- ---- a fetch leaves a word
 abbrev IsCons : {X : Type 0} → List X → Type 0
@@ -162,13 +162,13 @@ runs_on : (halted : Bool) → HaltsBehind halted [] → halted ≡ false
 runs_on true behind = absurd (cc)
 runs_on false behind = refl
 
-in_flight_most : (g : Hardware) → IsSound g → (entries : List Entry) → g.rob.entries ≡ entries → IsCons entries → patience g ≤ port_time g + longest_write_back g + 2 * longest_execution g + 2
+in_flight_most : (g : Hardware) → IsBounded g → (entries : List Entry) → g.rob.entries ≡ entries → IsCons entries → patience g ≤ port_time g + longest_write_back g + 2 * longest_execution g + 2
 in_flight_most g sound [] split some = absurd some
 in_flight_most g sound (e ∷ es) split some = flight_time-most g sound e es split
 
 module _ (h : Hardware) (front : FetchBuffer) (ram : Memory) (cycle : ℕ) (stop : FetchStop) (none : h.rob.entries ≡ []) (sizes : HasSizes h) (drains : Drains h (drain h))
     (halts : HaltsBehind h.front.halted (words_of h.rob.entries h.front.entries)) (fetches : FetchesInto any_prediction ram cycle (execute h).hardware.front front stop)
-    (sound : IsSound (later front (execute h).hardware)) where
+    (sound : IsBounded (later front (execute h).hardware)) where
   abbrev last : Hardware
   last = broadcast (issue (drain h))
 

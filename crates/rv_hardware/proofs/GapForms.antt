@@ -49,7 +49,7 @@ abbrev pub longest_write_back : Hardware → ℕ
 longest_write_back h = h.cache.values.sets * h.cache.values.ways * h.values.cache.write_back
 
 -- a message that an instruction gives in some state
-pub record IsResult (word : Option ℕ) (instruction : Option Instr) (message : Message) : Type 0 where
+pub record IsResultOfWord (word : Option ℕ) (instruction : Option Instr) (message : Message) : Type 0 where
   pub layout : Layout
   pub state : State
   pub lines : Lines

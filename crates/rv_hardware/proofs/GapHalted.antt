@@ -2,7 +2,7 @@
 use Rattle.rv_hardware.proofs.Words.{◌≡◌, ℕ, zero, suc, ◌-◌, Bool, true, false, List, [], ◌∷◌, ◌++◌, map, length, ◌==◌, Some, None, Option, MatchOption, sym, refl, ap, ◌∙◌, subst, append_assoc, map-append, pc_plus_4, Message, Values, Memory, Each, finished, started, Entry, Stage, Finished, Running, Waiting, FetchBuffer, Fetches, FetchesInto, is_halted, stop_behind, stop_for, FetchStop, Halted, Prediction, Room, Fetched, any_prediction, entry_of_fetched, Hardware, broadcast_of, reset_hardware, map-change}
 use Rattle.rv_front.specs.declared.fetched.FetchStop.TheVariants.{Width}
 use Rattle.rv_hardware.proofs.GapCycle.{IsKept, IsKeptByPhases}
-use Rattle.rv_hardware.proofs.GapEntries.{HasShape, HasWordOr, IsShaped, Shaped, shape-kept, shape-at_reset}
+use Rattle.rv_hardware.proofs.GapEntries.{AreShaped, HasWordOr, IsShaped, Shaped, shape-kept, shape-at_reset}
 use Rattle.rv_hardware.proofs.GapFetch.{fetch-cases}
 
 abbrev word_of_entry : Entry → Option ℕ
@@ -27,7 +27,7 @@ HaltsBehind false ws = Unit {0}
 
 -- where fetch is halted, the last word, fetched or in flight, was not there
 abbrev pub IsHalted : Hardware → Type 0
-IsHalted h = HasShape h × HaltsBehind h.front.halted (words_of h.rob.entries h.front.entries)
+IsHalted h = AreShaped h × HaltsBehind h.front.halted (words_of h.rob.entries h.front.entries)
 
 last-append : (before : Option ℕ) (xs ys : List (Option ℕ)) → last_of before (xs ++ ys) ≡ last_of (last_of before xs) ys
 last-append before [] ys = refl
@@ -110,7 +110,7 @@ module _ (ram : Memory) (cycle : ℕ) where
 -- every cycle keeps it
 pub halted-kept : IsKept IsHalted
 halted-kept =
-    let shape : IsKeptByPhases HasShape = shape-kept.phases in
+    let shape : IsKeptByPhases AreShaped = shape-kept.phases in
     record {
       phases = record {
         lines = λ h levels has. has;

@@ -2,7 +2,7 @@
 use Rattle.rv_hardware.proofs.Words.{◌≡◌, ℕ, ◌+◌, ◌≤◌, true, ◌&&◌, List, ◌∷◌, ◌++◌, length, Some, None, Option, sym, refl, ap, ◌∙◌, subst, and_parts, is_of_kind, kind_of_word, sources_of_word, at_kind, Message, Kind, is_free, started, with_entry, Entry, Hardware, is_waiting, FromCache, FromStores, Path, Without, cost_of, has_operands, is_ready, issue, issue_kind, issue_oldest, issue_turn, issued, may_load, oldest, path, with_access, with_start, Ends, result_of_word, layout_of, seen_behind}
 use Rattle.rv_isa.specs.declared.operations.Kind.TheVariants as kind
 use Rattle.rv_hardware.proofs.GapCosts.{cost_of-most}
-use Rattle.rv_hardware.proofs.GapForms.{with_entries, with_started, with_unit, longest_execution, IsResult}
+use Rattle.rv_hardware.proofs.GapForms.{with_entries, with_started, with_unit, longest_execution, IsResultOfWord}
 use Rattle.rv_hardware.proofs.GapLists.{by_test, IsFound, oldest-found, with_entry-found}
 use Rattle.rv_hardware.proofs.Repeated.{Leaves, kept_by_turns}
 
@@ -29,13 +29,13 @@ module _ (P : Hardware → Type 0) (k : Kind) where
         P (with_access (FromCache address) h)
     pub starts : (h : Hardware) (older younger : List Entry) (e : Entry) (cost : ℕ) (message : Message) → P h →
         h.rob.entries ≡ older ++ e ∷ younger → is_waiting e.stage ≡ true → is_of_kind k (kind_of_word e.instruction) ≡ true →
-        IsResult e.word e.instruction message → cost ≤ longest_execution h →
+        IsResultOfWord e.word e.instruction message → cost ≤ longest_execution h →
         P (with_started k cost message older e younger h)
 
 module _ {P : Hardware → Type 0} {k : Kind} (kept : IsKeptByIssue P k) where
   begins : (h : Hardware) (older younger : List Entry) (e : Entry) (cost : ℕ) (message : Message) → P h →
       h.rob.entries ≡ older ++ e ∷ younger → is_waiting e.stage ≡ true → is_of_kind k (kind_of_word e.instruction) ≡ true →
-      IsResult e.word e.instruction message → cost ≤ longest_execution h →
+      IsResultOfWord e.word e.instruction message → cost ≤ longest_execution h →
       P (with_start k (h.rob.retired + length older) cost message h)
   begins h older younger e cost message holds split waits of_kind result costs =
       let start : Entry → Entry = started (record { cycle = h.cycle; cost = cost }) message in

@@ -7,7 +7,7 @@ use Rattle.rv_hardware.proofs.GapExecute.{same-kept}
 use Rattle.rv_hardware.proofs.GapFall.{fall}
 use Rattle.rv_hardware.proofs.GapLists.{by_test}
 use Rattle.rv_hardware.proofs.GapPatience.{patience}
-use Rattle.rv_hardware.proofs.GapSound.{IsSound, sound, sound-cycle}
+use Rattle.rv_hardware.proofs.GapSound.{IsBounded, sound, sound-cycle}
 
 -- ---- of reachable hardware
 pub patience-falls : {lines : Lines} {old new : Hardware} {report : Report} → Reachable old → IsCycle any_prediction lines old report new → report.steps ≡ [] → report.stop ≡ None → patience new + 1 ≤ patience old
@@ -37,11 +37,11 @@ same_values : {lines : Lines} {old new : Hardware} {report : Report} → IsCycle
 same_values {lines} {old} {new} cycle =
     ap (λ (h : Hardware). h.values) cycle.others_stay ∙ (phases-keep (same-kept old.values old.cache.values old.cycle) cycle (refl, refl, refl)).0
 
-gaps_below : (arrivals : List Arrival) (bound silent : ℕ) {old new : Hardware} {reports : List Report} → Cycles arrivals old reports new → IsSound old → gap_bound_of old.values ≡ bound →
+gaps_below : (arrivals : List Arrival) (bound silent : ℕ) {old new : Hardware} {reports : List Report} → Cycles arrivals old reports new → IsBounded old → gap_bound_of old.values ≡ bound →
     silent + patience old + 1 < bound → OnlyLastStops reports → longest_gap_from silent reports < bound
 gaps_below arrivals bound silent ended well is below only = omega arith
 gaps_below arrivals bound silent {old} (cycled {middle = middle} {report = report} {reports = reports} cycle rest) well is below only =
-    let next_well : IsSound middle = sound-cycle cycle well in
+    let next_well : IsBounded middle = sound-cycle cycle well in
     let next_is : gap_bound_of middle.values ≡ bound = ap (λ (v : Values). gap_bound_of v) (same_values cycle) ∙ is in
     cycle_below bound silent (patience old) (patience middle) report (λ silent going. fall cycle well silent going) (omega (arith, patience-below middle next_well, next_is)) below reports
     (λ more under last. gaps_below arrivals bound more rest next_well next_is under last) only

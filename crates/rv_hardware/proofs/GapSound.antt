@@ -12,7 +12,7 @@ use Rattle.rv_hardware.proofs.GapUnits.{AreHeld, held-kept, held-at_reset}
 use Rattle.rv_hardware.proofs.Repeated.{always}
 
 -- all that is known of hardware for its gaps
-pub record IsSound (h : Hardware) : Type 0 where
+pub record IsBounded (h : Hardware) : Type 0 where
   pub sizes : HasSizes h
   pub queue : HasQueue h
   pub stores : HasStores h
@@ -23,7 +23,7 @@ pub record IsSound (h : Hardware) : Type 0 where
   pub halted : IsHalted h
 
 -- every cycle keeps it
-pub sound-cycle : {lines : Lines} {old new : Hardware} {report : Report} → IsCycle any_prediction lines old report new → IsSound old → IsSound new
+pub sound-cycle : {lines : Lines} {old new : Hardware} {report : Report} → IsCycle any_prediction lines old report new → IsBounded old → IsBounded new
 sound-cycle cycle sound = record {
   sizes = cycle-keeps sizes-kept cycle sound.sizes;
   queue = cycle-keeps queue-kept cycle sound.queue;
@@ -35,7 +35,7 @@ sound-cycle cycle sound = record {
   halted = cycle-keeps halted-kept cycle sound.halted;
 }
 
-pub sound-at_reset : (values : Values) (image : List ℕ) (start : ℕ) → IsLegal values → IsSound (reset_hardware values image start)
+pub sound-at_reset : (values : Values) (image : List ℕ) (start : ℕ) → IsLegal values → IsBounded (reset_hardware values image start)
 sound-at_reset values image start legal = record {
   sizes = sizes-at_reset values image start legal;
   queue = queue-at_reset values image start;
@@ -48,7 +48,7 @@ sound-at_reset values image start legal = record {
 }
 
 -- it holds of all reachable hardware
-pub sound : {h : Hardware} → Reachable h → IsSound h
+pub sound : {h : Hardware} → Reachable h → IsBounded h
 sound reached =
-    always IsSound (λ values base image start legal loadable. sound-at_reset values image start legal)
+    always IsBounded (λ values base image start legal loadable. sound-at_reset values image start legal)
     (λ old new lines report reachable before counted cycle. sound-cycle cycle before) reached

@@ -1,7 +1,7 @@
 -- There are no more stores, retired or in flight, than the queue holds.
 use Rattle.rv_hardware.proofs.Words.{◌≡◌, ℕ, ◌+◌, ◌<◌, ◌≤◌, Bool, true, false, cond, ◌&&◌, List, [], ◌∷◌, ◌++◌, map, length, nat_le, Some, None, Option, refl, ap, ◌∙◌, subst, arith, length-append, nat_tests, is_store, Message, StoreAccess, Instr, Values, Each, with_oldest_draining, without_drained, is_draining, Store, finished, predicting, started, Entry, Stage, Finished, Running, Waiting, Fetched, entry_of_fetched, reason_of, Hardware, broadcast_of, stores_of, reset_hardware, committed_store, stores_behind, map-change}
 use Rattle.rv_hardware.proofs.GapCycle.{IsKept, IsKeptByPhases}
-use Rattle.rv_hardware.proofs.GapEntries.{HasShape, IsShaped, Shaped, TellsStore, shape-kept, shape-at_reset}
+use Rattle.rv_hardware.proofs.GapEntries.{AreShaped, IsShaped, Shaped, TellsStore, shape-kept, shape-at_reset}
 use Rattle.rv_hardware.proofs.GapLists.{by_test}
 use Rattle.rv_hardware.proofs.GapReasons.{no_reason}
 
@@ -44,7 +44,7 @@ FitQueue h committed entries = length committed + store_count (instructions_of e
 
 -- the stores, retired and in flight, are no more than the queue holds
 abbrev pub HasStores : Hardware → Type 0
-HasStores h = HasShape h × FitQueue h h.committed h.rob.entries
+HasStores h = AreShaped h × FitQueue h h.committed h.rob.entries
 
 -- ---- a retirement
 told_known : (word : Option ℕ) (instruction : Option Instr) (stage : Stage) (message : Message) → broadcast_of stage ≡ Some message → IsShaped word instruction stage → TellsStore instruction message.store
@@ -99,7 +99,7 @@ fits_dispatched h fetched has none =
 -- every cycle keeps it
 pub stores-kept : IsKept HasStores
 stores-kept =
-    let shape : IsKeptByPhases HasShape = shape-kept.phases in
+    let shape : IsKeptByPhases AreShaped = shape-kept.phases in
     record {
       phases = record {
         lines = λ h levels has. has;

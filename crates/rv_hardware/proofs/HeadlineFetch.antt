@@ -11,7 +11,7 @@ AreInBuffer-append layout s pc middle next (x ∷ xs) ys all rest = (all.0, AreI
 
 module _ (answers : Answers) (layout : Layout) (ram : Memory) (s : State) (cycle : ℕ)
     (fresh : (pc : ℕ) → pc % 4 ≡ 0 → IsWordAt layout s pc (fetched_word ram.layout ram.bytes pc)) where
-  record Added (pc : ℕ) (es : List Fetched) (next : ℕ) : Type 0 where
+  record AddedInOrder (pc : ℕ) (es : List Fetched) (next : ℕ) : Type 0 where
     pub words : AreInBuffer layout s pc es next
     pub aligned : next % 4 ≡ 0
 
@@ -25,7 +25,7 @@ module _ (answers : Answers) (layout : Layout) (ram : Memory) (s : State) (cycle
 
   behind_one : (o : Option FetchStop) (e : Fetched) (es : List Fetched) (width room next : ℕ) (stop : FetchStop) → e.predicted % 4 ≡ 0 →
       MatchOption o (Fetches answers ram cycle width room e.predicted es next stop) (λ reason. (es ≡ []) × (next ≡ e.predicted) × (stop ≡ reason)) →
-      (Fetches answers ram cycle width room e.predicted es next stop → Added e.predicted es next) → Added e.predicted es next
+      (Fetches answers ram cycle width room e.predicted es next stop → AddedInOrder e.predicted es next) → AddedInOrder e.predicted es next
   behind_one None e es width room next stop aligned rest go = go rest
   behind_one (Some reason) e es width room next stop aligned rest go =
       record {
@@ -33,7 +33,7 @@ module _ (answers : Answers) (layout : Layout) (ram : Memory) (s : State) (cycle
         aligned = ap (λ n. n % 4) rest.1 ∙ aligned;
       }
 
-  added : (es : List Fetched) (width room pc next : ℕ) (stop : FetchStop) → pc % 4 ≡ 0 → Fetches answers ram cycle width room pc es next stop → Added pc es next
+  added : (es : List Fetched) (width room pc next : ℕ) (stop : FetchStop) → pc % 4 ≡ 0 → Fetches answers ram cycle width room pc es next stop → AddedInOrder pc es next
   added [] width room pc next stop aligned fetches =
       record { words = (ends width room fetches).1; aligned = ap (λ n. n % 4) (ends width room fetches).1 ∙ aligned } where
         ends : (width room : ℕ) → Fetches answers ram cycle width room pc [] next stop → Unit {0} × (next ≡ pc)

@@ -12,11 +12,11 @@ outside_by : (inside : Bool) (word : ℕ) → cond inside (Some word) None ≡ N
 outside_by true word none = absurd (cc)
 outside_by false word none = refl
 
-record IsFound (inside : Bool) (at word : ℕ) : Type 0 where
+record IsWordInside (inside : Bool) (at word : ℕ) : Type 0 where
   pub within : inside ≡ true
   pub is : word ≡ at
 
-inside_by : (inside : Bool) (at word : ℕ) → cond inside (Some at) None ≡ Some word → IsFound inside at word
+inside_by : (inside : Bool) (at word : ℕ) → cond inside (Some at) None ≡ Some word → IsWordInside inside at word
 inside_by true at word some = record { within = refl; is = cc }
 inside_by false at word some = absurd (cc)
 
@@ -36,7 +36,7 @@ module _ (layout : Layout) (s : State) (lines : Lines) where
   pub outside : (instruction : Option Instr) → IsReady None instruction → is_in_ram layout s.pc 4 ≡ false
   outside instruction ready = outside_by (is_in_ram layout s.pc 4) (number_at layout s.ram s.pc 4) (sym ready.word_is)
 
-  found : (word : ℕ) (instruction : Option Instr) → IsReady (Some word) instruction → IsFound (is_in_ram layout s.pc 4) (word_at_pc layout s) word
+  found : (word : ℕ) (instruction : Option Instr) → IsReady (Some word) instruction → IsWordInside (is_in_ram layout s.pc 4) (word_at_pc layout s) word
   found word instruction ready = inside_by (is_in_ram layout s.pc 4) (number_at layout s.ram s.pc 4) word (sym ready.word_is)
 
   -- the word of a ready instruction can be fetched at the state's pc

@@ -32,11 +32,11 @@ pub record IsOldest (test : List Entry → Entry → Bool) (before entries older
   pub passes : test older e ≡ true
 
 module _ (test : List Entry → Entry → Bool) where
-  abbrev IsFound : List Entry → List Entry → Option (List Entry × Entry) → Type 0
-  IsFound before entries None = Unit {0}
-  IsFound before entries (Some found) = IsOldest test before entries found.0 found.1
+  abbrev IsAnswer : List Entry → List Entry → Option (List Entry × Entry) → Type 0
+  IsAnswer before entries None = Unit {0}
+  IsAnswer before entries (Some found) = IsOldest test before entries found.0 found.1
 
-  later : (before : List Entry) (x : Entry) (entries : List Entry) (o : Option (List Entry × Entry)) → IsFound (before ++ x ∷ []) entries o → IsFound before (x ∷ entries) o
+  later : (before : List Entry) (x : Entry) (entries : List Entry) (o : Option (List Entry × Entry)) → IsAnswer (before ++ x ∷ []) entries o → IsAnswer before (x ∷ entries) o
   later before x entries None is = tt
   later before x entries (Some found) is = record {
     skipped = x ∷ is.skipped;
@@ -47,19 +47,19 @@ module _ (test : List Entry → Entry → Bool) where
   }
 
   found_by : (b : Bool) (before : List Entry) (x : Entry) (entries : List Entry) → test before x ≡ b →
-      IsFound (before ++ x ∷ []) entries (oldest_from test (before ++ x ∷ []) entries) →
-      IsFound before (x ∷ entries) (if b then Some (before, x) else oldest_from test (before ++ x ∷ []) entries)
+      IsAnswer (before ++ x ∷ []) entries (oldest_from test (before ++ x ∷ []) entries) →
+      IsAnswer before (x ∷ entries) (if b then Some (before, x) else oldest_from test (before ++ x ∷ []) entries)
   found_by true before x entries is rest =
       record { skipped = []; younger = entries; older_is = sym (append-nil before); entries_are = refl; passes = is }
   found_by false before x entries is rest = later before x entries (oldest_from test (before ++ x ∷ []) entries) rest
 
-  found_from : (before entries : List Entry) → IsFound before entries (oldest_from test before entries)
+  found_from : (before entries : List Entry) → IsAnswer before entries (oldest_from test before entries)
   found_from before [] = tt
   found_from before (x ∷ entries) = found_by (test before x) before x entries refl (found_from (before ++ x ∷ []) entries)
 
   -- what the search for the oldest finds is the oldest that passes the test
   pub oldest_found : (entries older : List Entry) (e : Entry) → oldest test entries ≡ Some (older, e) → IsOldest test [] entries older e
-  oldest_found entries older e is = subst (IsFound [] entries) is (found_from [] entries)
+  oldest_found entries older e is = subst (IsAnswer [] entries) is (found_from [] entries)
 
 module _ (change : Entry → Entry) where
   -- a change by sequence number changes the entry at its place alone

@@ -14,15 +14,15 @@ history_keeps v P kept first (went_on before is) = cycle-keeps kept is (history_
 
 module _ (v : Values) (now : ℕ) (earlier : List Step) (is_stale : set.FinSet nat_cmp → ℕ → Bool) where
   -- what is basic in the commit phase
-  abbrev pub Committed : Committing → Type 0
-  Committed c = Commits v now Anything (anything_is_kept v now) earlier is_stale c
+  abbrev pub InCommit : Committing → Type 0
+  InCommit c = Commits v now Anything (anything_is_kept v now) earlier is_stale c
 
-  module _ (Q : Committing → Type 0) (keeps : (c : Committing) (t : Turn Committing) → CommitTurn is_stale c t → Committed c → Q c → Leads Q Q t) where
-    turn_keeps : (c : Committing) → Committed c × Q c → Leads (λ c. Committed c × Q c) Q (commit_turn is_stale c)
+  module _ (Q : Committing → Type 0) (keeps : (c : Committing) (t : Turn Committing) → CommitTurn is_stale c t → InCommit c → Q c → Leads Q Q t) where
+    turn_keeps : (c : Committing) → InCommit c × Q c → Leads (λ c. InCommit c × Q c) Q (commit_turn is_stale c)
     turn_keeps c p =
         let is = commit_turn_is is_stale c in
-        leads_both Committed Q Q (commit_turn is_stale c) (commit_turn_keeps v now Anything (anything_is_kept v now) earlier is_stale c (commit_turn is_stale c) is p.0) (keeps c (commit_turn is_stale c) is p.0 p.1)
+        leads_both InCommit Q Q (commit_turn is_stale c) (commit_turn_keeps v now Anything (anything_is_kept v now) earlier is_stale c (commit_turn is_stale c) is p.0) (keeps c (commit_turn is_stale c) is p.0 p.1)
 
     -- what each turn of the commit phase keeps, where what is basic holds, all turns keep
-    pub commit_turns_keep : (width : ℕ) (c : Committing) → Committed c → Q c → Q (repeated (commit_turn is_stale) width c)
-    commit_turns_keep width c p q = left_by_turns (λ c. Committed c × Q c) Q (commit_turn is_stale) turn_keeps (λ c p. p.1) width c (p, q)
+    pub commit_turns_keep : (width : ℕ) (c : Committing) → InCommit c → Q c → Q (repeated (commit_turn is_stale) width c)
+    commit_turns_keep width c p q = left_by_turns (λ c. InCommit c × Q c) Q (commit_turn is_stale) turn_keeps (λ c p. p.1) width c (p, q)

@@ -8,7 +8,7 @@ use Rattle.rv_hardware.proofs.GapIssue.{IsKeptByIssue, issue-keeps}
 use Rattle.rv_hardware.proofs.GapHalted.{IsHalted, HaltsBehind, words_of, halted-kept, halted-at_reset}
 use Rattle.rv_hardware.proofs.LawsCommit.{CommitTurn, no_head, stale_head, unfinished, fence_waits, fence_writes, fence_retires, executes, serial_faults, traps, retires, retires_last, executed, written_back, retired_with, retired_and_flushed}
 use Rattle.rv_hardware.proofs.LawsCycle.{Anything, anything_is_kept, Passed, History, began, went_on, begin, committing, dispatching, cycle_passes, history_is_legal, history_is_sound}
-use Rattle.rv_hardware.proofs.LawsKeeps.{history_keeps, Committed, commit_turns_keep}
+use Rattle.rv_hardware.proofs.LawsKeeps.{history_keeps, InCommit, commit_turns_keep}
 use Rattle.rv_hardware.proofs.LawsLinked.{LastIs, last_at, last_of}
 use Rattle.rv_hardware.proofs.LawsLinkedRows.{stays_halted}
 use Rattle.rv_hardware.proofs.LawsFetch.{IsNew}
@@ -23,8 +23,8 @@ IsFetchedBy c (Retired row) = row.fetched ≤ c
 IsFetchedBy c (Trap pc cause value cycle) = Unit {0}
 IsFetchedBy c (Interrupt pc cause cycle) = Unit {0}
 
-abbrev pub Next : Step → Step → Type 0
-Next a b = IsFetchedBy (stamp_of a) b
+abbrev pub IsFetchedNext : Step → Step → Type 0
+IsFetchedNext a b = IsFetchedBy (stamp_of a) b
 
 -- R of each element and the next one, by recursion
 abbrev NextIs : {X : Type 0} → (X → X → Type 0) → X → List X → Type 0
@@ -73,29 +73,29 @@ coming_by v now [] (f ∷ fs) entries words = let sound = words.0 in omega (arit
 coming_by v now [] [] entries words = omega arith
 
 -- each row was fetched by the step before it, and so is what comes after the last
-abbrev Follows : ℕ → List Step → Hardware → Type 0
-Follows now steps h = EveryNext Next steps × LastIs (λ s. coming now h.rob.entries h.front.entries ≤ stamp_of s) steps
+abbrev AreFetchedNext : ℕ → List Step → Hardware → Type 0
+AreFetchedNext now steps h = EveryNext IsFetchedNext steps × LastIs (λ s. coming now h.rob.entries h.front.entries ≤ stamp_of s) steps
 
 -- commit
 
 module _ (v : Values) (now : ℕ) (earlier : List Step) (is_stale : set.FinSet nat_cmp → ℕ → Bool) where
   abbrev Following : Committing → Type 0
-  Following c = Follows now (earlier ++ c.steps) c.hardware
+  Following c = AreFetchedNext now (earlier ++ c.steps) c.hardware
 
-  one_more : (c : Committing) (s : Step) (h : Hardware) → stamp_of s ≡ now → coming now h.rob.entries h.front.entries ≤ now → LastIs (λ a. Next a s) (earlier ++ c.steps) → Following c → Follows now (earlier ++ (c.steps ++ s ∷ [])) h
+  one_more : (c : Committing) (s : Step) (h : Hardware) → stamp_of s ≡ now → coming now h.rob.entries h.front.entries ≤ now → LastIs (λ a. IsFetchedNext a s) (earlier ++ c.steps) → Following c → AreFetchedNext now (earlier ++ (c.steps ++ s ∷ [])) h
   one_more c s h at by last p =
       rw (← append_assoc earlier c.steps (s ∷ [])) (
-        EveryNext-push Next (earlier ++ c.steps) s last p.0,
+        EveryNext-push IsFetchedNext (earlier ++ c.steps) s last p.0,
         last_at (λ a. coming now h.rob.entries h.front.entries ≤ stamp_of a) (earlier ++ c.steps) s (omega (arith, at, by)),
       )
 
-  head_next : (c : Committing) (e : Entry) (es : List Entry) (written : Option (ℕ × ℕ)) → c.hardware.rob.entries ≡ e ∷ es → Following c → LastIs (λ a. Next a (Retired (row_at e written c.hardware.cycle))) (earlier ++ c.steps)
+  head_next : (c : Committing) (e : Entry) (es : List Entry) (written : Option (ℕ × ℕ)) → c.hardware.rob.entries ≡ e ∷ es → Following c → LastIs (λ a. IsFetchedNext a (Retired (row_at e written c.hardware.cycle))) (earlier ++ c.steps)
   head_next c e es written place p = subst (λ l. LastIs (λ s. coming now l c.hardware.front.entries ≤ stamp_of s) (earlier ++ c.steps)) place p.1
 
-  no_row_next : (c : Committing) (s : Step) → ((a : Step) → Next a s) → Following c → LastIs (λ a. Next a s) (earlier ++ c.steps)
-  no_row_next c s f p = last_weaker (λ a. coming now c.hardware.rob.entries c.hardware.front.entries ≤ stamp_of a) (λ a. Next a s) (λ a h. f a) (earlier ++ c.steps) p.1
+  no_row_next : (c : Committing) (s : Step) → ((a : Step) → IsFetchedNext a s) → Following c → LastIs (λ a. IsFetchedNext a s) (earlier ++ c.steps)
+  no_row_next c s f p = last_weaker (λ a. coming now c.hardware.rob.entries c.hardware.front.entries ≤ stamp_of a) (λ a. IsFetchedNext a s) (λ a h. f a) (earlier ++ c.steps) p.1
 
-  commit_follows : (c : Committing) (t : Turn Committing) → CommitTurn is_stale c t → Committed v now earlier is_stale c → Following c → Leads Following Following t
+  commit_follows : (c : Committing) (t : Turn Committing) → CommitTurn is_stale c t → InCommit v now earlier is_stale c → Following c → Leads Following Following t
   commit_follows c _ (no_head none) q p = p
   commit_follows c _ (stale_head e es at is) q p = p
   commit_follows c _ (unfinished e es head plain none) q p = p
@@ -111,7 +111,7 @@ module _ (v : Values) (now : ℕ) (earlier : List Step) (is_stale : set.FinSet n
       one_more c (Retired (row_at e (written_of e message) c.hardware.cycle)) (retired_with e message c).hardware q.basics.cycle (subst (λ l. coming now l c.hardware.front.entries ≤ now) (sym (head_retired_entries c.hardware.rob e es head.place)) by) (head_next c e es (written_of e message) head.place p) p
   commit_follows c _ (retires_last e es begun cycle message head plain at none) q p = one_more c (Retired (row_at e (written_of e message) c.hardware.cycle)) (retired_and_flushed e message c).hardware q.basics.cycle (omega arith) (head_next c e es (written_of e message) head.place p) p
 
-  commit_follows_by : (o : Option ℕ) (h : Hardware) → Committed v now earlier is_stale (record { hardware = h; steps = []; stop = None }) → Follows now (earlier ++ []) h → Following (commit_unless is_stale o h)
+  commit_follows_by : (o : Option ℕ) (h : Hardware) → InCommit v now earlier is_stale (record { hardware = h; steps = []; stop = None }) → AreFetchedNext now (earlier ++ []) h → Following (commit_unless is_stale o h)
   commit_follows_by (Some code) h q p =
       let c : Committing = record { hardware = h; steps = []; stop = None } in
       let s : Step = Interrupt h.pc (interrupt_cause code) h.cycle in
@@ -192,7 +192,7 @@ module _ (v : Values) {earlier : List Step} {old new : Hardware} {lines : Lines}
           let empty = sym (length-append d.front.entries passed.fetches.added) ∙ ap length none' in
           omega (arith, full, empty, passed.dispatches.basics.shape.room, legal)
 
-  next_in_cycle : Follows old.cycle earlier old → Follows new.cycle (earlier ++ report.steps) new
+  next_in_cycle : AreFetchedNext old.cycle earlier old → AreFetchedNext new.cycle (earlier ++ report.steps) new
   next_in_cycle p =
       let passed = cycle_passes v (history_is_legal v before) Anything earlier lines old new report (anything_is_kept v old.cycle) (history_is_sound v before) tt is in
       let first = begin v (history_is_legal v before) Anything earlier lines old new report (anything_is_kept v old.cycle) (history_is_sound v before) tt in
@@ -204,10 +204,10 @@ module _ (v : Values) {earlier : List Step} {old new : Hardware} {lines : Lines}
       let here = ap (λ (h : Hardware). coming h.cycle h.rob.entries new.front.entries) passed.others_stay ∙ ap (coming (old.cycle + 1) d.rob.entries) passed.fetches.entries ∙ fetched ∙ executed in
       rw (passed.steps, here) after
 
-next_of_history : (v : Values) {steps : List Step} {h : Hardware} → History v steps h → Follows h.cycle steps h
+next_of_history : (v : Values) {steps : List Step} {h : Hardware} → History v steps h → AreFetchedNext h.cycle steps h
 next_of_history v (began image start legal) = (tt, tt)
 next_of_history v (went_on before is) = next_in_cycle v before is (next_of_history v before)
 
 -- a row that comes next was fetched by then
-pub next_was_fetched : (v : Values) {steps : List Step} {h : Hardware} → History v steps h → EachNext Next steps
-next_was_fetched v history before after a b at = next_at Next before after a b (subst (EveryNext Next) at (next_of_history v history).0)
+pub next_was_fetched : (v : Values) {steps : List Step} {h : Hardware} → History v steps h → EachNext IsFetchedNext steps
+next_was_fetched v history before after a b at = next_at IsFetchedNext before after a b (subst (EveryNext IsFetchedNext) at (next_of_history v history).0)

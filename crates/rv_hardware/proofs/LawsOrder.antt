@@ -7,15 +7,15 @@ use Rattle.rv_hardware.proofs.LawsFetch.{IsNew}
 use Rattle.rv_hardware.proofs.LawsMarks.{Mark, mark_of_fetched, marks_in}
 
 -- a later instruction was dispatched no earlier
-abbrev pub Dispatched : Mark → Mark → Type 0
-Dispatched m n = IfSome n.dispatched (λ d. IsBefore (d + 1) m.dispatched)
+abbrev pub IsDispatchedFirst : Mark → Mark → Type 0
+IsDispatchedFirst m n = IfSome n.dispatched (λ d. IsBefore (d + 1) m.dispatched)
 
 abbrev pub DispatchedBy : ℕ → Mark → Type 0
 DispatchedBy now m = IfSome m.dispatched (λ d. d ≤ now)
 
 pub record Orderly (v : Values) (now : ℕ) (ms : List Mark) : Type 0 where
   pub fetched : EveryPair (λ m n. m.fetched ≤ n.fetched) ms
-  pub dispatched : EveryPair Dispatched ms
+  pub dispatched : EveryPair IsDispatchedFirst ms
   pub by_now : Each (DispatchedBy now) ms
   pub buffer : count is_in_flight_mark ms ≤ v.rob
   pub words : count is_buffered_mark ms ≤ v.fetch_buffer
@@ -38,7 +38,7 @@ module _ (v : Values) (now : ℕ) (xs ys : List Mark) (m n : Mark) where
       Orderly v now (xs ++ m ∷ ys) → Orderly v now (xs ++ n ∷ ys)
   stays fetched dispatched flight station o = record {
     fetched = EveryPair-set (λ x y. x.fetched ≤ y.fetched) xs ys m n (λ z w. omega (arith, w, fetched)) (λ z w. omega (arith, w, fetched)) o.fetched;
-    dispatched = EveryPair-set Dispatched xs ys m n (λ z w. subst (λ x. IfSome x (λ d. IsBefore (d + 1) z.dispatched)) (sym dispatched) w) (λ z w. subst (λ x. IfSome z.dispatched (λ d. IsBefore (d + 1) x)) (sym dispatched) w) o.dispatched;
+    dispatched = EveryPair-set IsDispatchedFirst xs ys m n (λ z w. subst (λ x. IfSome x (λ d. IsBefore (d + 1) z.dispatched)) (sym dispatched) w) (λ z w. subst (λ x. IfSome z.dispatched (λ d. IsBefore (d + 1) x)) (sym dispatched) w) o.dispatched;
     by_now = Each-set (DispatchedBy now) xs ys m n (subst (λ x. IfSome x (λ d. d ≤ now)) (sym dispatched) (Each-place (DispatchedBy now) xs ys m o.by_now)) o.by_now;
     buffer = fewer is_in_flight_mark flight v.rob o.buffer;
     words = fewer is_buffered_mark (λ h. rw (dispatched) at h) v.fetch_buffer o.words;
@@ -61,14 +61,14 @@ module _ (v : Values) (now : ℕ) (xs ys : List Mark) (m n : Mark) where
   some_before (Some d) is le = omega (arith, le)
 
   module _ (a : Enters v now xs m n) (o : Orderly v now (xs ++ m ∷ ys)) where
-    pairs : EveryPair Dispatched (m ∷ ys)
-    pairs = EveryPair-right Dispatched xs (m ∷ ys) o.dispatched
+    pairs : EveryPair IsDispatchedFirst (m ∷ ys)
+    pairs = EveryPair-right IsDispatchedFirst xs (m ∷ ys) o.dispatched
 
-    across : Across Dispatched xs (m ∷ ys)
-    across = EveryPair-across Dispatched xs (m ∷ ys) o.dispatched
+    across : Across IsDispatchedFirst xs (m ∷ ys)
+    across = EveryPair-across IsDispatchedFirst xs (m ∷ ys) o.dispatched
 
     younger : Each (λ y. y.dispatched ≡ None) ys
-    younger = Each-weaker (Dispatched m) (λ y. y.dispatched ≡ None) (λ y w. none_before y.dispatched (subst (λ x. IfSome y.dispatched (λ d. IsBefore (d + 1) x)) a.not_yet w)) ys (pairs).0
+    younger = Each-weaker (IsDispatchedFirst m) (λ y. y.dispatched ≡ None) (λ y w. none_before y.dispatched (subst (λ x. IfSome y.dispatched (λ d. IsBefore (d + 1) x)) a.not_yet w)) ys (pairs).0
 
     n_dispatched : n.dispatched ≡ Some now
     n_dispatched = ap (λ x. x.dispatched) a.becomes
@@ -76,11 +76,11 @@ module _ (v : Values) (now : ℕ) (xs ys : List Mark) (m n : Mark) where
     olders : Each (λ x. IsBefore (now + 1) x.dispatched) xs
     olders = Each-both (λ x. is_some x.dispatched ≡ true) (DispatchedBy now) (λ x. IsBefore (now + 1) x.dispatched) (λ x is le. some_before x.dispatched is le) xs a.in_order (Each-left (DispatchedBy now) xs (m ∷ ys) o.by_now)
 
-    entered_pairs : EveryPair Dispatched (xs ++ n ∷ ys)
+    entered_pairs : EveryPair IsDispatchedFirst (xs ++ n ∷ ys)
     entered_pairs =
-        EveryPair-append Dispatched xs (n ∷ ys) (EveryPair-left Dispatched xs (m ∷ ys) o.dispatched)
-        (Each-weaker (λ y. y.dispatched ≡ None) (Dispatched n) (λ y none. rw none tt) ys younger, (pairs).1)
-        (Each-both (λ x. Each (Dispatched x) (m ∷ ys)) (λ x. IsBefore (now + 1) x.dispatched) (λ x. Each (Dispatched x) (n ∷ ys)) (λ x w b. (rw n_dispatched b, w.1)) xs across olders)
+        EveryPair-append IsDispatchedFirst xs (n ∷ ys) (EveryPair-left IsDispatchedFirst xs (m ∷ ys) o.dispatched)
+        (Each-weaker (λ y. y.dispatched ≡ None) (IsDispatchedFirst n) (λ y none. rw none tt) ys younger, (pairs).1)
+        (Each-both (λ x. Each (IsDispatchedFirst x) (m ∷ ys)) (λ x. IsBefore (now + 1) x.dispatched) (λ x. Each (IsDispatchedFirst x) (n ∷ ys)) (λ x w b. (rw n_dispatched b, w.1)) xs across olders)
 
     not_in_flight : count is_in_flight_mark ys ≡ 0
     not_in_flight = count-none is_in_flight_mark ys (Each-weaker (λ y. y.dispatched ≡ None) (λ y. is_in_flight_mark y ≡ false) (λ y none. rw none refl) ys younger)
@@ -129,7 +129,7 @@ orderly_set v now xs ys m n (enters a) o = entered v now xs ys m n a o
 orderly_cut : (v : Values) (now : ℕ) (xs ys : List Mark) → Orderly v now (xs ++ ys) → Orderly v now xs
 orderly_cut v now xs ys o = record {
   fetched = EveryPair-left (λ x y. x.fetched ≤ y.fetched) xs ys o.fetched;
-  dispatched = EveryPair-left Dispatched xs ys o.dispatched;
+  dispatched = EveryPair-left IsDispatchedFirst xs ys o.dispatched;
   by_now = Each-left (DispatchedBy now) xs ys o.by_now;
   buffer = let less = count-left is_in_flight_mark xs ys in omega (arith, less, o.buffer);
   words = let less = count-left is_buffered_mark xs ys in omega (arith, less, o.words);
@@ -147,16 +147,16 @@ new_in_order now [] are = tt
 new_in_order now (f ∷ fs) are =
     (Each-map (λ y. f.cycle ≤ y.fetched) mark_of_fetched fs (Each-weaker (IsNew now) (λ g. f.cycle ≤ g.cycle) (λ g w. omega (arith, w.0, are.0.0)) fs are.1), new_in_order now fs are.1)
 
-none_dispatched : (fs : List Fetched) → EveryPair Dispatched (map mark_of_fetched fs)
+none_dispatched : (fs : List Fetched) → EveryPair IsDispatchedFirst (map mark_of_fetched fs)
 none_dispatched [] = tt
-none_dispatched (f ∷ fs) = (Each-map (Dispatched (mark_of_fetched f)) mark_of_fetched fs (Each-all (λ g. Dispatched (mark_of_fetched f) (mark_of_fetched g)) (λ g. tt) fs), none_dispatched fs)
+none_dispatched (f ∷ fs) = (Each-map (IsDispatchedFirst (mark_of_fetched f)) mark_of_fetched fs (Each-all (λ g. IsDispatchedFirst (mark_of_fetched f) (mark_of_fetched g)) (λ g. tt) fs), none_dispatched fs)
 
 orderly_more : (v : Values) (now : ℕ) (ms : List Mark) (fs : List Fetched) → NewWords v now ms fs → Orderly v now ms → Orderly v (now + 1) (ms ++ map mark_of_fetched fs)
 orderly_more v now ms fs words o = record {
   fetched = EveryPair-append (λ x y. x.fetched ≤ y.fetched) ms (map mark_of_fetched fs) o.fetched (new_in_order now fs words.are_new)
       (Each-weaker (λ m. m.fetched < now) (λ m. Each (λ y. m.fetched ≤ y.fetched) (map mark_of_fetched fs)) (λ m le. Each-map (λ y. m.fetched ≤ y.fetched) mark_of_fetched fs (Each-weaker (IsNew now) (λ g. m.fetched ≤ g.cycle) (λ g w. omega (arith, w.0, le)) fs words.are_new)) ms words.by_now);
-  dispatched = EveryPair-append Dispatched ms (map mark_of_fetched fs) o.dispatched (none_dispatched fs)
-      (Each-all (λ m. Each (Dispatched m) (map mark_of_fetched fs)) (λ m. Each-map (Dispatched m) mark_of_fetched fs (Each-all (λ g. Dispatched m (mark_of_fetched g)) (λ g. tt) fs)) ms);
+  dispatched = EveryPair-append IsDispatchedFirst ms (map mark_of_fetched fs) o.dispatched (none_dispatched fs)
+      (Each-all (λ m. Each (IsDispatchedFirst m) (map mark_of_fetched fs)) (λ m. Each-map (IsDispatchedFirst m) mark_of_fetched fs (Each-all (λ g. IsDispatchedFirst m (mark_of_fetched g)) (λ g. tt) fs)) ms);
   by_now = Each-append (DispatchedBy (now + 1)) ms (map mark_of_fetched fs)
       (Each-weaker (DispatchedBy now) (DispatchedBy (now + 1)) (λ m w. later m.dispatched w) ms o.by_now)
       (Each-map (DispatchedBy (now + 1)) mark_of_fetched fs (Each-all (λ f. DispatchedBy (now + 1) (mark_of_fetched f)) (λ f. tt) fs));

@@ -2,16 +2,16 @@
 use Rattle.rv_hardware.proofs.Words.{◌≡◌, ℕ, ◌+◌, Bool, true, false, cond, ◌∷◌, ◌++◌, is_some, nat_le, Some, None, Option, sym, refl, subst, is_serialising, is_store, kind_of_word, Message, Instr, Lines, Kind, Layout, Effect, Faults, Retires, effect, State, Each, finished, predicting, started, Entry, Stage, Finished, Running, Waiting, Fetched, result_at, entry_of_fetched, stage_by, Hardware, access_of, effect_message, result_of_word, layout_of, seen_behind, Each-left, Each-right, Each-push, Each-change}
 use Rattle.rv_isa.specs.declared.instructions.Instr.TheVariants.{Store}
 use Rattle.rv_hardware.proofs.GapCycle.{IsKept}
-use Rattle.rv_hardware.proofs.GapForms.{IsResult}
+use Rattle.rv_hardware.proofs.GapForms.{IsResultOfWord}
 
-abbrev pub Tells : Option Instr → Message → Type 0
-Tells i message = message.fault ≡ None → is_some message.store ≡ is_store i
+abbrev pub TellsItsStore : Option Instr → Message → Type 0
+TellsItsStore i message = message.fault ≡ None → is_some message.store ≡ is_store i
 
 -- what is written is told where a store's result is known
 abbrev pub TellsIn : Option Instr → Stage → Type 0
 TellsIn i Waiting = Unit {0}
-TellsIn i (Running issue message) = Tells i message
-TellsIn i (Finished issue cycle message) = Tells i message
+TellsIn i (Running issue message) = TellsItsStore i message
+TellsIn i (Finished issue cycle message) = TellsItsStore i message
 
 -- an instruction in flight tells what it writes where it is a store, and nowhere else
 abbrev pub Telling : Entry → Type 0
@@ -27,32 +27,32 @@ access_tells : (s : State) (i : Instr) → is_some (access_of s i) ≡ is_store 
 access_tells s (Store width rs1 rs2 offset) = refl
 access_tells s _ = refl
 
-effect_tells : (s : State) (i : Instr) (given : Effect) → Tells (Some i) (effect_message (access_of s i) given)
+effect_tells : (s : State) (i : Instr) (given : Effect) → TellsItsStore (Some i) (effect_message (access_of s i) given)
 effect_tells s i (Retires written next) = λ none. access_tells s i
 effect_tells s i (Faults cause value) = λ none. absurd (cc)
 
-word_tells : (layout : Layout) (s : State) (lines : Lines) (word : Option ℕ) (i : Option Instr) → Tells i (result_of_word layout s lines word i)
+word_tells : (layout : Layout) (s : State) (lines : Lines) (word : Option ℕ) (i : Option Instr) → TellsItsStore i (result_of_word layout s lines word i)
 word_tells layout s lines None i = λ none. absurd (cc)
 word_tells layout s lines (Some word) None = λ none. absurd (cc)
 word_tells layout s lines (Some word) (Some i) = effect_tells s i (effect layout s lines word i)
 
-result_tells : (word : Option ℕ) (i : Option Instr) (message : Message) → IsResult word i message → Tells i message
-result_tells word i message result = subst (Tells i) (sym result.is) (word_tells result.layout result.state result.lines word i)
+result_tells : (word : Option ℕ) (i : Option Instr) (message : Message) → IsResultOfWord word i message → TellsItsStore i message
+result_tells word i message result = subst (TellsItsStore i) (sym result.is) (word_tells result.layout result.state result.lines word i)
 
 -- a broadcast
 
-sent_tells : (b : Bool) (i : Option Instr) (given message : Message) → cond b (Some given) None ≡ Some message → Tells i given → Tells i message
-sent_tells true i given message is tells = let same : given ≡ message = cc in subst (Tells i) same tells
+sent_tells : (b : Bool) (i : Option Instr) (given message : Message) → cond b (Some given) None ≡ Some message → TellsItsStore i given → TellsItsStore i message
+sent_tells true i given message is tells = let same : given ≡ message = cc in subst (TellsItsStore i) same tells
 sent_tells false i given message is tells = absurd (cc)
 
-result_at_tells : (cycle : ℕ) (i : Option Instr) (stage : Stage) (message : Message) → result_at cycle stage ≡ Some message → TellsIn i stage → Tells i message
+result_at_tells : (cycle : ℕ) (i : Option Instr) (stage : Stage) (message : Message) → result_at cycle stage ≡ Some message → TellsIn i stage → TellsItsStore i message
 result_at_tells cycle i Waiting message is tells = absurd (cc)
 result_at_tells cycle i (Running issue given) message is tells = sent_tells (nat_le (issue.cycle + issue.cost) cycle) i given message is tells
 result_at_tells cycle i (Finished issue sent given) message is tells = absurd (cc)
 
 -- a dispatch
 
-stage_tells : (i : Option Instr) (kind : Option Kind) (serialising : Bool) (cycle : ℕ) (message : Message) → Tells i message → TellsIn i (stage_by kind serialising (Finished None cycle message))
+stage_tells : (i : Option Instr) (kind : Option Kind) (serialising : Bool) (cycle : ℕ) (message : Message) → TellsItsStore i message → TellsIn i (stage_by kind serialising (Finished None cycle message))
 stage_tells i (Some kind) serialising cycle message tells = tt
 stage_tells i None true cycle message tells = tt
 stage_tells i None false cycle message tells = tells

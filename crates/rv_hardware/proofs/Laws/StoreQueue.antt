@@ -12,7 +12,7 @@ use Rattle.rv_hardware.proofs.LawsBasics.{and_first, and_second}
 use Rattle.rv_hardware.proofs.LawsCommit.{CommitTurn, no_head, stale_head, unfinished, fence_waits, fence_writes, fence_retires, executes, serial_faults, traps, retires, retires_last, written_back, retired_with}
 use Rattle.rv_hardware.proofs.LawsCounted.{count-as_of, until_by}
 use Rattle.rv_hardware.proofs.LawsCycle.{Anything, anything_is_kept, Passed, History, began, went_on, begin, committing, drained, cycle_passes, history_is_legal, history_is_sound}
-use Rattle.rv_hardware.proofs.LawsKeeps.{history_keeps, Committed, commit_turns_keep}
+use Rattle.rv_hardware.proofs.LawsKeeps.{history_keeps, InCommit, commit_turns_keep}
 use Rattle.rv_hardware.proofs.LawsMarks.{Mark, mark_of_row, mark_of_entry, mark_of_fetched, marks_in, at_end, as_of, was_fetched, until, Extends, rows_append}
 use Rattle.rv_hardware.proofs.LawsPast.{rows_obey}
 use Rattle.rv_hardware.proofs.LawsPort.{has_its_port, port_grows}
@@ -42,14 +42,14 @@ module _ (v : Values) (now : ℕ) (earlier : List Step) (is_stale : set.FinSet n
   no_row c s h none port committed ok =
       rw (pushed c s ∙ ap (λ l. rows_of (earlier ++ c.steps) ++ l) none ∙ append-nil (rows_of (earlier ++ c.steps)), port, committed) ok
 
-  module _ (c : Committing) (e : Entry) (es : List Entry) (written : Option (ℕ × ℕ)) (place : c.hardware.rob.entries ≡ e ∷ es) (may : MayRetire e.instruction e.stage) (p : Committed v now earlier is_stale c) where
+  module _ (c : Committing) (e : Entry) (es : List Entry) (written : Option (ℕ × ℕ)) (place : c.hardware.rob.entries ≡ e ∷ es) (may : MayRetire e.instruction e.stage) (p : InCommit v now earlier is_stale c) where
     row_is_store : is_store_row (row_at e written c.hardware.cycle) ≡ is_store e.instruction
     row_is_store =
         let sound : SoundEntry v now now now e = (subst (Each (SoundEntry v now now now)) place p.basics.entries).0 in
         ap is_store (row_decodes e sound.decoded (retiring_is_one v now e sound may))
 
   -- a serialising instruction
-  serial_row : (c : Committing) (e : Entry) (es : List Entry) (written : Option (ℕ × ℕ)) (port : ℕ) → c.hardware.rob.entries ≡ e ∷ es → is_serialising e.instruction ≡ true → c.hardware.port_free ≤ port → Committed v now earlier is_stale c →
+  serial_row : (c : Committing) (e : Entry) (es : List Entry) (written : Option (ℕ × ℕ)) (port : ℕ) → c.hardware.rob.entries ≡ e ∷ es → is_serialising e.instruction ≡ true → c.hardware.port_free ≤ port → InCommit v now earlier is_stale c →
       Queue v now (earlier ++ c.steps) c.hardware → QueueOk v.cache.hit now (rows_of (earlier ++ (c.steps ++ Retired (row_at e written c.hardware.cycle) ∷ []))) port c.hardware.committed
   serial_row c e es written port place serial le p ok =
       let row : Row = row_at e written c.hardware.cycle in
@@ -61,7 +61,7 @@ module _ (v : Values) (now : ℕ) (earlier : List Step) (is_stale : set.FinSet n
   finished_tells : (i : Option Instr) (st : Stage) (issue : Option Issue) (cycle : ℕ) (message : Message) → st ≡ Finished issue cycle message → message.fault ≡ None → TellsIn i st → is_some message.store ≡ is_store i
   finished_tells i st issue cycle message at none tells = (subst (TellsIn i) at tells) none
 
-  result_row : (c : Committing) (e : Entry) (es : List Entry) (issue : Option Issue) (cycle : ℕ) (message : Message) → c.hardware.rob.entries ≡ e ∷ es → e.stage ≡ Finished issue cycle message → message.fault ≡ None → Committed v now earlier is_stale c → Queues c →
+  result_row : (c : Committing) (e : Entry) (es : List Entry) (issue : Option Issue) (cycle : ℕ) (message : Message) → c.hardware.rob.entries ≡ e ∷ es → e.stage ≡ Finished issue cycle message → message.fault ≡ None → InCommit v now earlier is_stale c → Queues c →
       Queue v now (earlier ++ (c.steps ++ Retired (row_at e (written_of e message) c.hardware.cycle) ∷ [])) (retired_with e message c).hardware
   result_row c e es issue cycle message place at none p ok =
       let row : Row = row_at e (written_of e message) c.hardware.cycle in
@@ -71,7 +71,7 @@ module _ (v : Values) (now : ℕ) (earlier : List Step) (is_stale : set.FinSet n
       rw (pushed c (Retired row))
       (queue_retires v.cache.hit now (rows_of (earlier ++ c.steps)) c.hardware.port_free c.hardware.committed ok.1 row c.hardware.rob.retired message.store (tells ∙ sym same) (omega (arith, p.basics.cycle)))
 
-  commit_queue : (c : Committing) (t : Turn Committing) → CommitTurn is_stale c t → Committed v now earlier is_stale c → Queues c → Leads Queues Queues t
+  commit_queue : (c : Committing) (t : Turn Committing) → CommitTurn is_stale c t → InCommit v now earlier is_stale c → Queues c → Leads Queues Queues t
   commit_queue c _ (no_head none) p ok = ok
   commit_queue c _ (stale_head e es at is) p ok = ok
   commit_queue c _ (unfinished e es head plain none) p ok = ok
@@ -90,7 +90,7 @@ module _ (v : Values) (now : ℕ) (earlier : List Step) (is_stale : set.FinSet n
       (subst (Each Telling) (sym (head_retired_entries c.hardware.rob e es head.place)) telling.1, result_row c e es issue cycle message head.place at none p ok)
   commit_queue c _ (retires_last e es issue cycle message head plain at none) p ok = (tt, result_row c e es issue cycle message head.place at none p ok)
 
-  commit_queue_by : (o : Option ℕ) (h : Hardware) → Committed v now earlier is_stale (record { hardware = h; steps = []; stop = None }) → AreTelling h → Queue v now (earlier ++ []) h → Queue v now (earlier ++ (commit_unless is_stale o h).steps) (commit_unless is_stale o h).hardware
+  commit_queue_by : (o : Option ℕ) (h : Hardware) → InCommit v now earlier is_stale (record { hardware = h; steps = []; stop = None }) → AreTelling h → Queue v now (earlier ++ []) h → Queue v now (earlier ++ (commit_unless is_stale o h).steps) (commit_unless is_stale o h).hardware
   commit_queue_by (Some code) h p telling ok =
       no_row (record { hardware = h; steps = []; stop = None }) (Interrupt h.pc (interrupt_cause code) h.cycle) (commit_unless is_stale (Some code) h).hardware refl refl refl ok
   commit_queue_by None h p telling ok =
