@@ -1,7 +1,7 @@
 -- The broadcast phase keeps what a result on the bus and the mending of a wrong prediction keep.
-use Rattle.rv_hardware.proofs.Words.{◌≡◌, ℕ, ◌+◌, ◌&&◌, List, [], ◌∷◌, ◌++◌, length, Some, None, Option, sym, refl, ap, ◌∙◌, subst, Message, finished, predicting, entries_below, with_entry, Entry, broadcast, broadcast_oldest, broadcast_result, broadcast_turn, has_result, is_mispredicted, mends_early, result_at, with_broadcast, with_recovery, Hardware, oldest, Ends, GoesOn, redirected}
+use Rattle.rv_hardware.proofs.Words.{◌≡◌, ℕ, ◌+◌, ◌&&◌, List, [], ◌∷◌, ◌++◌, length, Some, None, Option, sym, refl, ap, ◌∙◌, subst, Message, finished, predicting, entries_below, with_entry, Entry, broadcast, broadcast_oldest, broadcast_result, broadcast_turn, has_result, is_mispredicted, mends_early, result_at, with_broadcast, with_recovery, Hardware, oldest, Ends, GoesOn, redirected, by_test}
 use Rattle.rv_hardware.proofs.GapForms.{with_entries}
-use Rattle.rv_hardware.proofs.GapLists.{by_test, oldest-found, with_entry-found, entries_below-found}
+use Rattle.rv_hardware.proofs.Oldest.{oldest_found, with_entry-at, entries_below-at}
 use Rattle.rv_hardware.proofs.Repeated.{Leaves, kept_by_turns}
 
 -- only what is older than an instruction, and the instruction, are in flight, and fetch begins anew at a pc
@@ -30,7 +30,7 @@ module _ {P : Hardware → List Entry → Entry → Type 0} {Q : Hardware → Ty
       let change : Entry → Entry = finished message h.cycle in
       let seq : ℕ = h.rob.retired + length older in
       let all : with_entry change seq h.rob.retired h.rob.entries ≡ older ++ change e ∷ younger =
-      ap (λ es. with_entry change seq h.rob.retired es) split ∙ with_entry-found change seq h.rob.retired older younger e refl in
+      ap (λ es. with_entry change seq h.rob.retired es) split ∙ with_entry-at change seq h.rob.retired older younger e refl in
       subst (λ es. Q (with_entries es h)) (sym all) (made.broadcasts h older younger e message holds split gives)
 
   mended : (h : Hardware) (older younger : List Entry) (e : Entry) (message : Message) → P h older e →
@@ -42,11 +42,11 @@ module _ {P : Hardware → List Entry → Entry → Type 0} {Q : Hardware → Ty
       let right : Entry → Entry = predicting message.next_pc in
       let es : List Entry = older ++ over e ∷ younger in
       let broadcasted : with_entry over seq h.rob.retired h.rob.entries ≡ es =
-      ap (λ l. with_entry over seq h.rob.retired l) split ∙ with_entry-found over seq h.rob.retired older younger e refl in
+      ap (λ l. with_entry over seq h.rob.retired l) split ∙ with_entry-at over seq h.rob.retired older younger e refl in
       let all : entries_below (seq + 1) h.rob.retired (with_entry right seq h.rob.retired (with_entry over seq h.rob.retired h.rob.entries)) ≡ older ++ right (over e) ∷ [] =
       ap (λ l. entries_below (seq + 1) h.rob.retired (with_entry right seq h.rob.retired l)) broadcasted
-      ∙ ap (λ l. entries_below (seq + 1) h.rob.retired l) (with_entry-found right seq h.rob.retired older younger (over e) refl)
-      ∙ entries_below-found seq h.rob.retired older younger (right (over e)) refl in
+      ∙ ap (λ l. entries_below (seq + 1) h.rob.retired l) (with_entry-at right seq h.rob.retired older younger (over e) refl)
+      ∙ entries_below-at seq h.rob.retired older younger (right (over e)) refl in
       subst (λ l. Q (with_mended message.next_pc l h)) (sym all)
       (made.mends (with_entries es h) older younger (over e) message.next_pc (made.broadcasts h older younger e message holds split gives) refl)
 
@@ -69,7 +69,7 @@ module _ {P : Hardware → Type 0} (kept : IsKeptByBroadcast P) where
   after_oldest : (h : Hardware) (found : Option (List Entry × Entry)) → oldest (has_result h.cycle) h.rob.entries ≡ found → P h → Leaves P (broadcast_oldest h found)
   after_oldest h None is holds = holds
   after_oldest h (Some (older, e)) is holds =
-      let found = oldest-found (has_result h.cycle) h.rob.entries older e is in
+      let found = oldest_found (has_result h.cycle) h.rob.entries older e is in
       after_result h older found.younger e (result_at h.cycle e.stage) holds found.split refl
 
   -- so a turn of the broadcast phase keeps it

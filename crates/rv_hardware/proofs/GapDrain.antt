@@ -1,6 +1,5 @@
 -- The drain phase keeps what the end of a store's access and the start of another's keep.
-use Rattle.rv_hardware.proofs.Words.{◌≡◌, true, nat_le, Some, None, Option, refl, StoreAccess, oldest_to_drain, drain, end_drain, start_drain, with_drained, Hardware}
-use Rattle.rv_hardware.proofs.GapLists.{by_test}
+use Rattle.rv_hardware.proofs.Words.{◌≡◌, true, nat_le, Some, None, Option, refl, StoreAccess, oldest_to_drain, drain, end_drain, start_drain, with_drained, Hardware, by_test}
 
 module _ (P : Hardware → Type 0) where
   -- the end of a store's access and the start of another's keep the property

@@ -1,10 +1,9 @@
 -- A cycle brings the port nearer to idle, and after the drain phase it is busy or no retired store waits for it.
-use Rattle.rv_hardware.proofs.Words.{◌≡◌, ℕ, ◌+◌, ◌-◌, ◌*◌, ◌<◌, ◌≤◌, true, false, cond, ◌⊎◌, List, [], ◌∷◌, length, nat_le, Some, None, Option, refl, ap, ◌∙◌, subst, inl, inr, arith, nat_tests, StoreAccess, access_cost, Each, oldest_to_drain, without_drained, access_to_drain, draining, is_committed_state, is_draining, is_draining_state, state_to_drain, Store, Committed, Draining, Speculative, StoreState, Faulted, Filled, drain, end_drain, start_drain, with_drained, Hardware}
+use Rattle.rv_hardware.proofs.Words.{◌≡◌, ℕ, ◌+◌, ◌-◌, ◌*◌, ◌<◌, ◌≤◌, true, false, cond, ◌⊎◌, List, [], ◌∷◌, length, nat_le, Some, None, Option, refl, ap, ◌∙◌, subst, inl, inr, arith, nat_tests, StoreAccess, access_cost, Each, oldest_to_drain, without_drained, access_to_drain, draining, is_committed_state, is_draining, is_draining_state, state_to_drain, Store, Committed, Draining, Speculative, StoreState, Faulted, Filled, drain, end_drain, start_drain, with_drained, Hardware, by_test}
 use Rattle.rv_stores.specs.declared.store.StoreState.TheVariants.{Waiting}
 use Rattle.rv_hardware.proofs.GapCosts.{access_cost-least, access_cost-most}
 use Rattle.rv_hardware.proofs.GapDrain.{IsKeptByDrain, drain-keeps}
 use Rattle.rv_hardware.proofs.GapForms.{longest_access}
-use Rattle.rv_hardware.proofs.GapLists.{by_test}
 use Rattle.rv_hardware.proofs.GapPatience.{port_time, time_of_stores}
 use Rattle.rv_hardware.proofs.GapQueue.{CanDrain, HasQueue, IsQueue, queue_of_all}
 use Rattle.rv_hardware.proofs.GapBound.{time_of_stores-most}

@@ -1,5 +1,5 @@
 -- Where FENCE.I is the oldest instruction, a cycle brings the port, the retired stores and the dirty lines nearer to their end.
-use Rattle.rv_hardware.proofs.Words.{◌≡◌, ℕ, ◌+◌, ◌*◌, ◌<◌, ◌≤◌, true, false, List, [], ◌∷◌, ◌++◌, nat_le, ◌==◌, Some, Option, sym, refl, ap, ◌∙◌, subst, arith, eqb-false, false≢true, nat_tests, is_of_kind, kind_of_word, Message, Instr, FenceI, Issue, Kind, CacheValues, Values, Each, oldest_to_drain, Store, Entry, Stage, Finished, FetchBuffer, broadcast, result_at, is_drained, with_write_back, write_back_time, execute, drain, end_drain, start_drain, Hardware, issue, Each-right}
+use Rattle.rv_hardware.proofs.Words.{◌≡◌, ℕ, ◌+◌, ◌*◌, ◌<◌, ◌≤◌, true, false, List, [], ◌∷◌, ◌++◌, nat_le, ◌==◌, Some, Option, sym, refl, ap, ◌∙◌, subst, arith, eqb-false, false≢true, nat_tests, is_of_kind, kind_of_word, Message, Instr, FenceI, Issue, Kind, CacheValues, Values, Each, oldest_to_drain, Store, Entry, Stage, Finished, FetchBuffer, broadcast, result_at, is_drained, with_write_back, write_back_time, execute, drain, end_drain, start_drain, Hardware, issue, by_test, Each-right}
 use Rattle.rv_hardware.proofs.GapBroadcast.{IsKeptByBroadcast, broadcast-keeps}
 use Rattle.rv_hardware.proofs.GapDispatch.{IsKeptByDispatch, dispatch-keeps}
 use Rattle.rv_hardware.proofs.GapDrain.{drain-keeps}
@@ -8,7 +8,6 @@ use Rattle.rv_hardware.proofs.GapExecute.{broadcast-same, head-broadcasted, head
 use Rattle.rv_hardware.proofs.GapForms.{longest_access, longest_execution, longest_write_back}
 use Rattle.rv_hardware.proofs.GapHead.{HeadIs}
 use Rattle.rv_hardware.proofs.GapIssue.{IsKeptByIssue, issue-keeps, ready-parts}
-use Rattle.rv_hardware.proofs.GapLists.{by_test}
 use Rattle.rv_hardware.proofs.GapPatience.{dirty_time, patience, port_time, time_of_stores}
 use Rattle.rv_hardware.proofs.GapRunning.{AreEnding}
 use Rattle.rv_hardware.proofs.GapSets.{HasRoom, clean-after, room-kept, write_back_time-most}

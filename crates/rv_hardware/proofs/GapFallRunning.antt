@@ -1,11 +1,10 @@
 -- Where the oldest instruction executes, a cycle brings its end nearer.
-use Rattle.rv_hardware.proofs.Words.{◌≡◌, ℕ, suc, ◌+◌, ◌-◌, ◌<◌, ◌≤◌, true, false, not, List, [], ◌∷◌, ◌++◌, length, is_none, nat_le, Some, None, Option, sym, refl, ap, ◌∙◌, subst, inl, inr, arith, cases_lt, cond-false, cond-true, false≢true, nat_tests, is_serialising, Message, Instr, Issue, Kind, Values, finished, predicting, started, Entry, Stage, Finished, Running, Waiting, FetchBuffer, broadcast, broadcast_oldest, broadcast_result, broadcast_turn, has_result, result_at, execute, drain, Hardware, is_waiting, issue, oldest, oldest_from, repeated}
+use Rattle.rv_hardware.proofs.Words.{◌≡◌, ℕ, suc, ◌+◌, ◌-◌, ◌<◌, ◌≤◌, true, false, not, List, [], ◌∷◌, ◌++◌, length, is_none, nat_le, Some, None, Option, sym, refl, ap, ◌∙◌, subst, inl, inr, arith, cases_lt, cond-false, cond-true, false≢true, nat_tests, is_serialising, Message, Instr, Issue, Kind, Values, finished, predicting, started, Entry, Stage, Finished, Running, Waiting, FetchBuffer, broadcast, broadcast_oldest, broadcast_result, broadcast_turn, has_result, result_at, execute, drain, Hardware, is_waiting, issue, oldest, oldest_from, repeated, by_test}
 use Rattle.rv_hardware.proofs.GapBroadcast.{IsMadeByBroadcast, result-makes}
 use Rattle.rv_hardware.proofs.GapDrained.{drain-same}
 use Rattle.rv_hardware.proofs.GapExecute.{broadcast-same, execute-same, head-broadcasted, head-dispatched, head-turn, issued-same, later, plain-patience}
 use Rattle.rv_hardware.proofs.GapHead.{HeadIs, head-change, head-cut}
 use Rattle.rv_hardware.proofs.GapIssue.{IsKeptByIssue, issue-keeps}
-use Rattle.rv_hardware.proofs.GapLists.{answer, by_test}
 use Rattle.rv_hardware.proofs.GapPatience.{patience, stage_time}
 use Rattle.rv_hardware.proofs.GapRunning.{AreEnding}
 use Rattle.rv_hardware.proofs.Repeated.{Leaves, left_by_the_rest, kept_by_turns}
@@ -100,7 +99,7 @@ module _ (h : Hardware) (front : FetchBuffer) (instruction : Option Instr) (end 
       let none : List Entry = [] in
       let result = result_due end issued.cycle e.stage runs.1 (omega (arith, number)) in
       let makes : Leaves Over (broadcast_result issued (issued.rob.retired + length none) e (Some result.0)) = result-makes made_over issued [] es e result.0 (refl, runs.0, number) split result.1 in
-      by_test (λ found. Leaves Over (broadcast_oldest issued found)) (has_result issued.cycle [] e) (answer [] e) (oldest_from (has_result issued.cycle) (e ∷ []) es)
+      by_test (λ found. Leaves Over (broadcast_oldest issued found)) (has_result issued.cycle [] e) (Some ([], e)) (oldest_from (has_result issued.cycle) (e ∷ []) es)
       (λ has. subst (λ message. Leaves Over (broadcast_result issued (issued.rob.retired + length none) e message)) (sym result.1) makes)
       (λ lacks. absurd (false≢true (sym lacks ∙ ap (λ (message : Option Message). not (is_none message)) result.1)))
 

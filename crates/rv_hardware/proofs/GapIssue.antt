@@ -1,9 +1,9 @@
 -- The issue phase keeps what a load's access to the cache and the start of an execution keep.
-use Rattle.rv_hardware.proofs.Words.{◌≡◌, ℕ, ◌+◌, ◌≤◌, true, ◌&&◌, List, ◌∷◌, ◌++◌, length, Some, None, Option, sym, refl, ap, ◌∙◌, subst, and_parts, is_of_kind, kind_of_word, sources_of_word, at_kind, Message, Kind, is_free, started, with_entry, Entry, Hardware, is_waiting, FromCache, FromStores, Path, Without, cost_of, has_operands, is_ready, issue, issue_kind, issue_oldest, issue_turn, issued, may_load, oldest, path, with_access, with_start, Ends, result_of_word, layout_of, seen_behind}
+use Rattle.rv_hardware.proofs.Words.{◌≡◌, ℕ, ◌+◌, ◌≤◌, true, ◌&&◌, List, ◌∷◌, ◌++◌, length, Some, None, Option, sym, refl, ap, ◌∙◌, subst, and_parts, is_of_kind, kind_of_word, sources_of_word, at_kind, Message, Kind, is_free, started, with_entry, Entry, Hardware, is_waiting, FromCache, FromStores, Path, Without, cost_of, has_operands, is_ready, issue, issue_kind, issue_oldest, issue_turn, issued, may_load, oldest, path, with_access, with_start, Ends, result_of_word, layout_of, seen_behind, by_test}
 use Rattle.rv_isa.specs.declared.operations.Kind.TheVariants as kind
 use Rattle.rv_hardware.proofs.GapCosts.{cost_of-most}
 use Rattle.rv_hardware.proofs.GapForms.{with_entries, with_started, with_unit, longest_execution, IsResultOfWord}
-use Rattle.rv_hardware.proofs.GapLists.{by_test, IsFound, oldest-found, with_entry-found}
+use Rattle.rv_hardware.proofs.Oldest.{IsFound, oldest_found, with_entry-at}
 use Rattle.rv_hardware.proofs.Repeated.{Leaves, kept_by_turns}
 
 -- what it is to be ready
@@ -41,7 +41,7 @@ module _ {P : Hardware → Type 0} {k : Kind} (kept : IsKeptByIssue P k) where
       let start : Entry → Entry = started (record { cycle = h.cycle; cost = cost }) message in
       let all : with_entry start (h.rob.retired + length older) h.rob.retired h.rob.entries ≡ older ++ start e ∷ younger =
       ap (λ es. with_entry start (h.rob.retired + length older) h.rob.retired es) split
-      ∙ with_entry-found start (h.rob.retired + length older) h.rob.retired older younger e refl in
+      ∙ with_entry-at start (h.rob.retired + length older) h.rob.retired older younger e refl in
       subst (λ es. P (with_entries es (with_unit k cost h))) (sym all) (kept.starts h older younger e cost message holds split waits of_kind result costs)
 
   begins_by : (h : Hardware) (older younger : List Entry) (e : Entry) (p : Path) → path h older e ≡ p → P h →
@@ -65,7 +65,7 @@ module _ {P : Hardware → Type 0} {k : Kind} (kept : IsKeptByIssue P k) where
 
   after_oldest : (h : Hardware) (found : Option (List Entry × Entry)) → oldest (is_ready h k) h.rob.entries ≡ found → P h → Leaves P (issue_oldest k h found)
   after_oldest h None is holds = holds
-  after_oldest h (Some (older, e)) is holds = after_found h older e holds (oldest-found (is_ready h k) h.rob.entries older e is)
+  after_oldest h (Some (older, e)) is holds = after_found h older e holds (oldest_found (is_ready h k) h.rob.entries older e is)
 
   -- so a turn of the issue phase keeps it
   pub issue_turn-keeps : (h : Hardware) → P h → Leaves P (issue_turn k h)

@@ -1,8 +1,7 @@
 -- The stores that wait for the cache's port are retired ones, and only the oldest may have begun its access.
-use Rattle.rv_hardware.proofs.Words.{◌≡◌, ℕ, true, false, List, [], ◌∷◌, ◌++◌, Some, None, Option, sym, refl, subst, append-nil, StoreAccess, Values, Each, with_oldest_draining, without_drained, draining, is_committed, is_committed_state, is_draining, Store, Committed, StoreState, Faulted, Filled, Hardware, reset_hardware, committed_store, Each-push}
+use Rattle.rv_hardware.proofs.Words.{◌≡◌, ℕ, true, false, List, [], ◌∷◌, ◌++◌, Some, None, Option, sym, refl, subst, append-nil, StoreAccess, Values, Each, with_oldest_draining, without_drained, draining, is_committed, is_committed_state, is_draining, Store, Committed, StoreState, Faulted, Filled, Hardware, reset_hardware, committed_store, by_test, Each-push}
 use Rattle.rv_stores.specs.declared.store.StoreState.TheVariants.{Waiting}
 use Rattle.rv_hardware.proofs.GapCycle.{IsKept}
-use Rattle.rv_hardware.proofs.GapLists.{by_test}
 
 -- retired, and its access has not begun
 abbrev pub CanDrain : Store → Type 0

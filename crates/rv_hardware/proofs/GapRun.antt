@@ -1,11 +1,10 @@
 -- The gaps of a run are below the bound.
-use Rattle.rv_hardware.proofs.Words.{◌≡◌, ℕ, ◌+◌, ◌<◌, ◌≤◌, max, Bool, true, false, cond, List, [], ◌∷◌, ◌++◌, length, None, sym, refl, ap, ◌∙◌, subst, arith, cond-true, gap_bound_of, Arrival, Lines, Values, Stop, IsCycle, any_prediction, AreSilent, NoSilence, OnlyLastStops, Hardware, Report, Cycles, EndsWith, IsStop, NoneStops, Reachable, cycled, ended, is_silent, longest_gap_from, longest_gap_of, Step}
+use Rattle.rv_hardware.proofs.Words.{◌≡◌, ℕ, ◌+◌, ◌<◌, ◌≤◌, max, Bool, true, false, cond, List, [], ◌∷◌, ◌++◌, length, None, sym, refl, ap, ◌∙◌, subst, arith, cond-true, gap_bound_of, Arrival, Lines, Values, Stop, IsCycle, any_prediction, AreSilent, NoSilence, OnlyLastStops, Hardware, Report, Cycles, EndsWith, IsStop, NoneStops, Reachable, cycled, ended, is_silent, longest_gap_from, longest_gap_of, Step, by_test}
 use Rattle.rv_arch.specs.declared.outcome.Stop.TheVariants as stop
 use Rattle.rv_hardware.proofs.GapBound.{patience-below}
 use Rattle.rv_hardware.proofs.GapCycle.{phases-keep}
 use Rattle.rv_hardware.proofs.GapExecute.{same-kept}
 use Rattle.rv_hardware.proofs.GapFall.{fall}
-use Rattle.rv_hardware.proofs.GapLists.{by_test}
 use Rattle.rv_hardware.proofs.GapPatience.{patience}
 use Rattle.rv_hardware.proofs.GapSound.{IsBounded, sound, sound-cycle}
 

@@ -1,8 +1,7 @@
 -- There are no more stores, retired or in flight, than the queue holds.
-use Rattle.rv_hardware.proofs.Words.{◌≡◌, ℕ, ◌+◌, ◌<◌, ◌≤◌, Bool, true, false, cond, ◌&&◌, List, [], ◌∷◌, ◌++◌, map, length, nat_le, Some, None, Option, refl, ap, ◌∙◌, subst, arith, length-append, nat_tests, is_store, Message, StoreAccess, Instr, Values, Each, with_oldest_draining, without_drained, is_draining, Store, finished, predicting, started, Entry, Stage, Finished, Running, Waiting, Fetched, entry_of_fetched, reason_of, Hardware, broadcast_of, stores_of, reset_hardware, committed_store, stores_behind, map-change}
+use Rattle.rv_hardware.proofs.Words.{◌≡◌, ℕ, ◌+◌, ◌<◌, ◌≤◌, Bool, true, false, cond, ◌&&◌, List, [], ◌∷◌, ◌++◌, map, length, nat_le, Some, None, Option, refl, ap, ◌∙◌, subst, arith, length-append, nat_tests, is_store, Message, StoreAccess, Instr, Values, Each, with_oldest_draining, without_drained, is_draining, Store, finished, predicting, started, Entry, Stage, Finished, Running, Waiting, Fetched, entry_of_fetched, reason_of, Hardware, broadcast_of, stores_of, reset_hardware, committed_store, stores_behind, by_test, map-change}
 use Rattle.rv_hardware.proofs.GapCycle.{IsKept, IsKeptByPhases}
 use Rattle.rv_hardware.proofs.GapEntries.{AreShaped, IsShaped, Shaped, TellsStore, shape-kept, shape-at_reset}
-use Rattle.rv_hardware.proofs.GapLists.{by_test}
 use Rattle.rv_hardware.proofs.GapReasons.{no_reason}
 
 -- the instruction of an entry

@@ -1,6 +1,5 @@
 -- Where no unit of a kind is free, a cycle brings the time nearer at which one is.
-use Rattle.rv_hardware.proofs.Words.{◌≡◌, ℕ, ◌+◌, ◌-◌, ◌<◌, ◌≤◌, true, false, List, [], ◌∷◌, length, nat_lt, nat_le, arith, and_parts, nat_tests, Issue, Pool, holding, holds_unit, is_free}
-use Rattle.rv_hardware.proofs.GapLists.{by_test}
+use Rattle.rv_hardware.proofs.Words.{◌≡◌, ℕ, ◌+◌, ◌-◌, ◌<◌, ◌≤◌, true, false, List, [], ◌∷◌, length, nat_lt, nat_le, arith, and_parts, nat_tests, Issue, Pool, holding, holds_unit, is_free, by_test}
 use Rattle.rv_hardware.proofs.GapPatience.{unit_time}
 
 pub unit_time-next : (cycle : ℕ) (starts : List Issue) → unit_time (cycle + 1) starts ≤ unit_time cycle starts - 1

@@ -1,10 +1,10 @@
 -- The oldest instruction that waits and can go leaves for a unit in the issue phase, or no unit of its kind is free.
-use Rattle.rv_hardware.proofs.Words.{◌≡◌, ℕ, suc, ◌+◌, ◌-◌, ◌≤◌, true, false, ◌⊎◌, List, [], ◌∷◌, Some, Option, sym, refl, ap, ◌∙◌, subst, inl, inr, arith, cases_Bool, false≢true, is_same-own, is_same-true, with_kind-other, is_load, is_of_kind, kind_of_word, at_kind, is_same, Message, Instr, Kind, Pool, is_free, started, with_entry, Entry, Hardware, FromCache, FromStores, Path, Without, is_ready, issue, issue_kind, issue_oldest, issue_turn, issued, oldest, oldest_from, path, with_access, with_start, Ends, Turn, followed_by, repeated}
+use Rattle.rv_hardware.proofs.Words.{◌≡◌, ℕ, suc, ◌+◌, ◌-◌, ◌≤◌, true, false, ◌⊎◌, List, [], ◌∷◌, Some, Option, sym, refl, ap, ◌∙◌, subst, inl, inr, arith, cases_Bool, false≢true, is_same-own, is_same-true, with_kind-other, is_load, is_of_kind, kind_of_word, at_kind, is_same, Message, Instr, Kind, Pool, is_free, started, with_entry, Entry, Hardware, FromCache, FromStores, Path, Without, is_ready, issue, issue_kind, issue_oldest, issue_turn, issued, oldest, oldest_from, path, with_access, with_start, Ends, Turn, followed_by, repeated, by_test}
 use Rattle.rv_isa.specs.declared.operations.Kind.TheVariants as kind
 use Rattle.rv_hardware.proofs.GapHead.{HasBegun, HeadIs, Waits, head-change}
 use Rattle.rv_hardware.proofs.GapIssue.{IsKeptByIssue, issue_kind-keeps, issue_turn-keeps}
-use Rattle.rv_hardware.proofs.GapLists.{answer, by_test, with_entry-found}
 use Rattle.rv_hardware.proofs.GapReady.{CanGo, cache_access, loads_of_mem, ready_head}
+use Rattle.rv_hardware.proofs.Oldest.{with_entry-at}
 use Rattle.rv_hardware.proofs.Repeated.{Leaves, left_by_the_rest, kept_by_turns}
 
 -- ---- once it has begun, it has
@@ -66,7 +66,7 @@ module _ (instruction : Option Instr) (k : Kind) (of_kind : kind_of_word instruc
   starts_head h e es cost message split is =
       let start : Entry → Entry = started (record { cycle = h.cycle; cost = cost }) message in
       let all : with_entry start (h.rob.retired + 0) h.rob.retired h.rob.entries ≡ start e ∷ es =
-      ap (λ l. with_entry start (h.rob.retired + 0) h.rob.retired l) split ∙ with_entry-found start (h.rob.retired + 0) h.rob.retired [] es e refl in
+      ap (λ l. with_entry start (h.rob.retired + 0) h.rob.retired l) split ∙ with_entry-at start (h.rob.retired + 0) h.rob.retired [] es e refl in
       subst (HeadIs instruction HasBegun) (sym all) (is, refl)
 
   starts_by : (h : Hardware) (e : Entry) (es : List Entry) (p : Path) (cost : ℕ) (message : Message) → h.rob.entries ≡ e ∷ es → e.instruction ≡ instruction →
@@ -81,7 +81,7 @@ module _ (instruction : Option Instr) (k : Kind) (of_kind : kind_of_word instruc
       let head : HeadIs instruction Waits (e ∷ es) = subst (HeadIs instruction Waits) split can.0 in
       let ready = ready_head h k e head.1 (ap kind_of_word head.0 ∙ of_kind) (subst (λ i. CanGo i h) (sym head.0) can.3) in
       let begun : HeadIs instruction HasBegun (issued k h [] e).rob.entries = starts_by h e es (path h [] e) _ _ split head.0 in
-      by_test (λ found. Leaves (λ (after : Hardware). HeadIs instruction HasBegun after.rob.entries) (issue_oldest k h found)) (is_ready h k [] e) (answer [] e) (oldest_from (is_ready h k) (e ∷ []) es)
+      by_test (λ found. Leaves (λ (after : Hardware). HeadIs instruction HasBegun after.rob.entries) (issue_oldest k h found)) (is_ready h k [] e) (Some ([], e)) (oldest_from (is_ready h k) (e ∷ []) es)
       (λ yes_ready. begun) (λ not_ready. absurd (cc (ready, not_ready)))
 
   begun_after : (units : ℕ) (t : Turn Hardware) → Leaves (λ (after : Hardware). HeadIs instruction HasBegun after.rob.entries) t → HeadIs instruction HasBegun (followed_by (repeated (issue_turn k) units) t).rob.entries

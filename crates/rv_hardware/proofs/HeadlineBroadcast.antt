@@ -1,10 +1,11 @@
 -- The broadcast phase changes nothing that programs see, and fetch goes on where the program does.
-use Rattle.rv_hardware.proofs.Words.{◌≡◌, ℕ, ◌+◌, ◌%◌, Bool, true, false, not, ◌&&◌, List, [], ◌∷◌, ◌++◌, length, is_none, if◌then◌else◌, nat_le, ◌==◌, Some, None, Option, sym, refl, ap, ◌∙◌, subst, arith, and_parts, false≢true, no_lines, is_branch_or_jump, is_serialising, target_of, Message, StoreAccess, Instr, Csr, FenceI, Mret, Lines, Values, Layout, Effect, Faults, Retires, effect, State, finished, issue_of, predicting, ReorderBuffer, changed, entries_below, with_entry, Entry, Stage, Finished, Running, Waiting, broadcast, broadcast_oldest, broadcast_result, broadcast_turn, has_result, is_mispredicted, mends_early, result_at as result_by, with_broadcast, with_recovery, Hardware, oldest, Ends, GoesOn, access_of, effect_message, result_of_word, layout_of, seen, redirected}
+use Rattle.rv_hardware.proofs.Words.{◌≡◌, ℕ, ◌+◌, ◌%◌, Bool, true, false, not, ◌&&◌, List, [], ◌∷◌, ◌++◌, length, is_none, if◌then◌else◌, nat_le, ◌==◌, Some, None, Option, sym, refl, ap, ◌∙◌, subst, and_parts, false≢true, no_lines, is_branch_or_jump, is_serialising, target_of, Message, StoreAccess, Instr, Csr, FenceI, Mret, Lines, Values, Layout, Effect, Faults, Retires, effect, State, finished, issue_of, predicting, ReorderBuffer, changed, entries_below, with_entry, Entry, Stage, Finished, Running, Waiting, broadcast, broadcast_oldest, broadcast_result, broadcast_turn, has_result, is_mispredicted, mends_early, result_at as result_by, with_broadcast, with_recovery, Hardware, oldest, Ends, GoesOn, access_of, effect_message, result_of_word, layout_of, seen, redirected}
 use Rattle.rv_hardware.proofs.HeadlineFold.{result_at, behind, IsResult, AreInFlight}
 use Rattle.rv_hardware.proofs.HeadlineInvariant.{FollowsProgram, IsSoundAt, with_other_program}
 use Rattle.rv_hardware.proofs.HeadlineRetires.{IsTold, effect_told}
-use Rattle.rv_hardware.proofs.HeadlineSplit.{IsOldest, oldest_found, behind-append, with_entry-here, entries_below-here, AreInFlight-older, AreInFlight-append}
+use Rattle.rv_hardware.proofs.HeadlineSplit.{behind-append, AreInFlight-older, AreInFlight-append}
 use Rattle.rv_hardware.proofs.HeadlineStage.{behind_aligned, here_in_flight, FollowsProgram-staged}
+use Rattle.rv_hardware.proofs.Oldest.{IsFound, oldest_found, with_entry-at, entries_below-at}
 use Rattle.rv_hardware.proofs.Repeated.{Leaves, kept_by_turns}
 
 -- ---- the pc after an instruction that does not fault is a multiple of 4
@@ -51,7 +52,7 @@ module _ (values : Values) (cycle : ℕ) (state : State) (h : Hardware) (is : Is
 
   broadcast_entries : (with_broadcast seq message h).rob.entries ≡ older ++ known ∷ younger
   broadcast_entries =
-      ap (λ (es : List Entry). with_entry (finished message h.cycle) seq h.rob.retired es) entries ∙ with_entry-here (finished message h.cycle) seq h.rob.retired older e younger at
+      ap (λ (es : List Entry). with_entry (finished message h.cycle) seq h.rob.retired es) entries ∙ with_entry-at (finished message h.cycle) seq h.rob.retired older younger e at
 
   module _ (result : message ≡ result_at layout (behind layout older s) e) where
     program_known : FollowsProgram layout s (with_broadcast seq message h).rob.entries h.front
@@ -67,8 +68,8 @@ module _ (values : Values) (cycle : ℕ) (state : State) (h : Hardware) (is : Is
     recovered_entries : (with_recovery seq message (with_broadcast seq message h)).rob.entries ≡ older ++ mended ∷ []
     recovered_entries =
         ap (λ (es : List Entry). entries_below (seq + 1) h.rob.retired (with_entry (predicting message.next_pc) seq h.rob.retired es)) broadcast_entries
-        ∙ ap (entries_below (seq + 1) h.rob.retired) (with_entry-here (predicting message.next_pc) seq h.rob.retired older known younger at)
-        ∙ entries_below-here (seq + 1) h.rob.retired older mended younger (omega arith)
+        ∙ ap (entries_below (seq + 1) h.rob.retired) (with_entry-at (predicting message.next_pc) seq h.rob.retired older younger known at)
+        ∙ entries_below-at seq h.rob.retired older younger mended at
 
     recovered_one : message.next_pc % 4 ≡ 0 → IsSoundAt values cycle state (with_recovery seq message (with_broadcast seq message h))
     recovered_one aligned =
@@ -100,11 +101,11 @@ module _ (values : Values) (cycle : ℕ) (state : State) (h : Hardware) (is : Is
     entry_by false wrong is_wrong = broadcast_one
 
 module _ (values : Values) (cycle : ℕ) (state : State) where
-  result_kept : (h : Hardware) (older : List Entry) (e : Entry) (o : Option Message) → result_by h.cycle e.stage ≡ o → IsSoundAt values cycle state h → IsOldest (has_result h.cycle) [] h.rob.entries older e →
+  result_kept : (h : Hardware) (older : List Entry) (e : Entry) (o : Option Message) → result_by h.cycle e.stage ≡ o → IsSoundAt values cycle state h → IsFound (has_result h.cycle) h.rob.entries older e →
       Leaves (IsSoundAt values cycle state) (broadcast_result h (h.rob.retired + length older) e o)
   result_kept h older e None brought is found = is
   result_kept h older e (Some message) brought is found =
-      let entries : h.rob.entries ≡ older ++ e ∷ found.younger = found.entries_are ∙ ap (λ (es : List Entry). es ++ e ∷ found.younger) (sym found.older_is) in
+      let entries : h.rob.entries ≡ older ++ e ∷ found.younger = found.split in
       let here = here_in_flight (layout_of h.values) (seen h) older e found.younger (subst (AreInFlight (layout_of h.values) (seen h) (seen h)) entries is.sound.program.in_flight) in
       entry_by values cycle state h is older e found.younger entries (h.rob.retired + length older) refl message (running h.cycle e.stage message _ brought here.result)
       (mends_early h.values.recovery) (is_mispredicted e message) refl

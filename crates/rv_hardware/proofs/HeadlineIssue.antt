@@ -1,5 +1,5 @@
 -- The issue phase changes nothing that programs see, and what it computes is the one-at-a-time machine's.
-use Rattle.rv_hardware.proofs.Words.{◌≡◌, ℕ, ◌+◌, ◌<◌, ◌≤◌, Bool, true, false, not, ◌&&◌, ◌||◌, List, [], ◌∷◌, ◌++◌, length, if◌then◌else◌, Some, None, Option, sym, refl, ap, ◌∙◌, subst, inl, inr, arith, leb-true, and_parts, false≢true, list_all, is_load, is_of_kind, is_serialising, kind_of_word, sources_of_word, width_of, at_kind, with_kind, Message, Instr, Csr, FenceI, Load, Mret, Kind, Values, is_aligned, is_in_ram, State, consistent_after, is_known as is_known_store, is_free, started, changed, Entry, Running, Hardware, is_waiting, FromCache, FromStores, Path, Without, cost_of, has_operands, has_port, is_ready, issue, issue_kind, issue_oldest, issue_turn, issued, may_load, oldest, path, path_of, with_access, with_start, Ends, layout_of, seen, seen_behind, stores_behind}
+use Rattle.rv_hardware.proofs.Words.{◌≡◌, ℕ, ◌+◌, ◌<◌, ◌≤◌, Bool, true, false, not, ◌&&◌, ◌||◌, List, ◌∷◌, ◌++◌, length, if◌then◌else◌, Some, None, Option, sym, refl, ap, ◌∙◌, subst, inl, inr, arith, leb-true, and_parts, false≢true, list_all, is_load, is_of_kind, is_serialising, kind_of_word, sources_of_word, width_of, at_kind, with_kind, Message, Instr, Csr, FenceI, Load, Mret, Kind, Values, is_aligned, is_in_ram, State, consistent_after, is_known as is_known_store, is_free, started, changed, Entry, Running, Hardware, is_waiting, FromCache, FromStores, Path, Without, cost_of, has_operands, has_port, is_ready, issue, issue_kind, issue_oldest, issue_turn, issued, may_load, oldest, path, path_of, with_access, with_start, Ends, layout_of, seen, seen_behind, stores_behind}
 use Rattle.rv_isa.specs.declared.Issue.{Issue}
 use Rattle.rv_isa.specs.declared.operations.Kind.TheVariants as kind
 use Rattle.rv_units.specs.Pool.{started as started_unit}
@@ -8,10 +8,11 @@ use Rattle.rv_hardware.proofs.HeadlineFold.{result_at, behind, AreInFlight}
 use Rattle.rv_hardware.proofs.HeadlineInvariant.{IsSoundAt, with_other_program}
 use Rattle.rv_hardware.proofs.HeadlineKnown.{issued_result}
 use Rattle.rv_hardware.proofs.HeadlineRetires.{some_bytes}
-use Rattle.rv_hardware.proofs.HeadlineSplit.{IsOldest, oldest_found, with_entry-here, AreInFlight-older}
+use Rattle.rv_hardware.proofs.HeadlineSplit.{AreInFlight-older}
 use Rattle.rv_hardware.proofs.HeadlineStage.{here_in_flight, FollowsProgram-staged}
 use Rattle.rv_hardware.proofs.HeadlineVictim.{access_mixed}
 use Rattle.rv_hardware.proofs.HeadlineWords.{memory_behind-fresh}
+use Rattle.rv_hardware.proofs.Oldest.{IsFound, oldest_found, with_entry-at}
 use Rattle.rv_hardware.proofs.Repeated.{Leaves, kept_by_turns}
 
 -- an instruction with a unit is not serialising
@@ -77,7 +78,7 @@ module _ (values : Values) (cycle : ℕ) (state : State) where
       let issue : Issue = record { cycle = h.cycle; cost = cost } in
       with_other_program values cycle state h is (with_kind k (started_unit cost h.cycle (at_kind k h.units)) h.units) (changed (started issue message) seq h.rob) h.front
       (FollowsProgram-staged (layout_of h.values) (seen h) older e younger (Running issue message) h.front h.rob.entries _ entries
-      (ap (λ (es : List Entry). (changed (started issue message) seq (record h.rob { entries = es })).entries) entries ∙ with_entry-here (started issue message) seq h.rob.retired older e younger at)
+      (ap (λ (es : List Entry). (changed (started issue message) seq (record h.rob { entries = es })).entries) entries ∙ with_entry-at (started issue message) seq h.rob.retired older younger e at)
       result is.sound.program)
 
   started_kept : (p : Path) (k : Kind) (cost seq : ℕ) (message : Message) (older : List Entry) (e : Entry) (younger : List Entry) (h : Hardware) → IsInRam h p → IsSoundAt values cycle state h →
@@ -88,9 +89,9 @@ module _ (values : Values) (cycle : ℕ) (state : State) where
   started_kept (FromCache address) k cost seq message older e younger h inside is entries at result =
       start_kept k cost seq message older e younger (with_access (FromCache address) h) (access_kept (FromCache address) h inside is) entries at result
 
-  issued_kept : (k : Kind) (h : Hardware) (older : List Entry) (e : Entry) → IsSoundAt values cycle state h → IsOldest (is_ready h k) [] h.rob.entries older e → IsSoundAt values cycle state (issued k h older e)
+  issued_kept : (k : Kind) (h : Hardware) (older : List Entry) (e : Entry) → IsSoundAt values cycle state h → IsFound (is_ready h k) h.rob.entries older e → IsSoundAt values cycle state (issued k h older e)
   issued_kept k h older e is found =
-      let entries : h.rob.entries ≡ older ++ e ∷ found.younger = found.entries_are ∙ ap (λ (es : List Entry). es ++ e ∷ found.younger) (sym found.older_is) in
+      let entries : h.rob.entries ≡ older ++ e ∷ found.younger = found.split in
       let all : AreInFlight (layout_of h.values) (seen h) (seen h) (older ++ e ∷ found.younger) = subst (AreInFlight (layout_of h.values) (seen h) (seen h)) entries is.sound.program.in_flight in
       let here = here_in_flight (layout_of h.values) (seen h) older e found.younger all in
       let passes = and_parts _ (may_load h older e) found.passes in

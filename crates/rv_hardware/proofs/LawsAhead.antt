@@ -1,5 +1,5 @@
 -- In every run a finished head does not wait, and the front keeps ahead.
-use Rattle.rv_hardware.proofs.Words.{◌≡◌, ℕ, ◌+◌, ◌-◌, ◌<◌, ◌≤◌, Bool, true, false, ◌&&◌, ◌⊎◌, List, [], ◌∷◌, ◌++◌, length, is_some, ◌==◌, Some, None, filter, Option, nat_cmp, sym, refl, ap, ◌∙◌, subst, inl, inr, true≢false, append_assoc, append-nil, arith, length-append, leb-true, list_any, IsLegal, is_serialising, is_store, kind_of_word, at_kind, Lines, Kind, Values, due, Each, with_oldest_draining, without_drained, Store as QueuedStore, Entry, FetchBuffer, Fetched, broadcast, Committing, commit_turn, commit_unless, IsCycle, any_prediction, execute, with_lines, Dispatching, dispatch, has_full_stations, is_stationed, drain, Hardware, issue, Turn, Report, stores_behind, last_from, stamp_of, Step, count, EveryBehind-at}
+use Rattle.rv_hardware.proofs.Words.{◌≡◌, ℕ, ◌+◌, ◌-◌, ◌<◌, ◌≤◌, Bool, true, false, ◌&&◌, ◌⊎◌, List, [], ◌∷◌, ◌++◌, length, is_some, ◌==◌, Some, None, filter, Option, nat_cmp, sym, refl, ap, ◌∙◌, subst, inl, inr, true≢false, append_assoc, append-nil, arith, length-append, leb-true, list_any, IsLegal, is_serialising, is_store, kind_of_word, at_kind, Lines, Kind, Values, due, Each, with_oldest_draining, without_drained, Store as QueuedStore, Entry, FetchBuffer, Fetched, broadcast, Committing, commit_turn, commit_unless, IsCycle, any_prediction, execute, with_lines, Dispatching, dispatch, has_full_stations, is_stationed, drain, Hardware, issue, Turn, Report, stores_behind, last_from, stamp_of, Step, and_first, and_second, count, EveryBehind-at}
 use Rattle.std.specs.FinSet as set
 use Rattle.rv_hardware.proofs.GapBroadcast.{IsKeptByBroadcast, broadcast-keeps}
 use Rattle.rv_hardware.proofs.GapCycle.{cycle-keeps, phases-keep}
@@ -7,7 +7,6 @@ use Rattle.rv_hardware.proofs.GapDispatch.{IsKeptByDispatch, dispatch-keeps}
 use Rattle.rv_hardware.proofs.GapDrain.{IsKeptByDrain, drain-keeps}
 use Rattle.rv_hardware.proofs.GapHalted.{HaltsBehind, IsHalted, words_of, halted-kept, halted-at_reset}
 use Rattle.rv_hardware.proofs.GapIssue.{IsKeptByIssue, issue-keeps}
-use Rattle.rv_hardware.proofs.LawsBasics.{and_first, and_second}
 use Rattle.rv_hardware.proofs.LawsCommit.{CommitTurn, no_head, stale_head, unfinished, fence_waits, fence_writes, fence_retires, executes, serial_faults, traps, retires, retires_last, commit_turn_is}
 use Rattle.rv_hardware.proofs.LawsCycle.{Anything, anything_is_kept, Passed, History, began, went_on, begin, committing, dispatching, sent_all, cycle_passes, history_is_legal, history_is_sound}
 use Rattle.rv_hardware.proofs.LawsDispatch.{has_full_queue, WaitsFor, for_serial, for_buffer, for_station, for_queue}

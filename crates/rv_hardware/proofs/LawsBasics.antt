@@ -1,5 +1,5 @@
 -- An instruction that starts, is broadcast or is dispatched stays sound, and its mark goes on.
-use Rattle.rv_hardware.proofs.Words.{◌≡◌, ℕ, ◌+◌, ◌≤◌, Bool, true, false, ◌&&◌, ◌||◌, List, [], ◌∷◌, is_some, Some, None, Option, option_and_then, sym, refl, ap, ◌∙◌, subst, inl, inr, arith, list_any, is_of_kind, is_serialising, kind_of_word, sources_of_word, Message, Instr, Issue, Lines, Kind, Values, instruction_of, Layout, State, Each, finished, issue_of, predicting, started, Entry, Stage, Finished, Running, Waiting, Fetched, entry_of_fetched, stage_by, Hardware, is_waiting, has_operands, is_ready, may_load, result_of_word, layout_of, seen_behind, rows_of, Step, EveryPair}
+use Rattle.rv_hardware.proofs.Words.{◌≡◌, ℕ, ◌+◌, ◌≤◌, Bool, true, false, ◌&&◌, ◌||◌, List, [], ◌∷◌, is_some, Some, None, Option, option_and_then, sym, refl, ap, ◌∙◌, subst, inl, inr, arith, list_any, is_of_kind, is_serialising, kind_of_word, sources_of_word, Message, Instr, Issue, Lines, Kind, Values, instruction_of, Layout, State, Each, finished, issue_of, predicting, started, Entry, Stage, Finished, Running, Waiting, Fetched, entry_of_fetched, stage_by, Hardware, is_waiting, has_operands, is_ready, may_load, result_of_word, layout_of, seen_behind, rows_of, Step, and_first, and_second, EveryPair}
 use Rattle.rv_hardware.proofs.LawsMarks.{mark_of_entry, mark_of_fetched, start_of_issue, start_of_stage, broadcast_of_stage}
 use Rattle.rv_hardware.proofs.LawsRow.{SoundRow}
 use Rattle.rv_hardware.proofs.LawsShape.{HasShape}
@@ -17,20 +17,6 @@ pub record Basics (v : Values) (now dispatch_bound issue_bound stage_bound fetch
   pub entries : Each (SoundEntry v dispatch_bound issue_bound stage_bound) h.rob.entries
   pub fetched : Each (SoundFetched fetch_bound) h.front.entries
   pub serial : SerialIsLast h.rob.entries
-
--- the first of two tests that both pass
-pub and_first : (a b : Bool) → (a && b) ≡ true → a ≡ true
-and_first true b h = refl
-and_first false b h = absurd (cc)
-
--- the second of two tests that both pass
-pub and_second : (a b : Bool) → (a && b) ≡ true → b ≡ true
-and_second true b h = h
-and_second false b h = absurd (cc)
-
-pub and_fails : (a b : Bool) → (a && b) ≡ false → a ≡ true → b ≡ false
-and_fails true b h is = h
-and_fails false b h is = absurd (cc)
 
 pub is_waiting_is : (st : Stage) → is_waiting st ≡ true → st ≡ Waiting
 is_waiting_is Waiting h = refl

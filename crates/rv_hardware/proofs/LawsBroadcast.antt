@@ -1,6 +1,6 @@
 -- A turn of the broadcast phase finds no result, or broadcasts the oldest, after which early recovery may squash what is younger.
 use Rattle.rv_hardware.proofs.Words.{◌≡◌, ℕ, ◌+◌, ◌≤◌, Bool, true, false, cond, not, ◌&&◌, List, [], ◌∷◌, ◌++◌, length, is_none, nat_le, Some, None, Option, sym, refl, ap, ◌∙◌, subst, leb-true, Message, Issue, finished, predicting, entries_below, with_entry, Entry, Stage, Finished, Running, Waiting, broadcast_oldest, broadcast_result, broadcast_turn, has_result, is_mispredicted, mends_early, result_at, with_broadcast, with_recovery, Hardware, oldest, Ends, GoesOn, Turn, EveryBehind}
-use Rattle.rv_hardware.proofs.LawsOldest.{Finds, oldest_finds, with_entry-behind, entries_below-behind}
+use Rattle.rv_hardware.proofs.Oldest.{Finds, oldest_finds, with_entry-at, entries_below-at}
 
 -- the result of an execution that is over
 pub record HasResult (cycle : ℕ) (st : Stage) : Type 0 where
@@ -61,7 +61,7 @@ pub sent_entries : (h : Hardware) (older younger : List Entry) (e : Entry) (mess
     (with_broadcast (h.rob.retired + length older) message h).rob.entries ≡ older ++ finished message h.cycle e ∷ younger
 sent_entries h older younger e message at =
     ap (λ es. with_entry (finished message h.cycle) (h.rob.retired + length older) h.rob.retired es) at ∙
-    with_entry-behind (finished message h.cycle) h.rob.retired older younger e
+    with_entry-at (finished message h.cycle) (h.rob.retired + length older) h.rob.retired older younger e refl
 
 -- after a broadcast that early recovery mends, the entries end with the instruction that was broadcast
 pub mended_entries : (h : Hardware) (older younger : List Entry) (e : Entry) (message : Message) → h.rob.entries ≡ older ++ e ∷ younger →
@@ -69,5 +69,5 @@ pub mended_entries : (h : Hardware) (older younger : List Entry) (e : Entry) (me
     older ++ predicting message.next_pc (finished message h.cycle e) ∷ []
 mended_entries h older younger e message at =
     ap (λ es. entries_below (h.rob.retired + length older + 1) h.rob.retired (with_entry (predicting message.next_pc) (h.rob.retired + length older) h.rob.retired es)) (sent_entries h older younger e message at) ∙
-    ap (entries_below (h.rob.retired + length older + 1) h.rob.retired) (with_entry-behind (predicting message.next_pc) h.rob.retired older younger (finished message h.cycle e)) ∙
-    entries_below-behind h.rob.retired older younger (predicting message.next_pc (finished message h.cycle e))
+    ap (entries_below (h.rob.retired + length older + 1) h.rob.retired) (with_entry-at (predicting message.next_pc) (h.rob.retired + length older) h.rob.retired older younger (finished message h.cycle e) refl) ∙
+    entries_below-at (h.rob.retired + length older) h.rob.retired older younger (predicting message.next_pc (finished message h.cycle e)) refl

@@ -1,9 +1,8 @@
 -- When an instruction starts, is broadcast or is dispatched, the marks of older ones show its operands, its turn and its room.
-use Rattle.rv_hardware.proofs.Words.{◌≡◌, ℕ, ◌+◌, ◌<◌, ◌≤◌, Bool, true, false, cond, not, ◌&&◌, List, [], ◌∷◌, ◌++◌, map, length, is_some, is_none, IfSome, nat_le, Some, None, filter, Option, sym, refl, ◌∙◌, true≢false, arith, leb-false, length-filter, list_all, is_of_kind, is_store, kind_of_word, Message, Instr, Issue, Kind, Values, instruction_of, Each, is_known as is_known_store, Store as QueuedStore, Entry, Stage, Finished, Running, Waiting, has_result, result_at, is_stationed, broadcast_of, is_known_from, is_waiting, store_of_broadcast, stores_of, writes, has_operands, last_from, last_that, Execution, Row, Each-append, Each-weaker, Each-map, EveryBehind, count, count-count_by, count-append, count-none, count-map, count-le, count-length}
+use Rattle.rv_hardware.proofs.Words.{◌≡◌, ℕ, ◌+◌, ◌<◌, ◌≤◌, Bool, true, false, cond, not, ◌&&◌, List, [], ◌∷◌, ◌++◌, map, length, is_some, is_none, IfSome, nat_le, Some, None, filter, Option, sym, refl, ◌∙◌, true≢false, arith, leb-false, length-filter, list_all, is_of_kind, is_store, kind_of_word, Message, Instr, Issue, Kind, Values, instruction_of, Each, is_known as is_known_store, Store as QueuedStore, Entry, Stage, Finished, Running, Waiting, has_result, result_at, is_stationed, broadcast_of, is_known_from, is_waiting, store_of_broadcast, stores_of, writes, has_operands, last_from, last_that, Execution, Row, and_first, and_second, Each-append, Each-weaker, Each-map, EveryBehind, count, count-count_by, count-append, count-none, count-map, count-le, count-length}
 use Rattle.rv_isa.specs.declared.instructions.Instr.TheVariants.{Store}
 use Rattle.rv_hardware.specs.InFlight.{is_known}
 use Rattle.rv_hardware.proofs.LawsAdvance.{IsBefore, writes_mark, IsKnownMark, OperandsKnown, IsKnownStore, IsSentIfReady, is_in_flight_mark, is_stationed_mark}
-use Rattle.rv_hardware.proofs.LawsBasics.{and_first, and_second}
 use Rattle.rv_hardware.proofs.LawsMarks.{Mark, mark_of_row, mark_of_entry, broadcast_of_stage, start_of_stage, broadcast_of_execution, start_of_execution}
 use Rattle.rv_hardware.proofs.LawsRow.{SoundRow}
 use Rattle.rv_hardware.proofs.LawsSound.{SoundEntry, SoundStage, is_of_kind_is}

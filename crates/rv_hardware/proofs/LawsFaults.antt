@@ -1,10 +1,9 @@
 -- A fault that a unit finds is of a branch, a jump, a load or a store.
-use Rattle.rv_hardware.proofs.Words.{◌≡◌, ℕ, ◌+◌, Bool, true, false, cond, not, List, [], ◌∷◌, ◌++◌, is_some, nat_le, Some, None, Option, sym, refl, ap, subst, holds, is_of_kind, is_serialising, kind_of_word, bytes_of, width_of, pc_plus, Message, StoreAccess, InstructionAddressMisaligned, LoadAccessFault, LoadAddressMisaligned, StoreAccessFault, StoreAddressMisaligned, Fault, Instr, Branch, Csr, Ebreak, Ecall, Jal, Jalr, Load, Lines, Kind, LoadForm, Width, Values, Layout, is_aligned, is_in_ram, is_writable, Effect, Faults, Retires, branches, effect, goes_to, jumps, loads, stores, State, register_of, Each, finished, issue_of, predicting, started, Entry, Stage, Finished, Running, Waiting, result_at, entry_of_fetched, stage_by, Hardware, is_waiting, reset_hardware, access_of, effect_message, result_of_word, layout_of, seen_behind, needs_no_unit, Each-push, Each-change}
+use Rattle.rv_hardware.proofs.Words.{◌≡◌, ℕ, ◌+◌, Bool, true, false, cond, not, List, [], ◌∷◌, ◌++◌, is_some, nat_le, Some, None, Option, sym, refl, ap, subst, holds, is_of_kind, is_serialising, kind_of_word, bytes_of, width_of, pc_plus, Message, StoreAccess, InstructionAddressMisaligned, LoadAccessFault, LoadAddressMisaligned, StoreAccessFault, StoreAddressMisaligned, Fault, Instr, Branch, Csr, Ebreak, Ecall, Jal, Jalr, Load, Lines, Kind, LoadForm, Width, Values, Layout, is_aligned, is_in_ram, is_writable, Effect, Faults, Retires, branches, effect, goes_to, jumps, loads, stores, State, register_of, Each, finished, issue_of, predicting, started, Entry, Stage, Finished, Running, Waiting, result_at, entry_of_fetched, stage_by, Hardware, is_waiting, reset_hardware, access_of, effect_message, result_of_word, layout_of, seen_behind, needs_no_unit, by_test, Each-push, Each-change}
 use Rattle.rv_isa.specs.declared.instructions.Instr.TheVariants.{Store}
 use Rattle.rv_hardware.proofs.GapCycle.{IsKept, IsKeptByPhases}
 use Rattle.rv_hardware.proofs.GapEntries.{AreShaped, HasWordOr, IsShaped, Shaped, shape-kept, shape-at_reset}
 use Rattle.rv_hardware.proofs.GapForms.{IsResultOfWord}
-use Rattle.rv_hardware.proofs.GapLists.{by_test}
 use Rattle.rv_hardware.proofs.LawsSound.{is_of_kind_is}
 
 -- what a unit finds

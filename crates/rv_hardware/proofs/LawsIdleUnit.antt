@@ -1,8 +1,7 @@
 -- Marks that go on keep it that no pipelined unit is idle while an instruction that is no load has its operands.
-use Rattle.rv_hardware.proofs.Words.{◌≡◌, ℕ, ◌<◌, ◌≤◌, Bool, true, false, cond, not, ◌&&◌, ◌||◌, List, [], ◌∷◌, ◌++◌, map, is_some, IfSome, Some, None, Option, sym, refl, ap, ◌∙◌, subst, true≢false, append_assoc, arith, and_from, is_load, is_of_kind, is_serialising, is_target, kind_of_word, sources_of_word, target_of_word, Instr, Kind, Values, Each, Entry, Stage, Finished, Running, Waiting, Fetched, Hardware, broadcast_of, is_known_from, is_waiting, writes, has_operands, is_ready, may_load, last_from, last_that, Execution, Row, Each-append, Each-right, Each-set, Each-place, EveryBehind, count, count-set-grows, EveryBehind-left, EveryBehind-set}
+use Rattle.rv_hardware.proofs.Words.{◌≡◌, ℕ, ◌<◌, ◌≤◌, Bool, true, false, cond, not, ◌&&◌, ◌||◌, List, [], ◌∷◌, ◌++◌, map, is_some, IfSome, Some, None, Option, sym, refl, ap, ◌∙◌, subst, true≢false, append_assoc, arith, and_from, is_load, is_of_kind, is_serialising, is_target, kind_of_word, sources_of_word, target_of_word, Instr, Kind, Values, Each, Entry, Stage, Finished, Running, Waiting, Fetched, Hardware, broadcast_of, is_known_from, is_waiting, writes, has_operands, is_ready, may_load, last_from, last_that, Execution, Row, and_second, Each-append, Each-right, Each-set, Each-place, EveryBehind, count, count-set-grows, EveryBehind-left, EveryBehind-set}
 use Rattle.rv_hardware.specs.InFlight.{is_known}
 use Rattle.rv_hardware.proofs.LawsAdvance.{IsBefore, writes_mark, IsKnownMark, OperandsKnown, Advances, retires, starts, is_sent, enters, Kept}
-use Rattle.rv_hardware.proofs.LawsBasics.{and_second}
 use Rattle.rv_hardware.proofs.LawsEvidence.{last_from-append}
 use Rattle.rv_hardware.proofs.LawsMarks.{Mark, mark_of_row, mark_of_entry, mark_of_fetched, broadcast_of_stage, marks_append, start_of_execution, start_of_stage}
 use Rattle.rv_hardware.proofs.LawsPairs.{writer_serialises}

@@ -1,6 +1,6 @@
 -- A turn of the issue phase finds no free unit, nothing that is ready, or the oldest that is, which starts.
 use Rattle.rv_hardware.proofs.Words.{◌≡◌, ℕ, ◌+◌, Bool, true, false, cond, List, [], ◌∷◌, ◌++◌, length, Some, None, Option, refl, ap, ◌∙◌, at_kind, Message, Kind, is_free, started, with_entry, Entry, Hardware, FromCache, FromStores, Path, Without, cost_of, is_ready, issue_oldest, issue_turn, issued, oldest, path, with_access, Ends, GoesOn, Turn, result_of_word, layout_of, seen_behind, EveryBehind}
-use Rattle.rv_hardware.proofs.LawsOldest.{Finds, oldest_finds, with_entry-behind}
+use Rattle.rv_hardware.proofs.Oldest.{Finds, oldest_finds, with_entry-at}
 
 -- no unit is free, no instruction is ready, or the oldest ready one starts
 pub data IssueTurn (kind : Kind) (h : Hardware) : Turn Hardware → Type 0 where
@@ -54,4 +54,4 @@ started_entries kind h older younger e at =
     let cost : ℕ = cost_of h kind (path h older e) in
     (λ i. with_entry (started (record { cycle = keep.cycle i; cost = cost }) (message_at h older e)) (h.rob.retired + length older) (keep.rob i).retired (keep.rob i).entries) ∙
     ap (λ es. with_entry (started (record { cycle = h.cycle; cost = cost }) (message_at h older e)) (h.rob.retired + length older) h.rob.retired es) at ∙
-    with_entry-behind (started (record { cycle = h.cycle; cost = cost }) (message_at h older e)) h.rob.retired older younger e
+    with_entry-at (started (record { cycle = h.cycle; cost = cost }) (message_at h older e)) (h.rob.retired + length older) h.rob.retired older younger e refl

@@ -1,11 +1,11 @@
 -- In each phase instructions and words only go on, or what is younger is squashed and fetch begins anew.
-use Rattle.rv_hardware.proofs.Words.{◌≡◌, ℕ, ◌+◌, Bool, true, false, ◌⊎◌, List, [], ◌∷◌, ◌++◌, map, length, Some, None, Option, nat_cmp, sym, refl, ap, ◌∙◌, inl, inr, append_assoc, arith, length-append, length-map, Kind, Commit, Early, Values, finished, predicting, started, Entry, Fetched, broadcast, broadcast_turn, is_mispredicted, mends_early, Committing, commit_turn, commit_unless, dispatch, entry_of_fetched, drain, Hardware, issue, Turn, written_of, rows_of, Step, Retired}
+use Rattle.rv_hardware.proofs.Words.{◌≡◌, ℕ, ◌+◌, Bool, true, false, ◌⊎◌, List, [], ◌∷◌, ◌++◌, map, length, Some, None, Option, nat_cmp, sym, refl, ap, ◌∙◌, inl, inr, append_assoc, arith, length-append, length-map, Kind, Commit, Early, Values, finished, predicting, started, Entry, Fetched, broadcast, broadcast_turn, is_mispredicted, mends_early, Committing, commit_turn, commit_unless, dispatch, entry_of_fetched, drain, Hardware, issue, Turn, written_of, rows_of, Step, Retired, and_first}
 use Rattle.std.specs.FinSet as set
 use Rattle.rv_isa.specs.declared.values.Recovery.{Recovery}
 use Rattle.rv_hardware.proofs.GapDispatch.{IsKeptByDispatch, dispatch-keeps}
 use Rattle.rv_hardware.proofs.GapDrain.{IsKeptByDrain, drain-keeps}
 use Rattle.rv_hardware.proofs.GapIssue.{IsKeptByIssue, issue-keeps}
-use Rattle.rv_hardware.proofs.LawsBasics.{and_first, finished_mark}
+use Rattle.rv_hardware.proofs.LawsBasics.{finished_mark}
 use Rattle.rv_hardware.proofs.LawsBroadcast.{BroadcastTurn, none_ready, sends, mends, broadcast_turn_is, sent_entries, mended_entries}
 use Rattle.rv_hardware.proofs.LawsCommit.{CommitTurn, no_head, stale_head, unfinished, fence_waits, fence_writes, fence_retires, executes, serial_faults, traps, retires, retires_last, commit_turn_is}
 use Rattle.rv_hardware.proofs.LawsMarks.{Mark, mark_of_row, mark_of_entry, mark_of_fetched, marks_in, broadcast_of_stage, rows_append}

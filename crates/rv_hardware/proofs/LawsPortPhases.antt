@@ -1,8 +1,8 @@
 -- Through every phase the port is busy until each load that uses the cache is over, and one begins when all others are.
-use Rattle.rv_hardware.proofs.Words.{◌≡◌, ℕ, ◌+◌, ◌<◌, ◌≤◌, Bool, true, false, cond, not, ◌&&◌, ◌⊎◌, List, [], ◌∷◌, ◌++◌, length, IfSome, nat_le, ◌==◌, Some, None, Option, nat_cmp, sym, refl, ap, ◌∙◌, subst, inl, inr, true≢false, append_assoc, arith, leb-true, IsLegal, is_load, at_kind, StoreAccess, Instr, Lines, Kind, Values, due, Each, oldest_to_drain, finished, predicting, started, ReorderBuffer, Entry, broadcast_turn, with_broadcast, with_recovery, Committing, commit_turn, commit_unless, with_fault, with_lines, Dispatching, dispatch_turn, entry_of_fetched, drain, end_drain, start_drain, Hardware, cost_of, has_port, issue, issue_kind, issue_turn, issued, path, with_access, Turn, Report, seen_behind, Step, Each-append, Each-left, Each-right, Each-set, Each-place, Each-weaker, Each-all, Each-both, EveryPair, EveryPair-append, EveryPair-left, EveryPair-right, EveryPair-across, EveryPair-set}
+use Rattle.rv_hardware.proofs.Words.{◌≡◌, ℕ, ◌+◌, ◌<◌, ◌≤◌, Bool, true, false, cond, not, ◌&&◌, ◌⊎◌, List, [], ◌∷◌, ◌++◌, length, IfSome, nat_le, ◌==◌, Some, None, Option, nat_cmp, sym, refl, ap, ◌∙◌, subst, inl, inr, true≢false, append_assoc, arith, leb-true, IsLegal, is_load, at_kind, StoreAccess, Instr, Lines, Kind, Values, due, Each, oldest_to_drain, finished, predicting, started, ReorderBuffer, Entry, broadcast_turn, with_broadcast, with_recovery, Committing, commit_turn, commit_unless, with_fault, with_lines, Dispatching, dispatch_turn, entry_of_fetched, drain, end_drain, start_drain, Hardware, cost_of, has_port, issue, issue_kind, issue_turn, issued, path, with_access, Turn, Report, seen_behind, Step, and_first, and_second, Each-append, Each-left, Each-right, Each-set, Each-place, Each-weaker, Each-all, Each-both, EveryPair, EveryPair-append, EveryPair-left, EveryPair-right, EveryPair-across, EveryPair-set}
 use Rattle.std.specs.FinSet as set
 use Rattle.rv_isa.specs.declared.operations.Kind.TheVariants as kind
-use Rattle.rv_hardware.proofs.LawsBasics.{Ready, ready_has, finished_mark, dispatched_mark, and_first, and_second}
+use Rattle.rv_hardware.proofs.LawsBasics.{Ready, ready_has, finished_mark, dispatched_mark}
 use Rattle.rv_hardware.proofs.LawsBroadcast.{BroadcastTurn, none_ready as no_result, sends, mends, broadcast_turn_is, sent_entries, mended_entries}
 use Rattle.rv_hardware.proofs.LawsCommit.{CommitTurn, no_head, stale_head, unfinished, fence_waits, fence_writes, fence_retires, executes, serial_faults, traps, retires, retires_last, executed, written_back, retired_with, retired_and_flushed, commit_turn_is}
 use Rattle.rv_hardware.proofs.LawsCycle.{Anything, anything_is_kept, Passed, committing, drained, issued_all, sent_all, dispatching}

@@ -1,8 +1,10 @@
+pub mod Tests
 pub mod Each
 pub mod Lists
 pub mod Words
 pub mod HardwareCode
 pub mod Repeated
+pub mod Oldest
 pub mod GapLists
 pub mod GapForms
 pub mod GapCosts
@@ -69,7 +71,6 @@ pub mod HeadlineReached
 pub mod HeadlineBytes
 pub mod HeadlineStores
 pub mod Laws
-pub mod LawsOldest
 pub mod LawsMarks
 pub mod LawsAdvance
 pub mod LawsEvidence

@@ -1,6 +1,5 @@
 -- The fetch buffer holds no more words than it has room for.
-use Rattle.rv_hardware.proofs.Words.{List, is_none, nat_lt, nat_le, Some, refl, arith, ltb-true, and_from, Values, Hardware, NeverMoreThan, is_buffered_in, rows_of, Step}
-use Rattle.rv_hardware.proofs.LawsBasics.{and_first, and_second}
+use Rattle.rv_hardware.proofs.Words.{List, is_none, nat_lt, nat_le, Some, refl, arith, ltb-true, and_from, Values, Hardware, NeverMoreThan, is_buffered_in, rows_of, Step, and_first, and_second}
 use Rattle.rv_hardware.proofs.LawsCounted.{Shows, counted_law, until_not}
 use Rattle.rv_hardware.proofs.LawsCycle.{History, is_buffered_mark}
 use Rattle.rv_hardware.proofs.LawsMarks.{until}

@@ -1,6 +1,5 @@
 -- Fetch waits for nothing but room.
-use Rattle.rv_hardware.proofs.Words.{◌≡◌, ℕ, ◌≤◌, true, List, [], ◌∷◌, ◌++◌, map, is_none, nat_lt, nat_le, Some, None, count_by, Option, MatchOption, sym, refl, ap, ◌∙◌, subst, inl, inr, append_assoc, arith, and_from, map-append, Values, Hardware, IsFetchedBehind, EachNext, is_buffered_in, rows_of, Execution, Row, Step, Interrupt, Retired, Trap, Each-all, count-count_by, count-append, count-map, count-le}
-use Rattle.rv_hardware.proofs.LawsBasics.{and_first, and_second}
+use Rattle.rv_hardware.proofs.Words.{◌≡◌, ℕ, ◌≤◌, true, List, [], ◌∷◌, ◌++◌, map, is_none, nat_lt, nat_le, Some, None, count_by, Option, MatchOption, sym, refl, ap, ◌∙◌, subst, inl, inr, append_assoc, arith, and_from, map-append, Values, Hardware, IsFetchedBehind, EachNext, is_buffered_in, rows_of, Execution, Row, Step, Interrupt, Retired, Trap, and_first, and_second, Each-all, count-count_by, count-append, count-map, count-le}
 use Rattle.rv_hardware.proofs.LawsCycle.{History}
 use Rattle.rv_hardware.proofs.Laws.NoIdleDispatch.{none_until}
 use Rattle.rv_hardware.proofs.LawsLinked.{is_word, with_word, Followed, IsOpen, Linked, held_behind, held_count}

@@ -1,6 +1,5 @@
 -- A pipelined unit begins at most one instruction a cycle.
-use Rattle.rv_hardware.proofs.Words.{◌≡◌, ℕ, ◌+◌, ◌<◌, ◌≤◌, true, false, ◌&&◌, List, nat_lt, nat_le, ◌==◌, Some, None, Option, sym, refl, subst, arith, lt-ltb, ne_eqb, eqb-true, le-leb, and_from, and_right, is_of_kind, kind_of_word, at_kind, Kind, Values, Hardware, FitUnits, is_pipelined, is_issued_in, is_row_of_kind, passes, rows_of, Execution, Step}
-use Rattle.rv_hardware.proofs.LawsBasics.{and_first, and_second}
+use Rattle.rv_hardware.proofs.Words.{◌≡◌, ℕ, ◌+◌, ◌<◌, ◌≤◌, true, false, ◌&&◌, List, nat_lt, nat_le, ◌==◌, Some, None, Option, sym, refl, subst, arith, lt-ltb, ne_eqb, eqb-true, le-leb, and_from, and_right, is_of_kind, kind_of_word, at_kind, Kind, Values, Hardware, FitUnits, is_pipelined, is_issued_in, is_row_of_kind, passes, rows_of, Execution, Step, and_first, and_second}
 use Rattle.rv_hardware.proofs.LawsCounted.{Shows}
 use Rattle.rv_hardware.proofs.LawsCycle.{History}
 use Rattle.rv_hardware.proofs.LawsMarks.{Start, start_until, start_of_execution}

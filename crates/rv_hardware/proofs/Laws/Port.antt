@@ -1,6 +1,5 @@
 -- Of two loads that use the cache's port one is over when the other begins.
-use Rattle.rv_hardware.proofs.Words.{◌≡◌, ℕ, ◌+◌, ◌<◌, ◌≤◌, Bool, true, false, cond, not, ◌⊎◌, List, [], ◌∷◌, ◌++◌, map, IfSome, nat_le, ◌==◌, Some, None, Option, AllPairs, sym, refl, ap, ◌∙◌, subst, inl, inr, true≢false, append_assoc, arith, le-leb, and_from, cases_lt, Instr, Values, Each, Entry, Stage, Finished, Running, Waiting, Fetched, Hardware, AreApartAtPort, EachBehind, instruction_of_row, is_load_row, passes, rows_of, uses_port, Execution, Row, Step, Each-left, Each-place, Each-weaker, Each-all, Each-both, Each-map, EveryPair, EveryBehind, AllPairs-EveryPair, EveryPair-append, EveryPair-map, Beginning-EveryBehind, EveryPair-EveryBehind, EveryBehind-EveryPair}
-use Rattle.rv_hardware.proofs.LawsBasics.{and_first, and_second}
+use Rattle.rv_hardware.proofs.Words.{◌≡◌, ℕ, ◌+◌, ◌<◌, ◌≤◌, Bool, true, false, cond, not, ◌⊎◌, List, [], ◌∷◌, ◌++◌, map, IfSome, nat_le, ◌==◌, Some, None, Option, AllPairs, sym, refl, ap, ◌∙◌, subst, inl, inr, true≢false, append_assoc, arith, le-leb, and_from, cases_lt, Instr, Values, Each, Entry, Stage, Finished, Running, Waiting, Fetched, Hardware, AreApartAtPort, EachBehind, instruction_of_row, is_load_row, passes, rows_of, uses_port, Execution, Row, Step, and_first, and_second, Each-left, Each-place, Each-weaker, Each-all, Each-both, Each-map, EveryPair, EveryBehind, AllPairs-EveryPair, EveryPair-append, EveryPair-map, Beginning-EveryBehind, EveryPair-EveryBehind, EveryBehind-EveryPair}
 use Rattle.rv_hardware.proofs.LawsCounted.{behind_law}
 use Rattle.rv_hardware.proofs.LawsCycle.{Anything, anything_is_kept, History, began, went_on, cycle_passes, dispatching, history_is_legal, history_is_sound}
 use Rattle.rv_hardware.proofs.LawsMarks.{Mark, Start, mark_of_row, mark_of_entry, mark_of_fetched, marks_in, as_of, as_of-cons, at_end, start_until, start_of_execution, start_of_stage}

@@ -1,7 +1,6 @@
 -- The reorder buffer holds no more instructions than it has room for.
-use Rattle.rv_hardware.proofs.Words.{◌&&◌, List, is_some, is_none, nat_lt, nat_le, Some, refl, arith, ltb-true, le-leb, leb-true, and_from, Values, Hardware, NeverMoreThan, is_in_flight_in, rows_of, Step}
+use Rattle.rv_hardware.proofs.Words.{◌&&◌, List, is_some, is_none, nat_lt, nat_le, Some, refl, arith, ltb-true, le-leb, leb-true, and_from, Values, Hardware, NeverMoreThan, is_in_flight_in, rows_of, Step, and_first, and_second}
 use Rattle.rv_hardware.proofs.LawsAdvance.{is_in_flight_mark}
-use Rattle.rv_hardware.proofs.LawsBasics.{and_first, and_second}
 use Rattle.rv_hardware.proofs.LawsCounted.{Shows, counted_law, until_by, until_not}
 use Rattle.rv_hardware.proofs.LawsCycle.{History}
 use Rattle.rv_hardware.proofs.LawsMarks.{until}

@@ -1,5 +1,5 @@
 -- Every cycle keeps the store queue's tie to the rows, and so it holds no more stores than it has room for.
-use Rattle.rv_hardware.proofs.Words.{◌≡◌, ℕ, zero, suc, ◌+◌, ◌<◌, ◌≤◌, Bool, true, false, cond, ◌&&◌, List, [], ◌∷◌, ◌++◌, map, length, is_some, nat_lt, nat_le, Some, None, filter, Option, nat_cmp, sym, refl, ap, ◌∙◌, subst, inl, inr, append_assoc, append-nil, arith, ltb-true, le-ltb, lt-ltb, le-leb, leb-true, and_from, cases_lt, is_serialising, is_store, Message, Instr, Issue, Lines, Kind, CacheValues, Values, due, interrupt_cause, Each, Store, Entry, Stage, Finished, broadcast, Committing, commit_unless, with_fault, with_lines, dispatch, drain, Hardware, FromCache, has_port, issue, NeverMoreThan, Turn, Report, written_of, is_queued_in, is_store_row, rows_of, Row, Step, Interrupt, Retired, Trap, Each-weaker, Each-all, count, count-count_by, count-append, count-none, count-map, count-le, count-length, Beginning-count}
+use Rattle.rv_hardware.proofs.Words.{◌≡◌, ℕ, zero, suc, ◌+◌, ◌<◌, ◌≤◌, Bool, true, false, cond, ◌&&◌, List, [], ◌∷◌, ◌++◌, map, length, is_some, nat_lt, nat_le, Some, None, filter, Option, nat_cmp, sym, refl, ap, ◌∙◌, subst, inl, inr, append_assoc, append-nil, arith, ltb-true, le-ltb, lt-ltb, le-leb, leb-true, and_from, cases_lt, is_serialising, is_store, Message, Instr, Issue, Lines, Kind, CacheValues, Values, due, interrupt_cause, Each, Store, Entry, Stage, Finished, broadcast, Committing, commit_unless, with_fault, with_lines, dispatch, drain, Hardware, FromCache, has_port, issue, NeverMoreThan, Turn, Report, written_of, is_queued_in, is_store_row, rows_of, Row, Step, Interrupt, Retired, Trap, and_first, and_second, Each-weaker, Each-all, count, count-count_by, count-append, count-none, count-map, count-le, count-length, Beginning-count}
 use Rattle.std.specs.FinSet as set
 use Rattle.rv_hardware.proofs.GapBroadcast.{IsKeptByBroadcast, broadcast-keeps}
 use Rattle.rv_hardware.proofs.GapCosts.{access_cost-least}
@@ -8,7 +8,6 @@ use Rattle.rv_hardware.proofs.GapDrain.{IsKeptByDrain, drain-keeps}
 use Rattle.rv_hardware.proofs.GapIssue.{IsKeptByIssue, issue-keeps, ready-parts}
 use Rattle.rv_hardware.proofs.GapStores.{HasStores, store_count, instructions_of, stores-kept, stores-at_reset}
 use Rattle.rv_hardware.proofs.HeadlineStores.{serialising_is_no_store}
-use Rattle.rv_hardware.proofs.LawsBasics.{and_first, and_second}
 use Rattle.rv_hardware.proofs.LawsCommit.{CommitTurn, no_head, stale_head, unfinished, fence_waits, fence_writes, fence_retires, executes, serial_faults, traps, retires, retires_last, written_back, retired_with}
 use Rattle.rv_hardware.proofs.LawsCounted.{count-as_of, until_by}
 use Rattle.rv_hardware.proofs.LawsCycle.{Anything, anything_is_kept, Passed, History, began, went_on, begin, committing, drained, cycle_passes, history_is_legal, history_is_sound}

@@ -1,0 +1,22 @@
+-- A test decides between two states, and what is known of two tests together is known of each.
+use Rattle.std.proofs.Common.{◌≡◌, ◌&&◌, Bool, true, false, cond, refl}
+
+-- a test decides between two states
+pub by_test : {A : Type 0} (P : A → Type 0) (b : Bool) (x y : A) → (b ≡ true → P x) → (b ≡ false → P y) → P (cond b x y)
+by_test P true x y passes fails = passes refl
+by_test P false x y passes fails = fails refl
+
+-- the first of two tests that both pass
+pub and_first : (a b : Bool) → (a && b) ≡ true → a ≡ true
+and_first true b h = refl
+and_first false b h = absurd (cc)
+
+-- the second of two tests that both pass
+pub and_second : (a b : Bool) → (a && b) ≡ true → b ≡ true
+and_second true b h = h
+and_second false b h = absurd (cc)
+
+-- where two tests do not both pass and the first does, the second fails
+pub and_fails : (a b : Bool) → (a && b) ≡ false → a ≡ true → b ≡ false
+and_fails true b h is = h
+and_fails false b h is = absurd (cc)
