@@ -5,9 +5,6 @@ use Rattle.rv_hardware.proofs.GapCycle.{IsKept, IsKeptByPhases}
 use Rattle.rv_hardware.proofs.GapForms.{longest_access, longest_write_back}
 use Rattle.rv_hardware.proofs.GapSets.{HasRoom, room-kept, room-at_reset, write_back_time-most}
 
-abbrev pub IsBusyUntil : ℕ → ℕ → Type 0
-IsBusyUntil limit port_free = port_free ≤ limit
-
 -- the cache has room for its lines, and its port is busy no longer than for an access and a whole write-back
 abbrev pub HasPort : Hardware → Type 0
 HasPort h = HasRoom h × (h.port_free ≤ h.cycle + (longest_access h + longest_write_back h))

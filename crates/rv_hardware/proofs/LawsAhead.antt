@@ -151,9 +151,6 @@ record NextPast (steps : List Step) (h : Hardware) : Type 0 where
   unused : steps ≡ [] → h.committed ≡ []
 
 module _ (v : Values) {earlier : List Step} {old new : Hardware} {lines : Lines} {report : Report} (before : History v earlier old) (past : NextPast earlier old) (is : IsCycle any_prediction lines old report new) where
-  legal_here : IsLegal v
-  legal_here = history_is_legal v before
-
   passed : Passed v Anything earlier lines old report new
   passed = cycle_passes v (history_is_legal v before) Anything earlier lines old new report (anything_is_kept v old.cycle) (history_is_sound v before) tt is
 

@@ -59,10 +59,6 @@ started_sound v now b k e cost message sound kind costs = record {
   stage = (some_kind k (kind_of_word e.instruction) kind, sound.by_now, omega arith, costs);
 }
 
-pub started_mark : (now : ℕ) (e : Entry) (cost : ℕ) (message : Message) →
-    mark_of_entry (started (record { cycle = now; cost = cost }) message e) ≡ record (mark_of_entry e) { start = Some (start_of_issue (record { cycle = now; cost = cost }) message); broadcast = None }
-started_mark now e cost message = refl
-
 finished_stage : (v : Values) (i : Option Instr) (D now : ℕ) (st : Stage) (issue : Issue) (message : Message) → st ≡ Running issue message → issue.cycle + issue.cost ≤ now →
     SoundStage v i D (now + 1) (now + 1) st → SoundStage v i D (now + 1) (now + 1) (Finished (issue_of st) now message)
 finished_stage v i D now st issue message at over sound =

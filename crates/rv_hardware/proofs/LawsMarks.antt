@@ -185,9 +185,6 @@ Extends-more now ms more later c lt =
     let none = as_of-later c more (Each-weaker (λ m. now ≤ m.fetched) (λ m. c < m.fetched) (λ m le. omega arith) more later) in
     ([], sym (as_of-append c ms more ∙ ap (λ l. as_of c ms ++ l) none ∙ append-nil (as_of c ms)) ∙ sym (append-nil (as_of c (ms ++ more))))
 
-pub Extends-equal : (now : ℕ) (xs ys : List Mark) → xs ≡ ys → Extends now xs ys
-Extends-equal now xs ys same = rw same (Extends-self now ys)
-
 -- a stamp of the present cycle was not there before
 pub until_now : (now c : ℕ) → c < now → until c (Some now) ≡ None
 until_now now c lt = rw (lt-leb now c lt) refl
@@ -236,15 +233,3 @@ marks_squashed steps older younger fs = (
       sym (append_assoc (map mark_of_row (rows_of steps)) (map mark_of_entry older) (map mark_of_entry younger ++ map mark_of_fetched fs)) ∙
       ap (λ l. l ++ (map mark_of_entry younger ++ map mark_of_fetched fs)) (ap (λ l. map mark_of_row (rows_of steps) ++ l) (sym (append-nil (map mark_of_entry older)))),
 )
-
-pub Extends-squash : (now : ℕ) (steps : List Step) (older younger : List Entry) (fs : List Fetched) →
-    Extends now (marks steps (older ++ younger) fs) (marks steps older [])
-Extends-squash now steps older younger fs =
-    let left = marks_squashed steps older younger fs in
-    rw left.1 (Extends-cut now (marks steps older []) left.0)
-
--- rows that are the same
-pub Extends-flush : (now : ℕ) (steps further : List Step) (es : List Entry) (fs : List Fetched) → rows_of further ≡ rows_of steps →
-    Extends now (marks steps es fs) (marks further [] [])
-Extends-flush now steps further es fs same =
-    rw same (Extends-squash now steps [] es fs)

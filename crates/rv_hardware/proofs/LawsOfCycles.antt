@@ -1,9 +1,8 @@
 -- An interrupt that is due is the one step of its cycle, and a cycle dispatches something or stalls for one reason.
-use Rattle.rv_hardware.proofs.Words.{◌≡◌, ℕ, ◌+◌, List, [], ◌∷◌, ◌++◌, length, ◌==◌, Some, None, All, Option, sym, ap, ◌∙◌, subst, arith, Arrival, Lines, Values, due, interrupt_cause, Committing, commit_unless, IsCycle, any_prediction, with_lines, stall_of, Hardware, stall_cycles, Report, Cycles, Reachable, busy_of, cycled, ended, stalls_of, stamp_of, Step, Interrupt, All-Each}
+use Rattle.rv_hardware.proofs.Words.{◌≡◌, ℕ, ◌+◌, List, [], ◌∷◌, ◌++◌, length, ◌==◌, Some, None, Option, sym, ap, ◌∙◌, subst, arith, Arrival, Lines, Values, due, interrupt_cause, Committing, commit_unless, IsCycle, any_prediction, with_lines, stall_of, Hardware, stall_cycles, Report, Cycles, Reachable, busy_of, cycled, ended, stalls_of, Step, Interrupt}
 use Rattle.std.specs.FinSet as set
 use Rattle.rv_hardware.proofs.LawsCounts.{IsCounted, AllTell, dispatch_tells, busy_and_stalls}
 use Rattle.rv_hardware.proofs.LawsCycle.{Anything, anything_is_kept, History, went_on, Passed, cycle_passes, history_is_legal, history_is_sound, reachable_has_history, sent_all, dispatching}
-use Rattle.rv_hardware.proofs.LawsSteps.{history_has_steps, steps_of_cycle}
 
 interrupted_by : (o : Option ℕ) (h : Hardware) (code : ℕ) → o ≡ Some code → (commit_unless set.contains o h).steps ≡ Interrupt h.pc (interrupt_cause code) h.cycle ∷ []
 interrupted_by None h code is = absurd (cc)
@@ -19,12 +18,6 @@ module _ (v : Values) {steps : List Step} {old new : Hardware} {lines : Lines} {
   -- a cycle that goes on from a history passes through its phases
   pub passes_here : Passed v Anything steps lines old report new
   passes_here = cycle_passes v (history_is_legal v history) Anything steps lines old new report (anything_is_kept v old.cycle) (history_is_sound v history) tt is
-
-  -- each step has the cycle's number
-  pub stamps_of_cycle : All (λ step. stamp_of step ≡ old.cycle) report.steps
-  stamps_of_cycle =
-      All-Each (λ step. stamp_of step ≡ old.cycle) report.steps
-      (steps_of_cycle v (history_is_legal v history) steps old new lines report (history_is_sound v history) (history_has_steps v history) is)
 
   -- it dispatches something, or else stalls for one reason
   pub cycle_tells : IsCounted (report.dispatched == 0) report.stall

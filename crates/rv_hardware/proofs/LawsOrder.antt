@@ -20,17 +20,6 @@ pub record Orderly (v : Values) (now : ℕ) (ms : List Mark) : Type 0 where
   pub words : count is_buffered_mark ms ≤ v.fetch_buffer
   pub stations : (k : Kind) → count (is_stationed_mark k) ms ≤ (at_kind k v.kinds).stations
 
--- what a mark that goes on keeps
-record Same (m n : Mark) : Type 0 where
-  instruction : n.instruction ≡ m.instruction
-  fetched : n.fetched ≡ m.fetched
-
-same_mark : (v : Values) (now : ℕ) (xs : List Mark) (m n : Mark) → Advances v now xs m n → Same m n
-same_mark v now xs m n (retires a) = record { instruction = ap (λ x. x.instruction) a.becomes; fetched = ap (λ x. x.fetched) a.becomes }
-same_mark v now xs m n (starts a) = record { instruction = ap (λ x. x.instruction) a.becomes; fetched = ap (λ x. x.fetched) a.becomes }
-same_mark v now xs m n (is_sent a) = record { instruction = ap (λ x. x.instruction) a.becomes; fetched = ap (λ x. x.fetched) a.becomes }
-same_mark v now xs m n (enters a) = record { instruction = ap (λ x. x.instruction) a.becomes; fetched = ap (λ x. x.fetched) a.becomes }
-
 module _ (v : Values) (now : ℕ) (xs ys : List Mark) (m n : Mark) where
   -- where its dispatch stays
   stays : n.fetched ≡ m.fetched → n.dispatched ≡ m.dispatched → (is_in_flight_mark n ≡ true → is_in_flight_mark m ≡ true) → ((k : Kind) → is_stationed_mark k n ≡ true → is_stationed_mark k m ≡ true) →

@@ -201,9 +201,6 @@ module _ (v : Values) (legal : IsLegal v) (earlier : List Step) (old new : Hardw
   passed : Passed v Anything earlier lines old report new
   passed = cycle_passes v legal Anything earlier lines old new report (anything_is_kept v old.cycle) begins tt is
 
-  all_steps : List Step
-  all_steps = earlier ++ report.steps
-
   committed : Steps v old.cycle earlier v.commit_width (committing lines old)
   committed =
       let g : Hardware = with_lines lines old in

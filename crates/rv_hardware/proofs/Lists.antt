@@ -1,11 +1,11 @@
 -- Relations of pairs, counts and beginnings go over to parts of lists, to images, and where one element changes.
-use Rattle.std.proofs.Common.{◌≡◌, ℕ, suc, ◌+◌, ◌≤◌, Bool, true, false, cond, List, [], ◌∷◌, ◌++◌, map, length, count_by, filter, AllPairs, sym, refl, ap, ◌∙◌, append_assoc, append-nil, arith}
+use Rattle.rv_hardware.proofs.Each.{All-Each, Each-append, Each-left, Each-right, Each-place, Each-weaker, Each-map, Each-unmap}
+use Rattle.std.proofs.Common.{◌≡◌, ℕ, suc, ◌+◌, ◌≤◌, Bool, true, false, cond, List, [], ◌∷◌, ◌++◌, map, length, count_by, AllPairs, sym, refl, ap, ◌∙◌, append_assoc, append-nil, arith}
 use Rattle.std.proofs.lemmas.List.{map-append}
 use Rattle.std.proofs.lemmas.List.Kept.{AllPairs-cons}
 use Rattle.std.proofs.lemmas.List.Recursion.{is_count_by}
 use Rattle.rv_cache.specs.WriteBack.{Each}
 use Rattle.rv_hardware.specs.Stamps.{EachBehind}
-use Rattle.rv_hardware.proofs.Each.{All-Each, Each-append, Each-left, Each-right, Each-place, Each-weaker, Each-map, Each-unmap}
 
 -- R of each element and each later one, by recursion
 abbrev pub EveryPair : {X : Type 0} → (X → X → Type 0) → List X → Type 0
@@ -103,9 +103,6 @@ module _ {X : Type 0} (p : X → Bool) where
   pub count-yes : (x : X) (xs : List X) → p x ≡ true → count p (x ∷ xs) ≡ suc (count p xs)
   count-yes x xs h = rw h refl
 
-  pub count-no : (x : X) (xs : List X) → p x ≡ false → count p (x ∷ xs) ≡ count p xs
-  count-no x xs h = rw h refl
-
   -- a count of images is a count of the elements
   pub count-map : {Y : Type 0} (f : Y → X) (ys : List Y) → count p (map f ys) ≡ count (λ y. p (f y)) ys
   count-map f [] = refl
@@ -129,17 +126,6 @@ module _ {X : Type 0} (p : X → Bool) where
   pub count-length : (xs : List X) → count p xs ≤ length xs
   count-length [] = omega arith
   count-length (x ∷ xs) = cond-le (p x) true (count p xs) (length xs) (λ e. refl) (count-length xs)
-
-  count-more : (x : X) (xs : List X) → count p xs ≤ count p (x ∷ xs)
-  count-more x xs = cond-le false (p x) (count p xs) (count p xs) (λ e. absurd (cc)) (omega arith)
-
-  count-picked : (b : Bool) (x : X) (xs ys : List X) → count p xs ≤ count p ys → count p (cond b (x ∷ xs) xs) ≤ count p (x ∷ ys)
-  count-picked true x xs ys le = cond-le (p x) (p x) (count p xs) (count p ys) (λ e. e) le
-  count-picked false x xs ys le = let more = count-more x ys in omega arith
-
-  pub count-filter : (q : X → Bool) (xs : List X) → count p (filter q xs) ≤ count p xs
-  count-filter q [] = omega arith
-  count-filter q (x ∷ xs) = count-picked (q x) x (filter q xs) xs (count-filter q xs)
 
   -- another element at a place
   pub count-set-same : (xs ys : List X) (x y : X) → p x ≡ p y → count p (xs ++ x ∷ ys) ≡ count p (xs ++ y ∷ ys)
@@ -218,18 +204,9 @@ module _ {X : Type 0} where
   pub Beginning-trans : (xs ys zs : List X) → Beginning xs ys → Beginning ys zs → Beginning xs zs
   Beginning-trans xs ys zs f g = (f.0 ++ g.0, g.1 ∙ ap (λ l. l ++ g.0) f.1 ∙ append_assoc xs f.0 g.0)
 
-  pub Beginning-append : (xs ys : List X) → Beginning xs (xs ++ ys)
-  Beginning-append xs ys = (ys, refl)
-
   -- no more pass of a beginning than of the whole
   pub Beginning-count : (p : X → Bool) (xs ys : List X) → Beginning xs ys → count p xs ≤ count p ys
   Beginning-count p xs ys f = rw (f.1, count-append p xs f.0) (omega arith)
-
-  pub Beginning-Each : (P : X → Type 0) (xs ys : List X) → Beginning xs ys → Each P ys → Each P xs
-  Beginning-Each P xs ys f h = Each-left P xs f.0 (rw f.1 at h)
-
-  pub Beginning-EveryPair : (R : X → X → Type 0) (xs ys : List X) → Beginning xs ys → EveryPair R ys → EveryPair R xs
-  Beginning-EveryPair R xs ys f h = EveryPair-left R xs f.0 (rw f.1 at h)
 
   -- of both together, and so of the first
   pub EveryBehind-left : (P : List X → X → Type 0) (before xs ys : List X) → EveryBehind P before (xs ++ ys) → EveryBehind P before xs
@@ -277,9 +254,6 @@ module _ {X : Type 0} where
   -- at any place
   pub EveryBehind-at : (P : List X → X → Type 0) (before after : List X) (x : X) → EveryBehind P [] (before ++ x ∷ after) → P before x
   EveryBehind-at P before after x h = (EveryBehind-right P [] before (x ∷ after) h).0
-
-  pub Every-at : (P : X → Type 0) (before after : List X) (x : X) → Each P (before ++ x ∷ after) → P x
-  Every-at P before after x h = (Each-right P before (x ∷ after) h).0
 
   -- each element that stands after some others
   pub EachBehind-EveryBehind : (P : List X → X → Type 0) (xs : List X) → EveryBehind P [] xs → EachBehind P xs

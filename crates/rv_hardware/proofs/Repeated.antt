@@ -20,8 +20,8 @@ pub left_by_the_rest : {S : Type 0} (P Q : S → Type 0) (rest : S → S) → ((
 left_by_the_rest P Q rest goes (GoesOn s) left = goes s left
 left_by_the_rest P Q rest goes (Ends s) left = left
 
--- where after k turns P k holds, until a turn ends in Q or so many were taken, the turns lead to Q
 module _ {S : Type 0} (total : ℕ) (P : ℕ → S → Type 0) (Q : S → Type 0) (turn : S → Turn S) (leads : (k : ℕ) (s : S) → k < total → P k s → Leads (P (suc k)) Q (turn s)) (last : (s : S) → P total s → Q s) where
+  -- where after k turns P k holds, until a turn ends in Q or so many were taken, the turns lead to Q
   pub turns_within : (width k : ℕ) (s : S) → width + k ≡ total → P k s → Q (repeated turn width s)
   turns_within zero k s all h = last s (let same : total ≡ k = omega (arith, all) in rw same h)
   turns_within (suc width) k s all h =

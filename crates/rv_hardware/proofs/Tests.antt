@@ -15,8 +15,3 @@ and_first false b h = absurd (cc)
 pub and_second : (a b : Bool) → (a && b) ≡ true → b ≡ true
 and_second true b h = h
 and_second false b h = absurd (cc)
-
--- where two tests do not both pass and the first does, the second fails
-pub and_fails : (a b : Bool) → (a && b) ≡ false → a ≡ true → b ≡ false
-and_fails true b h is = h
-and_fails false b h is = absurd (cc)

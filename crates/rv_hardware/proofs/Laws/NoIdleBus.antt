@@ -173,9 +173,6 @@ in_cycle v c bound row (Some x) at sound = λ ready later.
     let between = subst (λ q. IfSome q (λ x. (row.dispatched < x.issued) × (x.issued + x.cost ≤ x.broadcast) × (x.broadcast < row.retired))) at sound.stamps.executed_between in
     (omega (arith, ready, between.0, sound.stamps.dispatched_after_fetch), omega (arith, later, between.2, sound.below))
 
-abbrev BusOf : Values → ℕ → List Row → Row → Type 0
-BusOf v from before row = IfSome row.execution (λ x. (c : ℕ) → from ≤ c → x.issued + x.cost ≤ c → c < x.broadcast → v.bus_width ≤ count_by (is_broadcast_in c) before)
-
 -- the field `no_idle_bus` of `Laws`, over every history
 pub law_of_no_idle_bus : (v : Values) {steps : List Step} {h : Hardware} → History v steps h → EachBehind (LeavesNoBusIdle v.bus_width 0) (rows_of steps)
 law_of_no_idle_bus v {steps} {h} history before after row at = by_execution row.execution refl
