@@ -31,7 +31,8 @@ pub time_of_stores-most : (access : ℕ) (stores : List Store) → time_of_store
 time_of_stores-most access [] = omega arith
 time_of_stores-most access (s ∷ ss) = omega (arith, one_access (is_draining s) access)
 
-dirty_time-most : (h : Hardware) (stores : List Store) → HasRoom h → dirty_time h stores ≤ longest_write_back h
+-- the write-back of the dirty lines takes no longer than one of all lines
+pub dirty_time-most : (h : Hardware) (stores : List Store) → HasRoom h → dirty_time h stores ≤ longest_write_back h
 dirty_time-most h [] room = write_back_time-most h room
 dirty_time-most h (s ∷ ss) room = omega arith
 

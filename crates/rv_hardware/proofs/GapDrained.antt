@@ -1,5 +1,5 @@
 -- A cycle brings the port nearer to idle, and after the drain phase it is busy or no retired store waits for it.
-use Rattle.rv_hardware.proofs.Words.{◌≡◌, ℕ, ◌+◌, ◌-◌, ◌*◌, ◌<◌, ◌≤◌, true, false, cond, ◌⊎◌, List, [], ◌∷◌, length, nat_le, Some, None, Option, refl, ap, ◌∙◌, subst, inl, inr, arith, nat_tests, StoreAccess, access_cost, Each, oldest_to_drain, without_drained, access_to_drain, draining, is_committed_state, is_draining, is_draining_state, state_to_drain, Store, Committed, Draining, Speculative, StoreState, Faulted, Filled, drain, end_drain, start_drain, with_drained, Hardware, by_test}
+use Rattle.rv_hardware.proofs.Words.{◌≡◌, ℕ, ◌+◌, ◌-◌, ◌*◌, ◌<◌, ◌≤◌, true, false, cond, ◌⊎◌, List, [], ◌∷◌, length, nat_le, Some, None, Option, refl, ap, ◌∙◌, subst, inl, inr, arith, leb-false, leb-true, StoreAccess, access_cost, Each, oldest_to_drain, without_drained, access_to_drain, draining, is_committed_state, is_draining, is_draining_state, state_to_drain, Store, Committed, Draining, Speculative, StoreState, Faulted, Filled, drain, end_drain, start_drain, with_drained, Hardware, by_test}
 use Rattle.rv_stores.specs.declared.store.StoreState.TheVariants.{Waiting}
 use Rattle.rv_hardware.proofs.GapCosts.{access_cost-least, access_cost-most}
 use Rattle.rv_hardware.proofs.GapDrain.{IsKeptByDrain, drain-keeps}
@@ -16,12 +16,6 @@ next_port_time h = (h.port_free - (h.cycle + 1)) + time_of_stores (longest_acces
 pub record Drains (h after : Hardware) : Type 0 where
   pub fall : next_port_time after ≤ port_time h - 1
   pub port : ((h.cycle < after.port_free) × (1 ≤ port_time h)) ⊎ ((after.committed ≡ []) × (after.port_free ≤ h.cycle))
-
-le_from : (a b : ℕ) → nat_le a b ≡ true → a ≤ b
-le_from a b is = grind (arith, nat_tests)
-
-lt_from : (a b : ℕ) → nat_le a b ≡ false → b < a
-lt_from a b is = grind (arith, nat_tests)
 
 begun : (state : StoreState) → is_committed_state state ≡ true → is_draining_state (draining state) ≡ true
 begun Waiting is = absurd (cc)
@@ -76,9 +70,9 @@ module _ (h : Hardware) (idle : h.port_free ≤ h.cycle) (costs : 1 ≤ h.cache.
 pub drains : (h : Hardware) → HasQueue h → 1 ≤ h.cache.values.hit → Drains h (drain h)
 drains h queue costs =
     by_test (Drains h) (nat_le h.port_free h.cycle) (start_drain (oldest_to_drain (end_drain h).committed) (end_drain h)) h
-    (λ idle. leaves h (le_from h.port_free h.cycle idle) costs h.committed refl queue)
+    (λ idle. leaves h (leb-true h.port_free h.cycle idle) costs h.committed refl queue)
     (λ busy.
-    let later = lt_from h.port_free h.cycle busy in
+    let later = leb-false h.port_free h.cycle busy in
     record { fall = omega (arith, later); port = inl (later, omega (arith, later)) })
 
 -- ---- what a drain leaves as it was

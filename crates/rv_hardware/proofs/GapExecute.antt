@@ -7,7 +7,7 @@ use Rattle.rv_hardware.proofs.Repeated.{Leaves}
 use Rattle.rv_hardware.proofs.GapCycle.{IsKeptByPhases, execute-keeps}
 use Rattle.rv_hardware.proofs.GapDispatch.{IsKeptByDispatch, dispatch-keeps}
 use Rattle.rv_hardware.proofs.GapForms.{longest_execution}
-use Rattle.rv_hardware.proofs.GapHead.{HasBegun, HeadIs, Waits, head-change, head-cut, head-push}
+use Rattle.rv_hardware.proofs.GapHead.{HasBegun, HeadIs, Waits, head-change, head-cut, head-push, IsAnywhere}
 use Rattle.rv_hardware.proofs.GapPatience.{flight_time, head_time, patience, stage_time}
 use Rattle.rv_hardware.proofs.GapRunning.{AreEnding, Ending, EndsBy}
 
@@ -134,6 +134,11 @@ begun-patience h instruction plain head ends =
     plain-patience h instruction HasBegun (longest_execution h + 1) (h.cycle + longest_execution h) plain (λ stage is by. begun_stage h instruction stage is by) head ends
 
 -- ---- stages and results
+-- a result leaves any stage in one
+pub anywhere_closed : (cycle : ℕ) (stage : Stage) (message : Message) (issue : Option Issue) → result_at cycle stage ≡ Some message → IsAnywhere stage → IsAnywhere (Finished issue cycle message)
+anywhere_closed cycle stage message issue gives is = tt
+
+-- what has begun and gives a result has begun
 pub begun_closed : (cycle : ℕ) (stage : Stage) (message : Message) (issue : Option Issue) → result_at cycle stage ≡ Some message → HasBegun stage → HasBegun (Finished issue cycle message)
 begun_closed cycle stage message issue gives begun = refl
 

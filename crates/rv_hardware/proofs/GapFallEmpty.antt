@@ -1,5 +1,5 @@
 -- Where nothing is in flight, a cycle fetches, dispatches, or brings the retired stores nearer to their end.
-use Rattle.rv_hardware.proofs.Words.{◌≡◌, ℕ, zero, suc, ◌+◌, ◌-◌, ◌*◌, ◌≤◌, Bool, true, false, cond, ◌&&◌, List, [], ◌∷◌, ◌++◌, length, nat_le, Some, None, filter, Option, sym, refl, ap, ◌∙◌, subst, arith, length-append, and_parts, nat_tests, is_store, kind_of_word, at_kind, Kind, CacheValues, Values, Memory, Store, Entry, FetchBuffer, Fetches, FetchesInto, FetchStop, Fetched, broadcast, any_prediction, execute, Dispatching, dispatch, dispatch_turn, dispatch_turn_of, dispatch_unless, has_full_stations, is_stationed, reason_of, with_dispatched, drain, Hardware, issue, followed_by, repeated, stores_behind, Stall}
+use Rattle.rv_hardware.proofs.Words.{◌≡◌, ℕ, zero, suc, ◌+◌, ◌-◌, ◌*◌, ◌≤◌, Bool, true, false, cond, ◌&&◌, List, [], ◌∷◌, ◌++◌, length, nat_le, Some, None, filter, Option, sym, refl, ap, ◌∙◌, subst, arith, length-append, leb-true, and_parts, nat_tests, is_store, kind_of_word, at_kind, Kind, CacheValues, Values, Memory, Store, Entry, FetchBuffer, Fetches, FetchesInto, FetchStop, Fetched, broadcast, any_prediction, execute, Dispatching, dispatch, dispatch_turn, dispatch_turn_of, dispatch_unless, has_full_stations, is_stationed, reason_of, with_dispatched, drain, Hardware, issue, followed_by, repeated, stores_behind, Stall}
 use Rattle.rv_hardware.specs.declared.report.Stall.TheVariants as stall
 use Rattle.rv_hardware.proofs.GapBound.{flight_time-most}
 use Rattle.rv_hardware.proofs.GapBroadcast.{IsKeptByBroadcast, broadcast-keeps}
@@ -10,7 +10,7 @@ use Rattle.rv_hardware.proofs.GapDrained.{Drains, drain-same, next_port_time}
 use Rattle.rv_hardware.proofs.GapExecute.{execute-same, later, same-longest}
 use Rattle.rv_hardware.proofs.GapFetch.{fetch-cases}
 use Rattle.rv_hardware.proofs.GapForms.{longest_access, longest_execution, longest_write_back}
-use Rattle.rv_hardware.proofs.GapHalted.{HaltsBehind, words_of}
+use Rattle.rv_hardware.proofs.GapHalted.{HaltsBehind, words_of, runs-empty}
 use Rattle.rv_hardware.proofs.GapIssue.{IsKeptByIssue, issue-keeps}
 use Rattle.rv_hardware.proofs.GapPatience.{fetch_time, flight_time, patience, port_time, time_of_stores}
 use Rattle.rv_hardware.proofs.GapReasons.{is_any_serialising}
@@ -63,9 +63,6 @@ last_reason : (b : Bool) (reason : Stall) → cond b (Some stall.Store) None ≡
 last_reason true reason is = refl
 last_reason false reason is = absurd (cc)
 
-le_from : (a b : ℕ) → nat_le a b ≡ true → a ≤ b
-le_from a b is = grind (arith, nat_tests)
-
 some_stations : (h : Hardware) (k : Kind) → HasSizes h → 1 ≤ (at_kind k h.values.kinds).stations
 some_stations h k sizes = (sizes.legal.kinds k).stations.0
 
@@ -87,7 +84,7 @@ waits_for_stores h fetched reason sizes none is =
     let b = next_reason (nat_le h.rob.capacity (length h.rob.entries)) stall.Rob third reason a room in
     let c = next_reason (has_full_stations h (kind_of_word fetched.instruction)) stall.Station fourth reason b (free_stations h (kind_of_word fetched.instruction) sizes none) in
     let stores = (and_parts (is_store fetched.instruction) (nat_le h.values.store_queue (length (stores_behind h h.rob.entries))) (last_reason full reason c)).1 in
-    let many = le_from h.values.store_queue (length (stores_behind h h.rob.entries)) stores in
+    let many = leb-true h.values.store_queue (length (stores_behind h h.rob.entries)) stores in
     let count : length (stores_behind h h.rob.entries) ≡ length (stores_behind h []) = ap (λ l. length (stores_behind h l)) none in
     let empty : List Store = [] in
     omega (arith, many, count, length-append h.committed empty)
@@ -158,10 +155,6 @@ some_time : (access : ℕ) (stores : List Store) → 1 ≤ length stores → 1 �
 some_time access [] some = absurd (omega arith)
 some_time access (s ∷ ss) some = omega arith
 
-runs_on : (halted : Bool) → HaltsBehind halted [] → halted ≡ false
-runs_on true behind = absurd (cc)
-runs_on false behind = refl
-
 in_flight_most : (g : Hardware) → IsBounded g → (entries : List Entry) → g.rob.entries ≡ entries → IsCons entries → patience g ≤ port_time g + longest_write_back g + 2 * longest_execution g + 2
 in_flight_most g sound [] split some = absurd some
 in_flight_most g sound (e ∷ es) split some = flight_time-most g sound e es split
@@ -212,7 +205,7 @@ module _ (h : Hardware) (front : FetchBuffer) (ram : Memory) (cycle : ℕ) (stop
       let old_front : d.front ≡ h.front = ap (λ (g : Hardware). g.front) same ∙ nothing.3 in
       let no_words : h.front.entries ≡ [] = ap (λ (f : FetchBuffer). f.entries) (sym nothing.3) ∙ words in
       let no_entry : words_of h.rob.entries h.front.entries ≡ [] = ap (λ es. words_of es h.front.entries) none ∙ ap (λ ws. words_of [] ws) no_words in
-      let runs = runs_on h.front.halted (subst (HaltsBehind h.front.halted) no_entry halts) in
+      let runs = runs-empty h.front.halted (subst (HaltsBehind h.front.halted) no_entry halts) in
       let after : HasSizes d = execute-keeps sizes-kept.phases h sizes in
       let wide : 1 ≤ d.front.width = omega (arith, after.width_is, after.legal.pipeline.fetch_width.0) in
       let room : 1 ≤ d.front.capacity = omega (arith, after.buffer_is, after.legal.pipeline.fetch_buffer.0) in

@@ -1,25 +1,23 @@
 -- Where FENCE.I is the oldest instruction, a cycle brings the port, the retired stores and the dirty lines nearer to their end.
-use Rattle.rv_hardware.proofs.Words.{◌≡◌, ℕ, ◌+◌, ◌*◌, ◌<◌, ◌≤◌, true, false, List, [], ◌∷◌, ◌++◌, nat_le, ◌==◌, Some, Option, sym, refl, ap, ◌∙◌, subst, arith, eqb-false, false≢true, nat_tests, is_of_kind, kind_of_word, Message, Instr, FenceI, Issue, Kind, CacheValues, Values, Each, oldest_to_drain, Store, Entry, Stage, Finished, FetchBuffer, broadcast, result_at, is_drained, with_write_back, write_back_time, execute, drain, end_drain, start_drain, Hardware, issue, by_test, Each-right}
+use Rattle.rv_hardware.proofs.Words.{◌≡◌, ℕ, ◌+◌, ◌*◌, ◌≤◌, true, false, List, [], ◌∷◌, ◌++◌, nat_le, ◌==◌, Some, Option, sym, refl, ap, ◌∙◌, subst, arith, leb-false, eqb-false, false≢true, lt-leb, is_of_kind, kind_of_word, Instr, FenceI, Kind, CacheValues, Values, Each, oldest_to_drain, Store, Entry, FetchBuffer, broadcast, is_drained, with_write_back, write_back_time, execute, drain, end_drain, start_drain, Hardware, issue, by_test, Each-right}
+use Rattle.rv_hardware.proofs.GapBound.{dirty_time-most}
 use Rattle.rv_hardware.proofs.GapBroadcast.{IsKeptByBroadcast, broadcast-keeps}
 use Rattle.rv_hardware.proofs.GapDispatch.{IsKeptByDispatch, dispatch-keeps}
 use Rattle.rv_hardware.proofs.GapDrain.{drain-keeps}
 use Rattle.rv_hardware.proofs.GapDrained.{Drains, SameButPort, drain-same, next_port_time}
-use Rattle.rv_hardware.proofs.GapExecute.{broadcast-same, head-broadcasted, head-dispatched, head-patience, issued-same, later}
+use Rattle.rv_hardware.proofs.GapExecute.{broadcast-same, head-broadcasted, head-dispatched, head-patience, issued-same, later, anywhere_closed}
 use Rattle.rv_hardware.proofs.GapForms.{longest_access, longest_execution, longest_write_back}
-use Rattle.rv_hardware.proofs.GapHead.{HeadIs}
+use Rattle.rv_hardware.proofs.GapHead.{HeadIs, IsAnywhere}
 use Rattle.rv_hardware.proofs.GapIssue.{IsKeptByIssue, issue-keeps, ready-parts}
 use Rattle.rv_hardware.proofs.GapPatience.{dirty_time, patience, port_time, time_of_stores}
 use Rattle.rv_hardware.proofs.GapRunning.{AreEnding}
-use Rattle.rv_hardware.proofs.GapSets.{HasRoom, clean-after, room-kept, write_back_time-most}
+use Rattle.rv_hardware.proofs.GapSets.{HasRoom, clean-after, room-kept}
 
 abbrev fence : Option Instr
 fence = Some FenceI
 
 abbrev IsFence : Entry → Type 0
 IsFence e = e.instruction ≡ fence
-
-abbrev IsAnywhere : Stage → Type 0
-IsAnywhere stage = Unit {0}
 
 never_issued : (k : Kind) (older younger : List Entry) (e : Entry) (entries : List Entry) → Each IsFence entries → entries ≡ older ++ e ∷ younger → is_of_kind k (kind_of_word e.instruction) ≡ true → ⊥
 never_issued k older younger e entries each split of_kind =
@@ -57,9 +55,6 @@ module _ (h : Hardware) (front : FetchBuffer) (e : Entry) (split : h.rob.entries
   lasts_dispatch : (port dirty : ℕ) → IsKeptByDispatch (Lasts port dirty)
   lasts_dispatch port dirty = record { dispatches = λ g fetched rest lasts first none. lasts }
 
-  anywhere_closed : (stage : Stage) (message : Message) (start : Option Issue) → result_at h.cycle stage ≡ Some message → IsAnywhere stage → IsAnywhere (Finished start h.cycle message)
-  anywhere_closed stage message start gives there = tt
-
   pub fence_patience : AreEnding new → patience new ≤ next_port_time (drain h) + dirty_time (drain h) (drain h).committed + 1
   fence_patience ending =
       let port : ℕ = next_port_time (drain h) in
@@ -71,8 +66,8 @@ module _ (h : Hardware) (front : FetchBuffer) (e : Entry) (split : h.rob.entries
       let lasts : Lasts port dirty (execute h).hardware =
       dispatch-keeps (lasts_dispatch port dirty) (broadcast issued) (broadcast-keeps (lasts_broadcast port dirty) issued after.2) in
       let there : HeadIs fence IsAnywhere new.rob.entries =
-      head-dispatched fence IsAnywhere h.cycle anywhere_closed (broadcast issued)
-      (head-broadcasted fence IsAnywhere h.cycle anywhere_closed issued after.1 (issued-same h).2) (broadcast-same issued ∙ (issued-same h).2) in
+      head-dispatched fence IsAnywhere h.cycle (anywhere_closed h.cycle) (broadcast issued)
+      (head-broadcasted fence IsAnywhere h.cycle (anywhere_closed h.cycle) issued after.1 (issued-same h).2) (broadcast-same issued ∙ (issued-same h).2) in
       head-patience new fence IsAnywhere (port + dirty + 1) (new.cycle + longest_execution new) (λ stage is ends. omega (arith, lasts.0, lasts.1)) there ending
 
 -- ---- stores or the port are waited for
@@ -81,18 +76,11 @@ same_lines h g same =
     ap (λ (c : CacheValues). c.sets * c.ways * g.values.cache.write_back) same.cache
     ∙ ap (λ (v : Values). h.cache.values.sets * h.cache.values.ways * v.cache.write_back) same.values
 
-dirty_most : (g : Hardware) (stores : List Store) → HasRoom g → dirty_time g stores ≤ longest_write_back g
-dirty_most g [] room = write_back_time-most g room
-dirty_most g (s ∷ ss) room = omega arith
-
 not_drained_empty : (h : Hardware) → h.committed ≡ [] → is_drained h ≡ false → nat_le h.port_free h.cycle ≡ false
 not_drained_empty h none waits = by_committed h.committed none waits where
   by_committed : (stores : List Store) → stores ≡ [] → is_drained (record h { committed = stores }) ≡ false → nat_le h.port_free h.cycle ≡ false
   by_committed [] is drained = drained
   by_committed (s ∷ ss) is drained = absurd (cc)
-
-le_no : (a b : ℕ) → nat_le a b ≡ false → b < a
-le_no a b is = grind (arith, nat_tests)
 
 busy_same : (h : Hardware) → nat_le h.port_free h.cycle ≡ false → drain h ≡ h
 busy_same h busy =
@@ -103,7 +91,7 @@ fence_waits : (h : Hardware) (stores : List Store) → h.committed ≡ stores �
     next_port_time (drain h) + dirty_time (drain h) (drain h).committed + 1 ≤ port_time h + dirty_time h h.committed
 fence_waits h [] none drains room waits =
     let busy = not_drained_empty h none waits in
-    let later_than = le_no h.port_free h.cycle busy in
+    let later_than = leb-false h.port_free h.cycle busy in
     let some : 1 ≤ port_time h = omega (arith, later_than) in
     let dirty : dirty_time (drain h) (drain h).committed ≡ dirty_time h h.committed = ap (λ g. dirty_time g g.committed) (busy_same h busy) in
     omega (arith, drains.fall, some, dirty)
@@ -111,7 +99,7 @@ fence_waits h (s ∷ ss) stores drains room waits =
     let time : time_of_stores (longest_access h) h.committed ≡ time_of_stores (longest_access h) (s ∷ ss) = ap (time_of_stores (longest_access h)) stores in
     let some : 1 ≤ port_time h = omega (arith, time) in
     let after : HasRoom (drain h) = drain-keeps room-kept.phases.drain h room in
-    let most = dirty_most (drain h) (drain h).committed after in
+    let most = dirty_time-most (drain h) (drain h).committed after in
     let all : dirty_time h h.committed ≡ longest_write_back h = ap (dirty_time h) stores in
     omega (arith, drains.fall, some, most, same_lines h (drain h) (drain-same h), all)
 
@@ -126,9 +114,6 @@ drained_none : (h : Hardware) (stores : List Store) → h.committed ≡ stores �
 drained_none h [] is drained = is
 drained_none h (s ∷ ss) is drained = absurd (cc)
 
-le_yes : (a b : ℕ) → b < a → nat_le a b ≡ false
-le_yes a b is = grind (arith, nat_tests)
-
 -- a cycle in which FENCE.I's write-back begins lowers the patience
 pub fall_write_back : (h : Hardware) (front : FetchBuffer) (e : Entry) → h.rob.entries ≡ e ∷ [] → e.instruction ≡ Some FenceI → is_drained h ≡ true → (write_back_time h == 0) ≡ false →
     AreEnding (later front (execute (with_write_back h)).hardware) → patience (later front (execute (with_write_back h)).hardware) + 1 ≤ port_time h + dirty_time h h.committed + 1
@@ -136,7 +121,7 @@ fall_write_back h front e split is drained dirty ending =
     let g : Hardware = with_write_back h in
     let none : h.committed ≡ [] = drained_none h h.committed refl drained in
     let some : 1 ≤ write_back_time h = omega (arith, eqb-false (write_back_time h) 0 dirty) in
-    let still : drain g ≡ g = busy_same g (le_yes (h.cycle + write_back_time h) h.cycle (omega (arith, some))) in
+    let still : drain g ≡ g = busy_same g (lt-leb (h.cycle + write_back_time h) h.cycle (omega (arith, some))) in
     let stores : time_of_stores (longest_access g) g.committed ≡ 0 = ap (time_of_stores (longest_access g)) none in
     let port : next_port_time (drain g) ≡ next_port_time g = ap next_port_time still in
     let lines : dirty_time (drain g) (drain g).committed ≡ dirty_time g [] = ap (λ x. dirty_time x x.committed) still ∙ ap (dirty_time g) none in

@@ -1,5 +1,5 @@
 -- Where the oldest instruction executes, a cycle brings its end nearer.
-use Rattle.rv_hardware.proofs.Words.{◌≡◌, ℕ, suc, ◌+◌, ◌-◌, ◌<◌, ◌≤◌, true, false, not, List, [], ◌∷◌, ◌++◌, length, is_none, nat_le, Some, None, Option, sym, refl, ap, ◌∙◌, subst, inl, inr, arith, cases_lt, cond-false, cond-true, false≢true, nat_tests, is_serialising, Message, Instr, Issue, Kind, Values, finished, predicting, started, Entry, Stage, Finished, Running, Waiting, FetchBuffer, broadcast, broadcast_oldest, broadcast_result, broadcast_turn, has_result, result_at, execute, drain, Hardware, is_waiting, issue, oldest, oldest_from, repeated, by_test}
+use Rattle.rv_hardware.proofs.Words.{◌≡◌, ℕ, suc, ◌+◌, ◌-◌, ◌<◌, ◌≤◌, true, false, not, List, [], ◌∷◌, ◌++◌, length, is_none, nat_le, Some, None, Option, sym, refl, ap, ◌∙◌, subst, inl, inr, arith, le-leb, cases_lt, cond-false, cond-true, false≢true, lt-leb, is_serialising, Message, Instr, Issue, Kind, Values, finished, predicting, started, Entry, Stage, Finished, Running, Waiting, FetchBuffer, broadcast, broadcast_oldest, broadcast_result, broadcast_turn, has_result, result_at, execute, drain, Hardware, is_waiting, issue, oldest, oldest_from, repeated, by_test}
 use Rattle.rv_hardware.proofs.GapBroadcast.{IsMadeByBroadcast, result-makes}
 use Rattle.rv_hardware.proofs.GapDrained.{drain-same}
 use Rattle.rv_hardware.proofs.GapExecute.{broadcast-same, execute-same, head-broadcasted, head-dispatched, head-turn, issued-same, later, plain-patience}
@@ -22,22 +22,16 @@ IsOver (Running issue message) = ⊥
 IsOver (Finished issue cycle message) = Unit {0}
 
 -- ---- its result
-nat_le_no : (a b : ℕ) → b < a → nat_le a b ≡ false
-nat_le_no a b late = grind (arith, nat_tests)
-
-nat_le_yes : (a b : ℕ) → a ≤ b → nat_le a b ≡ true
-nat_le_yes a b due = grind (arith, nat_tests)
-
 not_yet : (end cycle : ℕ) (stage : Stage) → RunsUntil end stage → cycle < end → result_at cycle stage ≡ None
 not_yet end cycle Waiting runs late = absurd runs
 not_yet end cycle (Running issue message) runs late =
-    cond-false (nat_le (issue.cycle + issue.cost) cycle) (Some message) None (nat_le_no (issue.cycle + issue.cost) cycle (omega arith))
+    cond-false (nat_le (issue.cycle + issue.cost) cycle) (Some message) None (lt-leb (issue.cycle + issue.cost) cycle (omega arith))
 not_yet end cycle (Finished issue finished message) runs late = absurd runs
 
 result_due : (end cycle : ℕ) (stage : Stage) → RunsUntil end stage → end ≤ cycle → (message : Message) × (result_at cycle stage ≡ Some message)
 result_due end cycle Waiting runs due = absurd runs
 result_due end cycle (Running issue message) runs due =
-    (message, cond-true (nat_le (issue.cycle + issue.cost) cycle) (Some message) None (nat_le_yes (issue.cycle + issue.cost) cycle (omega arith)))
+    (message, cond-true (nat_le (issue.cycle + issue.cost) cycle) (Some message) None (le-leb (issue.cycle + issue.cost) cycle (omega arith)))
 result_due end cycle (Finished issue finished message) runs due = absurd runs
 
 not_waiting : (end : ℕ) (stage : Stage) → is_waiting stage ≡ true → RunsUntil end stage → ⊥

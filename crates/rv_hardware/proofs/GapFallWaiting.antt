@@ -1,12 +1,12 @@
 -- Where the oldest instruction waits for a unit or the port, a cycle brings them nearer, or it leaves.
-use Rattle.rv_hardware.proofs.Words.{◌≡◌, ℕ, zero, suc, ◌+◌, ◌-◌, ◌*◌, ◌<◌, ◌≤◌, Bool, true, false, cond, ◌⊎◌, [], nat_le, Some, Option, sym, refl, ap, ◌∙◌, subst, inl, inr, arith, nat_tests, is_load, is_serialising, kind_of_word, at_kind, Message, Instr, Issue, Kind, Values, Pool, is_free, started, Stage, Finished, Running, Waiting, FetchBuffer, broadcast, result_at, execute, drain, Hardware, issue}
+use Rattle.rv_hardware.proofs.Words.{◌≡◌, ℕ, zero, suc, ◌+◌, ◌-◌, ◌*◌, ◌<◌, ◌≤◌, Bool, true, false, cond, ◌⊎◌, [], nat_le, Some, Option, sym, refl, ap, ◌∙◌, subst, inl, inr, arith, nat_tests, is_load, is_serialising, kind_of_word, at_kind, Instr, Kind, Values, Pool, is_free, started, Stage, Finished, Running, Waiting, FetchBuffer, broadcast, execute, drain, Hardware, issue}
 use Rattle.rv_hardware.proofs.GapBound.{free_time-most, no_more, unit_time-most}
 use Rattle.rv_hardware.proofs.GapBroadcast.{IsKeptByBroadcast, broadcast-keeps}
 use Rattle.rv_hardware.proofs.GapDispatch.{IsKeptByDispatch, dispatch-keeps}
 use Rattle.rv_hardware.proofs.GapDrained.{Drains, drain-same, next_port_time}
-use Rattle.rv_hardware.proofs.GapExecute.{begun-patience, begun_closed, begun_stage, broadcast-same, execute-same, head-broadcasted, head-dispatched, issued-same, later, plain-patience, same-longest, waits_closed}
+use Rattle.rv_hardware.proofs.GapExecute.{begun-patience, begun_closed, begun_stage, broadcast-same, execute-same, head-broadcasted, head-dispatched, issued-same, later, plain-patience, same-longest, waits_closed, anywhere_closed}
 use Rattle.rv_hardware.proofs.GapForms.{longest_access, longest_execution}
-use Rattle.rv_hardware.proofs.GapHead.{HasBegun, HeadIs, Waits, head-change, head-weaken}
+use Rattle.rv_hardware.proofs.GapHead.{HasBegun, HeadIs, Waits, head-change, head-weaken, IsAnywhere}
 use Rattle.rv_hardware.proofs.GapIssue.{IsKeptByIssue, issue-keeps}
 use Rattle.rv_hardware.proofs.GapPatience.{free_time, patience, port_time, stage_time, time_of_stores, unit_time, waiting_time}
 use Rattle.rv_hardware.proofs.GapReady.{CanGo, cache_access}
@@ -111,12 +111,6 @@ module _ (h : Hardware) (front : FetchBuffer) (instruction : Option Instr) (k : 
       omega (arith, patient, least, is)
 
   -- ---- it waits for the port
-  abbrev IsAnywhere : Stage → Type 0
-  IsAnywhere stage = Unit {0}
-
-  anywhere_closed : (stage : Stage) (message : Message) (start : Option Issue) → result_at h.cycle stage ≡ Some message → IsAnywhere stage → IsAnywhere (Finished start h.cycle message)
-  anywhere_closed stage message start gives is = tt
-
   abbrev Busy : ℕ → Hardware → Type 0
   Busy time g = HeadIs instruction IsAnywhere g.rob.entries × (g.cycle < g.port_free) × (next_port_time g ≡ time)
 
@@ -162,7 +156,7 @@ module _ (h : Hardware) (front : FetchBuffer) (instruction : Option Instr) (k : 
       let lasts : port_time new ≡ time =
       dispatch-keeps (lasts_dispatch time) (broadcast issued) (broadcast-keeps (lasts_broadcast time) issued after.2) in
       let there : HeadIs instruction IsAnywhere new.rob.entries =
-      head-dispatched instruction IsAnywhere h.cycle anywhere_closed (broadcast issued) (head-broadcasted instruction IsAnywhere h.cycle anywhere_closed issued after.0 number) behind_number in
+      head-dispatched instruction IsAnywhere h.cycle (anywhere_closed h.cycle) (broadcast issued) (head-broadcasted instruction IsAnywhere h.cycle (anywhere_closed h.cycle) issued after.0 number) behind_number in
       let patient = plain-patience new instruction IsAnywhere (port_time new + 2 * longest_execution new + 2) (new.cycle + longest_execution new) plain
       (λ stage waiting ends. still_busy stage ends held) there ending in
       let port : cond (is_load instruction) (port_time h) 0 ≡ port_time h = rw load refl in

@@ -25,6 +25,11 @@ abbrev pub HaltsBehind : Bool → List (Option ℕ) → Type 0
 HaltsBehind true ws = last_of (Some 0) ws ≡ None
 HaltsBehind false ws = Unit {0}
 
+-- where there is no word, fetch is not halted
+pub runs-empty : (halted : Bool) → HaltsBehind halted [] → halted ≡ false
+runs-empty true behind = absurd (cc)
+runs-empty false behind = refl
+
 -- where fetch is halted, the last word, fetched or in flight, was not there
 abbrev pub IsHalted : Hardware → Type 0
 IsHalted h = AreShaped h × HaltsBehind h.front.halted (words_of h.rob.entries h.front.entries)

@@ -36,3 +36,7 @@ Waits stage = is_waiting stage ≡ true
 -- it has begun its execution, or needs none
 abbrev pub HasBegun : Stage → Type 0
 HasBegun stage = is_waiting stage ≡ false
+
+-- it is in any stage
+abbrev pub IsAnywhere : Stage → Type 0
+IsAnywhere stage = Unit {0}

@@ -1,5 +1,5 @@
 -- The oldest instruction is ready where it waits and can go, and only a load of the memory unit accesses the cache.
-use Rattle.rv_hardware.proofs.Words.{◌≡◌, ℕ, ◌≤◌, Bool, true, false, not, ◌&&◌, ◌||◌, ◌⊎◌, List, [], ◌∷◌, ◌++◌, nat_le, Some, None, Option, sym, refl, ap, ◌∙◌, inl, inr, arith, and_from, or_right, nat_tests, list_all, is_same-own, is_same-true, is_load, is_of_kind, kind_of_word, sources_of_word, Instr, Load, Kind, State, is_known as is_known_store, Store as QueuedStore, Entry, Hardware, is_waiting, stores_of, FromCache, FromStores, Path, Without, has_operands, has_port, is_ready, may_load, path, path_of, seen_behind, stores_behind}
+use Rattle.rv_hardware.proofs.Words.{◌≡◌, ℕ, ◌≤◌, Bool, true, false, not, ◌&&◌, ◌||◌, ◌⊎◌, List, [], ◌∷◌, ◌++◌, nat_le, Some, None, Option, sym, refl, ap, ◌∙◌, inl, inr, le-leb, and_from, or_right, list_all, is_same-own, is_same-true, is_load, is_of_kind, kind_of_word, sources_of_word, Instr, Load, Kind, State, is_known as is_known_store, Store as QueuedStore, Entry, Hardware, is_waiting, stores_of, FromCache, FromStores, Path, Without, has_operands, has_port, is_ready, may_load, path, path_of, seen_behind, stores_behind}
 use Rattle.rv_isa.specs.declared.operations.Kind.TheVariants as kind
 use Rattle.rv_hardware.proofs.GapIssue.{ready-parts}
 
@@ -45,13 +45,10 @@ known_operands (Some register ∷ sources) = known_operands sources
 abbrev pub CanGo : Option Instr → Hardware → Type 0
 CanGo instruction h = (is_load instruction ≡ false) ⊎ ((h.committed ≡ []) × (h.port_free ≤ h.cycle))
 
-le_passes : (a b : ℕ) → a ≤ b → nat_le a b ≡ true
-le_passes a b is = grind (arith, nat_tests)
-
 idle_port : (h : Hardware) (p : Path) → h.port_free ≤ h.cycle → has_port h p ≡ true
 idle_port h Without idle = refl
 idle_port h FromStores idle = refl
-idle_port h (FromCache address) idle = le_passes h.port_free h.cycle idle
+idle_port h (FromCache address) idle = le-leb h.port_free h.cycle idle
 
 may_go : (h : Hardware) (e : Entry) → CanGo e.instruction h → may_load h [] e ≡ true
 may_go h e (inl other) = rw other refl

@@ -1,5 +1,5 @@
 -- There are no more stores, retired or in flight, than the queue holds.
-use Rattle.rv_hardware.proofs.Words.{◌≡◌, ℕ, ◌+◌, ◌<◌, ◌≤◌, Bool, true, false, cond, ◌&&◌, List, [], ◌∷◌, ◌++◌, map, length, nat_le, Some, None, Option, refl, ap, ◌∙◌, subst, arith, length-append, nat_tests, is_store, Message, StoreAccess, Instr, Values, Each, with_oldest_draining, without_drained, is_draining, Store, finished, predicting, started, Entry, Stage, Finished, Running, Waiting, Fetched, entry_of_fetched, reason_of, Hardware, broadcast_of, stores_of, reset_hardware, committed_store, stores_behind, by_test, map-change}
+use Rattle.rv_hardware.proofs.Words.{◌≡◌, ℕ, ◌+◌, ◌≤◌, Bool, true, false, cond, ◌&&◌, List, [], ◌∷◌, ◌++◌, map, length, nat_le, Some, None, Option, refl, ap, ◌∙◌, subst, arith, length-append, leb-false, is_store, Message, StoreAccess, Instr, Values, Each, with_oldest_draining, without_drained, is_draining, Store, finished, predicting, started, Entry, Stage, Finished, Running, Waiting, Fetched, entry_of_fetched, reason_of, Hardware, broadcast_of, stores_of, reset_hardware, committed_store, stores_behind, by_test, map-change}
 use Rattle.rv_hardware.proofs.GapCycle.{IsKept, IsKeptByPhases}
 use Rattle.rv_hardware.proofs.GapEntries.{AreShaped, IsShaped, Shaped, TellsStore, shape-kept, shape-at_reset}
 use Rattle.rv_hardware.proofs.GapReasons.{no_reason}
@@ -81,11 +81,8 @@ same_count older younger old new same = ap store_count (map-change instruction_o
 count_of : (older younger : List Entry) → store_count (instructions_of (older ++ younger)) ≡ store_count (instructions_of older) + store_count (instructions_of younger)
 count_of older younger = ap store_count (instructions-append older younger) ∙ store_count-append (instructions_of older) (instructions_of younger)
 
-lt_from : (limit count : ℕ) → nat_le limit count ≡ false → count < limit
-lt_from limit count below = grind (arith, nat_tests)
-
 fits_one_more : (is_one : Bool) (count limit : ℕ) → (is_one && nat_le limit count) ≡ false → count ≤ limit → count + cond is_one 1 0 ≤ limit
-fits_one_more true count limit may fits = omega (arith, lt_from limit count may)
+fits_one_more true count limit may fits = omega (arith, leb-false limit count may)
 fits_one_more false count limit may fits = omega arith
 
 fits_dispatched : (h : Hardware) (fetched : Fetched) → HasStores h → reason_of h fetched ≡ None → FitQueue h h.committed (h.rob.entries ++ entry_of_fetched h fetched ∷ [])

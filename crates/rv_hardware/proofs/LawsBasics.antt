@@ -3,7 +3,7 @@ use Rattle.rv_hardware.proofs.Words.{◌≡◌, ℕ, ◌+◌, ◌≤◌, Bool, t
 use Rattle.rv_hardware.proofs.LawsMarks.{mark_of_entry, mark_of_fetched, start_of_issue, start_of_stage, broadcast_of_stage}
 use Rattle.rv_hardware.proofs.LawsRow.{SoundRow}
 use Rattle.rv_hardware.proofs.LawsShape.{HasShape}
-use Rattle.rv_hardware.proofs.LawsSound.{SoundCost, SoundEntry, SoundStage, SoundFetched, is_of_kind_is}
+use Rattle.rv_hardware.proofs.LawsSound.{SoundCost, SoundEntry, SoundStage, SoundFetched, some_kind}
 
 -- a serialising instruction is the youngest
 abbrev pub SerialIsLast : List Entry → Type 0
@@ -41,10 +41,6 @@ ready_has h k older e ready =
       operands = and_second (is_waiting e.stage && is_of_kind k (kind_of_word e.instruction)) (has_operands older (sources_of_word e.instruction)) three;
       load = and_second (is_waiting e.stage && is_of_kind k (kind_of_word e.instruction) && has_operands older (sources_of_word e.instruction)) (may_load h older e) ready;
     }
-
-some_kind : (k : Kind) (o : Option Kind) → is_of_kind k o ≡ true → is_some o ≡ true
-some_kind k None h = absurd (let none = is_of_kind_is k None h in cc)
-some_kind k (Some j) h = refl
 
 -- the entries of each phase are sound
 

@@ -1,17 +1,9 @@
 -- Where marks are counted at the end of each cycle, no more rows pass the test of a cycle than marks did.
-use Rattle.rv_hardware.proofs.Words.{◌≡◌, ℕ, suc, ◌<◌, ◌≤◌, Bool, true, false, cond, ◌&&◌, List, [], ◌∷◌, ◌++◌, map, Some, None, count_by, filter, refl, ap, ◌∙◌, subst, inl, inr, arith, le-leb, cases_lt, lt-leb, map-append, Lines, Values, Each, Hardware, Report, rows_of, Row, Step, Each-weaker, EveryBehind, count, count-count_by, count-none, count-map, count-le, Beginning-count, EveryBehind-at}
+use Rattle.rv_hardware.proofs.Words.{◌≡◌, ℕ, suc, ◌<◌, ◌≤◌, Bool, true, false, cond, ◌&&◌, List, [], ◌∷◌, ◌++◌, map, count_by, filter, refl, ap, ◌∙◌, subst, inl, inr, arith, le-leb, cases_lt, map-append, Lines, Values, Each, Hardware, Report, rows_of, Row, Step, Each-weaker, EveryBehind, count, count-count_by, count-none, count-map, count-le, Beginning-count, EveryBehind-at}
 use Rattle.rv_hardware.proofs.LawsCycle.{Passed, History, history_is_sound}
-use Rattle.rv_hardware.proofs.LawsMarks.{Mark, mark_of_row, marks_in, at_end, as_of, as_of-append, as_of-cons, was_fetched, until, Extends}
+use Rattle.rv_hardware.proofs.LawsMarks.{Mark, mark_of_row, marks_in, at_end, as_of, as_of-append, as_of-cons, was_fetched, Extends}
 use Rattle.rv_hardware.proofs.LawsPast.{rows_obey}
 use Rattle.rv_hardware.proofs.LawsRow.{SoundRow}
-
--- a stamp that was made by a cycle, and one that was not
-pub until_by : (c d : ℕ) → d ≤ c → until c (Some d) ≡ Some d
-until_by c d le = rw (le-leb d c le) refl
-
--- a stamp of a later cycle was not there by an earlier one
-pub until_not : (c d : ℕ) → c < d → until c (Some d) ≡ None
-until_not c d lt = rw (lt-leb d c lt) refl
 
 -- counts as of a cycle
 

@@ -5,7 +5,7 @@ use Rattle.rv_hardware.specs.InFlight.{is_known}
 use Rattle.rv_hardware.proofs.LawsAdvance.{IsBefore, writes_mark, IsKnownMark, OperandsKnown, IsKnownStore, IsSentIfReady, is_in_flight_mark, is_stationed_mark}
 use Rattle.rv_hardware.proofs.LawsMarks.{Mark, mark_of_row, mark_of_entry, broadcast_of_stage, start_of_stage, broadcast_of_execution, start_of_execution}
 use Rattle.rv_hardware.proofs.LawsRow.{SoundRow}
-use Rattle.rv_hardware.proofs.LawsSound.{SoundEntry, SoundStage, is_of_kind_is}
+use Rattle.rv_hardware.proofs.LawsSound.{SoundEntry, SoundStage, is_of_kind_is, some_kind}
 
 -- the last element that passes a test, of two lists
 
@@ -182,12 +182,8 @@ row_started v bound k row sound = by_kind (is_of_kind k (kind_of_word (instructi
     has_started None h = absurd (cc)
     has_started (Some x) h = refl
 
-    some_kind : (o : Option Kind) → is_of_kind k o ≡ true → is_some o ≡ true
-    some_kind None h = absurd (let none = is_of_kind_is k None h in cc)
-    some_kind (Some j) h = refl
-
     by_kind : (b : Bool) → is_of_kind k (kind_of_word (instruction_of row.word)) ≡ b → (b && (true && is_none (start_of_execution row.execution))) ≡ false
-    by_kind true is = has_started row.execution (sound.stamps.executed_by_a_unit ∙ some_kind (kind_of_word (instruction_of row.word)) is)
+    by_kind true is = has_started row.execution (sound.stamps.executed_by_a_unit ∙ some_kind k (kind_of_word (instruction_of row.word)) is)
     by_kind false is = refl
 
 stationed_by : (v : Values) (i : Option Instr) (D a b : ℕ) (st : Stage) (k : Kind) → SoundStage v i D a b st → (is_of_kind k (kind_of_word i) && (true && is_none (start_of_stage st))) ≡ true →

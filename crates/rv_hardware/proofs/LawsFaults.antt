@@ -1,10 +1,10 @@
 -- A fault that a unit finds is of a branch, a jump, a load or a store.
-use Rattle.rv_hardware.proofs.Words.{◌≡◌, ℕ, ◌+◌, Bool, true, false, cond, not, List, [], ◌∷◌, ◌++◌, is_some, nat_le, Some, None, Option, sym, refl, ap, subst, holds, is_of_kind, is_serialising, kind_of_word, bytes_of, width_of, pc_plus, Message, StoreAccess, InstructionAddressMisaligned, LoadAccessFault, LoadAddressMisaligned, StoreAccessFault, StoreAddressMisaligned, Fault, Instr, Branch, Csr, Ebreak, Ecall, Jal, Jalr, Load, Lines, Kind, LoadForm, Width, Values, Layout, is_aligned, is_in_ram, is_writable, Effect, Faults, Retires, branches, effect, goes_to, jumps, loads, stores, State, register_of, Each, finished, issue_of, predicting, started, Entry, Stage, Finished, Running, Waiting, result_at, entry_of_fetched, stage_by, Hardware, is_waiting, reset_hardware, access_of, effect_message, result_of_word, layout_of, seen_behind, needs_no_unit, by_test, Each-push, Each-change}
+use Rattle.rv_hardware.proofs.Words.{◌≡◌, ℕ, ◌+◌, Bool, true, false, cond, not, List, [], ◌∷◌, ◌++◌, is_some, nat_le, Some, None, Option, sym, refl, subst, holds, is_serialising, kind_of_word, bytes_of, width_of, pc_plus, Message, StoreAccess, InstructionAddressMisaligned, LoadAccessFault, LoadAddressMisaligned, StoreAccessFault, StoreAddressMisaligned, Fault, Instr, Branch, Csr, Ebreak, Ecall, Jal, Jalr, Load, Lines, Kind, LoadForm, Width, Values, Layout, is_aligned, is_in_ram, is_writable, Effect, Faults, Retires, branches, effect, goes_to, jumps, loads, stores, State, register_of, Each, finished, issue_of, predicting, started, Entry, Stage, Finished, Running, Waiting, result_at, entry_of_fetched, stage_by, Hardware, is_waiting, reset_hardware, access_of, effect_message, result_of_word, layout_of, seen_behind, needs_no_unit, by_test, Each-push, Each-change}
 use Rattle.rv_isa.specs.declared.instructions.Instr.TheVariants.{Store}
 use Rattle.rv_hardware.proofs.GapCycle.{IsKept, IsKeptByPhases}
 use Rattle.rv_hardware.proofs.GapEntries.{AreShaped, HasWordOr, IsShaped, Shaped, shape-kept, shape-at_reset}
 use Rattle.rv_hardware.proofs.GapForms.{IsResultOfWord}
-use Rattle.rv_hardware.proofs.LawsSound.{is_of_kind_is}
+use Rattle.rv_hardware.proofs.LawsSound.{some_kind}
 
 -- what a unit finds
 abbrev FindsFault : Effect → Type 0
@@ -71,9 +71,6 @@ GivesUnitFault e = GivesUnitFaultIn e.stage
 -- each instruction in flight gives no fault but one that its unit finds
 abbrev pub HasFaults : Hardware → Type 0
 HasFaults h = AreShaped h × Each GivesUnitFault h.rob.entries
-
-some_kind : (k : Kind) (o : Option Kind) → is_of_kind k o ≡ true → is_some o ≡ true
-some_kind k o is = ap is_some (is_of_kind_is k o is)
 
 waits_for_word : (word : Option ℕ) (instruction : Option Instr) (stage : Stage) → is_waiting stage ≡ true → IsShaped word instruction stage → HasWordOr None word
 waits_for_word word instruction Waiting waits shaped = shaped.0

@@ -1,5 +1,5 @@
 -- After a step the next instruction neither waits without need nor was it fetched late.
-use Rattle.rv_hardware.proofs.Words.{◌≡◌, ℕ, suc, ◌+◌, ◌<◌, ◌≤◌, max, Bool, true, false, cond, ◌&&◌, ◌⊎◌, List, [], ◌∷◌, ◌++◌, length, is_some, ◌==◌, Some, None, Option, option_map, nat_cmp, unwrap_or, sym, refl, ap, ◌∙◌, subst, inl, inr, true≢false, append_assoc, arith, length-append, is_fence_i, is_serialising, is_store, kind_of_word, Message, Cause, Fault, Instr, FenceI, Issue, Values, word_of, interrupt_cause, Stop, Each, Entry, Stage, Finished, Running, Waiting, Fetched, Committing, commit_turn, commit_turn_of, commit_unless, execute_head, fence_instructions, head_turn, is_drained, with_fault, write_back_time, Hardware, broadcast_of, DoesNotWait, IsTrappedSoon, Ends, GoesOn, Turn, execution_of, written_of, is_store_row, last_that, needs_no_unit, stamp_of, Execution, Row, Step, Interrupt, Retired, Trap, by_test, EveryBehind, EveryBehind-append}
+use Rattle.rv_hardware.proofs.Words.{◌≡◌, ℕ, suc, ◌+◌, ◌<◌, ◌≤◌, max, Bool, true, false, cond, ◌&&◌, ◌⊎◌, List, [], ◌∷◌, ◌++◌, length, is_some, ◌==◌, Some, None, Option, option_map, nat_cmp, unwrap_or, sym, refl, ap, ◌∙◌, subst, inl, inr, true≢false, append_assoc, arith, length-append, is_fence_i, is_serialising, is_store, kind_of_word, Message, Cause, Fault, Instr, FenceI, Issue, Values, word_of, interrupt_cause, Stop, Each, Entry, Stage, Finished, Running, Waiting, Fetched, Committing, commit_turn, commit_turn_of, commit_unless, execute_head, fence_instructions, head_turn, is_drained, with_fault, write_back_time, Hardware, broadcast_of, DoesNotWait, IsTrappedSoon, Ends, GoesOn, Turn, execution_of, written_of, is_store_row, last_that, needs_no_unit, stamp_of, Execution, Row, Step, Interrupt, Retired, Trap, by_test, not_both, EveryBehind, EveryBehind-append}
 use Rattle.std.specs.FinSet as set
 use Rattle.rv_isa.specs.declared.instructions.Instr.TheVariants.{Store}
 use Rattle.rv_arch.specs.declared.outcome.Stop.TheVariants as stop
@@ -74,9 +74,6 @@ no_kind_no_store i h = refl
 no_store : (store_waits : Bool) (i : Option Instr) → kind_of_word i ≡ None → (store_waits && is_store i) ≡ false
 no_store true i h = no_kind_no_store i h
 no_store false i h = refl
-
-not_both : {b : Bool} {P : Type 0} → b ≡ true → b ≡ false → P
-not_both is isnt = absurd (cc)
 
 -- the cycle in which an execution is known, from that of the dispatch
 abbrev known_from : ℕ → Option Execution → ℕ

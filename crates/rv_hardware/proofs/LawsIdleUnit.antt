@@ -1,5 +1,5 @@
 -- Marks that go on keep it that no pipelined unit is idle while an instruction that is no load has its operands.
-use Rattle.rv_hardware.proofs.Words.{◌≡◌, ℕ, ◌<◌, ◌≤◌, Bool, true, false, cond, not, ◌&&◌, ◌||◌, List, [], ◌∷◌, ◌++◌, map, is_some, IfSome, Some, None, Option, sym, refl, ap, ◌∙◌, subst, true≢false, append_assoc, arith, and_from, is_load, is_of_kind, is_serialising, is_target, kind_of_word, sources_of_word, target_of_word, Instr, Kind, Values, Each, Entry, Stage, Finished, Running, Waiting, Fetched, Hardware, broadcast_of, is_known_from, is_waiting, writes, has_operands, is_ready, may_load, last_from, last_that, Execution, Row, and_second, Each-append, Each-right, Each-set, Each-place, EveryBehind, count, count-set-grows, EveryBehind-left, EveryBehind-set}
+use Rattle.rv_hardware.proofs.Words.{◌≡◌, ℕ, ◌<◌, ◌≤◌, Bool, true, false, cond, not, ◌&&◌, ◌||◌, List, [], ◌∷◌, ◌++◌, map, is_some, IfSome, Some, None, Option, sym, refl, ap, ◌∙◌, subst, true≢false, append_assoc, arith, and_from, is_load, is_of_kind, is_serialising, is_target, kind_of_word, sources_of_word, target_of_word, Instr, Kind, Values, Each, Entry, Stage, Finished, Running, Waiting, Fetched, Hardware, broadcast_of, is_known_from, is_waiting, writes, has_operands, is_ready, may_load, last_from, last_that, Execution, Row, never_both, Each-append, Each-right, Each-set, Each-place, EveryBehind, count, count-set-grows, EveryBehind-left, EveryBehind-set}
 use Rattle.rv_hardware.specs.InFlight.{is_known}
 use Rattle.rv_hardware.proofs.LawsAdvance.{IsBefore, writes_mark, IsKnownMark, OperandsKnown, Advances, retires, starts, is_sent, enters, Kept}
 use Rattle.rv_hardware.proofs.LawsEvidence.{last_from-append}
@@ -122,12 +122,9 @@ itself k j v now xs m n (starts a) h may = some_not_none n.start a.start (ap (λ
 itself k j v now xs m n (is_sent a) h may = some_not_none n.start a.start (ap (λ x. x.start) a.becomes ∙ a.started) may.not_yet
 itself k j v now xs m n (enters a) h may = not_now now n.dispatched (ap (λ x. x.dispatched) a.becomes) may.dispatched
 
-none_begins : {P : Type 0} (b : Bool) → (b && false) ≡ true → P
-none_begins b h = absurd (let no_more = and_second b false h in cc)
-
 still_begins : (k : Kind) (v : Values) (now : ℕ) (xs : List Mark) (m n : Mark) → Advances v now xs m n → begins_mark k now m ≡ true → begins_mark k now n ≡ true
 still_begins k v now xs m n (retires a) h = rw (a.becomes) h
-still_begins k v now xs m n (starts a) h = none_begins (is_of_kind k (kind_of_word m.instruction)) (subst (λ o. (is_of_kind k (kind_of_word m.instruction) && starts_at now o) ≡ true) a.not_yet h)
+still_begins k v now xs m n (starts a) h = never_both (is_of_kind k (kind_of_word m.instruction)) (subst (λ o. (is_of_kind k (kind_of_word m.instruction) && starts_at now o) ≡ true) a.not_yet h)
 still_begins k v now xs m n (is_sent a) h = rw (a.becomes) h
 still_begins k v now xs m n (enters a) h = rw (a.becomes) h
 

@@ -1,5 +1,5 @@
 -- The marks of rows, instructions in flight and fetched words go on, and stand as they stood at the end of each earlier cycle.
-use Rattle.rv_hardware.proofs.Words.{◌≡◌, ℕ, ◌<◌, ◌≤◌, Bool, true, false, cond, List, [], ◌∷◌, ◌++◌, map, is_some, if◌then◌else◌, nat_le, Some, None, filter, Option, sym, refl, ap, ◌∙◌, append_assoc, append-nil, arith, lt-leb, map-append, filter-append, Message, Instr, Issue, instruction_of, Each, Entry, Stage, Finished, Running, Waiting, Fetched, Hardware, rows_of, Execution, Row, Step, Interrupt, Retired, Trap, Each-weaker, Beginning, Beginning-self, Beginning-trans}
+use Rattle.rv_hardware.proofs.Words.{◌≡◌, ℕ, ◌<◌, ◌≤◌, Bool, true, false, cond, List, [], ◌∷◌, ◌++◌, map, is_some, if◌then◌else◌, nat_le, Some, None, filter, Option, sym, refl, ap, ◌∙◌, append_assoc, append-nil, arith, le-leb, lt-leb, map-append, filter-append, Message, Instr, Issue, instruction_of, Each, Entry, Stage, Finished, Running, Waiting, Fetched, Hardware, rows_of, Execution, Row, Step, Interrupt, Retired, Trap, Each-weaker, Beginning, Beginning-self, Beginning-trans}
 
 -- the start of an execution, and whether what it gives is a fault
 pub record Start : Type 0 where
@@ -184,6 +184,10 @@ pub Extends-more : (now : ℕ) (ms more : List Mark) → Each (λ m. now ≤ m.f
 Extends-more now ms more later c lt =
     let none = as_of-later c more (Each-weaker (λ m. now ≤ m.fetched) (λ m. c < m.fetched) (λ m le. omega arith) more later) in
     ([], sym (as_of-append c ms more ∙ ap (λ l. as_of c ms ++ l) none ∙ append-nil (as_of c ms)) ∙ sym (append-nil (as_of c (ms ++ more))))
+
+-- a stamp that was made by the end of a cycle
+pub until_by : (c d : ℕ) → d ≤ c → until c (Some d) ≡ Some d
+until_by c d le = rw (le-leb d c le) refl
 
 -- a stamp of the present cycle was not there before
 pub until_now : (now c : ℕ) → c < now → until c (Some now) ≡ None

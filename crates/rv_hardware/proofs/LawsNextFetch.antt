@@ -5,7 +5,7 @@ use Rattle.rv_hardware.proofs.GapBroadcast.{IsKeptByBroadcast, broadcast-keeps}
 use Rattle.rv_hardware.proofs.GapDispatch.{IsKeptByDispatch, dispatch-keeps}
 use Rattle.rv_hardware.proofs.GapDrain.{IsKeptByDrain, drain-keeps}
 use Rattle.rv_hardware.proofs.GapIssue.{IsKeptByIssue, issue-keeps}
-use Rattle.rv_hardware.proofs.GapHalted.{IsHalted, HaltsBehind, words_of, halted-kept, halted-at_reset}
+use Rattle.rv_hardware.proofs.GapHalted.{IsHalted, HaltsBehind, words_of, halted-kept, halted-at_reset, runs-empty}
 use Rattle.rv_hardware.proofs.LawsCommit.{CommitTurn, no_head, stale_head, unfinished, fence_waits, fence_writes, fence_retires, executes, serial_faults, traps, retires, retires_last, executed, written_back, retired_with, retired_and_flushed}
 use Rattle.rv_hardware.proofs.LawsCycle.{Anything, anything_is_kept, Passed, History, began, went_on, begin, committing, dispatching, cycle_passes, history_is_legal, history_is_sound}
 use Rattle.rv_hardware.proofs.LawsKeeps.{history_keeps, InCommit, commit_turns_keep}
@@ -154,10 +154,6 @@ module _ (now t : ℕ) where
 
 -- fetch leaves something in flight
 
-runs_when_empty : (halted : Bool) → HaltsBehind halted [] → halted ≡ false
-runs_when_empty true h = absurd (cc)
-runs_when_empty false h = refl
-
 coming_fetched : (now : ℕ) (es : List Entry) (fs added : List Fetched) → Each (λ f. f.cycle ≡ now) added → (es ≡ [] → fs ++ added ≡ [] → ⊥) → coming (now + 1) es (fs ++ added) ≡ coming now es fs
 coming_fetched now (e ∷ es) fs added new some = refl
 coming_fetched now [] (f ∷ fs) added new some = refl
@@ -182,7 +178,7 @@ module _ (v : Values) {earlier : List Step} {old new : Hardware} {lines : Lines}
       runs =
           let here = (history_keeps v IsHalted halted-kept (λ image start. halted-at_reset v image start) (went_on before is)).1 in
           let entries = ap (λ (h : Hardware). h.rob.entries) passed.others_stay ∙ none in
-          runs_when_empty new.front.halted (subst (HaltsBehind new.front.halted) (ap (λ es. words_of es new.front.entries) entries ∙ ap (words_of []) (passed.fetches.entries ∙ none')) here)
+          runs-empty new.front.halted (subst (HaltsBehind new.front.halted) (ap (λ es. words_of es new.front.entries) entries ∙ ap (words_of []) (passed.fetches.entries ∙ none')) here)
 
       by_reason : (d.front.halted ≡ true) ⊎ ((d.front.width ≡ 0) ⊎ (d.front.capacity - length d.front.entries ≡ 0)) → ⊥
       by_reason (inl halted) = true≢false (sym halted ∙ ap (λ (r : FetchBuffer). r.halted) (sym (stays_halted is halted)) ∙ runs)

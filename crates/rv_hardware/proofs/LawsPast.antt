@@ -4,16 +4,13 @@ use Rattle.rv_hardware.proofs.LawsBasics.{Basics}
 use Rattle.rv_hardware.proofs.LawsAdvance.{extends_kept}
 use Rattle.rv_hardware.proofs.LawsFetch.{IsNew}
 use Rattle.rv_hardware.proofs.LawsCycle.{dispatching, Passed, History, began, went_on, cycle_passes, history_is_legal, history_is_sound}
-use Rattle.rv_hardware.proofs.LawsMarks.{Mark, Start, mark_of_row, mark_of_entry, mark_of_fetched, marks, marks_in, at_end, as_of, as_of-append, until, start_until, start_of_execution, broadcast_of_execution, start_of_stage, broadcast_of_stage, Extends, Extends-self, Extends-trans, Extends-more}
+use Rattle.rv_hardware.proofs.LawsMarks.{Mark, Start, mark_of_row, mark_of_entry, mark_of_fetched, marks, marks_in, at_end, as_of, as_of-append, until, start_until, start_of_execution, broadcast_of_execution, start_of_stage, broadcast_of_stage, Extends, Extends-self, Extends-trans, Extends-more, until_by}
 use Rattle.rv_hardware.proofs.LawsRow.{SoundRow}
 use Rattle.rv_hardware.proofs.LawsSound.{SoundEntry, SoundFetched, SoundStage}
 
 -- nothing of a mark is later than a cycle
 abbrev pub Settled : ℕ → Mark → Type 0
 Settled now m = (m.fetched ≤ now) × (at_end now m ≡ m)
-
-until_past : (now d : ℕ) → d ≤ now → until now (Some d) ≡ Some d
-until_past now d le = rw (le-leb d now le) refl
 
 start_past : (now : ℕ) (s : Start) → s.cycle ≤ now → start_until now (Some s) ≡ Some s
 start_past now s le = rw (le-leb s.cycle now le) refl
@@ -29,7 +26,7 @@ as_of_now now (m ∷ ms) settled = settled_keep now m ms settled.0 (as_of_now no
 execution_settled : (now D C : ℕ) (x : Option Execution) → C ≤ now → IfSome x (λ x. (D < x.issued) × (x.issued + x.cost ≤ x.broadcast) × (x.broadcast < C)) →
     (start_until now (start_of_execution x) ≡ start_of_execution x) × (until now (broadcast_of_execution x) ≡ broadcast_of_execution x)
 execution_settled now D C None le h = (refl, refl)
-execution_settled now D C (Some x) le h = (start_past now (record { cycle = x.issued; cost = x.cost; faults = false }) (omega (arith, h)), until_past now x.broadcast (omega (arith, h)))
+execution_settled now D C (Some x) le h = (start_past now (record { cycle = x.issued; cost = x.cost; faults = false }) (omega (arith, h)), until_by now x.broadcast (omega (arith, h)))
 
 pub row_settled : (v : Values) (now : ℕ) (row : Row) → SoundRow v (now + 1) row → Settled now (mark_of_row row)
 row_settled v now row sound =
@@ -38,10 +35,10 @@ row_settled v now row sound =
       λ i. record {
         instruction = (mark_of_row row).instruction;
         fetched = row.fetched;
-        dispatched = until_past now row.dispatched (omega (arith, sound.stamps.retired_after_dispatch, sound.below)) i;
+        dispatched = until_by now row.dispatched (omega (arith, sound.stamps.retired_after_dispatch, sound.below)) i;
         start = x.0 i;
         broadcast = x.1 i;
-        retired = until_past now row.retired (omega (arith, sound.below)) i;
+        retired = until_by now row.retired (omega (arith, sound.below)) i;
       },
     )
 
@@ -50,7 +47,7 @@ stage_settled : (v : Values) (i : Option Instr) (D now : ℕ) (st : Stage) → S
 stage_settled v i D now Waiting h = (refl, refl)
 stage_settled v i D now (Running issue message) h = (start_past now _ (omega (arith, h.2)), refl)
 stage_settled v i D now (Finished None cycle message) h = (refl, refl)
-stage_settled v i D now (Finished (Some issue) cycle message) h = (start_past now _ (omega (arith, h.2, h.3)), until_past now cycle (omega (arith, h.3)))
+stage_settled v i D now (Finished (Some issue) cycle message) h = (start_past now _ (omega (arith, h.2, h.3)), until_by now cycle (omega (arith, h.3)))
 
 entry_settled : (v : Values) (now : ℕ) (e : Entry) → SoundEntry v (now + 1) (now + 1) (now + 1) e → Settled now (mark_of_entry e)
 entry_settled v now e sound =
@@ -59,7 +56,7 @@ entry_settled v now e sound =
       λ i. record {
         instruction = e.instruction;
         fetched = e.fetched;
-        dispatched = until_past now e.dispatched (omega (arith, sound.by_now)) i;
+        dispatched = until_by now e.dispatched (omega (arith, sound.by_now)) i;
         start = x.0 i;
         broadcast = x.1 i;
         retired = None;

@@ -1,5 +1,5 @@
 -- A sound instruction in flight that retires leaves a row with stamps in order, and its mark goes on.
-use Rattle.rv_hardware.proofs.Words.{◌≡◌, ℕ, ◌+◌, ◌<◌, ◌≤◌, Bool, true, false, ◌⊎◌, is_some, IfSome, Some, None, Option, unwrap_or, sym, refl, ap, ◌∙◌, subst, inl, inr, arith, is_load, is_serialising, kind_of_word, Message, Instr, Issue, Values, instruction_of, Entry, Stage, Finished, Running, Waiting, HasCost, HasOrderedStamps, IsCost, execution_of, Row}
+use Rattle.rv_hardware.proofs.Words.{◌≡◌, ℕ, ◌+◌, ◌<◌, ◌≤◌, true, false, ◌⊎◌, is_some, IfSome, Some, None, Option, unwrap_or, sym, refl, ap, ◌∙◌, subst, inl, inr, arith, is_load, is_serialising, kind_of_word, Message, Instr, Issue, Values, instruction_of, Entry, Stage, Finished, Running, Waiting, HasCost, HasOrderedStamps, IsCost, execution_of, Row, not_both}
 use Rattle.rv_hardware.proofs.LawsAdvance.{IsBefore, IsKnownMark, Retires}
 use Rattle.rv_hardware.proofs.LawsMarks.{Start, mark_of_row, mark_of_entry, start_of_execution, broadcast_of_execution, start_of_stage, broadcast_of_stage}
 use Rattle.rv_hardware.proofs.LawsSound.{SoundCost, SoundStage, SoundEntry, kind_is_plain, serial_has_no_kind, row_decodes}
@@ -44,9 +44,6 @@ no_instruction_serialises (Some i) h is = absurd (cc)
 no_instruction_has_kind : (i : Option Instr) → is_some (kind_of_word i) ≡ true → i ≡ None → ⊥
 no_instruction_has_kind None h is = absurd (cc)
 no_instruction_has_kind (Some i) h is = absurd (cc)
-
-not_both : {b : Bool} {P : Type 0} → b ≡ true → b ≡ false → P
-not_both is isnt = absurd (cc)
 
 no_fault : (message : Message) → message.fault ≡ None → is_some message.fault ≡ true → ⊥
 no_fault message none some = absurd (cc)

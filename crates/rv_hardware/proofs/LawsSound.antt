@@ -65,6 +65,10 @@ pub is_of_kind_is : (k : Kind) (o : Option Kind) → is_of_kind k o ≡ true →
 is_of_kind_is k None h = absurd (cc)
 is_of_kind_is k (Some other) h = ap (λ (i : Kind). Some i) (sym (is_same-true k other h))
 
+-- and so it uses a unit
+pub some_kind : (k : Kind) (o : Option Kind) → is_of_kind k o ≡ true → is_some o ≡ true
+some_kind k o is = ap is_some (is_of_kind_is k o is)
+
 -- the word of an instruction decodes to it
 decodes_by : (i : Option Instr) (word : Option ℕ) → i ≡ option_and_then instruction_of word → (i ≡ None → ⊥) → instruction_of (unwrap_or word 0) ≡ i
 decodes_by i None is some = absurd (some is)

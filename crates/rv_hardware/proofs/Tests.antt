@@ -15,3 +15,11 @@ and_first false b h = absurd (cc)
 pub and_second : (a b : Bool) → (a && b) ≡ true → b ≡ true
 and_second true b h = h
 and_second false b h = absurd (cc)
+
+-- a test does not both pass and fail
+pub not_both : {b : Bool} {P : Type 0} → b ≡ true → b ≡ false → P
+not_both is isnt = absurd (cc)
+
+-- no test passes together with one that fails
+pub never_both : {P : Type 0} (b : Bool) → (b && false) ≡ true → P
+never_both b h = absurd (let no_more = and_second b false h in cc)

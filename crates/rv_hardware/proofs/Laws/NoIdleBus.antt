@@ -2,14 +2,14 @@
 use Rattle.rv_hardware.proofs.Words.{◌≡◌, ℕ, suc, ◌+◌, ◌<◌, ◌≤◌, Bool, true, false, cond, ◌&&◌, List, [], ◌∷◌, ◌++◌, map, length, IfSome, nat_le, ◌==◌, Some, None, count_by, Option, sym, refl, ap, ◌∙◌, subst, append_assoc, arith, eq-eqb, le-leb, Message, Issue, Values, Each, finished, predicting, Entry, Fetched, broadcast, broadcast_turn, has_result, with_broadcast, Hardware, LeavesNoBusIdle, Turn, EachBehind, is_broadcast_in, passes, rows_of, Execution, Row, Step, and_second, Each-append, Each-place, Each-all, EveryBehind, count, count-set-grows, count-set-one_more, EveryBehind-left, EveryBehind-append, EveryBehind-right, Beginning-EveryBehind, EveryBehind-moved, EveryBehind-all, EveryBehind-set}
 use Rattle.rv_hardware.proofs.LawsAdvance.{IsBefore, IsSentIfReady, Advances, retires, starts, is_sent, enters, IsSent, Kept}
 use Rattle.rv_hardware.proofs.LawsBroadcast.{BroadcastTurn, none_ready as no_result, sends, mends, Sends, broadcast_turn_is, sent_entries, mended_entries}
-use Rattle.rv_hardware.proofs.LawsCounted.{until_not, behind_law, behind_count}
+use Rattle.rv_hardware.proofs.LawsCounted.{behind_law, behind_count}
 use Rattle.rv_hardware.proofs.LawsCycle.{Anything, anything_is_kept, History, history_is_legal, history_is_sound, issued_all, sent_all, dispatching}
 use Rattle.rv_hardware.proofs.LawsEvidence.{rows_sent, entries_sent}
 use Rattle.rv_hardware.proofs.LawsPast.{rows_obey}
 use Rattle.rv_hardware.proofs.LawsPhases.{Broadcasts, broadcast_turn_keeps, dispatch_keeps, goes_later, send_is, with_marks}
 use Rattle.rv_hardware.proofs.LawsRow.{SoundRow}
 use Rattle.rv_hardware.proofs.Repeated.{Leads, turns_within}
-use Rattle.rv_hardware.proofs.LawsMarks.{Mark, Start, mark_of_row, mark_of_entry, mark_of_fetched, marks, marks_in, marks_at_entry, as_of, at_end, was_fetched, until, broadcast_of_execution}
+use Rattle.rv_hardware.proofs.LawsMarks.{Mark, Start, mark_of_row, mark_of_entry, mark_of_fetched, marks, marks_in, marks_at_entry, as_of, at_end, was_fetched, until, broadcast_of_execution, until_now}
 use Rattle.rv_hardware.proofs.LawsWidths.{is_at}
 
 abbrev pub is_sent_in : ℕ → Mark → Bool
@@ -162,7 +162,7 @@ bus_by : (v : Values) (c : ℕ) (before : List Row) (row : Row) (o : Option Exec
     IfSome o (λ x. x.issued + x.cost ≤ c → c < x.broadcast → v.bus_width ≤ count_by (is_broadcast_in c) before)
 bus_by v c before row None at busy = tt
 bus_by v c before row (Some x) at busy = λ ready later.
-    let waits : WaitsForBus c (at_end c (mark_of_row row)) = (rw (at, le-leb x.issued c (omega (arith, ready))) ready, ap (λ o. until c (broadcast_of_execution o)) at ∙ until_not c x.broadcast later) in
+    let waits : WaitsForBus c (at_end c (mark_of_row row)) = (rw (at, le-leb x.issued c (omega (arith, ready))) ready, ap (λ o. until c (broadcast_of_execution o)) at ∙ until_now x.broadcast c later) in
     let held = busy waits in
     let fewer = behind_count (is_sent_in c) (is_broadcast_in c) c before (Each-all (λ a. (was_fetched c (mark_of_row a) && is_sent_in c (at_end c (mark_of_row a))) ≡ true → is_broadcast_in c a ≡ true) (λ a h. sent_row c a.execution (and_second (was_fetched c (mark_of_row a)) (is_sent_in c (at_end c (mark_of_row a))) h)) before) in
     omega (arith, held, fewer)

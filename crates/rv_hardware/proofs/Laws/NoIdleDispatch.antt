@@ -2,15 +2,15 @@
 use Rattle.rv_hardware.proofs.Words.{◌≡◌, ℕ, suc, ◌<◌, ◌≤◌, Bool, true, false, cond, ◌&&◌, ◌||◌, ◌⊎◌, List, [], ◌∷◌, ◌++◌, map, length, is_some, is_none, nat_lt, nat_le, ◌==◌, Some, None, count_by, filter, Option, sym, refl, ap, ◌∙◌, subst, inl, inr, true≢false, arith, lt-ltb, eq-eqb, leb-false, leb-true, and_from, length-filter, list_any, is_same-own, is_of_kind, is_serialising, is_store, kind_of_word, at_kind, Kind, Values, Each, Entry, Stage, Finished, Running, Waiting, Fetched, Dispatching, dispatch, dispatch_turn, entry_of_fetched, has_full_stations, is_stationed, Hardware, is_waiting, WaitsForRoom, Turn, EachBehind, instruction_of_row, is_dispatched_in, is_in_flight_in, is_row_of_kind, is_stationed_in, is_store_row, passes, rows_of, Execution, Row, Step, and_first, and_second, Each-All, Each-left, Each-right, Each-place, Each-weaker, Each-all, Each-map, Each-filter, EveryBehind, count, count-count_by, count-append, count-yes, count-map, count-le, EveryBehind-append, Beginning-EveryBehind, EveryBehind-all, EachBehind-EveryBehind}
 use Rattle.rv_hardware.proofs.LawsAdvance.{is_in_flight_mark, is_stationed_mark}
 use Rattle.rv_hardware.proofs.LawsCycle.{History, history_is_sound, sent_all, dispatching}
-use Rattle.rv_hardware.proofs.LawsCounted.{behind_law, behind_count, until_by, until_not}
+use Rattle.rv_hardware.proofs.LawsCounted.{behind_law, behind_count}
 use Rattle.rv_hardware.proofs.LawsDispatch.{DispatchTurn, buffer_empty, waits, dispatches, dispatch_turn_is, WaitsFor, for_serial, for_buffer, for_station, for_queue}
 use Rattle.rv_hardware.proofs.LawsFetch.{IsNew}
-use Rattle.rv_hardware.proofs.LawsMarks.{Mark, Start, mark_of_row, mark_of_entry, mark_of_fetched, at_end, as_of, was_fetched, until, start_until, start_of_stage, start_of_execution}
+use Rattle.rv_hardware.proofs.LawsMarks.{Mark, Start, mark_of_row, mark_of_entry, mark_of_fetched, at_end, as_of, was_fetched, until, start_until, start_of_stage, start_of_execution, until_by, until_now}
 use Rattle.rv_hardware.proofs.LawsPairs.{Older, rows_are_older}
 use Rattle.rv_hardware.proofs.LawsPast.{rows_obey}
 use Rattle.rv_hardware.proofs.LawsRow.{SoundRow}
 use Rattle.rv_hardware.proofs.LawsShape.{HasShape}
-use Rattle.rv_hardware.proofs.LawsSound.{is_of_kind_is}
+use Rattle.rv_hardware.proofs.LawsSound.{some_kind}
 use Rattle.rv_hardware.proofs.Repeated.{Leads, turns_within}
 use Rattle.rv_hardware.proofs.LawsWidths.{is_at}
 
@@ -203,10 +203,6 @@ started_row c (Some x) some h = by_stamp (nat_le x.issued c) refl h
     by_stamp true is h' = absurd (cc)
     by_stamp false is h' = lt-ltb c x.issued (leb-false x.issued c is)
 
-some_kind : (k : Kind) (o : Option Kind) → is_of_kind k o ≡ true → is_some o ≡ true
-some_kind k None h = absurd (let none = is_of_kind_is k None h in cc)
-some_kind k (Some j) h = refl
-
 station_row : (v : Values) (bound c : ℕ) (k : Kind) (row : Row) → SoundRow v bound row → is_stationed_mark k (at_end c (mark_of_row row)) ≡ true → is_stationed_in k c row ≡ true
 station_row v bound c k row sound h =
     let kind = and_first (is_row_of_kind k row) (is_some (until c (Some row.dispatched)) && is_none (start_until c (start_of_execution row.execution))) h in
@@ -228,7 +224,7 @@ module _ (v : Values) (bound c : ℕ) (before : List Row) (row : Row) (older : E
   may_enter : is_store_row row ≡ false → row.fetched < c → c < row.dispatched → Each (λ a. a.dispatched ≤ c) before → MayEnter c (as_of c (map mark_of_row before)) (at_end c (mark_of_row row))
   may_enter plain after later all = record {
     fetched = after;
-    not_yet = until_not c row.dispatched later;
+    not_yet = until_now row.dispatched c later;
     plain = plain;
     olders = as_of_rows (λ x. is_some x.dispatched ≡ true) c before (Each-weaker (λ a. a.dispatched ≤ c) (λ a. is_some (until c (Some a.dispatched)) ≡ true) (λ a le. ap is_some (until_by c a.dispatched le)) before all);
     serial = as_of_rows (λ x. is_serialising x.instruction ≡ true → is_some x.retired ≡ true) c before (Each-weaker (Older v bound row) (λ a. is_serialising (instruction_of_row a) ≡ true → is_some (until c (Some a.retired)) ≡ true)

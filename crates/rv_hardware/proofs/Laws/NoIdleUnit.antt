@@ -1,12 +1,12 @@
 -- No pipelined unit is idle while an instruction that is no load has its operands.
 use Rattle.rv_hardware.proofs.Words.{◌≡◌, ℕ, ◌+◌, ◌<◌, ◌≤◌, Bool, true, false, cond, ◌&&◌, List, [], ◌∷◌, map, is_some, IfSome, nat_le, ◌==◌, Some, None, count_by, Option, option_map, sym, refl, ap, ◌∙◌, subst, arith, le-leb, and_from, is_serialising, kind_of_word, at_kind, Kind, Values, Each, Hardware, HasOperandsIn, LeaveNoUnitIdle, is_pipelined, instruction_of_row, is_issued_in, is_row_of_kind, last_from, last_that, passes, producer_among, rows_of, sources_of_row, writes_register, Execution, Row, Step, and_first, and_second, Each-All, Each-place, Each-weaker, EveryBehind, Beginning-EveryBehind, EachBehind-EveryBehind, EveryBehind-EveryPair}
 use Rattle.rv_hardware.proofs.LawsAdvance.{IsBefore, writes_mark, IsKnownMark, OperandsKnown}
-use Rattle.rv_hardware.proofs.LawsCounted.{behind_law, behind_count, until_by}
+use Rattle.rv_hardware.proofs.LawsCounted.{behind_law, behind_count}
 use Rattle.rv_hardware.proofs.LawsCycle.{History, history_is_sound}
 use Rattle.rv_hardware.proofs.Laws.NoIdleDispatch.{as_of_rows}
 use Rattle.rv_hardware.proofs.LawsIdleUnit.{MayStart, BusyUnits}
 use Rattle.rv_hardware.proofs.LawsIdleUnitPhases.{units_are_busy}
-use Rattle.rv_hardware.proofs.LawsMarks.{Mark, mark_of_row, as_of, as_of-cons, at_end, was_fetched, until, start_until, start_until_now, start_of_execution, broadcast_of_execution}
+use Rattle.rv_hardware.proofs.LawsMarks.{Mark, mark_of_row, as_of, as_of-cons, at_end, was_fetched, until, start_until, start_until_now, start_of_execution, broadcast_of_execution, until_by}
 use Rattle.rv_hardware.proofs.LawsOrder.{history_is_orderly}
 use Rattle.rv_hardware.proofs.LawsPairs.{Older, rows_are_older, row_pairs}
 use Rattle.rv_hardware.proofs.LawsPast.{rows_obey}

@@ -1,9 +1,9 @@
 -- The reorder buffer holds no more instructions than it has room for.
 use Rattle.rv_hardware.proofs.Words.{◌&&◌, List, is_some, is_none, nat_lt, nat_le, Some, refl, arith, ltb-true, le-leb, leb-true, and_from, Values, Hardware, NeverMoreThan, is_in_flight_in, rows_of, Step, and_first, and_second}
 use Rattle.rv_hardware.proofs.LawsAdvance.{is_in_flight_mark}
-use Rattle.rv_hardware.proofs.LawsCounted.{Shows, counted_law, until_by, until_not}
+use Rattle.rv_hardware.proofs.LawsCounted.{Shows, counted_law}
 use Rattle.rv_hardware.proofs.LawsCycle.{History}
-use Rattle.rv_hardware.proofs.LawsMarks.{until}
+use Rattle.rv_hardware.proofs.LawsMarks.{until, until_by, until_now}
 use Rattle.rv_hardware.proofs.LawsOrder.{history_is_orderly}
 
 -- that a row is in flight in a cycle shows in its mark
@@ -13,7 +13,7 @@ in_flight_shows v = record {
       let le = leb-true row.dispatched c (and_first (nat_le row.dispatched c) (nat_lt c row.retired) h) in
       let lt = ltb-true c row.retired (and_second (nat_le row.dispatched c) (nat_lt c row.retired) h) in
       and_from (nat_le row.fetched c) (is_some (until c (Some row.dispatched)) && is_none (until c (Some row.retired))) (le-leb row.fetched c (omega (arith, le, sound.stamps.dispatched_after_fetch)))
-      (rw (until_by c row.dispatched le, until_not c row.retired lt) refl);
+      (rw (until_by c row.dispatched le, until_now row.retired c lt) refl);
   ends = λ c bound row sound h. ltb-true c row.retired (and_second (nat_le row.dispatched c) (nat_lt c row.retired) h);
 }
 

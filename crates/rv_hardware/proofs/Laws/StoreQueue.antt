@@ -9,10 +9,10 @@ use Rattle.rv_hardware.proofs.GapIssue.{IsKeptByIssue, issue-keeps, ready-parts}
 use Rattle.rv_hardware.proofs.GapStores.{HasStores, store_count, instructions_of, stores-kept, stores-at_reset}
 use Rattle.rv_hardware.proofs.HeadlineStores.{serialising_is_no_store}
 use Rattle.rv_hardware.proofs.LawsCommit.{CommitTurn, no_head, stale_head, unfinished, fence_waits, fence_writes, fence_retires, executes, serial_faults, traps, retires, retires_last, written_back, retired_with}
-use Rattle.rv_hardware.proofs.LawsCounted.{count-as_of, until_by}
+use Rattle.rv_hardware.proofs.LawsCounted.{count-as_of}
 use Rattle.rv_hardware.proofs.LawsCycle.{Anything, anything_is_kept, Passed, History, began, went_on, begin, committing, drained, cycle_passes, history_is_legal, history_is_sound}
 use Rattle.rv_hardware.proofs.LawsKeeps.{history_keeps, InCommit, commit_turns_keep}
-use Rattle.rv_hardware.proofs.LawsMarks.{Mark, mark_of_row, mark_of_entry, mark_of_fetched, marks_in, at_end, as_of, was_fetched, until, Extends, rows_append}
+use Rattle.rv_hardware.proofs.LawsMarks.{Mark, mark_of_row, mark_of_entry, mark_of_fetched, marks_in, at_end, as_of, was_fetched, until, Extends, rows_append, until_by}
 use Rattle.rv_hardware.proofs.LawsPast.{rows_obey}
 use Rattle.rv_hardware.proofs.LawsPort.{has_its_port, port_grows}
 use Rattle.rv_hardware.proofs.LawsPortPhases.{drained_idle}
