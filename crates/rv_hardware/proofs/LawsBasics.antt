@@ -1,5 +1,5 @@
 -- An instruction that starts, is broadcast or is dispatched stays sound, and its mark goes on.
-use Rattle.rv_hardware.proofs.Words.{◌≡◌, ℕ, ◌+◌, ◌≤◌, Bool, true, false, ◌&&◌, ◌||◌, List, [], ◌∷◌, is_some, Some, None, Option, option_and_then, sym, refl, ap, ◌∙◌, subst, inl, inr, arith, list_any, is_of_kind, is_serialising, kind_of_word, sources_of_word, Message, Instr, Issue, Lines, Kind, Values, instruction_of, Layout, State, Each, finished, issue_of, predicting, started, Entry, Stage, Finished, Running, Waiting, Fetched, entry_of_fetched, stage_by, Hardware, is_waiting, has_operands, is_ready, may_load, result_of_word, layout_of, seen_behind, rows_of, Step, and_first, and_second, EveryPair}
+use Rattle.rv_hardware.proofs.Words.{◌≡◌, ℕ, ◌+◌, ◌≤◌, Bool, true, false, ◌||◌, List, [], ◌∷◌, is_some, Some, None, Option, option_and_then, sym, refl, ap, ◌∙◌, subst, inl, inr, arith, list_any, is_of_kind, is_serialising, kind_of_word, Message, Instr, Issue, Lines, Kind, Values, instruction_of, Layout, State, Each, finished, issue_of, predicting, started, Entry, Stage, Finished, Running, Waiting, Fetched, entry_of_fetched, stage_by, Hardware, is_waiting, result_of_word, layout_of, seen_behind, rows_of, Step, EveryPair}
 use Rattle.rv_hardware.proofs.LawsMarks.{mark_of_entry, mark_of_fetched, start_of_issue, start_of_stage, broadcast_of_stage}
 use Rattle.rv_hardware.proofs.LawsRow.{SoundRow}
 use Rattle.rv_hardware.proofs.LawsShape.{HasShape}
@@ -22,25 +22,6 @@ pub is_waiting_is : (st : Stage) → is_waiting st ≡ true → st ≡ Waiting
 is_waiting_is Waiting h = refl
 is_waiting_is (Running issue message) h = absurd (cc)
 is_waiting_is (Finished issue cycle message) h = absurd (cc)
-
--- what an instruction that leaves its station has
-pub record Ready (h : Hardware) (k : Kind) (older : List Entry) (e : Entry) : Type 0 where
-  pub waits : e.stage ≡ Waiting
-  pub kind : is_of_kind k (kind_of_word e.instruction) ≡ true
-  pub operands : has_operands older (sources_of_word e.instruction) ≡ true
-  pub load : may_load h older e ≡ true
-
--- an instruction that is ready waits, is of the kind, has its operands and may load
-pub ready_has : (h : Hardware) (k : Kind) (older : List Entry) (e : Entry) → is_ready h k older e ≡ true → Ready h k older e
-ready_has h k older e ready =
-    let three = and_first (is_waiting e.stage && is_of_kind k (kind_of_word e.instruction) && has_operands older (sources_of_word e.instruction)) (may_load h older e) ready in
-    let two = and_first (is_waiting e.stage && is_of_kind k (kind_of_word e.instruction)) (has_operands older (sources_of_word e.instruction)) three in
-    record {
-      waits = is_waiting_is e.stage (and_first (is_waiting e.stage) (is_of_kind k (kind_of_word e.instruction)) two);
-      kind = and_second (is_waiting e.stage) (is_of_kind k (kind_of_word e.instruction)) two;
-      operands = and_second (is_waiting e.stage && is_of_kind k (kind_of_word e.instruction)) (has_operands older (sources_of_word e.instruction)) three;
-      load = and_second (is_waiting e.stage && is_of_kind k (kind_of_word e.instruction) && has_operands older (sources_of_word e.instruction)) (may_load h older e) ready;
-    }
 
 -- the entries of each phase are sound
 

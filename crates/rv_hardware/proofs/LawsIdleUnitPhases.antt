@@ -3,8 +3,8 @@ use Rattle.rv_hardware.proofs.Words.{◌≡◌, ℕ, suc, ◌+◌, ◌<◌, ◌�
 use Rattle.std.specs.FinSet as set
 use Rattle.rv_isa.specs.declared.operations.Kind.TheVariants as kind
 use Rattle.rv_units.specs.Pool.{started as started_unit}
+use Rattle.rv_hardware.proofs.GapIssue.{ready-parts}
 use Rattle.rv_hardware.proofs.LawsAdvance.{IsBefore, Starts}
-use Rattle.rv_hardware.proofs.LawsBasics.{ready_has}
 use Rattle.rv_hardware.proofs.LawsBroadcast.{BroadcastTurn, none_ready as no_result, sends, mends, broadcast_turn_is}
 use Rattle.rv_hardware.proofs.LawsCommit.{CommitTurn, no_head, stale_head, unfinished, fence_waits, fence_writes, fence_retires, executes, serial_faults, traps, retires, retires_last, commit_turn_is}
 use Rattle.rv_hardware.proofs.LawsCycle.{Anything, anything_is_kept, History, began, went_on, Passed, cycle_passes, history_is_legal, history_is_sound, committing, drained, issued_all, sent_all, dispatching}
@@ -102,7 +102,7 @@ module _ (v : Values) (legal : IsLegal v) (now : ℕ) (steps : List Step) (k : K
               let before = busy (subst (λ l. MayStart k now l z) (sym (append_assoc xs (m ∷ []) mid)) here) in
               let grown : count (begins_mark k now) ((xs ++ n ∷ []) ++ mid) ≡ suc (count (begins_mark k now) ((xs ++ m ∷ []) ++ mid)) = rw (append_assoc xs (n ∷ []) mid, append_assoc xs (m ∷ []) mid) (count-set-one_more (begins_mark k now) xs mid m n
               (and_right (is_of_kind k (kind_of_word e.instruction)) (starts_at now m.start) (ap (starts_at now) evidence.not_yet))
-              (and_from (is_of_kind k (kind_of_word e.instruction)) (starts_at now n.start) (ready_has h k older e is).kind (eq-eqb h.cycle now p.0.basics.cycle))) in
+              (and_from (is_of_kind k (kind_of_word e.instruction)) (starts_at now n.start) (ready-parts h k older e is).of_kind (eq-eqb h.cycle now p.0.basics.cycle))) in
               omega (arith, before, grown))
               ys old.1,
         ))

@@ -2,9 +2,10 @@
 use Rattle.rv_hardware.proofs.Words.{◌≡◌, ℕ, ◌+◌, ◌<◌, ◌≤◌, Bool, true, false, cond, not, ◌&&◌, ◌||◌, List, [], ◌∷◌, ◌++◌, map, length, nat_le, Some, None, filter, Option, nat_cmp, sym, refl, ap, ◌∙◌, subst, append_assoc, append-nil, arith, leb-false, list_all, IsLegal, is_load, is_of_kind, is_serialising, kind_of_word, sources_of_word, at_kind, Message, StoreAccess, Issue, Kind, PerKind, Values, due, interrupt_cause, Each, oldest_to_drain, is_known as is_known_store, Pool, finished, predicting, started, Entry, Fetched, broadcast, broadcast_turn, has_result, with_broadcast, with_recovery, Committing, commit, commit_turn, commit_unless, with_fault, Dispatching, dispatch, dispatch_turn, entry_of_fetched, has_full_stations, is_stationed, with_dispatched, drain, end_drain, start_drain, Hardware, cost_of, has_port, is_ready, issue, issue_kind, issue_turn, issued, may_load, path, with_access, Turn, written_of, stores_behind, rows_of, Step, Interrupt, Retired, Trap, Each-append, Each-left, Each-set, Each-place, Each-weaker, EveryBehind, EveryPair-append, EveryPair-left, EveryPair-across, EveryPair-set}
 use Rattle.std.specs.FinSet as set
 use Rattle.rv_isa.specs.declared.operations.Kind.TheVariants as kind
+use Rattle.rv_hardware.proofs.GapIssue.{ready-parts}
 use Rattle.rv_hardware.proofs.LawsAdvance.{Advances, Starts, IsSent, retires as a_retires, starts as a_starts, is_sent as a_is_sent, enters as a_enters, Kept}
 use Rattle.rv_hardware.proofs.LawsEvidence.{operands_known, stores_known, none_waits, rows_and_entries_are_dispatched, in_flight_room, stations_room}
-use Rattle.rv_hardware.proofs.LawsBasics.{Basics, SerialIsLast, ready_has, started_sound, finished_sound, finished_mark, predicting_sound, dispatched_sound, dispatched_mark, none_serialises}
+use Rattle.rv_hardware.proofs.LawsBasics.{Basics, SerialIsLast, started_sound, finished_sound, finished_mark, predicting_sound, dispatched_sound, dispatched_mark, none_serialises, is_waiting_is}
 use Rattle.rv_hardware.proofs.LawsBroadcast.{BroadcastTurn, none_ready as no_result, sends, mends, broadcast_turn_is, Sends, sent_entries, mended_entries}
 use Rattle.rv_hardware.proofs.LawsCommit.{CommitTurn, no_head, stale_head, unfinished, fence_waits, fence_writes, fence_retires, executes, serial_faults, traps, retires, retires_last, executed, written_back, retired_with, retired_and_flushed, commit_turn_is}
 use Rattle.rv_hardware.proofs.LawsDispatch.{DispatchTurn, buffer_empty, waits, dispatches, dispatch_turn_is}
@@ -245,7 +246,7 @@ module _ (v : Values) (legal : IsLegal v) (now : ℕ) (R : List Mark → Type 0)
   pub start_is : (k : Kind) (h : Hardware) (older younger : List Entry) (e : Entry) → h.rob.entries ≡ older ++ e ∷ younger → is_ready h k older e ≡ true → Issues h →
       Starts v now (map mark_of_row (rows_of steps) ++ map mark_of_entry older) (mark_of_entry e) (mark_of_entry (started (record { cycle = h.cycle; cost = cost_of h k (path h older e) }) (message_at h older e) e))
   start_is k h older younger e at is p =
-      let ready = ready_has h k older e is in
+      let ready = ready-parts h k older e is in
       let cost : ℕ = cost_of h k (path h older e) in
       let message : Message = message_at h older e in
       let x : Entry = started (record { cycle = h.cycle; cost = cost }) message e in
@@ -253,19 +254,19 @@ module _ (v : Values) (legal : IsLegal v) (now : ℕ) (R : List Mark → Type 0)
       let olders : Each (SoundEntry v now (now + 1) now) older = Each-left (SoundEntry v now (now + 1) now) older (e ∷ younger) (subst (Each (SoundEntry v now (now + 1) now)) at p.basics.entries) in
       record {
         start = start_of_issue (record { cycle = h.cycle; cost = cost }) message;
-        becomes = λ i. record (mark_of_entry x) { broadcast = sym (ap broadcast_of_stage ready.waits) i };
+        becomes = λ i. record (mark_of_entry x) { broadcast = sym (ap broadcast_of_stage (is_waiting_is e.stage ready.waits)) i };
         now_is = p.basics.cycle;
         positive = positive_cost v legal h p.basics.shape k (path h older e);
-        not_yet = ap start_of_stage ready.waits;
-        not_sent = ap broadcast_of_stage ready.waits;
+        not_yet = ap start_of_stage (is_waiting_is e.stage ready.waits);
+        not_sent = ap broadcast_of_stage (is_waiting_is e.stage ready.waits);
         not_retired = refl;
         cycle = e.dispatched;
         dispatched = refl;
         before = sound.by_now;
         kind = k;
-        is_kind = ready.kind;
+        is_kind = ready.of_kind;
         operands = operands_known v now (now + 1) now (rows_of steps) p.basics.rows older (sources_of_word e.instruction) olders ready.operands;
-        stores = λ load. stores_known v now (now + 1) now (rows_of steps) p.basics.rows h.committed h.rob.retired older olders (load_waits h older e load ready.load);
+        stores = λ load. stores_known v now (now + 1) now (rows_of steps) p.basics.rows h.committed h.rob.retired older olders (load_waits h older e load ready.loads);
       }
 
   -- each turn of the issue phase keeps it
@@ -273,7 +274,7 @@ module _ (v : Values) (legal : IsLegal v) (now : ℕ) (R : List Mark → Type 0)
   issue_turn_keeps k h _ (no_unit held) p = p
   issue_turn_keeps k h _ (none_ready none) p = p
   issue_turn_keeps k h _ (starts older younger e at is none free) p =
-      let ready = ready_has h k older e is in
+      let ready = ready-parts h k older e is in
       let keep = access_keeps (path h older e) h in
       let cost : ℕ = cost_of h k (path h older e) in
       let message : Message = message_at h older e in
@@ -282,7 +283,7 @@ module _ (v : Values) (legal : IsLegal v) (now : ℕ) (R : List Mark → Type 0)
       change v now now R kept steps (issued k h older e) h older younger e x at (started_entries k h older younger e at)
       (ap (λ r. r.entries) keep.front) keep.cycle (issued_shape v now now R kept steps k h older e)
       (subst (λ n. SoundEntry v now (now + 1) now (started (record { cycle = n; cost = cost }) message e)) (sym p.basics.cycle)
-      (started_sound v now now k e cost message sound ready.kind (subst (λ n. SoundCost v e.instruction (start_of_issue (record { cycle = n; cost = cost }) message)) p.basics.cycle (issued_cost v h p.basics.shape older e k ready.kind))))
+      (started_sound v now now k e cost message sound ready.of_kind (subst (λ n. SoundCost v e.instruction (start_of_issue (record { cycle = n; cost = cost }) message)) p.basics.cycle (issued_cost v h p.basics.shape older e k ready.of_kind))))
       refl
       (a_starts (start_is k h older younger e at is p)) p
 

@@ -2,7 +2,8 @@
 use Rattle.rv_hardware.proofs.Words.{◌≡◌, ℕ, ◌+◌, ◌<◌, ◌≤◌, Bool, true, false, cond, not, ◌&&◌, ◌⊎◌, List, [], ◌∷◌, ◌++◌, length, IfSome, nat_le, ◌==◌, Some, None, Option, nat_cmp, sym, refl, ap, ◌∙◌, subst, inl, inr, true≢false, append_assoc, arith, leb-true, IsLegal, is_load, at_kind, StoreAccess, Instr, Lines, Kind, Values, due, Each, oldest_to_drain, finished, predicting, started, ReorderBuffer, Entry, broadcast_turn, with_broadcast, with_recovery, Committing, commit_turn, commit_unless, with_fault, with_lines, Dispatching, dispatch_turn, entry_of_fetched, drain, end_drain, start_drain, Hardware, cost_of, has_port, issue, issue_kind, issue_turn, issued, path, with_access, Turn, Report, seen_behind, Step, and_first, and_second, Each-append, Each-left, Each-right, Each-set, Each-place, Each-weaker, Each-all, Each-both, EveryPair, EveryPair-append, EveryPair-left, EveryPair-right, EveryPair-across, EveryPair-set}
 use Rattle.std.specs.FinSet as set
 use Rattle.rv_isa.specs.declared.operations.Kind.TheVariants as kind
-use Rattle.rv_hardware.proofs.LawsBasics.{Ready, ready_has, finished_mark, dispatched_mark}
+use Rattle.rv_hardware.proofs.GapIssue.{IsReady, ready-parts}
+use Rattle.rv_hardware.proofs.LawsBasics.{finished_mark, dispatched_mark}
 use Rattle.rv_hardware.proofs.LawsBroadcast.{BroadcastTurn, none_ready as no_result, sends, mends, broadcast_turn_is, sent_entries, mended_entries}
 use Rattle.rv_hardware.proofs.LawsCommit.{CommitTurn, no_head, stale_head, unfinished, fence_waits, fence_writes, fence_retires, executes, serial_faults, traps, retires, retires_last, executed, written_back, retired_with, retired_and_flushed, commit_turn_is}
 use Rattle.rv_hardware.proofs.LawsCycle.{Anything, anything_is_kept, Passed, committing, drained, issued_all, sent_all, dispatching}
@@ -117,7 +118,7 @@ module _ (v : Values) (legal : IsLegal v) (now : ℕ) (steps : List Step) where
   abbrev IssuingPort : Hardware → Type 0
   IssuingPort h = Issues v legal now Anything (anything_is_kept v now) steps h × PortOk v now h
 
-  module _ (k : Kind) (h : Hardware) (older younger : List Entry) (e : Entry) (at : h.rob.entries ≡ older ++ e ∷ younger) (ready : Ready h k older e) (p : IssuingPort h) where
+  module _ (k : Kind) (h : Hardware) (older younger : List Entry) (e : Entry) (at : h.rob.entries ≡ older ++ e ∷ younger) (ready : IsReady h k older e) (p : IssuingPort h) where
     abbrev new_start : Start
     new_start = start_of_issue (record { cycle = h.cycle; cost = cost_of h k (path h older e) }) (message_at h older e)
 
@@ -138,13 +139,13 @@ module _ (v : Values) (legal : IsLegal v) (now : ℕ) (steps : List Step) where
         let none = not_true (new_start).faults (and_first (not (new_start).faults) (not ((new_start).cost == v.forward)) rest) in
         let other = not_true ((new_start).cost == v.forward) (and_second (not (new_start).faults) (not ((new_start).cost == v.forward)) rest) in
         let goes = path_of_user v h p.0.basics.shape older (seen_behind h older e.pc) k e.instruction e.word (and_first (is_load e.instruction) (not (new_start).faults && not ((new_start).cost == v.forward)) used) none other in
-        let idle : nat_le h.port_free h.cycle ≡ true = subst (λ q. has_port h q ≡ true) goes.1 (has_its_port h older e ready.load) in (
+        let idle : nat_le h.port_free h.cycle ≡ true = subst (λ q. has_port h q ≡ true) goes.1 (has_its_port h older e ready.loads) in (
           leb-true h.port_free h.cycle idle,
           subst (λ q. h.cycle + cost_of h k q ≤ (with_access q h).port_free) (sym goes.1) (omega arith),
         )
 
     grows : h.port_free ≤ new_port
-    grows = port_grows h (path h older e) (has_its_port h older e ready.load)
+    grows = port_grows h (path h older e) (has_its_port h older e ready.loads)
 
     others : (xs : List Entry) → Each (λ z. Tied v h.port_free (mark_of_entry z)) xs → Each (λ z. OneAtATime v now (mark_of_entry z) (mark_of_entry new_entry)) xs
     others xs tie = by_use (uses_cache v e.instruction (new_start)) refl
@@ -178,7 +179,7 @@ module _ (v : Values) (legal : IsLegal v) (now : ℕ) (steps : List Step) where
   issue_port : (k : Kind) (h : Hardware) (t : Turn Hardware) → IssueTurn k h t → IssuingPort h → Leads (Issues v legal now Anything (anything_is_kept v now) steps) (Issues v legal now Anything (anything_is_kept v now) steps) t → Leads IssuingPort IssuingPort t
   issue_port k h _ (no_unit held) p goes = p
   issue_port k h _ (none_ready none) p goes = p
-  issue_port k h _ (starts older younger e at is none free) p goes = (goes, started_port k h older younger e at (ready_has h k older e is) p)
+  issue_port k h _ (starts older younger e at is none free) p goes = (goes, started_port k h older younger e at (ready-parts h k older e is) p)
 
   kind_port : (k : Kind) (h : Hardware) → IssuingPort h → IssuingPort (issue_kind k h)
   kind_port k h p =

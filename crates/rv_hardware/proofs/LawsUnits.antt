@@ -3,7 +3,8 @@ use Rattle.rv_hardware.proofs.Words.{◌≡◌, ℕ, suc, ◌+◌, ◌≤◌, Bo
 use Rattle.std.specs.FinSet as set
 use Rattle.rv_isa.specs.declared.operations.Kind.TheVariants as kind
 use Rattle.rv_units.specs.Pool.{started as started_unit}
-use Rattle.rv_hardware.proofs.LawsBasics.{Ready, ready_has, finished_mark, dispatched_mark}
+use Rattle.rv_hardware.proofs.GapIssue.{IsReady, ready-parts}
+use Rattle.rv_hardware.proofs.LawsBasics.{finished_mark, dispatched_mark, is_waiting_is}
 use Rattle.rv_hardware.proofs.LawsBroadcast.{BroadcastTurn, none_ready as no_result, sends, mends, broadcast_turn_is, sent_entries, mended_entries}
 use Rattle.rv_hardware.proofs.LawsDispatch.{DispatchTurn, buffer_empty, waits, dispatches, dispatch_turn_is}
 use Rattle.rv_hardware.proofs.LawsCommit.{CommitTurn, no_head, stale_head, unfinished, fence_waits, fence_writes, fence_retires, executes, serial_faults, traps, retires, retires_last, executed, written_back, retired_with, retired_and_flushed, commit_turn_is}
@@ -161,7 +162,7 @@ module _ (v : Values) (legal : IsLegal v) (now : ℕ) (steps : List Step) where
   abbrev Issuing : Hardware → Type 0
   Issuing h = Issues v legal now Anything (anything_is_kept v now) steps h × AllHeld v now h
 
-  module _ (k : Kind) (h : Hardware) (older younger : List Entry) (e : Entry) (at : h.rob.entries ≡ older ++ e ∷ younger) (ready : Ready h k older e) (free : is_free h.cycle (at_kind k h.units) ≡ true) (p : Issuing h) where
+  module _ (k : Kind) (h : Hardware) (older younger : List Entry) (e : Entry) (at : h.rob.entries ≡ older ++ e ∷ younger) (ready : IsReady h k older e) (free : is_free h.cycle (at_kind k h.units) ≡ true) (p : Issuing h) where
     abbrev cost_here : ℕ
     cost_here = cost_of h k (path h older e)
 
@@ -171,7 +172,7 @@ module _ (v : Values) (legal : IsLegal v) (now : ℕ) (steps : List Step) where
     same_kind : Held v now k (started_unit (cost_of h k (path h older e)) h.cycle (at_kind k h.units)) (older ++ begun_here ∷ younger)
     same_kind =
         subst (λ n. Held v now k (started_unit cost_here n (at_kind k h.units)) (older ++ begun_here ∷ younger)) (sym p.0.basics.cycle)
-        (held_started v now k (at_kind k h.units) older younger e begun_here cost_here (p.0.basics.shape.pipelined k) (p.0.basics.shape.units k) (subst (λ n. is_free n (at_kind k h.units) ≡ true) p.0.basics.cycle free) (ap start_of_stage ready.waits)
+        (held_started v now k (at_kind k h.units) older younger e begun_here cost_here (p.0.basics.shape.pipelined k) (p.0.basics.shape.units k) (subst (λ n. is_free n (at_kind k h.units) ≡ true) p.0.basics.cycle free) (ap start_of_stage (is_waiting_is e.stage ready.waits))
         (λ c held. subst (λ n. holds_unit c (record { cycle = n; cost = held_for (at_kind k h.units).is_pipelined cost_here }) ≡ true) p.0.basics.cycle
         (subst (λ b. holds_unit c (record { cycle = h.cycle; cost = held_for b cost_here }) ≡ true) (sym (p.0.basics.shape.pipelined k))
         (and_second (is_of_kind k (kind_of_word e.instruction)) (start_holds (at_kind k v.kinds).pipelined c (Some (start_of_issue (record { cycle = h.cycle; cost = cost_here }) (message_at h older e)))) held)))
@@ -181,7 +182,7 @@ module _ (v : Values) (legal : IsLegal v) (now : ℕ) (steps : List Step) where
     other_kind j other =
         held_fewer v now j (at_kind j h.units) (older ++ e ∷ younger) (older ++ begun_here ∷ younger)
         (λ c le. count-set-less (λ z. holds_mark v j c (mark_of_entry z)) older younger e begun_here
-        (and_left (is_of_kind j (kind_of_word e.instruction)) (start_holds (at_kind j v.kinds).pipelined c (start_of_stage (begun_here).stage)) (ap (is_of_kind j) (is_of_kind_is k (kind_of_word e.instruction) ready.kind) ∙ other)))
+        (and_left (is_of_kind j (kind_of_word e.instruction)) (start_holds (at_kind j v.kinds).pipelined c (start_of_stage (begun_here).stage)) (ap (is_of_kind j) (is_of_kind_is k (kind_of_word e.instruction) ready.of_kind) ∙ other)))
         (subst (Held v now j (at_kind j h.units)) at (p.1 j))
 
     pub started_units : AllHeld v now (issued k h older e)
@@ -193,7 +194,7 @@ module _ (v : Values) (legal : IsLegal v) (now : ℕ) (steps : List Step) where
   issue_units : (k : Kind) (h : Hardware) (t : Turn Hardware) → IssueTurn k h t → Issuing h → Leads (Issues v legal now Anything (anything_is_kept v now) steps) (Issues v legal now Anything (anything_is_kept v now) steps) t → Leads Issuing Issuing t
   issue_units k h _ (no_unit held) p goes = p
   issue_units k h _ (none_ready none) p goes = p
-  issue_units k h _ (starts older younger e at is none free) p goes = (goes, started_units k h older younger e at (ready_has h k older e is) free p)
+  issue_units k h _ (starts older younger e at is none free) p goes = (goes, started_units k h older younger e at (ready-parts h k older e is) free p)
 
   kind_units : (k : Kind) (h : Hardware) → Issuing h → Issuing (issue_kind k h)
   kind_units k h p =
