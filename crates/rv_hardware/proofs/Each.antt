@@ -86,6 +86,7 @@ module _ {X : Type 0} (P : X → Type 0) where
   Each-filter p (x ∷ xs) h = Each-pick (p x) x (filter p xs) h.0 (Each-filter p xs h.1)
 
 -- what a function takes from each element is the same where one of them is another one with the same
-pub map-change : {X Y : Type 0} (f : X → Y) (xs ys : List X) (old new : X) → f new ≡ f old → map f (xs ++ new ∷ ys) ≡ map f (xs ++ old ∷ ys)
+pub map-change : {X Y : Type 0} (f : X → Y) (xs ys : List X) (old new : X) → f new ≡ f old →
+    map f (xs ++ new ∷ ys) ≡ map f (xs ++ old ∷ ys)
 map-change f [] ys old new same = ap (λ y. y ∷ map f ys) same
 map-change f (x ∷ xs) ys old new same = ap (λ zs. f x ∷ zs) (map-change f xs ys old new same)

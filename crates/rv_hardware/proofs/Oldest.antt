@@ -5,19 +5,23 @@ use Rattle.rv_hardware.proofs.Words.{◌≡◌, ℕ, ◌+◌, ◌≤◌, Bool, t
 abbrev pub Finds : (List Entry → Entry → Bool) → List Entry → Option (List Entry × Entry) → Type 0
 Finds test entries None = EveryBehind (λ before e. test before e ≡ false) [] entries
 Finds test entries (Some found) =
-    (younger : List Entry) × (entries ≡ found.0 ++ found.1 ∷ younger) × (test found.0 found.1 ≡ true) × EveryBehind (λ before e. test before e ≡ false) [] found.0
+    (younger : List Entry) × (entries ≡ found.0 ++ found.1 ∷ younger) × (test found.0 found.1 ≡ true) ×
+    EveryBehind (λ before e. test before e ≡ false) [] found.0
 
-one_behind : (P : List Entry → Entry → Type 0) (before : List Entry) (e : Entry) → EveryBehind P [] before → P before e → EveryBehind P [] (before ++ e ∷ [])
+one_behind : (P : List Entry → Entry → Type 0) (before : List Entry) (e : Entry) → EveryBehind P [] before → P before e →
+    EveryBehind P [] (before ++ e ∷ [])
 one_behind P before e h g = EveryBehind-append P [] before (e ∷ []) h (g, tt)
 
-finds_here : (test : List Entry → Entry → Bool) (b : Bool) (before es : List Entry) (e : Entry) (rest : Option (List Entry × Entry)) → b ≡ test before e →
+finds_here : (test : List Entry → Entry → Bool) (b : Bool) (before es : List Entry) (e : Entry) (rest : Option (List Entry × Entry)) →
+    b ≡ test before e →
     EveryBehind (λ older x. test older x ≡ false) [] before →
     (b ≡ false → Finds test ((before ++ e ∷ []) ++ es) rest) →
     Finds test (before ++ e ∷ es) (cond b (Some (before, e)) rest)
 finds_here test true before es e rest is none further = (es, refl, sym is, none)
 finds_here test false before es e rest is none further = rw (append_assoc before (e ∷ []) es) at (further refl)
 
-finds_from : (test : List Entry → Entry → Bool) (before es : List Entry) → EveryBehind (λ older x. test older x ≡ false) [] before → Finds test (before ++ es) (oldest_from test before es)
+finds_from : (test : List Entry → Entry → Bool) (before es : List Entry) → EveryBehind (λ older x. test older x ≡ false) [] before →
+    Finds test (before ++ es) (oldest_from test before es)
 finds_from test before [] none = rw (append-nil before) none
 finds_from test before (e ∷ es) none =
     finds_here test (test before e) before es e (oldest_from test (before ++ e ∷ []) es) refl none
@@ -34,14 +38,15 @@ pub record IsFound (test : List Entry → Entry → Bool) (entries older : List 
   pub passes : test older e ≡ true
 
 -- what the search for the oldest finds is such an instruction
-pub oldest_found : (test : List Entry → Entry → Bool) (entries older : List Entry) (e : Entry) → oldest test entries ≡ Some (older, e) → IsFound test entries older e
+pub oldest_found : (test : List Entry → Entry → Bool) (entries older : List Entry) (e : Entry) → oldest test entries ≡ Some (older, e) →
+    IsFound test entries older e
 oldest_found test entries older e is =
     let finds : Finds test entries (Some (older, e)) = subst (Finds test entries) is (oldest_finds test entries) in
     record { younger = finds.0; split = finds.1; passes = finds.2 }
 
 -- a change by sequence number changes the instruction at its place alone
-pub with_entry-at : (change : Entry → Entry) (seq first : ℕ) (older younger : List Entry) (e : Entry) → seq ≡ first + length older →
-    with_entry change seq first (older ++ e ∷ younger) ≡ older ++ change e ∷ younger
+pub with_entry-at : (change : Entry → Entry) (seq first : ℕ) (older younger : List Entry) (e : Entry) →
+    seq ≡ first + length older → with_entry change seq first (older ++ e ∷ younger) ≡ older ++ change e ∷ younger
 with_entry-at change seq first [] younger e at = rw (eq-eqb seq first (omega arith)) refl
 with_entry-at change seq first (o ∷ older) younger e at =
     rw (ne_eqb seq first (omega arith)) (ap (λ l. o ∷ l) (with_entry-at change seq (first + 1) older younger e (omega arith)))

@@ -16,21 +16,25 @@ leads_both P Q R (GoesOn s) p q = (p, q)
 leads_both P Q R (Ends s) p q = q
 
 -- what a turn leads to, and so what it leads to after the turns that follow
-pub left_by_the_rest : {S : Type 0} (P Q : S → Type 0) (rest : S → S) → ((s : S) → P s → Q (rest s)) → (t : Turn S) → Leads P Q t → Q (followed_by rest t)
+pub left_by_the_rest : {S : Type 0} (P Q : S → Type 0) (rest : S → S) → ((s : S) → P s → Q (rest s)) →
+    (t : Turn S) → Leads P Q t → Q (followed_by rest t)
 left_by_the_rest P Q rest goes (GoesOn s) left = goes s left
 left_by_the_rest P Q rest goes (Ends s) left = left
 
-module _ {S : Type 0} (total : ℕ) (P : ℕ → S → Type 0) (Q : S → Type 0) (turn : S → Turn S) (leads : (k : ℕ) (s : S) → k < total → P k s → Leads (P (suc k)) Q (turn s)) (last : (s : S) → P total s → Q s) where
+module _ {S : Type 0} (total : ℕ) (P : ℕ → S → Type 0) (Q : S → Type 0) (turn : S → Turn S)
+    (leads : (k : ℕ) (s : S) → k < total → P k s → Leads (P (suc k)) Q (turn s)) (last : (s : S) → P total s → Q s) where
   -- where after k turns P k holds, until a turn ends in Q or so many were taken, the turns lead to Q
   pub turns_within : (width k : ℕ) (s : S) → width + k ≡ total → P k s → Q (repeated turn width s)
   turns_within zero k s all h = last s (let same : total ≡ k = omega (arith, all) in rw same h)
   turns_within (suc width) k s all h =
-      left_by_the_rest (P (suc k)) Q (repeated turn width) (λ t g. turns_within width (suc k) t (omega (arith, all)) g) (turn s) (leads k s (omega (arith, all)) h)
+      left_by_the_rest (P (suc k)) Q (repeated turn width) (λ t g. turns_within width (suc k) t (omega (arith, all)) g)
+      (turn s) (leads k s (omega (arith, all)) h)
 
 -- turns that keep P while they go on, and leave Q
-pub left_by_turns : {S : Type 0} (P Q : S → Type 0) (turn : S → Turn S) → ((s : S) → P s → Leads P Q (turn s)) → ((s : S) → P s → Q s) →
-    (width : ℕ) (s : S) → P s → Q (repeated turn width s)
-left_by_turns P Q turn keeps stops width s holds = turns_within width (λ k. P) Q turn (λ k t lt p. keeps t p) stops width 0 s (omega arith) holds
+pub left_by_turns : {S : Type 0} (P Q : S → Type 0) (turn : S → Turn S) → ((s : S) → P s → Leads P Q (turn s)) →
+    ((s : S) → P s → Q s) → (width : ℕ) (s : S) → P s → Q (repeated turn width s)
+left_by_turns P Q turn keeps stops width s holds =
+    turns_within width (λ k. P) Q turn (λ k t lt p. keeps t p) stops width 0 s (omega arith) holds
 
 -- what each turn keeps all turns keep
 pub kept_by_turns : {S : Type 0} (P : S → Type 0) (turn : S → Turn S) → ((s : S) → P s → Leaves P (turn s)) →
