@@ -23,7 +23,6 @@ pub record IsRetirement (layout : Layout) (s next : State) (target : Option ℕ)
     stale = stale_after message.store s.stale;
   }
   pub register_is : register ≡ option_map (λ (r : ℕ). (r, message.value)) target
-  pub no_fault : message.fault ≡ None
   pub aligned : message.next_pc % 4 ≡ 0
   pub store : IfSome message.store (IsStoreAccess layout)
 
@@ -64,13 +63,12 @@ module _ (layout : Layout) (s : State) (here : s.pc % 4 ≡ 0) where
       record {
         next_is = ap (λ (registers : List ℕ). record s { pc = next; registers = registers }) (sym (registers_by (nat_eq rd 0) rd value message refl refl));
         register_is = register_by (nat_eq rd 0) rd value message refl;
-        no_fault = refl;
         aligned = aligned;
         store = tt;
       }
 
   goes_told : (next : ℕ) → next % 4 ≡ 0 → IsTold layout s None None (goes_to s next)
-  goes_told next aligned = record { next_is = refl; register_is = refl; no_fault = refl; aligned = aligned; store = tt }
+  goes_told next aligned = record { next_is = refl; register_is = refl; aligned = aligned; store = tt }
 
   jumps_by : (b : Bool) (cause : Cause) (rd target : ℕ) → is_aligned target 4 ≡ b → IsTold layout s (written rd) None (if b then writes s rd (pc_plus_4 s.pc) target else Faults cause target)
   jumps_by true cause rd target is = writes_told rd (pc_plus_4 s.pc) target (is_aligned_by_4 target is)
@@ -122,7 +120,6 @@ module _ (layout : Layout) (s : State) (here : s.pc % 4 ≡ 0) where
       record {
         next_is = refl;
         register_is = refl;
-        no_fault = refl;
         aligned = aligned_next s.pc here;
         store = record {
           above = inside.0;

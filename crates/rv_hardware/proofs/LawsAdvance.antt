@@ -56,8 +56,6 @@ pub record Starts (v : Values) (now : ℕ) (xs : List Mark) (m n : Mark) : Type 
   pub cycle : ℕ
   pub dispatched : m.dispatched ≡ Some cycle
   pub before : cycle < now
-  pub kind : Kind
-  pub is_kind : is_of_kind kind (kind_of_word m.instruction) ≡ true
   pub operands : OperandsKnown now xs (sources_of_word m.instruction)
   pub stores : is_load m.instruction ≡ true → Each (IsKnownStore now) xs
 
@@ -75,7 +73,6 @@ pub record IsSent (now : ℕ) (xs : List Mark) (m n : Mark) : Type 0 where
 pub record Enters (v : Values) (now : ℕ) (xs : List Mark) (m n : Mark) : Type 0 where
   pub becomes : n ≡ record m { dispatched = Some now }
   pub not_yet : m.dispatched ≡ None
-  pub not_started : m.start ≡ None
   pub not_sent : m.broadcast ≡ None
   pub not_retired : m.retired ≡ None
   pub before : m.fetched < now

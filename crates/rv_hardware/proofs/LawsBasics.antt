@@ -1,13 +1,9 @@
 -- An instruction that starts, is broadcast or is dispatched stays sound, and its mark goes on.
-use Rattle.rv_hardware.proofs.Words.{◌≡◌, ℕ, ◌+◌, ◌≤◌, Bool, true, false, ◌||◌, List, [], ◌∷◌, is_some, Some, None, Option, option_and_then, sym, refl, ap, ◌∙◌, subst, inl, inr, arith, list_any, is_of_kind, is_serialising, kind_of_word, Message, Instr, Issue, Lines, Kind, Values, instruction_of, Layout, State, Each, finished, issue_of, predicting, started, Entry, Stage, Finished, Running, Waiting, Fetched, entry_of_fetched, stage_by, Hardware, is_waiting, result_of_word, layout_of, seen_behind, rows_of, Step, EveryPair}
+use Rattle.rv_hardware.proofs.Words.{◌≡◌, ℕ, ◌+◌, ◌≤◌, Bool, true, false, List, is_some, Some, None, Option, option_and_then, sym, refl, ap, ◌∙◌, subst, inl, inr, arith, is_of_kind, is_serialising, kind_of_word, Message, Instr, Issue, Lines, Kind, Values, instruction_of, Layout, State, Each, finished, issue_of, predicting, started, Entry, Stage, Finished, Running, Waiting, Fetched, entry_of_fetched, stage_by, Hardware, is_waiting, result_of_word, layout_of, seen_behind, rows_of, Step}
 use Rattle.rv_hardware.proofs.LawsMarks.{mark_of_entry, mark_of_fetched, start_of_issue, start_of_stage, broadcast_of_stage}
 use Rattle.rv_hardware.proofs.LawsRow.{SoundRow}
 use Rattle.rv_hardware.proofs.LawsShape.{HasShape}
 use Rattle.rv_hardware.proofs.LawsSound.{SoundCost, SoundEntry, SoundStage, SoundFetched, some_kind}
-
--- a serialising instruction is the youngest
-abbrev pub SerialIsLast : List Entry → Type 0
-SerialIsLast es = EveryPair (λ a x. is_serialising a.instruction ≡ false) es
 
 -- in cycle `now`: dispatches, executions, fetches and retirements lie below bounds
 pub record Basics (v : Values) (now dispatch_bound issue_bound stage_bound fetch_bound row_bound : ℕ) (steps : List Step) (h : Hardware) : Type 0 where
@@ -16,7 +12,6 @@ pub record Basics (v : Values) (now dispatch_bound issue_bound stage_bound fetch
   pub rows : Each (SoundRow v row_bound) (rows_of steps)
   pub entries : Each (SoundEntry v dispatch_bound issue_bound stage_bound) h.rob.entries
   pub fetched : Each (SoundFetched fetch_bound) h.front.entries
-  pub serial : SerialIsLast h.rob.entries
 
 pub is_waiting_is : (st : Stage) → is_waiting st ≡ true → st ≡ Waiting
 is_waiting_is Waiting h = refl
@@ -113,19 +108,3 @@ dispatched_mark h f =
       broadcast = first_broadcast h.cycle (kind_of_word f.instruction) (is_serialising f.instruction) message i;
       retired = None;
     }
-
-or_fails_first : (a b : Bool) → (a || b) ≡ false → a ≡ false
-or_fails_first true b h = absurd (cc)
-or_fails_first false b h = refl
-
-or_fails_second : (a b : Bool) → (a || b) ≡ false → b ≡ false
-or_fails_second true b h = absurd (cc)
-or_fails_second false b h = h
-
--- where no instruction in flight serialises, each of them does not
-pub none_serialises : (es : List Entry) → list_any (λ e. is_serialising e.instruction) es ≡ false → Each (λ e. is_serialising e.instruction ≡ false) es
-none_serialises [] h = tt
-none_serialises (e ∷ es) h = (
-  or_fails_first (is_serialising e.instruction) (list_any (λ x. is_serialising x.instruction) es) h,
-  none_serialises es (or_fails_second (is_serialising e.instruction) (list_any (λ x. is_serialising x.instruction) es) h),
-)

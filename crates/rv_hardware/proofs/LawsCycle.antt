@@ -2,7 +2,7 @@
 use Rattle.rv_hardware.proofs.Words.{◌≡◌, ℕ, suc, ◌+◌, ◌-◌, ◌<◌, ◌≤◌, Bool, List, [], ◌∷◌, ◌++◌, map, length, is_none, sym, refl, ap, ◌∙◌, subst, append-nil, arith, at_kind-for_each, IsLegal, at_kind, Lines, Values, Each, Pool, free_pool, Entry, Fetched, broadcast, Committing, IsCycle, any_prediction, commit_with, execute, with_lines, Dispatching, dispatch, stall_of, drain, Hardware, issue, Report, reset_hardware, Reachable, at_reset, by_cycle, rows_of, Row, Step, Each-append, Each-weaker, Each-map, count, count-append}
 use Rattle.std.specs.FinSet as set
 use Rattle.rv_hardware.proofs.LawsAdvance.{Kept}
-use Rattle.rv_hardware.proofs.LawsBasics.{Basics, SerialIsLast}
+use Rattle.rv_hardware.proofs.LawsBasics.{Basics}
 use Rattle.rv_hardware.proofs.LawsFetch.{FetchPhase, IsNew, fetch_phase}
 use Rattle.rv_hardware.proofs.LawsMarks.{Mark, mark_of_row, mark_of_entry, mark_of_fetched, marks, marks_in, marks_fetched}
 use Rattle.rv_hardware.proofs.LawsPhases.{Goes, commit_keeps, drain_keeps, issue_keeps, broadcast_keeps, dispatch_keeps, goes_later}
@@ -62,7 +62,6 @@ module _ (v : Values) (legal : IsLegal v) (R : List Mark → Type 0) (earlier : 
           rows = begins.rows;
           entries = begins.entries;
           fetched = begins.fetched;
-          serial = begins.serial;
         };
         marks = holds;
       }))
@@ -86,7 +85,6 @@ module _ (v : Values) (legal : IsLegal v) (R : List Mark → Type 0) (earlier : 
       fetched = rw (fetches.entries) (Each-append (SoundFetched (old.cycle + 1)) d.front.entries fetches.added
           (Each-weaker (SoundFetched old.cycle) (SoundFetched (old.cycle + 1)) (λ f w. (omega (arith, w.0), w.1)) d.front.entries dispatched.basics.fetched)
           (Each-weaker (IsNew old.cycle) (SoundFetched (old.cycle + 1)) (λ f w. (omega (arith, w.0), w.1)) fetches.added fetches.are_new));
-      serial = subst SerialIsLast (sym (ap (λ (h : Hardware). h.rob.entries) others_stay)) dispatched.basics.serial;
     }
 
     more_marks : marks_in steps new ≡ marks_in steps d ++ map mark_of_fetched fetches.added
@@ -147,7 +145,6 @@ sound_at_reset v image start = record {
   rows = tt;
   entries = tt;
   fetched = tt;
-  serial = tt;
 }
 
 -- the property that all marks have

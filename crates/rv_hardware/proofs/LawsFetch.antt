@@ -1,42 +1,38 @@
 -- A cycle's fetch adds new words at the end of the fetch buffer, within its width and its room.
-use Rattle.rv_hardware.proofs.Words.{◌≡◌, ℕ, zero, suc, ◌-◌, ◌<◌, ◌≤◌, Bool, true, false, ◌⊎◌, List, [], ◌∷◌, ◌++◌, length, Some, None, MatchBool, Option, MatchOption, option_and_then, sym, refl, ap, ◌∙◌, inl, inr, append-nil, arith, instruction_of, Memory, Each, Answers, EndsFor, FetchBuffer, Fetches, FetchesInto, is_halted, stop_behind, FetchStop, Halted, Fetched}
+use Rattle.rv_hardware.proofs.Words.{◌≡◌, ℕ, zero, suc, ◌-◌, ◌≤◌, Bool, true, false, ◌⊎◌, List, [], ◌∷◌, ◌++◌, length, Some, None, MatchBool, Option, MatchOption, option_and_then, sym, refl, ap, ◌∙◌, inl, inr, append-nil, arith, instruction_of, Memory, Each, Answers, EndsFor, FetchBuffer, Fetches, FetchesInto, is_halted, stop_behind, FetchStop, Halted, Fetched}
 
 -- a word that a fetch adds
 abbrev pub IsNew : ℕ → Fetched → Type 0
 IsNew cycle f = (f.cycle ≡ cycle) × (f.instruction ≡ option_and_then instruction_of f.word)
 
 -- what some added words are
-pub record Added (cycle width room : ℕ) (added : List Fetched) (stop : FetchStop) : Type 0 where
+pub record Added (cycle width room : ℕ) (added : List Fetched) : Type 0 where
   pub are_new : Each (IsNew cycle) added
   pub within_width : length added ≤ width
   pub within_room : length added ≤ room
   pub goes_on : added ≡ [] → (width ≡ 0) ⊎ (room ≡ 0)
-  pub halts_behind_one : is_halted stop ≡ true → 0 < length added
 
-not_width : false ≡ true → ⊥
-not_width e = absurd (cc)
-
-ends_with_none : (cycle width room : ℕ) (stop : FetchStop) → EndsFor width room stop → Added cycle width room [] stop
-ends_with_none cycle zero room stop ends = record { are_new = tt; within_width = omega arith; within_room = omega arith; goes_on = λ e. inl refl; halts_behind_one = λ h. absurd (not_width (sym (ap is_halted ends) ∙ h)) }
-ends_with_none cycle (suc width) zero stop ends = record { are_new = tt; within_width = omega arith; within_room = omega arith; goes_on = λ e. inr refl; halts_behind_one = λ h. absurd (not_width (sym (ap is_halted ends) ∙ h)) }
+ends_with_none : (cycle width room : ℕ) (stop : FetchStop) → EndsFor width room stop → Added cycle width room []
+ends_with_none cycle zero room stop ends = record { are_new = tt; within_width = omega arith; within_room = omega arith; goes_on = λ e. inl refl }
+ends_with_none cycle (suc width) zero stop ends = record { are_new = tt; within_width = omega arith; within_room = omega arith; goes_on = λ e. inr refl }
 ends_with_none cycle (suc width) (suc room) stop ends = absurd ends
 
-one_more : (cycle width room : ℕ) (f : Fetched) (fs : List Fetched) (stop : FetchStop) → IsNew cycle f → Added cycle width room fs stop → Added cycle (suc width) (suc room) (f ∷ fs) stop
-one_more cycle width room f fs stop new added =
-    record { are_new = (new, added.are_new); within_width = omega (arith, added.within_width); within_room = omega (arith, added.within_room); goes_on = λ e. absurd (cc); halts_behind_one = λ h. omega arith }
+one_more : (cycle width room : ℕ) (f : Fetched) (fs : List Fetched) → IsNew cycle f → Added cycle width room fs → Added cycle (suc width) (suc room) (f ∷ fs)
+one_more cycle width room f fs new added =
+    record { are_new = (new, added.are_new); within_width = omega (arith, added.within_width); within_room = omega (arith, added.within_room); goes_on = λ e. absurd (cc) }
 
-only_one : (cycle width room : ℕ) (f : Fetched) (fs : List Fetched) (stop : FetchStop) → IsNew cycle f → fs ≡ [] → Added cycle (suc width) (suc room) (f ∷ fs) stop
-only_one cycle width room f fs stop new none =
-    record { are_new = (new, rw none tt); within_width = rw none (omega arith); within_room = rw none (omega arith); goes_on = λ e. absurd (cc); halts_behind_one = λ h. omega arith }
+only_one : (cycle width room : ℕ) (f : Fetched) (fs : List Fetched) → IsNew cycle f → fs ≡ [] → Added cycle (suc width) (suc room) (f ∷ fs)
+only_one cycle width room f fs new none =
+    record { are_new = (new, rw none tt); within_width = rw none (omega arith); within_room = rw none (omega arith); goes_on = λ e. absurd (cc) }
 
 by_stop : (cycle width room : ℕ) (f : Fetched) (fs : List Fetched) (stop : FetchStop) (next : ℕ) (o : Option FetchStop) (Rest : Type 0) → IsNew cycle f →
-    (Rest → Added cycle width room fs stop) →
-    MatchOption o Rest (λ reason. (fs ≡ []) × (next ≡ f.predicted) × (stop ≡ reason)) → Added cycle (suc width) (suc room) (f ∷ fs) stop
-by_stop cycle width room f fs stop next None Rest new rest h = one_more cycle width room f fs stop new (rest h)
-by_stop cycle width room f fs stop next (Some reason) Rest new rest h = only_one cycle width room f fs stop new h.0
+    (Rest → Added cycle width room fs) →
+    MatchOption o Rest (λ reason. (fs ≡ []) × (next ≡ f.predicted) × (stop ≡ reason)) → Added cycle (suc width) (suc room) (f ∷ fs)
+by_stop cycle width room f fs stop next None Rest new rest h = one_more cycle width room f fs new (rest h)
+by_stop cycle width room f fs stop next (Some reason) Rest new rest h = only_one cycle width room f fs new h.0
 
 fetches_add : (answers : Answers) (ram : Memory) (cycle width room pc : ℕ) (fs : List Fetched) (next : ℕ) (stop : FetchStop) →
-    Fetches answers ram cycle width room pc fs next stop → Added cycle width room fs stop
+    Fetches answers ram cycle width room pc fs next stop → Added cycle width room fs
 fetches_add answers ram cycle width room pc [] next stop h = ends_with_none cycle width room stop h.0
 fetches_add answers ram cycle zero room pc (f ∷ fs) next stop h = absurd h
 fetches_add answers ram cycle (suc width) zero pc (f ∷ fs) next stop h = absurd h
@@ -54,7 +50,6 @@ pub record FetchPhase (cycle : ℕ) (old new : FetchBuffer) : Type 0 where
   pub capacity : new.capacity ≡ old.capacity
   pub width : new.width ≡ old.width
   pub goes_on : added ≡ [] → (old.halted ≡ true) ⊎ ((old.width ≡ 0) ⊎ (old.capacity - length old.entries ≡ 0))
-  pub halts_behind_one : new.halted ≡ true → (old.halted ≡ true) ⊎ (0 < length added)
 
 by_halted : (answers : Answers) (ram : Memory) (cycle : ℕ) (old new : FetchBuffer) (stop : FetchStop) (b : Bool) → old.halted ≡ b →
     MatchBool b
@@ -71,7 +66,6 @@ by_halted answers ram cycle old new stop true is h = record {
   capacity = ap (λ (front : FetchBuffer). front.capacity) h.0;
   width = ap (λ (front : FetchBuffer). front.width) h.0;
   goes_on = λ e. inl is;
-  halts_behind_one = λ e. inl is;
 }
 by_halted answers ram cycle old new stop false is h =
     let added = fetches_add answers ram cycle old.width (old.capacity - length old.entries) old.next_pc h.0 new.next_pc stop h.1 in
@@ -84,7 +78,6 @@ by_halted answers ram cycle old new stop false is h =
       capacity = ap (λ (front : FetchBuffer). front.capacity) h.2;
       width = ap (λ (front : FetchBuffer). front.width) h.2;
       goes_on = λ e. inr (added.goes_on e);
-      halts_behind_one = λ e. inr (added.halts_behind_one (sym (ap (λ (front : FetchBuffer). front.halted) h.2) ∙ e));
     }
 
 -- a fetch adds new words at the end of the fetch buffer, within its width and room

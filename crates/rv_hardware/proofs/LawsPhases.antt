@@ -1,11 +1,11 @@
 -- Every phase keeps what is basic, turn by turn, and its marks go on.
-use Rattle.rv_hardware.proofs.Words.{◌≡◌, ℕ, ◌+◌, ◌<◌, ◌≤◌, Bool, true, false, cond, not, ◌&&◌, ◌||◌, List, [], ◌∷◌, ◌++◌, map, length, nat_le, Some, None, filter, Option, nat_cmp, sym, refl, ap, ◌∙◌, subst, append_assoc, append-nil, arith, leb-false, list_all, IsLegal, is_load, is_of_kind, is_serialising, kind_of_word, sources_of_word, at_kind, Message, StoreAccess, Issue, Kind, PerKind, Values, due, interrupt_cause, Each, oldest_to_drain, is_known as is_known_store, Pool, finished, predicting, started, Entry, Fetched, broadcast, broadcast_turn, has_result, with_broadcast, with_recovery, Committing, commit, commit_turn, commit_unless, with_fault, Dispatching, dispatch, dispatch_turn, entry_of_fetched, has_full_stations, is_stationed, with_dispatched, drain, end_drain, start_drain, Hardware, cost_of, has_port, is_ready, issue, issue_kind, issue_turn, issued, may_load, path, with_access, Turn, written_of, stores_behind, rows_of, Step, Interrupt, Retired, Trap, Each-append, Each-left, Each-set, Each-place, Each-weaker, EveryBehind, EveryPair-append, EveryPair-left, EveryPair-across, EveryPair-set}
+use Rattle.rv_hardware.proofs.Words.{◌≡◌, ℕ, ◌+◌, ◌<◌, ◌≤◌, Bool, true, false, cond, not, ◌&&◌, ◌||◌, List, [], ◌∷◌, ◌++◌, map, length, nat_le, Some, None, filter, Option, nat_cmp, sym, refl, ap, ◌∙◌, subst, append_assoc, append-nil, arith, leb-false, list_all, IsLegal, is_load, is_of_kind, is_serialising, kind_of_word, sources_of_word, at_kind, Message, StoreAccess, Issue, Kind, PerKind, Values, due, interrupt_cause, Each, oldest_to_drain, is_known as is_known_store, Pool, finished, predicting, started, Entry, Fetched, broadcast, broadcast_turn, has_result, with_broadcast, with_recovery, Committing, commit, commit_turn, commit_unless, with_fault, Dispatching, dispatch, dispatch_turn, entry_of_fetched, has_full_stations, is_stationed, with_dispatched, drain, end_drain, start_drain, Hardware, cost_of, has_port, is_ready, issue, issue_kind, issue_turn, issued, may_load, path, with_access, Turn, written_of, stores_behind, rows_of, Step, Interrupt, Retired, Trap, Each-append, Each-left, Each-set, Each-place, Each-weaker, EveryBehind}
 use Rattle.std.specs.FinSet as set
 use Rattle.rv_isa.specs.declared.operations.Kind.TheVariants as kind
 use Rattle.rv_hardware.proofs.GapIssue.{ready-parts}
 use Rattle.rv_hardware.proofs.LawsAdvance.{Advances, Starts, IsSent, retires as a_retires, starts as a_starts, is_sent as a_is_sent, enters as a_enters, Kept}
 use Rattle.rv_hardware.proofs.LawsEvidence.{operands_known, stores_known, none_waits, rows_and_entries_are_dispatched, in_flight_room, stations_room}
-use Rattle.rv_hardware.proofs.LawsBasics.{Basics, SerialIsLast, started_sound, finished_sound, finished_mark, predicting_sound, dispatched_sound, dispatched_mark, none_serialises, is_waiting_is}
+use Rattle.rv_hardware.proofs.LawsBasics.{Basics, started_sound, finished_sound, finished_mark, predicting_sound, dispatched_sound, dispatched_mark, is_waiting_is}
 use Rattle.rv_hardware.proofs.LawsBroadcast.{BroadcastTurn, none_ready as no_result, sends, mends, broadcast_turn_is, Sends, sent_entries, mended_entries}
 use Rattle.rv_hardware.proofs.LawsCommit.{CommitTurn, no_head, stale_head, unfinished, fence_waits, fence_writes, fence_retires, executes, serial_faults, traps, retires, retires_last, executed, written_back, retired_with, retired_and_flushed, commit_turn_is}
 use Rattle.rv_hardware.proofs.LawsDispatch.{DispatchTurn, buffer_empty, waits, dispatches, dispatch_turn_is}
@@ -46,7 +46,6 @@ module _ (v : Values) (now : ℕ) (R : List Mark → Type 0) (kept : Kept v now 
           rows = rw (rows_append (earlier ++ c.steps) (s ∷ [])) (Each-append (SoundRow v (now + 1)) (rows_of (earlier ++ c.steps)) (rows_of (s ∷ [])) p.basics.rows row);
           entries = rw none tt;
           fetched = rw none' tt;
-          serial = rw none tt;
         };
         marks = marks_from R (earlier ++ c.steps) ((earlier ++ c.steps) ++ s ∷ []) g c.hardware [] [] none none' p.marks goes;
       })
@@ -98,7 +97,6 @@ module _ (v : Values) (now : ℕ) (R : List Mark → Type 0) (kept : Kept v now 
       rows = p.basics.rows;
       entries = p.basics.entries;
       fetched = p.basics.fetched;
-      serial = p.basics.serial;
     };
     marks = p.marks;
   }
@@ -129,7 +127,6 @@ module _ (v : Values) (now : ℕ) (R : List Mark → Type 0) (kept : Kept v now 
               (Each-append (SoundRow v (now + 1)) (rows_of (earlier ++ c.steps)) (row_at e (written_of e message) c.hardware.cycle ∷ []) p.basics.rows (row_sound c e es (written_of e message) head.place may p, tt));
           entries = subst (Each (SoundEntry v now now now)) (sym here) (subst (Each (SoundEntry v now now now)) head.place p.basics.entries).1;
           fetched = p.basics.fetched;
-          serial = subst SerialIsLast (sym here) (subst SerialIsLast head.place p.basics.serial).1;
         };
         marks = marks_from R (earlier ++ c.steps) ((earlier ++ c.steps) ++ Retired (row_at e (written_of e message) c.hardware.cycle) ∷ []) g c.hardware es c.hardware.front.entries here refl p.marks
             (row_goes c e es (written_of e message) head.place may p);
@@ -180,7 +177,6 @@ drain_keeps v now d a b f r R steps h p =
         rows = p.basics.rows;
         entries = rw (same.0) (p.basics.entries);
         fetched = rw (same.1) (p.basics.fetched);
-        serial = rw (same.0) (p.basics.serial);
       };
       marks = rw (same.0, same.1) (p.marks);
     }
@@ -193,16 +189,15 @@ module _ (v : Values) (now bound : ℕ) (R : List Mark → Type 0) (kept : Kept 
 
   -- one instruction changes
   change : (g h : Hardware) (older younger : List Entry) (e x : Entry) → h.rob.entries ≡ older ++ e ∷ younger → g.rob.entries ≡ older ++ x ∷ younger → g.front.entries ≡ h.front.entries →
-      g.cycle ≡ h.cycle → SameShape g h → SoundEntry v now (now + 1) bound x → x.instruction ≡ e.instruction →
+      g.cycle ≡ h.cycle → SameShape g h → SoundEntry v now (now + 1) bound x →
       Advances v now (map mark_of_row (rows_of steps) ++ map mark_of_entry older) (mark_of_entry e) (mark_of_entry x) → Executes h → Executes g
-  change g h older younger e x at at' front cycle shape sound same agree p = record {
+  change g h older younger e x at at' front cycle shape sound agree p = record {
     basics = record {
       cycle = cycle ∙ p.basics.cycle;
       shape = same_shape v g h shape p.basics.shape;
       rows = p.basics.rows;
       entries = rw at' (Each-set (SoundEntry v now (now + 1) bound) older younger e x sound (subst (Each (SoundEntry v now (now + 1) bound)) at p.basics.entries));
       fetched = rw front (p.basics.fetched);
-      serial = rw at' (EveryPair-set (λ a y. is_serialising a.instruction ≡ false) older younger e x (λ z w. w) (λ z w. ap is_serialising same ∙ w) (subst SerialIsLast at p.basics.serial));
     };
     marks = marks_from R steps steps g h (older ++ x ∷ younger) h.front.entries at' front p.marks
         (rw (at, marks_at_entry steps older younger e h.front.entries, marks_at_entry steps older younger x h.front.entries)
@@ -263,8 +258,6 @@ module _ (v : Values) (legal : IsLegal v) (now : ℕ) (R : List Mark → Type 0)
         cycle = e.dispatched;
         dispatched = refl;
         before = sound.by_now;
-        kind = k;
-        is_kind = ready.of_kind;
         operands = operands_known v now (now + 1) now (rows_of steps) p.basics.rows older (sources_of_word e.instruction) olders ready.operands;
         stores = λ load. stores_known v now (now + 1) now (rows_of steps) p.basics.rows h.committed h.rob.retired older olders (load_waits h older e load ready.loads);
       }
@@ -284,7 +277,6 @@ module _ (v : Values) (legal : IsLegal v) (now : ℕ) (R : List Mark → Type 0)
       (ap (λ r. r.entries) keep.front) keep.cycle (issued_shape v now now R kept steps k h older e)
       (subst (λ n. SoundEntry v now (now + 1) now (started (record { cycle = n; cost = cost }) message e)) (sym p.basics.cycle)
       (started_sound v now now k e cost message sound ready.of_kind (subst (λ n. SoundCost v e.instruction (start_of_issue (record { cycle = n; cost = cost }) message)) p.basics.cycle (issued_cost v h p.basics.shape older e k ready.of_kind))))
-      refl
       (a_starts (start_is k h older younger e at is p)) p
 
   -- the turns of one kind keep it
@@ -314,7 +306,6 @@ module _ (v : Values) (now : ℕ) (R : List Mark → Type 0) (kept : Kept v now 
       r.cycle ≡ g.cycle → SameShape r g → (SoundEntry v now (now + 1) (now + 1) x → SoundEntry v now (now + 1) (now + 1) y) → mark_of_entry x ≡ mark_of_entry y → Broadcasts g → Broadcasts r
   squash r g older younger x y at at' none cycle shape sound same q =
       let entries = subst (Each (SoundEntry v now (now + 1) (now + 1))) at q.basics.entries in
-      let serial = subst SerialIsLast at q.basics.serial in
       record {
         basics = record {
           cycle = cycle ∙ q.basics.cycle;
@@ -322,9 +313,6 @@ module _ (v : Values) (now : ℕ) (R : List Mark → Type 0) (kept : Kept v now 
           rows = q.basics.rows;
           entries = rw at' (Each-append (SoundEntry v now (now + 1) (now + 1)) older (y ∷ []) (Each-left (SoundEntry v now (now + 1) (now + 1)) older (x ∷ younger) entries) (sound (Each-place (SoundEntry v now (now + 1) (now + 1)) older younger x entries), tt));
           fetched = rw none tt;
-          serial = rw at' (EveryPair-append (λ a z. is_serialising a.instruction ≡ false) older (y ∷ []) (EveryPair-left (λ a z. is_serialising a.instruction ≡ false) older (x ∷ younger) serial) (tt, tt)
-              (Each-weaker (λ a. Each (λ z. is_serialising a.instruction ≡ false) (x ∷ younger)) (λ a. Each (λ z. is_serialising a.instruction ≡ false) (y ∷ [])) (λ a w. (w.0, tt)) older
-              (EveryPair-across (λ a z. is_serialising a.instruction ≡ false) older (x ∷ younger) serial)));
         };
         marks = marks_from R steps steps r g (older ++ y ∷ []) [] at' none q.marks
             (rw (at, ← append_assoc older (x ∷ []) younger)
@@ -355,7 +343,7 @@ module _ (v : Values) (now : ℕ) (R : List Mark → Type 0) (kept : Kept v now 
       let x : Entry = finished message h.cycle e in
       let sound : SoundEntry v now (now + 1) (now + 1) e = entry_sound v now (now + 1) R kept steps h older younger e sent.place p in
       change v now (now + 1) R kept steps g h older younger e x sent.place (sent_entries h older younger e message sent.place) refl refl (sent_shape h g refl refl refl refl refl refl)
-      (subst (λ n. SoundEntry v now (now + 1) (now + 1) (finished message n e)) (sym p.basics.cycle) (finished_sound v now e issue message sound sent.runs (omega (arith, sent.over, p.basics.cycle)))) refl
+      (subst (λ n. SoundEntry v now (now + 1) (now + 1) (finished message n e)) (sym p.basics.cycle) (finished_sound v now e issue message sound sent.runs (omega (arith, sent.over, p.basics.cycle))))
       (a_is_sent (send_is h older younger e issue message sent p)) p
 
   -- each turn of the broadcast phase keeps it
@@ -403,8 +391,6 @@ module _ (v : Values) (now : ℕ) (R : List Mark → Type 0) (kept : Kept v now 
           rows = p.basics.rows;
           entries = Each-append (SoundEntry v (now + 1) (now + 1) (now + 1)) h.rob.entries (e ∷ []) p.basics.entries (dispatched_sound v now h f p.basics.cycle sound.0, tt);
           fetched = sound.1;
-          serial = EveryPair-append (λ a z. is_serialising a.instruction ≡ false) h.rob.entries (e ∷ []) p.basics.serial (tt, tt)
-              (Each-weaker (λ a. is_serialising a.instruction ≡ false) (λ a. Each (λ z. is_serialising a.instruction ≡ false) (e ∷ [])) (λ a w. (w, tt)) h.rob.entries (none_serialises h.rob.entries nothing.serial));
         };
         marks = marks_from R steps steps g h (h.rob.entries ++ e ∷ []) fs refl refl p.marks
             (rw (at, marks_dispatched steps h.rob.entries f fs, marks_at_entry steps h.rob.entries [] e fs)
@@ -412,7 +398,6 @@ module _ (v : Values) (now : ℕ) (R : List Mark → Type 0) (kept : Kept v now 
             (a_enters (record {
               becomes = dispatched_mark h f ∙ ap (λ n. record (mark_of_fetched f) { dispatched = Some n }) p.basics.cycle;
               not_yet = refl;
-              not_started = refl;
               not_sent = refl;
               not_retired = refl;
               before = sound.0.0;
@@ -437,7 +422,6 @@ goes_later v now d a b f r d' a' b' r' R steps h le le' le'' le''' p = record {
     rows = Each-weaker (SoundRow v r) (SoundRow v r') (λ row w. record { stamps = w.stamps; cost = w.cost; below = omega (arith, w.below) }) (rows_of steps) p.basics.rows;
     entries = Each-weaker (SoundEntry v d a b) (SoundEntry v d' a' b') (λ e w. sound_later v d a b d' a' b' le le' le'' e w) h.rob.entries p.basics.entries;
     fetched = p.basics.fetched;
-    serial = p.basics.serial;
   };
   marks = p.marks;
 }
