@@ -1,8 +1,7 @@
 -- The broadcast phase keeps what a result on the bus and the mending of a wrong prediction keep.
-use Rattle.rv_hardware.proofs.Words.{◌≡◌, ℕ, ◌+◌, ◌&&◌, List, [], ◌∷◌, ◌++◌, length, Some, None, Option, sym, refl, ap, ◌∙◌, subst, Message, finished, predicting, entries_below, with_entry, Entry, broadcast, broadcast_oldest, broadcast_result, broadcast_turn, has_result, is_mispredicted, mends_early, result_at, with_broadcast, with_recovery, Hardware, oldest, Ends, GoesOn, redirected, by_test}
+use Rattle.rv_hardware.proofs.Words.{◌≡◌, ℕ, ◌+◌, ◌&&◌, List, [], ◌∷◌, ◌++◌, length, Some, None, Option, sym, refl, ap, ◌∙◌, subst, Message, finished, predicting, entries_below, with_entry, Entry, broadcast, broadcast_oldest, broadcast_result, broadcast_turn, has_result, is_mispredicted, mends_early, result_at, with_broadcast, with_recovery, Hardware, oldest, Ends, GoesOn, redirected, by_test, Leaves, kept_by_turns}
 use Rattle.rv_hardware.proofs.GapForms.{with_entries}
 use Rattle.rv_hardware.proofs.Oldest.{oldest_found, with_entry-at, entries_below-at}
-use Rattle.rv_hardware.proofs.Repeated.{Leaves, kept_by_turns}
 
 -- only what is older than an instruction, and the instruction, are in flight, and fetch begins anew at a pc
 abbrev pub with_mended : ℕ → List Entry → Hardware → Hardware

@@ -1,9 +1,8 @@
 -- The commit phase keeps what a retirement, FENCE.I's write-back and a squash of everything in flight keep.
-use Rattle.rv_hardware.proofs.Words.{◌≡◌, ℕ, ◌+◌, Bool, true, cond, List, [], ◌∷◌, ◌++◌, ◌==◌, Some, None, Option, nat_cmp, sym, refl, subst, code_of, target_of_word, Message, Fault, Instr, Csr, FenceI, Mret, word_of, due, Effect, Faults, Retires, State, trap_taken, interrupt_cause, after_head, Entry, Committing, commit, commit_turn, commit_turn_of, commit_unless, execute_head, fence_instructions, finish_broadcast, finish_head, head_turn, is_drained, retire, take_effect, with_write_back, write_back_time, Hardware, broadcast_of, with_value, Ends, GoesOn, committed_store, row_of, stale_after, with_result, written_of, seen, with_state, flushed, by_test}
+use Rattle.rv_hardware.proofs.Words.{◌≡◌, ℕ, ◌+◌, Bool, true, cond, List, [], ◌∷◌, ◌++◌, ◌==◌, Some, None, Option, nat_cmp, sym, refl, subst, code_of, target_of_word, Message, Fault, Instr, Csr, FenceI, Mret, word_of, due, Effect, Faults, Retires, State, trap_taken, interrupt_cause, after_head, Entry, Committing, commit, commit_turn, commit_turn_of, commit_unless, execute_head, fence_instructions, finish_broadcast, finish_head, head_turn, is_drained, retire, take_effect, with_write_back, write_back_time, Hardware, broadcast_of, with_value, Ends, GoesOn, committed_store, row_of, stale_after, with_result, written_of, seen, with_state, flushed, by_test, Leaves, kept_by_turns}
 use Rattle.std.specs.FinSet as set
 use Rattle.rv_arch.specs.declared.outcome.Stop.TheVariants as stop
 use Rattle.rv_hardware.proofs.GapForms.{emptied, without_head}
-use Rattle.rv_hardware.proofs.Repeated.{Leaves, kept_by_turns}
 
 module _ (P : Hardware → Type 0) where
   -- a squash of everything, a retirement and FENCE.I's write-back keep the property

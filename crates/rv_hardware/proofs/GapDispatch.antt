@@ -1,6 +1,5 @@
 -- The dispatch phase keeps what the dispatch of one fetched word keeps.
-use Rattle.rv_hardware.proofs.Words.{◌≡◌, ℕ, List, [], ◌∷◌, Some, None, Option, refl, Fetched, Dispatching, dispatch, dispatch_turn, dispatch_turn_of, dispatch_unless, reason_of, with_dispatched, Hardware, repeated, Stall}
-use Rattle.rv_hardware.proofs.Repeated.{Leaves, kept_by_turns}
+use Rattle.rv_hardware.proofs.Words.{◌≡◌, ℕ, List, [], ◌∷◌, Some, None, Option, refl, Fetched, Dispatching, dispatch, dispatch_turn, dispatch_turn_of, dispatch_unless, reason_of, with_dispatched, Hardware, repeated, Stall, Leaves, kept_by_turns}
 
 module _ (P : Hardware → Type 0) where
   -- the dispatch of one fetched word keeps the property

@@ -1,5 +1,5 @@
 -- Where the oldest instruction executes, a cycle brings its end nearer.
-use Rattle.rv_hardware.proofs.Words.{◌≡◌, ℕ, suc, ◌+◌, ◌-◌, ◌<◌, ◌≤◌, true, false, not, List, [], ◌∷◌, ◌++◌, length, is_none, nat_le, Some, None, Option, sym, refl, ap, ◌∙◌, subst, inl, inr, arith, le-leb, cases_lt, cond-false, cond-true, false≢true, lt-leb, is_serialising, Message, Instr, Issue, Kind, Values, finished, predicting, started, Entry, Stage, Finished, Running, Waiting, FetchBuffer, broadcast, broadcast_oldest, broadcast_result, broadcast_turn, has_result, result_at, execute, drain, Hardware, is_waiting, issue, oldest, oldest_from, repeated, by_test}
+use Rattle.rv_hardware.proofs.Words.{◌≡◌, ℕ, suc, ◌+◌, ◌-◌, ◌<◌, ◌≤◌, true, false, not, List, [], ◌∷◌, ◌++◌, length, is_none, nat_le, Some, None, Option, sym, refl, ap, ◌∙◌, subst, inl, inr, arith, le-leb, cases_lt, cond-false, cond-true, false≢true, lt-leb, is_serialising, Message, Instr, Issue, Kind, Values, finished, predicting, started, Entry, Stage, Finished, Running, Waiting, FetchBuffer, broadcast, broadcast_oldest, broadcast_result, broadcast_turn, has_result, result_at, execute, drain, Hardware, is_waiting, issue, oldest, oldest_from, repeated, by_test, Leaves, left_by_the_rest, kept_by_turns}
 use Rattle.rv_hardware.proofs.GapBroadcast.{IsMadeByBroadcast, result-makes}
 use Rattle.rv_hardware.proofs.GapDrained.{drain-same}
 use Rattle.rv_hardware.proofs.GapExecute.{broadcast-same, execute-same, head-broadcasted, head-dispatched, head-turn, issued-same, later, plain-patience}
@@ -7,7 +7,6 @@ use Rattle.rv_hardware.proofs.GapHead.{HeadIs, head-change, head-cut}
 use Rattle.rv_hardware.proofs.GapIssue.{IsKeptByIssue, issue-keeps}
 use Rattle.rv_hardware.proofs.GapPatience.{patience, stage_time}
 use Rattle.rv_hardware.proofs.GapRunning.{AreEnding}
-use Rattle.rv_hardware.proofs.Repeated.{Leaves, left_by_the_rest, kept_by_turns}
 use Rattle.rv_hardware.proofs.GapForms.{longest_execution}
 
 -- it executes until a cycle

@@ -1,10 +1,9 @@
 -- The issue phase keeps what a load's access to the cache and the start of an execution keep.
-use Rattle.rv_hardware.proofs.Words.{◌≡◌, ℕ, ◌+◌, ◌≤◌, true, ◌&&◌, List, ◌∷◌, ◌++◌, length, Some, None, Option, sym, refl, ap, ◌∙◌, subst, and_parts, is_of_kind, kind_of_word, sources_of_word, at_kind, Message, Kind, is_free, started, with_entry, Entry, Hardware, is_waiting, FromCache, FromStores, Path, Without, cost_of, has_operands, is_ready, issue, issue_kind, issue_oldest, issue_turn, issued, may_load, oldest, path, with_access, with_start, Ends, result_of_word, layout_of, seen_behind, by_test}
+use Rattle.rv_hardware.proofs.Words.{◌≡◌, ℕ, ◌+◌, ◌≤◌, true, ◌&&◌, List, ◌∷◌, ◌++◌, length, Some, None, Option, sym, refl, ap, ◌∙◌, subst, and_parts, is_of_kind, kind_of_word, sources_of_word, at_kind, Message, Kind, is_free, started, with_entry, Entry, Hardware, is_waiting, FromCache, FromStores, Path, Without, cost_of, has_operands, is_ready, issue, issue_kind, issue_oldest, issue_turn, issued, may_load, oldest, path, with_access, with_start, Ends, result_of_word, layout_of, seen_behind, by_test, Leaves, kept_by_turns}
 use Rattle.rv_isa.specs.declared.operations.Kind.TheVariants as kind
 use Rattle.rv_hardware.proofs.GapCosts.{cost_of-most}
 use Rattle.rv_hardware.proofs.GapForms.{with_entries, with_started, with_unit, longest_execution, IsResultOfWord}
 use Rattle.rv_hardware.proofs.Oldest.{IsFound, oldest_found, with_entry-at}
-use Rattle.rv_hardware.proofs.Repeated.{Leaves, kept_by_turns}
 
 -- what it is to be ready
 pub record IsReady (h : Hardware) (k : Kind) (older : List Entry) (e : Entry) : Type 0 where

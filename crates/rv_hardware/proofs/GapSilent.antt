@@ -1,8 +1,7 @@
 -- A commit phase that reports no step and does not stop leaves its oldest instruction waiting.
-use Rattle.rv_hardware.proofs.Words.{◌≡◌, ℕ, suc, ◌-◌, ◌≤◌, Bool, true, false, cond, ◌⊎◌, List, [], ◌∷◌, ◌++◌, ◌==◌, Some, None, Option, nat_cmp, sym, refl, subst, inl, inr, arith, Message, Fault, Instr, Csr, FenceI, Mret, word_of, due, Effect, Faults, Retires, Entry, Stage, Committing, commit, commit_turn, commit_turn_of, commit_unless, execute_head, fence_instructions, finish_broadcast, finish_head, head_turn, is_drained, retire, take_effect, with_write_back, write_back_time, Hardware, broadcast_of, Ends, GoesOn, Turn, followed_by, repeated, row_of, with_result, written_of, flushed, Step, by_test}
+use Rattle.rv_hardware.proofs.Words.{◌≡◌, ℕ, suc, ◌-◌, ◌≤◌, Bool, true, false, cond, ◌⊎◌, List, [], ◌∷◌, ◌++◌, ◌==◌, Some, None, Option, nat_cmp, sym, refl, subst, inl, inr, arith, Message, Fault, Instr, Csr, FenceI, Mret, word_of, due, Effect, Faults, Retires, Entry, Stage, Committing, commit, commit_turn, commit_turn_of, commit_unless, execute_head, fence_instructions, finish_broadcast, finish_head, head_turn, is_drained, retire, take_effect, with_write_back, write_back_time, Hardware, broadcast_of, Ends, GoesOn, Turn, followed_by, repeated, row_of, with_result, written_of, flushed, Step, by_test, Leaves, kept_by_turns}
 use Rattle.std.specs.FinSet as set
 use Rattle.rv_arch.specs.declared.outcome.Stop.TheVariants as stop
-use Rattle.rv_hardware.proofs.Repeated.{Leaves, kept_by_turns}
 
 -- ---- a step that was reported stays reported
 abbrev IsSome : List Step → Type 0

@@ -1,5 +1,5 @@
 -- All that a reset and cycles lead to has its sizes, queue, executions, units, port and fetch within their bounds.
-use Rattle.rv_hardware.proofs.Words.{ℕ, List, IsLegal, Lines, Values, IsCycle, any_prediction, Hardware, Report, reset_hardware, Reachable}
+use Rattle.rv_hardware.proofs.Words.{ℕ, List, IsLegal, Lines, Values, IsCycle, any_prediction, Hardware, Report, reset_hardware, Reachable, always}
 use Rattle.rv_hardware.proofs.GapCycle.{cycle-keeps}
 use Rattle.rv_hardware.proofs.GapHalted.{IsHalted, halted-kept, halted-at_reset}
 use Rattle.rv_hardware.proofs.GapPort.{HasPort, port-kept, port-at_reset}
@@ -9,7 +9,6 @@ use Rattle.rv_hardware.proofs.GapSerial.{IsSerialLast, last-kept, last-at_reset}
 use Rattle.rv_hardware.proofs.GapSizes.{HasSizes, sizes-kept, sizes-at_reset}
 use Rattle.rv_hardware.proofs.GapStores.{HasStores, stores-kept, stores-at_reset}
 use Rattle.rv_hardware.proofs.GapUnits.{AreHeld, held-kept, held-at_reset}
-use Rattle.rv_hardware.proofs.Repeated.{always}
 
 -- all that is known of hardware for its gaps
 pub record IsBounded (h : Hardware) : Type 0 where

@@ -1,11 +1,10 @@
 -- The oldest instruction that waits and can go leaves for a unit in the issue phase, or no unit of its kind is free.
-use Rattle.rv_hardware.proofs.Words.{◌≡◌, ℕ, suc, ◌+◌, ◌-◌, ◌≤◌, true, false, ◌⊎◌, List, [], ◌∷◌, Some, Option, sym, refl, ap, ◌∙◌, subst, inl, inr, arith, cases_Bool, false≢true, is_same-own, is_same-true, with_kind-other, is_load, is_of_kind, kind_of_word, at_kind, is_same, Message, Instr, Kind, Pool, is_free, started, with_entry, Entry, Hardware, FromCache, FromStores, Path, Without, is_ready, issue, issue_kind, issue_oldest, issue_turn, issued, oldest, oldest_from, path, with_access, with_start, Ends, Turn, followed_by, repeated, by_test}
+use Rattle.rv_hardware.proofs.Words.{◌≡◌, ℕ, suc, ◌+◌, ◌-◌, ◌≤◌, true, false, ◌⊎◌, List, [], ◌∷◌, Some, Option, sym, refl, ap, ◌∙◌, subst, inl, inr, arith, cases_Bool, false≢true, is_same-own, is_same-true, with_kind-other, is_load, is_of_kind, kind_of_word, at_kind, is_same, Message, Instr, Kind, Pool, is_free, started, with_entry, Entry, Hardware, FromCache, FromStores, Path, Without, is_ready, issue, issue_kind, issue_oldest, issue_turn, issued, oldest, oldest_from, path, with_access, with_start, Ends, Turn, followed_by, repeated, by_test, Leaves, left_by_the_rest, kept_by_turns}
 use Rattle.rv_isa.specs.declared.operations.Kind.TheVariants as kind
 use Rattle.rv_hardware.proofs.GapHead.{HasBegun, HeadIs, Waits, head-change}
 use Rattle.rv_hardware.proofs.GapIssue.{IsKeptByIssue, issue_kind-keeps, issue_turn-keeps}
 use Rattle.rv_hardware.proofs.GapReady.{CanGo, cache_access, loads_of_mem, ready_head}
 use Rattle.rv_hardware.proofs.Oldest.{with_entry-at}
-use Rattle.rv_hardware.proofs.Repeated.{Leaves, left_by_the_rest, kept_by_turns}
 
 -- ---- once it has begun, it has
 begun_by_issue : (instruction : Option Instr) (j : Kind) → IsKeptByIssue (λ h. HeadIs instruction HasBegun h.rob.entries) j

@@ -1,12 +1,11 @@
 -- The broadcast phase changes nothing that programs see, and fetch goes on where the program does.
-use Rattle.rv_hardware.proofs.Words.{◌≡◌, ℕ, ◌+◌, ◌%◌, Bool, true, false, not, ◌&&◌, List, [], ◌∷◌, ◌++◌, length, is_none, if◌then◌else◌, nat_le, ◌==◌, Some, None, Option, sym, refl, ap, ◌∙◌, subst, and_parts, false≢true, no_lines, is_branch_or_jump, is_serialising, target_of, Message, StoreAccess, Instr, Csr, FenceI, Mret, Lines, Values, Layout, Effect, Faults, Retires, effect, State, finished, issue_of, predicting, ReorderBuffer, changed, entries_below, with_entry, Entry, Stage, Finished, Running, Waiting, broadcast, broadcast_oldest, broadcast_result, broadcast_turn, has_result, is_mispredicted, mends_early, result_at as result_by, with_broadcast, with_recovery, Hardware, oldest, Ends, GoesOn, access_of, effect_message, result_of_word, layout_of, seen, redirected}
+use Rattle.rv_hardware.proofs.Words.{◌≡◌, ℕ, ◌+◌, ◌%◌, Bool, true, false, not, ◌&&◌, List, [], ◌∷◌, ◌++◌, length, is_none, if◌then◌else◌, nat_le, ◌==◌, Some, None, Option, sym, refl, ap, ◌∙◌, subst, and_parts, false≢true, no_lines, is_branch_or_jump, is_serialising, target_of, Message, StoreAccess, Instr, Csr, FenceI, Mret, Lines, Values, Layout, Effect, Faults, Retires, effect, State, finished, issue_of, predicting, ReorderBuffer, changed, entries_below, with_entry, Entry, Stage, Finished, Running, Waiting, broadcast, broadcast_oldest, broadcast_result, broadcast_turn, has_result, is_mispredicted, mends_early, result_at as result_by, with_broadcast, with_recovery, Hardware, oldest, Ends, GoesOn, access_of, effect_message, result_of_word, layout_of, seen, redirected, Leaves, kept_by_turns}
 use Rattle.rv_hardware.proofs.HeadlineFold.{result_at, behind, IsResult, AreInFlight}
 use Rattle.rv_hardware.proofs.HeadlineInvariant.{FollowsProgram, IsSoundAt, with_other_program}
 use Rattle.rv_hardware.proofs.HeadlineRetires.{IsTold, effect_told}
 use Rattle.rv_hardware.proofs.HeadlineSplit.{behind-append, AreInFlight-older, AreInFlight-append}
 use Rattle.rv_hardware.proofs.HeadlineStage.{behind_aligned, here_in_flight, FollowsProgram-staged}
 use Rattle.rv_hardware.proofs.Oldest.{IsFound, oldest_found, with_entry-at, entries_below-at}
-use Rattle.rv_hardware.proofs.Repeated.{Leaves, kept_by_turns}
 
 -- ---- the pc after an instruction that does not fault is a multiple of 4
 aligned_effect : (layout : Layout) (s : State) (target : Option ℕ) (access : Option StoreAccess) (effect : Effect) → IsTold layout s target access effect →

@@ -1,5 +1,5 @@
 -- The commit phase takes the steps of the one-at-a-time machine.
-use Rattle.rv_hardware.proofs.Words.{◌≡◌, ℕ, ◌*◌, Bool, true, false, ◌↔◌, List, [], ◌∷◌, ◌++◌, IfSome, if◌then◌else◌, nat_eq, ◌==◌, Some, None, Option, unwrap_or, sym, refl, ap, ◌∙◌, subst, arith, eqb-true, false≢true, code_of, is_serialising, Message, Cause, Fault, Instr, Csr, FenceI, Mret, Lines, Layout, fetched_word, is_in_ram, word_of, faulted_at, retired_at, due, Effect, Faults, Retires, effect, State, interrupted, stale, trap_taken, interrupt_cause, head_retired, Entry, Committing, commit, commit_turn, commit_turn_of, commit_unless, execute_head, finish_broadcast, finish_head, head_turn, is_drained, stop_of, take_effect, with_fault, with_write_back, write_back_time, Hardware, IsTrueCycle, Lead, nowhere, told, broadcast_of, Ends, GoesOn, row_of, with_result, written_of, layout_of, seen, with_state, flushed, is_breakpoint_cause, Step}
+use Rattle.rv_hardware.proofs.Words.{◌≡◌, ℕ, ◌*◌, Bool, true, false, ◌↔◌, List, [], ◌∷◌, ◌++◌, IfSome, if◌then◌else◌, nat_eq, ◌==◌, Some, None, Option, unwrap_or, sym, refl, ap, ◌∙◌, subst, arith, eqb-true, false≢true, code_of, is_serialising, Message, Cause, Fault, Instr, Csr, FenceI, Mret, Lines, Layout, fetched_word, is_in_ram, word_of, faulted_at, retired_at, due, Effect, Faults, Retires, effect, State, interrupted, stale, trap_taken, interrupt_cause, head_retired, Entry, Committing, commit, commit_turn, commit_turn_of, commit_unless, execute_head, finish_broadcast, finish_head, head_turn, is_drained, stop_of, take_effect, with_fault, with_write_back, write_back_time, Hardware, IsTrueCycle, Lead, nowhere, told, broadcast_of, Ends, GoesOn, row_of, with_result, written_of, layout_of, seen, with_state, flushed, is_breakpoint_cause, Step, Leads, left_by_turns}
 use Rattle.std.specs.FinSet as set
 use Rattle.rv_arch.specs.Step.{Step as MachineStep}
 use Rattle.rv_arch.specs.declared.outcome.RefStep.TheVariants as machine
@@ -12,7 +12,6 @@ use Rattle.rv_hardware.proofs.HeadlineKnown.{broadcast_is}
 use Rattle.rv_hardware.proofs.HeadlineRetired.{flushed_sound, trap_sound, seen_result, result_sound, memory_stored}
 use Rattle.rv_hardware.proofs.HeadlineSerial.{IsSerialEffect, csr_serial, mret_serial, fence_serial, written_back_sound}
 use Rattle.rv_hardware.proofs.HeadlineSteps.{AreRetirements, retirements_push, lead_push, true_retirements, true_push}
-use Rattle.rv_hardware.proofs.Repeated.{Leads, left_by_turns}
 
 -- the phase while it goes on: so far instructions retired
 pub record IsGoing (lines : Lines) (before : State) (old : Hardware) (c : Committing) : Type 0 where

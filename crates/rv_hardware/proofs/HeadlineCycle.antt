@@ -1,5 +1,5 @@
 -- What a cycle reports leads from what programs saw before it to what they see after it.
-use Rattle.rv_hardware.proofs.Words.{◌≡◌, ℕ, ◌+◌, sym, refl, subst, Lines, Values, State, broadcast, IsCycle, any_prediction, execute, with_lines, Dispatching, drain, Hardware, IsTrueCycle, issue, Report, Reachable, layout_of, seen}
+use Rattle.rv_hardware.proofs.Words.{◌≡◌, ℕ, ◌+◌, sym, refl, subst, Lines, Values, State, broadcast, IsCycle, any_prediction, execute, with_lines, Dispatching, drain, Hardware, IsTrueCycle, issue, Report, Reachable, layout_of, seen, always}
 use Rattle.rv_hardware.proofs.HeadlineBroadcast.{broadcast_kept}
 use Rattle.rv_hardware.proofs.HeadlineCommit.{IsDone, commit_done}
 use Rattle.rv_hardware.proofs.HeadlineDispatch.{dispatch_kept}
@@ -8,7 +8,6 @@ use Rattle.rv_hardware.proofs.HeadlineFetch.{fetch_kept}
 use Rattle.rv_hardware.proofs.HeadlineInvariant.{IsSound, IsSoundAt}
 use Rattle.rv_hardware.proofs.HeadlineIssue.{issue_kept}
 use Rattle.rv_hardware.proofs.HeadlineReset.{reset_sound}
-use Rattle.rv_hardware.proofs.Repeated.{always}
 
 -- what a cycle keeps, and what its report is
 pub record GoesOnTrue (lines : Lines) (old : Hardware) (report : Report) (new : Hardware) : Type 0 where

@@ -1,11 +1,10 @@
 -- The dispatch phase changes nothing that programs see.
-use Rattle.rv_hardware.proofs.Words.{◌≡◌, ℕ, Bool, true, false, List, [], ◌∷◌, ◌++◌, Some, None, Option, sym, refl, ◌∙◌, subst, true≢false, no_lines, is_load, is_serialising, kind_of_word, sources_of_word, Instr, Branch, Csr, Jalr, Load, Op, OpImmediate, Shift, Kind, Values, Layout, State, pushed, Entry, Finished, Fetched, Dispatching, dispatch, dispatch_turn, dispatch_turn_of, dispatch_unless, entry_of_fetched, reason_of, stage_by, Hardware, result_of_word, layout_of, seen, seen_behind, Stall}
+use Rattle.rv_hardware.proofs.Words.{◌≡◌, ℕ, Bool, true, false, List, [], ◌∷◌, ◌++◌, Some, None, Option, sym, refl, ◌∙◌, subst, true≢false, no_lines, is_load, is_serialising, kind_of_word, sources_of_word, Instr, Branch, Csr, Jalr, Load, Op, OpImmediate, Shift, Kind, Values, Layout, State, pushed, Entry, Finished, Fetched, Dispatching, dispatch, dispatch_turn, dispatch_turn_of, dispatch_unless, entry_of_fetched, reason_of, stage_by, Hardware, result_of_word, layout_of, seen, seen_behind, Stall, Leaves, kept_by_turns}
 use Rattle.rv_isa.specs.declared.instructions.Instr.TheVariants.{Store}
 use Rattle.rv_hardware.proofs.HeadlineFold.{behind, IsResult, IsInFlight, AreInBuffer}
 use Rattle.rv_hardware.proofs.HeadlineInvariant.{FollowsProgram, IsSoundAt, with_other_program}
 use Rattle.rv_hardware.proofs.HeadlineResult.{ReadsSame, same_result}
 use Rattle.rv_hardware.proofs.HeadlineSplit.{behind-append, AreInFlight-append}
-use Rattle.rv_hardware.proofs.Repeated.{Leaves, kept_by_turns}
 
 -- an instruction that uses no unit reads neither registers nor memory
 record ReadsNothing (s t : State) (i : Option Instr) : Type 0 where

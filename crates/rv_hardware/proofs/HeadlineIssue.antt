@@ -1,5 +1,5 @@
 -- The issue phase changes nothing that programs see, and what it computes is the one-at-a-time machine's.
-use Rattle.rv_hardware.proofs.Words.{◌≡◌, ℕ, ◌+◌, ◌<◌, ◌≤◌, Bool, true, false, not, ◌&&◌, ◌||◌, List, ◌∷◌, ◌++◌, length, if◌then◌else◌, Some, None, Option, sym, refl, ap, ◌∙◌, subst, inl, inr, arith, leb-true, and_parts, false≢true, list_all, is_load, is_of_kind, is_serialising, kind_of_word, sources_of_word, width_of, at_kind, with_kind, Message, Instr, Csr, FenceI, Load, Mret, Kind, Values, is_aligned, is_in_ram, State, consistent_after, is_known as is_known_store, is_free, started, changed, Entry, Running, Hardware, is_waiting, FromCache, FromStores, Path, Without, cost_of, has_operands, has_port, is_ready, issue, issue_kind, issue_oldest, issue_turn, issued, may_load, oldest, path, path_of, with_access, with_start, Ends, layout_of, seen, seen_behind, stores_behind}
+use Rattle.rv_hardware.proofs.Words.{◌≡◌, ℕ, ◌+◌, ◌<◌, ◌≤◌, Bool, true, false, not, ◌&&◌, ◌||◌, List, ◌∷◌, ◌++◌, length, if◌then◌else◌, Some, None, Option, sym, refl, ap, ◌∙◌, subst, inl, inr, arith, leb-true, and_parts, false≢true, list_all, is_load, is_of_kind, is_serialising, kind_of_word, sources_of_word, width_of, at_kind, with_kind, Message, Instr, Csr, FenceI, Load, Mret, Kind, Values, is_aligned, is_in_ram, State, consistent_after, is_known as is_known_store, is_free, started, changed, Entry, Running, Hardware, is_waiting, FromCache, FromStores, Path, Without, cost_of, has_operands, has_port, is_ready, issue, issue_kind, issue_oldest, issue_turn, issued, may_load, oldest, path, path_of, with_access, with_start, Ends, layout_of, seen, seen_behind, stores_behind, Leaves, kept_by_turns}
 use Rattle.rv_isa.specs.declared.Issue.{Issue}
 use Rattle.rv_isa.specs.declared.operations.Kind.TheVariants as kind
 use Rattle.rv_units.specs.Pool.{started as started_unit}
@@ -13,7 +13,6 @@ use Rattle.rv_hardware.proofs.HeadlineStage.{here_in_flight, FollowsProgram-stag
 use Rattle.rv_hardware.proofs.HeadlineVictim.{access_mixed}
 use Rattle.rv_hardware.proofs.HeadlineWords.{memory_behind-fresh}
 use Rattle.rv_hardware.proofs.Oldest.{IsFound, oldest_found, with_entry-at}
-use Rattle.rv_hardware.proofs.Repeated.{Leaves, kept_by_turns}
 
 -- an instruction with a unit is not serialising
 pub plain_by_kind : (k : Kind) (i : Option Instr) → is_of_kind k (kind_of_word i) ≡ true → is_serialising i ≡ false

@@ -1,12 +1,11 @@
 -- A step that a turn of the commit phase takes begins at the committed pc.
-use Rattle.rv_hardware.proofs.Words.{◌≡◌, List, [], ◌∷◌, ◌++◌, length, Some, sym, refl, ap, ◌∙◌, subst, arith, length-append, append_cancel_left, Entry, Committing, commit_turn, with_fault, Turn, row_of, written_of, layout_of, seen, pc_of, Step}
+use Rattle.rv_hardware.proofs.Words.{◌≡◌, List, [], ◌∷◌, ◌++◌, length, Some, sym, refl, ap, ◌∙◌, subst, arith, length-append, append_cancel_left, Entry, Committing, commit_turn, with_fault, Turn, row_of, written_of, layout_of, seen, pc_of, Step, Leads}
 use Rattle.std.specs.FinSet as set
 use Rattle.rv_arch.specs.declared.outcome.Stop.TheVariants as stop
 use Rattle.rv_hardware.specs.declared.step.Step.TheVariants as step
 use Rattle.rv_hardware.proofs.HeadlineFold.{AreInFlight}
 use Rattle.rv_hardware.proofs.HeadlineInvariant.{IsSound}
 use Rattle.rv_hardware.proofs.LawsCommit.{CommitTurn, commit_turn_is, executed, retired_and_flushed, retired_with, written_back, no_head, stale_head, unfinished, fence_waits, fence_writes, fence_retires, executes, serial_faults, traps, retires, retires_last}
-use Rattle.rv_hardware.proofs.Repeated.{Leads}
 
 -- from one turn to the next: a step begins at the committed pc, which stays where there is none
 pub record GoesFrom (c d : Committing) : Type 0 where

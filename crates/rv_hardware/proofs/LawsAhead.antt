@@ -1,5 +1,5 @@
 -- In every run a finished head does not wait, and the front keeps ahead.
-use Rattle.rv_hardware.proofs.Words.{◌≡◌, ℕ, ◌+◌, ◌-◌, ◌<◌, ◌≤◌, Bool, true, false, ◌&&◌, ◌⊎◌, List, [], ◌∷◌, ◌++◌, length, is_some, ◌==◌, Some, None, filter, Option, nat_cmp, sym, refl, ap, ◌∙◌, subst, inl, inr, true≢false, append_assoc, append-nil, arith, length-append, leb-true, list_any, IsLegal, is_serialising, is_store, kind_of_word, at_kind, Lines, Kind, Values, due, Each, with_oldest_draining, without_drained, Store as QueuedStore, Entry, FetchBuffer, Fetched, broadcast, Committing, commit_turn, commit_unless, IsCycle, any_prediction, execute, with_lines, Dispatching, dispatch, has_full_stations, is_stationed, drain, Hardware, issue, Turn, Report, stores_behind, last_from, stamp_of, Step, and_first, and_second, count, EveryBehind-at}
+use Rattle.rv_hardware.proofs.Words.{◌≡◌, ℕ, ◌+◌, ◌-◌, ◌<◌, ◌≤◌, Bool, true, false, ◌&&◌, ◌⊎◌, List, [], ◌∷◌, ◌++◌, length, is_some, ◌==◌, Some, None, filter, Option, nat_cmp, sym, refl, ap, ◌∙◌, subst, inl, inr, true≢false, append_assoc, append-nil, arith, length-append, leb-true, list_any, IsLegal, is_serialising, is_store, kind_of_word, at_kind, Lines, Kind, Values, due, Each, with_oldest_draining, without_drained, Store as QueuedStore, Entry, FetchBuffer, Fetched, broadcast, Committing, commit_turn, commit_unless, IsCycle, any_prediction, execute, with_lines, Dispatching, dispatch, has_full_stations, is_stationed, drain, Hardware, issue, Turn, Report, stores_behind, last_from, stamp_of, Step, and_first, and_second, count, EveryBehind-at, Leads, kept_by_turns}
 use Rattle.std.specs.FinSet as set
 use Rattle.rv_hardware.proofs.GapBroadcast.{IsKeptByBroadcast, broadcast-keeps}
 use Rattle.rv_hardware.proofs.GapCycle.{cycle-keeps, phases-keep}
@@ -16,7 +16,6 @@ use Rattle.rv_hardware.proofs.LawsFollow.{last_stamp, last_stamp-push, has_step,
 use Rattle.rv_hardware.proofs.Laws.NoIdleDispatch.{dispatch_leaves}
 use Rattle.rv_hardware.proofs.LawsNext.{Next, HasNext, next_executed}
 use Rattle.rv_hardware.proofs.LawsShape.{HasShape}
-use Rattle.rv_hardware.proofs.Repeated.{Leads, kept_by_turns}
 
 some_station : (v : Values) → IsLegal v → (k : Kind) → 0 < (at_kind k v.kinds).stations
 some_station v legal k = omega (arith, (legal.kinds k).stations)

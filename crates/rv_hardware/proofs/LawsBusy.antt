@@ -1,5 +1,5 @@
 -- A cycle in which an instruction was dispatched is a busy one.
-use Rattle.rv_hardware.proofs.Words.{◌≡◌, ℕ, suc, ◌+◌, ◌-◌, ◌<◌, ◌≤◌, Bool, true, false, cond, not, ◌||◌, List, [], ◌∷◌, ◌++◌, map, length, ◌==◌, Some, None, sym, refl, ap, ◌∙◌, subst, append_assoc, append-nil, arith, ne_eqb, eqb-true, list_any, range_with_len, Arrival, Lines, Values, Each, Entry, Fetched, IsCycle, any_prediction, Dispatching, dispatch, dispatch_turn, Hardware, AreCounted, dispatch_cycles, Turn, Report, Cycles, Reachable, busy_of, cycled, ended, stalls_of, steps_of, is_dispatched_in, rows_of, Row, Step, Each-append, Each-left, Each-set, Each-place, Each-weaker, Each-all, Each-map, Each-unmap, count, count-count_by, count-le}
+use Rattle.rv_hardware.proofs.Words.{◌≡◌, ℕ, suc, ◌+◌, ◌-◌, ◌<◌, ◌≤◌, Bool, true, false, cond, not, ◌||◌, List, [], ◌∷◌, ◌++◌, map, length, ◌==◌, Some, None, sym, refl, ap, ◌∙◌, subst, append_assoc, append-nil, arith, ne_eqb, eqb-true, list_any, range_with_len, Arrival, Lines, Values, Each, Entry, Fetched, IsCycle, any_prediction, Dispatching, dispatch, dispatch_turn, Hardware, AreCounted, dispatch_cycles, Turn, Report, Cycles, Reachable, busy_of, cycled, ended, stalls_of, steps_of, is_dispatched_in, rows_of, Row, Step, Each-append, Each-left, Each-set, Each-place, Each-weaker, Each-all, Each-map, Each-unmap, count, count-count_by, count-le, Leads, kept_by_turns}
 use Rattle.rv_hardware.proofs.HeadlineReached.{cycles_counted}
 use Rattle.rv_hardware.proofs.LawsAdvance.{Advances, Kept, retires as a_retires, starts as a_starts, is_sent as a_is_sent, enters as a_enters}
 use Rattle.rv_hardware.proofs.LawsCycle.{Anything, anything_is_kept, History, went_on, Passed, cycle_passes, dispatching, sent_all, history_is_legal, history_is_sound, reachable_has_history}
@@ -8,7 +8,6 @@ use Rattle.rv_hardware.proofs.LawsMarks.{Mark, mark_of_row, mark_of_entry, mark_
 use Rattle.rv_hardware.proofs.LawsOfCycles.{counts_of_runs}
 use Rattle.rv_hardware.proofs.LawsRow.{SoundRow}
 use Rattle.rv_hardware.proofs.LawsSound.{SoundEntry}
-use Rattle.rv_hardware.proofs.Repeated.{Leads, kept_by_turns}
 
 -- it was not dispatched in cycle c
 abbrev IsElsewhere : ℕ → Mark → Type 0

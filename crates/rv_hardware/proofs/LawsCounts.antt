@@ -1,9 +1,8 @@
 -- The busy cycles and the stalls of a run make its cycles.
-use Rattle.rv_hardware.proofs.Words.{◌≡◌, ℕ, suc, ◌+◌, ◌<◌, ◌≤◌, Bool, true, false, cond, not, List, [], ◌∷◌, length, ◌==◌, Some, None, Option, refl, arith, ne_eqb, Dispatching, dispatch, dispatch_turn, stall_of, Hardware, stall_cycles, Turn, Report, counted, busy_of, counted_stall, stalls_from, stalls_of, Stall, count, count-count_by}
+use Rattle.rv_hardware.proofs.Words.{◌≡◌, ℕ, suc, ◌+◌, ◌<◌, ◌≤◌, Bool, true, false, cond, not, List, [], ◌∷◌, length, ◌==◌, Some, None, Option, refl, arith, ne_eqb, Dispatching, dispatch, dispatch_turn, stall_of, Hardware, stall_cycles, Turn, Report, counted, busy_of, counted_stall, stalls_from, stalls_of, Stall, count, count-count_by, Leads, turns_within}
 use Rattle.rv_hardware.specs.declared.report.Stall.TheVariants as stall
 use Rattle.rv_hardware.specs.declared.report.StallCounts.{StallCounts}
 use Rattle.rv_hardware.proofs.LawsDispatch.{DispatchTurn, buffer_empty, waits, dispatches, dispatch_turn_is}
-use Rattle.rv_hardware.proofs.Repeated.{Leads, turns_within}
 
 -- a cycle is busy, or stalls for one reason
 abbrev pub IsCounted : Bool → Option Stall → Type 0

@@ -1,5 +1,5 @@
 -- After a step the next instruction neither waits without need nor was it fetched late.
-use Rattle.rv_hardware.proofs.Words.{◌≡◌, ℕ, suc, ◌+◌, ◌<◌, ◌≤◌, max, Bool, true, false, cond, ◌&&◌, ◌⊎◌, List, [], ◌∷◌, ◌++◌, length, is_some, ◌==◌, Some, None, Option, option_map, nat_cmp, unwrap_or, sym, refl, ap, ◌∙◌, subst, inl, inr, true≢false, append_assoc, arith, length-append, is_fence_i, is_serialising, is_store, kind_of_word, Message, Cause, Fault, Instr, FenceI, Issue, Values, word_of, interrupt_cause, Stop, Each, Entry, Stage, Finished, Running, Waiting, Fetched, Committing, commit_turn, commit_turn_of, commit_unless, execute_head, fence_instructions, head_turn, is_drained, with_fault, write_back_time, Hardware, broadcast_of, DoesNotWait, IsTrappedSoon, Ends, GoesOn, Turn, execution_of, written_of, is_store_row, last_that, needs_no_unit, stamp_of, Execution, Row, Step, Interrupt, Retired, Trap, by_test, not_both, EveryBehind, EveryBehind-append}
+use Rattle.rv_hardware.proofs.Words.{◌≡◌, ℕ, suc, ◌+◌, ◌<◌, ◌≤◌, max, Bool, true, false, cond, ◌&&◌, ◌⊎◌, List, [], ◌∷◌, ◌++◌, length, is_some, ◌==◌, Some, None, Option, option_map, nat_cmp, unwrap_or, sym, refl, ap, ◌∙◌, subst, inl, inr, true≢false, append_assoc, arith, length-append, is_fence_i, is_serialising, is_store, kind_of_word, Message, Cause, Fault, Instr, FenceI, Issue, Values, word_of, interrupt_cause, Stop, Each, Entry, Stage, Finished, Running, Waiting, Fetched, Committing, commit_turn, commit_turn_of, commit_unless, execute_head, fence_instructions, head_turn, is_drained, with_fault, write_back_time, Hardware, broadcast_of, DoesNotWait, IsTrappedSoon, Ends, GoesOn, Turn, execution_of, written_of, is_store_row, last_that, needs_no_unit, stamp_of, Execution, Row, Step, Interrupt, Retired, Trap, by_test, not_both, EveryBehind, EveryBehind-append, Leads, leads_both, turns_within}
 use Rattle.std.specs.FinSet as set
 use Rattle.rv_isa.specs.declared.instructions.Instr.TheVariants.{Store}
 use Rattle.rv_arch.specs.declared.outcome.Stop.TheVariants as stop
@@ -12,7 +12,6 @@ use Rattle.rv_hardware.proofs.LawsPhases.{Goes, Commits, commit_turn_keeps}
 use Rattle.rv_hardware.proofs.LawsRow.{MayRetire, may_retire_serial, may_retire_finished, retiring_is_one, row_at}
 use Rattle.rv_hardware.proofs.LawsShape.{head_retired_entries}
 use Rattle.rv_hardware.proofs.LawsSound.{SoundEntry, SoundFetched, SoundStage, kind_is_plain, serial_has_no_kind, row_decodes}
-use Rattle.rv_hardware.proofs.Repeated.{Leads, leads_both, turns_within}
 
 -- the cycle of the last of some steps, 0 where there is none
 abbrev pub stamp_or_zero : Option Step → ℕ

@@ -1,5 +1,5 @@
 -- The issue phase leaves no pipelined unit idle, and the other phases keep it so.
-use Rattle.rv_hardware.proofs.Words.{◌≡◌, ℕ, suc, ◌+◌, ◌<◌, ◌≤◌, Bool, true, false, cond, List, [], ◌∷◌, ◌++◌, map, length, nat_lt, nat_le, Some, None, filter, Option, nat_cmp, sym, refl, ap, ◌∙◌, subst, append_assoc, append-nil, arith, ltb-false, le-ltb, eq-eqb, and_from, and_right, at_kind-for_each, with_kind-each, with_kind-other, with_kind-own, IsLegal, is_of_kind, kind_of_word, at_kind, for_each, with_kind, Issue, Lines, Kind, PerKind, Values, due, Each, Pool, free_pool, held_for, holding, holds_unit, is_free, started, Entry, broadcast_turn, Committing, commit_turn, commit_unless, with_lines, Dispatching, dispatch_turn, Hardware, cost_of, is_ready, issue, issue_kind, issue_turn, issued, path, Turn, Report, rows_of, Step, Each-append, Each-left, Each-weaker, Each-all, Each-filter, EveryBehind, count, count-set-one_more, EveryBehind-append, EveryBehind-right, EveryBehind-moved, EveryBehind-all, EveryBehind-weaker}
+use Rattle.rv_hardware.proofs.Words.{◌≡◌, ℕ, suc, ◌+◌, ◌<◌, ◌≤◌, Bool, true, false, cond, List, [], ◌∷◌, ◌++◌, map, length, nat_lt, nat_le, Some, None, filter, Option, nat_cmp, sym, refl, ap, ◌∙◌, subst, append_assoc, append-nil, arith, ltb-false, le-ltb, eq-eqb, and_from, and_right, at_kind-for_each, with_kind-each, with_kind-other, with_kind-own, IsLegal, is_of_kind, kind_of_word, at_kind, for_each, with_kind, Issue, Lines, Kind, PerKind, Values, due, Each, Pool, free_pool, held_for, holding, holds_unit, is_free, started, Entry, broadcast_turn, Committing, commit_turn, commit_unless, with_lines, Dispatching, dispatch_turn, Hardware, cost_of, is_ready, issue, issue_kind, issue_turn, issued, path, Turn, Report, rows_of, Step, Each-append, Each-left, Each-weaker, Each-all, Each-filter, EveryBehind, count, count-set-one_more, EveryBehind-append, EveryBehind-right, EveryBehind-moved, EveryBehind-all, EveryBehind-weaker, Leads, turns_within, kept_by_turns}
 use Rattle.std.specs.FinSet as set
 use Rattle.rv_isa.specs.declared.operations.Kind.TheVariants as kind
 use Rattle.rv_units.specs.Pool.{started as started_unit}
@@ -14,7 +14,6 @@ use Rattle.rv_hardware.proofs.LawsIssue.{IssueTurn, no_unit, none_ready, starts,
 use Rattle.rv_hardware.proofs.LawsMarks.{Mark, mark_of_row, mark_of_entry, mark_of_fetched, marks, marks_in, marks_at_entry}
 use Rattle.rv_hardware.proofs.LawsPhases.{Issues, issue_turn_keeps, issue_kind_keeps, start_is, with_marks, goes_later, broadcast_keeps, dispatch_keeps}
 use Rattle.rv_hardware.proofs.LawsSound.{SoundEntry}
-use Rattle.rv_hardware.proofs.Repeated.{Leads, turns_within, kept_by_turns}
 use Rattle.rv_hardware.proofs.LawsUnitRows.{starts_at, begins_mark}
 use Rattle.rv_hardware.proofs.LawsUnits.{issued_units, drain_units}
 

@@ -1,11 +1,10 @@
 -- What every cycle keeps holds in every history, and what each turn of the commit phase keeps all its turns keep.
-use Rattle.rv_hardware.proofs.Words.{ℕ, Bool, List, nat_cmp, Values, Committing, commit_turn, Hardware, Turn, repeated, reset_hardware, Step}
+use Rattle.rv_hardware.proofs.Words.{ℕ, Bool, List, nat_cmp, Values, Committing, commit_turn, Hardware, Turn, repeated, reset_hardware, Step, Leads, leads_both, left_by_turns}
 use Rattle.std.specs.FinSet as set
 use Rattle.rv_hardware.proofs.GapCycle.{IsKept, cycle-keeps}
 use Rattle.rv_hardware.proofs.LawsCommit.{CommitTurn, commit_turn_is}
 use Rattle.rv_hardware.proofs.LawsCycle.{Anything, anything_is_kept, History, began, went_on}
 use Rattle.rv_hardware.proofs.LawsPhases.{Commits, commit_turn_keeps}
-use Rattle.rv_hardware.proofs.Repeated.{Leads, leads_both, left_by_turns}
 
 -- what holds at reset and every cycle keeps holds in every history
 pub history_keeps : (v : Values) (P : Hardware → Type 0) → IsKept P → ((image : List ℕ) (start : ℕ) → P (reset_hardware v image start)) → {steps : List Step} {h : Hardware} → History v steps h → P h

@@ -1,5 +1,5 @@
 -- In each phase instructions and words only go on, or what is younger is squashed and fetch begins anew.
-use Rattle.rv_hardware.proofs.Words.{◌≡◌, ℕ, ◌+◌, Bool, true, false, ◌⊎◌, List, [], ◌∷◌, ◌++◌, map, length, Some, None, Option, nat_cmp, sym, refl, ap, ◌∙◌, inl, inr, append_assoc, arith, length-append, length-map, Kind, Commit, Early, Values, finished, predicting, started, Entry, Fetched, broadcast, broadcast_turn, is_mispredicted, mends_early, Committing, commit_turn, commit_unless, dispatch, entry_of_fetched, drain, Hardware, issue, Turn, written_of, rows_of, Step, Retired, and_first}
+use Rattle.rv_hardware.proofs.Words.{◌≡◌, ℕ, ◌+◌, Bool, true, false, ◌⊎◌, List, [], ◌∷◌, ◌++◌, map, length, Some, None, Option, nat_cmp, sym, refl, ap, ◌∙◌, inl, inr, append_assoc, arith, length-append, length-map, Kind, Commit, Early, Values, finished, predicting, started, Entry, Fetched, broadcast, broadcast_turn, is_mispredicted, mends_early, Committing, commit_turn, commit_unless, dispatch, entry_of_fetched, drain, Hardware, issue, Turn, written_of, rows_of, Step, Retired, and_first, Leads, left_by_turns, kept_by_turns}
 use Rattle.std.specs.FinSet as set
 use Rattle.rv_isa.specs.declared.values.Recovery.{Recovery}
 use Rattle.rv_hardware.proofs.GapDispatch.{IsKeptByDispatch, dispatch-keeps}
@@ -11,7 +11,6 @@ use Rattle.rv_hardware.proofs.LawsCommit.{CommitTurn, no_head, stale_head, unfin
 use Rattle.rv_hardware.proofs.LawsMarks.{Mark, mark_of_row, mark_of_entry, mark_of_fetched, marks_in, broadcast_of_stage, rows_append}
 use Rattle.rv_hardware.proofs.LawsRow.{row_at}
 use Rattle.rv_hardware.proofs.LawsShape.{head_retired_entries}
-use Rattle.rv_hardware.proofs.Repeated.{Leads, left_by_turns, kept_by_turns}
 
 -- how many instructions retired, are in flight and were fetched
 abbrev pub size : List Step → Hardware → ℕ

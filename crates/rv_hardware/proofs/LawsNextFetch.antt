@@ -1,5 +1,5 @@
 -- What is in flight, or is fetched next, was fetched no later than the last step.
-use Rattle.rv_hardware.proofs.Words.{◌≡◌, ℕ, ◌+◌, ◌-◌, ◌≤◌, Bool, true, false, ◌⊎◌, List, [], ◌∷◌, ◌++◌, length, Some, None, Option, nat_cmp, sym, refl, ap, ◌∙◌, subst, inl, inr, true≢false, append_assoc, append-nil, arith, length-append, Lines, Kind, Values, due, interrupt_cause, Each, finished, predicting, started, Entry, FetchBuffer, Fetched, broadcast, Committing, commit_unless, with_fault, IsCycle, any_prediction, with_lines, dispatch, entry_of_fetched, drain, Hardware, issue, Turn, Report, written_of, EachNext, stamp_of, Step, Interrupt, Retired, Trap, Each-weaker}
+use Rattle.rv_hardware.proofs.Words.{◌≡◌, ℕ, ◌+◌, ◌-◌, ◌≤◌, Bool, true, false, ◌⊎◌, List, [], ◌∷◌, ◌++◌, length, Some, None, Option, nat_cmp, sym, refl, ap, ◌∙◌, subst, inl, inr, true≢false, append_assoc, append-nil, arith, length-append, Lines, Kind, Values, due, interrupt_cause, Each, finished, predicting, started, Entry, FetchBuffer, Fetched, broadcast, Committing, commit_unless, with_fault, IsCycle, any_prediction, with_lines, dispatch, entry_of_fetched, drain, Hardware, issue, Turn, Report, written_of, EachNext, stamp_of, Step, Interrupt, Retired, Trap, Each-weaker, Leads}
 use Rattle.std.specs.FinSet as set
 use Rattle.rv_hardware.proofs.GapBroadcast.{IsKeptByBroadcast, broadcast-keeps}
 use Rattle.rv_hardware.proofs.GapDispatch.{IsKeptByDispatch, dispatch-keeps}
@@ -15,7 +15,6 @@ use Rattle.rv_hardware.proofs.LawsFetch.{IsNew}
 use Rattle.rv_hardware.proofs.LawsRow.{row_at}
 use Rattle.rv_hardware.proofs.LawsShape.{head_retired_entries}
 use Rattle.rv_hardware.proofs.LawsSound.{SoundEntry, SoundFetched}
-use Rattle.rv_hardware.proofs.Repeated.{Leads}
 
 -- a row was fetched by a cycle
 abbrev pub IsFetchedBy : ℕ → Step → Type 0

@@ -1,5 +1,5 @@
 -- Every phase keeps what is basic, turn by turn, and its marks go on.
-use Rattle.rv_hardware.proofs.Words.{◌≡◌, ℕ, ◌+◌, ◌<◌, ◌≤◌, Bool, true, false, cond, not, ◌&&◌, ◌||◌, List, [], ◌∷◌, ◌++◌, map, length, nat_le, Some, None, filter, Option, nat_cmp, sym, refl, ap, ◌∙◌, subst, append_assoc, append-nil, arith, leb-false, list_all, IsLegal, is_load, is_of_kind, is_serialising, kind_of_word, sources_of_word, at_kind, Message, StoreAccess, Issue, Kind, PerKind, Values, due, interrupt_cause, Each, oldest_to_drain, is_known as is_known_store, Pool, finished, predicting, started, Entry, Fetched, broadcast, broadcast_turn, has_result, with_broadcast, with_recovery, Committing, commit, commit_turn, commit_unless, with_fault, Dispatching, dispatch, dispatch_turn, entry_of_fetched, has_full_stations, is_stationed, with_dispatched, drain, end_drain, start_drain, Hardware, cost_of, has_port, is_ready, issue, issue_kind, issue_turn, issued, may_load, path, with_access, Turn, written_of, stores_behind, rows_of, Step, Interrupt, Retired, Trap, Each-append, Each-left, Each-set, Each-place, Each-weaker, EveryBehind}
+use Rattle.rv_hardware.proofs.Words.{◌≡◌, ℕ, ◌+◌, ◌<◌, ◌≤◌, Bool, true, false, cond, not, ◌&&◌, ◌||◌, List, [], ◌∷◌, ◌++◌, map, length, nat_le, Some, None, filter, Option, nat_cmp, sym, refl, ap, ◌∙◌, subst, append_assoc, append-nil, arith, leb-false, list_all, IsLegal, is_load, is_of_kind, is_serialising, kind_of_word, sources_of_word, at_kind, Message, StoreAccess, Issue, Kind, PerKind, Values, due, interrupt_cause, Each, oldest_to_drain, is_known as is_known_store, Pool, finished, predicting, started, Entry, Fetched, broadcast, broadcast_turn, has_result, with_broadcast, with_recovery, Committing, commit, commit_turn, commit_unless, with_fault, Dispatching, dispatch, dispatch_turn, entry_of_fetched, has_full_stations, is_stationed, with_dispatched, drain, end_drain, start_drain, Hardware, cost_of, has_port, is_ready, issue, issue_kind, issue_turn, issued, may_load, path, with_access, Turn, written_of, stores_behind, rows_of, Step, Interrupt, Retired, Trap, Each-append, Each-left, Each-set, Each-place, Each-weaker, EveryBehind, Leads, kept_by_turns}
 use Rattle.std.specs.FinSet as set
 use Rattle.rv_isa.specs.declared.operations.Kind.TheVariants as kind
 use Rattle.rv_hardware.proofs.GapIssue.{ready-parts}
@@ -14,7 +14,6 @@ use Rattle.rv_hardware.proofs.LawsMarks.{Mark, start_of_issue, start_of_stage, b
 use Rattle.rv_hardware.proofs.LawsRow.{SoundRow, row_at, row_is_sound, row_advances, may_retire_serial, may_retire_finished, MayRetire}
 use Rattle.rv_hardware.proofs.LawsShape.{HasShape, SameShape, same_shape, head_retired_capacity, head_retired_entries, pool_units, pool_pipelined}
 use Rattle.rv_hardware.proofs.LawsSound.{SoundCost, SoundEntry, SoundFetched, sound_later, is_of_kind_is, issued_cost, positive_cost}
-use Rattle.rv_hardware.proofs.Repeated.{Leads, kept_by_turns}
 
 -- what is basic holds, and something of the marks that beginnings keep and marks that go on
 pub record Goes (v : Values) (now dispatch_bound issue_bound stage_bound fetch_bound row_bound : ℕ) (R : List Mark → Type 0) (steps : List Step) (h : Hardware) : Type 0 where

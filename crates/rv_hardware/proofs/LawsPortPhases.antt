@@ -1,5 +1,5 @@
 -- Through every phase the port is busy until each load that uses the cache is over, and one begins when all others are.
-use Rattle.rv_hardware.proofs.Words.{◌≡◌, ℕ, ◌+◌, ◌<◌, ◌≤◌, Bool, true, false, cond, not, ◌&&◌, ◌⊎◌, List, [], ◌∷◌, ◌++◌, length, IfSome, nat_le, ◌==◌, Some, None, Option, nat_cmp, sym, refl, ap, ◌∙◌, subst, inl, inr, true≢false, append_assoc, arith, leb-true, IsLegal, is_load, at_kind, StoreAccess, Instr, Lines, Kind, Values, due, Each, oldest_to_drain, finished, predicting, started, ReorderBuffer, Entry, broadcast_turn, with_broadcast, with_recovery, Committing, commit_turn, commit_unless, with_fault, with_lines, Dispatching, dispatch_turn, entry_of_fetched, drain, end_drain, start_drain, Hardware, cost_of, has_port, issue, issue_kind, issue_turn, issued, path, with_access, Turn, Report, seen_behind, Step, and_first, and_second, Each-append, Each-left, Each-right, Each-set, Each-place, Each-weaker, Each-all, Each-both, EveryPair, EveryPair-append, EveryPair-left, EveryPair-right, EveryPair-across, EveryPair-set}
+use Rattle.rv_hardware.proofs.Words.{◌≡◌, ℕ, ◌+◌, ◌<◌, ◌≤◌, Bool, true, false, cond, not, ◌&&◌, ◌⊎◌, List, [], ◌∷◌, ◌++◌, length, IfSome, nat_le, ◌==◌, Some, None, Option, nat_cmp, sym, refl, ap, ◌∙◌, subst, inl, inr, true≢false, append_assoc, arith, leb-true, IsLegal, is_load, at_kind, StoreAccess, Instr, Lines, Kind, Values, due, Each, oldest_to_drain, finished, predicting, started, ReorderBuffer, Entry, broadcast_turn, with_broadcast, with_recovery, Committing, commit_turn, commit_unless, with_fault, with_lines, Dispatching, dispatch_turn, entry_of_fetched, drain, end_drain, start_drain, Hardware, cost_of, has_port, issue, issue_kind, issue_turn, issued, path, with_access, Turn, Report, seen_behind, Step, and_first, and_second, Each-append, Each-left, Each-right, Each-set, Each-place, Each-weaker, Each-all, Each-both, EveryPair, EveryPair-append, EveryPair-left, EveryPair-right, EveryPair-across, EveryPair-set, Leads, kept_by_turns}
 use Rattle.std.specs.FinSet as set
 use Rattle.rv_isa.specs.declared.operations.Kind.TheVariants as kind
 use Rattle.rv_hardware.proofs.GapIssue.{IsReady, ready-parts}
@@ -14,7 +14,6 @@ use Rattle.rv_hardware.proofs.LawsPhases.{Issues, issue_turn_keeps, drain_same, 
 use Rattle.rv_hardware.proofs.LawsPort.{uses_cache, WhereUsed, OverBy, OneAtATime, path_of_user, has_its_port, port_grows}
 use Rattle.rv_hardware.proofs.LawsShape.{head_retired_entries}
 use Rattle.rv_hardware.proofs.LawsSound.{positive_cost}
-use Rattle.rv_hardware.proofs.Repeated.{Leads, kept_by_turns}
 
 -- the port is busy until it is over
 abbrev pub Tied : Values → ℕ → Mark → Type 0

@@ -1,5 +1,5 @@
 -- Steps come in order, within the width; interrupts alone, flushes last; after a flush everything is fetched anew.
-use Rattle.rv_hardware.proofs.Words.{◌≡◌, ℕ, suc, ◌+◌, ◌<◌, ◌≤◌, Bool, true, false, List, [], ◌∷◌, ◌++◌, map, length, nat_eq as eqb, ◌==◌, Some, None, Option, nat_cmp, unwrap_or, sym, refl, ap, ◌∙◌, subst, true≢false, append_assoc, append-nil, arith, length-append, ne_eqb, eqb-true, IsLegal, is_serialising, Message, Issue, Lines, Values, instruction_of, due, interrupt_cause, Stop, Each, Entry, Finished, Committing, commit_turn, commit_unless, with_fault, IsCycle, any_prediction, with_lines, Hardware, IsFetchedSince, Turn, Report, written_of, flushes, rows_of, is_interrupt, stamp_of, Row, Step, Interrupt, Retired, Trap, Each-append, Each-left, Each-right, Each-set, Each-place, Each-weaker, Each-all, Each-both, Each-map, Each-unmap, EveryPair, count, EveryPair-append, count-append, count-none, count-length}
+use Rattle.rv_hardware.proofs.Words.{◌≡◌, ℕ, suc, ◌+◌, ◌<◌, ◌≤◌, Bool, true, false, List, [], ◌∷◌, ◌++◌, map, length, nat_eq as eqb, ◌==◌, Some, None, Option, nat_cmp, unwrap_or, sym, refl, ap, ◌∙◌, subst, true≢false, append_assoc, append-nil, arith, length-append, ne_eqb, eqb-true, IsLegal, is_serialising, Message, Issue, Lines, Values, instruction_of, due, interrupt_cause, Stop, Each, Entry, Finished, Committing, commit_turn, commit_unless, with_fault, IsCycle, any_prediction, with_lines, Hardware, IsFetchedSince, Turn, Report, written_of, flushes, rows_of, is_interrupt, stamp_of, Row, Step, Interrupt, Retired, Trap, Each-append, Each-left, Each-right, Each-set, Each-place, Each-weaker, Each-all, Each-both, Each-map, Each-unmap, EveryPair, count, EveryPair-append, count-append, count-none, count-length, Leads, leads_both, turns_within}
 use Rattle.std.specs.FinSet as set
 use Rattle.rv_hardware.proofs.LawsAdvance.{Kept, Advances, retires as a_retires, starts as a_starts, is_sent as a_is_sent, enters as a_enters}
 use Rattle.rv_hardware.proofs.LawsFetch.{IsNew}
@@ -10,7 +10,6 @@ use Rattle.rv_hardware.proofs.LawsPhases.{Goes, Commits, commit_turn_keeps, comm
 use Rattle.rv_hardware.proofs.LawsRow.{retiring_is_one, row_at, may_retire_finished}
 use Rattle.rv_hardware.proofs.LawsShape.{head_retired_entries}
 use Rattle.rv_hardware.proofs.LawsSound.{SoundEntry, row_decodes}
-use Rattle.rv_hardware.proofs.Repeated.{Leads, leads_both, turns_within}
 
 -- every flush among some steps was no later than a cycle
 abbrev pub NotBefore : List Step → ℕ → Type 0

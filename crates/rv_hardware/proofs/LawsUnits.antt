@@ -1,5 +1,5 @@
 -- A unit executes one instruction at a time, or begins one a cycle where it is pipelined.
-use Rattle.rv_hardware.proofs.Words.{◌≡◌, ℕ, suc, ◌+◌, ◌≤◌, Bool, true, false, cond, ◌&&◌, List, [], ◌∷◌, ◌++◌, length, nat_lt, nat_le, Some, None, filter, Option, nat_cmp, sym, refl, ap, ◌∙◌, subst, true≢false, arith, ltb-true, lt-ltb, le-leb, and_from, and_left, and_right, at_kind-for_each, with_kind-each, IsLegal, is_of_kind, kind_of_word, at_kind, for_each, with_kind, StoreAccess, Issue, Lines, Kind, Values, due, Each, oldest_to_drain, Pool, free_pool, held_for, holding, holds_unit, is_free, finished, predicting, started, ReorderBuffer, Entry, broadcast_turn, with_broadcast, with_recovery, Committing, commit_turn, commit_unless, with_fault, with_lines, Dispatching, dispatch_turn, entry_of_fetched, with_dispatched, drain, end_drain, start_drain, Hardware, cost_of, issue, issue_kind, issue_turn, issued, path, Turn, Report, Step, and_second, Each-append, Each-weaker, Each-filter, count, count-append, count-yes, count-length, count-set-same, count-set-more, count-set-less, count-push-no}
+use Rattle.rv_hardware.proofs.Words.{◌≡◌, ℕ, suc, ◌+◌, ◌≤◌, Bool, true, false, cond, ◌&&◌, List, [], ◌∷◌, ◌++◌, length, nat_lt, nat_le, Some, None, filter, Option, nat_cmp, sym, refl, ap, ◌∙◌, subst, true≢false, arith, ltb-true, lt-ltb, le-leb, and_from, and_left, and_right, at_kind-for_each, with_kind-each, IsLegal, is_of_kind, kind_of_word, at_kind, for_each, with_kind, StoreAccess, Issue, Lines, Kind, Values, due, Each, oldest_to_drain, Pool, free_pool, held_for, holding, holds_unit, is_free, finished, predicting, started, ReorderBuffer, Entry, broadcast_turn, with_broadcast, with_recovery, Committing, commit_turn, commit_unless, with_fault, with_lines, Dispatching, dispatch_turn, entry_of_fetched, with_dispatched, drain, end_drain, start_drain, Hardware, cost_of, issue, issue_kind, issue_turn, issued, path, Turn, Report, Step, and_second, Each-append, Each-weaker, Each-filter, count, count-append, count-yes, count-length, count-set-same, count-set-more, count-set-less, count-push-no, Leads, kept_by_turns}
 use Rattle.std.specs.FinSet as set
 use Rattle.rv_isa.specs.declared.operations.Kind.TheVariants as kind
 use Rattle.rv_units.specs.Pool.{started as started_unit}
@@ -13,7 +13,6 @@ use Rattle.rv_hardware.proofs.LawsIssue.{IssueTurn, no_unit, none_ready, starts,
 use Rattle.rv_hardware.proofs.LawsPhases.{Issues, issue_turn_keeps, drain_same, with_marks}
 use Rattle.rv_hardware.proofs.LawsShape.{head_retired_entries}
 use Rattle.rv_hardware.proofs.LawsSound.{is_of_kind_is}
-use Rattle.rv_hardware.proofs.Repeated.{Leads, kept_by_turns}
 use Rattle.rv_hardware.proofs.LawsMarks.{Mark, Start, mark_of_entry, start_of_issue, start_of_stage}
 
 -- an execution holds a unit in a cycle

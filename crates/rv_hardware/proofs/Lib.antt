@@ -1,9 +1,9 @@
 pub mod Tests
 pub mod Each
 pub mod Lists
+pub mod Repeated
 pub mod Words
 pub mod HardwareCode
-pub mod Repeated
 pub mod Oldest
 pub mod GapLists
 pub mod GapForms

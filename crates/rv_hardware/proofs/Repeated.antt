@@ -1,5 +1,14 @@
 -- A property that each turn keeps is kept by all turns, and what holds at reset and is kept by each cycle always holds.
-use Rattle.rv_hardware.proofs.Words.{◌≡◌, ℕ, zero, suc, ◌+◌, ◌^◌, ◌<◌, List, arith, IsLegal, Lines, Values, IsCycle, any_prediction, Hardware, Ends, GoesOn, Turn, followed_by, repeated, Report, IsLoadable, reset_hardware, Reachable, at_reset, by_cycle}
+use Rattle.std.proofs.Common.{◌≡◌, ℕ, zero, suc, ◌+◌, ◌^◌, ◌<◌, List, arith}
+use Rattle.rv_isa.specs.Description.{IsLegal}
+use Rattle.rv_isa.specs.declared.lines.Lines.{Lines}
+use Rattle.rv_isa.specs.declared.values.Values.{Values}
+use Rattle.rv_hardware.specs.Cycle.{IsCycle, any_prediction}
+use Rattle.rv_hardware.specs.Hardware.{Hardware}
+use Rattle.rv_hardware.specs.Repeated.{Ends, GoesOn, Turn, followed_by, repeated}
+use Rattle.rv_hardware.specs.Report.{Report}
+use Rattle.rv_hardware.specs.Reset.{IsLoadable, reset_hardware}
+use Rattle.rv_hardware.specs.Run.{Reachable, at_reset, by_cycle}
 
 -- P of what a turn leaves to a further one, Q of what it leaves to no other
 abbrev pub Leads : {S : Type 0} → (S → Type 0) → (S → Type 0) → Turn S → Type 0

@@ -1,5 +1,5 @@
 -- A fetched instruction that is no store waits for nothing but room and the width.
-use Rattle.rv_hardware.proofs.Words.{◌≡◌, ℕ, suc, ◌<◌, ◌≤◌, Bool, true, false, cond, ◌&&◌, ◌||◌, ◌⊎◌, List, [], ◌∷◌, ◌++◌, map, length, is_some, is_none, nat_lt, nat_le, ◌==◌, Some, None, count_by, filter, Option, sym, refl, ap, ◌∙◌, subst, inl, inr, true≢false, arith, lt-ltb, eq-eqb, leb-false, leb-true, and_from, length-filter, list_any, is_same-own, is_of_kind, is_serialising, is_store, kind_of_word, at_kind, Kind, Values, Each, Entry, Stage, Finished, Running, Waiting, Fetched, Dispatching, dispatch, dispatch_turn, entry_of_fetched, has_full_stations, is_stationed, Hardware, is_waiting, WaitsForRoom, Turn, EachBehind, instruction_of_row, is_dispatched_in, is_in_flight_in, is_row_of_kind, is_stationed_in, is_store_row, passes, rows_of, Execution, Row, Step, and_first, and_second, Each-All, Each-left, Each-right, Each-place, Each-weaker, Each-all, Each-map, Each-filter, EveryBehind, count, count-count_by, count-append, count-yes, count-map, count-le, EveryBehind-append, Beginning-EveryBehind, EveryBehind-all, EachBehind-EveryBehind}
+use Rattle.rv_hardware.proofs.Words.{◌≡◌, ℕ, suc, ◌<◌, ◌≤◌, Bool, true, false, cond, ◌&&◌, ◌||◌, ◌⊎◌, List, [], ◌∷◌, ◌++◌, map, length, is_some, is_none, nat_lt, nat_le, ◌==◌, Some, None, count_by, filter, Option, sym, refl, ap, ◌∙◌, subst, inl, inr, true≢false, arith, lt-ltb, eq-eqb, leb-false, leb-true, and_from, length-filter, list_any, is_same-own, is_of_kind, is_serialising, is_store, kind_of_word, at_kind, Kind, Values, Each, Entry, Stage, Finished, Running, Waiting, Fetched, Dispatching, dispatch, dispatch_turn, entry_of_fetched, has_full_stations, is_stationed, Hardware, is_waiting, WaitsForRoom, Turn, EachBehind, instruction_of_row, is_dispatched_in, is_in_flight_in, is_row_of_kind, is_stationed_in, is_store_row, passes, rows_of, Execution, Row, Step, and_first, and_second, Each-All, Each-left, Each-right, Each-place, Each-weaker, Each-all, Each-map, Each-filter, EveryBehind, count, count-count_by, count-append, count-yes, count-map, count-le, EveryBehind-append, Beginning-EveryBehind, EveryBehind-all, EachBehind-EveryBehind, Leads, turns_within}
 use Rattle.rv_hardware.proofs.LawsAdvance.{is_in_flight_mark, is_stationed_mark}
 use Rattle.rv_hardware.proofs.LawsCycle.{History, history_is_sound, sent_all, dispatching}
 use Rattle.rv_hardware.proofs.LawsCounted.{behind_law, behind_count}
@@ -11,7 +11,6 @@ use Rattle.rv_hardware.proofs.LawsPast.{rows_obey}
 use Rattle.rv_hardware.proofs.LawsRow.{SoundRow}
 use Rattle.rv_hardware.proofs.LawsShape.{HasShape}
 use Rattle.rv_hardware.proofs.LawsSound.{some_kind}
-use Rattle.rv_hardware.proofs.Repeated.{Leads, turns_within}
 use Rattle.rv_hardware.proofs.LawsWidths.{is_at}
 
 -- a word that could have been dispatched in a cycle: it is the oldest that was not, and no serialising instruction is in flight

@@ -1,5 +1,5 @@
 -- Every cycle keeps the store queue's tie to the rows, and so it holds no more stores than it has room for.
-use Rattle.rv_hardware.proofs.Words.{◌≡◌, ℕ, zero, suc, ◌+◌, ◌<◌, ◌≤◌, Bool, true, false, cond, ◌&&◌, List, [], ◌∷◌, ◌++◌, map, length, is_some, nat_lt, nat_le, Some, None, filter, Option, nat_cmp, sym, refl, ap, ◌∙◌, subst, inl, inr, append_assoc, append-nil, arith, ltb-true, le-ltb, lt-ltb, le-leb, leb-true, and_from, cases_lt, is_serialising, is_store, Message, Instr, Issue, Lines, Kind, CacheValues, Values, due, interrupt_cause, Each, Store, Entry, Stage, Finished, broadcast, Committing, commit_unless, with_fault, with_lines, dispatch, drain, Hardware, FromCache, has_port, issue, NeverMoreThan, Turn, Report, written_of, is_queued_in, is_store_row, rows_of, Row, Step, Interrupt, Retired, Trap, and_first, and_second, Each-weaker, Each-all, count, count-count_by, count-append, count-none, count-map, count-le, count-length, Beginning-count}
+use Rattle.rv_hardware.proofs.Words.{◌≡◌, ℕ, zero, suc, ◌+◌, ◌<◌, ◌≤◌, Bool, true, false, cond, ◌&&◌, List, [], ◌∷◌, ◌++◌, map, length, is_some, nat_lt, nat_le, Some, None, filter, Option, nat_cmp, sym, refl, ap, ◌∙◌, subst, inl, inr, append_assoc, append-nil, arith, ltb-true, le-ltb, lt-ltb, le-leb, leb-true, and_from, cases_lt, is_serialising, is_store, Message, Instr, Issue, Lines, Kind, CacheValues, Values, due, interrupt_cause, Each, Store, Entry, Stage, Finished, broadcast, Committing, commit_unless, with_fault, with_lines, dispatch, drain, Hardware, FromCache, has_port, issue, NeverMoreThan, Turn, Report, written_of, is_queued_in, is_store_row, rows_of, Row, Step, Interrupt, Retired, Trap, and_first, and_second, Each-weaker, Each-all, count, count-count_by, count-append, count-none, count-map, count-le, count-length, Beginning-count, Leads}
 use Rattle.std.specs.FinSet as set
 use Rattle.rv_hardware.proofs.GapBroadcast.{IsKeptByBroadcast, broadcast-keeps}
 use Rattle.rv_hardware.proofs.GapCosts.{access_cost-least}
@@ -21,7 +21,6 @@ use Rattle.rv_hardware.proofs.LawsRow.{SoundRow, row_at, retiring_is_one, may_re
 use Rattle.rv_hardware.proofs.LawsShape.{head_retired_entries}
 use Rattle.rv_hardware.proofs.LawsSound.{SoundEntry, row_decodes}
 use Rattle.rv_hardware.proofs.LawsTold.{Telling, AreTelling, TellsIn, telling-kept}
-use Rattle.rv_hardware.proofs.Repeated.{Leads}
 use Rattle.rv_hardware.proofs.LawsWidths.{count_marks}
 
 abbrev pub Queue : Values → ℕ → List Step → Hardware → Type 0
