@@ -4,7 +4,7 @@ use Rattle.rv_isa.specs.Bytes.{bytes_of_number}
 use Rattle.rv_isa.specs.Csr as csr
 use Rattle.rv_isa.specs.Standard.{standard_values}
 use Rattle.rv_isa.specs.Word.{pc_plus_4}
-use Rattle.rv_isa.specs.declared.causes.Cause.TheVariants.{InstructionAccessFault, IllegalInstruction, Breakpoint, LoadAccessFault}
+use Rattle.rv_isa.specs.declared.causes.Cause.TheVariants.{InstructionAccessFault, IllegalInstruction, Breakpoint, LoadAccessFault, StoreAddressMisaligned}
 use Rattle.rv_isa.specs.declared.values.Recovery.TheVariants.{Early}
 use Rattle.rv_isa.specs.declared.values.Values.{Values}
 use Rattle.rv_isa.specs.Arrivals.{no_lines}
@@ -15,8 +15,11 @@ use Rattle.rv_front.specs.FetchBuffer.{FetchBuffer}
 use Rattle.rv_front.specs.declared.fetched.Fetched.{Fetched}
 use Rattle.rv_hardware.specs.Commit.{Committing}
 use Rattle.rv_hardware.specs.Cycle.{commit_with, execute}
+use Rattle.rv_hardware.specs.Dispatch.{Dispatching, stall_of}
 use Rattle.rv_hardware.specs.Hardware.{Hardware}
 use Rattle.rv_hardware.specs.Reset.{reset_hardware}
+use Rattle.rv_hardware.specs.declared.report.Stall.{Stall}
+use Rattle.rv_hardware.specs.declared.report.Stall.TheVariants as stall
 use Rattle.rv_hardware.specs.declared.step.Step.{Step}
 use Rattle.rv_hardware.specs.declared.step.Step.TheVariants.{Retired, Trap}
 
@@ -57,6 +60,16 @@ in_memory (word ∷ words) = bytes_of_number 4 word ++ in_memory words
 
 abbrev steps_of : Values → List ℕ → ℕ → List Step
 steps_of values words cycles = steps_from cycles (reset_hardware values (in_memory words) 0x8000_0000)
+
+-- why each of so many such cycles dispatched nothing
+abbrev reasons_from : ℕ → Hardware → List (Option Stall)
+reasons_from zero h = []
+reasons_from (suc cycles) h =
+    let dispatching : Dispatching = execute (commit_with (λ words word. false) no_lines h).hardware in
+    stall_of dispatching ∷ reasons_from cycles (with_fetch dispatching.hardware)
+
+abbrev reasons_of : Values → List ℕ → ℕ → List (Option Stall)
+reasons_of values words cycles = reasons_from cycles (reset_hardware values (in_memory words) 0x8000_0000)
 
 -- the standard machine with a smaller RAM, which the programs do not leave
 abbrev machine : Values
@@ -262,3 +275,41 @@ store_queue_of_one : steps_of (record machine { store_queue = 1 }) (0x80000437 �
     []
 unfolding instruction_of table
 store_queue_of_one = refl
+
+-- sw x5,2(x0): a store that faults costs the latency of its kind
+store_that_faults_costs_the_latency : steps_of (record machine { kinds = record machine.kinds { mem = record machine.kinds.mem { latency = 5 } } }) (0x00502123 ∷ []) 9 ≡
+    Trap 0x80000000 StoreAddressMisaligned 2 8 ∷
+    []
+unfolding instruction_of table
+store_that_faults_costs_the_latency = refl
+
+-- a unit without a pipeline is held by a store for the latency of its kind, and by a load for what it costs
+load_holds_its_unit_for_its_cost : steps_of (record machine { kinds = record machine.kinds { mem = record machine.kinds.mem { latency = 8; pipelined = false } } }) (0x00000417 ∷ 0x02040413 ∷ 0x0252c3b3 ∷ 0x00542023 ∷ 0x00042303 ∷ 0x00042383 ∷ ebreak ∷ []) 23 ≡
+    executed 0x80000000 0x00000417 (Some (8, 0x80000000)) 0 1 2 1 3 4 ∷
+    executed 0x80000004 0x02040413 (Some (8, 0x80000020)) 0 1 4 1 5 6 ∷
+    executed 0x80000008 0x0252c3b3 (Some (7, 4294967295)) 1 2 3 16 19 20 ∷
+    executed 0x8000000c 0x00542023 None 1 2 6 8 14 20 ∷
+    executed 0x80000010 0x00042303 (Some (6, 0)) 2 3 15 1 16 21 ∷
+    executed 0x80000014 0x00042383 (Some (7, 0)) 2 3 16 1 17 21 ∷
+    breakpoint 0x80000018 22 ∷
+    []
+unfolding instruction_of table
+load_holds_its_unit_for_its_cost = refl
+
+-- div x5,x6,x7, and two additions behind it that wait for x5, with room for one: a full reorder buffer is the reason before full stations
+full_reorder_buffer_comes_before_full_stations : reasons_of (record machine { rob = 2; kinds = record machine.kinds { alu = record machine.kinds.alu { stations = 1 } } }) (0x027342b3 ∷ 0x00528433 ∷ 0x005404b3 ∷ ebreak ∷ []) 4 ≡
+    Some stall.Fetch ∷ None ∷ Some stall.Rob ∷ Some stall.Rob ∷ []
+unfolding instruction_of table
+full_reorder_buffer_comes_before_full_stations = refl
+
+-- two stores behind a division, with room for one: full stations are the reason before a full store queue
+full_stations_come_before_a_full_store_queue : reasons_of (record machine { store_queue = 1; kinds = record machine.kinds { mem = record machine.kinds.mem { stations = 1 } } }) (0x00000417 ∷ 0x02040413 ∷ 0x027342b3 ∷ 0x00542023 ∷ 0x00542223 ∷ ebreak ∷ []) 4 ≡
+    Some stall.Fetch ∷ None ∷ None ∷ Some stall.Station ∷ []
+unfolding instruction_of table
+full_stations_come_before_a_full_store_queue = refl
+
+-- two stores: a full reorder buffer is the reason before a full store queue
+full_reorder_buffer_comes_before_a_full_store_queue : reasons_of (record machine { rob = 1; store_queue = 1 }) (0x00002023 ∷ 0x00002023 ∷ ebreak ∷ []) 3 ≡
+    Some stall.Fetch ∷ None ∷ Some stall.Rob ∷ []
+unfolding instruction_of table
+full_reorder_buffer_comes_before_a_full_store_queue = refl

@@ -81,6 +81,10 @@ impl Step {
 
 /// An interrupt at pc 0 in cycle 0, which fills places that are not read.
 impl Default for Step {
+    ghost use Rattle.rv_hardware.specs.declared.step.Step.TheVariants.{Interrupt};
+
+    ghost is_default = { λ step. step ≡ Interrupt 0 0 0 };
+
     fn default() -> Self {
         Step::Interrupt {
             pc: 0,
