@@ -25,6 +25,12 @@ impl From<AllocError> for NewError {
 }
 
 impl fmt::Display for NewError {
+    ghost use Rattle.std.specs.Prelude.{Some};
+    ghost use Rattle.rv_core.specs.Refusal.{refusal_text};
+
+    ghost output = { λ error. Some (refusal_text error) };
+
+    #[tactic(auto, unfolding(crate::specs::Refusal::refusal_text))]
     fn fmt<W: fmt::Write>(&self, f: &mut fmt::Formatter<W>) -> fmt::Result {
         f.write_str(match self {
             NewError::Memory => "out of memory",
