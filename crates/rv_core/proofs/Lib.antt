@@ -1,4 +1,4 @@
-pub mod AnyPrediction
+pub mod Guiding
 pub mod BehindStores
 pub mod Closed
 pub mod CommitLoop

@@ -5,10 +5,9 @@ use Rattle.std.proofs.lemmas.List.Sums.{count_by-le-length, sum_by-append}
 use Rattle.std.proofs.Math.Nat.{le-max_left, le-max_right, max-eq_right, max-le}
 use Rattle.rv_isa.specs.Arrivals.{lines_at}
 use Rattle.rv_isa.specs.declared.lines.Arrival.{Arrival}
-use Rattle.rv_hardware.specs.Cycle.{IsCycle, any_prediction}
-use Rattle.rv_hardware.specs.Hardware.{Hardware}
+use Rattle.rv_hardware.specs.Guided.{GuidedCycles, GuidedHardware, IsGuidedCycle, cycled, ended}
 use Rattle.rv_hardware.specs.Report.{Report}
-use Rattle.rv_hardware.specs.Run.{Cycles, ended, cycled, NoneStops, busy_of, counted_stall, is_silent, longest_gap_from, stalls_from, stalls_of, steps_of}
+use Rattle.rv_hardware.specs.Run.{NoneStops, busy_of, counted_stall, is_silent, longest_gap_from, stalls_from, stalls_of, steps_of}
 use Rattle.rv_hardware.specs.declared.report.Stall.{Stall}
 use Rattle.rv_hardware.specs.declared.report.Stall.TheVariants as stall
 use Rattle.rv_hardware.specs.declared.report.StallCounts.{StallCounts}
@@ -126,20 +125,20 @@ NoneStops-push [] r none is = (is, tt)
 NoneStops-push (x ∷ rs) r none is = (none.0, NoneStops-push rs r none.1 is)
 
 module _ (arrivals : List Arrival) where
-  Cycles-push : {old now new : Hardware} {rs : List Report} {r : Report} → Cycles arrivals old rs now → IsCycle any_prediction (lines_at arrivals now.cycle) now r new → Cycles arrivals old (rs ++ r ∷ []) new
+  Cycles-push : {old now new : GuidedHardware} {rs : List Report} {r : Report} → GuidedCycles arrivals old rs now → IsGuidedCycle (lines_at arrivals now.hardware.cycle) now r new → GuidedCycles arrivals old (rs ++ r ∷ []) new
   Cycles-push ended last = cycled last ended
   Cycles-push (cycled first rest) last = cycled first (Cycles-push rest last)
 
   -- the cycles so far, none of which stopped the run, and what was told of them
-  pub record IsUnderWay (old now : Hardware) (progress : Progress) (steps : List Step) : Type 0 where
+  pub record IsUnderWay (old now : GuidedHardware) (progress : Progress) (steps : List Step) : Type 0 where
     pub reports : List Report
-    pub goes : Cycles arrivals old reports now
+    pub goes : GuidedCycles arrivals old reports now
     pub none_stops : NoneStops reports
     pub counted : progress ≡ progress_of reports
     pub listed : steps ≡ steps_of reports
 
   -- what is told of cycles whose counts these are
-  told_of : (old now : Hardware) (reports : List Report) (progress : Progress) (steps : List Step) → Cycles arrivals old reports now → progress ≡ progress_of reports → steps ≡ steps_of reports
+  told_of : (old now : GuidedHardware) (reports : List Report) (progress : Progress) (steps : List Step) → GuidedCycles arrivals old reports now → progress ≡ progress_of reports → steps ≡ steps_of reports
       → IsRun arrivals old now reports steps progress.stalls progress.busy progress.cycles progress.longest_gap
   told_of old now reports progress steps goes counted listed = record {
     cycled = goes;
@@ -150,15 +149,15 @@ module _ (arrivals : List Arrival) where
     longest_gap_is = ap (λ (p : Progress). p.longest_gap) counted;
   }
 
-  pub begins : (h : Hardware) (progress : Progress) (steps : List Step) → progress ≡ progress_of [] → steps ≡ [] → IsUnderWay h h progress steps
+  pub begins : (h : GuidedHardware) (progress : Progress) (steps : List Step) → progress ≡ progress_of [] → steps ≡ [] → IsUnderWay h h progress steps
   begins h progress steps counts none = record { reports = []; goes = ended; none_stops = tt; counted = counts; listed = none }
 
-  module _ (old now new : Hardware) (progress : Progress) (steps : List Step) (report : Report) (way : IsUnderWay old now progress steps)
-      (cycle : IsCycle any_prediction (lines_at arrivals now.cycle) now report new) where
+  module _ (old now new : GuidedHardware) (progress : Progress) (steps : List Step) (report : Report) (way : IsUnderWay old now progress steps)
+      (cycle : IsGuidedCycle (lines_at arrivals now.hardware.cycle) now report new) where
     abbrev pub reports_now : List Report
     reports_now = way.reports ++ report ∷ []
 
-    pub goes_now : Cycles arrivals old reports_now new
+    pub goes_now : GuidedCycles arrivals old reports_now new
     goes_now = Cycles-push way.goes cycle
 
     pub counted_now : progress_after report progress ≡ progress_of reports_now
@@ -181,7 +180,7 @@ module _ (arrivals : List Arrival) where
         → IsRun arrivals old new reports_now steps' progress'.stalls progress'.busy progress'.cycles progress'.longest_gap
     told_now progress' steps' counted more = told_of old new reports_now progress' steps' goes_now (counted ∙ counted_now) (more ∙ listed_now)
 
-  module _ (old now : Hardware) (progress : Progress) (steps : List Step) (way : IsUnderWay old now progress steps) where
+  module _ (old now : GuidedHardware) (progress : Progress) (steps : List Step) (way : IsUnderWay old now progress steps) where
     -- what is told of a run under way
     pub told : IsRun arrivals old now way.reports steps progress.stalls progress.busy progress.cycles progress.longest_gap
     told = told_of old now way.reports progress steps way.goes way.counted way.listed

@@ -1,5 +1,5 @@
 -- The byte that programs see is the youngest retired store's, else the cache's.
-use Rattle.std.proofs.Common.{◌≡◌, ℕ, ◌+◌, ◌-◌, ◌≤◌, true, false, nat_le, get_or, slice_get, Option, Some, None, inl, inr, sym, ap, ◌∙◌, arith}
+use Rattle.std.proofs.Common.{◌≡◌, ℕ, ◌+◌, ◌-◌, ◌≤◌, false, nat_le, get_or, slice_get, Option, Some, None, inl, inr, sym, ap, ◌∙◌, arith}
 use Rattle.std.specs.Option.{unwrap_or}
 use Rattle.std.proofs.lemmas.Bool.{and_from, cases_lt, cond-true, cond-false, false≢true, le-leb, lt-leb}
 use Rattle.std.proofs.lemmas.Option.{slice_get_past}

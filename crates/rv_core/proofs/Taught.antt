@@ -1,11 +1,14 @@
 -- What the commit phase teaches the predictor, turn by turn.
-use Rattle.std.proofs.Common.{◌≡◌, ℕ, List, [], ◌∷◌, ◌++◌, None, refl, sym, ap, subst, ◌∙◌}
+use Rattle.std.proofs.Common.{◌≡◌, ℕ, List, [], ◌∷◌, ◌++◌, Option, None, refl, sym, ap, subst, ◌∙◌}
 use Rattle.std.specs.FinSet as set
+use Rattle.std.specs.List.{fold}
 use Rattle.std.proofs.lemmas.List.{append-nil, append_assoc}
 use Rattle.rv_isa.specs.declared.lines.Lines.{Lines}
 use Rattle.rv_arch.specs.Due.{due}
 use Rattle.rv_arch.specs.State.{State}
-use Rattle.rv_front.specs.Lesson.{AreTaught, Lesson}
+use Rattle.rv_front.specs.Lesson.{Lesson}
+use Rattle.rv_front.specs.Predictors.{AreTaught, after_lesson}
+use Rattle.rv_front.specs.declared.predictors.DescribedPredictor.{DescribedPredictor}
 use Rattle.rv_hardware.proofs.HeadlineCommit.{IsDone, IsGoing, begins_going, commit_done, turn_done}
 use Rattle.rv_hardware.proofs.HeadlineCycle.{always_sound, execute_kept, lines_sound}
 use Rattle.rv_hardware.proofs.HeadlineInvariant.{IsSound}
@@ -14,13 +17,13 @@ use Rattle.rv_hardware.proofs.HeadlineTurn.{GoesFrom, turn_goes_from}
 use Rattle.rv_hardware.specs.Commit.{Committing, commit_turn}
 use Rattle.rv_hardware.specs.Cycle.{commit_with, execute, with_lines}
 use Rattle.rv_hardware.specs.Hardware.{Hardware}
+use Rattle.rv_hardware.specs.Lessons.{first_pc, lesson_of, lessons_of}
 use Rattle.rv_hardware.specs.Repeated.{Turn, GoesOn, Ends}
 use Rattle.rv_hardware.specs.Run.{Reachable}
 use Rattle.rv_hardware.specs.Seen.{seen}
 use Rattle.rv_hardware.specs.Step.{pc_of}
 use Rattle.rv_hardware.specs.declared.step.Step.{Step}
 use Rattle.rv_core.specs.HeadTurn.{committing, turn_left}
-use Rattle.rv_core.specs.Lessons.{first_pc, lesson_of, lessons_of}
 use Rattle.rv_core.specs.Reached.{IsBegun}
 use Rattle.rv_core.specs.declared.head.HeadTurn.{HeadTurn}
 use Rattle.rv_core.specs.declared.head.HeadTurn.TheVariants as head
@@ -37,20 +40,23 @@ lessons_push (x ∷ steps) s next =
     ∙ ap (λ l. lesson_of x (first_pc steps (pc_of s)) ++ l) (lessons_push steps s next)
     ∙ sym (append_assoc (lesson_of x (first_pc steps (pc_of s))) (lessons_of steps (pc_of s)) (lesson_of s next))
 
-pub none_taught : (old : List Lesson → Type 0) → AreTaught old [] old
-none_taught old before learned = subst old (sym (append-nil before)) learned
+pub none_taught : (old : Option DescribedPredictor) → AreTaught old [] old
+none_taught old = refl
 
-taught_more : (old now new : List Lesson → Type 0) (steps : List Step) (s : Step) (pc next : ℕ) → AreTaught old (lessons_of steps pc) now → pc_of s ≡ pc →
+-- lessons after others
+fold_of_both : (old : Option DescribedPredictor) (first more : List Lesson) → fold after_lesson (fold after_lesson old first) more ≡ fold after_lesson old (first ++ more)
+fold_of_both old [] more = refl
+fold_of_both old (lesson ∷ first) more = fold_of_both (after_lesson old lesson) first more
+
+taught_more : (old now new : Option DescribedPredictor) (steps : List Step) (s : Step) (pc next : ℕ) → AreTaught old (lessons_of steps pc) now → pc_of s ≡ pc →
     AreTaught now (lesson_of s next) new → AreTaught old (lessons_of (steps ++ s ∷ []) next) new
-taught_more old now new steps s pc next so_far here more before learned =
-    let all : (before ++ lessons_of steps pc) ++ lesson_of s next ≡ before ++ lessons_of (steps ++ s ∷ []) next =
-    append_assoc before (lessons_of steps pc) (lesson_of s next)
-    ∙ ap (λ at. before ++ (lessons_of steps at ++ lesson_of s next)) (sym here)
-    ∙ ap (λ l. before ++ l) (sym (lessons_push steps s next)) in
-    subst new all (more (before ++ lessons_of steps pc) (so_far before learned))
+taught_more old now new steps s pc next so_far here more =
+    let more_lessons : lessons_of steps pc ++ lesson_of s next ≡ lessons_of (steps ++ s ∷ []) next =
+    ap (λ at. lessons_of steps at ++ lesson_of s next) (sym here) ∙ sym (lessons_push steps s next) in
+    more ∙ ap (λ p. fold after_lesson p (lesson_of s next)) so_far ∙ fold_of_both old (lessons_of steps pc) (lesson_of s next) ∙ ap (fold after_lesson old) more_lessons
 
 -- the phase while it goes on, and what the predictor has been taught of its steps
-pub record AreTeaching (start h : Hardware) (steps : List Step) (old now : List Lesson → Type 0) : Type 0 where
+pub record AreTeaching (start h : Hardware) (steps : List Step) (old now : Option DescribedPredictor) : Type 0 where
   pub going : IsGoing start.lines (seen start) start (committing h steps)
   pub taught : AreTaught old (lessons_of steps h.pc) now
 
@@ -58,14 +64,14 @@ sound_begun : (h : Hardware) → IsBegun h → IsSound h
 sound_begun h begun = subst IsSound (sym begun.begun) (lines_sound begun.lines begun.before (always_sound begun.reached))
 
 -- after the last turn
-pub taught_all : (start h : Hardware) (steps : List Step) (old now : List Lesson → Type 0) → AreTeaching start h steps old now → (all : List Step) → steps ≡ all → AreTaught old (lessons_of all h.pc) now
+pub taught_all : (start h : Hardware) (steps : List Step) (old now : Option DescribedPredictor) → AreTeaching start h steps old now → (all : List Step) → steps ≡ all → AreTaught old (lessons_of all h.pc) now
 taught_all start h steps old now so_far all is_all = subst (λ l. AreTaught old (lessons_of l h.pc) now) is_all so_far.taught
 
 -- before the first turn
-pub teaching_begins : (h : Hardware) (now : List Lesson → Type 0) → IsBegun h → due h.csrs h.lines ≡ None → AreTeaching h h [] now now
+pub teaching_begins : (h : Hardware) (now : Option DescribedPredictor) → IsBegun h → due h.csrs h.lines ≡ None → AreTeaching h h [] now now
 teaching_begins h now begun calm = record { going = begins_going h (sound_begun h begun) calm; taught = none_taught now }
 
-module _ (start h : Hardware) (steps : List Step) (old now : List Lesson → Type 0) (so_far : AreTeaching start h steps old now)
+module _ (start h : Hardware) (steps : List Step) (old now : Option DescribedPredictor) (so_far : AreTeaching start h steps old now)
     (turn : HeadTurn) (next : Hardware) (is : commit_turn set.contains (committing h steps) ≡ turn_left next steps turn) where
   abbrev Left : Turn Committing → Type 0
   Left = LeavesEither (GoesFrom (committing h steps)) (GoesFrom (committing h steps))
@@ -74,7 +80,7 @@ module _ (start h : Hardware) (steps : List Step) (old now : List Lesson → Typ
   left = subst Left is (turn_goes_from (committing h steps) so_far.going.sound)
 
   -- a turn after which the phase goes on
-  pub teaching_goes : (s : Step) (new : List Lesson → Type 0) → turn ≡ head.GoesOn s → (pc : ℕ) → pc ≡ next.pc → AreTaught now (lesson_of s pc) new → AreTeaching start next (steps ++ s ∷ []) old new
+  pub teaching_goes : (s : Step) (new : Option DescribedPredictor) → turn ≡ head.GoesOn s → (pc : ℕ) → pc ≡ next.pc → AreTaught now (lesson_of s pc) new → AreTeaching start next (steps ++ s ∷ []) old new
   teaching_goes s new goes pc is_pc more =
       let goes_on : turn_left next steps turn ≡ GoesOn (committing next (steps ++ s ∷ [])) = ap (turn_left next steps) goes in
       let Going = IsGoing start.lines (seen start) start in
@@ -85,7 +91,7 @@ module _ (start h : Hardware) (steps : List Step) (old now : List Lesson → Typ
       }
 
   -- a turn whose step ends it
-  pub taught_at_end : (s : Step) (new : List Lesson → Type 0) → turn ≡ head.Ends s → (pc : ℕ) → pc ≡ next.pc → AreTaught now (lesson_of s pc) new → (all : List Step) → steps ++ s ∷ [] ≡ all → AreTaught old (lessons_of all next.pc) new
+  pub taught_at_end : (s : Step) (new : Option DescribedPredictor) → turn ≡ head.Ends s → (pc : ℕ) → pc ≡ next.pc → AreTaught now (lesson_of s pc) new → (all : List Step) → steps ++ s ∷ [] ≡ all → AreTaught old (lessons_of all next.pc) new
   taught_at_end s new ends pc is_pc more all is_all =
       subst (λ l. AreTaught old (lessons_of l next.pc) new) is_all (taught_more old now new steps s h.pc next.pc so_far.taught ((subst Left (ap (turn_left next steps) ends) left).begins s refl) (subst (λ n. AreTaught now (lesson_of s n) new) is_pc more))
 
@@ -103,6 +109,6 @@ executed_here lines old committed reached is =
     ap (λ (s : State). s.pc)
     (execute_kept committed.values committed.cycle (seen committed) committed (record { values_are = refl; cycle_is = refl; sees = refl; sound = sound })).sees
 
-pub taught_as : (old new : List Lesson → Type 0) (steps done : List Step) (pc next : ℕ) → steps ≡ done → pc ≡ next → AreTaught old (lessons_of steps pc) new → AreTaught old (lessons_of done next) new
+pub taught_as : (old new : Option DescribedPredictor) (steps done : List Step) (pc next : ℕ) → steps ≡ done → pc ≡ next → AreTaught old (lessons_of steps pc) new → AreTaught old (lessons_of done next) new
 taught_as old new steps done pc next same here taught =
     subst (λ l. AreTaught old (lessons_of l next) new) same (subst (λ n. AreTaught old (lessons_of steps n) new) here taught)

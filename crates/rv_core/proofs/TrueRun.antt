@@ -2,11 +2,12 @@
 use Rattle.std.proofs.Common.{ℕ, List, Result, Ok, Err, IfOk, MatchResult, sym, subst}
 use Rattle.rv_arch.specs.declared.outcome.Stop.{Stop}
 use Rattle.rv_isa.specs.declared.lines.Arrival.{Arrival}
+use Rattle.rv_hardware.proofs.AnyPrediction.{cycles_of}
 use Rattle.rv_hardware.proofs.GapRun.{none_stops-only_last, is_stop-only_last}
 use Rattle.rv_hardware.proofs.HeadlineStops.{headline_of_stop}
 use Rattle.rv_hardware.proofs.Promise.{promise_of_run}
 use Rattle.rv_hardware.specs.Gap.{OnlyLastStops}
-use Rattle.rv_hardware.specs.Hardware.{Hardware}
+use Rattle.rv_hardware.specs.Guided.{GuidedHardware}
 use Rattle.rv_hardware.specs.Headline.{IsTrueStop}
 use Rattle.rv_hardware.specs.Report.{Report}
 use Rattle.rv_hardware.specs.Run.{IsStop, Reachable}
@@ -27,21 +28,21 @@ if_ok : {A P : Outcome → Type 0} (B : OutOfMemory → Type 0) (ended : Result 
 if_ok other (Ok outcome) gives is = gives outcome is
 if_ok other (Err done) gives is = tt
 
-module _ (arrivals : List Arrival) (limit : ℕ) (old new : Hardware) (reached : Reachable old) where
+module _ (arrivals : List Arrival) (limit : ℕ) (old new : GuidedHardware) (reached : Reachable old.hardware) where
   module _ {reports : List Report} {steps : List Step} {stalls : StallCounts} {busy cycles gap : ℕ} (run : IsRun arrivals old new reports steps stalls busy cycles gap) where
-    promise_of : OnlyLastStops reports → KeepsPromise arrivals old new (record { steps = steps; stalls = stalls; busy = busy; cycles = cycles; longest_gap = gap })
-    promise_of only = rw (run.steps_are, run.stalls_are, run.busy_is, run.cycles_are, run.longest_gap_is) (promise_of_run reached run.cycled only)
+    promise_of : OnlyLastStops reports → KeepsPromise arrivals old.hardware new.hardware (record { steps = steps; stalls = stalls; busy = busy; cycles = cycles; longest_gap = gap })
+    promise_of only = rw (run.steps_are, run.stalls_are, run.busy_is, run.cycles_are, run.longest_gap_is) (promise_of_run reached (cycles_of run.cycled) only)
 
-    stop_of : (reason : Stop) → IsStop limit reports new reason → IsTrueStop (layout_of old.values) arrivals limit old.cycle new.cycle steps (seen new) reason
+    stop_of : (reason : Stop) → IsStop limit reports new.hardware reason → IsTrueStop (layout_of old.hardware.values) arrivals limit old.hardware.cycle new.hardware.cycle steps (seen new.hardware) reason
     stop_of reason stops =
-        subst (λ (done : List Step). IsTrueStop (layout_of old.values) arrivals limit old.cycle new.cycle done (seen new) reason) (sym run.steps_are)
-        (headline_of_stop arrivals limit old new reports reason reached run.cycled stops)
+        subst (λ (done : List Step). IsTrueStop (layout_of old.hardware.values) arrivals limit old.hardware.cycle new.hardware.cycle done (seen new.hardware) reason) (sym run.steps_are)
+        (headline_of_stop arrivals limit old.hardware new.hardware reports reason reached (cycles_of run.cycled) stops)
 
   module _ (ended : Result Outcome OutOfMemory) (is : MatchResult ended (IsOutcome arrivals limit old new) (IsCutShort arrivals limit old new)) where
-    pub promise_is_kept : MatchResult ended (λ outcome. KeepsPromise arrivals old new (reported outcome)) (λ done. KeepsPromise arrivals old new (reported_so_far done))
+    pub promise_is_kept : MatchResult ended (λ outcome. KeepsPromise arrivals old.hardware new.hardware (reported outcome)) (λ done. KeepsPromise arrivals old.hardware new.hardware (reported_so_far done))
     promise_is_kept =
-        both_ends ended (λ outcome run. promise_of run.1 (is_stop-only_last limit run.0 new outcome.stop run.2))
+        both_ends ended (λ outcome run. promise_of run.1 (is_stop-only_last limit run.0 new.hardware outcome.stop run.2))
         (λ done run. promise_of run.1 (none_stops-only_last run.0 run.2)) is
 
-    pub stop_is_true : IfOk ended (λ outcome. IsTrueStop (layout_of old.values) arrivals limit old.cycle new.cycle outcome.steps.items (seen new) outcome.stop)
+    pub stop_is_true : IfOk ended (λ outcome. IsTrueStop (layout_of old.hardware.values) arrivals limit old.hardware.cycle new.hardware.cycle outcome.steps.items (seen new.hardware) outcome.stop)
     stop_is_true = if_ok _ ended (λ outcome run. stop_of run.1 outcome.stop run.2) is

@@ -3,8 +3,7 @@ use Rattle.std.specs.Prelude.{◌≡◌, ℕ, ◌+◌, ◌≤◌, max, ◌==◌,
 use Rattle.rv_isa.specs.Arrivals.{lines_at}
 use Rattle.rv_isa.specs.declared.lines.Arrival.{Arrival}
 use Rattle.rv_arch.specs.declared.outcome.Stop.{Stop}
-use Rattle.rv_hardware.specs.Cycle.{IsCycle, any_prediction}
-use Rattle.rv_hardware.specs.Hardware.{Hardware}
+use Rattle.rv_hardware.specs.Guided.{GuidedHardware, IsGuidedCycle}
 use Rattle.rv_hardware.specs.Report.{Report}
 use Rattle.rv_hardware.specs.Run.{busy_of, counted_stall, is_silent, longest_gap_of, stalls_of}
 use Rattle.rv_hardware.specs.declared.step.Step.{Step}
@@ -41,9 +40,9 @@ progress_after report progress = record {
 }
 
 -- one more cycle of a run, with the lines of its number: its steps stand after those before, and it is counted
-pub record IsNextCycle (arrivals : List Arrival) (old new : Hardware) (steps steps' : List Step) (progress progress' : Progress) (stop : Option Stop) : Type 0 where
+pub record IsNextCycle (arrivals : List Arrival) (old new : GuidedHardware) (steps steps' : List Step) (progress progress' : Progress) (stop : Option Stop) : Type 0 where
   pub report : Report
-  pub cycle : IsCycle any_prediction (lines_at arrivals old.cycle) old report new
+  pub cycle : IsGuidedCycle (lines_at arrivals old.hardware.cycle) old report new
   pub few : length report.steps ≤ 8
   pub steps_are : steps' ≡ steps ++ report.steps
   pub counted : progress' ≡ progress_after report progress

@@ -1,17 +1,18 @@
 -- What a run of a core tells, and what it tells where there is no memory for the steps of a further cycle.
-use Rattle.std.specs.Prelude.{◌≡◌, ℕ, ◌<◌, List, length}
+use Rattle.std.specs.Prelude.{◌≡◌, ℕ, ◌<◌, List, length, Result, MatchResult}
 use Rattle.rv_isa.specs.declared.lines.Arrival.{Arrival}
+use Rattle.rv_hardware.specs.Guided.{GuidedCycles, GuidedHardware}
 use Rattle.rv_hardware.specs.Hardware.{Hardware}
 use Rattle.rv_hardware.specs.Promise.{IsPromised, Reported}
 use Rattle.rv_hardware.specs.Report.{Report}
-use Rattle.rv_hardware.specs.Run.{Cycles, IsStop, NoneStops, busy_of, longest_gap_of, stalls_of, steps_of}
+use Rattle.rv_hardware.specs.Run.{IsStop, NoneStops, busy_of, longest_gap_of, stalls_of, steps_of}
 use Rattle.rv_hardware.specs.Seen.{seen}
 use Rattle.rv_hardware.specs.declared.{report.StallCounts.StallCounts, step.Step.Step}
 use Rattle.rv_core.specs.declared.{errors.OutOfMemory.OutOfMemory, outcome.Outcome.Outcome}
 
 -- cycles one after another, with all their steps and counts
-pub record IsRun (arrivals : List Arrival) (old new : Hardware) (reports : List Report) (steps : List Step) (stalls : StallCounts) (busy cycles longest_gap : ℕ) : Type 0 where
-  pub cycled : Cycles arrivals old reports new
+pub record IsRun (arrivals : List Arrival) (old new : GuidedHardware) (reports : List Report) (steps : List Step) (stalls : StallCounts) (busy cycles longest_gap : ℕ) : Type 0 where
+  pub cycled : GuidedCycles arrivals old reports new
   pub steps_are : steps ≡ steps_of reports
   pub stalls_are : stalls ≡ stalls_of reports
   pub busy_is : busy ≡ busy_of reports
@@ -19,14 +20,18 @@ pub record IsRun (arrivals : List Arrival) (old new : Hardware) (reports : List 
   pub longest_gap_is : longest_gap ≡ longest_gap_of reports
 
 -- a run of at most `limit` cycles that ended
-abbrev pub IsOutcome : List Arrival → ℕ → Hardware → Hardware → Outcome → Type 0
+abbrev pub IsOutcome : List Arrival → ℕ → GuidedHardware → GuidedHardware → Outcome → Type 0
 IsOutcome arrivals limit old new outcome =
-    (reports : List Report) × IsRun arrivals old new reports outcome.steps.items outcome.stalls outcome.busy outcome.cycles outcome.longest_gap × IsStop limit reports new outcome.stop
+    (reports : List Report) × IsRun arrivals old new reports outcome.steps.items outcome.stalls outcome.busy outcome.cycles outcome.longest_gap × IsStop limit reports new.hardware outcome.stop
 
 -- one that ended when out of memory: nothing stopped it, and it had cycles left
-abbrev pub IsCutShort : List Arrival → ℕ → Hardware → Hardware → OutOfMemory → Type 0
+abbrev pub IsCutShort : List Arrival → ℕ → GuidedHardware → GuidedHardware → OutOfMemory → Type 0
 IsCutShort arrivals limit old new done =
     (reports : List Report) × IsRun arrivals old new reports done.steps.items done.stalls done.busy done.cycles done.longest_gap × NoneStops reports × (length reports < limit)
+
+-- a run that ended, or one that out of memory cut short
+abbrev pub IsDone : List Arrival → ℕ → GuidedHardware → GuidedHardware → Result Outcome OutOfMemory → Type 0
+IsDone arrivals limit old new done = MatchResult done (λ outcome. IsOutcome arrivals limit old new outcome) (λ short. IsCutShort arrivals limit old new short)
 
 -- what a run reports that ended
 abbrev pub reported : Outcome → Reported
@@ -51,3 +56,8 @@ reported_so_far done = record {
 -- what is promised of a run of hardware
 abbrev pub KeepsPromise : List Arrival → Hardware → Hardware → Reported → Type 0
 KeepsPromise arrivals old new run = IsPromised old.values arrivals old.cycle new.cycle (seen old) run (seen new)
+
+-- what is promised of a run that ended, or that out of memory cut short
+abbrev pub KeepsItsPromise : List Arrival → Hardware → Hardware → Result Outcome OutOfMemory → Type 0
+KeepsItsPromise arrivals old new done =
+    MatchResult done (λ outcome. KeepsPromise arrivals old new (reported outcome)) (λ short. KeepsPromise arrivals old new (reported_so_far short))

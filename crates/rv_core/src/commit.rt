@@ -5,7 +5,7 @@ ghost use Rattle.rv_isa.specs.Cause.{code_of};
 ghost use Rattle.rv_isa.specs.declared.instructions.Instr.TheVariants as instr;
 ghost use Rattle.rv_arch.specs.Due.{due};
 ghost use Rattle.rv_arch.specs.State.{write_of};
-ghost use Rattle.rv_front.specs.Lesson.{AreTaught};
+ghost use Rattle.rv_front.specs.Predictors.{AreTaught};
 ghost use Rattle.rv_memory.specs.Memory.{word_of};
 ghost use Rattle.rv_memory.specs.Stale.{is_covered};
 ghost use Rattle.rv_rename.specs.Renaming.{without_checkpoint};
@@ -17,7 +17,7 @@ ghost use Rattle.rv_hardware.specs.Retirement.{row_of, stale_after, with_result}
 ghost use Rattle.rv_hardware.specs.Squash.{flushed, with_trap};
 ghost use Rattle.rv_hardware.specs.Repeated.{Ends as PhaseEnds};
 ghost use Rattle.rv_core.specs.HeadTurn.{committing, instruction_of_access, IsHead, IsKept, stop_with, turn_left};
-ghost use Rattle.rv_core.specs.Lessons.{lesson_of, lessons_of};
+ghost use Rattle.rv_hardware.specs.Lessons.{lesson_of, lessons_of};
 ghost use Rattle.rv_core.specs.Reached.{IsBegun};
 ghost use Rattle.rv_core.specs.Retiring.{registers_with, with_commit, without_target};
 
@@ -106,7 +106,7 @@ impl Parts {
         ensures steps { steps.new.items ≡ steps.old.items ++ (commit set.contains self.old).steps }
         ensures stop { result ≡ (commit set.contains self.old).stop }
         ensures capacity { vec_capacity steps.new ≡ vec_capacity steps.old }
-        ensures taught { AreTaught (has_learned predictor.old) (lessons_of (commit set.contains self.old).steps self.new.pc) (has_learned predictor.new) }
+        ensures taught { AreTaught (known predictor.old) (lessons_of (commit set.contains self.old).steps self.new.pc) (known predictor.new) }
     {
         if let Some(code) = self.due_interrupt() {
             let step = self.interrupt(INTERRUPT + code);
@@ -357,7 +357,7 @@ fn stop_with(step: &Step) -> Option<Stop>
 
 // The predictor learns where a retired instruction went on; traps and interrupts teach nothing.
 fn teach(predictor: &mut dyn Predictor, step: &Step, next: u32)
-    ensures { AreTaught (has_learned predictor.old) (lesson_of step.now next) (has_learned predictor.new) }
+    ensures { AreTaught (known predictor.old) (lesson_of step.now next) (known predictor.new) }
 {
     if let Step::Retired(row) = step {
         predictor.learn(row.pc, row.word, next);

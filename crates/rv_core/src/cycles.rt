@@ -1,21 +1,25 @@
-ghost use Rattle.std.specs.Prelude.{◌≡◌, ◌+◌, ◌^◌, ◌<◌, ◌≤◌, [], vec_len, vec_capacity, IfOk, MatchResult};
+ghost use Rattle.std.specs.Prelude.{◌≡◌, ◌+◌, ◌^◌, ◌<◌, ◌≤◌, [], vec_len, vec_capacity, Option, IfOk};
+ghost use Rattle.rv_front.specs.declared.predictors.DescribedPredictor.{DescribedPredictor};
+ghost use Rattle.rv_hardware.specs.Guided.{guided};
 ghost use Rattle.rv_hardware.specs.Headline.{IsTrueStop};
 ghost use Rattle.rv_hardware.specs.Seen.{layout_of, seen};
 ghost use Rattle.rv_core.specs.Progress.{IsBounded, IsNextCycle, progress_after, progress_of};
-ghost use Rattle.rv_core.specs.RunDone.{IsCutShort, IsOutcome, KeepsPromise, reported, reported_so_far};
+ghost use Rattle.rv_core.specs.RunDone.{IsDone, KeepsItsPromise};
 ghost use Rattle.rv_core.specs.Told.{report_with};
 ghost use Rattle.rv_hardware.specs.Report.{counted};
 
 use crate::errors::OutOfMemory;
 use crate::machine::Core;
 use crate::outcome::{CycleEnd, Outcome, Progress};
+use crate::pipeline::Pipeline;
 use rv_arch::Stop;
+use rv_front::Predictor;
 use rv_hardware::{Stall, StallCounts, Step};
 use rv_isa::Arrivals;
 use std::alloc::Global;
 
-/// Does cycles, each with the lines of its number, up to a breakpoint, a stale word, exhaustion or `limit` cycles, in
-/// this order where they come together; the limit comes before exhaustion.
+/// Does cycles of a core, each with the lines of its number, up to a breakpoint, a stale word, exhaustion or `limit` cycles,
+/// in this order where they come together; the limit comes before exhaustion.
 ///
 /// # Errors
 ///
@@ -27,33 +31,59 @@ pub fn run(
     arrivals: &Arrivals,
     limit: u64,
 ) -> Result<Outcome, OutOfMemory>
-    ensures cycles { MatchResult result (λ outcome. IsOutcome arrivals.now limit core.old core.new outcome) (λ done. IsCutShort arrivals.now limit core.old core.new done) }
-    ensures promised { MatchResult result (λ outcome. KeepsPromise arrivals.now core.old core.new (reported outcome)) (λ done. KeepsPromise arrivals.now core.old core.new (reported_so_far done)) }
+    ensures cycles { (before after : Option DescribedPredictor) × IsDone arrivals.now limit (guided core.old before) (guided core.new after) result }
+    ensures promised { KeepsItsPromise arrivals.now core.old core.new result }
     ensures stopped { IfOk result (λ outcome. IsTrueStop (layout_of core.old.values) arrivals.now limit core.old.cycle core.new.cycle outcome.steps.items (seen core.new) outcome.stop) }
 {
+    run_pipeline(
+        alloc,
+        &mut core.pipeline,
+        &mut *core.predictor,
+        arrivals,
+        limit,
+    )
+}
+
+/// Does cycles of a pipeline that a predictor guides, as `run` does those of a core.
+///
+/// # Errors
+///
+/// `OutOfMemory` as `run`.
+pub fn run_pipeline(
+    alloc: Global,
+    pipeline: &mut Pipeline,
+    predictor: &mut dyn Predictor,
+    arrivals: &Arrivals,
+    limit: u64,
+) -> Result<Outcome, OutOfMemory>
+    ensures cycles { IsDone arrivals.now limit (guided pipeline.old (known predictor.old)) (guided pipeline.new (known predictor.new)) result }
+    ensures promised { KeepsItsPromise arrivals.now pipeline.old pipeline.new result }
+    ensures stopped { IfOk result (λ outcome. IsTrueStop (layout_of pipeline.old.values) arrivals.now limit pipeline.old.cycle pipeline.new.cycle outcome.steps.items (seen pipeline.new) outcome.stop) }
+{
     // Of hardware that a reset and cycles lead to, the promise holds.
-    let _ = core.cycles_done();
-    run_cycles(alloc, core, arrivals, limit)
+    let _ = pipeline.cycles_done();
+    run_cycles(alloc, pipeline, predictor, arrivals, limit)
 }
 
 fn run_cycles(
     alloc: Global,
-    core: &mut Core,
+    pipeline: &mut Pipeline,
+    predictor: &mut dyn Predictor,
     arrivals: &Arrivals,
     limit: u64,
 ) -> Result<Outcome, OutOfMemory>
-    ensures { MatchResult result (λ outcome. IsOutcome arrivals.now limit core.old core.new outcome) (λ done. IsCutShort arrivals.now limit core.old core.new done) }
+    ensures { IsDone arrivals.now limit (guided pipeline.old (known predictor.old)) (guided pipeline.new (known predictor.new)) result }
 {
     let mut steps = Vec::new(alloc);
     let mut progress = Progress::new();
     for _ in 0..limit {
-        if core.is_exhausted() {
+        if pipeline.is_exhausted() {
             return Ok(progress.outcome(steps, Stop::Exhausted));
         }
         if steps.reserve(8).is_err() {
             return Err(progress.out_of_memory(steps));
         }
-        if let Some(stop) = progress.run_cycle(core, arrivals, &mut steps) {
+        if let Some(stop) = progress.run_cycle(pipeline, predictor, arrivals, &mut steps) {
             return Ok(progress.outcome(steps, stop));
         }
     }
@@ -98,23 +128,24 @@ impl Progress {
         }
     }
 
-    /// Does one more cycle of a run, with the lines of its number, appends its steps to a list that has room for eight, and
+    /// Does one more cycle of a run, with the lines of its number and guided by a predictor, appends its steps to a list that has room for eight, and
     /// counts it. Takes no memory. Tells why the run stops with this cycle, if it does.
     pub fn run_cycle(
         &mut self,
-        core: &mut Core,
+        pipeline: &mut Pipeline,
+        predictor: &mut dyn Predictor,
         arrivals: &Arrivals,
         steps: &mut Vec<Step>,
     ) -> Option<Stop>
-        requires exhausted { core.old.cycle < 2 ^ 40 }
+        requires exhausted { pipeline.old.cycle < 2 ^ 40 }
         requires room { vec_len steps.old + 8 ≤ vec_capacity steps.old }
         requires bounded { IsBounded self.old }
         requires countable { self.old.cycles < 18446744073709551615 }
-        ensures cycle { IsNextCycle arrivals.now core.old core.new steps.old.items steps.new.items self.old self.new result }
+        ensures cycle { IsNextCycle arrivals.now (guided pipeline.old (known predictor.old)) (guided pipeline.new (known predictor.new)) steps.old.items steps.new.items self.old self.new result }
         ensures capacity { vec_capacity steps.new ≡ vec_capacity steps.old }
     {
         let before = steps.len();
-        let end = core.advance(arrivals.at(core.cycles_done()), steps);
+        let end = pipeline.advance(predictor, arrivals.at(pipeline.cycles_done()), steps);
         self.count(&steps.as_slice()[before..], &end);
         end.stop
     }

@@ -16,9 +16,11 @@ mod load;
 mod machine;
 mod outcome;
 mod parts;
+mod pipeline;
 mod seen;
 
-pub use cycles::run;
+pub use cycles::{run, run_pipeline};
 pub use errors::{NewError, OutOfMemory};
 pub use machine::Core;
 pub use outcome::{CycleReport, Outcome, Progress};
+pub use pipeline::Pipeline;

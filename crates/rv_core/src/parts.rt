@@ -2,20 +2,20 @@ ghost use Rattle.std.specs.Prelude.{◌≡◌, ◌+◌, ◌*◌, ◌^◌, ◌≤
 ghost use Rattle.std.specs.FinSet as set;
 ghost use Rattle.rv_isa.specs.PerKind.{for_each};
 ghost use Rattle.rv_front.specs.FetchBuffer.{FetchesInto};
-ghost use Rattle.rv_front.specs.Lesson.{AreTaught};
+ghost use Rattle.rv_front.specs.Predictors.{answers_of};
 ghost use Rattle.rv_rob.specs.ReorderBuffer.{cut_from, empty};
 ghost use Rattle.rv_rename.specs.Renaming.{cleared, empty as no_producers};
 ghost use Rattle.rv_stations.specs.Pool.{squashed as squashed_pool, empty_pool};
 ghost use Rattle.rv_stores.specs.Store.{is_committed};
 ghost use Rattle.rv_units.specs.Bus.{empty_bus, squashed as squashed_bus};
 ghost use Rattle.rv_units.specs.Pool.{free_pool};
-ghost use Rattle.rv_hardware.specs.Cycle.{IsCycle, execute};
+ghost use Rattle.rv_hardware.specs.Cycle.{execute};
 ghost use Rattle.rv_hardware.specs.Dispatch.{stall_of};
+ghost use Rattle.rv_hardware.specs.Guided.{IsGuidedCycle, guided};
 ghost use Rattle.rv_hardware.specs.Run.{Reachable};
 ghost use Rattle.rv_hardware.specs.Reset.{reset_hardware};
 ghost use Rattle.rv_hardware.specs.Squash.{flushed};
 ghost use Rattle.rv_hardware.specs.declared.step.Step.{Step as StepOf};
-ghost use Rattle.rv_core.specs.Lessons.{lessons_of};
 ghost use Rattle.rv_core.specs.Told.{IsCommitStop, report_with};
 
 use crate::outcome::CycleEnd;
@@ -116,11 +116,10 @@ impl Parts {
         requires numbers { self.old.rob.retired ≤ 8 * self.old.cycle }
         requires room { vec_len steps.old + 8 ≤ vec_capacity steps.old }
         requires reached { Reachable self.old }
-        ensures cycle { (done : List StepOf) × (steps.new.items ≡ steps.old.items ++ done) × (length done ≤ 8) × IsCycle (answers predictor.new) lines self.old (report_with done result) self.new }
+        ensures cycle { (done : List StepOf) × (steps.new.items ≡ steps.old.items ++ done) × (length done ≤ 8) × IsGuidedCycle lines (guided self.old (known predictor.old)) (report_with done result) (guided self.new (known predictor.new)) }
         ensures stop { IsCommitStop result.stop }
         ensures numbers { self.new.rob.retired ≤ 8 * self.new.cycle }
         ensures capacity { vec_capacity steps.new ≡ vec_capacity steps.old }
-        ensures taught { (done : List StepOf) × (steps.new.items ≡ steps.old.items ++ done) × AreTaught (has_learned predictor.old) (lessons_of done self.new.pc) (has_learned predictor.new) }
     {
         let cycle = self.cycle;
         self.lines = lines;
@@ -149,7 +148,7 @@ impl Parts {
 
     /// Fetch: words are read along the predicted pcs, from RAM past the cache. Tells why it stopped.
     fn fetch(&mut self, predictor: &dyn Predictor) -> FetchStop
-        ensures fetched { FetchesInto (answers predictor.now) self.old.cache.backing self.old.cycle self.old.front self.new.front result }
+        ensures fetched { FetchesInto (answers_of (known predictor.now)) self.old.cache.backing self.old.cycle self.old.front self.new.front result }
         ensures others { self.new ≡ record self.old { front = self.new.front } }
     {
         self.front

@@ -3,18 +3,19 @@ use Rattle.std.proofs.Common.{◌≡◌, ◌∙◌, ℕ, ◌≤◌, ◌==◌, Li
 use Rattle.std.specs.Option.{option_to_list}
 use Rattle.std.proofs.lemmas.List.Sums.{sum_by-append}
 use Rattle.rv_isa.specs.declared.lines.Arrival.{Arrival}
+use Rattle.rv_hardware.specs.Guided.{GuidedHardware}
 use Rattle.rv_hardware.specs.Hardware.{Hardware}
 use Rattle.rv_explain.specs.Access.{both}
 use Rattle.rv_explain.specs.Drain.{drain_in, drains_by, drains_of}
 use Rattle.rv_explain.specs.History.{History, Moment, ended, cycled}
 
 -- the drains of one cycle more
-pub drains_of-push : {arrivals : List Arrival} {old now : Hardware} {moments : List Moment} (moment : Moment) → History arrivals old moments now
-    → drains_of arrivals old (moments ++ moment ∷ []) ≡ drains_of arrivals old moments ++ option_to_list (drain_in arrivals now)
+pub drains_of-push : {arrivals : List Arrival} {old now : GuidedHardware} {moments : List Moment} (moment : Moment) → History arrivals old moments now
+    → drains_of arrivals old.hardware (moments ++ moment ∷ []) ≡ drains_of arrivals old.hardware moments ++ option_to_list (drain_in arrivals now.hardware)
 drains_of-push moment ended = append-nil _
 drains_of-push {arrivals = arrivals} {old = old} moment (cycled {moment = first} cycle rest) =
-    ap (λ drains. option_to_list (drain_in arrivals old) ++ drains) (drains_of-push moment rest) ∙
-    sym (append_assoc (option_to_list (drain_in arrivals old)) _ _)
+    ap (λ drains. option_to_list (drain_in arrivals old.hardware) ++ drains) (drains_of-push moment rest) ∙
+    sym (append_assoc (option_to_list (drain_in arrivals old.hardware)) _ _)
 
 pub drains_by-append : (hit : ℕ) (some more : List ℕ) → drains_by hit (some ++ more) ≡ both (drains_by hit some) (drains_by hit more)
 drains_by-append hit some more = λ i. record {

@@ -5,7 +5,7 @@ use Rattle.rv_isa.specs.declared.lines.Arrival.{Arrival}
 use Rattle.rv_isa.specs.declared.values.Values.{Values}
 use Rattle.rv_arch.specs.declared.outcome.Stop.{Stop}
 use Rattle.rv_core.specs.declared.outcome.Progress.{Progress}
-use Rattle.rv_hardware.specs.Hardware.{Hardware}
+use Rattle.rv_hardware.specs.Guided.{GuidedHardware}
 use Rattle.rv_source.specs.Listing.{Listed}
 use Rattle.rv_explain.specs.Explanation.{IsExplanation, IsTold, explanation}
 use Rattle.rv_explain.specs.Hotspot.{counts_of}
@@ -14,18 +14,18 @@ use Rattle.rv_explain.specs.declared.tale.Tale.{Tale}
 use Rattle.rv_explain.proofs.HeadSum.{heads_within_cycles}
 use Rattle.rv_explain.proofs.Telling.{length-reports}
 
-pub explained : (arrivals : List Arrival) (limit : ℕ) (values : Values) (listing : Listed) (old new : Hardware) (stop : Stop) (progress : Progress) (tale : Tale)
-    → IsTold arrivals limit values old new stop progress tale → IsExplanation arrivals limit values listing old new stop (explanation listing stop new progress tale)
+pub explained : (arrivals : List Arrival) (limit : ℕ) (values : Values) (listing : Listed) (old new : GuidedHardware) (stop : Stop) (progress : Progress) (tale : Tale)
+    → IsTold arrivals limit values old new stop progress tale → IsExplanation arrivals limit values listing old new stop (explanation listing stop new.hardware progress tale)
 explained arrivals limit values listing old new stop progress tale told = record {
   moments = told.moments;
   passes = told.passes;
   stops = told.stops;
-  text_is = λ i. explanation listing stop new (told.counted i) (told.kept i);
+  text_is = λ i. explanation listing stop new.hardware (told.counted i) (told.kept i);
 }
 
 -- no more cycles left the words of RAM at the head than there were
-pub heads_counted : (arrivals : List Arrival) (limit : ℕ) (values : Values) (old new : Hardware) (stop : Stop) (progress : Progress) (tale : Tale)
+pub heads_counted : (arrivals : List Arrival) (limit : ℕ) (values : Values) (old new : GuidedHardware) (stop : Stop) (progress : Progress) (tale : Tale)
     → IsTold arrivals limit values old new stop progress tale → sum (counts_of tale.words) ≤ progress.cycles
 heads_counted arrivals limit values old new stop progress tale told =
-    let heads = heads_within_cycles values (last_store_to (stores_of old told.moments)) told.moments in
+    let heads = heads_within_cycles values (last_store_to (stores_of old.hardware told.moments)) told.moments in
     omega (arith, heads, ap (λ (t : Tale). sum (counts_of t.words)) told.kept, ap (λ (p : Progress). p.cycles) told.counted, length-reports told.moments)

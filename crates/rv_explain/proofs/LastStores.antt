@@ -4,7 +4,7 @@ use Rattle.std.specs.Option.{option_or}
 use Rattle.rv_isa.specs.declared.lines.Arrival.{Arrival}
 use Rattle.rv_isa.specs.declared.values.Values.{Values}
 use Rattle.rv_memory.specs.Memory.{word_of}
-use Rattle.rv_hardware.specs.Hardware.{Hardware}
+use Rattle.rv_hardware.specs.Guided.{GuidedHardware}
 use Rattle.rv_explain.specs.History.{History, Moment, ended, cycled}
 use Rattle.rv_explain.specs.LastStore.{last_store_to, store_to, stores_in, stores_of, with_stores}
 use Rattle.rv_explain.specs.WordNotes.{notes_of, stored_by}
@@ -46,8 +46,8 @@ module _ (values : Values) (heads : ℕ → ℕ) where
       with_stores_of new (old ++ store ∷ []) ∙ ap (λ stores. notes_of values (note_by stores)) (append_assoc old (store ∷ []) new)
 
 -- the stores of one cycle more
-pub stores_of-push : {arrivals : List Arrival} {old now : Hardware} {moments : List Moment} (moment : Moment) → History arrivals old moments now
-    → stores_of old (moments ++ moment ∷ []) ≡ stores_of old moments ++ stores_in now.registers moment.report.steps
+pub stores_of-push : {arrivals : List Arrival} {old now : GuidedHardware} {moments : List Moment} (moment : Moment) → History arrivals old moments now
+    → stores_of old.hardware (moments ++ moment ∷ []) ≡ stores_of old.hardware moments ++ stores_in now.hardware.registers moment.report.steps
 stores_of-push moment ended = append-nil _
 stores_of-push {old = old} moment (cycled {moment = first} cycle rest) =
-    ap (λ stores. stores_in old.registers first.report.steps ++ stores) (stores_of-push moment rest) ∙ sym (append_assoc (stores_in old.registers first.report.steps) _ _)
+    ap (λ stores. stores_in old.hardware.registers first.report.steps ++ stores) (stores_of-push moment rest) ∙ sym (append_assoc (stores_in old.hardware.registers first.report.steps) _ _)

@@ -5,6 +5,7 @@ use Rattle.std.specs.Option.{option_or, option_to_list}
 use Rattle.std.proofs.lemmas.List.Sums.{count_by-le-length, sum_by-append}
 use Rattle.rv_isa.specs.declared.lines.Arrival.{Arrival}
 use Rattle.rv_isa.specs.declared.values.Values.{Values}
+use Rattle.rv_hardware.specs.Guided.{GuidedHardware}
 use Rattle.rv_hardware.specs.Hardware.{Hardware}
 use Rattle.rv_hardware.specs.Run.{steps_of}
 use Rattle.rv_hardware.specs.Step.{is_retirement}
@@ -42,17 +43,17 @@ loads_of-append costs some more = λ i. record {
 
 module _ (values : Values) where
   -- one more cycle
-  pub tale-push : {arrivals : List Arrival} {old now : Hardware} {moments : List Moment} (moment : Moment) → History arrivals old moments now
-      → tale_after now.registers moment.report.steps (drain_in arrivals now) moment.after (tale_of values arrivals old moments) ≡ tale_of values arrivals old (moments ++ moment ∷ [])
+  pub tale-push : {arrivals : List Arrival} {old now : GuidedHardware} {moments : List Moment} (moment : Moment) → History arrivals old moments now
+      → tale_after now.hardware.registers moment.report.steps (drain_in arrivals now.hardware) moment.after (tale_of values arrivals old.hardware moments) ≡ tale_of values arrivals old.hardware (moments ++ moment ∷ [])
   tale-push {arrivals = arrivals} {old = old} {now = now} {moments = moments} moment passes =
       let steps = steps-push moments moment in
       let exception = sym (first_exception-push moments moment) in
-      let heads = ap (with_stores (stores_in now.registers moment.report.steps)) (with_head_of values (last_store_to (stores_of old moments)) moments moment) in
-      let stores = with_stores_of values (head_cycles (moments ++ moment ∷ [])) (stores_in now.registers moment.report.steps) (stores_of old moments) in
+      let heads = ap (with_stores (stores_in now.hardware.registers moment.report.steps)) (with_head_of values (last_store_to (stores_of old.hardware moments)) moments moment) in
+      let stores = with_stores_of values (head_cycles (moments ++ moment ∷ [])) (stores_in now.hardware.registers moment.report.steps) (stores_of old.hardware moments) in
       let stored = sym (stores_of-push moment passes) in
       let retired = sym (ap (count_by is_retirement) steps ∙ sum_by-append (λ (step : Step). cond (is_retirement step) 1 0) (steps_of (reports_of moments)) moment.report.steps) in
       let loads = sym (ap (loads_of (costs_of values)) steps ∙ loads_of-append (costs_of values) (steps_of (reports_of moments)) moment.report.steps) in
-      let drains = sym (ap (drains_by values.cache.hit) (drains_of-push moment passes) ∙ drains_by-append values.cache.hit (drains_of arrivals old moments) (option_to_list (drain_in arrivals now))) in
+      let drains = sym (ap (drains_by values.cache.hit) (drains_of-push moment passes) ∙ drains_by-append values.cache.hit (drains_of arrivals old.hardware moments) (option_to_list (drain_in arrivals now.hardware))) in
       let words = heads ∙ stores ∙ (λ i. notes_of values (λ word. record { last_store = last_store_to (stored i) word; head_cycles = head_cycles (moments ++ moment ∷ []) word })) in
       λ i. record {
         retired = retired i;

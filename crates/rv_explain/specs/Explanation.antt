@@ -4,6 +4,7 @@ use Rattle.rv_isa.specs.declared.{lines.Arrival.Arrival, values.Values.Values}
 use Rattle.rv_arch.specs.declared.outcome.Stop.{Stop}
 use Rattle.rv_core.specs.Progress.{progress_of}
 use Rattle.rv_core.specs.declared.outcome.Progress.{Progress}
+use Rattle.rv_hardware.specs.Guided.{GuidedHardware}
 use Rattle.rv_hardware.specs.Hardware.{Hardware}
 use Rattle.rv_hardware.specs.Run.{IsStop}
 use Rattle.rv_source.specs.Listing.{Listed}
@@ -19,12 +20,12 @@ use Rattle.rv_explain.specs.Tale.{tale_of}
 use Rattle.rv_explain.specs.declared.tale.Tale.{Tale}
 
 -- cycles, with the hardware that each left, up to the end of a run, and what was kept of them
-pub record IsTold (arrivals : List Arrival) (limit : ℕ) (values : Values) (old new : Hardware) (stop : Stop) (progress : Progress) (tale : Tale) : Type 0 where
+pub record IsTold (arrivals : List Arrival) (limit : ℕ) (values : Values) (old new : GuidedHardware) (stop : Stop) (progress : Progress) (tale : Tale) : Type 0 where
   pub moments : List Moment
   pub passes : History arrivals old moments new
-  pub stops : IsStop limit (reports_of moments) new stop
+  pub stops : IsStop limit (reports_of moments) new.hardware stop
   pub counted : progress ≡ progress_of (reports_of moments)
-  pub kept : tale ≡ tale_of values arrivals old moments
+  pub kept : tale ≡ tale_of values arrivals old.hardware moments
 
 -- the cycles, and those to each instruction
 unfoldable pub cycle_text : Progress → ℕ → List ℕ
@@ -43,8 +44,8 @@ explanation listing stop h progress tale =
     ending_text listing stop h tale.words ++ (exception_text listing tale.exception ++ cost_text listing progress tale)
 
 -- A text explains a run that ended for a reason.
-pub record IsExplanation (arrivals : List Arrival) (limit : ℕ) (values : Values) (listing : Listed) (old new : Hardware) (stop : Stop) (text : List ℕ) : Type 0 where
+pub record IsExplanation (arrivals : List Arrival) (limit : ℕ) (values : Values) (listing : Listed) (old new : GuidedHardware) (stop : Stop) (text : List ℕ) : Type 0 where
   pub moments : List Moment
   pub passes : History arrivals old moments new
-  pub stops : IsStop limit (reports_of moments) new stop
-  pub text_is : text ≡ explanation listing stop new (progress_of (reports_of moments)) (tale_of values arrivals old moments)
+  pub stops : IsStop limit (reports_of moments) new.hardware stop
+  pub text_is : text ≡ explanation listing stop new.hardware (progress_of (reports_of moments)) (tale_of values arrivals old.hardware moments)

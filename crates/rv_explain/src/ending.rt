@@ -6,17 +6,17 @@ ghost use Rattle.rv_text.specs.Written.{IsWritten};
 use crate::place::write_place;
 use crate::word_notes::WordNotes;
 use rv_arch::Stop;
-use rv_core::Core;
+use rv_core::Pipeline;
 use rv_isa::Csr;
 use rv_source::Listing;
 use rv_text::{ReportError, put};
 use std::io::Write;
 
 /// What a control and status register reads.
-pub(crate) fn csr(core: &Core, csr: Csr) -> u32
-    ensures { result ≡ value_of core.now.csrs core.now.lines csr }
+pub(crate) fn csr(pipeline: &Pipeline, csr: Csr) -> u32
+    ensures { result ≡ value_of pipeline.now.csrs pipeline.now.lines csr }
 {
-    let seen = core.observe();
+    let seen = pipeline.observe();
     seen.csrs.value(csr, seen.lines)
 }
 
@@ -36,13 +36,13 @@ fn reason(stop: Stop) -> &'static [u8]
     }
 }
 
-fn place(stop: Stop, core: &Core) -> u32
-    ensures { result ≡ place_of stop core.now }
+fn place(stop: Stop, pipeline: &Pipeline) -> u32
+    ensures { result ≡ place_of stop pipeline.now }
 {
     match stop {
-        Stop::Breakpoint => csr(core, Csr::Mepc),
+        Stop::Breakpoint => csr(pipeline, Csr::Mepc),
         Stop::Stale(pc) => pc,
-        Stop::Limit | Stop::Exhausted => core.observe().pc,
+        Stop::Limit | Stop::Exhausted => pipeline.observe().pc,
     }
 }
 
@@ -83,12 +83,12 @@ pub(crate) fn write_ending<W: Write>(
     writer: &mut W,
     listing: &Listing,
     stop: Stop,
-    core: &Core,
+    pipeline: &Pipeline,
     words: &WordNotes,
 ) -> Result<(), ReportError>
-    ensures { IsWritten result (W.contents writer.old) (W.contents writer.new) (ending_text listing.now stop core.now words.now) }
+    ensures { IsWritten result (W.contents writer.old) (W.contents writer.new) (ending_text listing.now stop pipeline.now words.now) }
 {
     put(writer, reason(stop))?;
-    write_place(writer, listing, place(stop, core))?;
+    write_place(writer, listing, place(stop, pipeline))?;
     write_stale(writer, listing, stop, words)
 }

@@ -6,7 +6,7 @@ use crate::ending::csr;
 use crate::exception::Exception;
 use crate::place::write_place;
 use itoa::Buffer;
-use rv_core::Core;
+use rv_core::Pipeline;
 use rv_hardware::Step;
 use rv_isa::{Cause, Csr};
 use rv_source::Listing;
@@ -14,8 +14,8 @@ use rv_text::{ReportError, hexadecimal, put, put_all};
 use std::io::Write;
 
 // A trap of the core's last cycle, where it is no breakpoint.
-fn exception_of(step: &Step, core: &Core) -> Option<Exception>
-    ensures { result ≡ exception_of core.now step.now }
+fn exception_of(step: &Step, pipeline: &Pipeline) -> Option<Exception>
+    ensures { result ≡ exception_of pipeline.now step.now }
 {
     match *step {
         Step::Trap {
@@ -34,19 +34,19 @@ fn exception_of(step: &Step, core: &Core) -> Option<Exception>
             cause,
             value,
             cycle,
-            mtvec: csr(core, Csr::Mtvec),
-            next_pc: core.observe().pc,
+            mtvec: csr(pipeline, Csr::Mtvec),
+            next_pc: pipeline.observe().pc,
         }),
     }
 }
 
 /// The first trap among the steps of the core's last cycle that is no breakpoint.
-pub(crate) fn exception_in(steps: &[Step], core: &Core) -> Option<Exception>
-    ensures { result ≡ exception_in core.now steps.now }
+pub(crate) fn exception_in(steps: &[Step], pipeline: &Pipeline) -> Option<Exception>
+    ensures { result ≡ exception_in pipeline.now steps.now }
 {
     match steps {
         [] => None,
-        [step, rest @ ..] => exception_of(step, core).or(exception_in(rest, core)),
+        [step, rest @ ..] => exception_of(step, pipeline).or(exception_in(rest, pipeline)),
     }
 }
 

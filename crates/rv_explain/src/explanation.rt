@@ -1,6 +1,7 @@
 ghost use Rattle.std.specs.Prelude.{◌≡◌, ◌≤◌, Err, List, [], sum, vec_capacity, IfOk};
 ghost use Rattle.rv_explain.specs.Explanation.{IsExplanation, cost_text, cycle_text, explanation};
 ghost use Rattle.rv_explain.specs.Hotspot.{counts_of};
+ghost use Rattle.rv_hardware.specs.Guided.{guided};
 ghost use Rattle.rv_hardware.specs.Hardware.{Hardware};
 ghost use Rattle.rv_isa.specs.declared.lines.Arrival.{Arrival};
 ghost use Rattle.rv_explain.specs.Tale.{tale_of};
@@ -16,7 +17,8 @@ use crate::running::run_told;
 use crate::stack::{write_counts, write_stalls};
 use crate::tale::Tale;
 use rv_arch::Stop;
-use rv_core::{Core, Progress};
+use rv_core::{Pipeline, Progress};
+use rv_front::Predictor;
 use rv_hardware::Step;
 use rv_isa::{Arrivals, Description};
 use rv_source::Listing;
@@ -84,24 +86,24 @@ fn write_told<W: Write>(
     writer: &mut W,
     listing: &Listing,
     stop: Stop,
-    core: &Core,
+    pipeline: &Pipeline,
     progress: &Progress,
     tale: &mut Tale,
 ) -> Result<(), ReportError>
     requires heads { sum (counts_of tale.old.words) ≤ progress.now.cycles }
-    ensures { IsWritten result (W.contents writer.old) (W.contents writer.new) (explanation listing.now stop core.now progress.now tale.old) }
+    ensures { IsWritten result (W.contents writer.old) (W.contents writer.new) (explanation listing.now stop pipeline.now progress.now tale.old) }
 {
-    write_ending(writer, listing, stop, core, &tale.words)?;
+    write_ending(writer, listing, stop, pipeline, &tale.words)?;
     write_exception(writer, listing, &tale.exception)?;
     write_costs(writer, listing, progress, tale)
 }
 
-/// Runs a core, each cycle with the lines of its number, up to a breakpoint, a stale word, exhaustion or so many cycles,
-/// and then writes what the run came to, in plain sentences: how it ended, where and why, and for a stale word the last
-/// store to it; the first trap that is no breakpoint; where the cycles went; what its loads and the drains of its stores
-/// cost; and the five lines that most cycles left at the head of the reorder buffer. The description tells where RAM lies,
-/// whose words are counted, and what loads and drains cost. The listing is that of the program, whose lines are shown.
-/// Answers why the run ended.
+/// Runs a pipeline that a predictor guides, each cycle with the lines of its number, up to a breakpoint, a stale word,
+/// exhaustion or so many cycles, and then writes what the run came to, in plain sentences: how it ended, where and why,
+/// and for a stale word the last store to it; the first trap that is no breakpoint; where the cycles went; what its loads
+/// and the drains of its stores cost; and the five lines that most cycles left at the head of the reorder buffer. The
+/// description tells where RAM lies, whose words are counted, and what loads and drains cost. The listing is that of the
+/// program, whose lines are shown. Answers why the run ended.
 ///
 /// # Errors
 ///
@@ -109,21 +111,23 @@ fn write_told<W: Write>(
 /// written is a beginning of the sentences, and the run is done to its end.
 pub fn write_explanation<W: Write>(
     alloc: Global,
-    core: &mut Core,
+    pipeline: &mut Pipeline,
+    predictor: &mut dyn Predictor,
     description: &Description,
     arrivals: &Arrivals,
     limit: u64,
     listing: &Listing,
     writer: &mut W,
 ) -> Result<Stop, TextError>
-    ensures written { IsText (IsExplanation arrivals.now limit description.now listing.now core.old core.new) result (W.contents writer.old) (W.contents writer.new) }
-    ensures not_run { result ≡ Err TextError.Memory → core.new ≡ core.old }
+    ensures written { IsText (IsExplanation arrivals.now limit description.now listing.now (guided pipeline.old (known predictor.old)) (guided pipeline.new (known predictor.new))) result (W.contents writer.old) (W.contents writer.new) }
+    ensures not_run { result ≡ Err TextError.Memory → (pipeline.new ≡ pipeline.old) × (known predictor.new ≡ known predictor.old) }
 {
     let Ok(beginning) = begin(alloc, description) else {
         return Err(TextError::Memory);
     };
     let told = run_told(
-        core,
+        pipeline,
+        predictor,
         description,
         arrivals,
         limit,
@@ -131,7 +135,14 @@ pub fn write_explanation<W: Write>(
         beginning.tale,
     );
     let mut tale = told.tale;
-    match write_told(writer, listing, told.stop, core, &told.progress, &mut tale) {
+    match write_told(
+        writer,
+        listing,
+        told.stop,
+        pipeline,
+        &told.progress,
+        &mut tale,
+    ) {
         Ok(()) => Ok(told.stop),
         Err(ReportError::WriteFailed) => Err(TextError::WriteFailed),
     }

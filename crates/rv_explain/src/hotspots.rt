@@ -9,25 +9,25 @@ use crate::hotspot::Hotspot;
 use crate::place::write_place;
 use crate::stack::write_share;
 use crate::word_notes::WordNotes;
-use rv_core::Core;
+use rv_core::Pipeline;
 use rv_source::Listing;
 use rv_text::{ReportError, put};
 use std::io::Write;
 
 // The word of the instruction at the head of the reorder buffer.
-fn head_word(core: &Core) -> Option<u32>
-    ensures { result ≡ head_word core.now }
+fn head_word(pipeline: &Pipeline) -> Option<u32>
+    ensures { result ≡ head_word pipeline.now }
 {
-    let head = core.reorder_buffer().head()?;
+    let head = pipeline.reorder_buffer().head()?;
     Some(head.pc / 4)
 }
 
 /// Keeps which instruction a cycle left at the head of the reorder buffer.
-pub(crate) fn note_head(words: &mut WordNotes, core: &Core)
+pub(crate) fn note_head(words: &mut WordNotes, pipeline: &Pipeline)
     requires room { (word : ℕ) → IfSome (note_at words.old word) (λ note. note.head_cycles + 1 < 2 ^ 64) }
-    ensures { words.new ≡ with_head (head_word core.now) words.old }
+    ensures { words.new ≡ with_head (head_word pipeline.now) words.old }
 {
-    if let Some(word) = head_word(core) {
+    if let Some(word) = head_word(pipeline) {
         words.note_head(word);
     }
 }

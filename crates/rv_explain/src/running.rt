@@ -1,12 +1,14 @@
 ghost use Rattle.std.specs.Prelude.{◌≡◌, ◌≤◌, [], vec_capacity};
 ghost use Rattle.rv_explain.specs.Explanation.{IsTold};
 ghost use Rattle.rv_explain.specs.Tale.{tale_of};
+ghost use Rattle.rv_hardware.specs.Guided.{guided};
 ghost use Rattle.rv_isa.specs.declared.values.Values.{Values};
 
 use crate::drains::begun;
 use crate::tale::Tale;
 use rv_arch::Stop;
-use rv_core::{Core, Progress};
+use rv_core::{Pipeline, Progress};
+use rv_front::Predictor;
 use rv_hardware::Step;
 use rv_isa::{Arrivals, Description};
 
@@ -18,9 +20,10 @@ pub(crate) struct Told {
     pub(crate) tale: Tale,
 }
 
-/// Runs a core to the end, from a tale of no cycle on.
+/// Runs a pipeline that a predictor guides to the end, from a tale of no cycle on.
 pub(crate) fn run_told(
-    core: &mut Core,
+    pipeline: &mut Pipeline,
+    predictor: &mut dyn Predictor,
     description: &Description,
     arrivals: &Arrivals,
     limit: u64,
@@ -28,23 +31,23 @@ pub(crate) fn run_told(
     tale: Tale,
 ) -> Told
     requires room { 8 ≤ vec_capacity steps }
-    requires untold { tale ≡ tale_of description.now arrivals.now core.old [] }
-    ensures { IsTold arrivals.now limit description.now core.old core.new result.stop result.progress result.tale }
+    requires untold { tale ≡ tale_of description.now arrivals.now pipeline.old [] }
+    ensures { IsTold arrivals.now limit description.now (guided pipeline.old (known predictor.old)) (guided pipeline.new (known predictor.new)) result.stop result.progress result.tale }
 {
     let mut steps = steps;
     let mut progress = Progress::new();
     let mut tale = tale;
     for _ in 0..limit {
-        if core.is_exhausted() {
+        if pipeline.is_exhausted() {
             return finished(Stop::Exhausted, progress, tale);
         }
-        let cycle = core.cycles_done();
-        let draining = core.drain_end();
-        let mut registers = core.observe().regs;
+        let cycle = pipeline.cycles_done();
+        let draining = pipeline.drain_end();
+        let mut registers = pipeline.observe().regs;
         steps.clear();
-        let stop = progress.run_cycle(core, arrivals, &mut steps);
-        let drain = begun(cycle, draining, core.drain_end());
-        tale.add(&mut registers, steps.as_slice(), drain, core);
+        let stop = progress.run_cycle(pipeline, predictor, arrivals, &mut steps);
+        let drain = begun(cycle, draining, pipeline.drain_end());
+        tale.add(&mut registers, steps.as_slice(), drain, pipeline);
         if let Some(stop) = stop {
             return finished(stop, progress, tale);
         }

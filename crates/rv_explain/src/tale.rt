@@ -12,7 +12,7 @@ use crate::hotspots::note_head;
 use crate::loads::{Costs, add_loads};
 use crate::stores::note_stores;
 use crate::word_notes::WordNotes;
-use rv_core::Core;
+use rv_core::Pipeline;
 use rv_hardware::Step;
 use rv_isa::Description;
 use std::alloc::{AllocError, Global};
@@ -59,16 +59,16 @@ impl Tale {
         registers: &mut [u32; 32],
         steps: &[Step],
         drain: Option<u64>,
-        core: &Core,
+        pipeline: &Pipeline,
     )
         requires room { HasRoom self.old (length steps.now) }
-        ensures { self.new ≡ tale_after registers.old steps.now drain core.now self.old }
+        ensures { self.new ≡ tale_after registers.old steps.now drain pipeline.now self.old }
     {
         self.retired += count_retired(steps) as u64;
-        self.exception = self.exception.or(exception_in(steps, core));
+        self.exception = self.exception.or(exception_in(steps, pipeline));
         add_loads(&mut self.loads, &self.costs, steps);
         add_drain(&mut self.drains, self.costs.hit, drain);
-        note_head(&mut self.words, core);
+        note_head(&mut self.words, pipeline);
         note_stores(&mut self.words, registers, steps);
     }
 }

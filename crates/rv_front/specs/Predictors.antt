@@ -1,5 +1,5 @@
--- What the three predictors answer, and what the bimodal one learns.
-use Rattle.std.specs.Prelude.{◌≡◌, ℕ, ◌+◌, ◌-◌, ◌/◌, ◌%◌, min, Bool, true, false, not, ◌==◌, nat_le, List, length, slice_index, slice_set, Option, Some, None, unwrap_or, if◌then◌else◌, ⊤}
+-- What the three described predictors answer, and what the bimodal one learns.
+use Rattle.std.specs.Prelude.{◌≡◌, ℕ, ◌+◌, ◌-◌, ◌/◌, ◌%◌, min, Bool, true, false, not, ◌==◌, nat_le, List, length, slice_index, slice_set, Option, Some, None, unwrap_or, if◌then◌else◌}
 use Rattle.std.specs.List.{fold, slice_index_or}
 use Rattle.rv_isa.specs.Word.{pc_plus_4}
 use Rattle.rv_isa.specs.declared.values.PredictorKind.{PredictorKind}
@@ -60,10 +60,6 @@ learned tables pc next Indirect = record tables { targets = slice_set tables.tar
 abbrev pub with_lesson : Tables → Lesson → Tables
 with_lesson tables lesson = learned tables lesson.pc lesson.next (flow_at lesson.pc lesson.word)
 
--- the lessons led to these tables from new ones of some size
-abbrev pub HaveLearned : Tables → List Lesson → Type 0
-HaveLearned tables lessons = (entries : ℕ) × (tables ≡ fold with_lesson (untaught entries) lessons)
-
 -- a predictor of a kind that was taught nothing
 abbrev pub described : PredictorKind → ℕ → DescribedPredictor
 described kind.NotTaken entries = NotTaken record {}
@@ -81,7 +77,16 @@ abbrev pub taught : DescribedPredictor → Lesson → DescribedPredictor
 taught (Bimodal tables) lesson = Bimodal (with_lesson tables lesson)
 taught plain lesson = plain
 
--- the lessons led to this predictor
-abbrev pub WasTaught : DescribedPredictor → List Lesson → Type 0
-WasTaught (Bimodal tables) lessons = HaveLearned tables lessons
-WasTaught plain lessons = ⊤
+-- What a predictor may answer for the word at a pc: what the described one that it is answers, or, where it is none, anything.
+abbrev pub answers_of : Option DescribedPredictor → ℕ → ℕ → ℕ → Type 0
+answers_of None pc word next = Unit {0}
+answers_of (Some predictor) pc word next = next ≡ answer predictor pc (flow_at pc word)
+
+-- the described predictor that one is after a lesson, where it is one
+abbrev pub after_lesson : Option DescribedPredictor → Lesson → Option DescribedPredictor
+after_lesson None lesson = None
+after_lesson (Some predictor) lesson = Some (taught predictor lesson)
+
+-- these lessons, the first one first, lead from what the predictor was to what it is
+abbrev pub AreTaught : Option DescribedPredictor → List Lesson → Option DescribedPredictor → Type 0
+AreTaught old lessons new = new ≡ fold after_lesson old lessons

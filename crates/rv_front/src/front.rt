@@ -1,6 +1,7 @@
 ghost use Rattle.std.specs.Prelude.{◌≡◌, ◌<◌, ◌≤◌, [], ◌∷◌, ◌++◌, length, drop, slice_get, Some, option_copied, IfOk, false};
 ghost use Rattle.circular_buffer.specs.Buffer.{buffer};
 ghost use Rattle.rv_front.specs.FetchBuffer.{FetchesInto, FetchesOne, IsChain, IsFetchedAt, head_pc};
+ghost use Rattle.rv_front.specs.Predictors.{answers_of};
 
 use crate::decoded::DecodedWords;
 use crate::fetched::{FetchStop, Fetched};
@@ -53,7 +54,7 @@ impl Front {
     /// It stops after a prediction other than pc + 4. A pc outside RAM gives an entry without a word, for which the
     /// predictor is not asked, and halts the front until it is redirected.
     pub fn fetch(&mut self, cycle: u64, ram: &Ram, predictor: &dyn Predictor) -> FetchStop
-        ensures fetched { FetchesInto (answers predictor.now) ram.now cycle self.old self.new result }
+        ensures fetched { FetchesInto (answers_of (known predictor.now)) ram.now cycle self.old self.new result }
         ensures chain { IsChain self.new }
     {
         if self.halted {
@@ -70,7 +71,7 @@ impl Front {
 
     // Fetches one word where there is room, and tells why the fetch ends with it or, where there is none, without it.
     fn fetch_next(&mut self, cycle: u64, ram: &Ram, predictor: &dyn Predictor) -> Option<FetchStop>
-        ensures fetched { FetchesOne (answers predictor.now) ram.now cycle self.old self.new result }
+        ensures fetched { FetchesOne (answers_of (known predictor.now)) ram.now cycle self.old self.new result }
         ensures chain { IsChain self.new }
     {
         if self.ring.len() >= self.ring.capacity() {
@@ -136,7 +137,7 @@ fn fetch_word(
     ram: &Ram,
     predictor: &dyn Predictor,
 ) -> Fetched
-    ensures { IsFetchedAt (answers predictor.now) ram.now cycle pc result }
+    ensures { IsFetchedAt (answers_of (known predictor.now)) ram.now cycle pc result }
 {
     let word = ram.fetch(pc);
     let next = match word {

@@ -39,13 +39,11 @@ impl DescribedPredictor {
 }
 
 impl Predictor for DescribedPredictor {
-    ghost use Rattle.std.specs.Prelude.{◌≡◌};
+    ghost use Rattle.std.specs.Prelude.{◌≡◌, Some};
     ghost use Rattle.rv_front.specs.Flow.{flow_at};
-    ghost use Rattle.rv_front.specs.Predictors.{answer, taught, WasTaught};
+    ghost use Rattle.rv_front.specs.Predictors.{answer, taught};
 
-    ghost answers = { λ predictor pc word next. next ≡ answer predictor pc (flow_at pc word) };
-
-    ghost has_learned = { WasTaught };
+    ghost known = { λ predictor. Some predictor };
 
     fn predict(&self, pc: u32, word: u32) -> u32
         ensures { result ≡ answer self.now pc (flow_at pc word) }

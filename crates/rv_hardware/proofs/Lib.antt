@@ -117,3 +117,5 @@ pub mod LawsDue
 pub mod LawsBusy
 pub mod HeadlineTurn
 pub mod Promise
+pub mod AnyPrediction
+pub mod Determined

@@ -15,6 +15,8 @@ pub mod Dispatch
 pub mod Cycle
 pub mod Reset
 pub mod Run
+pub mod Lessons
+pub mod Guided
 pub mod Headline
 pub mod Gap
 pub mod LongestGap

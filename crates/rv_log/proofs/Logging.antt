@@ -11,10 +11,12 @@ use Rattle.rv_core.specs.Told.{IsCommitStop}
 use Rattle.rv_core.specs.declared.outcome.Progress.{Progress}
 use Rattle.rv_core.proofs.RunReports.{IsUnderWay, counted_now, goes_now, listed_now, progress-bounded}
 use Rattle.rv_core.proofs.RunStops.{is_stop}
+use Rattle.rv_hardware.specs.Guided.{GuidedHardware, ended}
 use Rattle.rv_hardware.specs.Hardware.{Hardware}
-use Rattle.rv_hardware.specs.Run.{ended, IsStop, NoneStops}
+use Rattle.rv_hardware.specs.Run.{IsStop, NoneStops}
 use Rattle.rv_hardware.specs.Report.{Report}
 use Rattle.rv_hardware.specs.declared.step.Step.{Step}
+use Rattle.rv_hardware.proofs.AnyPrediction.{cycles_of}
 use Rattle.rv_hardware.proofs.HeadlineReached.{cycles_counted}
 use Rattle.rv_log.specs.Log.{Moment, Passes, WritesLog, begin_text, begun, cycle_text, log_text, moment_of, passed}
 use Rattle.rv_passage.specs.Passage.{in_flight}
@@ -65,31 +67,31 @@ roomy_again table full opened few rows interrupts = record {
 
 module _ {T E : Type 0} (arrivals : List Arrival) (listing : Listed) where
   -- the cycles so far, with what became of the instructions in them, and their log written
-  pub record IsLogging (old now : Hardware) (progress : Progress) (table : Passages) (written : Result T E) (before after : Option (List ℕ)) : Type 0 where
+  pub record IsLogging (old now : GuidedHardware) (progress : Progress) (table : Passages) (written : Result T E) (before after : Option (List ℕ)) : Type 0 where
     pub steps : List Step
     pub way : IsUnderWay arrivals old now progress steps
     pub moments : List Moment
     pub passes : Passes arrivals old way.reports moments now table
     pub fetched : table.fetched ≤ 288 * (progress.cycles + 1)
     pub retired : table.retired ≤ 8 * progress.cycles
-    pub wrote : IsWritten written before after (log_text listing old moments)
+    pub wrote : IsWritten written before after (log_text listing old.hardware moments)
 
-  pub logging_nothing : (h : Hardware) (progress : Progress) (table : Passages) (written : Result T E) (before after : Option (List ℕ)) (cycle : ℕ) (rows : List Passage) → progress ≡ progress_of [] → table ≡ table_at h → length table.rows ≤ 288 → cycle ≡ h.cycle → rows ≡ table.rows
+  pub logging_nothing : (h : GuidedHardware) (progress : Progress) (table : Passages) (written : Result T E) (before after : Option (List ℕ)) (cycle : ℕ) (rows : List Passage) → progress ≡ progress_of [] → table ≡ table_at h.hardware → length table.rows ≤ 288 → cycle ≡ h.hardware.cycle → rows ≡ table.rows
       → IsWritten written before after (begin_text listing cycle rows) → IsLogging h h progress table written before after
   logging_nothing h progress table written before after cycle rows none is few cycle_is rows_are wrote =
-      let here : length (numbered_from 0 (in_flight h)) ≤ 288 = subst (λ (t : Passages). length t.rows ≤ 288) is few in
-      let all_rows : rows ≡ (table_at h).rows = rows_are ∙ ap (λ (t : Passages). t.rows) is in
+      let here : length (numbered_from 0 (in_flight h.hardware)) ≤ 288 = subst (λ (t : Passages). length t.rows ≤ 288) is few in
+      let all_rows : rows ≡ (table_at h.hardware).rows = rows_are ∙ ap (λ (t : Passages). t.rows) is in
       record {
         steps = [];
         way = record { reports = []; goes = ended; none_stops = tt; counted = none; listed = refl };
         moments = [];
         passes = subst (λ (t : Passages). Passes arrivals h [] [] h t) (sym is) begun;
-        fetched = omega (arith, ap (λ (t : Passages). t.fetched) is, length-numbered_from 0 (in_flight h), here);
+        fetched = omega (arith, ap (λ (t : Passages). t.fetched) is, length-numbered_from 0 (in_flight h.hardware), here);
         retired = omega (arith, ap (λ (t : Passages). t.retired) is);
-        wrote = written_same written before after (begin_text listing cycle rows) (log_text listing h []) ((λ i. begin_text listing (cycle_is i) (all_rows i)) ∙ log-none listing h) wrote;
+        wrote = written_same written before after (begin_text listing cycle rows) (log_text listing h.hardware []) ((λ i. begin_text listing (cycle_is i) (all_rows i)) ∙ log-none listing h.hardware) wrote;
       }
 
-  module _ (old now : Hardware) (progress : Progress) (table : Passages) (written : Result T E) (before mid : Option (List ℕ)) (logging : IsLogging old now progress table written before mid) where
+  module _ (old now : GuidedHardware) (progress : Progress) (table : Passages) (written : Result T E) (before mid : Option (List ℕ)) (logging : IsLogging old now progress table written before mid) where
     pub logging-bounded : IsBounded progress
     logging-bounded = subst IsBounded (sym logging.way.counted) (progress-bounded logging.way.reports)
 
@@ -98,15 +100,15 @@ module _ {T E : Type 0} (arrivals : List Arrival) (listing : Listed) where
     so_many = sym (ap (λ (p : Progress). p.cycles) logging.way.counted)
 
     -- the counts of the table can go on
-    pub can_count : now.cycle ≤ 2 ^ 40 → CanCount table
+    pub can_count : now.hardware.cycle ≤ 2 ^ 40 → CanCount table
     can_count within =
-        let count = cycles_counted logging.way.goes in
+        let count = cycles_counted (cycles_of logging.way.goes) in
         record { fetched = omega (arith, logging.fetched, so_many, count, within); retired = omega (arith, logging.retired, so_many, count, within) }
 
     -- it ended between two cycles
-    logged_to : (limit : ℕ) (why : Stop) → IsStop limit logging.way.reports now why → WritesLog arrivals limit listing old now why written before mid
+    logged_to : (limit : ℕ) (why : Stop) → IsStop limit logging.way.reports now.hardware why → WritesLog arrivals limit listing old now why written before mid
     logged_to limit why stops = (
-      log_text listing old logging.moments,
+      log_text listing old.hardware logging.moments,
       record { reports = logging.way.reports; moments = logging.moments; table = table; cycles = logging.way.goes; passes = logging.passes; stops = stops; text_is = refl },
       logging.wrote,
     )
@@ -114,39 +116,39 @@ module _ {T E : Type 0} (arrivals : List Arrival) (listing : Listed) where
     pub logged_to_limit : (limit : ℕ) → progress.cycles ≡ limit → WritesLog arrivals limit listing old now stop.Limit written before mid
     logged_to_limit limit is = logged_to limit stop.Limit (logging.way.none_stops, so_many ∙ is)
 
-    pub logged_to_exhaustion : (limit : ℕ) → progress.cycles < limit → now.cycle ≡ 2 ^ 40 → WritesLog arrivals limit listing old now stop.Exhausted written before mid
+    pub logged_to_exhaustion : (limit : ℕ) → progress.cycles < limit → now.hardware.cycle ≡ 2 ^ 40 → WritesLog arrivals limit listing old now stop.Exhausted written before mid
     logged_to_exhaustion limit within is = logged_to limit stop.Exhausted (logging.way.none_stops, omega (arith, so_many, within), is)
 
     -- one more cycle, which the table follows, and whose text is written
-    module _ (new : Hardware) (steps steps' done : List Step) (progress' : Progress) (reason : Option Stop) (next : IsNextCycle arrivals now new steps steps' progress progress' reason) (none : steps ≡ []) (listed : done ≡ steps')
-        (cycle : ℕ) (cycle_is : cycle ≡ now.cycle) (full kept : Passages) (takes : full ≡ after_cycle cycle done new table) (opened : kept ≡ still_open full)
+    module _ (new : GuidedHardware) (steps steps' done : List Step) (progress' : Progress) (reason : Option Stop) (next : IsNextCycle arrivals now new steps steps' progress progress' reason) (none : steps ≡ []) (listed : done ≡ steps')
+        (cycle : ℕ) (cycle_is : cycle ≡ now.hardware.cycle) (full kept : Passages) (takes : full ≡ after_cycle cycle done new.hardware table) (opened : kept ≡ still_open full)
         (fetched' : full.fetched ≤ table.fetched + 288) (retired' : full.retired ≤ table.retired + 8)
         (written' : Result T E) (after : Option (List ℕ)) (rows : List Passage) (rows_are : rows ≡ full.rows)
-        (wrote : IsWritten written' before after (log_text listing old logging.moments ++ cycle_text listing cycle rows)) where
+        (wrote : IsWritten written' before after (log_text listing old.hardware logging.moments ++ cycle_text listing cycle rows)) where
       abbrev reports_now : List Report
       reports_now = logging.way.reports ++ next.report ∷ []
 
       abbrev table_now : Passages
-      table_now = after_cycle now.cycle next.report.steps new table
+      table_now = after_cycle now.hardware.cycle next.report.steps new.hardware table
 
       abbrev moments_now : List Moment
-      moments_now = logging.moments ++ moment_of now.cycle table_now ∷ []
+      moments_now = logging.moments ++ moment_of now.hardware.cycle table_now ∷ []
 
       full_is : full ≡ table_now
       full_is =
           let steps_are : done ≡ next.report.steps = listed ∙ next.steps_are ∙ ap (λ l. l ++ next.report.steps) none in
-          takes ∙ (λ i. after_cycle (cycle_is i) (steps_are i) new table)
+          takes ∙ (λ i. after_cycle (cycle_is i) (steps_are i) new.hardware table)
 
       passes_now : Passes arrivals old reports_now moments_now new kept
       passes_now =
           subst (λ (t : Passages). Passes arrivals old reports_now moments_now new t) (sym (opened ∙ ap still_open full_is)) (passed logging.passes next.cycle)
 
-      text_now : log_text listing old logging.moments ++ cycle_text listing cycle rows ≡ log_text listing old moments_now
+      text_now : log_text listing old.hardware logging.moments ++ cycle_text listing cycle rows ≡ log_text listing old.hardware moments_now
       text_now =
           let rows_now : rows ≡ table_now.rows = rows_are ∙ ap (λ (t : Passages). t.rows) full_is in
-          (λ i. log_text listing old logging.moments ++ cycle_text listing (cycle_is i) (rows_now i)) ∙ log-more listing old logging.moments (moment_of now.cycle table_now)
+          (λ i. log_text listing old.hardware logging.moments ++ cycle_text listing (cycle_is i) (rows_now i)) ∙ log-more listing old.hardware logging.moments (moment_of now.hardware.cycle table_now)
 
-      wrote_now : IsWritten written' before after (log_text listing old moments_now)
+      wrote_now : IsWritten written' before after (log_text listing old.hardware moments_now)
       wrote_now = written_same written' before after _ _ text_now wrote
 
       pub one_more : progress'.cycles ≡ progress.cycles + 1
@@ -171,14 +173,14 @@ module _ {T E : Type 0} (arrivals : List Arrival) (listing : Listed) where
 
       pub logged_to_stop : (limit : ℕ) (why : Stop) → reason ≡ Some why → progress.cycles < limit → WritesLog arrivals limit listing old new why written' before after
       logged_to_stop limit why is within = (
-        log_text listing old moments_now,
+        log_text listing old.hardware moments_now,
         record {
           reports = reports_now;
           moments = moments_now;
           table = kept;
           cycles = goes_now arrivals old now new progress logging.steps next.report logging.way next.cycle;
           passes = passes_now;
-          stops = is_stop limit logging.way.reports next.report new why logging.way.none_stops (next.stop_is ∙ is) (subst IsCommitStop is next.reason) (omega (arith, so_many, within));
+          stops = is_stop limit logging.way.reports next.report new.hardware why logging.way.none_stops (next.stop_is ∙ is) (subst IsCommitStop is next.reason) (omega (arith, so_many, within));
           text_is = refl;
         },
         wrote_now,

@@ -4,10 +4,10 @@ use Rattle.std.specs.List.{flat_map}
 use Rattle.rv_isa.specs.Arrivals.{lines_at}
 use Rattle.rv_isa.specs.declared.lines.Arrival.{Arrival}
 use Rattle.rv_arch.specs.declared.outcome.Stop.{Stop}
-use Rattle.rv_hardware.specs.Cycle.{IsCycle, any_prediction}
+use Rattle.rv_hardware.specs.Guided.{GuidedCycles, GuidedHardware, IsGuidedCycle}
 use Rattle.rv_hardware.specs.Hardware.{Hardware}
 use Rattle.rv_hardware.specs.Report.{Report}
-use Rattle.rv_hardware.specs.Run.{Cycles, IsStop}
+use Rattle.rv_hardware.specs.Run.{IsStop}
 use Rattle.rv_passage.specs.Table.{Passages, after_cycle, still_open, table_at}
 use Rattle.rv_passage.specs.declared.passage.Passage.{Passage}
 use Rattle.rv_source.specs.Listing.{Listed}
@@ -44,24 +44,25 @@ abbrev pub moment_of : ℕ → Passages → Moment
 moment_of cycle table = record { cycle = cycle; rows = table.rows }
 
 -- cycles from some hardware on, each with the lines of its number; what left the hardware in one is forgotten after it
-pub data Passes (arrivals : List Arrival) (first : Hardware) : List Report → List Moment → Hardware → Passages → Type 0 where
-  begun : Passes arrivals first [] [] first (table_at first)
-  passed : {reports : List Report} {moments : List Moment} {old new : Hardware} {table : Passages} {report : Report} →
-      Passes arrivals first reports moments old table → IsCycle any_prediction (lines_at arrivals old.cycle) old report new →
-      Passes arrivals first (reports ++ report ∷ []) (moments ++ moment_of old.cycle (after_cycle old.cycle report.steps new table) ∷ [])
-      new (still_open (after_cycle old.cycle report.steps new table))
+pub data Passes (arrivals : List Arrival) (first : GuidedHardware) : List Report → List Moment → GuidedHardware → Passages → Type 0 where
+  begun : Passes arrivals first [] [] first (table_at first.hardware)
+  passed : {reports : List Report} {moments : List Moment} {old new : GuidedHardware} {table : Passages} {report : Report} →
+      Passes arrivals first reports moments old table → IsGuidedCycle (lines_at arrivals old.hardware.cycle) old report new →
+      Passes arrivals first (reports ++ report ∷ [])
+      (moments ++ moment_of old.hardware.cycle (after_cycle old.hardware.cycle report.steps new.hardware table) ∷ [])
+      new (still_open (after_cycle old.hardware.cycle report.steps new.hardware table))
 
 -- a text is the log of a run that ended for a reason
-pub record IsLog (arrivals : List Arrival) (limit : ℕ) (listing : Listed) (old new : Hardware) (stop : Stop) (text : List ℕ) : Type 0 where
+pub record IsLog (arrivals : List Arrival) (limit : ℕ) (listing : Listed) (old new : GuidedHardware) (stop : Stop) (text : List ℕ) : Type 0 where
   pub reports : List Report
   pub moments : List Moment
   pub table : Passages
-  pub cycles : Cycles arrivals old reports new
+  pub cycles : GuidedCycles arrivals old reports new
   pub passes : Passes arrivals old reports moments new table
-  pub stops : IsStop limit reports new stop
-  pub text_is : text ≡ log_text listing old moments
+  pub stops : IsStop limit reports new.hardware stop
+  pub text_is : text ≡ log_text listing old.hardware moments
 
 -- the log of a run that ended for a reason is written, or a beginning of it
-abbrev pub WritesLog : {T E : Type 0} → List Arrival → ℕ → Listed → Hardware → Hardware → Stop → Result T E → Option (List ℕ) → Option (List ℕ) → Type 0
+abbrev pub WritesLog : {T E : Type 0} → List Arrival → ℕ → Listed → GuidedHardware → GuidedHardware → Stop → Result T E → Option (List ℕ) → Option (List ℕ) → Type 0
 WritesLog arrivals limit listing old new stop written before after =
     (text : List ℕ) × IsLog arrivals limit listing old new stop text × IsWritten written before after text

@@ -1,11 +1,13 @@
 ghost use Rattle.std.specs.Prelude.{◌≡◌, ◌≤◌, ◌++◌, ℕ, List, Option, length, vec_capacity};
+ghost use Rattle.rv_hardware.specs.Guided.{guided};
 ghost use Rattle.rv_log.specs.Log.{WritesLog, cycle_text};
 ghost use Rattle.rv_passage.specs.Table.{HasRoom, passages_of, table_at};
 ghost use Rattle.rv_text.specs.Written.{IsWritten};
 
 use crate::cycle::{write_begin, write_cycle};
 use rv_arch::Stop;
-use rv_core::{Core, Progress};
+use rv_core::{Pipeline, Progress};
+use rv_front::Predictor;
 use rv_hardware::Step;
 use rv_isa::Arrivals;
 use rv_passage::{Passage, Table};
@@ -42,10 +44,11 @@ fn write_next<W: Write>(
     }
 }
 
-/// Runs a core up to so many cycles, and writes the log as far as no write fails. The table is that of the core, and has room
-/// for two cycles; `steps` has room for the steps of a cycle. Asks for no memory.
+/// Runs a pipeline that a predictor guides up to so many cycles, and writes the log as far as no write fails. The table is that
+/// of the pipeline, and has room for two cycles; `steps` has room for the steps of a cycle. Asks for no memory.
 pub(crate) fn run_logged<W: Write>(
-    core: &mut Core,
+    pipeline: &mut Pipeline,
+    predictor: &mut dyn Predictor,
     arrivals: &Arrivals,
     limit: u64,
     listing: &Listing,
@@ -53,26 +56,26 @@ pub(crate) fn run_logged<W: Write>(
     steps: Vec<Step>,
     writer: &mut W,
 ) -> Ended
-    requires begun { passages_of table ≡ table_at core.old }
+    requires begun { passages_of table ≡ table_at pipeline.old }
     requires room { HasRoom table }
     requires rows { 576 ≤ vec_capacity table.rows }
     requires interrupts { 8 ≤ vec_capacity table.interrupts }
     requires few { length (passages_of table).rows ≤ 288 }
     requires steps { 8 ≤ vec_capacity steps }
-    ensures { WritesLog arrivals.now limit listing.now core.old core.new result.stop result.written (W.contents writer.old) (W.contents writer.new) }
+    ensures { WritesLog arrivals.now limit listing.now (guided pipeline.old (known predictor.old)) (guided pipeline.new (known predictor.new)) result.stop result.written (W.contents writer.old) (W.contents writer.new) }
 {
     let mut table = table;
     let mut steps = steps;
     let mut progress = Progress::new();
-    let mut written = write_begin(writer, listing, core.cycles_done(), table.rows());
+    let mut written = write_begin(writer, listing, pipeline.cycles_done(), table.rows());
     for _ in 0..limit {
-        if core.is_exhausted() {
+        if pipeline.is_exhausted() {
             return finished(Stop::Exhausted, written);
         }
         steps.clear();
-        let cycle = core.cycles_done();
-        let stop = progress.run_cycle(core, arrivals, &mut steps);
-        table.follow(cycle, steps.as_slice(), core);
+        let cycle = pipeline.cycles_done();
+        let stop = progress.run_cycle(pipeline, predictor, arrivals, &mut steps);
+        table.follow(cycle, steps.as_slice(), pipeline);
         written = write_next(written, writer, listing, cycle, table.rows());
         table.drop_ended();
         if let Some(stop) = stop {

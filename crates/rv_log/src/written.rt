@@ -1,10 +1,12 @@
 ghost use Rattle.std.specs.Prelude.{◌≡◌, Err};
+ghost use Rattle.rv_hardware.specs.Guided.{guided};
 ghost use Rattle.rv_log.specs.Log.{IsLog};
 ghost use Rattle.rv_text.specs.IsText.{IsText};
 
 use crate::running::run_logged;
 use rv_arch::Stop;
-use rv_core::Core;
+use rv_core::Pipeline;
+use rv_front::Predictor;
 use rv_isa::Arrivals;
 use rv_passage::Table;
 use rv_source::Listing;
@@ -12,11 +14,11 @@ use rv_text::{ReportError, TextError};
 use std::alloc::Global;
 use std::io::Write;
 
-/// Runs a core, each cycle with the lines of its number, up to a breakpoint, a stale word, exhaustion or so many cycles, and
-/// writes the log of the run in Konata's format, version 0004, each cycle as it comes: when each instruction was fetched (F),
-/// dispatched (D), issued (I), broadcast (B) and retired (C), or that it was flushed, which a trap is too. An instruction's
-/// number counts from 0 in order of fetch; its label is its address and its statement by the listing. Asks for no memory once it
-/// has written. Answers why the run ended.
+/// Runs a pipeline that a predictor guides, each cycle with the lines of its number, up to a breakpoint, a stale word,
+/// exhaustion or so many cycles, and writes the log of the run in Konata's format, version 0004, each cycle as it comes: when
+/// each instruction was fetched (F), dispatched (D), issued (I), broadcast (B) and retired (C), or that it was flushed, which a
+/// trap is too. An instruction's number counts from 0 in order of fetch; its label is its address and its statement by the
+/// listing. Asks for no memory once it has written. Answers why the run ended.
 ///
 /// # Errors
 ///
@@ -24,22 +26,25 @@ use std::io::Write;
 /// written is a beginning of the log, and the run is done to its end.
 pub fn write_log<W: Write>(
     alloc: Global,
-    core: &mut Core,
+    pipeline: &mut Pipeline,
+    predictor: &mut dyn Predictor,
     arrivals: &Arrivals,
     limit: u64,
     listing: &Listing,
     writer: &mut W,
 ) -> Result<Stop, TextError>
-    ensures written { IsText (IsLog arrivals.now limit listing.now core.old core.new) result (W.contents writer.old) (W.contents writer.new) }
-    ensures not_run { result ≡ Err TextError.Memory → core.new ≡ core.old }
+    ensures written { IsText (IsLog arrivals.now limit listing.now (guided pipeline.old (known predictor.old)) (guided pipeline.new (known predictor.new))) result (W.contents writer.old) (W.contents writer.new) }
+    ensures not_run { result ≡ Err TextError.Memory → (pipeline.new ≡ pipeline.old) × (known predictor.new ≡ known predictor.old) }
 {
-    let Ok(table) = Table::begin(alloc, core) else {
+    let Ok(table) = Table::begin(alloc, pipeline) else {
         return Err(TextError::Memory);
     };
     let Ok(steps) = Vec::with_capacity(alloc, 8) else {
         return Err(TextError::Memory);
     };
-    let ended = run_logged(core, arrivals, limit, listing, table, steps, writer);
+    let ended = run_logged(
+        pipeline, predictor, arrivals, limit, listing, table, steps, writer,
+    );
     match ended.written {
         Ok(()) => Ok(ended.stop),
         Err(ReportError::WriteFailed) => Err(TextError::WriteFailed),

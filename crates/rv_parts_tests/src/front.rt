@@ -1,4 +1,4 @@
-ghost use Rattle.std.specs.Prelude.{◌≡◌, ⊤};
+ghost use Rattle.std.specs.Prelude.{None};
 
 use crate::checks::{check_equal, check_equal_at, check_true};
 use crate::words::bytes_of;
@@ -189,9 +189,7 @@ fn fetch_follows_the_predictions_until_the_buffer_is_full(rt: HostRuntime) {
 struct Always(u32);
 
 impl Predictor for Always {
-    ghost answers = { λ predictor _ _ next. next ≡ predictor.0 };
-
-    ghost has_learned = { λ _ _. ⊤ };
+    ghost known = { λ _. None };
 
     fn predict(&self, _pc: u32, _word: u32) -> u32 {
         self.0

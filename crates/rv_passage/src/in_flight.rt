@@ -2,26 +2,26 @@ ghost use Rattle.std.specs.Prelude.{◌≡◌, ◌≤◌, ◌<◌, Some, length,
 ghost use Rattle.rv_passage.specs.Passage.{in_flight};
 
 use crate::passage::Passage;
-use rv_core::Core;
+use rv_core::Pipeline;
 
 /// The most instructions that can be in flight: the longest reorder buffer's and the longest fetch buffer's.
 pub const MOST_IN_FLIGHT: usize = 288;
 
 // How many instructions are in flight.
-pub(crate) fn count_in_flight(core: &Core) -> usize
-    ensures count { result ≡ length (in_flight core.now) }
+pub(crate) fn count_in_flight(pipeline: &Pipeline) -> usize
+    ensures count { result ≡ length (in_flight pipeline.now) }
     ensures few { result ≤ 288 }
 {
     // Of hardware that a reset and cycles lead to, the buffers are as long as described.
-    let _ = core.cycles_done();
-    core.reorder_buffer().len() + core.front().len()
+    let _ = pipeline.cycles_done();
+    pipeline.reorder_buffer().len() + pipeline.front().len()
 }
 
 // The instruction at a place among those in flight, the oldest at place 0. A table gives it its number.
-pub(crate) fn passage_at(core: &Core, place: usize) -> Option<Passage>
-    ensures { result ≡ slice_get (in_flight core.now) place }
+pub(crate) fn passage_at(pipeline: &Pipeline, place: usize) -> Option<Passage>
+    ensures { result ≡ slice_get (in_flight pipeline.now) place }
 {
-    let buffer = core.reorder_buffer();
+    let buffer = pipeline.reorder_buffer();
     let dispatched = buffer.len();
     if place < dispatched {
         let behind = dispatched - place;
@@ -29,17 +29,17 @@ pub(crate) fn passage_at(core: &Core, place: usize) -> Option<Passage>
         let entry = buffer.get(number)?;
         Some(Passage::of_entry(entry))
     } else {
-        let word = core.front().get(place - dispatched)?;
+        let word = pipeline.front().get(place - dispatched)?;
         Some(Passage::of_fetched(word))
     }
 }
 
 // The instruction at a place that there is.
-pub(crate) fn present_at(core: &Core, place: usize) -> Passage
-    requires { place < length (in_flight core.now) }
-    ensures { slice_get (in_flight core.now) place ≡ Some result }
+pub(crate) fn present_at(pipeline: &Pipeline, place: usize) -> Passage
+    requires { place < length (in_flight pipeline.now) }
+    ensures { slice_get (in_flight pipeline.now) place ≡ Some result }
 {
-    match passage_at(core, place) {
+    match passage_at(pipeline, place) {
         Some(passage) => passage,
         None => unreachable!(),
     }

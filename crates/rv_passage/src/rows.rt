@@ -5,7 +5,7 @@ ghost use Rattle.rv_passage.specs.Table.{moved_on, numbered_from, with_oldest};
 
 use crate::in_flight::passage_at;
 use crate::passage::Passage;
-use rv_core::Core;
+use rv_core::Pipeline;
 use rv_hardware::Row;
 use rv_isa::Cause;
 
@@ -36,14 +36,14 @@ pub(crate) fn trap_oldest(rows: &mut [Passage], cause: Cause, cycle: u64)
 
 // What was in flight before a cycle goes on as it stands at the cycle's end, or was squashed in it. Answers the place of the
 // first that was fetched in the cycle, among those in flight.
-pub(crate) fn move_on(rows: &mut [Passage], cycle: u64, core: &Core) -> usize
-    ensures { (number : ℕ) → moved_on cycle number rows.old (in_flight core.now) ≡ rows.new ++ numbered_from number (drop result (in_flight core.now)) }
+pub(crate) fn move_on(rows: &mut [Passage], cycle: u64, pipeline: &Pipeline) -> usize
+    ensures { (number : ℕ) → moved_on cycle number rows.old (in_flight pipeline.now) ≡ rows.new ++ numbered_from number (drop result (in_flight pipeline.now)) }
 {
     let mut next = 0;
     for place in 0..rows.len() {
         let row = rows[place];
         if row.is_in_flight() {
-            match passage_at(core, next) {
+            match passage_at(pipeline, next) {
                 Some(now) if now.fetched < cycle => {
                     rows[place] = row.standing_at(now);
                     next += 1;

@@ -5,7 +5,7 @@ ghost use Rattle.rv_passage.specs.Table.{CanCount, HasRoom, after_cycle, moved_o
 use crate::in_flight::{MOST_IN_FLIGHT, count_in_flight, present_at};
 use crate::passage::Passage;
 use crate::rows::{move_on, retire_oldest, trap_oldest};
-use rv_core::Core;
+use rv_core::Pipeline;
 use rv_hardware::Step;
 use std::alloc::{AllocError, Global};
 
@@ -20,9 +20,9 @@ pub struct Table {
 }
 
 impl Table {
-    /// A table that begins with what is in flight in a core, numbered from 0. It has room for two cycles.
-    pub fn begin(alloc: Global, core: &Core) -> Result<Table, AllocError>
-        ensures table { IfOk result (λ table. passages_of table ≡ table_at core.now) }
+    /// A table that begins with what is in flight in a pipeline, numbered from 0. It has room for two cycles.
+    pub fn begin(alloc: Global, pipeline: &Pipeline) -> Result<Table, AllocError>
+        ensures table { IfOk result (λ table. passages_of table ≡ table_at pipeline.now) }
         ensures room { IfOk result HasRoom }
         ensures rows { IfOk result (λ table. 576 ≤ vec_capacity table.rows) }
         ensures interrupts { IfOk result (λ table. 8 ≤ vec_capacity table.interrupts) }
@@ -34,7 +34,7 @@ impl Table {
             fetched: 0,
             retired: 0,
         };
-        table.append_fetched(0, core);
+        table.append_fetched(0, pipeline);
         Ok(table)
     }
 
@@ -61,12 +61,12 @@ impl Table {
         self.interrupts.reserve(8)
     }
 
-    /// Notes what a cycle did that had these steps and led to the hardware of a core. Asks for no memory.
-    pub fn follow(&mut self, cycle: u64, steps: &[Step], core: &Core)
+    /// Notes what a cycle did that had these steps and led to the hardware of a pipeline. Asks for no memory.
+    pub fn follow(&mut self, cycle: u64, steps: &[Step], pipeline: &Pipeline)
         requires room { HasRoom self.old }
         requires countable { CanCount (passages_of self.old) }
         requires few { length steps.now ≤ 8 }
-        ensures followed { passages_of self.new ≡ after_cycle cycle steps.now core.now (passages_of self.old) }
+        ensures followed { passages_of self.new ≡ after_cycle cycle steps.now pipeline.now (passages_of self.old) }
         ensures rows { vec_capacity self.old.rows ≤ vec_capacity self.new.rows }
         ensures interrupts { vec_capacity self.old.interrupts ≤ vec_capacity self.new.interrupts }
         ensures fetched { self.new.fetched ≤ self.old.fetched + 288 }
@@ -74,8 +74,8 @@ impl Table {
         ensures open { length (still_open (passages_of self.new)).rows ≤ 288 }
     {
         self.take_steps(steps);
-        let fetched = self.move_rows_on(cycle, core);
-        self.append_fetched(fetched, core);
+        let fetched = self.move_rows_on(cycle, pipeline);
+        self.append_fetched(fetched, pipeline);
     }
 
     // Ends an instruction for each step, or notes an interrupt.
@@ -93,13 +93,13 @@ impl Table {
     }
 
     // What was in flight before a cycle goes on, or was squashed in it.
-    fn move_rows_on(&mut self, cycle: u64, core: &Core) -> usize
-        ensures rows { (number : ℕ) → moved_on cycle number self.old.rows.items (in_flight core.now) ≡ self.new.rows.items ++ numbered_from number (drop result (in_flight core.now)) }
+    fn move_rows_on(&mut self, cycle: u64, pipeline: &Pipeline) -> usize
+        ensures rows { (number : ℕ) → moved_on cycle number self.old.rows.items (in_flight pipeline.now) ≡ self.new.rows.items ++ numbered_from number (drop result (in_flight pipeline.now)) }
         ensures len { length self.new.rows.items ≡ length self.old.rows.items }
         ensures others { (self.new.interrupts ≡ self.old.interrupts) × (self.new.fetched ≡ self.old.fetched) × (self.new.retired ≡ self.old.retired) }
         ensures capacity { vec_capacity self.new.rows ≡ vec_capacity self.old.rows }
     {
-        move_on(self.rows.as_mut_slice(), cycle, core)
+        move_on(self.rows.as_mut_slice(), cycle, pipeline)
     }
 
     // Ends the oldest instruction in flight by a step, or notes an interrupt.
@@ -123,17 +123,17 @@ impl Table {
     }
 
     // Numbers the instructions in flight from a place on, and appends them.
-    fn append_fetched(&mut self, from: usize, core: &Core)
+    fn append_fetched(&mut self, from: usize, pipeline: &Pipeline)
         requires room { length self.old.rows.items + 288 ≤ vec_capacity self.old.rows }
         requires countable { self.old.fetched + 288 < 2 ^ 64 }
-        ensures rows { self.new.rows.items ≡ self.old.rows.items ++ numbered_from self.old.fetched (drop from (in_flight core.now)) }
-        ensures fetched { self.new.fetched ≡ self.old.fetched + length (drop from (in_flight core.now)) }
+        ensures rows { self.new.rows.items ≡ self.old.rows.items ++ numbered_from self.old.fetched (drop from (in_flight pipeline.now)) }
+        ensures fetched { self.new.fetched ≡ self.old.fetched + length (drop from (in_flight pipeline.now)) }
         ensures others { (self.new.interrupts ≡ self.old.interrupts) × (self.new.retired ≡ self.old.retired) }
         ensures capacity { vec_capacity self.old.rows ≤ vec_capacity self.new.rows }
-        ensures few { length (in_flight core.now) ≤ 288 }
+        ensures few { length (in_flight pipeline.now) ≤ 288 }
     {
-        for place in from..count_in_flight(core) {
-            self.append(present_at(core, place));
+        for place in from..count_in_flight(pipeline) {
+            self.append(present_at(pipeline, place));
         }
     }
 

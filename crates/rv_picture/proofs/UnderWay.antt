@@ -9,10 +9,11 @@ use Rattle.rv_core.specs.Told.{IsCommitStop}
 use Rattle.rv_core.specs.declared.outcome.Progress.{Progress}
 use Rattle.rv_core.proofs.RunReports.{IsUnderWay, counted_now, goes_now, listed_now, progress-bounded, reports_now}
 use Rattle.rv_core.proofs.RunStops.{is_stop}
-use Rattle.rv_hardware.specs.Hardware.{Hardware}
-use Rattle.rv_hardware.specs.Run.{Cycles, cycled, ended, IsStop, NoneStops}
+use Rattle.rv_hardware.specs.Guided.{GuidedCycles, GuidedHardware, cycled, ended}
+use Rattle.rv_hardware.specs.Run.{IsStop, NoneStops}
 use Rattle.rv_hardware.specs.Report.{Report}
 use Rattle.rv_hardware.specs.declared.step.Step.{Step}
+use Rattle.rv_hardware.proofs.AnyPrediction.{cycles_of}
 use Rattle.rv_hardware.proofs.HeadlineReached.{cycles_counted}
 use Rattle.rv_passage.specs.Follows.{Follows, begun, followed}
 use Rattle.rv_passage.specs.Passage.{in_flight}
@@ -44,28 +45,28 @@ on_err_by (Ok value) then holds = tt
 on_err_by (Err error) then holds = then holds
 
 -- cycles, and more after them
-cycles_on : {arrivals : List Arrival} {old middle new : Hardware} {reports more : List Report} → Cycles arrivals old reports middle → Cycles arrivals middle more new → Cycles arrivals old (reports ++ more) new
+cycles_on : {arrivals : List Arrival} {old middle new : GuidedHardware} {reports more : List Report} → GuidedCycles arrivals old reports middle → GuidedCycles arrivals middle more new → GuidedCycles arrivals old (reports ++ more) new
 cycles_on ended behind = behind
 cycles_on (cycled cycle rest) behind = cycled cycle (cycles_on rest behind)
 
-pub has_not_run : (arrivals : List Arrival) (h : Hardware) → HasRun arrivals h h
+pub has_not_run : (arrivals : List Arrival) (h : GuidedHardware) → HasRun arrivals h h
 has_not_run arrivals h = ([], ended)
 
-pub has_run : {arrivals : List Arrival} {old new : Hardware} {reports : List Report} → Cycles arrivals old reports new → HasRun arrivals old new
+pub has_run : {arrivals : List Arrival} {old new : GuidedHardware} {reports : List Report} → GuidedCycles arrivals old reports new → HasRun arrivals old new
 has_run {reports = reports} goes = (reports, goes)
 
-pub has_run_on : {arrivals : List Arrival} {old middle new : Hardware} → HasRun arrivals old middle → HasRun arrivals middle new → HasRun arrivals old new
+pub has_run_on : {arrivals : List Arrival} {old middle new : GuidedHardware} → HasRun arrivals old middle → HasRun arrivals middle new → HasRun arrivals old new
 has_run_on (reports, goes) (more, behind) = (reports ++ more, cycles_on goes behind)
 
 module _ (arrivals : List Arrival) where
   -- cycles under way, whatever their steps
-  abbrev pub IsGoing : Hardware → Hardware → Progress → Type 0
+  abbrev pub IsGoing : GuidedHardware → GuidedHardware → Progress → Type 0
   IsGoing old now progress = (steps : List Step) × IsUnderWay arrivals old now progress steps
 
-  abbrev pub going_nowhere : (h : Hardware) (progress : Progress) → progress ≡ progress_of [] → IsGoing h h progress
+  abbrev pub going_nowhere : (h : GuidedHardware) (progress : Progress) → progress ≡ progress_of [] → IsGoing h h progress
   going_nowhere h progress none = ([], record { reports = []; goes = ended; none_stops = tt; counted = none; listed = refl })
 
-  module _ (old now : Hardware) (progress : Progress) (going : IsGoing old now progress) where
+  module _ (old now : GuidedHardware) (progress : Progress) (going : IsGoing old now progress) where
     pub going-bounded : IsBounded progress
     going-bounded = subst IsBounded (sym going.1.counted) (progress-bounded going.1.reports)
 
@@ -73,20 +74,20 @@ module _ (arrivals : List Arrival) where
     so_many_going n is = sym (ap (λ (p : Progress). p.cycles) going.1.counted) ∙ is
 
     -- it ended between two cycles
-    pub ends_by_limit : (limit : ℕ) → progress.cycles ≡ limit → IsStop limit going.1.reports now stop.Limit
+    pub ends_by_limit : (limit : ℕ) → progress.cycles ≡ limit → IsStop limit going.1.reports now.hardware stop.Limit
     ends_by_limit limit is = (going.1.none_stops, so_many_going limit is)
 
-    pub ends_exhausted : (limit : ℕ) → progress.cycles < limit → now.cycle ≡ 2 ^ 40 → IsStop limit going.1.reports now stop.Exhausted
+    pub ends_exhausted : (limit : ℕ) → progress.cycles < limit → now.hardware.cycle ≡ 2 ^ 40 → IsStop limit going.1.reports now.hardware stop.Exhausted
     ends_exhausted limit within is = (going.1.none_stops, omega (arith, so_many_going progress.cycles refl, within), is)
 
-    pub gone_to_limit : (limit : ℕ) → progress.cycles ≡ limit → (reports : List Report) × Cycles arrivals old reports now × IsStop limit reports now stop.Limit
+    pub gone_to_limit : (limit : ℕ) → progress.cycles ≡ limit → (reports : List Report) × GuidedCycles arrivals old reports now × IsStop limit reports now.hardware stop.Limit
     gone_to_limit limit is = (going.1.reports, going.1.goes, ends_by_limit limit is)
 
-    pub gone_to_exhaustion : (limit : ℕ) → progress.cycles < limit → now.cycle ≡ 2 ^ 40 → (reports : List Report) × Cycles arrivals old reports now × IsStop limit reports now stop.Exhausted
+    pub gone_to_exhaustion : (limit : ℕ) → progress.cycles < limit → now.hardware.cycle ≡ 2 ^ 40 → (reports : List Report) × GuidedCycles arrivals old reports now × IsStop limit reports now.hardware stop.Exhausted
     gone_to_exhaustion limit within is = (going.1.reports, going.1.goes, ends_exhausted limit within is)
 
     -- one more cycle
-    module _ (new : Hardware) (steps steps' : List Step) (progress' : Progress) (reason : Option Stop) (next : IsNextCycle arrivals now new steps steps' progress progress' reason) where
+    module _ (new : GuidedHardware) (steps steps' : List Step) (progress' : Progress) (reason : Option Stop) (next : IsNextCycle arrivals now new steps steps' progress progress' reason) where
       abbrev pub going_on : reason ≡ None → IsGoing old new progress'
       going_on goes = (
         going.0 ++ next.report.steps,
@@ -102,41 +103,41 @@ module _ (arrivals : List Arrival) where
       pub one_more : progress'.cycles ≡ progress.cycles + 1
       one_more = ap (λ (p : Progress). p.cycles) next.counted
 
-      pub stopped : (limit : ℕ) (why : Stop) → reason ≡ Some why → progress.cycles < limit → IsStop limit (going.1.reports ++ next.report ∷ []) new why
+      pub stopped : (limit : ℕ) (why : Stop) → reason ≡ Some why → progress.cycles < limit → IsStop limit (going.1.reports ++ next.report ∷ []) new.hardware why
       stopped limit why is within =
-          is_stop limit going.1.reports next.report new why going.1.none_stops (next.stop_is ∙ is) (subst IsCommitStop is next.reason) (omega (arith, so_many_going progress.cycles refl, within))
+          is_stop limit going.1.reports next.report new.hardware why going.1.none_stops (next.stop_is ∙ is) (subst IsCommitStop is next.reason) (omega (arith, so_many_going progress.cycles refl, within))
 
-      pub gone_to_stop : (limit : ℕ) (why : Stop) → reason ≡ Some why → progress.cycles < limit → (reports : List Report) × Cycles arrivals old reports new × IsStop limit reports new why
+      pub gone_to_stop : (limit : ℕ) (why : Stop) → reason ≡ Some why → progress.cycles < limit → (reports : List Report) × GuidedCycles arrivals old reports new × IsStop limit reports new.hardware why
       gone_to_stop limit why is within =
           (reports_now arrivals old now new progress going.0 next.report going.1 next.cycle, goes_now arrivals old now new progress going.0 next.report going.1 next.cycle, stopped limit why is within)
 
   -- the cycles so far, with what became of the instructions in them
-  pub record IsFollowing (old now : Hardware) (progress : Progress) (table : Passages) : Type 0 where
+  pub record IsFollowing (old now : GuidedHardware) (progress : Progress) (table : Passages) : Type 0 where
     pub going : IsGoing old now progress
     pub follows : Follows arrivals old going.1.reports now table
     pub fetched : table.fetched ≤ 288 * (progress.cycles + 1)
     pub retired : table.retired ≤ 8 * progress.cycles
 
-  pub following_nothing : (h : Hardware) (progress : Progress) (table : Passages) → progress ≡ progress_of [] → table ≡ table_at h → length table.rows ≤ 288 → IsFollowing h h progress table
+  pub following_nothing : (h : GuidedHardware) (progress : Progress) (table : Passages) → progress ≡ progress_of [] → table ≡ table_at h.hardware → length table.rows ≤ 288 → IsFollowing h h progress table
   following_nothing h progress table none is few =
-      let rows : length (numbered_from 0 (in_flight h)) ≤ 288 = subst (λ (t : Passages). length t.rows ≤ 288) is few in
+      let rows : length (numbered_from 0 (in_flight h.hardware)) ≤ 288 = subst (λ (t : Passages). length t.rows ≤ 288) is few in
       record {
         going = going_nowhere h progress none;
         follows = subst (λ (t : Passages). Follows arrivals h [] h t) (sym is) begun;
-        fetched = omega (arith, ap (λ (t : Passages). t.fetched) is, length-numbered_from 0 (in_flight h), rows);
+        fetched = omega (arith, ap (λ (t : Passages). t.fetched) is, length-numbered_from 0 (in_flight h.hardware), rows);
         retired = omega (arith, ap (λ (t : Passages). t.retired) is);
       }
 
-  module _ (old now : Hardware) (progress : Progress) (table : Passages) (following : IsFollowing old now progress table) where
+  module _ (old now : GuidedHardware) (progress : Progress) (table : Passages) (following : IsFollowing old now progress table) where
     -- the counts of the table can go on
-    pub can_count : now.cycle ≤ 2 ^ 40 → CanCount table
+    pub can_count : now.hardware.cycle ≤ 2 ^ 40 → CanCount table
     can_count within =
         let cycles = so_many_going old now progress following.going progress.cycles refl in
-        let count = cycles_counted following.going.1.goes in
+        let count = cycles_counted (cycles_of following.going.1.goes) in
         record { fetched = omega (arith, following.fetched, cycles, count, within); retired = omega (arith, following.retired, cycles, count, within) }
 
     -- a window that ended between two cycles
-    pub followed_to : (limit : ℕ) (window : Window) (why : Stop) → IsStop limit following.going.1.reports now why → window.first ≡ old.cycle → window.cycles ≡ progress.cycles → IsFollowed arrivals limit old now table window why
+    pub followed_to : (limit : ℕ) (window : Window) (why : Stop) → IsStop limit following.going.1.reports now.hardware why → window.first ≡ old.hardware.cycle → window.cycles ≡ progress.cycles → IsFollowed arrivals limit old now table window why
     followed_to limit window why ends first cycles = record {
       reports = following.going.1.reports;
       cycles = following.going.1.goes;
@@ -147,13 +148,13 @@ module _ (arrivals : List Arrival) where
     }
 
     -- one more cycle, whose steps the table takes
-    module _ (new : Hardware) (steps steps' done : List Step) (progress' : Progress) (reason : Option Stop) (next : IsNextCycle arrivals now new steps steps' progress progress' reason)
-        (none : steps ≡ []) (listed : done ≡ steps') (table' : Passages) (takes : table' ≡ after_cycle now.cycle done new table)
+    module _ (new : GuidedHardware) (steps steps' done : List Step) (progress' : Progress) (reason : Option Stop) (next : IsNextCycle arrivals now new steps steps' progress progress' reason)
+        (none : steps ≡ []) (listed : done ≡ steps') (table' : Passages) (takes : table' ≡ after_cycle now.hardware.cycle done new.hardware table)
         (fetched' : table'.fetched ≤ table.fetched + 288) (retired' : table'.retired ≤ table.retired + 8) where
       follows' : Follows arrivals old (following.going.1.reports ++ next.report ∷ []) new table'
       follows' =
           let steps_are : done ≡ next.report.steps = listed ∙ next.steps_are ∙ ap (λ l. l ++ next.report.steps) none in
-          subst (λ (t : Passages). Follows arrivals old (following.going.1.reports ++ next.report ∷ []) new t) (sym (takes ∙ (λ i. after_cycle now.cycle (steps_are i) new table)))
+          subst (λ (t : Passages). Follows arrivals old (following.going.1.reports ++ next.report ∷ []) new t) (sym (takes ∙ (λ i. after_cycle now.hardware.cycle (steps_are i) new.hardware table)))
           (followed following.follows next.cycle)
 
       pub following_on : reason ≡ None → IsFollowing old new progress' table'
@@ -164,7 +165,7 @@ module _ (arrivals : List Arrival) where
         retired = omega (arith, following.retired, retired', one_more old now progress following.going new steps steps' progress' reason next);
       }
 
-      pub followed_to_stop : (limit : ℕ) (window : Window) (why : Stop) → reason ≡ Some why → progress.cycles < limit → window.first ≡ old.cycle → window.cycles ≡ progress'.cycles → IsFollowed arrivals limit old new table' window why
+      pub followed_to_stop : (limit : ℕ) (window : Window) (why : Stop) → reason ≡ Some why → progress.cycles < limit → window.first ≡ old.hardware.cycle → window.cycles ≡ progress'.cycles → IsFollowed arrivals limit old new table' window why
       followed_to_stop limit window why is within first cycles =
           let going = following.going in
           record {
@@ -177,6 +178,6 @@ module _ (arrivals : List Arrival) where
           }
 
   -- the cycles of a recording end with the run
-  pub shown_to_the_end : (shows : Bool) (limit : ℕ) (reason : Stop) (old new : Hardware) (table : Passages) (window : Window) (stop : Stop) → IsShownIf shows arrivals limit reason old new table window stop → window.first + window.cycles ≡ new.cycle
-  shown_to_the_end true limit reason old new table window stop shown = omega (arith, shown.first_is, shown.cycles_are, cycles_counted shown.cycles)
-  shown_to_the_end false limit reason old new table window stop shown = omega (arith, shown.first_is, shown.cycles_are, ap (λ (h : Hardware). h.cycle) shown.none)
+  pub shown_to_the_end : (shows : Bool) (limit : ℕ) (reason : Stop) (old new : GuidedHardware) (table : Passages) (window : Window) (stop : Stop) → IsShownIf shows arrivals limit reason old new table window stop → window.first + window.cycles ≡ new.hardware.cycle
+  shown_to_the_end true limit reason old new table window stop shown = omega (arith, shown.first_is, shown.cycles_are, cycles_counted (cycles_of shown.cycles))
+  shown_to_the_end false limit reason old new table window stop shown = omega (arith, shown.first_is, shown.cycles_are, ap (λ (h : GuidedHardware). h.hardware.cycle) shown.none)

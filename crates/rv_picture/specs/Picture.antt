@@ -2,7 +2,7 @@
 use Rattle.std.specs.Prelude.{◌≡◌, ℕ, List}
 use Rattle.rv_isa.specs.declared.lines.Arrival.{Arrival}
 use Rattle.rv_arch.specs.declared.outcome.Stop.{Stop}
-use Rattle.rv_hardware.specs.Hardware.{Hardware}
+use Rattle.rv_hardware.specs.Guided.{GuidedHardware}
 use Rattle.rv_passage.specs.Table.{Passages}
 use Rattle.rv_source.specs.Listing.{Listed}
 use Rattle.rv_picture.specs.Recording.{IsRecording}
@@ -17,7 +17,7 @@ picture_of Text table listing window = text_picture table.rows table.interrupts 
 picture_of Svg table listing window = svg_picture table.rows table.interrupts listing window
 
 -- a text is the picture of the cycles after the first `from` of a run that ended for a reason
-pub record IsPicture (arrivals : List Arrival) (from limit : ℕ) (form : Form) (listing : Listed) (old new : Hardware) (stop : Stop) (text : List ℕ) : Type 0 where
+pub record IsPicture (arrivals : List Arrival) (from limit : ℕ) (form : Form) (listing : Listed) (old new : GuidedHardware) (stop : Stop) (text : List ℕ) : Type 0 where
   pub table : Passages
   pub window : Window
   pub recording : IsRecording arrivals from limit old new table window stop

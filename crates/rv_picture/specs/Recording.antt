@@ -3,31 +3,31 @@ use Rattle.std.specs.Prelude.{◌≡◌, ℕ, Bool, true, false, List, length}
 use Rattle.rv_isa.specs.declared.lines.Arrival.{Arrival}
 use Rattle.rv_arch.specs.declared.outcome.Stop.{Stop}
 use Rattle.rv_arch.specs.declared.outcome.Stop.TheVariants as stop
-use Rattle.rv_hardware.specs.Hardware.{Hardware}
+use Rattle.rv_hardware.specs.Guided.{GuidedCycles, GuidedHardware}
 use Rattle.rv_hardware.specs.Report.{Report}
-use Rattle.rv_hardware.specs.Run.{Cycles, IsStop}
+use Rattle.rv_hardware.specs.Run.{IsStop}
 use Rattle.rv_passage.specs.Follows.{Follows}
 use Rattle.rv_passage.specs.Table.{Passages, table_at}
 use Rattle.rv_picture.specs.declared.window.Window.{Window}
 
--- some cycles, each with the lines of its number, and nothing else
-abbrev pub HasRun : List Arrival → Hardware → Hardware → Type 0
-HasRun arrivals old new = (reports : List Report) × Cycles arrivals old reports new
+-- some cycles that a predictor guides, each with the lines of its number, and nothing else
+abbrev pub HasRun : List Arrival → GuidedHardware → GuidedHardware → Type 0
+HasRun arrivals old new = (reports : List Report) × GuidedCycles arrivals old reports new
 
 -- cycles from some hardware on until they end for a reason, at most so many, and what became of the instructions in them
-pub record IsFollowed (arrivals : List Arrival) (limit : ℕ) (old new : Hardware) (table : Passages) (window : Window) (stop : Stop) : Type 0 where
+pub record IsFollowed (arrivals : List Arrival) (limit : ℕ) (old new : GuidedHardware) (table : Passages) (window : Window) (stop : Stop) : Type 0 where
   pub reports : List Report
-  pub cycles : Cycles arrivals old reports new
+  pub cycles : GuidedCycles arrivals old reports new
   pub follows : Follows arrivals old reports new table
-  pub stops : IsStop limit reports new stop
-  pub first_is : window.first ≡ old.cycle
+  pub stops : IsStop limit reports new.hardware stop
+  pub first_is : window.first ≡ old.hardware.cycle
   pub cycles_are : window.cycles ≡ length reports
 
--- a run that ended before its window: no cycle is shown
-pub record IsOver (reason : Stop) (old new : Hardware) (table : Passages) (window : Window) (stop : Stop) : Type 0 where
+-- a run that ended before its window: no cycle is shown, and the predictor too is as it was
+pub record IsOver (reason : Stop) (old new : GuidedHardware) (table : Passages) (window : Window) (stop : Stop) : Type 0 where
   pub none : new ≡ old
-  pub table_is : table ≡ table_at old
-  pub first_is : window.first ≡ old.cycle
+  pub table_is : table ≡ table_at old.hardware
+  pub first_is : window.first ≡ old.hardware.cycle
   pub cycles_are : window.cycles ≡ 0
   pub reason_is : stop ≡ reason
 
@@ -39,15 +39,15 @@ is_limit (stop.Stale pc) = false
 is_limit stop.Exhausted = false
 
 -- the window begins where the cycles before it ended by their limit
-abbrev pub IsShownIf : Bool → List Arrival → ℕ → Stop → Hardware → Hardware → Passages → Window → Stop → Type 0
+abbrev pub IsShownIf : Bool → List Arrival → ℕ → Stop → GuidedHardware → GuidedHardware → Passages → Window → Stop → Type 0
 IsShownIf true arrivals limit reason old new table window stop = IsFollowed arrivals limit old new table window stop
 IsShownIf false arrivals limit reason old new table window stop = IsOver reason old new table window stop
 
 -- `from` cycles, and the window after them
-pub record IsRecording (arrivals : List Arrival) (from limit : ℕ) (old new : Hardware) (table : Passages) (window : Window) (stop : Stop) : Type 0 where
+pub record IsRecording (arrivals : List Arrival) (from limit : ℕ) (old new : GuidedHardware) (table : Passages) (window : Window) (stop : Stop) : Type 0 where
   pub reports : List Report
-  pub start : Hardware
+  pub start : GuidedHardware
   pub reason : Stop
-  pub led : Cycles arrivals old reports start
-  pub stops : IsStop from reports start reason
+  pub led : GuidedCycles arrivals old reports start
+  pub stops : IsStop from reports start.hardware reason
   pub shown : IsShownIf (is_limit reason) arrivals limit reason start new table window stop

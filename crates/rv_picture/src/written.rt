@@ -1,4 +1,5 @@
 ghost use Rattle.std.specs.Prelude.{◌≡◌, ◌+◌, ◌<◌, ◌^◌, Err};
+ghost use Rattle.rv_hardware.specs.Guided.{guided};
 ghost use Rattle.rv_passage.specs.Table.{passages_of};
 ghost use Rattle.rv_picture.specs.Picture.{IsPicture, picture_of};
 ghost use Rattle.rv_picture.specs.Recording.{HasRun};
@@ -10,24 +11,26 @@ use crate::recording::{Recording, record_window};
 use crate::svg::write_picture_svg;
 use crate::text::write_picture_text;
 use rv_arch::Stop;
-use rv_core::Core;
+use rv_core::Pipeline;
+use rv_front::Predictor;
 use rv_isa::Arrivals;
 use rv_source::Listing;
 use rv_text::{ReportError, TextError};
 use std::alloc::Global;
 use std::io::Write;
 
-/// Runs a core for `from` cycles, each with the lines of its number, and then up to `limit` cycles, and writes the picture
-/// of these, with the texts of a listing. A breakpoint, a stale word or exhaustion ends the run; where that is before the
-/// window begins, no cycle is shown. Answers why the run ended.
+/// Runs a pipeline that a predictor guides for `from` cycles, each with the lines of its number, and then up to `limit`
+/// cycles, and writes the picture of these, with the texts of a listing. A breakpoint, a stale word or exhaustion ends the
+/// run; where that is before the window begins, no cycle is shown. Answers why the run ended.
 ///
 /// # Errors
 ///
-/// `Memory` when out of memory: then nothing was written, and the core stands after some of the cycles. `WriteFailed` where a write fails: then what was written is a
-/// beginning of the picture.
+/// `Memory` when out of memory: then nothing was written, and the pipeline stands after some of the cycles. `WriteFailed`
+/// where a write fails: then what was written is a beginning of the picture.
 pub fn write_picture<W: Write>(
     alloc: Global,
-    core: &mut Core,
+    pipeline: &mut Pipeline,
+    predictor: &mut dyn Predictor,
     arrivals: &Arrivals,
     from: u64,
     limit: u64,
@@ -35,14 +38,14 @@ pub fn write_picture<W: Write>(
     listing: &Listing,
     writer: &mut W,
 ) -> Result<Stop, TextError>
-    ensures written { IsText (IsPicture arrivals.now from limit form listing.now core.old core.new) result (W.contents writer.old) (W.contents writer.new) }
-    ensures run { result ≡ Err TextError.Memory → HasRun arrivals.now core.old core.new }
+    ensures written { IsText (IsPicture arrivals.now from limit form listing.now (guided pipeline.old (known predictor.old)) (guided pipeline.new (known predictor.new))) result (W.contents writer.old) (W.contents writer.new) }
+    ensures run { result ≡ Err TextError.Memory → HasRun arrivals.now (guided pipeline.old (known predictor.old)) (guided pipeline.new (known predictor.new)) }
 {
-    let Ok(recording) = record_window(alloc, core, arrivals, from, limit) else {
+    let Ok(recording) = record_window(alloc, pipeline, predictor, arrivals, from, limit) else {
         return Err(TextError::Memory);
     };
-    // No core counts more cycles than a window can number.
-    let _ = core.is_exhausted();
+    // No pipeline counts more cycles than a window can number.
+    let _ = pipeline.is_exhausted();
     match write_recording(&recording, form, listing, writer) {
         Ok(()) => Ok(recording.stop),
         Err(ReportError::WriteFailed) => Err(TextError::WriteFailed),

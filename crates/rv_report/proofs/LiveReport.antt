@@ -8,15 +8,18 @@ use Rattle.std.proofs.lemmas.Grind.{flat_map-append}
 use Rattle.std.proofs.lemmas.List.Sums.{count_by-le-length, sum_by-append}
 use Rattle.rv_isa.specs.declared.lines.Arrival.{Arrival}
 use Rattle.rv_arch.specs.declared.outcome.Stop.{Stop}
+use Rattle.rv_front.specs.declared.predictors.DescribedPredictor.{DescribedPredictor}
 use Rattle.rv_core.specs.Progress.{IsNextCycle, progress_of}
 use Rattle.rv_core.specs.Told.{IsCommitStop}
 use Rattle.rv_core.specs.declared.outcome.Progress.{Progress}
 use Rattle.rv_core.proofs.RunReports.{IsUnderWay, begins, counted_now, goes_now, goes_on, listed_now, reports_now}
 use Rattle.rv_core.proofs.RunStops.{is_stop}
+use Rattle.rv_hardware.specs.Guided.{GuidedHardware, guided}
 use Rattle.rv_hardware.specs.Hardware.{Hardware}
 use Rattle.rv_hardware.specs.Run.{IsStop, steps_of}
 use Rattle.rv_hardware.specs.Step.{is_interrupt, is_retirement, is_trap}
 use Rattle.rv_hardware.specs.declared.step.Step.{Step}
+use Rattle.rv_hardware.proofs.AnyPrediction.{cycles_of}
 use Rattle.rv_hardware.proofs.HeadlineReached.{cycles_counted}
 use Rattle.rv_report.specs.LiveReport.{IsRunReport, IsTraced, Reports}
 use Rattle.rv_report.specs.Rows.{step_line, trace_lines}
@@ -60,15 +63,15 @@ reports_in_part IsReport (Ok stop) error old new failed beginning = absurd faile
 reports_in_part IsReport (Err e) error old new failed beginning = beginning
 
 -- what is reported of a run by the values that its end hands on
-pub traced_by : {T E : Type 0} (arrivals : List Arrival) (options : Options) (old new new' : Hardware) (totals totals' : Totals) (written written' : Result T E) (before after : Option (List ℕ))
-    → new' ≡ new → totals' ≡ totals → written' ≡ written → IsTraced arrivals options old new totals written before after → IsTraced arrivals options old new' totals' written' before after
-traced_by arrivals options old new new' totals totals' written written' before after core_is totals_are written_is traced =
+pub traced_by : {T E : Type 0} (arrivals : List Arrival) (options : Options) (old : GuidedHardware) (new new' : Hardware) (predictor : Option DescribedPredictor) (totals totals' : Totals) (written written' : Result T E) (before after : Option (List ℕ))
+    → new' ≡ new → totals' ≡ totals → written' ≡ written → IsTraced arrivals options old (guided new predictor) totals written before after → IsTraced arrivals options old (guided new' predictor) totals' written' before after
+traced_by arrivals options old new new' predictor totals totals' written written' before after core_is totals_are written_is traced =
     rw (core_is, totals_are, written_is) traced
 
 -- the report of a run whose trace was written
-module _ {T E : Type 0} (arrivals : List Arrival) (options : Options) (old new : Hardware) (totals : Totals) (written : Result T E) (before mid : Option (List ℕ)) (traced : IsTraced arrivals options old new totals written before mid) where
+module _ {T E : Type 0} (arrivals : List Arrival) (options : Options) (old new : GuidedHardware) (totals : Totals) (written : Result T E) (before mid : Option (List ℕ)) (traced : IsTraced arrivals options old new totals written before mid) where
   abbrev text : List ℕ
-  text = trace_of options.trace (steps_of traced.reports) ++ end_of totals new options
+  text = trace_of options.trace (steps_of traced.reports) ++ end_of totals new.hardware options
 
   is_run_report : IsRunReport arrivals options old totals.stop text
   unfolding run_report
@@ -77,7 +80,7 @@ module _ {T E : Type 0} (arrivals : List Arrival) (options : Options) (old new :
     new = new;
     cycles = traced.cycles;
     stops = traced.stops;
-    text_is = ap (λ (t : Totals). trace_of options.trace (steps_of traced.reports) ++ end_of t new options) traced.totals_are;
+    text_is = ap (λ (t : Totals). trace_of options.trace (steps_of traced.reports) ++ end_of t new.hardware options) traced.totals_are;
   }
 
   trace_when : (ended : Result T E) → written ≡ ended → IsWritten ended before mid (trace_of options.trace (steps_of traced.reports))
@@ -85,10 +88,10 @@ module _ {T E : Type 0} (arrivals : List Arrival) (options : Options) (old new :
 
   -- the trace was written whole, and then the rest, or a beginning of it
   module _ (done : T) (is : written ≡ Ok done) (after : Option (List ℕ)) where
-    pub written_whole : Appends mid after (end_of totals new options) → (text : List ℕ) × IsRunReport arrivals options old totals.stop text × Appends before after text
+    pub written_whole : Appends mid after (end_of totals new.hardware options) → (text : List ℕ) × IsRunReport arrivals options old totals.stop text × Appends before after text
     written_whole rest = (text, is_run_report, Appends-both before mid after _ _ (trace_when (Ok done) is) rest)
 
-    pub written_to_the_end : AppendsBeginning mid after (end_of totals new options) → (stop : Stop) × (text : List ℕ) × IsRunReport arrivals options old stop text × AppendsBeginning before after text
+    pub written_to_the_end : AppendsBeginning mid after (end_of totals new.hardware options) → (stop : Stop) × (text : List ℕ) × IsRunReport arrivals options old stop text × AppendsBeginning before after text
     written_to_the_end rest = (totals.stop, text, is_run_report, beginning-both before mid after _ _ (trace_when (Ok done) is) rest)
 
   -- a beginning of the trace was written
@@ -97,14 +100,14 @@ module _ {T E : Type 0} (arrivals : List Arrival) (options : Options) (old new :
 
 module _ (arrivals : List Arrival) (options : Options) where
   -- the cycles so far, with their steps counted and their trace written
-  pub record IsTold {T E : Type 0} (old now : Hardware) (progress : Progress) (counts : StepCounts) (written : Result T E) (before after : Option (List ℕ)) : Type 0 where
+  pub record IsTold {T E : Type 0} (old now : GuidedHardware) (progress : Progress) (counts : StepCounts) (written : Result T E) (before after : Option (List ℕ)) : Type 0 where
     pub steps : List Step
     pub way : IsUnderWay arrivals old now progress steps
     pub few : length steps ≤ 8 * progress.cycles
     pub counted : counts ≡ counts_of steps
     pub trace : IsWritten written before after (trace_of options.trace steps)
 
-  pub told_nothing : {T E : Type 0} (h : Hardware) (progress : Progress) (counts : StepCounts) (written : Result T E) (done : T) (known : Option (List ℕ)) → progress ≡ progress_of [] → counts ≡ counts_of [] → written ≡ Ok done
+  pub told_nothing : {T E : Type 0} (h : GuidedHardware) (progress : Progress) (counts : StepCounts) (written : Result T E) (done : T) (known : Option (List ℕ)) → progress ≡ progress_of [] → counts ≡ counts_of [] → written ≡ Ok done
       → IsTold h h progress counts written known known
   told_nothing h progress counts written done known none uncounted unwritten = record {
     steps = [];
@@ -114,16 +117,16 @@ module _ (arrivals : List Arrival) (options : Options) where
     trace = subst (λ r. IsWritten r known known (trace_of options.trace [])) (sym unwritten) (Appends-same known known _ _ (sym (trace_of-none options.trace)) (Appends-nothing known));
   }
 
-  module _ {T E : Type 0} (old now : Hardware) (progress : Progress) (counts : StepCounts) (written : Result T E) (before mid : Option (List ℕ)) (told : IsTold old now progress counts written before mid) where
+  module _ {T E : Type 0} (old now : GuidedHardware) (progress : Progress) (counts : StepCounts) (written : Result T E) (before mid : Option (List ℕ)) (told : IsTold old now progress counts written before mid) where
     -- as many reports as cycles
     pub so_many_told : (n : ℕ) → progress.cycles ≡ n → length told.way.reports ≡ n
     so_many_told n is = sym (ap (λ (p : Progress). p.cycles) told.way.counted) ∙ is
 
     -- the steps of one more cycle can be counted
-    pub room_for_more : (done : List Step) → now.cycle ≤ 2 ^ 40 → length done ≤ 8 → HasRoom counts (length done)
+    pub room_for_more : (done : List Step) → now.hardware.cycle ≤ 2 ^ 40 → length done ≤ 8 → HasRoom counts (length done)
     room_for_more done within few =
         let cycles : progress.cycles ≡ length told.way.reports = ap (λ (p : Progress). p.cycles) told.way.counted in
-        let steps : length told.steps ≤ 8 * 2 ^ 40 = omega (arith, told.few, cycles, cycles_counted told.way.goes, within) in
+        let steps : length told.steps ≤ 8 * 2 ^ 40 = omega (arith, told.few, cycles, cycles_counted (cycles_of told.way.goes), within) in
         rw told.counted (record {
           retired = omega (arith, count_by-le-length is_retirement told.steps, steps, few);
           traps = omega (arith, count_by-le-length is_trap told.steps, steps, few);
@@ -131,7 +134,7 @@ module _ (arrivals : List Arrival) (options : Options) where
         })
 
     -- the run ended
-    pub told_to_the_end : (reason : Stop) → IsStop options.limit told.way.reports now reason → IsTraced arrivals options old now (totals_with progress counts reason) written before mid
+    pub told_to_the_end : (reason : Stop) → IsStop options.limit told.way.reports now.hardware reason → IsTraced arrivals options old now (totals_with progress counts reason) written before mid
     told_to_the_end reason stops =
         let way = told.way in
         record {
@@ -143,7 +146,7 @@ module _ (arrivals : List Arrival) (options : Options) where
         }
 
     -- one more cycle, whose steps are counted and written
-    module _ (new : Hardware) (cleared list done : List Step) (progress' : Progress) (counts' : StepCounts) (written' : Result T E) (after : Option (List ℕ)) (stop : Option Stop)
+    module _ (new : GuidedHardware) (cleared list done : List Step) (progress' : Progress) (counts' : StepCounts) (written' : Result T E) (after : Option (List ℕ)) (stop : Option Stop)
         (none : cleared ≡ []) (next : IsNextCycle arrivals now new cleared list progress progress' stop) (listed : done ≡ list)
         (counted : counts' ≡ both_counts counts (counts_of done)) (wrote : IsWritten written' before after (trace_of options.trace told.steps ++ trace_of options.trace done)) where
       steps_are : done ≡ next.report.steps
@@ -173,7 +176,7 @@ module _ (arrivals : List Arrival) (options : Options) where
           record {
             reports = reports_now arrivals old now new progress told.steps next.report way next.cycle;
             cycles = goes_now arrivals old now new progress told.steps next.report way next.cycle;
-            stops = is_stop options.limit way.reports next.report new reason way.none_stops (next.stop_is ∙ is) (subst IsCommitStop is next.reason) within;
+            stops = is_stop options.limit way.reports next.report new.hardware reason way.none_stops (next.stop_is ∙ is) (subst IsCommitStop is next.reason) within;
             totals_are = λ i. totals_with (progress_now i) ((counts_are ∙ ap counts_of steps_now) i) reason;
             trace = subst (λ steps. IsWritten written' before after (trace_of options.trace steps)) steps_now trace_is;
           }

@@ -2,9 +2,9 @@
 use Rattle.std.specs.Prelude.{◌≡◌, ℕ, List, [], ◌∷◌, ◌++◌, codes}
 use Rattle.std.specs.List.{enumerate_from, flat_map}
 use Rattle.rv_isa.specs.declared.lines.Arrival.{Arrival}
-use Rattle.rv_hardware.specs.Hardware.{Hardware}
+use Rattle.rv_hardware.specs.Guided.{GuidedCycles, GuidedHardware}
 use Rattle.rv_hardware.specs.Report.{Report}
-use Rattle.rv_hardware.specs.Run.{Cycles, IsStop}
+use Rattle.rv_hardware.specs.Run.{IsStop}
 use Rattle.rv_report.specs.State.{stop_text}
 use Rattle.rv_report.specs.Totals.{totals_at}
 use Rattle.rv_report.specs.declared.totals.Totals.{Totals}
@@ -12,12 +12,12 @@ use Rattle.rv_text.specs.ReadField.{cell_text}
 use Rattle.rv_text.specs.declared.fields.Value.{Value}
 use Rattle.rv_text.specs.declared.fields.Value.TheVariants.{Count, Ratio}
 
--- a run of some hardware, up to a limit of cycles, came to these totals
-pub record RunsTo (arrivals : List Arrival) (limit : ℕ) (old : Hardware) (totals : Totals) : Type 0 where
+-- a run of some hardware that a predictor guides, up to a limit of cycles, came to these totals
+pub record RunsTo (arrivals : List Arrival) (limit : ℕ) (old : GuidedHardware) (totals : Totals) : Type 0 where
   pub reports : List Report
-  pub new : Hardware
-  pub cycles : Cycles arrivals old reports new
-  pub stops : IsStop limit reports new totals.stop
+  pub new : GuidedHardware
+  pub cycles : GuidedCycles arrivals old reports new
+  pub stops : IsStop limit reports new.hardware totals.stop
   pub totals_are : totals ≡ totals_at reports totals.stop
 
 -- the names of the columns

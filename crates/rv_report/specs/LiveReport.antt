@@ -3,9 +3,9 @@ use Rattle.std.specs.Prelude.{◌≡◌, List, ℕ, Option, Result, Ok, Err}
 use Rattle.std.specs.Io.KnownBytes.{Appends}
 use Rattle.rv_isa.specs.declared.lines.Arrival.{Arrival}
 use Rattle.rv_arch.specs.declared.outcome.Stop.{Stop}
-use Rattle.rv_hardware.specs.Hardware.{Hardware}
+use Rattle.rv_hardware.specs.Guided.{GuidedCycles, GuidedHardware}
 use Rattle.rv_hardware.specs.Report.{Report}
-use Rattle.rv_hardware.specs.Run.{Cycles, IsStop, steps_of}
+use Rattle.rv_hardware.specs.Run.{IsStop, steps_of}
 use Rattle.rv_hardware.specs.Seen.{layout_of, seen}
 use Rattle.rv_report.specs.RunReport.{run_report, trace_of}
 use Rattle.rv_report.specs.Totals.{totals_at}
@@ -13,20 +13,20 @@ use Rattle.rv_text.specs.Written.{AppendsBeginning, IsWritten}
 use Rattle.rv_report.specs.declared.{options.Options.Options, totals.Totals.Totals}
 
 -- cycles that ended, with what they came to, and with their trace, where it is asked for, written
-pub record IsTraced {T E : Type 0} (arrivals : List Arrival) (options : Options) (old new : Hardware) (totals : Totals) (written : Result T E) (before after : Option (List ℕ)) : Type 0 where
+pub record IsTraced {T E : Type 0} (arrivals : List Arrival) (options : Options) (old new : GuidedHardware) (totals : Totals) (written : Result T E) (before after : Option (List ℕ)) : Type 0 where
   pub reports : List Report
-  pub cycles : Cycles arrivals old reports new
-  pub stops : IsStop options.limit reports new totals.stop
+  pub cycles : GuidedCycles arrivals old reports new
+  pub stops : IsStop options.limit reports new.hardware totals.stop
   pub totals_are : totals ≡ totals_at reports totals.stop
   pub trace : IsWritten written before after (trace_of options.trace (steps_of reports))
 
 -- A text is the report of a run that ended for a reason.
-pub record IsRunReport (arrivals : List Arrival) (options : Options) (old : Hardware) (stop : Stop) (text : List ℕ) : Type 0 where
+pub record IsRunReport (arrivals : List Arrival) (options : Options) (old : GuidedHardware) (stop : Stop) (text : List ℕ) : Type 0 where
   pub reports : List Report
-  pub new : Hardware
-  pub cycles : Cycles arrivals old reports new
-  pub stops : IsStop options.limit reports new stop
-  pub text_is : text ≡ run_report (steps_of reports) (totals_at reports stop) (layout_of new.values) (seen new) new.lines options
+  pub new : GuidedHardware
+  pub cycles : GuidedCycles arrivals old reports new
+  pub stops : IsStop options.limit reports new.hardware stop
+  pub text_is : text ≡ run_report (steps_of reports) (totals_at reports stop) (layout_of new.hardware.values) (seen new.hardware) new.hardware.lines options
 
 -- One of the reports that may come is written, and why its run ended is answered, or a beginning of one is written.
 abbrev pub Reports : {E : Type 0} → (Stop → List ℕ → Type 0) → Result Stop E → Option (List ℕ) → Option (List ℕ) → Type 0

@@ -1,4 +1,5 @@
 ghost use Rattle.std.specs.Prelude.{◌≡◌, ◌≤◌, ℕ, List, [], ◌++◌, Option, Ok, length, vec_capacity};
+ghost use Rattle.rv_hardware.specs.Guided.{guided};
 ghost use Rattle.rv_report.specs.Comparison.{RunsTo};
 ghost use Rattle.rv_report.specs.LiveReport.{IsRunReport, IsTraced, Reports};
 ghost use Rattle.rv_report.specs.RunReport.{trace_of};
@@ -9,7 +10,8 @@ use crate::options::Options;
 use crate::run_report::{write_totals, write_trace};
 use crate::totals::{StepCounts, Totals};
 use rv_arch::Stop;
-use rv_core::{Core, Progress};
+use rv_core::{Pipeline, Progress};
+use rv_front::Predictor;
 use rv_hardware::Step;
 use rv_isa::Arrivals;
 use rv_text::ReportError;
@@ -47,41 +49,50 @@ impl Trace {
     }
 }
 
-// A core at the end of a run, what the run came to, and whether its trace was written.
+// A pipeline at the end of a run, what the run came to, and whether its trace was written.
 #[derive(Drop)]
 struct Traced {
-    core: Core,
+    pipeline: Pipeline,
     totals: Totals,
     written: Result<(), ReportError>,
 }
 
-/// Runs a core, each cycle with the lines of its number, up to a breakpoint, a stale word, exhaustion or the options' limit
-/// of cycles, and writes the report of the run: where a trace is asked for, the lines of a cycle's steps after the cycle.
-/// `steps` is a list with room for the eight steps of a cycle. Asks for no memory. Answers why the run ended.
+/// Runs a pipeline that a predictor guides, each cycle with the lines of its number, up to a breakpoint, a stale word,
+/// exhaustion or the options' limit of cycles, and writes the report of the run: where a trace is asked for, the lines
+/// of a cycle's steps after the cycle. `steps` is a list with room for the eight steps of a cycle. Asks for no memory.
+/// Answers why the run ended.
 ///
 /// Fails by `WriteFailed` alone, and what was written is then a beginning of the report: the run is done to its end, but
 /// nothing more is written.
 pub fn write_run<W: Write>(
-    core: Core,
+    pipeline: Pipeline,
+    predictor: &mut dyn Predictor,
     arrivals: &Arrivals,
     options: &Options,
     steps: Vec<Step>,
     writer: &mut W,
 ) -> Result<Stop, ReportError>
     requires room { 8 ≤ vec_capacity steps }
-    ensures { Reports (IsRunReport arrivals.now options.now core) result (W.contents writer.old) (W.contents writer.new) }
+    ensures { Reports (IsRunReport arrivals.now options.now (guided pipeline (known predictor.old))) result (W.contents writer.old) (W.contents writer.new) }
 {
-    let run = run_traced(core, arrivals, options, steps, writer);
+    let run = run_traced(pipeline, predictor, arrivals, options, steps, writer);
     run.written?;
-    write_totals(&run.totals, &run.core, options, writer)?;
+    write_totals(&run.totals, &run.pipeline, options, writer)?;
     Ok(run.totals.stop)
 }
 
-/// Runs a core, each cycle with the lines of its number, up to a breakpoint, a stale word, exhaustion or a limit of cycles.
-/// `steps` is a list with room for the eight steps of a cycle. Asks for no memory. Answers what the run came to.
-pub fn run_totals(core: Core, arrivals: &Arrivals, limit: u64, steps: Vec<Step>) -> Totals
+/// Runs a pipeline that a predictor guides, each cycle with the lines of its number, up to a breakpoint, a stale word,
+/// exhaustion or a limit of cycles. `steps` is a list with room for the eight steps of a cycle. Asks for no memory.
+/// Answers what the run came to.
+pub fn run_totals(
+    pipeline: Pipeline,
+    predictor: &mut dyn Predictor,
+    arrivals: &Arrivals,
+    limit: u64,
+    steps: Vec<Step>,
+) -> Totals
     requires room { 8 ≤ vec_capacity steps }
-    ensures { RunsTo arrivals.now limit core result }
+    ensures { RunsTo arrivals.now limit (guided pipeline (known predictor.old)) result }
 {
     let options = Options {
         trace: false,
@@ -89,46 +100,54 @@ pub fn run_totals(core: Core, arrivals: &Arrivals, limit: u64, steps: Vec<Step>)
         dump_address: 0,
         dump_words: 0,
     };
-    let run = run_traced(core, arrivals, &options, steps, &mut io::sink());
+    let run = run_traced(
+        pipeline,
+        predictor,
+        arrivals,
+        &options,
+        steps,
+        &mut io::sink(),
+    );
     run.totals
 }
 
-// Runs a core to the end, and writes the trace, where it is asked for, as far as no write fails.
+// Runs a pipeline to the end, and writes the trace, where it is asked for, as far as no write fails.
 fn run_traced<W: Write>(
-    core: Core,
+    pipeline: Pipeline,
+    predictor: &mut dyn Predictor,
     arrivals: &Arrivals,
     options: &Options,
     steps: Vec<Step>,
     writer: &mut W,
 ) -> Traced
     requires room { 8 ≤ vec_capacity steps }
-    ensures { IsTraced arrivals.now options.now core result.core result.totals result.written (W.contents writer.old) (W.contents writer.new) }
+    ensures { IsTraced arrivals.now options.now (guided pipeline (known predictor.old)) (guided result.pipeline (known predictor.new)) result.totals result.written (W.contents writer.old) (W.contents writer.new) }
 {
-    let mut core = core;
+    let mut pipeline = pipeline;
     let mut steps = steps;
     let mut progress = Progress::new();
     let mut trace = Trace::new();
     for _ in 0..options.limit {
-        if core.is_exhausted() {
-            return finished(core, &progress, &trace, Stop::Exhausted);
+        if pipeline.is_exhausted() {
+            return finished(pipeline, &progress, &trace, Stop::Exhausted);
         }
         steps.clear();
-        let stop = progress.run_cycle(&mut core, arrivals, &mut steps);
+        let stop = progress.run_cycle(&mut pipeline, predictor, arrivals, &mut steps);
         trace.add(options.trace, steps.as_slice(), writer);
         if let Some(stop) = stop {
-            return finished(core, &progress, &trace, stop);
+            return finished(pipeline, &progress, &trace, stop);
         }
     }
-    finished(core, &progress, &trace, Stop::Limit)
+    finished(pipeline, &progress, &trace, Stop::Limit)
 }
 
-fn finished(core: Core, progress: &Progress, trace: &Trace, stop: Stop) -> Traced
-    ensures core { result.core ≡ core }
+fn finished(pipeline: Pipeline, progress: &Progress, trace: &Trace, stop: Stop) -> Traced
+    ensures pipeline { result.pipeline ≡ pipeline }
     ensures totals { result.totals ≡ totals_with progress.now trace.now.counts stop }
     ensures written { result.written ≡ trace.now.written }
 {
     Traced {
-        core,
+        pipeline,
         totals: Totals::new(progress, trace.counts, stop),
         written: trace.written,
     }

@@ -3,7 +3,7 @@ ghost use Rattle.rv_hardware.specs.Seen.{layout_of, seen};
 ghost use Rattle.rv_report.specs.Memory.{memory_line, word_seen, seen_memory_lines};
 ghost use Rattle.rv_text.specs.Written.{IsWritten};
 
-use rv_core::Core;
+use rv_core::Pipeline;
 use rv_text::{ReportError, hexadecimal, put_all};
 use std::io::Write;
 
@@ -31,14 +31,14 @@ pub(crate) fn write_word<W: Write>(
 
 // The word of memory that programs see at an address, or `None` outside RAM.
 #[tactic(auto, unfolding(crate::specs::Memory::word_seen))]
-fn word_at(core: &Core, address: u32) -> Option<u32>
-    ensures { result ≡ word_seen (layout_of core.now.values) (seen core.now).ram address }
+fn word_at(pipeline: &Pipeline, address: u32) -> Option<u32>
+    ensures { result ≡ word_seen (layout_of pipeline.now.values) (seen pipeline.now).ram address }
 {
     let bytes = [
-        core.byte(address)?,
-        core.byte(address.wrapping_add(1))?,
-        core.byte(address.wrapping_add(2))?,
-        core.byte(address.wrapping_add(3))?,
+        pipeline.byte(address)?,
+        pipeline.byte(address.wrapping_add(1))?,
+        pipeline.byte(address.wrapping_add(2))?,
+        pipeline.byte(address.wrapping_add(3))?,
     ];
     Some(u32::from_le_bytes(bytes))
 }
@@ -46,15 +46,15 @@ fn word_at(core: &Core, address: u32) -> Option<u32>
 /// Writes so many words of the core's memory from an address on.
 pub(crate) fn write_memory<W: Write>(
     writer: &mut W,
-    core: &Core,
+    pipeline: &Pipeline,
     address: u32,
     words: u32,
 ) -> Result<(), ReportError>
-    ensures { IsWritten result (W.contents writer.old) (W.contents writer.new) (seen_memory_lines (layout_of core.now.values) (seen core.now).ram address words) }
+    ensures { IsWritten result (W.contents writer.old) (W.contents writer.new) (seen_memory_lines (layout_of pipeline.now.values) (seen pipeline.now).ram address words) }
 {
     for number in 0..words {
         let place = address.wrapping_add(number.wrapping_mul(4));
-        write_word(writer, place, word_at(core, place))?;
+        write_word(writer, place, word_at(pipeline, place))?;
     }
     Ok(())
 }

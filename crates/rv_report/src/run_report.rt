@@ -8,7 +8,7 @@ use crate::options::Options;
 use crate::rows::write_steps;
 use crate::state::{write_state, write_stop};
 use crate::totals::Totals;
-use rv_core::{Core, Outcome};
+use rv_core::{Core, Outcome, Pipeline};
 use rv_hardware::Step;
 use rv_text::{Field, ReportError, Value, write_fields};
 use std::io::Write;
@@ -77,12 +77,16 @@ fn write_counts<W: Write>(writer: &mut W, totals: &Totals) -> Result<(), ReportE
 }
 
 // Why a run ended, its counts, and the state that it left, but for memory.
-fn write_end<W: Write>(writer: &mut W, totals: &Totals, core: &Core) -> Result<(), ReportError>
-    ensures { IsWritten result (W.contents writer.old) (W.contents writer.new) (end_lines totals.now (seen core.now) core.now.lines) }
+fn write_end<W: Write>(
+    writer: &mut W,
+    totals: &Totals,
+    pipeline: &Pipeline,
+) -> Result<(), ReportError>
+    ensures { IsWritten result (W.contents writer.old) (W.contents writer.new) (end_lines totals.now (seen pipeline.now) pipeline.now.lines) }
 {
     write_stop(writer, totals.stop)?;
     write_counts(writer, totals)?;
-    write_state(writer, &core.observe())
+    write_state(writer, &pipeline.observe())
 }
 
 /// Writes what the report of a run shows after the trace: why it ended, its counts, the pc, the registers and the control
@@ -90,14 +94,14 @@ fn write_end<W: Write>(writer: &mut W, totals: &Totals, core: &Core) -> Result<(
 /// alone, and what was written is then a beginning of that text.
 pub fn write_totals<W: Write>(
     totals: &Totals,
-    core: &Core,
+    pipeline: &Pipeline,
     options: &Options,
     writer: &mut W,
 ) -> Result<(), ReportError>
-    ensures { IsWritten result (W.contents writer.old) (W.contents writer.new) (end_of totals.now core.now options.now) }
+    ensures { IsWritten result (W.contents writer.old) (W.contents writer.new) (end_of totals.now pipeline.now options.now) }
 {
-    write_end(writer, totals, core)?;
-    write_memory(writer, core, options.dump_address, options.dump_words)
+    write_end(writer, totals, pipeline)?;
+    write_memory(writer, pipeline, options.dump_address, options.dump_words)
 }
 
 /// Writes the lines of some steps, where a trace is asked for. Asks for no memory. Fails by `WriteFailed` alone, and what
@@ -124,5 +128,5 @@ pub fn write_report<W: Write>(
     ensures { IsWritten result (W.contents writer.old) (W.contents writer.new) (report_of outcome.now core.now options.now) }
 {
     write_trace(writer, options.trace, outcome.steps.as_slice())?;
-    write_totals(&Totals::of(outcome), core, options, writer)
+    write_totals(&Totals::of(outcome), core.pipeline(), options, writer)
 }

@@ -1,10 +1,20 @@
 -- Jobs that are run one after the other.
-use Rattle.std.proofs.Common.{◌≡◌, ◌∙◌, ℕ, ◌+◌, ◌<◌, List, [], ◌∷◌, ◌++◌, length, take, get_or, sym, ap, subst, arith}
+use Rattle.std.proofs.Common.{◌≡◌, ◌∙◌, ℕ, ◌+◌, ◌<◌, List, [], ◌∷◌, ◌++◌, Option, length, take, get_or, sym, ap, subst, arith}
 use Rattle.std.proofs.lemmas.List.{take_all, take_more}
+use Rattle.rv_isa.specs.declared.lines.Arrival.{Arrival}
+use Rattle.rv_front.specs.declared.predictors.DescribedPredictor.{DescribedPredictor}
+use Rattle.rv_hardware.specs.Guided.{guided}
+use Rattle.rv_hardware.specs.Hardware.{Hardware}
 use Rattle.rv_job.specs.declared.{comparison.Comparison.Comparison, job.Job.Job}
-use Rattle.rv_report.specs.Comparison.{table_of}
+use Rattle.rv_report.specs.Comparison.{RunsTo, table_of}
 use Rattle.rv_report.specs.declared.totals.Totals.{Totals}
 use Rattle.rv_sim.specs.Comparison.{AreRuns, IsComparisonTable, IsRun}
+
+-- a run from the same hardware with the same predictor
+pub runs_from : {arrivals : List Arrival} {limit : ℕ} {totals : Totals} {h h' : Hardware} {predictor predictor' : Option DescribedPredictor} → h ≡ h' → predictor ≡ predictor'
+    → RunsTo arrivals limit (guided h predictor) totals → RunsTo arrivals limit (guided h' predictor') totals
+runs_from {arrivals} {limit} {totals} {h' = h'} {predictor = predictor} same known runs =
+    subst (λ p. RunsTo arrivals limit (guided h' p) totals) known (subst (λ h. RunsTo arrivals limit (guided h predictor) totals) same runs)
 
 -- one more run
 pub run_more : (limit : ℕ) (jobs : List Job) (place : ℕ) → place < length jobs → (runs : List Totals) → AreRuns limit (take place jobs) runs

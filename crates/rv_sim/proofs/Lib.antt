@@ -5,3 +5,5 @@ mod Flushed
 mod LinesAfter
 mod Referred
 mod Simulated
+pub mod OneReport
+pub mod Viewed

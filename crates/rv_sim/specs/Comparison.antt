@@ -3,11 +3,11 @@ use Rattle.std.specs.Prelude.{◌≡◌, ℕ, List, [], ◌∷◌, ◌++◌}
 use Rattle.rv_job.specs.declared.{comparison.Comparison.Comparison, job.Job.Job}
 use Rattle.rv_report.specs.Comparison.{RunsTo, table_of}
 use Rattle.rv_report.specs.declared.totals.Totals.{Totals}
-use Rattle.rv_sim.specs.CoreReport.{hardware_of}
+use Rattle.rv_sim.specs.CoreReport.{core_of, untaught_of}
 
--- a run of the hardware that a job describes, from reset with its image, came to these totals
+-- a run of the hardware that a job describes, with the predictor that it describes, from reset with its image, came to these totals
 abbrev pub IsRun : ℕ → Job → Totals → Type 0
-IsRun limit job totals = RunsTo job.arrivals limit (hardware_of job) totals
+IsRun limit job totals = RunsTo job.arrivals limit (core_of job (untaught_of job.description.predictor)) totals
 
 -- runs of some jobs came to these totals, in the jobs' order
 pub data AreRuns (limit : ℕ) : List Job → List Totals → Type 0 where

@@ -3,7 +3,8 @@ use Rattle.std.specs.Prelude.{◌≡◌, ◌⊎◌, ℕ, List, Option, Result}
 use Rattle.rv_job.specs.Fault.{exit_status, fault_line, fault_status, input_fault_line, input_fault_status}
 use Rattle.rv_job.specs.FaultStream.{FaultStream, Tells, TellsOf, TellsWantOfMemory}
 use Rattle.rv_job.specs.Input.{IsInputOf}
-use Rattle.rv_sim.specs.Task.{Asks, Ends, Refuses}
+use Rattle.rv_sim.specs.CoreReport.{untaught_of}
+use Rattle.rv_sim.specs.Task.{Asks, Ends, Refuses, predictor_of}
 use Rattle.rv_command.specs.declared.command.Command.{Command}
 use Rattle.rv_job.specs.declared.{errors.SimError.SimError, input.InputError.InputError}
 use Rattle.rv_sim.specs.declared.task.Task.{Task}
@@ -17,11 +18,11 @@ abbrev pub IsRefused : Command → List ℕ → FaultStream → FaultStream → 
 IsRefused command input old new status =
     (error : SimError) × Refuses command input error × Tells old new (fault_line error) × (status ≡ fault_status error)
 
--- a task was done, or failed, which is told; memory for the predictor of its machine may be refused before
+-- a task was done with the predictor of its machine, or failed, which is told; memory for the predictor of its machine may be refused before
 abbrev pub EndsWithin : Task → Option (List ℕ) → Option (List ℕ) → FaultStream → FaultStream → ℕ → Type 0
 EndsWithin task old-output new-output old new status =
     TellsWantOfMemory old-output new-output old new status
-    ⊎ ((outcome : Result ℕ SimError) × Ends task old-output new-output outcome × TellsOf old new outcome × (status ≡ exit_status outcome))
+    ⊎ ((outcome : Result ℕ SimError) × Ends task (untaught_of (predictor_of task)) old-output new-output outcome × TellsOf old new outcome × (status ≡ exit_status outcome))
 
 -- what the command asks of the input was done, or failed
 abbrev pub IsEnded : Command → List ℕ → Option (List ℕ) → Option (List ℕ) → FaultStream → FaultStream → ℕ → Type 0

@@ -5,6 +5,7 @@ use Rattle.rv_arch.specs.declared.outcome.Stop.{Stop}
 use Rattle.rv_arch.specs.declared.outcome.Stop.TheVariants.{Stale}
 use Rattle.rv_command.specs.declared.command.Command.{Command}
 use Rattle.rv_command.specs.declared.command.Command.TheVariants as command
+use Rattle.rv_front.specs.declared.predictors.DescribedPredictor.{DescribedPredictor}
 use Rattle.rv_isa.specs.Standard.{standard_values}
 use Rattle.rv_isa.specs.declared.values.PredictorValues.{PredictorValues}
 use Rattle.rv_job.specs.Comparison.{IsComparisonOf, RefusesComparison}
@@ -77,29 +78,29 @@ unfoldable pub stop_status : Stop → ℕ
 stop_status (Stale pc) = 3
 stop_status _ = 0
 
--- the text of a task that was done, and the exit status
-abbrev pub Shows : Task → List ℕ → ℕ → Type 0
-Shows (Run job options) text status =
-    (stop : Stop) × IsSimulation job options stop text × (status ≡ stop_status stop)
-Shows (Reference job options) text status =
+-- the text of a task that was done with a predictor, and the exit status
+abbrev pub Shows : Task → Option DescribedPredictor → List ℕ → ℕ → Type 0
+Shows (Run job options) predictor text status =
+    (stop : Stop) × IsSimulation job predictor options stop text × (status ≡ stop_status stop)
+Shows (Reference job options) predictor text status =
     (stop : Stop) × IsReferenceReport job options stop text × (status ≡ stop_status stop)
-Shows (Check made) text status = (text ≡ image_line (length made.image.bytes) made.image.start) × (status ≡ 0)
-Shows (Picture listed view) text status =
-    (stop : Stop) × IsPictureOf listed view stop text × (status ≡ stop_status stop)
-Shows (Log listed limit) text status =
-    (stop : Stop) × IsLogOf listed limit stop text × (status ≡ stop_status stop)
-Shows (Explain listed limit) text status =
-    (stop : Stop) × IsExplanationOf listed limit stop text × (status ≡ stop_status stop)
-Shows (Compare comparison limit) text status = IsComparisonTable comparison limit text × (status ≡ 0)
+Shows (Check made) predictor text status = (text ≡ image_line (length made.image.bytes) made.image.start) × (status ≡ 0)
+Shows (Picture listed view) predictor text status =
+    (stop : Stop) × IsPictureOf listed predictor view stop text × (status ≡ stop_status stop)
+Shows (Log listed limit) predictor text status =
+    (stop : Stop) × IsLogOf listed predictor limit stop text × (status ≡ stop_status stop)
+Shows (Explain listed limit) predictor text status =
+    (stop : Stop) × IsExplanationOf listed predictor limit stop text × (status ≡ stop_status stop)
+Shows (Compare comparison limit) predictor text status = IsComparisonTable comparison limit text × (status ≡ 0)
 
 -- a task asks for memory, but for one that only says which image a job makes
 abbrev pub AsksForMemory : Task → Type 0
 AsksForMemory (Check made) = ⊥
 AsksForMemory _ = ⊤
 
--- A task ended so: with an exit status and its text whole, or by an error. The known bytes of its output go from old to new.
-abbrev pub Ends : Task → Option (List ℕ) → Option (List ℕ) → Result ℕ SimError → Type 0
-Ends task old new (Ok status) = (text : List ℕ) × Shows task text status × Appends old new text
-Ends task old new (Err WriteFailed) = (text : List ℕ) × (status : ℕ) × Shows task text status × AppendsBeginning old new text
-Ends task old new (Err Memory) = AsksForMemory task × Keeps old new
-Ends task old new (Err _) = ⊥
+-- A task ended so, with a predictor: with an exit status and its text whole, or by an error. The known bytes of its output go from old to new.
+abbrev pub Ends : Task → Option DescribedPredictor → Option (List ℕ) → Option (List ℕ) → Result ℕ SimError → Type 0
+Ends task predictor old new (Ok status) = (text : List ℕ) × Shows task predictor text status × Appends old new text
+Ends task predictor old new (Err WriteFailed) = (text : List ℕ) × (status : ℕ) × Shows task predictor text status × AppendsBeginning old new text
+Ends task predictor old new (Err Memory) = AsksForMemory task × Keeps old new
+Ends task predictor old new (Err _) = ⊥

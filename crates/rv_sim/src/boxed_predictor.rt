@@ -1,6 +1,6 @@
-ghost use Rattle.std.specs.Prelude.{◌≡◌, IfOk};
+ghost use Rattle.std.specs.Prelude.{◌≡◌, IfOk, Some};
 ghost use Rattle.rv_isa.specs.Description.{IsLegalPredictor};
-ghost use Rattle.rv_front.specs.Predictors.{described};
+ghost use Rattle.rv_sim.specs.CoreReport.{untaught_of};
 
 use rv_front::{DescribedPredictor, Predictor};
 use rv_isa::PredictorValues;
@@ -18,7 +18,7 @@ pub(crate) fn boxed(
     values: PredictorValues,
 ) -> Result<Box<DescribedPredictor>, AllocError>
     requires { IsLegalPredictor values }
-    ensures { IfOk result (λ predictor. predictor.value ≡ described values.kind values.entries) }
+    ensures { IfOk result (λ predictor. Some predictor.value ≡ untaught_of values) }
 {
     let predictor = DescribedPredictor::new(alloc, values.kind, values.entries)?;
     Ok(Box::new(alloc, predictor)?)

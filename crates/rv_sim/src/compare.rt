@@ -1,32 +1,57 @@
 ghost use Rattle.std.specs.Prelude.{◌≡◌, IfOk, IfErr};
 ghost use Rattle.rv_sim.specs.Answer.{IsAnswer};
 ghost use Rattle.rv_sim.specs.Comparison.{AreRuns, IsComparisonTable, IsRun};
+ghost use Rattle.rv_sim.specs.CoreReport.{untaught_of};
 
 use crate::boxed_predictor::{BoxedPredictor, boxed};
-use rv_core::Core;
+use rv_core::Pipeline;
+use rv_isa::PredictorValues;
 use rv_job::{Comparison, Job, SimError};
 use rv_report::{Totals, run_totals, write_table};
 use std::alloc::Global;
 use std::io::Write;
 
-// Runs a job on the core that it describes, with the predictor that it describes, up to a breakpoint, a stale word or a
-// limit of cycles.
+// Runs a job on the core that it describes, guided by a predictor that is the described one, up to a breakpoint, a stale
+// word or a limit of cycles.
+fn run_guided(
+    alloc: Global,
+    job: &Job,
+    values: PredictorValues,
+    predictor: BoxedPredictor,
+    limit: u64,
+) -> Result<Totals, SimError>
+    requires described { known predictor.predictor ≡ untaught_of values }
+    requires own { values ≡ job.now.description.predictor }
+    ensures totals { IfOk result (IsRun limit job.now) }
+    ensures errors { IfErr result (λ e. e ≡ SimError.Memory) }
+{
+    // The image of a job fits, so that memory alone can be wanting.
+    let Ok(pipeline) = Pipeline::new(alloc, &job.description, &job.image) else {
+        return Err(SimError::Memory);
+    };
+    let Ok(steps) = Vec::with_capacity(alloc, 8) else {
+        return Err(SimError::Memory);
+    };
+    let mut predictor = predictor;
+    Ok(run_totals(
+        pipeline,
+        &mut *predictor.predictor,
+        &job.arrivals,
+        limit,
+        steps,
+    ))
+}
+
+// Runs a job with the predictor that it describes.
 fn run_one(alloc: Global, job: &Job, limit: u64) -> Result<Totals, SimError>
     ensures totals { IfOk result (IsRun limit job.now) }
     ensures errors { IfErr result (λ e. e ≡ SimError.Memory) }
 {
-    let Ok(predictor) = boxed(alloc, job.description.values().predictor) else {
-        return Err(SimError::Memory);
-    };
-    let predictor = BoxedPredictor { predictor };
-    let Ok(steps) = Vec::with_capacity(alloc, 8) else {
-        return Err(SimError::Memory);
-    };
-    // The image of a job fits, so that memory alone can be wanting.
-    let Ok(core) = Core::new(alloc, &job.description, &job.image, predictor.predictor) else {
-        return Err(SimError::Memory);
-    };
-    Ok(run_totals(core, &job.arrivals, limit, steps))
+    let values = job.description.values().predictor;
+    match boxed(alloc, values) {
+        Ok(predictor) => run_guided(alloc, job, values, BoxedPredictor { predictor }, limit),
+        Err(_) => Err(SimError::Memory),
+    }
 }
 
 // Runs jobs one after the other.

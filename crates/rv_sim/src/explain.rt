@@ -4,7 +4,7 @@ ghost use Rattle.rv_sim.specs.ExplanationReport.{IsExplanationOf};
 use crate::answer::answer;
 use crate::boxed_predictor::BoxedPredictor;
 use rv_arch::Stop;
-use rv_core::Core;
+use rv_core::Pipeline;
 use rv_explain::write_explanation;
 use rv_job::{ListedJob, SimError};
 use std::alloc::Global;
@@ -22,16 +22,18 @@ pub fn explain<W: Write>(
     limit: u64,
     writer: &mut W,
 ) -> Result<Stop, SimError>
-    ensures { IsAnswer (IsExplanationOf listed.now limit) result (W.contents writer.old) (W.contents writer.new) }
+    ensures { IsAnswer (IsExplanationOf listed.now (known predictor.predictor) limit) result (W.contents writer.old) (W.contents writer.new) }
 {
     let job = &listed.job;
+    let mut predictor = predictor;
     // The image of a job fits, so that memory alone can be wanting.
-    let Ok(mut core) = Core::new(alloc, &job.description, &job.image, predictor.predictor) else {
+    let Ok(mut pipeline) = Pipeline::new(alloc, &job.description, &job.image) else {
         return Err(SimError::Memory);
     };
     let written = write_explanation(
         alloc,
-        &mut core,
+        &mut pipeline,
+        &mut *predictor.predictor,
         &job.description,
         &job.arrivals,
         limit,

@@ -4,7 +4,7 @@ ghost use Rattle.rv_sim.specs.LogReport.{IsLogOf};
 use crate::answer::answer;
 use crate::boxed_predictor::BoxedPredictor;
 use rv_arch::Stop;
-use rv_core::Core;
+use rv_core::Pipeline;
 use rv_job::{ListedJob, SimError};
 use rv_log::write_log;
 use std::alloc::Global;
@@ -22,16 +22,18 @@ pub fn log<W: Write>(
     limit: u64,
     writer: &mut W,
 ) -> Result<Stop, SimError>
-    ensures { IsAnswer (IsLogOf listed.now limit) result (W.contents writer.old) (W.contents writer.new) }
+    ensures { IsAnswer (IsLogOf listed.now (known predictor.predictor) limit) result (W.contents writer.old) (W.contents writer.new) }
 {
     let job = &listed.job;
+    let mut predictor = predictor;
     // The image of a job fits, so that memory alone can be wanting.
-    let Ok(mut core) = Core::new(alloc, &job.description, &job.image, predictor.predictor) else {
+    let Ok(mut pipeline) = Pipeline::new(alloc, &job.description, &job.image) else {
         return Err(SimError::Memory);
     };
     let written = write_log(
         alloc,
-        &mut core,
+        &mut pipeline,
+        &mut *predictor.predictor,
         &job.arrivals,
         limit,
         &listed.listing,

@@ -4,7 +4,7 @@ ghost use Rattle.rv_sim.specs.PictureReport.{IsPictureOf};
 use crate::answer::answer;
 use crate::boxed_predictor::BoxedPredictor;
 use rv_arch::Stop;
-use rv_core::Core;
+use rv_core::Pipeline;
 use rv_job::{ListedJob, SimError};
 use rv_picture::{Form, write_picture};
 use std::alloc::Global;
@@ -33,16 +33,18 @@ pub fn picture<W: Write>(
     view: &View,
     writer: &mut W,
 ) -> Result<Stop, SimError>
-    ensures { IsAnswer (IsPictureOf listed.now view.now) result (W.contents writer.old) (W.contents writer.new) }
+    ensures { IsAnswer (IsPictureOf listed.now (known predictor.predictor) view.now) result (W.contents writer.old) (W.contents writer.new) }
 {
     let job = &listed.job;
+    let mut predictor = predictor;
     // The image of a job fits, so that memory alone can be wanting.
-    let Ok(mut core) = Core::new(alloc, &job.description, &job.image, predictor.predictor) else {
+    let Ok(mut pipeline) = Pipeline::new(alloc, &job.description, &job.image) else {
         return Err(SimError::Memory);
     };
     let written = write_picture(
         alloc,
-        &mut core,
+        &mut pipeline,
+        &mut *predictor.predictor,
         &job.arrivals,
         view.from,
         view.cycles,

@@ -2,12 +2,15 @@ ghost use Rattle.std.specs.Prelude.{◌≡◌, IfOk, OnOk, IfErr};
 ghost use Rattle.rv_job.specs.Fault.{input_fault_line, input_fault_status};
 ghost use Rattle.rv_job.specs.FaultStream.{Tells};
 ghost use Rattle.rv_job.specs.Input.{IsInputOf};
+ghost use Rattle.rv_sim.specs.CoreReport.{untaught_of};
 ghost use Rattle.rv_sim.specs.Program.{EndsWithin, Runs};
+ghost use Rattle.rv_sim.specs.Task.{predictor_of};
 ghost use Rattle.rv_job.specs.declared.input.InputError.{InputError as OneError};
 
 use crate::boxed_predictor::{BoxedPredictor, boxed};
 use crate::task::{Task, begin, finish};
 use rv_command::Command;
+use rv_isa::PredictorValues;
 use rv_job::{FaultLines, SimError, read_input};
 use std::alloc::Global;
 use std::io::{Read, Write};
@@ -29,6 +32,22 @@ fn take_input<R: Read, E: Write>(
     }
 }
 
+// Does a task with a predictor that is the one of its machine.
+fn finish_guided<W: Write, E: Write>(
+    alloc: Global,
+    task: &Task,
+    values: PredictorValues,
+    predictor: BoxedPredictor,
+    output: &mut W,
+    errors: &mut FaultLines<E>,
+) -> u8
+    requires described { known predictor.predictor ≡ untaught_of values }
+    requires own { values ≡ predictor_of task.now }
+    ensures { EndsWithin task.now (W.contents output.old) (W.contents output.new) errors.old errors.new result }
+{
+    finish(alloc, task, predictor, output, errors)
+}
+
 // Does a task with the predictor of its machine.
 fn finish_task<W: Write, E: Write>(
     alloc: Global,
@@ -38,8 +57,12 @@ fn finish_task<W: Write, E: Write>(
 ) -> u8
     ensures { EndsWithin task.now (W.contents output.old) (W.contents output.new) errors.old errors.new result }
 {
-    match boxed(alloc, task.predictor()) {
-        Ok(predictor) => finish(alloc, task, BoxedPredictor { predictor }, output, errors),
+    let values = task.predictor();
+    match boxed(alloc, values) {
+        Ok(predictor) => {
+            let predictor = BoxedPredictor { predictor };
+            finish_guided(alloc, task, values, predictor, output, errors)
+        }
         Err(_) => errors.tell(SimError::Memory),
     }
 }

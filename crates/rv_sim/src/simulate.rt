@@ -1,10 +1,12 @@
+ghost use Rattle.std.specs.Prelude.{◌^◌, ◌≤◌, Some};
+ghost use Rattle.rv_front.specs.declared.predictors.DescribedPredictor.{DescribedPredictor};
 ghost use Rattle.rv_sim.specs.Answer.{IsAnswer};
-ghost use Rattle.rv_sim.specs.CoreReport.{IsSimulation};
+ghost use Rattle.rv_sim.specs.CoreReport.{IsAtMostOne, IsSimulation};
 
 use crate::boxed_predictor::BoxedPredictor;
 use crate::reference::with_dump;
 use rv_arch::Stop;
-use rv_core::Core;
+use rv_core::Pipeline;
 use rv_job::{Job, SimError};
 use rv_report::{Options, write_run};
 use std::alloc::Global;
@@ -24,13 +26,23 @@ pub fn simulate<W: Write>(
     options: &Options,
     writer: &mut W,
 ) -> Result<Stop, SimError>
-    ensures { IsAnswer (IsSimulation job.now options.now) result (W.contents writer.old) (W.contents writer.new) }
+    ensures report { IsAnswer (IsSimulation job.now (known predictor.predictor) options.now) result (W.contents writer.old) (W.contents writer.new) }
+    // With a described predictor the report is a function of the job.
+    ensures one_report { (p : DescribedPredictor) → options.now.limit ≤ 2 ^ 40 → IsAtMostOne (IsSimulation job.now (Some p) options.now) }
 {
     let options = with_dump(&job.description.values().report, options);
     // The image of a job fits, so that memory alone can be wanting.
-    let Ok(core) = Core::new(alloc, &job.description, &job.image, predictor.predictor) else {
+    let Ok(pipeline) = Pipeline::new(alloc, &job.description, &job.image) else {
         return Err(SimError::Memory);
     };
     let steps = Vec::with_capacity(alloc, 8)?;
-    Ok(write_run(core, &job.arrivals, &options, steps, writer)?)
+    let mut predictor = predictor;
+    Ok(write_run(
+        pipeline,
+        &mut *predictor.predictor,
+        &job.arrivals,
+        &options,
+        steps,
+        writer,
+    )?)
 }

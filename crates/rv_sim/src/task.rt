@@ -166,7 +166,7 @@ fn perform<W: Write>(
     predictor: BoxedPredictor,
     output: &mut W,
 ) -> Result<u8, SimError>
-    ensures { Ends task.now (W.contents output.old) (W.contents output.new) result }
+    ensures { Ends task.now (known predictor.predictor) (W.contents output.old) (W.contents output.new) result }
 {
     match task {
         Task::Run { job, options } => {
@@ -207,7 +207,7 @@ fn complete<W: Write>(
     predictor: BoxedPredictor,
     output: &mut W,
 ) -> Result<u8, SimError>
-    ensures { Ends task.now (W.contents output.old) (W.contents output.new) result }
+    ensures { Ends task.now (known predictor.predictor) (W.contents output.old) (W.contents output.new) result }
 {
     let status = perform(alloc, task, predictor, output)?;
     match output.flush() {
@@ -227,7 +227,7 @@ pub fn finish<W: Write, E: Write>(
     errors: &mut FaultLines<E>,
 ) -> u8
     ensures { (outcome : Result ℕ OneError)
-        × Ends task.now (W.contents output.old) (W.contents output.new) outcome
+        × Ends task.now (known predictor.predictor) (W.contents output.old) (W.contents output.new) outcome
         × TellsOf errors.old errors.new outcome
         × (result ≡ exit_status outcome) }
 {

@@ -1,5 +1,6 @@
-use crate::machine::{core, described, listing, no_arrivals};
+use crate::machine::{described, listing, no_arrivals, pipeline};
 use rv_explain::write_explanation;
+use rv_front::NotTaken;
 use rv_isa::Values;
 use std::alloc::Global;
 use std::process::Abort;
@@ -32,10 +33,12 @@ fn explained(rt: &impl Abort, alloc: Global, program: &[u8], lines: &[&str]) -> 
     let arrivals = no_arrivals(rt, alloc);
     let listing = listing(rt, alloc, lines);
     let mut output = Vec::new(alloc);
-    let mut core = core(rt, alloc, &description, program);
+    let mut pipeline = pipeline(rt, alloc, &description, program);
+    let mut predictor = NotTaken;
     write_explanation(
         alloc,
-        &mut core,
+        &mut pipeline,
+        &mut predictor,
         &description,
         &arrivals,
         20,

@@ -1,4 +1,4 @@
-use rv_core::Core;
+use rv_core::{Core, Pipeline};
 use rv_front::NotTaken;
 use rv_isa::{Arrivals, Description, Image, Values};
 use rv_source::{Listing, SourceLine};
@@ -33,6 +33,17 @@ pub(crate) fn core(
     let image = Image::from_bytes(alloc, BASE, program, BASE).expect(rt, "an image");
     let predictor = Box::new(alloc, NotTaken).expect(rt, "a predictor");
     Core::new(alloc, description, &image, predictor).expect(rt, "a core")
+}
+
+/// A pipeline at reset with a program at the front of its RAM.
+pub(crate) fn pipeline(
+    rt: &impl Abort,
+    alloc: Global,
+    description: &Description,
+    program: &[u8],
+) -> Pipeline {
+    let image = Image::from_bytes(alloc, BASE, program, BASE).expect(rt, "an image");
+    Pipeline::new(alloc, description, &image).expect(rt, "a pipeline")
 }
 
 /// Lines that stay low.

@@ -1,7 +1,8 @@
-ghost use Rattle.std.specs.Prelude.{◌≡◌, ◌<◌, length, IfOk};
+ghost use Rattle.std.specs.Prelude.{◌≡◌, ◌<◌, length, IfOk, Some};
 ghost use Rattle.rv_isa.specs.Description.{Within};
 ghost use Rattle.rv_front.specs.Flow.{flow_at};
-ghost use Rattle.rv_front.specs.Predictors.{bimodal, counted, HaveLearned, learned, place_of};
+ghost use Rattle.rv_front.specs.Predictors.{bimodal, counted, learned, place_of};
+ghost use Rattle.rv_front.specs.declared.predictors.DescribedPredictor.TheVariants as described;
 ghost use Rattle.rv_front.specs.Tables.{untaught};
 
 use crate::flow::Flow;
@@ -53,9 +54,7 @@ impl Bimodal {
 }
 
 impl Predictor for Bimodal {
-    ghost answers = { λ tables pc word next. next ≡ bimodal tables pc (flow_at pc word) };
-
-    ghost has_learned = { HaveLearned };
+    ghost known = { λ tables. Some (described.Bimodal tables) };
 
     fn predict(&self, pc: u32, word: u32) -> u32
         ensures { result ≡ bimodal self.now pc (flow_at pc word) }

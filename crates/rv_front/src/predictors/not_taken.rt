@@ -1,6 +1,7 @@
-ghost use Rattle.std.specs.Prelude.{◌≡◌, ⊤};
+ghost use Rattle.std.specs.Prelude.{◌≡◌, Some};
 ghost use Rattle.rv_front.specs.Flow.{flow_at};
 ghost use Rattle.rv_front.specs.Predictors.{not_taken};
+ghost use Rattle.rv_front.specs.declared.predictors.DescribedPredictor.TheVariants as described;
 
 use crate::flow::Flow;
 use crate::predictor::Predictor;
@@ -10,9 +11,7 @@ use crate::predictor::Predictor;
 pub struct NotTaken;
 
 impl Predictor for NotTaken {
-    ghost answers = { λ _ pc word next. next ≡ not_taken pc (flow_at pc word) };
-
-    ghost has_learned = { λ _ _. ⊤ };
+    ghost known = { λ predictor. Some (described.NotTaken predictor) };
 
     fn predict(&self, pc: u32, word: u32) -> u32
         ensures { result ≡ not_taken pc (flow_at pc word) }

@@ -30,11 +30,9 @@ pub(crate) const GUESSES: [Guesses; 4] = [
 ];
 
 impl Predictor for Guesses {
-    ghost use Rattle.std.specs.Prelude.{⊤};
+    ghost use Rattle.std.specs.Prelude.{None};
 
-    ghost answers = { λ _ _ _ _. ⊤ };
-
-    ghost has_learned = { λ _ _. ⊤ };
+    ghost known = { λ _. None };
 
     fn predict(&self, pc: u32, _word: u32) -> u32 {
         match *self {

@@ -1,5 +1,6 @@
-use crate::machine::{core, described, listing, narrow, no_arrivals};
+use crate::machine::{described, listing, narrow, no_arrivals, pipeline};
 use rv_arch::Stop;
+use rv_front::NotTaken;
 use rv_log::write_log;
 
 // One addition and a breakpoint.
@@ -58,8 +59,17 @@ fn an_addition_passes_through_each_stage(rt: HostRuntime) {
     let listing = listing(&rt, alloc, &lines);
     let arrivals = no_arrivals(&rt, alloc);
     let mut text = Vec::new(alloc);
-    let mut core = core(&rt, alloc, &described(&rt, narrow()), PROGRAM);
-    let stop = write_log(alloc, &mut core, &arrivals, 100, &listing, &mut text);
+    let mut pipeline = pipeline(&rt, alloc, &described(&rt, narrow()), PROGRAM);
+    let mut predictor = NotTaken;
+    let stop = write_log(
+        alloc,
+        &mut pipeline,
+        &mut predictor,
+        &arrivals,
+        100,
+        &listing,
+        &mut text,
+    );
     assert_eq!(&rt; stop, Ok(Stop::Breakpoint));
     assert_eq!(&rt; text.as_slice(), LOG);
 }

@@ -1,6 +1,7 @@
-use crate::machine::{core, described, listing, narrow, no_arrivals};
+use crate::machine::{described, listing, narrow, no_arrivals, pipeline};
 use rv_arch::Stop;
-use rv_core::run;
+use rv_core::run_pipeline;
+use rv_front::NotTaken;
 use rv_log::write_log;
 
 // beq x0,x0,8; addi x2,x0,1; addi x1,x0,5; ebreak
@@ -63,9 +64,18 @@ fn a_log_that_begins_in_a_run_counts_what_retires(rt: HostRuntime) {
     let listing = listing(&rt, alloc, &LINES);
     let arrivals = no_arrivals(&rt, alloc);
     let mut text = Vec::new(alloc);
-    let mut core = core(&rt, alloc, &described(&rt, narrow()), PROGRAM);
-    assert!(&rt; run(alloc, &mut core, &arrivals, 4).is_ok());
-    let stop = write_log(alloc, &mut core, &arrivals, 5, &listing, &mut text);
+    let mut pipeline = pipeline(&rt, alloc, &described(&rt, narrow()), PROGRAM);
+    let mut predictor = NotTaken;
+    assert!(&rt; run_pipeline(alloc, &mut pipeline, &mut predictor, &arrivals, 4).is_ok());
+    let stop = write_log(
+        alloc,
+        &mut pipeline,
+        &mut predictor,
+        &arrivals,
+        5,
+        &listing,
+        &mut text,
+    );
     assert_eq!(&rt; stop, Ok(Stop::Limit));
     assert_eq!(&rt; text.as_slice(), LOG);
 }

@@ -1,5 +1,6 @@
-use crate::machine::{core, described, listing, no_arrivals};
+use crate::machine::{described, listing, no_arrivals, pipeline};
 use rv_arch::Stop;
+use rv_front::NotTaken;
 use rv_isa::Values;
 use rv_picture::{Form, write_picture};
 use std::alloc::Global;
@@ -35,10 +36,12 @@ fn picture_from(rt: &impl Abort, alloc: Global, from: u64) -> (Stop, Vec<u8>) {
     let arrivals = no_arrivals(rt, alloc);
     let listing = listing(rt, alloc, &[]);
     let mut text = Vec::new(alloc);
-    let mut core = core(rt, alloc, &described(rt, values), &PROGRAM);
+    let mut pipeline = pipeline(rt, alloc, &described(rt, values), &PROGRAM);
+    let mut predictor = NotTaken;
     let stop = write_picture(
         alloc,
-        &mut core,
+        &mut pipeline,
+        &mut predictor,
         &arrivals,
         from,
         60,

@@ -1,5 +1,6 @@
-use crate::machine::{core, described};
+use crate::machine::{described, pipeline};
 use rv_arch::{RefOutcome, Reference, Stop, run_reference};
+use rv_front::NotTaken;
 use rv_hardware::{Execution, Row, StallCounts, Step};
 use rv_isa::{Arrival, Arrivals, Cause, Line, Reg, Values};
 use rv_report::{
@@ -98,13 +99,21 @@ fn each_line_of_a_run_s_state_has_its_own_value(rt: HostRuntime) -> Result<(), F
     let lines = state_lines(alloc)?;
     let steps = Vec::with_capacity(alloc, 8)?;
     let mut report = Vec::new(alloc);
-    let core = core(
+    let pipeline = pipeline(
         &rt,
         alloc,
         &described(&rt, Values::standard()),
         bytes.as_slice(),
     );
-    let stop = write_run(core, &arrivals, &OPTIONS, steps, &mut report)?;
+    let mut predictor = NotTaken;
+    let stop = write_run(
+        pipeline,
+        &mut predictor,
+        &arrivals,
+        &OPTIONS,
+        steps,
+        &mut report,
+    )?;
     assert_eq!(&rt; stop, Stop::Limit);
     assert!(&rt; report.as_slice().starts_with(b"stop limit\ncycles 1000\n"));
     assert!(&rt; report.as_slice().ends_with(lines.as_slice()));
@@ -159,8 +168,8 @@ fn each_count_of_a_run_has_its_own_line(rt: HostRuntime) -> Result<(), Fail> {
         },
     };
     let mut report = Vec::new(alloc);
-    let core = core(&rt, alloc, &described(&rt, Values::standard()), &[]);
-    write_totals(&totals, &core, &OPTIONS, &mut report)?;
+    let pipeline = pipeline(&rt, alloc, &described(&rt, Values::standard()), &[]);
+    write_totals(&totals, &pipeline, &OPTIONS, &mut report)?;
     let lines = b"stop stale 80000014
 cycles 1009
 retired 300

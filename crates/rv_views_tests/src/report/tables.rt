@@ -1,5 +1,6 @@
-use crate::machine::{core, described, no_arrivals};
+use crate::machine::{described, no_arrivals, pipeline};
 use rv_arch::Stop;
+use rv_front::NotTaken;
 use rv_hardware::StallCounts;
 use rv_isa::Values;
 use rv_report::{StepCounts, Totals, run_totals, write_table};
@@ -46,8 +47,9 @@ fn a_run_comes_to_its_totals(rt: HostRuntime) -> Result<(), Fail> {
     let alloc = rt.alloc();
     let arrivals = no_arrivals(&rt, alloc);
     let steps = Vec::with_capacity(alloc, 8)?;
-    let core = core(&rt, alloc, &described(&rt, Values::standard()), &[]);
-    let totals = run_totals(core, &arrivals, 100, steps);
+    let pipeline = pipeline(&rt, alloc, &described(&rt, Values::standard()), &[]);
+    let mut predictor = NotTaken;
+    let totals = run_totals(pipeline, &mut predictor, &arrivals, 100, steps);
     assert_eq!(rt;
         (totals.cycles, totals.busy, totals.stalls.fetch),
         (100, 50, 50)

@@ -5,8 +5,8 @@ use Rattle.rv_passage.proofs.rows.move_on.Goals as goal
 use Rattle.rv_passage.proofs.rows.move_on.Goals.{then-is_in_flight+in-Some, then-is_in_flight+in_default, in_default-via-in-Some+else-now-cycle, in_default-via-in_default, else-is_in_flight}
 
 pub loop-place-preserved : goal.loop-place-preserved
-loop-place-preserved g c =
-    let now = in_flight c.args.core.now in
+loop-place-preserved c =
+    let now = in_flight c.args.pipeline.now in
     let within : c.loop-place.place < length c.loop-place.rows = omega (arith, c.loop-place.auto.rows) in
     let moved = c.loop-place.invariant.moved in
     elim c.if-is_in_flight.branch [

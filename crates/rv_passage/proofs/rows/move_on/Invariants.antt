@@ -5,7 +5,7 @@ use Rattle.rv_passage.proofs.rows.move_on.Given as goal
 
 -- the passages so far are moved on, and what is left of those in flight is for the others
 abbrev pub invariant-loop-place : goal.invariant-loop-place
-invariant-loop-place g l = record {
-  moved : (number : ℕ) → moved_on l.cycle number l.fn.rows (in_flight l.core) ≡ take l.place l.rows ++ moved_on l.cycle number (drop l.place l.rows) (drop l.next (in_flight l.core));
+invariant-loop-place l = record {
+  moved : (number : ℕ) → moved_on l.cycle number l.fn.rows (in_flight l.pipeline) ≡ take l.place l.rows ++ moved_on l.cycle number (drop l.place l.rows) (drop l.next (in_flight l.pipeline));
   behind : l.next ≤ l.place;
 }

@@ -1,8 +1,11 @@
-use Rattle.std.proofs.Common.{subst}
-use Rattle.rv_hardware.specs.Hardware.{Hardware}
-use Rattle.rv_report.specs.Comparison.{RunsTo}
+use denote.Param.Object.{read_made}
+use Rattle.std.proofs.Common.{refl, ◌∙◌}
+use Rattle.rv_sim.specs.contracts.compare.run_guided.{dyn-1-ghosts}
+use Rattle.rv_sim.proofs.compare.run_one.OwnLists.{at-1-1, lawful-own-1, own-1}
 use Rattle.rv_sim.proofs.compare.run_one.Goals as goal
 
-pub returns-clause-totals : goal.returns-clause-totals
-returns-clause-totals c =
-    subst (λ (h : Hardware). RunsTo c.args.job.now.arrivals c.args.limit h c.run_totals.result) c.in-Ok-new.ensures.made c.run_totals.ensures
+-- what is known of the box is what was put into it
+pub run_guided-requires-clause-described : goal.run_guided-requires-clause-described
+run_guided-requires-clause-described c =
+    let table = (dyn-1-ghosts (own-1, lawful-own-1)).0 in
+    read_made table (table.entry at-1-1) at-1-1 refl _ (λ j y. j.1.known y) _ _ c.in-Ok.predictor.value c.into_dyn_box.ensures.1 ∙ c.in-Ok.ensures

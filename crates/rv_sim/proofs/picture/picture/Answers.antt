@@ -1,15 +1,15 @@
 use Rattle.std.proofs.Common.{subst}
-use Rattle.rv_picture.specs.Picture.{IsPicture}
+use Rattle.rv_sim.specs.Answer.{IsAnswer}
 use Rattle.rv_sim.specs.PictureReport.{IsPictureOf}
-use Rattle.rv_sim.proofs.Answered.{answered_by}
+use Rattle.rv_sim.proofs.Answered.{answered_from}
+use Rattle.rv_sim.proofs.Viewed.{picture_of_job}
 use Rattle.rv_sim.proofs.picture.picture.Goals as goal
 
 pub returns : goal.returns
 returns g c =
-    let job = c.args.listed.now.job in
-    let listing = c.args.listed.now.listing in
-    let view = c.args.view.now in
-    let end = c.write_picture-written.new.core in
-    answered_by (IsPicture job.arrivals view.from view.cycles view.form listing c.in-Ok.core end) (IsPictureOf c.args.listed.now view) c.write_picture-written.result c.answer.result (g.W.Write.contents c.args.writer.now) (g.W.Write.contents c.write_picture-written.new.writer) c.answer.ensures
-    (λ stop text shows. record { end = end; shows = subst (λ h. IsPicture job.arrivals view.from view.cycles view.form listing h end stop text) c.in-Ok.ensures.made shows })
-    c.write_picture-written.ensures.written
+    let listed = c.args.listed.now in
+    let before = g.W.Write.contents c.args.writer.now in
+    let after = g.W.Write.contents c.write_picture-written.new.writer in
+    let ended = answered_from (IsPictureOf listed _ c.args.view.now) c.write_picture-written.result before after c.write_picture-written.ensures.written c.answer.ensures (λ stop text is. picture_of_job listed c.in-Ok.ensures.made c.args.view.now is) in
+    -- the box is lent
+    subst (λ lent. IsAnswer (IsPictureOf listed ((goal.Predictor-dyn g lent).known lent.1) c.args.view.now) c.answer.result before after) c.deref_box_mut-1.ensures.value.1 ended

@@ -13,30 +13,36 @@ use Rattle.rv_sim.proofs.task.perform.Goals as goal
 
 pub returns-in_err-stop-in-Run : goal.returns-in_err-stop-in-Run
 returns-in_err-stop-in-Run g c =
-    let ended = Ends-by_error (Run c.in-Run.job c.in-Run.options) (IsSimulation c.in-Run.job c.in-Run.options) stop_status _ _ _ tt (λ stop text is. (stop, is, refl)) c.in_err-stop-in-Run.ensures in
+    let predictor = (goal.Predictor-dyn g (c.args.predictor.predictor.vtable, c.args.predictor.predictor.value)).known c.args.predictor.predictor.value in
+    let ended = Ends-by_error (Run c.in-Run.job c.in-Run.options) predictor (IsSimulation c.in-Run.job predictor c.in-Run.options) stop_status _ _ _ tt (λ stop text is. (stop, is, refl)) c.in_err-stop-in-Run.ensures.report in
     rw (c.in-Run.is, handed_on _ _ c.from_residual.ensures.1) ended
 
 pub returns-in_err-stop-in-Reference : goal.returns-in_err-stop-in-Reference
 returns-in_err-stop-in-Reference g c =
-    let ended = Ends-by_error (Reference c.in-Reference.job c.in-Reference.options) (IsReferenceReport c.in-Reference.job c.in-Reference.options) stop_status _ _ _ tt (λ stop text is. (stop, is, refl)) c.in_err-stop-in-Reference.ensures in
+    let predictor = (goal.Predictor-dyn g (c.args.predictor.predictor.vtable, c.args.predictor.predictor.value)).known c.args.predictor.predictor.value in
+    let ended = Ends-by_error (Reference c.in-Reference.job c.in-Reference.options) predictor (IsReferenceReport c.in-Reference.job c.in-Reference.options) stop_status _ _ _ tt (λ stop text is. (stop, is, refl)) c.in_err-stop-in-Reference.ensures in
     rw (c.in-Reference.is, handed_on _ _ c.from_residual-in_err-stop-in-Reference.ensures.1) ended
 
 pub returns-in_err-stop-in-Picture : goal.returns-in_err-stop-in-Picture
 returns-in_err-stop-in-Picture g c =
-    let ended = Ends-by_error (Picture c.in-Picture.listed c.in-Picture.view) (IsPictureOf c.in-Picture.listed c.in-Picture.view) stop_status _ _ _ tt (λ stop text is. (stop, is, refl)) c.in_err-stop-in-Picture.ensures in
+    let predictor = (goal.Predictor-dyn g (c.args.predictor.predictor.vtable, c.args.predictor.predictor.value)).known c.args.predictor.predictor.value in
+    let ended = Ends-by_error (Picture c.in-Picture.listed c.in-Picture.view) predictor (IsPictureOf c.in-Picture.listed predictor c.in-Picture.view) stop_status _ _ _ tt (λ stop text is. (stop, is, refl)) c.in_err-stop-in-Picture.ensures in
     rw (c.in-Picture.is, handed_on _ _ c.from_residual-in_err-stop-in-Picture.ensures.1) ended
 
 pub returns-in_err-stop-in-Log : goal.returns-in_err-stop-in-Log
 returns-in_err-stop-in-Log g c =
-    let ended = Ends-by_error (Log c.in-Log.listed c.in-Log.limit) (IsLogOf c.in-Log.listed c.in-Log.limit) stop_status _ _ _ tt (λ stop text is. (stop, is, refl)) c.in_err-stop-in-Log.ensures in
+    let predictor = (goal.Predictor-dyn g (c.args.predictor.predictor.vtable, c.args.predictor.predictor.value)).known c.args.predictor.predictor.value in
+    let ended = Ends-by_error (Log c.in-Log.listed c.in-Log.limit) predictor (IsLogOf c.in-Log.listed predictor c.in-Log.limit) stop_status _ _ _ tt (λ stop text is. (stop, is, refl)) c.in_err-stop-in-Log.ensures in
     rw (c.in-Log.is, handed_on _ _ c.from_residual-in_err-stop-in-Log.ensures.1) ended
 
 pub returns-in_err-stop-in-Explain : goal.returns-in_err-stop-in-Explain
 returns-in_err-stop-in-Explain g c =
-    let ended = Ends-by_error (Explain c.in-Explain.listed c.in-Explain.limit) (IsExplanationOf c.in-Explain.listed c.in-Explain.limit) stop_status _ _ _ tt (λ stop text is. (stop, is, refl)) c.in_err-stop-in-Explain.ensures in
+    let predictor = (goal.Predictor-dyn g (c.args.predictor.predictor.vtable, c.args.predictor.predictor.value)).known c.args.predictor.predictor.value in
+    let ended = Ends-by_error (Explain c.in-Explain.listed c.in-Explain.limit) predictor (IsExplanationOf c.in-Explain.listed predictor c.in-Explain.limit) stop_status _ _ _ tt (λ stop text is. (stop, is, refl)) c.in_err-stop-in-Explain.ensures in
     rw (c.in-Explain.is, handed_on _ _ c.from_residual-in_err-stop-in-Explain.ensures.1) ended
 
 pub returns-in_err-compare-in-Compare : goal.returns-in_err-compare-in-Compare
 returns-in_err-compare-in-Compare g c =
-    let ended = Ends-by_error (Compare c.in-Compare.comparison c.in-Compare.limit) (λ _ text. IsComparisonTable c.in-Compare.comparison c.in-Compare.limit text) (λ _. 0) _ _ _ tt (λ _ text is. (is, refl)) c.in_err-compare-in-Compare.ensures in
+    let predictor = (goal.Predictor-dyn g (c.args.predictor.predictor.vtable, c.args.predictor.predictor.value)).known c.args.predictor.predictor.value in
+    let ended = Ends-by_error (Compare c.in-Compare.comparison c.in-Compare.limit) predictor (λ _ text. IsComparisonTable c.in-Compare.comparison c.in-Compare.limit text) (λ _. 0) _ _ _ tt (λ _ text is. (is, refl)) c.in_err-compare-in-Compare.ensures in
     rw (c.in-Compare.is, handed_on _ _ c.from_residual-in_err-compare-in-Compare.ensures.1) ended

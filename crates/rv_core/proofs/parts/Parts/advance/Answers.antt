@@ -58,11 +58,20 @@ returns-clause-cycle g c =
     c.fetch.ensures.fetched c.fetch.ensures.others in
     let report = report_with (commit_with set.contains lines old).steps (record { dispatched = c.execute-dispatched.result.0; stall = c.execute-dispatched.result.1; stop = c.commit-stop.result }) in
     let new : record c.fetch.new.self { cycle = old.cycle + 1 } ≡ _ =
-    λ i. record (sym c.self-2.view_is i) { cycle = (sym c.self.view_is i).cycle + 1 } in (
+    λ i. record (sym c.self-2.view_is i) { cycle = (sym c.self.view_is i).cycle + 1 } in
+    let same = ap (λ h. (commit set.contains (with_lines lines h)).steps) c.self.view_is in
+    let here = ap (λ (h : Hardware). h.pc) (c.self-2.view_is ∙ c.fetch.ensures.others)
+    ∙ ap (λ (h : Hardware). h.pc) c.execute-dispatched.ensures.hardware
+    ∙ executed_here lines old c.commit-stop.new.self c.requires.reached (commits g at) in (
       (commit_with set.contains lines old).steps,
       steps,
       omega (arith, (counted g at).steps, (legal g at).pipeline.commit_width.1),
-      subst (IsCycle _ lines old report) new done,
+      record {
+        learns =
+            taught_as ((goal.Predictor-dyn g c.args.predictor.now).known c.args.predictor.now.1) ((goal.Predictor-dyn g (c.args.predictor.now.0, c.commit-stop.new.predictor)).known c.commit-stop.new.predictor)
+            _ (commit_with set.contains lines old).steps _ _ same (sym here) c.commit-stop.ensures.taught;
+        cycle = subst (IsCycle _ lines old report) new done;
+      },
     )
 
 pub returns-clause-numbers : goal.returns-clause-numbers
@@ -80,18 +89,3 @@ commit-stop-requires-clause-reached g c = record {
   lines = c.args.lines;
   begun = refl;
 }
-
-pub returns-clause-taught : goal.returns-clause-taught
-returns-clause-taught g c =
-    let at = (goal.at.returns-clause-taught g c).After-self-2 in
-    let lines = c.args.lines in
-    let done = (commit_with set.contains lines c.args.self.now).steps in
-    let same = ap (λ h. (commit set.contains (with_lines lines h)).steps) c.self.view_is in
-    let here = ap (λ (h : Hardware). h.pc) (c.self-2.view_is ∙ c.fetch.ensures.others)
-    ∙ ap (λ (h : Hardware). h.pc) c.execute-dispatched.ensures.hardware
-    ∙ executed_here lines c.args.self.now c.commit-stop.new.self c.requires.reached (commits g at) in (
-      done,
-      c.commit-stop.ensures.steps ∙ ap (λ l. c.args.steps.now.items ++ l) same,
-      taught_as ((goal.Predictor-dyn g c.args.predictor.now).has_learned c.args.predictor.now.1) ((goal.Predictor-dyn g (c.args.predictor.now.0, c.commit-stop.new.predictor)).has_learned c.commit-stop.new.predictor)
-          _ done _ _ same (sym here) c.commit-stop.ensures.taught,
-    )

@@ -2,12 +2,12 @@ use Rattle.std.proofs.Common.{◌≡◌, ◌+◌, ◌-◌, [], ◌∷◌, Some, 
 use Rattle.std.specs.FinSet as set
 use Rattle.rv_arch.specs.declared.outcome.Stop.TheVariants.{Stale}
 use Rattle.rv_hardware.specs.Hardware.{Hardware}
-use Rattle.rv_front.specs.Lesson.{AreTaught}
+use Rattle.rv_front.specs.Predictors.{AreTaught}
 use Rattle.rv_hardware.specs.Commit.{Committing, commit, commit_unless}
 use Rattle.rv_hardware.specs.declared.step.Step.{Step}
 use Rattle.rv_core.proofs.CommitLoop.{none_committed, committed_all, committed_whole, committed_more, interrupted, steps_with}
 use Rattle.rv_core.proofs.Taught.{none_taught, taught_all, taught_at_end, taught_whole, teaching_begins, teaching_goes}
-use Rattle.rv_core.specs.Lessons.{lessons_of}
+use Rattle.rv_hardware.specs.Lessons.{lessons_of}
 use Rattle.rv_core.specs.HeadTurn.{committing, stop_with, turn_left}
 use Rattle.rv_core.proofs.parts.Parts.commit.Goals as goal
 use Rattle.rv_core.proofs.parts.Parts.commit.Goals.{In-Some, In-Waits, In-Stale, In-Ends}
@@ -40,7 +40,7 @@ returns-in-Some-clause-stop g c = ap (λ (x : Committing). x.stop) (taken g (goa
 
 pub returns-in-Some-clause-taught : goal.returns-in-Some-clause-taught
 returns-in-Some-clause-taught g c =
-    let learned = (goal.Predictor-dyn g c.args.predictor.now).has_learned c.args.predictor.now.1 in
+    let learned = (goal.Predictor-dyn g c.args.predictor.now).known c.args.predictor.now.1 in
     subst (λ l. AreTaught learned (lessons_of l c.interrupt-step.new.self.pc) learned) (ap (λ (x : Committing). x.steps) (taken g (goal.at.returns-in-Some-clause-taught g c).In-Some)) (none_taught learned)
 
 -- a turn that ends the phase leaves what the definition leaves
@@ -107,7 +107,7 @@ returns-in-Stale-clause-taught g c =
 pub returns-in-Ends-clause-taught : goal.returns-in-Ends-clause-taught
 returns-in-Ends-clause-taught g c =
     taught_at_end c.args.self.now c.loop.self c.loop.invariant.0.steps _ _ c.loop.invariant.2 c.commit_head.result c.commit_head.new.self (c.commit_head.ensures.turn c.loop.invariant.0.steps)
-    c.in-Ends.step ((goal.Predictor-dyn g (c.loop.predictor.now.0, c.teach.new.predictor)).has_learned c.teach.new.predictor) c.in-Ends.is c.self-in-loop.inside.pc (ap (λ (h : Hardware). h.pc) c.self-in-loop.view_is) c.teach.ensures
+    c.in-Ends.step ((goal.Predictor-dyn g (c.loop.predictor.now.0, c.teach.new.predictor)).known c.teach.new.predictor) c.in-Ends.is c.self-in-loop.inside.pc (ap (λ (h : Hardware). h.pc) c.self-in-loop.view_is) c.teach.ensures
     (commit set.contains c.args.self.now).steps (ap (λ (x : Committing). x.steps) (ends g (goal.at.returns-in-Ends-clause-taught g c).In-Ends))
 
 pub returns-clause-taught : goal.returns-clause-taught
@@ -124,5 +124,5 @@ loop-preserved g c = (
       c.commit_head.ensures.kept c.append-in-GoesOn.ensures.items,
   c.append-in-GoesOn.ensures.capacity ∙ c.loop.invariant.1,
   teaching_goes c.args.self.now c.loop.self c.loop.invariant.0.steps _ _ c.loop.invariant.2 c.commit_head.result c.commit_head.new.self (c.commit_head.ensures.turn c.loop.invariant.0.steps)
-      c.in-GoesOn.step ((goal.Predictor-dyn g (c.loop.predictor.now.0, c.teach-in-GoesOn.new.predictor)).has_learned c.teach-in-GoesOn.new.predictor) c.in-GoesOn.is c.self-in-loop.inside.pc (ap (λ (h : Hardware). h.pc) c.self-in-loop.view_is) c.teach-in-GoesOn.ensures,
+      c.in-GoesOn.step ((goal.Predictor-dyn g (c.loop.predictor.now.0, c.teach-in-GoesOn.new.predictor)).known c.teach-in-GoesOn.new.predictor) c.in-GoesOn.is c.self-in-loop.inside.pc (ap (λ (h : Hardware). h.pc) c.self-in-loop.view_is) c.teach-in-GoesOn.ensures,
 )

@@ -7,4 +7,4 @@ abbrev pub invariant-loop : goal.invariant-loop
 invariant-loop g l =
     (committed : AreCommitted l.fn.self l.self l.fn.steps.items l.steps.items l.counter (l.end - l.counter))
     × (vec_capacity l.steps ≡ vec_capacity l.fn.steps)
-    × AreTeaching l.fn.self l.self committed.steps ((goal.Predictor-dyn g l.fn.predictor.now).has_learned l.fn.predictor.now.1) ((goal.Predictor-dyn g l.predictor.now).has_learned l.predictor.now.1)
+    × AreTeaching l.fn.self l.self committed.steps ((goal.Predictor-dyn g l.fn.predictor.now).known l.fn.predictor.now.1) ((goal.Predictor-dyn g l.predictor.now).known l.predictor.now.1)

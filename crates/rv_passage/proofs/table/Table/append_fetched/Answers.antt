@@ -4,8 +4,8 @@ use Rattle.rv_passage.proofs.Moving.{drop-at, numbered-more}
 use Rattle.rv_passage.proofs.table.Table.append_fetched.Goals as goal
 
 pub loop-place-preserved : goal.loop-place-preserved
-loop-place-preserved g c =
-    let now = in_flight c.args.core.now in
+loop-place-preserved c =
+    let now = in_flight c.args.pipeline.now in
     let left = ap length (drop-at now c.loop-place.place c.present_at.result c.present_at.ensures) in
     let more = ap length c.append.ensures.rows in
     let one = length-append c.loop-place.self.rows.items (numbered c.loop-place.self.fetched c.present_at.result ∷ []) in

@@ -5,10 +5,10 @@ use Rattle.rv_passage.proofs.table.Table.append_fetched.Given as goal
 
 -- the instructions so far are appended, and there is room for the others
 abbrev pub invariant-loop-place : goal.invariant-loop-place
-invariant-loop-place g l = record {
-  rows : l.self.rows.items ++ numbered_from l.self.fetched (drop l.place (in_flight l.core)) ≡ l.fn.self.rows.items ++ numbered_from l.fn.self.fetched (drop l.fn.from (in_flight l.core));
-  count : l.self.fetched + length (drop l.place (in_flight l.core)) ≡ l.fn.self.fetched + length (drop l.fn.from (in_flight l.core));
-  room : length l.self.rows.items + length (drop l.place (in_flight l.core)) ≤ vec_capacity l.self.rows;
+invariant-loop-place l = record {
+  rows : l.self.rows.items ++ numbered_from l.self.fetched (drop l.place (in_flight l.pipeline)) ≡ l.fn.self.rows.items ++ numbered_from l.fn.self.fetched (drop l.fn.from (in_flight l.pipeline));
+  count : l.self.fetched + length (drop l.place (in_flight l.pipeline)) ≡ l.fn.self.fetched + length (drop l.fn.from (in_flight l.pipeline));
+  room : length l.self.rows.items + length (drop l.place (in_flight l.pipeline)) ≤ vec_capacity l.self.rows;
   capacity : vec_capacity l.fn.self.rows ≤ vec_capacity l.self.rows;
   others : (l.self.interrupts ≡ l.fn.self.interrupts) × (l.self.retired ≡ l.fn.self.retired);
 }

@@ -5,20 +5,20 @@ use Rattle.rv_passage.proofs.Moving.{ended-with, open-moved, steps-within}
 use Rattle.rv_passage.proofs.table.Table.follow.Goals as goal
 
 pub append_fetched-requires-clause-room : goal.append_fetched-requires-clause-room
-append_fetched-requires-clause-room g c =
+append_fetched-requires-clause-room c =
     let within = steps-within c.args.steps.now (passages_of c.args.self.now) in
     let rows = ap (λ (t : Passages). length t.rows) c.take_steps.ensures.taken in
     omega (arith, within.rows, rows)
 
 pub append_fetched-requires-clause-countable : goal.append_fetched-requires-clause-countable
-append_fetched-requires-clause-countable g c =
+append_fetched-requires-clause-countable c =
     let within = steps-within c.args.steps.now (passages_of c.args.self.now) in
     let fetched = ap (λ (t : Passages). t.fetched) c.take_steps.ensures.taken in
     omega (arith, within.fetched, fetched, c.move_rows_on-fetched.ensures.others.1)
 
 followed : goal.returns-clause-followed
-followed g c =
-    let now = in_flight c.args.core.now in
+followed c =
+    let now = in_flight c.args.pipeline.now in
     let moved = c.move_rows_on-fetched in
     let added = drop moved.result now in
     let numbers = ap (λ n. moved.new.self.rows.items ++ numbered_from n added) moved.ensures.others.1 in
@@ -29,23 +29,23 @@ followed g c =
     ∙ ap (at_the_end c.args.cycle now) c.take_steps.ensures.taken
 
 pub returns-clause-followed : goal.returns-clause-followed
-returns-clause-followed g c = followed g c
+returns-clause-followed c = followed c
 
 pub returns-clause-open : goal.returns-clause-open
-returns-clause-open g c =
-    let now = in_flight c.args.core.now in
-    let rows = ap (λ (t : Passages). length (filter is_in_flight t.rows)) (followed g c) in
+returns-clause-open c =
+    let now = in_flight c.args.pipeline.now in
+    let rows = ap (λ (t : Passages). length (filter is_in_flight t.rows)) (followed c) in
     let middle = with_steps c.args.steps.now (passages_of c.args.self.now) in
     omega (arith, rows, open-moved c.args.cycle middle.fetched middle.rows now, c.append_fetched.ensures.few)
 
 pub returns-clause-fetched : goal.returns-clause-fetched
-returns-clause-fetched g c =
+returns-clause-fetched c =
     let within = steps-within c.args.steps.now (passages_of c.args.self.now) in
     let fetched = ap (λ (t : Passages). t.fetched) c.take_steps.ensures.taken in
-    omega (arith, within.fetched, fetched, c.move_rows_on-fetched.ensures.others.1, c.append_fetched.ensures.fetched, c.append_fetched.ensures.few, length-drop c.move_rows_on-fetched.result (in_flight c.args.core.now))
+    omega (arith, within.fetched, fetched, c.move_rows_on-fetched.ensures.others.1, c.append_fetched.ensures.fetched, c.append_fetched.ensures.few, length-drop c.move_rows_on-fetched.result (in_flight c.args.pipeline.now))
 
 pub returns-clause-retired : goal.returns-clause-retired
-returns-clause-retired g c =
+returns-clause-retired c =
     let within = steps-within c.args.steps.now (passages_of c.args.self.now) in
     let retired = ap (λ (t : Passages). t.retired) c.take_steps.ensures.taken in
     omega (arith, within.retired, retired, c.move_rows_on-fetched.ensures.others.2, c.append_fetched.ensures.others.1, c.requires.few)

@@ -1,5 +1,5 @@
 use Rattle.std.proofs.Common.{◌≡◌, take}
-use Rattle.rv_core.proofs.machine.listed.Given as goal
+use Rattle.rv_core.proofs.pipeline.listed.Given as goal
 
 -- the steps so far
 abbrev pub invariant-loop-step : goal.invariant-loop-step

@@ -1,14 +1,16 @@
 -- A cycle by what a predictor answers is one by any of the predictions that there may be.
 use Rattle.std.proofs.Common.{◌≡◌, ℕ, zero, suc, ◌-◌, Bool, true, false, List, [], ◌∷◌, ◌++◌, length, Option, Some, None, MatchBool, MatchOption}
-use Rattle.rv_isa.specs.declared.lines.Lines.{Lines}
+use Rattle.rv_isa.specs.declared.{lines.Arrival.Arrival, lines.Lines.Lines}
 use Rattle.rv_memory.specs.Memory.{Memory}
 use Rattle.rv_front.specs.FetchBuffer.{Answers, FetchBuffer, Fetches, FetchesInto, IsFetchedAt, IsGuess, is_halted, stop_behind}
 use Rattle.rv_front.specs.declared.fetched.Fetched.{Fetched}
 use Rattle.rv_front.specs.declared.fetched.FetchStop.{FetchStop}
 use Rattle.rv_front.specs.declared.fetched.FetchStop.TheVariants.{Halted}
 use Rattle.rv_hardware.specs.Cycle.{IsCycle, any_prediction}
+use Rattle.rv_hardware.specs.Guided.{GuidedCycles, GuidedHardware, ended as guided_ended, cycled as guided_cycled}
 use Rattle.rv_hardware.specs.Hardware.{Hardware}
 use Rattle.rv_hardware.specs.Report.{Report}
+use Rattle.rv_hardware.specs.Run.{Cycles, ended, cycled}
 
 module _ (answers : Answers) (ram : Memory) (cycle : ℕ) where
   any-guess : (pc : ℕ) (word : Option ℕ) (next : ℕ) → IsGuess answers pc word next → IsGuess any_prediction pc word next
@@ -66,3 +68,8 @@ any_cycle {answers} {lines} {old} {new} {report} cycle = record {
   others_stay = cycle.others_stay;
   reports = cycle.reports;
 }
+
+-- cycles that a predictor guides are cycles by any predictions
+pub cycles_of : {arrivals : List Arrival} {old new : GuidedHardware} {reports : List Report} → GuidedCycles arrivals old reports new → Cycles arrivals old.hardware reports new.hardware
+cycles_of guided_ended = ended
+cycles_of (guided_cycled next more) = cycled (any_cycle next.cycle) (cycles_of more)

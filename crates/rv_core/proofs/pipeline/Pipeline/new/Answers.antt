@@ -1,9 +1,9 @@
 use Rattle.std.proofs.Common.{sym, subst, arith}
 use Rattle.rv_hardware.specs.Run.{Reachable, at_reset}
-use Rattle.rv_core.proofs.machine.Core.new.Goals as goal
+use Rattle.rv_core.proofs.pipeline.Pipeline.new.Goals as goal
 
 pub invariant_of-result : goal.invariant_of-result
-invariant_of-result g c =
+invariant_of-result c =
     let boxed = c.in_ok-parts.ensures in
     record {
       reached = subst Reachable (sym boxed) (at_reset c.fits.ensures.legal (c.fits.ensures.fits.0 c.if-not-fits.false));

@@ -1,0 +1,17 @@
+use Rattle.std.proofs.Common.{◌∙◌}
+use Rattle.rv_hardware.proofs.AnyPrediction.{any_cycle}
+use Rattle.rv_hardware.specs.Run.{by_cycle}
+use Rattle.rv_core.proofs.Guiding.{cycle_from}
+use Rattle.rv_core.proofs.pipeline.Pipeline.advance.Goals as goal
+
+pub invariant_of-self : goal.invariant_of-self
+invariant_of-self g c = record {
+  reached = by_cycle c.self.invariant.reached (rw (← c.self.view_is) at c.requires.cycles) (any_cycle (rw c.deref_mut.ensures.value at c.advance.ensures.cycle.3.cycle));
+  numbers = c.advance.ensures.numbers;
+  has_room = c.self.invariant.has_room;
+}
+
+pub returns-clause-cycle : goal.returns-clause-cycle
+returns-clause-cycle g c =
+    let done = c.advance.ensures.cycle in
+    (done.0, done.1, done.2, cycle_from (c.deref_mut.ensures.value ∙ c.self.view_is) done.3)

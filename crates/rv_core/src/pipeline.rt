@@ -1,0 +1,226 @@
+ghost use Rattle.std.specs.Prelude.{◌≡◌, ◌+◌, ◌^◌, ◌<◌, ◌≤◌, ◌↔◌, ◌==◌, false, None, List, ◌++◌, is_some, length, nat_le, vec_len, vec_capacity, IsTrue, IfOk, IfErr};
+ghost use Rattle.std.specs.FinSet as set;
+ghost use Rattle.rv_isa.specs.Description.{IsLegal};
+ghost use Rattle.rv_memory.specs.Memory.{byte_seen, is_in_ram, word_of};
+ghost use Rattle.rv_hardware.specs.Drain.{drain_end};
+ghost use Rattle.rv_hardware.specs.Guided.{IsGuidedCycle, guided};
+ghost use Rattle.rv_hardware.specs.Headline.{IsTrueCycle};
+ghost use Rattle.rv_hardware.specs.Run.{Reachable};
+ghost use Rattle.rv_hardware.specs.Reset.{IsLoadable, reset_hardware};
+ghost use Rattle.rv_hardware.specs.Seen.{layout_of, seen};
+ghost use Rattle.rv_hardware.specs.declared.step.Step.{Step as StepOf};
+ghost use Rattle.rv_core.specs.Told.{IsCommitStop, TakesDue, exhausted_report, report_of_cycle, report_with};
+ghost use Rattle.rv_core.specs.declared.errors.NewError.TheVariants as refusal;
+
+use crate::errors::NewError;
+use crate::outcome::{CycleEnd, CycleReport};
+use crate::parts::Parts;
+use arrayvec::ArrayVec;
+use rv_arch::{Observed, Stop};
+use rv_front::{Front, Predictor};
+use rv_hardware::Step;
+use rv_isa::{Description, Image, Lines};
+use rv_memory::Backing;
+use rv_rob::Rob;
+use std::alloc::Global;
+use std::marker::Model;
+
+/// The most cycles that a core counts.
+const LAST_CYCLE: u64 = 1 << 40;
+
+/// The pipeline with its memory: all of a core but its branch predictor, which each cycle is lent.
+#[derive(Drop)]
+pub struct Pipeline {
+    // In a box, so that each owner drops it by one call.
+    parts: Box<Parts>,
+    // The steps of a cycle, with room for as many as can retire.
+    steps: Vec<Step>,
+}
+
+impl Model for Pipeline {
+    ghost use Rattle.rv_hardware.specs.Hardware.{Hardware};
+    ghost use Rattle.rv_hardware.proofs.HardwareCode.{hardware_code};
+
+    ghost Value = { Hardware };
+
+    ghost coded = { hardware_code };
+
+    ghost view = { λ pipeline. pipeline.parts.value };
+
+    ghost use Rattle.std.specs.Prelude.{vec_capacity};
+    ghost use Rattle.rv_core.specs.Reached.{IsReached};
+
+    ghost invariant = { λ pipeline. IsReached pipeline.parts.value (vec_capacity pipeline.steps) };
+}
+
+impl Pipeline {
+    /// The described pipeline at reset, with an image at the front of its RAM.
+    ///
+    /// # Errors
+    ///
+    /// `ImageDoesNotFit` where the image's base is not that of RAM, its bytes are longer than RAM, or its start is no
+    /// multiple of 4; this is decided before memory is asked for. `Memory` when out of memory. No other call but `run`
+    /// asks for any.
+    pub fn new(
+        alloc: Global,
+        description: &Description,
+        image: &Image,
+    ) -> Result<Pipeline, NewError>
+        ensures made { IfOk result (λ pipeline. pipeline ≡ reset_hardware description.now image.now.bytes image.now.start) }
+        ensures fits { IfOk result (λ pipeline. IsLoadable description.now image.now.base image.now.bytes image.now.start) }
+        ensures refused { IfErr result (λ error. (error ≡ refusal.ImageDoesNotFit) ↔ (IsLoadable description.now image.now.base image.now.bytes image.now.start → ⊥)) }
+    {
+        if !fits(description, image) {
+            return Err(NewError::ImageDoesNotFit);
+        }
+        let parts = Parts::new(alloc, description, image)?;
+        let steps = Vec::with_capacity(alloc, 8)?;
+        Ok(Pipeline { parts, steps })
+    }
+
+    /// Does one cycle with these levels of the interrupt lines, guided by this predictor, and takes no memory. A pipeline
+    /// that has done 2^40 cycles does nothing, and stops as exhausted.
+    pub fn cycle(&mut self, predictor: &mut dyn Predictor, lines: Lines) -> CycleReport
+        ensures cycled { self.old.cycle < 2 ^ 40 → IsGuidedCycle lines (guided self.old (known predictor.old)) (report_of_cycle result) (guided self.new (known predictor.new)) }
+        ensures exhausted { self.old.cycle ≡ 2 ^ 40 → (self.new ≡ self.old) × (report_of_cycle result ≡ exhausted_report) × (known predictor.new ≡ known predictor.old) }
+        ensures true_cycle { self.old.cycle < 2 ^ 40 → IsTrueCycle (layout_of self.old.values) lines self.old.cycle (seen self.old) result.steps.items result.stop (seen self.new) }
+        ensures due_interrupt { self.old.cycle < 2 ^ 40 → TakesDue lines self.old.cycle (seen self.old) result.steps.items }
+        ensures stall { self.old.cycle < 2 ^ 40 → is_some result.stall ≡ (result.dispatched == 0) }
+    {
+        // Of hardware that a reset and cycles lead to, the headline and the laws hold.
+        let _ = self.cycles_done();
+        self.next_cycle(predictor, lines)
+    }
+
+    fn next_cycle(&mut self, predictor: &mut dyn Predictor, lines: Lines) -> CycleReport
+        ensures cycled { self.old.cycle < 2 ^ 40 → IsGuidedCycle lines (guided self.old (known predictor.old)) (report_of_cycle result) (guided self.new (known predictor.new)) }
+        ensures exhausted { self.old.cycle ≡ 2 ^ 40 → (self.new ≡ self.old) × (report_of_cycle result ≡ exhausted_report) × (known predictor.new ≡ known predictor.old) }
+    {
+        self.steps.clear();
+        if self.is_exhausted() {
+            return CycleReport {
+                steps: ArrayVec::new(),
+                dispatched: 0,
+                stall: None,
+                stop: Some(Stop::Exhausted),
+            };
+        }
+        let end = self.parts.advance(lines, predictor, &mut self.steps);
+        CycleReport {
+            steps: listed(self.steps.as_slice()),
+            dispatched: end.dispatched,
+            stall: end.stall,
+            stop: end.stop,
+        }
+    }
+
+    /// Does one cycle, and appends its steps to a list that has room for eight.
+    pub(crate) fn advance(
+        &mut self,
+        predictor: &mut dyn Predictor,
+        lines: Lines,
+        steps: &mut Vec<Step>,
+    ) -> CycleEnd
+        requires cycles { self.old.cycle < 2 ^ 40 }
+        requires room { vec_len steps.old + 8 ≤ vec_capacity steps.old }
+        ensures stop { IsCommitStop result.stop }
+        ensures cycle { (done : List StepOf) × (steps.new.items ≡ steps.old.items ++ done) × (length done ≤ 8) × IsGuidedCycle lines (guided self.old (known predictor.old)) (report_with done result) (guided self.new (known predictor.new)) }
+        ensures capacity { vec_capacity steps.new ≡ vec_capacity steps.old }
+    {
+        self.parts.advance(lines, predictor, steps)
+    }
+
+    /// Whether all the cycles that are counted are done.
+    pub fn is_exhausted(&self) -> bool
+        ensures exhausted { result ≡ nat_le (2 ^ 40) self.now.cycle }
+        ensures within { self.now.cycle ≤ 2 ^ 40 }
+    {
+        self.parts.cycle >= LAST_CYCLE
+    }
+
+    /// How many cycles are done, which is the number of the next one.
+    pub fn cycles_done(&self) -> u64
+        ensures number { result ≡ self.now.cycle }
+        ensures reached { Reachable self.now }
+    {
+        self.parts.cycle
+    }
+
+    /// What retired instructions left: the pc, the registers and the CSRs; and the lines of the last cycle.
+    pub fn observe(&self) -> Observed
+        ensures pc { result.pc ≡ self.now.pc }
+        ensures registers { result.regs ≡ self.now.registers }
+        ensures csrs { result.csrs ≡ self.now.csrs }
+        ensures lines { result.lines ≡ self.now.lines }
+    {
+        let parts = &self.parts;
+        Observed {
+            pc: parts.pc,
+            regs: parts.registers,
+            csrs: parts.csrs,
+            lines: parts.lines,
+        }
+    }
+
+    /// The instructions in flight.
+    pub fn reorder_buffer(&self) -> &Rob
+        ensures { result.now ≡ self.now.rob }
+    {
+        &self.parts.rob
+    }
+
+    /// The fetched words that wait for their dispatch.
+    pub fn front(&self) -> &Front
+        ensures { result.now ≡ self.now.front }
+    {
+        &self.parts.front
+    }
+
+    /// The first cycle in which the access of a retired store to the cache is over that is under way now, or `None` where
+    /// none is.
+    pub fn drain_end(&self) -> Option<u64>
+        ensures { result ≡ drain_end self.now }
+    {
+        self.parts.drain_end()
+    }
+
+    /// The byte that programs see at an address, or `None` outside RAM: that of the youngest retired store that the
+    /// cache does not hold yet, else the cache's.
+    pub fn byte(&self, address: u32) -> Option<u8>
+        ensures seen { result ≡ byte_seen (layout_of self.now.values) (seen self.now).ram address }
+        ensures none_outside { is_in_ram (layout_of self.now.values) address 1 ≡ false → result ≡ None }
+    {
+        self.parts.byte(address)
+    }
+
+    /// Whether the word that holds an address was stored to since the last FENCE.I, which no word outside RAM was.
+    pub fn is_stale(&self, address: u32) -> bool
+        ensures stale { result ≡ set.contains self.now.stale (word_of address) }
+        ensures none_outside { is_in_ram (layout_of self.now.values) address 1 ≡ false → result ≡ false }
+    {
+        self.parts.stale.is_stale(address)
+    }
+}
+
+// Whether the described RAM can hold an image.
+fn fits(description: &Description, image: &Image) -> bool
+    ensures legal { IsLegal description.now }
+    ensures fits { IsTrue result ↔ IsLoadable description.now image.now.base image.now.bytes image.now.start }
+{
+    let values = description.values();
+    image.base == values.ram_base
+        && image.bytes.len() <= values.ram_size as usize
+        && image.start % 4 == 0
+}
+
+// The steps of a cycle.
+fn listed(steps: &[Step]) -> ArrayVec<Step, 8>
+    requires { length steps.now ≤ 8 }
+    ensures { result.items ≡ steps.now }
+{
+    let mut listed = ArrayVec::new();
+    for step in steps {
+        listed.push(*step);
+    }
+    listed
+}
