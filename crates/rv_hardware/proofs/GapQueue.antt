@@ -7,7 +7,7 @@ use Rattle.rv_hardware.proofs.GapCycle.{IsKept}
 abbrev pub CanDrain : Store → Type 0
 CanDrain s = (is_committed s ≡ true) × (is_draining s ≡ false)
 
--- all stores are retired, and none behind the oldest has begun its access
+-- all stores are retired, and none after the oldest has begun its access
 abbrev pub IsQueue : List Store → Type 0
 IsQueue [] = Unit {0}
 IsQueue (s ∷ ss) = (is_committed s ≡ true) × Each CanDrain ss

@@ -52,7 +52,7 @@ module _ (c : ℕ) (m n : Mark) (instruction : n.instruction ≡ m.instruction) 
   operands_back xs mid (Some register ∷ sources) h = (last_back register xs mid h.0, operands_back xs mid sources h.1)
 
   module _ (serial : (is_serialising n.instruction ≡ true → IsBefore c n.retired) → is_serialising m.instruction ≡ true → IsBefore c m.retired) where
-    -- what could start behind a mark that went on could start behind it before
+    -- what could start after a mark that went on could start after it before that
     pub may_back : (k : Kind) (xs mid : List Mark) (z : Mark) → MayStart k c (xs ++ n ∷ mid) z → MayStart k c (xs ++ m ∷ mid) z
     may_back k xs mid z may = record {
       kind = may.kind;

@@ -46,7 +46,7 @@ entries_behind : (r : ReorderBuffer) (e : Entry) (es fs : List Entry) → fs ≡
 entries_behind r e es [] at = absurd (cc)
 entries_behind r e es (f ∷ fs) at = cc
 
--- after a retirement the entries are those behind the head
+-- after a retirement the entries are those after the head
 pub head_retired_entries : (r : ReorderBuffer) (e : Entry) (es : List Entry) → r.entries ≡ e ∷ es → (head_retired r).entries ≡ es
 head_retired_entries r e es at = entries_behind r e es r.entries at
 

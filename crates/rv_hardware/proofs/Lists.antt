@@ -213,12 +213,12 @@ module _ {X : Type 0} where
   EveryBehind-left P before [] ys h = tt
   EveryBehind-left P before (x ∷ xs) ys h = (h.0, EveryBehind-left P (before ++ x ∷ []) xs ys h.1)
 
-  -- of one list, and of another behind it, and so of both together
+  -- of one list, and of another after it, and so of both together
   pub EveryBehind-append : (P : List X → X → Type 0) (before xs ys : List X) → EveryBehind P before xs → EveryBehind P (before ++ xs) ys → EveryBehind P before (xs ++ ys)
   EveryBehind-append P before [] ys h g = rw (append-nil before) at g
   EveryBehind-append P before (x ∷ xs) ys h g = (h.0, EveryBehind-append P (before ++ x ∷ []) xs ys h.1 (rw (← append_assoc before (x ∷ []) xs) at g))
 
-  -- of both together, and so of the second behind the first
+  -- of both together, and so of the second after the first
   pub EveryBehind-right : (P : List X → X → Type 0) (before xs ys : List X) → EveryBehind P before (xs ++ ys) → EveryBehind P (before ++ xs) ys
   EveryBehind-right P before [] ys h = rw (append-nil before) h
   EveryBehind-right P before (x ∷ xs) ys h = rw (← append_assoc before (x ∷ []) xs) (EveryBehind-right P (before ++ x ∷ []) xs ys h.1)

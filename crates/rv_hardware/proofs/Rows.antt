@@ -296,7 +296,7 @@ load_holds_its_unit_for_its_cost : steps_of (record machine { kinds = record mac
 unfolding instruction_of table
 load_holds_its_unit_for_its_cost = refl
 
--- div x5,x6,x7, and two additions behind it that wait for x5, with room for one: a full reorder buffer is the reason before full stations
+-- div x5,x6,x7, and two additions after it that wait for x5, with room for one: a full reorder buffer is the reason before full stations
 full_reorder_buffer_comes_before_full_stations : reasons_of (record machine { rob = 2; kinds = record machine.kinds { alu = record machine.kinds.alu { stations = 1 } } }) (0x027342b3 ∷ 0x00528433 ∷ 0x005404b3 ∷ ebreak ∷ []) 4 ≡
     Some stall.Fetch ∷ None ∷ Some stall.Rob ∷ Some stall.Rob ∷ []
 unfolding instruction_of table
