@@ -9,11 +9,11 @@ use Rattle.rv_arch.specs.State.{State}
 use Rattle.rv_front.specs.Lesson.{Lesson}
 use Rattle.rv_front.specs.Predictors.{AreTaught, after_lesson}
 use Rattle.rv_front.specs.declared.predictors.DescribedPredictor.{DescribedPredictor}
-use Rattle.rv_hardware.proofs.HeadlineCommit.{IsDone, IsGoing, begins_going, commit_done, turn_done}
-use Rattle.rv_hardware.proofs.HeadlineCycle.{always_sound, execute_kept, lines_sound}
-use Rattle.rv_hardware.proofs.HeadlineInvariant.{IsSound}
-use Rattle.rv_hardware.proofs.HeadlineSteps.{LeavesEither}
-use Rattle.rv_hardware.proofs.HeadlineTurn.{GoesFrom, turn_goes_from}
+use Rattle.rv_hardware.proofs.Headline.Commit.{IsDone, IsGoing, begins_going, commit_done, turn_done}
+use Rattle.rv_hardware.proofs.Headline.Cycle.{always_sound, execute_kept, lines_sound}
+use Rattle.rv_hardware.proofs.Headline.Invariant.{IsSound}
+use Rattle.rv_hardware.proofs.Headline.Steps.{LeavesEither}
+use Rattle.rv_hardware.proofs.Headline.Turn.{GoesFrom, turn_goes_from}
 use Rattle.rv_hardware.specs.Commit.{Committing, commit_turn}
 use Rattle.rv_hardware.specs.Cycle.{commit_with, execute, with_lines}
 use Rattle.rv_hardware.specs.Hardware.{Hardware}

@@ -3,8 +3,8 @@ use Rattle.std.proofs.Common.{ℕ, List, Result, Ok, Err, IfOk, MatchResult, sym
 use Rattle.rv_arch.specs.declared.outcome.Stop.{Stop}
 use Rattle.rv_isa.specs.declared.lines.Arrival.{Arrival}
 use Rattle.rv_hardware.proofs.AnyPrediction.{cycles_of}
-use Rattle.rv_hardware.proofs.GapRun.{none_stops-only_last, is_stop-only_last}
-use Rattle.rv_hardware.proofs.HeadlineStops.{headline_of_stop}
+use Rattle.rv_hardware.proofs.Gap.Run.{none_stops-only_last, is_stop-only_last}
+use Rattle.rv_hardware.proofs.Headline.Stops.{headline_of_stop}
 use Rattle.rv_hardware.proofs.Promise.{promise_of_run}
 use Rattle.rv_hardware.specs.Gap.{OnlyLastStops}
 use Rattle.rv_hardware.specs.Guided.{GuidedHardware}

@@ -21,15 +21,15 @@ use Rattle.rv_hardware.specs.Issue.{FromCache, has_port, with_access}
 use Rattle.rv_hardware.specs.Report.{Report}
 use Rattle.rv_hardware.specs.Retirement.{committed_store}
 use Rattle.rv_hardware.specs.Run.{Reachable}
-use Rattle.rv_hardware.proofs.GapBroadcast.{IsKeptByBroadcast, broadcast-keeps}
-use Rattle.rv_hardware.proofs.GapCommit.{IsKeptByCommit, commit-keeps}
-use Rattle.rv_hardware.proofs.GapCosts.{access_cost-least}
-use Rattle.rv_hardware.proofs.GapDispatch.{IsKeptByDispatch, dispatch-keeps}
-use Rattle.rv_hardware.proofs.GapIssue.{IsKeptByIssue, issue-keeps, ready-parts}
-use Rattle.rv_hardware.proofs.GapLists.{by_test}
-use Rattle.rv_hardware.proofs.GapQueue.{CanDrain, HasQueue, IsQueue, queue-kept}
-use Rattle.rv_hardware.proofs.GapSound.{sound}
-use Rattle.rv_hardware.proofs.LawsPort.{has_its_port}
+use Rattle.rv_hardware.proofs.Turns.KeptByBroadcast.{IsKeptByBroadcast, broadcast-keeps}
+use Rattle.rv_hardware.proofs.Turns.KeptByCommit.{IsKeptByCommit, commit-keeps}
+use Rattle.rv_hardware.proofs.Turns.Costs.{access_cost-least}
+use Rattle.rv_hardware.proofs.Turns.KeptByDispatch.{IsKeptByDispatch, dispatch-keeps}
+use Rattle.rv_hardware.proofs.Turns.KeptByIssue.{IsKeptByIssue, issue-keeps, ready-parts}
+use Rattle.rv_hardware.proofs.Tests.{by_test}
+use Rattle.rv_hardware.proofs.Always.Queue.{CanDrain, HasQueue, IsQueue, queue-kept}
+use Rattle.rv_hardware.proofs.Always.Sound.{sound}
+use Rattle.rv_hardware.proofs.Laws.Port.Loads.{has_its_port}
 use Rattle.rv_explain.specs.Drain.{begun, ends_at}
 
 -- the end of the access under way, by whether the oldest store drains

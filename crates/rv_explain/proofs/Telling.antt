@@ -15,7 +15,7 @@ use Rattle.rv_hardware.specs.Report.{Report}
 use Rattle.rv_hardware.specs.Run.{IsStop, NoneStops, steps_of}
 use Rattle.rv_hardware.specs.declared.step.Step.{Step}
 use Rattle.rv_hardware.proofs.AnyPrediction.{cycles_of}
-use Rattle.rv_hardware.proofs.HeadlineReached.{cycles_counted}
+use Rattle.rv_hardware.proofs.Headline.Reached.{cycles_counted}
 use Rattle.rv_explain.specs.Drain.{drain_in}
 use Rattle.rv_explain.specs.Explanation.{IsTold}
 use Rattle.rv_explain.specs.History.{History, Moment, ended, cycled, reports_of}

@@ -30,3 +30,8 @@ pub mod NoIdleUnit
 pub mod FetchedAnew
 pub mod NoIdleFetch
 pub mod NoIdleDispatch
+pub mod Counts
+pub mod OfCycles
+pub mod OfRuns
+pub mod Due
+pub mod Busy

@@ -2,8 +2,8 @@
 use Rattle.rv_hardware.proofs.Words.{◌≡◌, ℕ, ◌+◌, ◌-◌, ◌<◌, ◌≤◌, max, cond, ◌⊎◌, List, [], ◌∷◌, ◌++◌, All, subst, inl, inr, ⊎_elim, arith, All-append, All-head, All-nil, All-weaker, Arrival, Layout, State, Hardware, Report, Cycles, Reachable, is_silent, longest_gap_from, longest_gap_of, steps_of, layout_of, stamp_of, Step, All-right}
 use Rattle.std.proofs.str.Laws.{order}
 use Rattle.rv_hardware.specs.LongestGap.{IsGap, IsLongestGap}
-use Rattle.rv_hardware.proofs.HeadlineCycle.{always_sound}
-use Rattle.rv_hardware.proofs.HeadlineRun.{TrueCycles, none, one_more, counts_cycles, cycles_true, true_within}
+use Rattle.rv_hardware.proofs.Headline.Cycle.{always_sound}
+use Rattle.rv_hardware.proofs.Headline.Run.{TrueCycles, none, one_more, counts_cycles, cycles_true, true_within}
 
 -- a cycle is outside of so many cycles from the first on
 abbrev IsOutside : ℕ → ℕ → Step → Type 0

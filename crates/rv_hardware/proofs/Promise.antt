@@ -1,11 +1,11 @@
 -- The promise is true of every run of hardware that a reset and cycles lead to, where no cycle but the last stops it.
 use Rattle.rv_hardware.proofs.Words.{List, Arrival, OnlyLastStops, Hardware, Report, Cycles, Reachable, seen}
 use Rattle.rv_hardware.specs.Promise.{IsPromised, reported_of}
-use Rattle.rv_hardware.proofs.GapRun.{no_silence}
-use Rattle.rv_hardware.proofs.HeadlineRun.{headline_of_run}
-use Rattle.rv_hardware.proofs.LawsBusy.{counts_hold}
-use Rattle.rv_hardware.proofs.LawsDue.{due_interrupts_of_runs}
-use Rattle.rv_hardware.proofs.LawsOfRuns.{laws_of_runs}
+use Rattle.rv_hardware.proofs.Gap.Run.{no_silence}
+use Rattle.rv_hardware.proofs.Headline.Run.{headline_of_run}
+use Rattle.rv_hardware.proofs.Laws.Busy.{counts_hold}
+use Rattle.rv_hardware.proofs.Laws.Due.{due_interrupts_of_runs}
+use Rattle.rv_hardware.proofs.Laws.OfRuns.{laws_of_runs}
 use Rattle.rv_hardware.proofs.LongestGap.{longest_gap_of_run}
 
 -- the cycles of a run from reachable hardware, of which only the last may stop, keep the promise

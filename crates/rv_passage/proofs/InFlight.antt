@@ -10,7 +10,7 @@ use Rattle.rv_rob.specs.declared.entry.Entry.{Entry}
 use Rattle.rv_rob.proofs.Places.{entry_of-place}
 use Rattle.rv_hardware.specs.Hardware.{Hardware}
 use Rattle.rv_hardware.specs.Run.{Reachable}
-use Rattle.rv_hardware.proofs.GapSound.{sound}
+use Rattle.rv_hardware.proofs.Always.Sound.{sound}
 use Rattle.rv_passage.specs.Passage.{in_flight, of_entry, of_fetched}
 
 pub few_entries : {h : Hardware} → Reachable h → h.rob.capacity ≤ 256

@@ -14,7 +14,7 @@ use Rattle.rv_hardware.specs.Run.{IsStop, NoneStops}
 use Rattle.rv_hardware.specs.Report.{Report}
 use Rattle.rv_hardware.specs.declared.step.Step.{Step}
 use Rattle.rv_hardware.proofs.AnyPrediction.{cycles_of}
-use Rattle.rv_hardware.proofs.HeadlineReached.{cycles_counted}
+use Rattle.rv_hardware.proofs.Headline.Reached.{cycles_counted}
 use Rattle.rv_passage.specs.Follows.{Follows, begun, followed}
 use Rattle.rv_passage.specs.Passage.{in_flight}
 use Rattle.rv_passage.specs.Table.{CanCount, Passages, after_cycle, numbered_from, table_at}

@@ -20,7 +20,7 @@ use Rattle.rv_hardware.specs.Run.{IsStop, steps_of}
 use Rattle.rv_hardware.specs.Step.{is_interrupt, is_retirement, is_trap}
 use Rattle.rv_hardware.specs.declared.step.Step.{Step}
 use Rattle.rv_hardware.proofs.AnyPrediction.{cycles_of}
-use Rattle.rv_hardware.proofs.HeadlineReached.{cycles_counted}
+use Rattle.rv_hardware.proofs.Headline.Reached.{cycles_counted}
 use Rattle.rv_report.specs.LiveReport.{IsRunReport, IsTraced, Reports}
 use Rattle.rv_report.specs.Rows.{step_line, trace_lines}
 use Rattle.rv_report.specs.RunReport.{end_of, run_report, trace_of}

@@ -14,11 +14,11 @@ use Rattle.rv_hardware.specs.Hardware.{Hardware}
 use Rattle.rv_hardware.specs.Issue.{issue}
 use Rattle.rv_hardware.specs.Report.{Report}
 use Rattle.rv_hardware.specs.Run.{Cycles, ended, cycled}
-use Rattle.rv_hardware.proofs.GapBroadcast.{broadcast-keeps}
-use Rattle.rv_hardware.proofs.GapCommit.{commit-keeps}
-use Rattle.rv_hardware.proofs.GapDispatch.{dispatch-keeps}
-use Rattle.rv_hardware.proofs.GapDrain.{drain-keeps}
-use Rattle.rv_hardware.proofs.GapIssue.{issue-keeps}
+use Rattle.rv_hardware.proofs.Turns.KeptByBroadcast.{broadcast-keeps}
+use Rattle.rv_hardware.proofs.Turns.KeptByCommit.{commit-keeps}
+use Rattle.rv_hardware.proofs.Turns.KeptByDispatch.{dispatch-keeps}
+use Rattle.rv_hardware.proofs.Turns.KeptByDrain.{drain-keeps}
+use Rattle.rv_hardware.proofs.Turns.KeptByIssue.{issue-keeps}
 use Rattle.rv_sim.specs.SimulationReport.{lines_after}
 
 abbrev Has : Lines → Hardware → Type 0

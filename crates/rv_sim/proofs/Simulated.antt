@@ -14,11 +14,11 @@ use Rattle.rv_hardware.specs.Reset.{IsLoadable}
 use Rattle.rv_hardware.specs.Run.{Cycles, ended, cycled, IsStop, Reachable, at_reset, steps_of}
 use Rattle.rv_hardware.specs.Seen.{seen}
 use Rattle.rv_hardware.proofs.AnyPrediction.{cycles_of}
-use Rattle.rv_hardware.proofs.GapRun.{is_stop-only_last}
-use Rattle.rv_hardware.proofs.HeadlineCycle.{always_sound, cycle_true}
-use Rattle.rv_hardware.proofs.HeadlineInvariant.{IsSound}
-use Rattle.rv_hardware.proofs.HeadlineReached.{cycles_counted}
-use Rattle.rv_hardware.proofs.HeadlineStops.{headline_of_stop}
+use Rattle.rv_hardware.proofs.Gap.Run.{is_stop-only_last}
+use Rattle.rv_hardware.proofs.Headline.Cycle.{always_sound, cycle_true}
+use Rattle.rv_hardware.proofs.Headline.Invariant.{IsSound}
+use Rattle.rv_hardware.proofs.Headline.Reached.{cycles_counted}
+use Rattle.rv_hardware.proofs.Headline.Stops.{headline_of_stop}
 use Rattle.rv_hardware.proofs.Promise.{promise_of_run}
 use Rattle.rv_report.specs.LiveReport.{IsRunReport}
 use Rattle.rv_report.specs.RunReport.{run_report}

@@ -1,14 +1,14 @@
 -- At most `bus_width` results are broadcast in a cycle.
 use Rattle.rv_hardware.proofs.Words.{◌≡◌, ℕ, suc, ◌+◌, ◌<◌, ◌≤◌, Bool, true, false, List, ◌∷◌, ◌++◌, map, IfSome, nat_le, ◌==◌, Some, None, Option, refl, ap, ◌∙◌, arith, ne_eqb, eqb-true, le-leb, and_from, Instr, Values, finished, predicting, Entry, Stage, Finished, Running, Waiting, broadcast, broadcast_turn, Dispatching, dispatch, dispatch_turn, entry_of_fetched, Hardware, NeverMoreThan, Turn, is_broadcast_in, passes, rows_of, Execution, Step, Each-weaker, Each-all, count, count-append, count-none, count-map, count-set-more, count-push, count-push-no, count-left, Leads, turns_within, kept_by_turns}
-use Rattle.rv_hardware.proofs.LawsBasics.{dispatched_mark}
-use Rattle.rv_hardware.proofs.LawsBroadcast.{BroadcastTurn, none_ready, sends, mends, broadcast_turn_is, sent_entries, mended_entries}
-use Rattle.rv_hardware.proofs.LawsCounted.{Shows, counted_law}
-use Rattle.rv_hardware.proofs.LawsCycle.{History, dispatching, issued_all, sent_all}
-use Rattle.rv_hardware.proofs.LawsDispatch.{DispatchTurn, buffer_empty, waits, dispatches, dispatch_turn_is}
-use Rattle.rv_hardware.proofs.LawsMarks.{Mark, mark_of_row, mark_of_fetched, marks_in, until, broadcast_of_stage, broadcast_of_execution, until_by}
-use Rattle.rv_hardware.proofs.LawsRow.{SoundRow}
-use Rattle.rv_hardware.proofs.LawsSound.{SoundEntry, SoundStage}
-use Rattle.rv_hardware.proofs.LawsWidths.{is_at, count_marks}
+use Rattle.rv_hardware.proofs.Marks.Basics.{dispatched_mark}
+use Rattle.rv_hardware.proofs.Turns.Broadcast.{BroadcastTurn, none_ready, sends, mends, broadcast_turn_is, sent_entries, mended_entries}
+use Rattle.rv_hardware.proofs.Marks.Counted.{Shows, counted_law}
+use Rattle.rv_hardware.proofs.Marks.History.{History, dispatching, issued_all, sent_all}
+use Rattle.rv_hardware.proofs.Turns.Dispatch.{DispatchTurn, buffer_empty, waits, dispatches, dispatch_turn_is}
+use Rattle.rv_hardware.proofs.Marks.List.{Mark, mark_of_row, mark_of_fetched, marks_in, until, broadcast_of_stage, broadcast_of_execution, until_by}
+use Rattle.rv_hardware.proofs.Marks.Row.{SoundRow}
+use Rattle.rv_hardware.proofs.Marks.Sound.{SoundEntry, SoundStage}
+use Rattle.rv_hardware.proofs.Marks.Widths.{is_at, count_marks}
 
 sent_shows_by : (c D C : ℕ) (x : Option Execution) → IfSome x (λ x. (D < x.issued) × (x.issued + x.cost ≤ x.broadcast) × (x.broadcast < C)) → passes (λ y. y.broadcast == c) x ≡ true →
     (is_at c (until c (broadcast_of_execution x)) ≡ true) × (D < c) × (c < C)

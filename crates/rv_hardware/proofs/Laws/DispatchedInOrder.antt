@@ -1,8 +1,8 @@
 -- Instructions are dispatched in order.
 use Rattle.rv_hardware.proofs.Words.{◌≤◌, List, AllPairs, arith, Values, Hardware, rows_of, Step, AllPairs-EveryPair}
-use Rattle.rv_hardware.proofs.LawsCycle.{History}
-use Rattle.rv_hardware.proofs.LawsOrder.{IsDispatchedFirst, history_is_orderly}
-use Rattle.rv_hardware.proofs.LawsPairs.{row_pairs}
+use Rattle.rv_hardware.proofs.Marks.History.{History}
+use Rattle.rv_hardware.proofs.Marks.Order.{IsDispatchedFirst, history_is_orderly}
+use Rattle.rv_hardware.proofs.Marks.Pairs.{row_pairs}
 
 -- the field `dispatched_in_order` of `Laws`, over every history
 pub law_of_dispatched_in_order : (v : Values) {steps : List Step} {h : Hardware} → History v steps h → AllPairs (λ a b. a.dispatched ≤ b.dispatched) (rows_of steps)

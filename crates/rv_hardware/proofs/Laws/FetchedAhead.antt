@@ -1,8 +1,8 @@
 -- The front keeps ahead of the head.
 use Rattle.rv_hardware.proofs.Words.{ℕ, true, List, Values, Hardware, IsFetchedAhead, EachNext, stamp_of, Step, Interrupt, Retired, Trap}
-use Rattle.rv_hardware.proofs.LawsCycle.{History}
-use Rattle.rv_hardware.proofs.LawsFollow.{IsAhead}
-use Rattle.rv_hardware.proofs.LawsAhead.{follows}
+use Rattle.rv_hardware.proofs.Marks.History.{History}
+use Rattle.rv_hardware.proofs.Laws.HeadsDoNotWait.Follow.{IsAhead}
+use Rattle.rv_hardware.proofs.Laws.HeadsDoNotWait.Ahead.{follows}
 
 by_step : (c : ℕ) (x : Step) → IsAhead c true x → IsFetchedAhead c x
 by_step c (Retired row) h = h

@@ -1,15 +1,15 @@
 -- The bus is not idle while a result waits.
 use Rattle.rv_hardware.proofs.Words.{◌≡◌, ℕ, suc, ◌+◌, ◌<◌, ◌≤◌, Bool, true, false, cond, ◌&&◌, List, [], ◌∷◌, ◌++◌, map, length, IfSome, nat_le, ◌==◌, Some, None, count_by, Option, sym, refl, ap, ◌∙◌, subst, append_assoc, arith, eq-eqb, le-leb, Message, Issue, Values, Each, finished, predicting, Entry, Fetched, broadcast, broadcast_turn, has_result, with_broadcast, Hardware, LeavesNoBusIdle, Turn, EachBehind, is_broadcast_in, passes, rows_of, Execution, Row, Step, and_second, Each-append, Each-place, Each-all, EveryBehind, count, count-set-grows, count-set-one_more, EveryBehind-left, EveryBehind-append, EveryBehind-right, Beginning-EveryBehind, EveryBehind-moved, EveryBehind-all, EveryBehind-set, Leads, turns_within}
-use Rattle.rv_hardware.proofs.LawsAdvance.{IsBefore, IsSentIfReady, Advances, retires, starts, is_sent, enters, IsSent, Kept}
-use Rattle.rv_hardware.proofs.LawsBroadcast.{BroadcastTurn, none_ready as no_result, sends, mends, Sends, broadcast_turn_is, sent_entries, mended_entries}
-use Rattle.rv_hardware.proofs.LawsCounted.{behind_law, behind_count}
-use Rattle.rv_hardware.proofs.LawsCycle.{Anything, anything_is_kept, History, history_is_legal, history_is_sound, issued_all, sent_all, dispatching}
-use Rattle.rv_hardware.proofs.LawsEvidence.{rows_sent, entries_sent}
-use Rattle.rv_hardware.proofs.LawsPast.{rows_obey}
-use Rattle.rv_hardware.proofs.LawsPhases.{Broadcasts, broadcast_turn_keeps, dispatch_keeps, goes_later, send_is, with_marks}
-use Rattle.rv_hardware.proofs.LawsRow.{SoundRow}
-use Rattle.rv_hardware.proofs.LawsMarks.{Mark, Start, mark_of_row, mark_of_entry, mark_of_fetched, marks, marks_in, marks_at_entry, as_of, at_end, was_fetched, until, broadcast_of_execution, until_now}
-use Rattle.rv_hardware.proofs.LawsWidths.{is_at}
+use Rattle.rv_hardware.proofs.Marks.Advance.{IsBefore, IsSentIfReady, Advances, retires, starts, is_sent, enters, IsSent, Kept}
+use Rattle.rv_hardware.proofs.Turns.Broadcast.{BroadcastTurn, none_ready as no_result, sends, mends, Sends, broadcast_turn_is, sent_entries, mended_entries}
+use Rattle.rv_hardware.proofs.Marks.Counted.{behind_law, behind_count}
+use Rattle.rv_hardware.proofs.Marks.History.{Anything, anything_is_kept, History, history_is_legal, history_is_sound, issued_all, sent_all, dispatching}
+use Rattle.rv_hardware.proofs.Marks.Evidence.{rows_sent, entries_sent}
+use Rattle.rv_hardware.proofs.Marks.Past.{rows_obey}
+use Rattle.rv_hardware.proofs.Marks.Phases.{Broadcasts, broadcast_turn_keeps, dispatch_keeps, goes_later, send_is, with_marks}
+use Rattle.rv_hardware.proofs.Marks.Row.{SoundRow}
+use Rattle.rv_hardware.proofs.Marks.List.{Mark, Start, mark_of_row, mark_of_entry, mark_of_fetched, marks, marks_in, marks_at_entry, as_of, at_end, was_fetched, until, broadcast_of_execution, until_now}
+use Rattle.rv_hardware.proofs.Marks.Widths.{is_at}
 
 abbrev pub is_sent_in : ℕ → Mark → Bool
 is_sent_in c m = is_at c m.broadcast

@@ -1,10 +1,10 @@
 -- A pipelined unit begins at most one instruction a cycle.
 use Rattle.rv_hardware.proofs.Words.{◌≡◌, ℕ, ◌+◌, ◌<◌, ◌≤◌, true, false, ◌&&◌, List, nat_lt, nat_le, ◌==◌, Some, None, Option, sym, refl, subst, arith, lt-ltb, ne_eqb, eqb-true, le-leb, and_from, and_right, is_of_kind, kind_of_word, at_kind, Kind, Values, Hardware, FitUnits, is_pipelined, is_issued_in, is_row_of_kind, passes, rows_of, Execution, Step, and_first, and_second}
-use Rattle.rv_hardware.proofs.LawsCounted.{Shows}
-use Rattle.rv_hardware.proofs.LawsCycle.{History}
-use Rattle.rv_hardware.proofs.LawsMarks.{Start, start_until, start_of_execution}
-use Rattle.rv_hardware.proofs.LawsUnits.{start_holds}
-use Rattle.rv_hardware.proofs.LawsUnitRows.{Between, units_law, starts_at, begins_mark}
+use Rattle.rv_hardware.proofs.Marks.Counted.{Shows}
+use Rattle.rv_hardware.proofs.Marks.History.{History}
+use Rattle.rv_hardware.proofs.Marks.List.{Start, start_until, start_of_execution}
+use Rattle.rv_hardware.proofs.Laws.OtherUnits.Phases.{start_holds}
+use Rattle.rv_hardware.proofs.Laws.OtherUnits.Rows.{Between, units_law, starts_at, begins_mark}
 
 begins_holds : (c : ℕ) (o : Option Start) → starts_at c o ≡ true → start_holds true c o ≡ true
 begins_holds c None h = absurd (cc)

@@ -1,7 +1,8 @@
 -- Steps come in program order.
+pub mod Steps
 use Rattle.rv_hardware.proofs.Words.{◌≤◌, List, AllPairs, Values, Hardware, stamp_of, Step, AllPairs-EveryPair, EveryPair-weaker}
-use Rattle.rv_hardware.proofs.LawsCycle.{History}
-use Rattle.rv_hardware.proofs.LawsSteps.{InOrder, history_has_steps}
+use Rattle.rv_hardware.proofs.Marks.History.{History}
+use Rattle.rv_hardware.proofs.Laws.StepsInOrder.Steps.{InOrder, history_has_steps}
 
 -- the field `steps_in_order` of `Laws`, over every history
 pub law_of_steps_in_order : (v : Values) {steps : List Step} {h : Hardware} → History v steps h → AllPairs (λ a b. stamp_of a ≤ stamp_of b) steps

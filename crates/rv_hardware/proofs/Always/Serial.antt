@@ -1,0 +1,91 @@
+-- An instruction that waits to be the oldest is the youngest: nothing younger is in flight beside it.
+use Rattle.rv_hardware.proofs.Words.{◌≡◌, ℕ, true, false, List, [], ◌∷◌, ◌++◌, Option, sym, refl, ap, ◌∙◌, subst, or_parts, map-append, is_serialising, Instr, Values, finished, predicting, started, Entry, entry_of_fetched, Hardware, reset_hardware, map-change}
+use Rattle.rv_hardware.proofs.Turns.KeptByCycle.{IsKept}
+use Rattle.rv_hardware.proofs.Gap.Reasons.{is_any_serialising, no_reason}
+use Rattle.rv_hardware.proofs.Always.Stores.{instruction_of_entry, instructions_of}
+
+-- where others are younger
+abbrev WhereOthers : List (Option Instr) → Type 0 → Type 0
+WhereOthers [] claim = Unit {0}
+WhereOthers (x ∷ xs) claim = claim
+
+-- of some instructions, each before the last does not serialise
+abbrev pub AreSerialLast : List (Option Instr) → Type 0
+AreSerialLast [] = Unit {0}
+AreSerialLast (x ∷ xs) = WhereOthers xs (is_serialising x ≡ false) × AreSerialLast xs
+
+-- an instruction in flight that serialises is the youngest
+abbrev pub IsSerialLast : Hardware → Type 0
+IsSerialLast h = AreSerialLast (instructions_of h.rob.entries)
+
+fewer_others : (claim : Type 0) (xs ys : List (Option Instr)) (x : Option Instr) → WhereOthers (xs ++ x ∷ ys) claim → WhereOthers (xs ++ x ∷ []) claim
+fewer_others claim [] ys x given = given
+fewer_others claim (y ∷ xs) ys x given = given
+
+cut_last : (xs ys : List (Option Instr)) (x : Option Instr) → AreSerialLast (xs ++ x ∷ ys) → AreSerialLast (xs ++ x ∷ [])
+cut_last [] ys x last = (tt, tt)
+cut_last (y ∷ xs) ys x last = (fewer_others (is_serialising y ≡ false) xs ys x last.0, cut_last xs ys x last.1)
+
+others : (claim : Type 0) (xs : List (Option Instr)) (x : Option Instr) → claim → WhereOthers (xs ++ x ∷ []) claim
+others claim [] x given = given
+others claim (y ∷ xs) x given = given
+
+push_last : (es : List Entry) (x : Option Instr) → is_any_serialising es ≡ false → AreSerialLast (instructions_of es ++ x ∷ [])
+push_last [] x none = (tt, tt)
+push_last (e ∷ es) x none =
+    let parts = or_parts (is_serialising e.instruction) (is_any_serialising es) none in
+    (others (is_serialising e.instruction ≡ false) (instructions_of es) x parts.0, push_last es x parts.1)
+
+-- one among them is another one with the same instruction
+changed_last : (es older younger : List Entry) (old new : Entry) → new.instruction ≡ old.instruction → es ≡ older ++ old ∷ younger → AreSerialLast (instructions_of es) → AreSerialLast (instructions_of (older ++ new ∷ younger))
+changed_last es older younger old new same split last =
+    subst AreSerialLast (ap instructions_of split ∙ sym (map-change instruction_of_entry older younger old new same)) last
+
+-- what is younger is gone
+mended_last : (older younger : List Entry) (old new : Entry) → new.instruction ≡ old.instruction → AreSerialLast (instructions_of (older ++ old ∷ younger)) → AreSerialLast (instructions_of (older ++ new ∷ []))
+mended_last older younger old new same last =
+    let whole = subst AreSerialLast (map-append instruction_of_entry older (old ∷ younger)) last in
+    let cut = cut_last (instructions_of older) (instructions_of younger) old.instruction whole in
+    let back : AreSerialLast (instructions_of (older ++ old ∷ [])) = subst AreSerialLast (sym (map-append instruction_of_entry older (old ∷ []))) cut in
+    subst AreSerialLast (sym (map-change instruction_of_entry older [] old new same)) back
+
+-- every cycle keeps it
+pub last-kept : IsKept IsSerialLast
+last-kept = record {
+  phases = record {
+    lines = λ h levels last. last;
+    commit = record {
+      empties = λ h s retired last. tt;
+      retires = λ h e es s message last split known faultless.
+          let all : AreSerialLast (instructions_of (e ∷ es)) = subst (λ l. AreSerialLast (instructions_of l)) split last in
+          all.1;
+      writes_back = λ h last drained. last;
+    };
+    drain = record { leaves = λ h last idle. last; drains = λ h access last idle is. last };
+    issue = λ k. record {
+      accesses = λ h older younger e address last split ready by. last;
+      starts = λ h older younger e cost message last split waits of_kind result costs.
+          changed_last h.rob.entries older younger e (started (record { cycle = h.cycle; cost = cost }) message e) refl split last;
+    };
+    broadcast = record {
+      broadcasts = λ h older younger e message last split gives. changed_last h.rob.entries older younger e (finished message h.cycle e) refl split last;
+      mends = λ h older younger e next last split.
+          mended_last older younger e (predicting next e) refl (subst (λ l. AreSerialLast (instructions_of l)) split last);
+    };
+    dispatch = record {
+      dispatches = λ h fetched rest last first none.
+          subst AreSerialLast (sym (map-append instruction_of_entry h.rob.entries (entry_of_fetched h fetched ∷ [])))
+          (push_last h.rob.entries fetched.instruction (no_reason h fetched none).alone);
+    };
+  };
+  fetch = record { fetches = λ ram cycle h front stop last fetches. last };
+}
+
+-- it holds at reset
+pub last-at_reset : (values : Values) (image : List ℕ) (start : ℕ) → IsSerialLast (reset_hardware values image start)
+last-at_reset values image start = tt
+
+-- so one that is the oldest is alone
+pub alone : (e : Entry) (es : List Entry) → AreSerialLast (instructions_of (e ∷ es)) → is_serialising e.instruction ≡ true → es ≡ []
+alone e [] last serial = refl
+alone e (f ∷ es) last serial = absurd (cc (serial, last.0))

@@ -1,0 +1,99 @@
+-- The cache holds no more lines than it has room for, so its write-back has a longest time.
+use Rattle.rv_hardware.proofs.Words.{◌≡◌, ℕ, ◌*◌, ◌%◌, ◌≤◌, Bool, true, false, cond, List, [], ◌∷◌, map, length, refl, arith, length-set, mul-le-mul_right, length-map, length-replicate, CacheValues, Values, Memory, Contents, accessed_sets, line_of, set_of, cleaned, dirty_count, dirty_total, Each, CacheLine, write_back_time, Hardware, reset_hardware}
+use Rattle.rv_cache.proofs.Replacement.{length-accessed}
+use Rattle.rv_cache.proofs.Sets.{Each-at, Each-map, Each-replicate, Each-set}
+use Rattle.rv_cache.specs.Replacement.{accessed}
+use Rattle.rv_hardware.proofs.Turns.KeptByCycle.{IsKept}
+use Rattle.rv_hardware.proofs.Turns.Forms.{longest_write_back}
+
+abbrev Fits : ℕ → List CacheLine → Type 0
+Fits ways lines = length lines ≤ ways
+
+abbrev pub FitIn : CacheValues → List (List CacheLine) → Type 0
+FitIn values sets = (length sets ≤ values.sets) × Each (Fits values.ways) sets
+
+-- the cache has no more sets than described, and no set more lines than ways
+abbrev pub HasRoom : Hardware → Type 0
+HasRoom h = FitIn h.cache.values h.cache.sets
+
+empty_fits : (ways : ℕ) → Fits ways []
+empty_fits ways = omega arith
+
+-- an access leaves no more lines in a set than there is room for
+pub accessed-fit : (cache : Contents Memory) (address : ℕ) (writes : Bool) → FitIn cache.values cache.sets → FitIn cache.values (accessed_sets cache address writes)
+accessed-fit cache address writes fits =
+    let number : ℕ = line_of cache address in
+    let room = Each-at (Fits cache.values.ways) cache.sets (number % cache.values.sets) [] (empty_fits cache.values.ways) fits.1 in
+    let lines : List CacheLine = accessed cache.values.ways number writes (set_of cache number) in (
+      omega (arith, length-set cache.sets (number % cache.values.sets) lines, fits.0),
+      Each-set (Fits cache.values.ways) cache.sets (number % cache.values.sets) lines (length-accessed cache.values.ways number (set_of cache number) writes room) fits.1,
+    )
+
+cleaned_fits : (ways : ℕ) (lines : List CacheLine) → Fits ways lines → Fits ways (map cleaned lines)
+cleaned_fits ways lines fits = omega (arith, length-map lines cleaned)
+
+pub written-fit : (values : CacheValues) (sets : List (List CacheLine)) → FitIn values sets → FitIn values (map (map cleaned) sets)
+written-fit values sets fits =
+    (omega (arith, length-map sets (map cleaned), fits.0), Each-map (Fits values.ways) (map cleaned) (cleaned_fits values.ways) sets fits.1)
+
+-- no more lines are dirty than there are
+one_at_most : (dirty : Bool) → cond dirty 1 0 ≤ 1
+one_at_most true = omega arith
+one_at_most false = omega arith
+
+count_at_most : (lines : List CacheLine) → dirty_count lines ≤ length lines
+count_at_most [] = omega arith
+count_at_most (line ∷ lines) = omega (arith, one_at_most line.dirty, count_at_most lines)
+
+total_at_most : (ways : ℕ) (sets : List (List CacheLine)) → Each (Fits ways) sets → dirty_total sets ≤ length sets * ways
+total_at_most ways [] fit = omega arith
+total_at_most ways (lines ∷ sets) fit =
+    omega (arith, count_at_most lines, total_at_most ways sets fit.1, fit.0)
+
+-- a write-back takes no longer than one of all lines
+pub write_back_time-most : (h : Hardware) → HasRoom h → write_back_time h ≤ longest_write_back h
+write_back_time-most h fits =
+    let lines = total_at_most h.cache.values.ways h.cache.sets fits.1 in
+    let all : length h.cache.sets * h.cache.values.ways ≤ h.cache.values.sets * h.cache.values.ways = mul-le-mul_right h.cache.values.ways fits.0 in
+    let dirty : dirty_total h.cache.sets ≤ h.cache.values.sets * h.cache.values.ways = omega arith in
+    mul-le-mul_right h.values.cache.write_back dirty
+
+-- after a write-back none is dirty
+none_dirty : (lines : List CacheLine) → dirty_count (map cleaned lines) ≡ 0
+none_dirty [] = refl
+none_dirty (line ∷ lines) = omega (arith, none_dirty lines)
+
+-- after a write-back no line is dirty
+pub clean-after : (sets : List (List CacheLine)) → dirty_total (map (map cleaned) sets) ≡ 0
+clean-after [] = refl
+clean-after (lines ∷ sets) = omega (arith, none_dirty lines, clean-after sets)
+
+-- every cycle keeps it
+pub room-kept : IsKept HasRoom
+room-kept = record {
+  phases = record {
+    lines = λ h levels fits. fits;
+    commit = record {
+      empties = λ h s retired fits. fits;
+      retires = λ h e es s message fits split known faultless. fits;
+      writes_back = λ h fits drained. written-fit h.cache.values h.cache.sets fits;
+    };
+    drain = record { leaves = λ h fits idle. fits; drains = λ h access fits idle is. accessed-fit h.cache access.address true fits };
+    issue = λ k. record {
+      accesses = λ h older younger e address fits split ready by. accessed-fit h.cache address false fits;
+      starts = λ h older younger e cost message fits split waits of_kind result costs. fits;
+    };
+    broadcast = record {
+      broadcasts = λ h older younger e message fits split gives. fits;
+      mends = λ h older younger e next fits split. fits;
+    };
+    dispatch = record { dispatches = λ h fetched rest fits first none. fits };
+  };
+  fetch = record { fetches = λ ram cycle h front stop fits fetches. fits };
+}
+
+-- it holds at reset
+pub room-at_reset : (values : Values) (image : List ℕ) (start : ℕ) → HasRoom (reset_hardware values image start)
+room-at_reset values image start =
+    let none : List CacheLine = [] in
+    (omega (arith, length-replicate values.cache.sets none), Each-replicate (Fits values.cache.ways) values.cache.sets [] (empty_fits values.cache.ways))

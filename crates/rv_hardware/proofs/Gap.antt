@@ -1,0 +1,17 @@
+-- No run stands still for longer than the bound.
+pub mod Reasons
+pub mod Patience
+pub mod Bound
+pub mod Silent
+pub mod Drained
+pub mod UnitTime
+pub mod Head
+pub mod Ready
+pub mod Waiting
+pub mod Execute
+pub mod FallRunning
+pub mod FallWaiting
+pub mod FallFence
+pub mod FallEmpty
+pub mod Fall
+pub mod Run

@@ -1,0 +1,148 @@
+-- No phase after commit changes what was described, and the stage of the oldest bounds the patience in the next cycle.
+use Rattle.rv_hardware.proofs.Words.{◌≡◌, ℕ, ◌+◌, ◌≤◌, false, List, [], ◌∷◌, Some, Option, sym, refl, ap, ◌∙◌, subst, arith, is_serialising, Message, Instr, FenceI, Issue, CacheValues, Values, Each, finished, issue_of, predicting, Entry, Stage, Finished, Running, Waiting, FetchBuffer, broadcast, broadcast_turn, result_at, execute, dispatch, entry_of_fetched, drain, Hardware, issue, Leaves}
+use Rattle.rv_hardware.proofs.Turns.KeptByDrain.{drain-keeps}
+use Rattle.rv_hardware.proofs.Turns.KeptByIssue.{issue-keeps}
+use Rattle.rv_hardware.proofs.Turns.KeptByBroadcast.{IsKeptByBroadcast, broadcast-keeps, broadcast_turn-keeps}
+use Rattle.rv_hardware.proofs.Turns.KeptByCycle.{IsKeptByPhases, execute-keeps}
+use Rattle.rv_hardware.proofs.Turns.KeptByDispatch.{IsKeptByDispatch, dispatch-keeps}
+use Rattle.rv_hardware.proofs.Turns.Forms.{longest_execution}
+use Rattle.rv_hardware.proofs.Gap.Head.{HasBegun, HeadIs, Waits, head-change, head-cut, head-push, IsAnywhere}
+use Rattle.rv_hardware.proofs.Gap.Patience.{flight_time, head_time, patience, stage_time}
+use Rattle.rv_hardware.proofs.Always.Executions.{AreEnding, Ending, EndsBy}
+
+-- the next cycle begins
+abbrev pub later : FetchBuffer → Hardware → Hardware
+later front h = record h { front = front; cycle = h.cycle + 1 }
+
+-- ---- no phase changes what was described, nor the cycle's number
+abbrev pub SameAs : Values → CacheValues → ℕ → Hardware → Type 0
+SameAs values cache cycle h = (h.values ≡ values) × (h.cache.values ≡ cache) × (h.cycle ≡ cycle)
+
+-- no phase from commit to dispatch changes what was described or the cycle's number
+pub same-kept : (values : Values) (cache : CacheValues) (cycle : ℕ) → IsKeptByPhases (SameAs values cache cycle)
+same-kept values cache cycle = record {
+  lines = λ h levels same. same;
+  commit = record {
+    empties = λ h s retired same. same;
+    retires = λ h e es s message same split known faultless. same;
+    writes_back = λ h same drained. same;
+  };
+  drain = record { leaves = λ h same idle. same; drains = λ h access same idle is. same };
+  issue = λ k. record {
+    accesses = λ h older younger e address same split ready by. same;
+    starts = λ h older younger e cost message same split waits of_kind result costs. same;
+  };
+  broadcast = record {
+    broadcasts = λ h older younger e message same split gives. same;
+    mends = λ h older younger e next same split. same;
+  };
+  dispatch = record { dispatches = λ h fetched rest same first none. same };
+}
+
+-- so the phases from drain to dispatch do not
+pub execute-same : (h : Hardware) → SameAs h.values h.cache.values h.cycle (execute h).hardware
+execute-same h = execute-keeps (same-kept h.values h.cache.values h.cycle) h (refl, refl, refl)
+
+-- nor do drain and issue
+pub issued-same : (h : Hardware) → SameAs h.values h.cache.values h.cycle (issue (drain h))
+issued-same h =
+    let kept = same-kept h.values h.cache.values h.cycle in
+    issue-keeps (SameAs h.values h.cache.values h.cycle) kept.issue (drain h) (drain-keeps kept.drain h (refl, refl, refl))
+
+-- nor does broadcast change the cycle's number
+pub broadcast-same : (h : Hardware) → (broadcast h).cycle ≡ h.cycle
+broadcast-same h = (broadcast-keeps (same-kept h.values h.cache.values h.cycle).broadcast h (refl, refl, refl)).2
+
+-- in the next cycle the longest execution is the same
+pub same-longest : (h : Hardware) (front : FetchBuffer) → longest_execution (later front (execute h).hardware) ≡ longest_execution h
+same-longest h front =
+    let same = execute-same h in
+    let d : Hardware = (execute h).hardware in
+    ap (λ (v : Values). longest_execution (record d { values = v })) same.0
+    ∙ ap (λ (c : CacheValues). longest_execution (record h { cache = record h.cache { values = c } })) same.1
+
+-- ---- the oldest instruction in the phases after issue
+module _ (instruction : Option Instr) (R : Stage → Type 0) (cycle : ℕ)
+    (closed : (stage : Stage) (message : Message) (issue : Option Issue) → result_at cycle stage ≡ Some message → R stage → R (Finished issue cycle message)) where
+  abbrev HasHead : Hardware → Type 0
+  HasHead h = HeadIs instruction R h.rob.entries × (h.cycle ≡ cycle)
+
+  head_broadcast : IsKeptByBroadcast HasHead
+  head_broadcast = record {
+    broadcasts = λ h older younger e message head split gives. (
+      head-change instruction R older younger e (finished message h.cycle e) refl
+          (λ same before.
+          subst (λ c. R (Finished (issue_of e.stage) c message)) (sym head.1)
+          (closed e.stage message (issue_of e.stage) (subst (λ c. result_at c e.stage ≡ Some message) head.1 gives) before))
+          (subst (HeadIs instruction R) split head.0),
+      head.1,
+    );
+    mends = λ h older younger e next head split.
+        (head-cut instruction R older younger e (predicting next e) refl refl (subst (HeadIs instruction R) split head.0), head.1);
+  }
+
+  head_dispatch : IsKeptByDispatch HasHead
+  head_dispatch = record {
+    dispatches = λ h fetched rest head first none. (head-push instruction R h.rob.entries (entry_of_fetched h fetched) head.0, head.1);
+  }
+
+  -- the dispatch phase leaves the oldest instruction as it was
+  pub head-dispatched : (h : Hardware) → HeadIs instruction R h.rob.entries → h.cycle ≡ cycle → HeadIs instruction R (dispatch h).hardware.rob.entries
+  head-dispatched h head is = (dispatch-keeps head_dispatch h (head, is)).0
+
+  -- the broadcast phase leaves the oldest instruction in such a stage
+  pub head-broadcasted : (h : Hardware) → HeadIs instruction R h.rob.entries → h.cycle ≡ cycle → HeadIs instruction R (broadcast h).rob.entries
+  head-broadcasted h head is = (broadcast-keeps head_broadcast h (head, is)).0
+
+  -- a turn of the broadcast phase does
+  pub head-turn : (h : Hardware) → HasHead h → Leaves HasHead (broadcast_turn h)
+  head-turn h has = broadcast_turn-keeps head_broadcast h has
+
+-- ---- its patience in the cycle after
+plain_time : (h : Hardware) (instruction : Option Instr) (stage : Stage) → is_serialising instruction ≡ false → head_time h instruction stage ≡ stage_time h instruction stage
+plain_time h (Some FenceI) stage plain = absurd (cc)
+plain_time h instruction stage plain = refl
+
+module _ (h : Hardware) (instruction : Option Instr) (R : Stage → Type 0) (most limit : ℕ) where
+  head_in : (entries : List Entry) → ((stage : Stage) → R stage → EndsBy limit stage → head_time h instruction stage ≤ most) → HeadIs instruction R entries → Each (Ending limit) entries → flight_time h entries ≤ most
+  head_in [] bound head ends = absurd head
+  head_in (e ∷ es) bound head ends = subst (λ i. head_time h i e.stage ≤ most) (sym head.0) (bound e.stage head.1 ends.0)
+
+  -- the patience is no greater than what the oldest instruction's stage allows
+  pub head-patience : ((stage : Stage) → R stage → EndsBy limit stage → head_time h instruction stage ≤ most) → HeadIs instruction R h.rob.entries → Each (Ending limit) h.rob.entries → patience h ≤ most
+  head-patience bound head ends = head_in h.rob.entries bound head ends
+
+  -- the same, where the oldest does not serialise
+  pub plain-patience : is_serialising instruction ≡ false → ((stage : Stage) → R stage → EndsBy limit stage → stage_time h instruction stage ≤ most) → HeadIs instruction R h.rob.entries → Each (Ending limit) h.rob.entries → patience h ≤ most
+  plain-patience plain bound head ends =
+      head-patience (λ stage is by. subst (λ n. n ≤ most) (sym (plain_time h instruction stage plain)) (bound stage is by)) head ends
+
+-- the patience of hardware with a given oldest instruction
+pub plain-head : (h : Hardware) (e : Entry) (es : List Entry) → h.rob.entries ≡ e ∷ es → is_serialising e.instruction ≡ false → patience h ≡ stage_time h e.instruction e.stage
+plain-head h e es split plain = ap (flight_time h) split ∙ plain_time h e.instruction e.stage plain
+
+-- where it has begun, it is over within the longest execution
+pub begun_stage : (h : Hardware) (instruction : Option Instr) (stage : Stage) → HasBegun stage → EndsBy (h.cycle + longest_execution h) stage → stage_time h instruction stage ≤ longest_execution h + 1
+begun_stage h instruction Waiting begun ends = absurd (cc)
+begun_stage h instruction (Running issue message) begun ends = omega arith
+begun_stage h instruction (Finished issue cycle message) begun ends = omega arith
+
+-- where the oldest has begun its execution, the patience is the longest execution's time and one at most
+pub begun-patience : (h : Hardware) (instruction : Option Instr) → is_serialising instruction ≡ false → HeadIs instruction HasBegun h.rob.entries → AreEnding h → patience h ≤ longest_execution h + 1
+begun-patience h instruction plain head ends =
+    plain-patience h instruction HasBegun (longest_execution h + 1) (h.cycle + longest_execution h) plain (λ stage is by. begun_stage h instruction stage is by) head ends
+
+-- ---- stages and results
+-- a result leaves any stage in one
+pub anywhere_closed : (cycle : ℕ) (stage : Stage) (message : Message) (issue : Option Issue) → result_at cycle stage ≡ Some message → IsAnywhere stage → IsAnywhere (Finished issue cycle message)
+anywhere_closed cycle stage message issue gives is = tt
+
+-- what has begun and gives a result has begun
+pub begun_closed : (cycle : ℕ) (stage : Stage) (message : Message) (issue : Option Issue) → result_at cycle stage ≡ Some message → HasBegun stage → HasBegun (Finished issue cycle message)
+begun_closed cycle stage message issue gives begun = refl
+
+-- an instruction that waits gives no result
+pub waits_closed : (cycle : ℕ) (stage : Stage) (message : Message) (issue : Option Issue) → result_at cycle stage ≡ Some message → Waits stage → Waits (Finished issue cycle message)
+waits_closed cycle Waiting message issue gives waits = absurd (cc)
+waits_closed cycle (Running given m) message issue gives waits = absurd (cc)
+waits_closed cycle (Finished given c m) message issue gives waits = absurd (cc)

@@ -1,0 +1,226 @@
+-- Where nothing is in flight, a cycle fetches, dispatches, or brings the retired stores nearer to their end.
+use Rattle.rv_hardware.proofs.Words.{◌≡◌, ℕ, zero, suc, ◌+◌, ◌-◌, ◌*◌, ◌≤◌, Bool, true, false, cond, ◌&&◌, List, [], ◌∷◌, ◌++◌, length, nat_le, Some, None, filter, Option, sym, refl, ap, ◌∙◌, subst, arith, length-append, leb-true, and_parts, nat_tests, is_store, kind_of_word, at_kind, Kind, CacheValues, Values, Memory, Store, Entry, FetchBuffer, Fetches, FetchesInto, FetchStop, Fetched, broadcast, any_prediction, execute, Dispatching, dispatch, dispatch_turn, dispatch_turn_of, dispatch_unless, has_full_stations, is_stationed, reason_of, with_dispatched, drain, Hardware, issue, followed_by, repeated, stores_behind, Stall}
+use Rattle.rv_hardware.specs.declared.report.Stall.TheVariants as stall
+use Rattle.rv_hardware.proofs.Gap.Bound.{flight_time-most}
+use Rattle.rv_hardware.proofs.Turns.KeptByBroadcast.{IsKeptByBroadcast, broadcast-keeps}
+use Rattle.rv_hardware.proofs.Turns.KeptByDispatch.{IsKeptByDispatch, dispatch_turns-keep}
+use Rattle.rv_hardware.proofs.Turns.KeptByCycle.{execute-keeps}
+use Rattle.rv_hardware.proofs.Turns.KeptByDrain.{drain-keeps}
+use Rattle.rv_hardware.proofs.Gap.Drained.{Drains, drain-same, next_port_time}
+use Rattle.rv_hardware.proofs.Gap.Execute.{execute-same, later, same-longest}
+use Rattle.rv_hardware.proofs.Turns.Fetch.{fetch-cases}
+use Rattle.rv_hardware.proofs.Turns.Forms.{longest_access, longest_execution, longest_write_back}
+use Rattle.rv_hardware.proofs.Always.Halted.{HaltsBehind, words_of, runs-empty}
+use Rattle.rv_hardware.proofs.Turns.KeptByIssue.{IsKeptByIssue, issue-keeps}
+use Rattle.rv_hardware.proofs.Gap.Patience.{fetch_time, flight_time, patience, port_time, time_of_stores}
+use Rattle.rv_hardware.proofs.Gap.Reasons.{is_any_serialising}
+use Rattle.rv_hardware.proofs.Always.Sizes.{HasSizes, sizes-kept}
+use Rattle.rv_hardware.proofs.Always.Sound.{IsBounded}
+
+-- ---- a fetch leaves a word
+abbrev IsCons : {X : Type 0} → List X → Type 0
+IsCons [] = ⊥
+IsCons (x ∷ xs) = Unit {0}
+
+cons_append : {X : Type 0} (xs ys : List X) → IsCons xs → IsCons (xs ++ ys)
+cons_append [] ys some = absurd some
+cons_append (x ∷ xs) ys some = tt
+
+module _ (ram : Memory) (cycle : ℕ) (old new : FetchBuffer) (stop : FetchStop) (fetches : FetchesInto any_prediction ram cycle old new stop) where
+  words_stay : IsCons old.entries → IsCons new.entries
+  words_stay some =
+      fetch-cases any_prediction ram cycle old new stop (IsCons new.entries) (λ halted same. subst (λ f. IsCons f.entries) (sym same) some)
+      (λ runs adds. subst (λ f. IsCons f.entries) (sym adds.is) (cons_append old.entries adds.added some)) fetches
+
+  some_added : (width room pc : ℕ) (added : List Fetched) (next : ℕ) → 1 ≤ width → 1 ≤ room → Fetches any_prediction ram cycle width room pc added next stop → IsCons added
+  some_added width room pc (f ∷ added) next wide free words = tt
+  some_added zero room pc [] next wide free words = absurd (omega arith)
+  some_added (suc width) zero pc [] next wide free words = absurd (omega arith)
+  some_added (suc width) (suc room) pc [] next wide free words = absurd words.0
+
+  word_comes : old.entries ≡ [] → old.halted ≡ false → 1 ≤ old.width → 1 ≤ old.capacity → IsCons new.entries
+  word_comes none runs wide free =
+      fetch-cases any_prediction ram cycle old new stop (IsCons new.entries) (λ halted same. absurd (cc (halted, runs)))
+      (λ runs adds.
+      let length_none : length old.entries ≡ 0 = ap length none in
+      let some = some_added old.width (old.capacity - length old.entries) old.next_pc adds.added new.next_pc wide (omega (arith, length_none, free)) adds.words in
+      subst (λ f. IsCons f.entries) (sym adds.is) (subst (λ l. IsCons (l ++ adds.added)) (sym none) some))
+      fetches
+
+no_fetch_time : (fetched : List Fetched) → IsCons fetched → fetch_time fetched ≡ 0
+no_fetch_time [] some = absurd some
+no_fetch_time (f ∷ rest) some = refl
+
+-- ---- what a word waits for where nothing is in flight
+next_reason : (b : Bool) (given : Stall) (rest : Option Stall) (reason : Stall) → cond b (Some given) rest ≡ Some reason → b ≡ false → rest ≡ Some reason
+next_reason true given rest reason is fails = absurd (cc (fails))
+next_reason false given rest reason is fails = is
+
+le_none : (capacity : ℕ) → 1 ≤ capacity → nat_le capacity 0 ≡ false
+le_none capacity some = grind (arith, nat_tests)
+
+last_reason : (b : Bool) (reason : Stall) → cond b (Some stall.Store) None ≡ Some reason → b ≡ true
+last_reason true reason is = refl
+last_reason false reason is = absurd (cc)
+
+some_stations : (h : Hardware) (k : Kind) → HasSizes h → 1 ≤ (at_kind k h.values.kinds).stations
+some_stations h k sizes = (sizes.legal.kinds k).stations.0
+
+free_stations : (h : Hardware) (kind : Option Kind) → HasSizes h → h.rob.entries ≡ [] → has_full_stations h kind ≡ false
+free_stations h None sizes none = refl
+free_stations h (Some k) sizes none =
+    ap (λ (l : List Entry). nat_le (at_kind k h.values.kinds).stations (length (filter (is_stationed k) l))) none ∙ le_none (at_kind k h.values.kinds).stations (some_stations h k sizes)
+
+waits_for_stores : (h : Hardware) (fetched : Fetched) (reason : Stall) → HasSizes h → h.rob.entries ≡ [] → reason_of h fetched ≡ Some reason → h.values.store_queue ≤ length h.committed
+waits_for_stores h fetched reason sizes none is =
+    let full : Bool = is_store fetched.instruction && nat_le h.values.store_queue (length (stores_behind h h.rob.entries)) in
+    let fourth : Option Stall = cond full (Some stall.Store) None in
+    let third : Option Stall = cond (has_full_stations h (kind_of_word fetched.instruction)) (Some stall.Station) fourth in
+    let second : Option Stall = cond (nat_le h.rob.capacity (length h.rob.entries)) (Some stall.Rob) third in
+    let alone : is_any_serialising h.rob.entries ≡ false = ap is_any_serialising none in
+    let capacity : 1 ≤ h.rob.capacity = omega (arith, sizes.rob_is, sizes.legal.pipeline.rob.0) in
+    let room : nat_le h.rob.capacity (length h.rob.entries) ≡ false = ap (λ (l : List Entry). nat_le h.rob.capacity (length l)) none ∙ le_none h.rob.capacity capacity in
+    let a = next_reason (is_any_serialising h.rob.entries) stall.Serial second reason is alone in
+    let b = next_reason (nat_le h.rob.capacity (length h.rob.entries)) stall.Rob third reason a room in
+    let c = next_reason (has_full_stations h (kind_of_word fetched.instruction)) stall.Station fourth reason b (free_stations h (kind_of_word fetched.instruction) sizes none) in
+    let stores = (and_parts (is_store fetched.instruction) (nat_le h.values.store_queue (length (stores_behind h h.rob.entries))) (last_reason full reason c)).1 in
+    let many = leb-true h.values.store_queue (length (stores_behind h h.rob.entries)) stores in
+    let count : length (stores_behind h h.rob.entries) ≡ length (stores_behind h []) = ap (λ l. length (stores_behind h l)) none in
+    let empty : List Store = [] in
+    omega (arith, many, count, length-append h.committed empty)
+
+-- ---- the phases up to dispatch find nothing
+nil_split : (older younger : List Entry) (e : Entry) (entries : List Entry) → entries ≡ [] → entries ≡ older ++ e ∷ younger → ⊥
+nil_split [] younger e entries none split = absurd (cc (none, split))
+nil_split (o ∷ older) younger e entries none split = absurd (cc (none, split))
+
+abbrev Nothing : ℕ → List Store → FetchBuffer → Hardware → Type 0
+Nothing time stores front g = (g.rob.entries ≡ []) × (next_port_time g ≡ time) × (g.committed ≡ stores) × (g.front ≡ front)
+
+module _ (time : ℕ) (stores : List Store) (front : FetchBuffer) where
+  nothing_issue : (k : Kind) → IsKeptByIssue (Nothing time stores front) k
+  nothing_issue k = record {
+    accesses = λ g older younger e address nothing split ready by. absurd (nil_split older younger e g.rob.entries nothing.0 split);
+    starts = λ g older younger e cost message nothing split waits of_kind result costs. absurd (nil_split older younger e g.rob.entries nothing.0 split);
+  }
+
+  nothing_broadcast : IsKeptByBroadcast (Nothing time stores front)
+  nothing_broadcast = record {
+    broadcasts = λ g older younger e message nothing split gives. absurd (nil_split older younger e g.rob.entries nothing.0 split);
+    mends = λ g older younger e next nothing split. absurd (nil_split older younger e g.rob.entries nothing.0 split);
+  }
+
+-- ---- dispatch
+abbrev Something : ℕ → Hardware → Type 0
+Something time g = IsCons g.rob.entries × (next_port_time g ≡ time)
+
+something_dispatch : (time : ℕ) → IsKeptByDispatch (Something time)
+something_dispatch time = record {
+  dispatches = λ g fetched rest some first none. (cons_append g.rob.entries _ some.0, some.1);
+}
+
+pushed_cons : (es : List Entry) (e : Entry) → IsCons (es ++ e ∷ [])
+pushed_cons [] e = tt
+pushed_cons (x ∷ es) e = tt
+
+-- an instruction entered, or the words and stores are as they were, and a word waits for a store
+data Dispatched (time : ℕ) (before after : Hardware) : Type 0 where
+  entered : Something time after → Dispatched time before after
+  none_fetched : after ≡ before → before.front.entries ≡ [] → Dispatched time before after
+  waits : after ≡ before → IsCons before.front.entries → before.values.store_queue ≤ length before.committed → Dispatched time before after
+
+module _ (g : Hardware) (sizes : HasSizes g) (none : g.rob.entries ≡ []) (time : ℕ) (port : next_port_time g ≡ time) (width : ℕ) where
+  abbrev first : Dispatching
+  first = record { hardware = g; dispatched = 0; waits_for = None }
+
+  by_reason : (fetched : Fetched) (rest : List Fetched) (reason : Option Stall) → g.front.entries ≡ fetched ∷ rest → reason_of g fetched ≡ reason →
+      Dispatched time g (followed_by (repeated dispatch_turn width) (dispatch_unless reason fetched rest first)).hardware
+  by_reason fetched rest None words is =
+      entered (dispatch_turns-keep (something_dispatch time) width (record { hardware = with_dispatched fetched rest g; dispatched = 0 + 1; waits_for = None }) (pushed_cons g.rob.entries _, port))
+  by_reason fetched rest (Some reason) words is =
+      waits refl (subst IsCons (sym words) tt) (waits_for_stores g fetched reason sizes none is)
+
+  by_words : (words : List Fetched) → g.front.entries ≡ words → Dispatched time g (followed_by (repeated dispatch_turn width) (dispatch_turn_of words first)).hardware
+  by_words [] is = none_fetched refl is
+  by_words (fetched ∷ rest) is = by_reason fetched rest (reason_of g fetched) is refl
+
+dispatched : (g : Hardware) → HasSizes g → g.rob.entries ≡ [] → (time : ℕ) → next_port_time g ≡ time → Dispatched time g (dispatch g).hardware
+dispatched g sizes none time port =
+    let wide : g.values.dispatch_width ≡ suc (g.values.dispatch_width - 1) = omega (arith, sizes.legal.pipeline.dispatch_width.0) in
+    subst (λ n. Dispatched time g (repeated dispatch_turn n (record { hardware = g; dispatched = 0; waits_for = None })).hardware) (sym wide)
+    (by_words g sizes none time port (g.values.dispatch_width - 1) g.front.entries refl)
+
+-- ---- in all
+some_time : (access : ℕ) (stores : List Store) → 1 ≤ length stores → 1 ≤ time_of_stores access stores
+some_time access [] some = absurd (omega arith)
+some_time access (s ∷ ss) some = omega arith
+
+in_flight_most : (g : Hardware) → IsBounded g → (entries : List Entry) → g.rob.entries ≡ entries → IsCons entries → patience g ≤ port_time g + longest_write_back g + 2 * longest_execution g + 2
+in_flight_most g sound [] split some = absurd some
+in_flight_most g sound (e ∷ es) split some = flight_time-most g sound e es split
+
+module _ (h : Hardware) (front : FetchBuffer) (ram : Memory) (cycle : ℕ) (stop : FetchStop) (none : h.rob.entries ≡ []) (sizes : HasSizes h) (drains : Drains h (drain h))
+    (halts : HaltsBehind h.front.halted (words_of h.rob.entries h.front.entries)) (fetches : FetchesInto any_prediction ram cycle (execute h).hardware.front front stop)
+    (sound : IsBounded (later front (execute h).hardware)) where
+  abbrev last : Hardware
+  last = broadcast (issue (drain h))
+
+  abbrev d : Hardware
+  d = (execute h).hardware
+
+  abbrev new : Hardware
+  new = later front d
+
+  abbrev time : ℕ
+  time = next_port_time (drain h)
+
+  nothing : Nothing time (drain h).committed h.front last
+  nothing =
+      let same = drain-same h in
+      let before : Nothing time (drain h).committed h.front (drain h) = (ap (λ r. r.entries) same.rob ∙ none, refl, refl, same.front) in
+      broadcast-keeps (nothing_broadcast time (drain h).committed h.front) (issue (drain h))
+      (issue-keeps (Nothing time (drain h).committed h.front) (nothing_issue time (drain h).committed h.front) (drain h) before)
+
+  last_sizes : HasSizes last
+  last_sizes =
+      let kept = sizes-kept.phases in
+      broadcast-keeps kept.broadcast (issue (drain h)) (issue-keeps HasSizes kept.issue (drain h) (drain-keeps kept.drain h sizes))
+
+  same_lines : longest_write_back new ≡ longest_write_back h
+  same_lines =
+      let same = execute-same h in
+      ap (λ (c : CacheValues). c.sets * c.ways * d.values.cache.write_back) same.1 ∙ ap (λ (v : Values). h.cache.values.sets * h.cache.values.ways * v.cache.write_back) same.0
+
+  before_is : patience h ≡ port_time h + longest_write_back h + 2 * longest_execution h + 3 + fetch_time h.front.entries
+  before_is = ap (flight_time h) none
+
+  empty_is : new.rob.entries ≡ [] → patience new ≡ port_time new + longest_write_back new + 2 * longest_execution new + 3 + fetch_time front.entries
+  empty_is still = ap (flight_time new) still
+
+  by_dispatch : Dispatched time last d → patience new + 1 ≤ patience h
+  by_dispatch (entered some) =
+      let most = in_flight_most new sound new.rob.entries refl some.0 in
+      omega (arith, most, some.1, same_lines, same-longest h front, before_is, drains.fall)
+  by_dispatch (none_fetched same words) =
+      let old_front : d.front ≡ h.front = ap (λ (g : Hardware). g.front) same ∙ nothing.3 in
+      let no_words : h.front.entries ≡ [] = ap (λ (f : FetchBuffer). f.entries) (sym nothing.3) ∙ words in
+      let no_entry : words_of h.rob.entries h.front.entries ≡ [] = ap (λ es. words_of es h.front.entries) none ∙ ap (λ ws. words_of [] ws) no_words in
+      let runs = runs-empty h.front.halted (subst (HaltsBehind h.front.halted) no_entry halts) in
+      let after : HasSizes d = execute-keeps sizes-kept.phases h sizes in
+      let wide : 1 ≤ d.front.width = omega (arith, after.width_is, after.legal.pipeline.fetch_width.0) in
+      let room : 1 ≤ d.front.capacity = omega (arith, after.buffer_is, after.legal.pipeline.fetch_buffer.0) in
+      let comes = word_comes ram cycle d.front front stop fetches (ap (λ (f : FetchBuffer). f.entries) old_front ∙ no_words) (ap (λ (f : FetchBuffer). f.halted) old_front ∙ runs) wide room in
+      let still : new.rob.entries ≡ [] = ap (λ (g : Hardware). g.rob.entries) same ∙ nothing.0 in
+      let port : port_time new ≡ time = ap next_port_time same ∙ nothing.1 in
+      let one : fetch_time h.front.entries ≡ 1 = ap fetch_time no_words in
+      omega (arith, empty_is still, no_fetch_time front.entries comes, port, same_lines, same-longest h front, before_is, one, drains.fall)
+  by_dispatch (waits same some many) =
+      let stay = words_stay ram cycle d.front front stop fetches (subst (λ (g : Hardware). IsCons g.front.entries) (sym same) some) in
+      let still : new.rob.entries ≡ [] = ap (λ (g : Hardware). g.rob.entries) same ∙ nothing.0 in
+      let port : port_time new ≡ time = ap next_port_time same ∙ nothing.1 in
+      let stores = some_time (longest_access last) last.committed (omega (arith, many, last_sizes.legal.pipeline.store_queue.0)) in
+      omega (arith, empty_is still, no_fetch_time front.entries stay, port, same_lines, same-longest h front, before_is, drains.fall, stores, nothing.1)
+
+  -- where nothing is in flight, a cycle without a step lowers the patience
+  pub fall_empty : patience new + 1 ≤ patience h
+  fall_empty = by_dispatch (dispatched last last_sizes nothing.0 time nothing.1)

@@ -1,0 +1,130 @@
+-- Where the oldest instruction executes, a cycle brings its end nearer.
+use Rattle.rv_hardware.proofs.Words.{◌≡◌, ℕ, suc, ◌+◌, ◌-◌, ◌<◌, ◌≤◌, true, false, not, List, [], ◌∷◌, ◌++◌, length, is_none, nat_le, Some, None, Option, sym, refl, ap, ◌∙◌, subst, inl, inr, arith, le-leb, cases_lt, cond-false, cond-true, false≢true, lt-leb, is_serialising, Message, Instr, Issue, Kind, Values, finished, predicting, started, Entry, Stage, Finished, Running, Waiting, FetchBuffer, broadcast, broadcast_oldest, broadcast_result, broadcast_turn, has_result, result_at, execute, drain, Hardware, is_waiting, issue, oldest, oldest_from, repeated, by_test, Leaves, left_by_the_rest, kept_by_turns}
+use Rattle.rv_hardware.proofs.Turns.KeptByBroadcast.{IsMadeByBroadcast, result-makes}
+use Rattle.rv_hardware.proofs.Gap.Drained.{drain-same}
+use Rattle.rv_hardware.proofs.Gap.Execute.{broadcast-same, execute-same, head-broadcasted, head-dispatched, head-turn, issued-same, later, plain-patience}
+use Rattle.rv_hardware.proofs.Gap.Head.{HeadIs, head-change, head-cut}
+use Rattle.rv_hardware.proofs.Turns.KeptByIssue.{IsKeptByIssue, issue-keeps}
+use Rattle.rv_hardware.proofs.Gap.Patience.{patience, stage_time}
+use Rattle.rv_hardware.proofs.Always.Executions.{AreEnding}
+use Rattle.rv_hardware.proofs.Turns.Forms.{longest_execution}
+
+-- it executes until a cycle
+abbrev pub RunsUntil : ℕ → Stage → Type 0
+RunsUntil end Waiting = ⊥
+RunsUntil end (Running issue message) = issue.cycle + issue.cost ≡ end
+RunsUntil end (Finished issue cycle message) = ⊥
+
+abbrev IsOver : Stage → Type 0
+IsOver Waiting = ⊥
+IsOver (Running issue message) = ⊥
+IsOver (Finished issue cycle message) = Unit {0}
+
+-- ---- its result
+not_yet : (end cycle : ℕ) (stage : Stage) → RunsUntil end stage → cycle < end → result_at cycle stage ≡ None
+not_yet end cycle Waiting runs late = absurd runs
+not_yet end cycle (Running issue message) runs late =
+    cond-false (nat_le (issue.cycle + issue.cost) cycle) (Some message) None (lt-leb (issue.cycle + issue.cost) cycle (omega arith))
+not_yet end cycle (Finished issue finished message) runs late = absurd runs
+
+result_due : (end cycle : ℕ) (stage : Stage) → RunsUntil end stage → end ≤ cycle → (message : Message) × (result_at cycle stage ≡ Some message)
+result_due end cycle Waiting runs due = absurd runs
+result_due end cycle (Running issue message) runs due =
+    (message, cond-true (nat_le (issue.cycle + issue.cost) cycle) (Some message) None (le-leb (issue.cycle + issue.cost) cycle (omega arith)))
+result_due end cycle (Finished issue finished message) runs due = absurd runs
+
+not_waiting : (end : ℕ) (stage : Stage) → is_waiting stage ≡ true → RunsUntil end stage → ⊥
+not_waiting end Waiting waits runs = runs
+not_waiting end (Running issue message) waits runs = cc
+not_waiting end (Finished issue cycle message) waits runs = runs
+
+runs_by_issue : (instruction : Option Instr) (end : ℕ) (k : Kind) → IsKeptByIssue (λ h. HeadIs instruction (RunsUntil end) h.rob.entries) k
+runs_by_issue instruction end k = record {
+  accesses = λ h older younger e address head split ready by. head;
+  starts = λ h older younger e cost message head split waits of_kind result costs.
+      head-change instruction (RunsUntil end) older younger e (started (record { cycle = h.cycle; cost = cost }) message e) refl
+      (λ same before. absurd (not_waiting end e.stage waits before)) (subst (HeadIs instruction (RunsUntil end)) split head);
+}
+
+module _ (h : Hardware) (front : FetchBuffer) (instruction : Option Instr) (end : ℕ) (head : HeadIs instruction (RunsUntil end) h.rob.entries) (plain : is_serialising instruction ≡ false) where
+  abbrev issued : Hardware
+  issued = issue (drain h)
+
+  runs_issued : HeadIs instruction (RunsUntil end) issued.rob.entries
+  runs_issued =
+      issue-keeps (λ g. HeadIs instruction (RunsUntil end) g.rob.entries) (runs_by_issue instruction end) (drain h)
+      (subst (λ r. HeadIs instruction (RunsUntil end) r.entries) (sym (drain-same h).rob) head)
+
+  number : issued.cycle ≡ h.cycle
+  number = (issued-same h).2
+
+  -- ---- it goes on
+  still_runs : h.cycle < end → HeadIs instruction (RunsUntil end) (execute h).hardware.rob.entries
+  still_runs late =
+      let closed : (stage : Stage) (message : Message) (start : Option Issue) → result_at h.cycle stage ≡ Some message → RunsUntil end stage → RunsUntil end (Finished start h.cycle message) =
+      λ stage message start gives runs. absurd (cc (gives, not_yet end h.cycle stage runs late)) in
+      head-dispatched instruction (RunsUntil end) h.cycle closed (broadcast issued)
+      (head-broadcasted instruction (RunsUntil end) h.cycle closed issued runs_issued number) (broadcast-same issued ∙ number)
+
+  left : (g : Hardware) (stage : Stage) → RunsUntil end stage → stage_time g instruction stage ≤ 1 + (end - g.cycle)
+  left g Waiting runs = absurd runs
+  left g (Running issue message) runs = omega arith
+  left g (Finished issue cycle message) runs = absurd runs
+
+  -- ---- its result is the first that is broadcast
+  abbrev Over : Hardware → Type 0
+  Over g = HeadIs instruction IsOver g.rob.entries × (g.cycle ≡ h.cycle)
+
+  over_closed : (stage : Stage) (message : Message) (start : Option Issue) → result_at h.cycle stage ≡ Some message → IsOver stage → IsOver (Finished start h.cycle message)
+  over_closed stage message start gives over = tt
+
+  made_over : IsMadeByBroadcast (λ g older e. (older ≡ []) × (e.instruction ≡ instruction) × (g.cycle ≡ h.cycle)) Over
+  made_over = record {
+    broadcasts = λ g older younger e message is split gives.
+        (subst (λ o. HeadIs instruction IsOver (o ++ finished message g.cycle e ∷ younger)) (sym is.0) (is.1, tt), is.2);
+    mends = λ g older younger e next over split.
+        (head-cut instruction IsOver older younger e (predicting next e) refl refl (subst (HeadIs instruction IsOver) split over.0), over.1);
+  }
+
+  first_result : end ≤ h.cycle → (entries : List Entry) → issued.rob.entries ≡ entries → HeadIs instruction (RunsUntil end) entries → Leaves Over (broadcast_oldest issued (oldest (has_result issued.cycle) entries))
+  first_result due [] split runs = absurd runs
+  first_result due (e ∷ es) split runs =
+      let none : List Entry = [] in
+      let result = result_due end issued.cycle e.stage runs.1 (omega (arith, number)) in
+      let makes : Leaves Over (broadcast_result issued (issued.rob.retired + length none) e (Some result.0)) = result-makes made_over issued [] es e result.0 (refl, runs.0, number) split result.1 in
+      by_test (λ found. Leaves Over (broadcast_oldest issued found)) (has_result issued.cycle [] e) (Some ([], e)) (oldest_from (has_result issued.cycle) (e ∷ []) es)
+      (λ has. subst (λ message. Leaves Over (broadcast_result issued (issued.rob.retired + length none) e message)) (sym result.1) makes)
+      (λ lacks. absurd (false≢true (sym lacks ∙ ap (λ (message : Option Message). not (is_none message)) result.1)))
+
+  is_over : end ≤ h.cycle → 1 ≤ issued.values.bus_width → HeadIs instruction IsOver (execute h).hardware.rob.entries
+  is_over due wide =
+      let width : issued.values.bus_width ≡ suc (issued.values.bus_width - 1) = omega (arith, wide) in
+      let rest : ℕ = issued.values.bus_width - 1 in
+      let turns : Over (repeated broadcast_turn (suc rest) issued) =
+      left_by_the_rest Over Over (repeated broadcast_turn rest) (λ g over. kept_by_turns Over broadcast_turn (head-turn instruction IsOver h.cycle over_closed) rest g over)
+      (broadcast_turn issued) (first_result due issued.rob.entries refl runs_issued) in
+      let all : Over (broadcast issued) = subst (λ n. Over (repeated broadcast_turn n issued)) (sym width) turns in
+      head-dispatched instruction IsOver h.cycle over_closed (broadcast issued) all.0 all.1
+
+  none_left : (g : Hardware) (stage : Stage) → IsOver stage → stage_time g instruction stage ≤ 0
+  none_left g Waiting over = absurd over
+  none_left g (Running issue message) over = absurd over
+  none_left g (Finished issue cycle message) over = omega arith
+
+  abbrev new : Hardware
+  new = later front (execute h).hardware
+
+  -- where the oldest executes, a cycle lowers the patience
+  pub fall_running : 1 ≤ h.values.bus_width → AreEnding new → patience h ≡ 1 + (end - h.cycle) → patience new + 1 ≤ patience h
+  fall_running wide ending is =
+      let limit : ℕ = new.cycle + longest_execution new in
+      let now : new.cycle ≡ h.cycle + 1 = ap (λ c. c + 1) (execute-same h).2 in
+      elim (cases_lt h.cycle end) [
+        | inl late ↦
+            let most = plain-patience new instruction (RunsUntil end) (1 + (end - new.cycle)) limit plain (λ stage runs ends. left new stage runs) (still_runs late) ending in
+            omega (arith, most, now, is, late)
+        | inr due ↦
+            let broad : 1 ≤ issued.values.bus_width = omega (arith, wide, ap (λ (v : Values). v.bus_width) (issued-same h).0) in
+            let most = plain-patience new instruction IsOver 0 limit plain (λ stage over ends. none_left new stage over) (is_over due broad) ending in
+            omega (arith, most, is)
+      ]

@@ -1,0 +1,90 @@
+-- A byte after stores is that of the youngest which covers it, else memory's.
+use Rattle.rv_hardware.proofs.Words.{◌≡◌, ℕ, ◌+◌, ◌-◌, ◌<◌, ◌≤◌, false, List, [], ◌∷◌, length, nat_lt, nat_le, slice_get, slice_index_or as get_or, Some, None, Option, unwrap_or, sym, refl, ap, ◌∙◌, inl, inr, arith, lt-ltb, le-leb, cases_lt, cond-false, cond-true, nat_tests, option_or, StoreAccess, overwritten, Layout, get_or-overwritten_above, get_or-overwritten_below, get_or-overwritten_in, Each, forwarded_byte, youngest_byte, byte_of_state, written_at, Store as QueuedStore, StoreState, Faulted, Filled, memory_behind, with_store}
+use Rattle.std.proofs.lemmas.Option.{slice_get-get_or, slice_get_past}
+use Rattle.rv_stores.specs.declared.store.StoreState.TheVariants.{Waiting}
+use Rattle.rv_hardware.proofs.Headline.Retires.{IsStoreAccess}
+use Rattle.rv_hardware.proofs.Headline.Words.{length-stored}
+
+-- what a store writes, if that is known, lies in RAM within one word
+abbrev pub IsStateInside : Layout → StoreState → Type 0
+IsStateInside layout Waiting = Unit {0}
+IsStateInside layout Faulted = Unit {0}
+IsStateInside layout (Filled access phase) = IsStoreAccess layout access
+
+-- what a queued store writes lies in the layout's RAM
+abbrev pub IsInside : Layout → QueuedStore → Type 0
+IsInside layout s = IsStateInside layout s.state
+
+unwrap_or-or : (a b : Option ℕ) (d : ℕ) → unwrap_or (option_or a b) d ≡ unwrap_or a (unwrap_or b d)
+unwrap_or-or None b d = refl
+unwrap_or-or (Some x) b d = refl
+
+module _ (layout : Layout) where
+  module _ (access : StoreAccess) (legal : IsStoreAccess layout access) (xs : List ℕ) (size : length xs ≡ layout.size) (i : ℕ) where
+    abbrev at : ℕ
+    at = access.address - layout.base
+
+    abbrev place : ℕ
+    place = layout.base + i
+
+    abbrev found : Option ℕ
+    found = slice_get access.bytes (place - access.address)
+
+    fits : at + length access.bytes ≤ length xs
+    fits = omega (arith, legal.above, legal.below)
+
+    covered : at ≤ i → i < at + length access.bytes → written_at place access ≡ Some (get_or access.bytes (i - at) 0)
+    covered from here =
+        let same : place - access.address ≡ i - at = omega (arith, legal.above) in
+        cond-true (nat_le access.address place) found None (le-leb access.address place (omega (arith, legal.above)))
+        ∙ ap (slice_get access.bytes) same
+        ∙ slice_get-get_or access.bytes (i - at) 0 (omega arith)
+
+    before : i < at → written_at place access ≡ None
+    before below =
+        let under : nat_le access.address place ≡ false = grind (arith, nat_tests, legal.above) in
+        cond-false (nat_le access.address place) found None under
+
+    after : at + length access.bytes ≤ i → written_at place access ≡ None
+    after above =
+        cond-true (nat_le access.address place) found None (le-leb access.address place (omega (arith, legal.above)))
+        ∙ slice_get_past access.bytes (place - access.address) (omega (arith, legal.above))
+
+    one_behind : get_or (overwritten xs at access.bytes) i 0 ≡ unwrap_or (written_at place access) (get_or xs i 0)
+    one_behind = elim (cases_lt i at) [
+      | inl below ↦ get_or-overwritten_below xs access.bytes at fits i below ∙ sym (ap (λ (o : Option ℕ). unwrap_or o (get_or xs i 0)) (before below))
+      | inr from ↦ elim (cases_lt i (at + length access.bytes)) [
+        | inl here ↦ get_or-overwritten_in xs access.bytes at fits i from here ∙ sym (ap (λ (o : Option ℕ). unwrap_or o (get_or xs i 0)) (covered from here))
+        | inr above ↦ get_or-overwritten_above xs access.bytes at fits i above ∙ sym (ap (λ (o : Option ℕ). unwrap_or o (get_or xs i 0)) (after above))
+      ]
+    ]
+
+  -- after one store
+  byte_behind_one : (state : StoreState) (xs : List ℕ) (i : ℕ) → IsStateInside layout state → length xs ≡ layout.size →
+      get_or (with_store layout.base state xs) i 0 ≡ unwrap_or (byte_of_state (layout.base + i) state) (get_or xs i 0)
+  byte_behind_one Waiting xs i inside size = refl
+  byte_behind_one Faulted xs i inside size = refl
+  byte_behind_one (Filled access phase) xs i inside size = one_behind access inside xs size i
+
+  length-behind_one : (state : StoreState) (xs : List ℕ) → IsStateInside layout state → length xs ≡ layout.size → length (with_store layout.base state xs) ≡ layout.size
+  length-behind_one Waiting xs inside size = size
+  length-behind_one Faulted xs inside size = size
+  length-behind_one (Filled access phase) xs inside size = length-stored layout access inside xs size
+
+  -- after all of them
+  pub byte_behind : (ss : List QueuedStore) (xs : List ℕ) (i : ℕ) → Each (IsInside layout) ss → length xs ≡ layout.size →
+      get_or (memory_behind layout.base ss xs) i 0 ≡ unwrap_or (youngest_byte (layout.base + i) ss) (get_or xs i 0)
+  byte_behind [] xs i inside size = refl
+  byte_behind (s ∷ ss) xs i inside size =
+      byte_behind ss (with_store layout.base s.state xs) i inside.1 (length-behind_one s.state xs inside.0 size)
+      ∙ ap (unwrap_or (youngest_byte (layout.base + i) ss)) (byte_behind_one s.state xs i inside.0 size)
+      ∙ sym (unwrap_or-or (youngest_byte (layout.base + i) ss) (byte_of_state (layout.base + i) s.state) (get_or xs i 0))
+
+  -- a byte of an access is the one that stores forward to it, else memory's
+  pub byte_forwarded : (ss : List QueuedStore) (xs : List ℕ) (address count offset : ℕ) → Each (IsInside layout) ss → length xs ≡ layout.size → layout.base ≤ address → offset < count →
+      get_or (memory_behind layout.base ss xs) (address - layout.base + offset) 0 ≡ unwrap_or (forwarded_byte ss address count offset) (get_or xs (address - layout.base + offset) 0)
+  byte_forwarded ss xs address count offset inside size above within =
+      let place : layout.base + (address - layout.base + offset) ≡ address + offset = omega arith in
+      byte_behind ss xs (address - layout.base + offset) inside size
+      ∙ ap (λ (n : ℕ). unwrap_or (youngest_byte n ss) (get_or xs (address - layout.base + offset) 0)) place
+      ∙ sym (ap (λ (o : Option ℕ). unwrap_or o (get_or xs (address - layout.base + offset) 0)) (cond-true (nat_lt offset count) (youngest_byte (address + offset) ss) None (lt-ltb offset count within)))

@@ -1,0 +1,84 @@
+-- The dispatch phase changes nothing that programs see.
+use Rattle.rv_hardware.proofs.Words.{◌≡◌, ℕ, Bool, true, false, List, [], ◌∷◌, ◌++◌, Some, None, Option, sym, refl, ◌∙◌, subst, true≢false, no_lines, is_load, is_serialising, kind_of_word, sources_of_word, Instr, Branch, Csr, Jalr, Load, Op, OpImmediate, Shift, Kind, Values, Layout, State, pushed, Entry, Finished, Fetched, Dispatching, dispatch, dispatch_turn, dispatch_turn_of, dispatch_unless, entry_of_fetched, reason_of, stage_by, Hardware, result_of_word, layout_of, seen, seen_behind, Stall, Leaves, kept_by_turns}
+use Rattle.rv_isa.specs.declared.instructions.Instr.TheVariants.{Store}
+use Rattle.rv_hardware.proofs.Headline.Fold.{behind, IsResult, IsInFlight, AreInBuffer}
+use Rattle.rv_hardware.proofs.Headline.Invariant.{FollowsProgram, IsSoundAt, with_other_program}
+use Rattle.rv_hardware.proofs.Headline.Result.{ReadsSame, same_result}
+use Rattle.rv_hardware.proofs.Headline.Split.{behind-append, AreInFlight-append}
+
+-- an instruction that uses no unit reads neither registers nor memory
+record ReadsNothing (s t : State) (i : Option Instr) : Type 0 where
+  pub reads : ReadsSame s t (sources_of_word i)
+  pub no_load : is_load i ≡ false
+
+reads_nothing : (s t : State) (i : Option Instr) → kind_of_word i ≡ None → is_serialising i ≡ false → ReadsNothing s t i
+reads_nothing s t (Some (Jalr rd rs1 offset)) none plain = absurd (cc)
+reads_nothing s t (Some (Branch condition rs1 rs2 offset)) none plain = absurd (cc)
+reads_nothing s t (Some (Load form rd rs1 offset)) none plain = absurd (cc)
+reads_nothing s t (Some (Store width rs1 rs2 offset)) none plain = absurd (cc)
+reads_nothing s t (Some (OpImmediate op rd rs1 immediate)) none plain = absurd (cc)
+reads_nothing s t (Some (Shift op rd rs1 amount)) none plain = absurd (cc)
+reads_nothing s t (Some (Op op rd rs1 rs2)) none plain = absurd (cc)
+reads_nothing s t (Some (Csr op rd csr source)) none plain = absurd (true≢false plain)
+reads_nothing s t _ none plain = record { reads = tt; no_load = refl }
+
+module _ (h : Hardware) (fetched : Fetched) where
+  abbrev layout : Layout
+  layout = layout_of h.values
+
+  abbrev s : State
+  s = seen h
+
+  abbrev e : Entry
+  e = entry_of_fetched h fetched
+
+  abbrev now : State
+  now = behind layout h.rob.entries s
+
+  -- what is finished at once has its result
+  stage_result : (k : Option Kind) (serialising : Bool) → kind_of_word fetched.instruction ≡ k → is_serialising fetched.instruction ≡ serialising → fetched.pc ≡ now.pc →
+      IsResult (result_of_word layout now no_lines fetched.word fetched.instruction)
+      (stage_by k serialising (Finished None h.cycle (result_of_word layout (seen_behind h h.rob.entries fetched.pc) h.lines fetched.word fetched.instruction)))
+  stage_result (Some k) serialising is_kind is_serial here = tt
+  stage_result None true is_kind is_serial here = tt
+  stage_result None false is_kind is_serial here =
+      let nothing = reads_nothing (seen_behind h h.rob.entries fetched.pc) now fetched.instruction is_kind is_serial in
+      same_result (seen_behind h h.rob.entries fetched.pc) now layout h.lines no_lines here fetched.word fetched.instruction is_serial nothing.reads
+      (λ loads. absurd (true≢false (sym loads ∙ nothing.no_load)))
+
+  dispatched_program : (rest : List Fetched) → FollowsProgram layout s h.rob.entries (record h.front { entries = fetched ∷ rest }) → FollowsProgram layout s (h.rob.entries ++ e ∷ []) (record h.front { entries = rest })
+  dispatched_program rest program =
+      let first = program.buffered.0 in
+      let entry : IsInFlight layout s now e = record {
+        pc = first.pc_is;
+        word = first.word;
+        instruction = first.instruction;
+        aligned = first.aligned;
+        result = stage_result (kind_of_word fetched.instruction) (is_serialising fetched.instruction) refl refl first.pc_is;
+      } in
+      record {
+        in_flight = AreInFlight-append layout s s h.rob.entries (e ∷ []) program.in_flight (entry, tt);
+        buffered = subst (λ (t : State). AreInBuffer layout s t.pc rest h.front.next_pc) (sym (behind-append layout h.rob.entries (e ∷ []) s)) program.buffered.1;
+        aligned = program.aligned;
+      }
+
+module _ (values : Values) (cycle : ℕ) (state : State) where
+  abbrev Kept : Dispatching → Type 0
+  Kept d = IsSoundAt values cycle state d.hardware
+
+  unless_kept : (o : Option Stall) (fetched : Fetched) (rest : List Fetched) (d : Dispatching) → fetched ∷ rest ≡ d.hardware.front.entries → Kept d → Leaves Kept (dispatch_unless o fetched rest d)
+  unless_kept (Some reason) fetched rest d are is = is
+  unless_kept None fetched rest d are is =
+      let h = d.hardware in
+      with_other_program values cycle state h is h.units (pushed (entry_of_fetched h fetched) h.rob) (record h.front { entries = rest })
+      (dispatched_program h fetched rest
+      (subst (λ (es : List Fetched). FollowsProgram (layout_of h.values) (seen h) h.rob.entries (record h.front { entries = es })) (sym are) is.sound.program))
+
+  turn_kept : (es : List Fetched) (d : Dispatching) → es ≡ d.hardware.front.entries → Kept d → Leaves Kept (dispatch_turn_of es d)
+  turn_kept [] d are is = is
+  turn_kept (fetched ∷ rest) d are is = unless_kept (reason_of d.hardware fetched) fetched rest d are is
+
+  -- the dispatch phase keeps the hardware sound, with the same state seen
+  pub dispatch_kept : (h : Hardware) → IsSoundAt values cycle state h → IsSoundAt values cycle state (dispatch h).hardware
+  dispatch_kept h is =
+      kept_by_turns Kept dispatch_turn (λ d. turn_kept d.hardware.front.entries d refl) h.values.dispatch_width (record { hardware = h; dispatched = 0; waits_for = None }) is

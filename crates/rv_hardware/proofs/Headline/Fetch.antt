@@ -1,0 +1,89 @@
+-- What the fetch phase reads from RAM are the words of the program, unless they are stale.
+use Rattle.rv_hardware.proofs.Words.{◌≡◌, ℕ, zero, suc, ◌-◌, ◌%◌, Bool, true, false, List, [], ◌∷◌, ◌++◌, length, Some, None, MatchBool, Option, MatchOption, sym, refl, ap, ◌∙◌, subst, arith, Values, Layout, Memory, fetched_word, word_of, State, Entry, Answers, FetchBuffer, Fetches, FetchesInto, IsFetchedAt, is_halted, stop_behind, FetchStop, Halted, Fetched, Hardware, layout_of, seen}
+use Rattle.std.specs.FinSet as set
+use Rattle.rv_hardware.proofs.Headline.Fold.{behind, IsWordAt, IsInBuffer, AreInBuffer}
+use Rattle.rv_hardware.proofs.Headline.Invariant.{FollowsProgram, IsSound, IsSoundAt}
+use Rattle.rv_hardware.proofs.Headline.Words.{fetched_same, length-memory_behind}
+
+AreInBuffer-append : (layout : Layout) (s : State) (pc middle next : ℕ) (xs ys : List Fetched) → AreInBuffer layout s pc xs middle → AreInBuffer layout s middle ys next → AreInBuffer layout s pc (xs ++ ys) next
+AreInBuffer-append layout s pc middle next [] ys at rest = subst (λ (n : ℕ). AreInBuffer layout s n ys next) at rest
+AreInBuffer-append layout s pc middle next (x ∷ xs) ys all rest = (all.0, AreInBuffer-append layout s x.predicted middle next xs ys all.1 rest)
+
+module _ (answers : Answers) (layout : Layout) (ram : Memory) (s : State) (cycle : ℕ)
+    (fresh : (pc : ℕ) → pc % 4 ≡ 0 → IsWordAt layout s pc (fetched_word ram.layout ram.bytes pc)) where
+  record AddedInOrder (pc : ℕ) (es : List Fetched) (next : ℕ) : Type 0 where
+    pub words : AreInBuffer layout s pc es next
+    pub aligned : next % 4 ≡ 0
+
+  fetched_one : (pc : ℕ) (e : Fetched) → pc % 4 ≡ 0 → IsFetchedAt answers ram cycle pc e → IsInBuffer layout s pc e
+  fetched_one pc e aligned at = record {
+    pc_is = at.pc_is;
+    word = λ not_stale. at.word_is ∙ fresh pc aligned (ap (λ n. set.contains s.stale (word_of n)) (sym at.pc_is) ∙ not_stale) ∙ ap (fetched_word layout s.ram) (sym at.pc_is);
+    instruction = at.instruction_is;
+    aligned = omega (arith, at.predicted_is.rounded);
+  }
+
+  behind_one : (o : Option FetchStop) (e : Fetched) (es : List Fetched) (width room next : ℕ) (stop : FetchStop) → e.predicted % 4 ≡ 0 →
+      MatchOption o (Fetches answers ram cycle width room e.predicted es next stop) (λ reason. (es ≡ []) × (next ≡ e.predicted) × (stop ≡ reason)) →
+      (Fetches answers ram cycle width room e.predicted es next stop → AddedInOrder e.predicted es next) → AddedInOrder e.predicted es next
+  behind_one None e es width room next stop aligned rest go = go rest
+  behind_one (Some reason) e es width room next stop aligned rest go =
+      record {
+        words = subst (λ (fs : List Fetched). AreInBuffer layout s e.predicted fs next) (sym rest.0) rest.1;
+        aligned = ap (λ n. n % 4) rest.1 ∙ aligned;
+      }
+
+  added : (es : List Fetched) (width room pc next : ℕ) (stop : FetchStop) → pc % 4 ≡ 0 → Fetches answers ram cycle width room pc es next stop → AddedInOrder pc es next
+  added [] width room pc next stop aligned fetches =
+      record { words = (ends width room fetches).1; aligned = ap (λ n. n % 4) (ends width room fetches).1 ∙ aligned } where
+        ends : (width room : ℕ) → Fetches answers ram cycle width room pc [] next stop → Unit {0} × (next ≡ pc)
+        ends zero room fetches = (tt, fetches.1)
+        ends (suc width) room fetches = (tt, fetches.1)
+  added (e ∷ es) zero room pc next stop aligned fetches = absurd fetches
+  added (e ∷ es) (suc width) zero pc next stop aligned fetches = absurd fetches
+  added (e ∷ es) (suc width) (suc room) pc next stop aligned fetches =
+      let one = fetched_one pc e aligned fetches.0 in
+      let rest = behind_one (stop_behind e) e es width room next stop one.aligned fetches.1 (λ more. added es width room e.predicted next stop one.aligned more) in
+      record { words = (one, rest.words); aligned = rest.aligned }
+
+  into_by : (halted : Bool) (entries : List Entry) (old new : FetchBuffer) (stop : FetchStop) → FollowsProgram layout s entries old →
+      MatchBool halted ((new ≡ old) × (stop ≡ Halted))
+      ((words : List Fetched) × Fetches answers ram cycle old.width (old.capacity - length old.entries) old.next_pc words new.next_pc stop ×
+      (new ≡ record old { entries = old.entries ++ words; next_pc = new.next_pc; halted = is_halted stop })) →
+      FollowsProgram layout s entries new
+  into_by true entries old new stop program (same, halts) = subst (FollowsProgram layout s entries) (sym same) program
+  into_by false entries old new stop program (words, fetches, same) =
+      let more = added words old.width (old.capacity - length old.entries) old.next_pc new.next_pc stop program.aligned fetches in
+      let now : FetchBuffer = record old { entries = old.entries ++ words; next_pc = new.next_pc; halted = is_halted stop } in
+      let program_now : FollowsProgram layout s entries now = record {
+        in_flight = program.in_flight;
+        buffered = AreInBuffer-append layout s (behind layout entries s).pc old.next_pc new.next_pc old.entries words program.buffered more.words;
+        aligned = more.aligned;
+      } in
+      subst (FollowsProgram layout s entries) (sym same) program_now
+
+  pub fetched_program : (entries : List Entry) (old new : FetchBuffer) (stop : FetchStop) → FollowsProgram layout s entries old → FetchesInto answers ram cycle old new stop → FollowsProgram layout s entries new
+  fetched_program entries old new stop program fetches = into_by old.halted entries old new stop program fetches
+
+-- RAM's words are those that programs see, unless they are stale
+pub fresh_words : (h : Hardware) → IsSound h → (pc : ℕ) → pc % 4 ≡ 0 → IsWordAt (layout_of h.values) (seen h) pc (fetched_word h.cache.backing.layout h.cache.backing.bytes pc)
+fresh_words h is pc aligned not_stale =
+    let was = is.memory in
+    ap (λ (layout : Layout). fetched_word layout h.cache.backing.bytes pc) was.layout
+    ∙ fetched_same (layout_of h.values) h.cache.backing.bytes (seen h).ram pc aligned (was.consistent.size ∙ was.cache_size) (length-memory_behind (layout_of h.values) h.stale h.committed h.cache.bytes was.retired was.cache_size)
+    (λ i same. was.fresh i (ap (set.contains h.stale) same ∙ not_stale))
+
+-- the hardware once its words were fetched
+pub fetch_kept : (answers : Answers) (values : Values) (cycle : ℕ) (s : State) (h : Hardware) → IsSoundAt values cycle s h → (front : FetchBuffer) (stop : FetchStop) (now next : ℕ) →
+    FetchesInto answers h.cache.backing now h.front front stop → IsSoundAt values next s (record h { front = front; cycle = next })
+fetch_kept answers values cycle s h is front stop now next fetches = record {
+  values_are = is.values_are;
+  cycle_is = refl;
+  sees = is.sees;
+  sound = record {
+    pc_aligned = is.sound.pc_aligned;
+    mepc_aligned = is.sound.mepc_aligned;
+    memory = is.sound.memory;
+    program = fetched_program answers (layout_of h.values) h.cache.backing (seen h) now (fresh_words h is.sound) h.rob.entries h.front front stop is.sound.program fetches;
+  };
+}

@@ -1,0 +1,94 @@
+-- Where the result of the oldest instruction is known, the one-at-a-time machine takes the step that it tells of.
+use Rattle.rv_hardware.proofs.Words.{◌≡◌, ℕ, ◌%◌, Bool, true, false, cond, List, [], ◌∷◌, Some, None, Option, option_map, option_and_then, unwrap_or, sym, refl, ◌∙◌, subst, no_lines, code_of, is_serialising, sources_of_word, target_of_word, target_of, Message, Fault, Instr, Lines, Decodes, instruction_of, Layout, fetched_word, is_in_ram, number_at, word_of, faulted_at, illegal_at, retired_at, due, Effect, Faults, Retires, effect, State, IsFetched, trap_taken, unfetched, word_at_pc, access_of, effect_message, result_of_word}
+use Rattle.std.specs.FinSet as set
+use Rattle.rv_arch.specs.Step.{Step}
+use Rattle.rv_arch.specs.declared.outcome.RefStep.TheVariants.{Retired, Trap}
+use Rattle.rv_decode.proofs.Relation.{Decodes-instruction_of, IsIllegal-instruction_of}
+use Rattle.rv_hardware.proofs.Headline.Result.{ReadsSame, same_result}
+use Rattle.rv_hardware.proofs.Headline.Retires.{IsRetirement, IsTold, effect_told}
+
+-- the word that a fetch found, or where it found none
+outside_by : (inside : Bool) (word : ℕ) → cond inside (Some word) None ≡ None → inside ≡ false
+outside_by true word none = absurd (cc)
+outside_by false word none = refl
+
+record IsWordInside (inside : Bool) (at word : ℕ) : Type 0 where
+  pub within : inside ≡ true
+  pub is : word ≡ at
+
+inside_by : (inside : Bool) (at word : ℕ) → cond inside (Some at) None ≡ Some word → IsWordInside inside at word
+inside_by true at word some = record { within = refl; is = cc }
+inside_by false at word some = absurd (cc)
+
+pub reads_itself : (s : State) (sources : List (Option ℕ)) → ReadsSame s s sources
+reads_itself s [] = tt
+reads_itself s (None ∷ sources) = reads_itself s sources
+reads_itself s (Some register ∷ sources) = (refl, reads_itself s sources)
+
+module _ (layout : Layout) (s : State) (lines : Lines) where
+  -- no interrupt is due, and the word at pc is as it was fetched
+  pub record IsReady (word : Option ℕ) (instruction : Option Instr) : Type 0 where
+    pub calm : due s.csrs lines ≡ None
+    pub fresh : set.contains s.stale (word_of s.pc) ≡ false
+    pub word_is : word ≡ fetched_word layout s.ram s.pc
+    pub instruction_is : instruction ≡ option_and_then instruction_of word
+
+  pub outside : (instruction : Option Instr) → IsReady None instruction → is_in_ram layout s.pc 4 ≡ false
+  outside instruction ready = outside_by (is_in_ram layout s.pc 4) (number_at layout s.ram s.pc 4) (sym ready.word_is)
+
+  found : (word : ℕ) (instruction : Option Instr) → IsReady (Some word) instruction → IsWordInside (is_in_ram layout s.pc 4) (word_at_pc layout s) word
+  found word instruction ready = inside_by (is_in_ram layout s.pc 4) (number_at layout s.ram s.pc 4) word (sym ready.word_is)
+
+  -- the word of a ready instruction can be fetched at the state's pc
+  pub fetched : (word : ℕ) (instruction : Option Instr) → IsReady (Some word) instruction → IsFetched layout s lines
+  fetched word instruction ready = record { undisturbed = ready.calm; in_ram = (found word instruction ready).within; fresh = ready.fresh }
+
+  -- the word of a ready instruction is the one that memory holds at the pc
+  pub word_here : (word : ℕ) (instruction : Option Instr) → IsReady (Some word) instruction → word ≡ word_at_pc layout s
+  word_here word instruction ready = (found word instruction ready).is
+
+  -- the instruction of a ready word is what the word decodes to
+  pub decoded : (word : ℕ) (i : Instr) → IsReady (Some word) (Some i) → Decodes word i
+  decoded word i ready = Decodes-instruction_of word i (sym ready.instruction_is)
+
+  -- an instruction that was fetched has a word
+  pub some_word : (word : Option ℕ) (i : Instr) → IsReady word (Some i) → word ≡ Some (unwrap_or word 0)
+  some_word None i ready = absurd (cc (ready.instruction_is))
+  some_word (Some word) i ready = refl
+
+  -- the step that a message tells of: a retirement, or a trap
+  pub record Retires_as (word : Option ℕ) (instruction : Option Instr) (message : Message) : Type 0 where
+    pub next : State
+    pub takes : Step layout s lines (Retired s.pc (unwrap_or word 0) (option_map (λ (r : ℕ). (r, message.value)) (target_of_word instruction))) next
+    pub tells : IsRetirement layout s next (target_of_word instruction) message (option_map (λ (r : ℕ). (r, message.value)) (target_of_word instruction))
+
+  -- the machine's step that a message tells of: a retirement where it has no fault, else a trap
+  abbrev pub IsStepOf : Option ℕ → Option Instr → Message → Option Fault → Type 0
+  IsStepOf word instruction message None = Retires_as word instruction message
+  IsStepOf word instruction message (Some fault) = Step layout s lines (Trap s.pc fault.cause fault.value) (trap_taken s (code_of fault.cause) fault.value)
+
+  step_of_effect : (word : ℕ) (i : Instr) (e : Effect) → IsReady (Some word) (Some i) → effect layout s lines word i ≡ e → IsTold layout s (target_of i) (access_of s i) e →
+      IsStepOf (Some word) (Some i) (effect_message (access_of s i) e) (effect_message (access_of s i) e).fault
+  step_of_effect word i (Retires register next) ready is tells = record {
+    next = next;
+    takes = subst (λ (r : Option (ℕ × ℕ)). Step layout s lines (Retired s.pc word r) next) tells.register_is
+        (retired_at layout s lines (fetched word (Some i) ready) s.pc refl word (word_here word (Some i) ready) i (decoded word i ready) register next is);
+    tells = subst (λ (r : Option (ℕ × ℕ)). IsRetirement layout s next (target_of i) (effect_message (access_of s i) (Retires register next)) r) tells.register_is tells;
+  }
+  step_of_effect word i (Faults cause value) ready is tells =
+      faulted_at layout s lines (fetched word (Some i) ready) word (word_here word (Some i) ready) i (decoded word i ready) cause value is
+
+  step_of_result : s.pc % 4 ≡ 0 → (word : Option ℕ) (instruction : Option Instr) → is_serialising instruction ≡ false → IsReady word instruction →
+      IsStepOf word instruction (result_of_word layout s lines word instruction) (result_of_word layout s lines word instruction).fault
+  step_of_result here None instruction plain ready = unfetched ready.calm (outside instruction ready)
+  step_of_result here (Some word) None plain ready =
+      illegal_at layout s lines (fetched word None ready) word (word_here word None ready) (IsIllegal-instruction_of word (sym ready.instruction_is))
+  step_of_result here (Some word) (Some i) plain ready =
+      step_of_effect word i (effect layout s lines word i) ready refl (effect_told layout s here lines word i plain)
+
+  -- where the message of the oldest instruction is its result, the machine takes that step
+  pub step_of : s.pc % 4 ≡ 0 → (word : Option ℕ) (instruction : Option Instr) (message : Message) → is_serialising instruction ≡ false → IsReady word instruction →
+      message ≡ result_of_word layout s no_lines word instruction → IsStepOf word instruction message message.fault
+  step_of here word instruction message plain ready is =
+      let same = is ∙ same_result s s layout no_lines lines refl word instruction plain (reads_itself s (sources_of_word instruction)) (λ loads. refl) in
+      subst (λ (m : Message). IsStepOf word instruction m m.fault) (sym same) (step_of_result here word instruction plain ready)

@@ -1,0 +1,58 @@
+-- What always holds of the hardware, so that its steps are the one-at-a-time machine's.
+use Rattle.rv_hardware.proofs.Words.{◌≡◌, ℕ, ◌+◌, ◌*◌, ◌%◌, true, false, List, [], ◌∷◌, length, slice_index_or as get_or, nat_cmp, PerKind, Values, Layout, Memory, is_in_ram, word_of, State, Contents, IsConsistent, Each, is_draining, Store as QueuedStore, Pool, ReorderBuffer, Entry, FetchBuffer, Hardware, memory_behind, with_store, layout_of, seen}
+use Rattle.std.specs.FinSet as set
+use Rattle.rv_hardware.proofs.Headline.Fold.{behind, AreInFlight, AreInBuffer}
+use Rattle.rv_hardware.proofs.Headline.Words.{IsRetiredStore}
+
+-- only the oldest store's access may be under way, and the cache has its bytes then
+abbrev pub DrainInOrder : ℕ → List ℕ → List QueuedStore → Type 0
+DrainInOrder base bytes [] = Unit {0}
+DrainInOrder base bytes (s ∷ ss) = (is_draining s ≡ true → with_store base s.state bytes ≡ bytes) × Each (λ t. is_draining t ≡ false) ss
+
+-- where a word is not stale, RAM has the bytes that programs see
+abbrev pub IsFreshInRam : ℕ → set.FinSet nat_cmp → List ℕ → List ℕ → Type 0
+IsFreshInRam base stale memory bytes = (i : ℕ) → set.contains stale (word_of (base + i)) ≡ false → get_or memory i 0 ≡ get_or bytes i 0
+
+-- memory, the cache over it, and the retired stores
+pub record HoldsMemory (values : Values) (stale : set.FinSet nat_cmp) (cache : Contents Memory) (committed : List QueuedStore) : Type 0 where
+  pub base_aligned : values.ram_base % 4 ≡ 0
+  pub size_aligned : values.ram_size % 4 ≡ 0
+  pub layout : cache.backing.layout ≡ layout_of values
+  pub cache_base : cache.base ≡ values.ram_base
+  pub cache_size : length cache.bytes ≡ values.ram_size
+  -- RAM lacks only what dirty lines hold
+  pub consistent : IsConsistent cache.base cache.values cache.bytes cache.sets cache.backing.bytes
+  pub retired : Each (IsRetiredStore (layout_of values) stale) committed
+  pub drains : DrainInOrder values.ram_base cache.bytes committed
+  pub fresh : IsFreshInRam values.ram_base stale cache.backing.bytes (memory_behind values.ram_base committed cache.bytes)
+  pub inside : (word : ℕ) → set.contains stale word ≡ true → is_in_ram (layout_of values) (4 * word) 4 ≡ true
+
+-- the instructions in flight and the fetched words go on from the state that programs see
+pub record FollowsProgram (layout : Layout) (s : State) (entries : List Entry) (front : FetchBuffer) : Type 0 where
+  pub in_flight : AreInFlight layout s s entries
+  pub buffered : AreInBuffer layout s (behind layout entries s).pc front.entries front.next_pc
+  pub aligned : front.next_pc % 4 ≡ 0
+
+-- pc and mepc are aligned, cache and queue hold the program's memory, and what is in flight follows the program
+pub record IsSound (h : Hardware) : Type 0 where
+  pub pc_aligned : h.pc % 4 ≡ 0
+  pub mepc_aligned : h.csrs.mepc % 4 ≡ 0
+  pub memory : HoldsMemory h.values h.stale h.cache h.committed
+  pub program : FollowsProgram (layout_of h.values) (seen h) h.rob.entries h.front
+
+-- sound hardware of a description, in a cycle, in which programs see a state
+pub record IsSoundAt (values : Values) (cycle : ℕ) (s : State) (h : Hardware) : Type 0 where
+  pub values_are : h.values ≡ values
+  pub cycle_is : h.cycle ≡ cycle
+  pub sees : seen h ≡ s
+  pub sound : IsSound h
+
+-- the hardware with other instructions in flight
+pub with_other_program : (values : Values) (cycle : ℕ) (s : State) (h : Hardware) → IsSoundAt values cycle s h → (units : PerKind Pool) (rob : ReorderBuffer) (front : FetchBuffer) →
+    FollowsProgram (layout_of h.values) (seen h) rob.entries front → IsSoundAt values cycle s (record h { units = units; rob = rob; front = front })
+with_other_program values cycle s h is units rob front program = record {
+  values_are = is.values_are;
+  cycle_is = is.cycle_is;
+  sees = is.sees;
+  sound = record { pc_aligned = is.sound.pc_aligned; mepc_aligned = is.sound.mepc_aligned; memory = is.sound.memory; program = program };
+}

@@ -1,0 +1,118 @@
+-- The issue phase changes nothing that programs see, and what it computes is the one-at-a-time machine's.
+use Rattle.rv_hardware.proofs.Words.{◌≡◌, ℕ, ◌+◌, ◌<◌, ◌≤◌, Bool, true, false, not, ◌&&◌, ◌||◌, List, ◌∷◌, ◌++◌, length, if◌then◌else◌, Some, None, Option, sym, refl, ap, ◌∙◌, subst, inl, inr, arith, leb-true, and_parts, false≢true, list_all, is_load, is_of_kind, is_serialising, kind_of_word, sources_of_word, width_of, at_kind, with_kind, Message, Instr, Csr, FenceI, Load, Mret, Kind, Values, is_aligned, is_in_ram, State, consistent_after, is_known as is_known_store, is_free, started, changed, Entry, Running, Hardware, is_waiting, FromCache, FromStores, Path, Without, cost_of, has_operands, has_port, is_ready, issue, issue_kind, issue_oldest, issue_turn, issued, may_load, oldest, path, path_of, with_access, with_start, Ends, layout_of, seen, seen_behind, stores_behind, Leaves, kept_by_turns}
+use Rattle.rv_isa.specs.declared.Issue.{Issue}
+use Rattle.rv_isa.specs.declared.operations.Kind.TheVariants as kind
+use Rattle.rv_units.specs.Pool.{started as started_unit}
+use Rattle.rv_hardware.proofs.Headline.Drain.{with_other_memory}
+use Rattle.rv_hardware.proofs.Headline.Fold.{result_at, behind, AreInFlight}
+use Rattle.rv_hardware.proofs.Headline.Invariant.{IsSoundAt, with_other_program}
+use Rattle.rv_hardware.proofs.Headline.Known.{issued_result}
+use Rattle.rv_hardware.proofs.Headline.Retires.{some_bytes}
+use Rattle.rv_hardware.proofs.Headline.Split.{AreInFlight-older}
+use Rattle.rv_hardware.proofs.Headline.Stage.{here_in_flight, FollowsProgram-staged}
+use Rattle.rv_hardware.proofs.Headline.Victim.{access_mixed}
+use Rattle.rv_hardware.proofs.Headline.Words.{memory_behind-fresh}
+use Rattle.rv_hardware.proofs.Oldest.{IsFound, oldest_found, with_entry-at}
+
+-- an instruction with a unit is not serialising
+pub plain_by_kind : (k : Kind) (i : Option Instr) → is_of_kind k (kind_of_word i) ≡ true → is_serialising i ≡ false
+plain_by_kind k (Some FenceI) of = absurd (false≢true of)
+plain_by_kind k (Some (Csr op rd csr source)) of = absurd (false≢true of)
+plain_by_kind k (Some Mret) of = absurd (false≢true of)
+plain_by_kind k _ of = refl
+
+loads_known : (load known port : Bool) → (not load || (known && port)) ≡ true → load ≡ true → known ≡ true
+loads_known true known port may is = (and_parts known port may).0
+loads_known false known port may is = absurd (false≢true is)
+
+-- a load that accesses the cache does so in RAM
+abbrev IsInRam : Hardware → Path → Type 0
+IsInRam h Without = Unit {0}
+IsInRam h FromStores = Unit {0}
+IsInRam h (FromCache address) = (h.values.ram_base ≤ address) × (address < h.values.ram_base + h.values.ram_size)
+
+load_in_ram : (h : Hardware) (address count : ℕ) (fits covered : Bool) → 1 ≤ count → (is_aligned address count && is_in_ram (layout_of h.values) address count) ≡ fits →
+    IsInRam h (if not fits then Without else (if covered then FromStores else FromCache address))
+load_in_ram h address count false covered some fits = tt
+load_in_ram h address count true true some fits = tt
+load_in_ram h address count true false some fits =
+    let inside = and_parts _ _ (and_parts (is_aligned address count) (is_in_ram (layout_of h.values) address count) fits).1 in
+    let above = leb-true h.values.ram_base address inside.0 in
+    let below = leb-true (address + count) (h.values.ram_base + h.values.ram_size) inside.1 in
+    (above, omega (arith, some, below))
+
+path_in_ram : (h : Hardware) (older : List Entry) (s : State) (instruction : Option Instr) → IsInRam h (path_of h older s instruction)
+path_in_ram h older s (Some (Load form rd rs1 offset)) = load_in_ram h _ _ _ _ (some_bytes (width_of form)) refl
+path_in_ram h older s _ = tt
+
+module _ (values : Values) (cycle : ℕ) (state : State) where
+  -- ---- an access to the cache
+  access_kept : (p : Path) (h : Hardware) → IsInRam h p → IsSoundAt values cycle state h → IsSoundAt values cycle state (with_access p h)
+  access_kept Without h inside is = is
+  access_kept FromStores h inside is = is
+  access_kept (FromCache address) h inside is =
+      let was = is.sound.memory in
+      let mixed = access_mixed h.cache address h.cache.backing.bytes was.consistent.size in
+      with_other_memory values cycle state h is (with_access (FromCache address) h) refl refl refl refl refl refl refl (record {
+        base_aligned = was.base_aligned;
+        size_aligned = was.size_aligned;
+        layout = was.layout;
+        cache_base = was.cache_base;
+        cache_size = was.cache_size;
+        consistent = consistent_after h.cache.base h.cache.values h.cache.bytes h.cache.backing.bytes h.cache.sets was.consistent address (omega (arith, was.cache_base, inside.0)) (omega (arith, was.cache_base, was.cache_size, inside.1)) false;
+        retired = was.retired;
+        drains = was.drains;
+        fresh = λ i fresh. elim (mixed.either i) [
+          | inl stays ↦ stays ∙ was.fresh i fresh
+          | inr cached ↦ cached ∙ sym (memory_behind-fresh (layout_of h.values) h.stale h.committed h.cache.bytes was.retired was.cache_size i fresh)
+        ];
+        inside = was.inside;
+      })
+
+  -- ---- the start of an execution
+  start_kept : (k : Kind) (cost seq : ℕ) (message : Message) (older : List Entry) (e : Entry) (younger : List Entry) (h : Hardware) → IsSoundAt values cycle state h →
+      h.rob.entries ≡ older ++ e ∷ younger → seq ≡ h.rob.retired + length older → message ≡ result_at (layout_of h.values) (behind (layout_of h.values) older (seen h)) e →
+      IsSoundAt values cycle state (with_start k seq cost message h)
+  start_kept k cost seq message older e younger h is entries at result =
+      let issue : Issue = record { cycle = h.cycle; cost = cost } in
+      with_other_program values cycle state h is (with_kind k (started_unit cost h.cycle (at_kind k h.units)) h.units) (changed (started issue message) seq h.rob) h.front
+      (FollowsProgram-staged (layout_of h.values) (seen h) older e younger (Running issue message) h.front h.rob.entries _ entries
+      (ap (λ (es : List Entry). (changed (started issue message) seq (record h.rob { entries = es })).entries) entries ∙ with_entry-at (started issue message) seq h.rob.retired older younger e at)
+      result is.sound.program)
+
+  started_kept : (p : Path) (k : Kind) (cost seq : ℕ) (message : Message) (older : List Entry) (e : Entry) (younger : List Entry) (h : Hardware) → IsInRam h p → IsSoundAt values cycle state h →
+      h.rob.entries ≡ older ++ e ∷ younger → seq ≡ h.rob.retired + length older → message ≡ result_at (layout_of h.values) (behind (layout_of h.values) older (seen h)) e →
+      IsSoundAt values cycle state (with_start k seq cost message (with_access p h))
+  started_kept Without k cost seq message older e younger h inside is entries at result = start_kept k cost seq message older e younger h is entries at result
+  started_kept FromStores k cost seq message older e younger h inside is entries at result = start_kept k cost seq message older e younger h is entries at result
+  started_kept (FromCache address) k cost seq message older e younger h inside is entries at result =
+      start_kept k cost seq message older e younger (with_access (FromCache address) h) (access_kept (FromCache address) h inside is) entries at result
+
+  issued_kept : (k : Kind) (h : Hardware) (older : List Entry) (e : Entry) → IsSoundAt values cycle state h → IsFound (is_ready h k) h.rob.entries older e → IsSoundAt values cycle state (issued k h older e)
+  issued_kept k h older e is found =
+      let entries : h.rob.entries ≡ older ++ e ∷ found.younger = found.split in
+      let all : AreInFlight (layout_of h.values) (seen h) (seen h) (older ++ e ∷ found.younger) = subst (AreInFlight (layout_of h.values) (seen h) (seen h)) entries is.sound.program.in_flight in
+      let here = here_in_flight (layout_of h.values) (seen h) older e found.younger all in
+      let passes = and_parts _ (may_load h older e) found.passes in
+      let ready = and_parts _ (has_operands older (sources_of_word e.instruction)) passes.0 in
+      let waits = and_parts (is_waiting e.stage) (is_of_kind k (kind_of_word e.instruction)) ready.0 in
+      let result = issued_result h older e (AreInFlight-older (layout_of h.values) (seen h) (seen h) older (e ∷ found.younger) all) here.pc
+      (plain_by_kind k e.instruction waits.1) ready.1 (loads_known (is_load e.instruction) (list_all is_known_store (stores_behind h older)) (has_port h (path h older e)) passes.1) in
+      started_kept (path h older e) k (cost_of h k (path h older e)) (h.rob.retired + length older) _ older e found.younger h (path_in_ram h older (seen_behind h older e.pc) e.instruction) is entries refl result
+
+  oldest_kept : (k : Kind) (h : Hardware) (o : Option (List Entry × Entry)) → oldest (is_ready h k) h.rob.entries ≡ o → IsSoundAt values cycle state h → Leaves (IsSoundAt values cycle state) (issue_oldest k h o)
+  oldest_kept k h None at is = is
+  oldest_kept k h (Some found) at is = issued_kept k h found.0 found.1 is (oldest_found (is_ready h k) h.rob.entries found.0 found.1 at)
+
+  turn_by : (b : Bool) (k : Kind) (h : Hardware) → IsSoundAt values cycle state h →
+      Leaves (IsSoundAt values cycle state) (if b then issue_oldest k h (oldest (is_ready h k) h.rob.entries) else Ends h)
+  turn_by true k h is = oldest_kept k h _ refl is
+  turn_by false k h is = is
+
+  kind_kept : (k : Kind) (h : Hardware) → IsSoundAt values cycle state h → IsSoundAt values cycle state (issue_kind k h)
+  kind_kept k h is =
+      kept_by_turns (IsSoundAt values cycle state) (issue_turn k) (λ now. turn_by (is_free now.cycle (at_kind k now.units)) k now) (at_kind k h.values.kinds).units h is
+
+  -- the issue phase keeps the hardware sound, with the same state seen
+  pub issue_kept : (h : Hardware) → IsSoundAt values cycle state h → IsSoundAt values cycle state (issue h)
+  issue_kept h is = kind_kept kind.Mem _ (kind_kept kind.Div _ (kind_kept kind.Mul _ (kind_kept kind.Alu h is)))

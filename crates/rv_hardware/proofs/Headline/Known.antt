@@ -1,0 +1,173 @@
+-- The state in which an instruction executes agrees with the one after the older ones where it looks.
+use Rattle.rv_hardware.proofs.Words.{◌≡◌, ℕ, ◌+◌, ◌≤◌, Bool, true, false, cond, ◌≢◌, List, [], ◌∷◌, ◌++◌, length, is_some, IfSome, if◌then◌else◌, nat_eq, slice_index, slice_index_or as get_or, slice_set, Some, None, Option, sym, refl, ap, ◌∙◌, ap₂, inl, inr, true≢false, arith, length-set, get_or-set_other, get_or-set_same, eqb-true, and_parts, cases_Bool, cases_lt, cond-false, cond-true, eqb-false, false≢true, get_or_past, set_past, list_all-append, list_all, no_lines, is_load, is_serialising, is_store, is_target, sources_of_word, target_of_word, target_of, Message, StoreAccess, Instr, Auipc, Csr, Jal, Jalr, Load, Lui, Op, OpImmediate, Shift, Lines, Layout, Effect, Faults, Retires, effect, State, register_of, with_register, is_known as is_known_store, is_known_state, Store as QueuedStore, Entry, Stage, Finished, Running, Waiting, Hardware, broadcast_of, is_known_from, memory_behind, registers_behind, store_of_broadcast, store_of_message, stores_of, with_store, with_value, writes, has_operands, access_of, effect_message, result_of_word, layout_of, seen, seen_behind, stores_behind}
+use Rattle.rv_isa.specs.declared.instructions.Instr.TheVariants.{Store}
+use Rattle.rv_hardware.specs.InFlight.{is_known}
+use Rattle.rv_hardware.proofs.Headline.Fold.{result_at, executed, behind, IsResult, AreInFlight}
+use Rattle.rv_hardware.proofs.Headline.Result.{ReadsSame, same_result}
+
+-- ---- x0 is nobody's target
+abbrev IsNotZero : Option ℕ → Type 0
+IsNotZero target = IfSome target (λ n. nat_eq n 0 ≡ false)
+
+written_not_zero : (b : Bool) (rd : ℕ) → nat_eq rd 0 ≡ b → IsNotZero (cond b None (Some rd))
+written_not_zero true rd is = tt
+written_not_zero false rd is = is
+
+target_of_not_zero : (i : Instr) → IsNotZero (target_of i)
+target_of_not_zero (Lui rd immediate) = written_not_zero _ rd refl
+target_of_not_zero (Auipc rd immediate) = written_not_zero _ rd refl
+target_of_not_zero (Jal rd offset) = written_not_zero _ rd refl
+target_of_not_zero (Jalr rd rs1 offset) = written_not_zero _ rd refl
+target_of_not_zero (Load form rd rs1 offset) = written_not_zero _ rd refl
+target_of_not_zero (OpImmediate op rd rs1 immediate) = written_not_zero _ rd refl
+target_of_not_zero (Shift op rd rs1 amount) = written_not_zero _ rd refl
+target_of_not_zero (Op op rd rs1 rs2) = written_not_zero _ rd refl
+target_of_not_zero (Csr op rd csr source) = written_not_zero _ rd refl
+target_of_not_zero _ = tt
+
+target_not_zero : (i : Option Instr) → IsNotZero (target_of_word i)
+target_not_zero None = tt
+target_not_zero (Some i) = target_of_not_zero i
+
+-- ---- registers
+with_register_set : (registers : List ℕ) (rd value : ℕ) → nat_eq rd 0 ≡ false → with_register registers rd value ≡ slice_set registers rd value
+with_register_set registers rd value is = cond-false (nat_eq rd 0) registers (slice_set registers rd value) is
+
+length-with_register : (b : Bool) (registers : List ℕ) (rd value : ℕ) → length (cond b registers (slice_set registers rd value)) ≡ length registers
+length-with_register true registers rd value = refl
+length-with_register false registers rd value = length-set registers rd value
+
+pub length-with_value : (registers : List ℕ) (target : Option ℕ) (message : Option Message) → length (with_value registers target message) ≡ length registers
+length-with_value registers None message = refl
+length-with_value registers (Some rd) None = refl
+length-with_value registers (Some rd) (Some message) = length-with_register (nat_eq rd 0) registers rd message.value
+
+past_end : (zs : List ℕ) (r value : ℕ) → length zs ≤ r → slice_index (slice_set zs r value) r ≡ 0
+past_end zs r value past = ap (λ (xs : List ℕ). get_or xs r 0) (set_past zs r value past) ∙ get_or_past zs r 0 past
+
+-- a register that was just written has the value, in any two lists of one length
+same_where_written : (xs ys : List ℕ) (r value : ℕ) → length xs ≡ length ys → slice_index (slice_set xs r value) r ≡ slice_index (slice_set ys r value) r
+same_where_written xs ys r value size = elim (cases_lt r (length xs)) [
+  | inl within ↦ get_or-set_same xs r value 0 within ∙ sym (get_or-set_same ys r value 0 (omega arith))
+  | inr past ↦ past_end xs r value past ∙ sym (past_end ys r value (omega arith))
+]
+
+-- the same where the youngest instruction is known, that writes the register
+agree_behind_one : (xs ys : List ℕ) (r : ℕ) (known : Bool) (target : Option ℕ) (broadcast : Option Message) (message : Message) →
+    length xs ≡ length ys → (known ≡ true → slice_index xs r ≡ slice_index ys r) → IsNotZero target → IfSome broadcast (λ b. b ≡ message) →
+    (if is_target r target then is_some broadcast else known) ≡ true →
+    slice_index (with_value xs target broadcast) r ≡ slice_index (with_value ys target (Some message)) r
+agree_behind_one xs ys r known None broadcast message size same zero is test = same test
+agree_behind_one xs ys r known (Some rd) None message size same zero is test = elim (cases_Bool (nat_eq rd r)) [
+  | inl own ↦ absurd (false≢true (sym (cond-true (nat_eq rd r) false known own) ∙ test))
+  | inr other ↦
+      let differs : r ≢ rd = λ e. eqb-false rd r other (sym e) in
+      same (sym (cond-false (nat_eq rd r) false known other) ∙ test)
+      ∙ sym (ap (λ (zs : List ℕ). slice_index zs r) (with_register_set ys rd message.value zero) ∙ get_or-set_other ys rd r message.value 0 differs)
+]
+agree_behind_one xs ys r known (Some rd) (Some b) message size same zero is test =
+    ap (λ (zs : List ℕ). slice_index zs r) (with_register_set xs rd b.value zero)
+    ∙ elim (cases_Bool (nat_eq rd r)) [
+      | inl own ↦
+          let here : rd ≡ r = eqb-true rd r own in
+          ap (λ (n : ℕ). slice_index (slice_set xs rd b.value) n) (sym here)
+          ∙ same_where_written xs ys rd b.value size
+          ∙ ap₂ (λ (m : Message) (n : ℕ). slice_index (slice_set ys rd m.value) n) is here
+      | inr other ↦
+          let differs : r ≢ rd = λ e. eqb-false rd r other (sym e) in
+          get_or-set_other xs rd r b.value 0 differs
+          ∙ same (sym (cond-false (nat_eq rd r) true known other) ∙ test)
+          ∙ sym (get_or-set_other ys rd r message.value 0 differs)
+    ]
+    ∙ sym (ap (λ (zs : List ℕ). slice_index zs r) (with_register_set ys rd message.value zero))
+
+-- what was broadcast is the result
+pub broadcast_is : (stage : Stage) (result : Message) → IsResult result stage → IfSome (broadcast_of stage) (λ b. b ≡ result)
+broadcast_is Waiting result is = tt
+broadcast_is (Running issue message) result is = tt
+broadcast_is (Finished issue cycle message) result is = is
+
+module _ (layout : Layout) (now : State) where
+  known_from : (older : List Entry) (s : State) (registers : List ℕ) (known : Bool) (r : ℕ) → AreInFlight layout now s older →
+      length registers ≡ length s.registers → (known ≡ true → slice_index registers r ≡ register_of s r) → is_known_from known older r ≡ true →
+      slice_index (registers_behind registers older) r ≡ register_of (behind layout older s) r
+  known_from [] s registers known r all size same test = same test
+  known_from (e ∷ es) s registers known r all size same test =
+      let target = target_of_word e.instruction in
+      let message = result_at layout s e in
+      known_from es (executed layout e s) (with_value registers target (broadcast_of e.stage)) (if writes e r then is_some (broadcast_of e.stage) else known) r all.1
+      (length-with_value registers target (broadcast_of e.stage) ∙ size ∙ sym (length-with_value s.registers target (Some message)))
+      (agree_behind_one registers s.registers r known target (broadcast_of e.stage) message size same (target_not_zero e.instruction) (broadcast_is e.stage message all.0.result))
+      test
+
+  pub operands_known : (older : List Entry) (s t : State) (sources : List (Option ℕ)) → AreInFlight layout now s older → t.registers ≡ registers_behind s.registers older →
+      has_operands older sources ≡ true → ReadsSame t (behind layout older s) sources
+  operands_known older s t [] all is has = tt
+  operands_known older s t (None ∷ sources) all is has = operands_known older s t sources all is has
+  operands_known older s t (Some r ∷ sources) all is has =
+      let parts = and_parts (is_known older r) (has_operands older sources) has in (
+        ap (λ (xs : List ℕ). slice_index xs r) is ∙ known_from older s s.registers true r all refl (λ h. refl) parts.0,
+        operands_known older s t sources all is parts.1,
+      )
+
+-- ---- memory
+no_store_of_effect : (effect : Effect) → (effect_message None effect).store ≡ None
+no_store_of_effect (Retires written next) = refl
+no_store_of_effect (Faults cause value) = refl
+
+no_access : (s : State) (i : Instr) → is_store (Some i) ≡ false → access_of s i ≡ None
+no_access s (Store width rs1 rs2 offset) other = absurd (true≢false other)
+no_access s _ other = refl
+
+-- only stores write to memory
+pub no_store : (layout : Layout) (s : State) (lines : Lines) (word : Option ℕ) (i : Option Instr) → is_store i ≡ false → (result_of_word layout s lines word i).store ≡ None
+no_store layout s lines None i other = refl
+no_store layout s lines (Some word) None other = refl
+no_store layout s lines (Some word) (Some i) other =
+    ap (λ (access : Option StoreAccess). (effect_message access (effect layout s lines word i)).store) (no_access s i other)
+    ∙ no_store_of_effect (effect layout s lines word i)
+
+-- a store that is known has its bytes
+store_known : (base : ℕ) (xs ys : List ℕ) (broadcast : Option Message) (message : Message) → xs ≡ ys → IfSome broadcast (λ b. b ≡ message) →
+    is_known_state (store_of_broadcast broadcast) ≡ true → with_store base (store_of_broadcast broadcast) xs ≡ with_store base (store_of_message message.store) ys
+store_known base xs ys None message same is known = absurd (false≢true known)
+store_known base xs ys (Some b) message same is known = ap₂ (λ (m : Message) (zs : List ℕ). with_store base (store_of_message m.store) zs) is same
+
+module _ (layout : Layout) (now : State) where
+  known_by : (b : Bool) (e : Entry) (es : List Entry) (s : State) (seq : ℕ) (bytes : List ℕ) → is_store e.instruction ≡ b → IsResult (result_at layout s e) e.stage → bytes ≡ s.ram →
+      ((bytes' : List ℕ) → bytes' ≡ (executed layout e s).ram → list_all is_known_store (stores_of (seq + 1) es) ≡ true → memory_behind layout.base (stores_of (seq + 1) es) bytes' ≡ (behind layout (e ∷ es) s).ram) →
+      list_all is_known_store (if b then record { seq = seq; state = store_of_broadcast (broadcast_of e.stage) } ∷ stores_of (seq + 1) es else stores_of (seq + 1) es) ≡ true →
+      memory_behind layout.base (if b then record { seq = seq; state = store_of_broadcast (broadcast_of e.stage) } ∷ stores_of (seq + 1) es else stores_of (seq + 1) es) bytes ≡ (behind layout (e ∷ es) s).ram
+  known_by true e es s seq bytes is result same rest known =
+      let parts = and_parts (is_known_state (store_of_broadcast (broadcast_of e.stage))) (list_all is_known_store (stores_of (seq + 1) es)) known in
+      rest _ (store_known layout.base bytes s.ram (broadcast_of e.stage) (result_at layout s e) same (broadcast_is e.stage (result_at layout s e) result) parts.0) parts.1
+  known_by false e es s seq bytes is result same rest known =
+      rest bytes (same ∙ ap (λ (access : Option StoreAccess). with_store layout.base (store_of_message access) s.ram) (sym (no_store layout s no_lines e.word e.instruction is))) known
+
+  pub memory_known : (older : List Entry) (s : State) (seq : ℕ) (bytes : List ℕ) → AreInFlight layout now s older → bytes ≡ s.ram →
+      list_all is_known_store (stores_of seq older) ≡ true → memory_behind layout.base (stores_of seq older) bytes ≡ (behind layout older s).ram
+  memory_known [] s seq bytes all same known = same
+  memory_known (e ∷ es) s seq bytes all same known =
+      known_by (is_store e.instruction) e es s seq bytes refl all.0.result same
+      (λ bytes' same' known'. memory_known es (executed layout e s) (seq + 1) bytes' all.1 same' known') known
+
+-- memory after stores in two parts is memory after the second, begun after the first
+pub memory_behind-append : (base : ℕ) (xs ys : List QueuedStore) (bytes : List ℕ) → memory_behind base (xs ++ ys) bytes ≡ memory_behind base ys (memory_behind base xs bytes)
+memory_behind-append base [] ys bytes = refl
+memory_behind-append base (x ∷ xs) ys bytes = memory_behind-append base xs ys (with_store base x.state bytes)
+
+-- ---- so what an instruction gives that has its operands is the one-at-a-time machine's
+module _ (h : Hardware) (older : List Entry) (e : Entry) where
+  -- an instruction whose operands and older stores are known gives the result that it has in program order
+  pub issued_result : AreInFlight (layout_of h.values) (seen h) (seen h) older → e.pc ≡ (behind (layout_of h.values) older (seen h)).pc →
+      is_serialising e.instruction ≡ false → has_operands older (sources_of_word e.instruction) ≡ true →
+      (is_load e.instruction ≡ true → list_all is_known_store (stores_behind h older) ≡ true) →
+      result_of_word (layout_of h.values) (seen_behind h older e.pc) h.lines e.word e.instruction ≡ result_at (layout_of h.values) (behind (layout_of h.values) older (seen h)) e
+  issued_result all here plain has known =
+      same_result (seen_behind h older e.pc) (behind (layout_of h.values) older (seen h)) (layout_of h.values) h.lines no_lines here e.word e.instruction plain
+      (operands_known (layout_of h.values) (seen h) older (seen h) (seen_behind h older e.pc) (sources_of_word e.instruction) all refl has)
+      (λ loads.
+      memory_behind-append h.values.ram_base h.committed (stores_of h.rob.retired older) h.cache.bytes
+      ∙ memory_known (layout_of h.values) (seen h) older (seen h) h.rob.retired (seen h).ram all refl
+      (and_parts (list_all is_known_store h.committed) (list_all is_known_store (stores_of h.rob.retired older))
+      (sym (list_all-append is_known_store h.committed (stores_of h.rob.retired older)) ∙ known loads)).1)

@@ -1,0 +1,116 @@
+-- A serialising instruction takes its effect in the state that programs see.
+use Rattle.rv_hardware.proofs.Words.{◌≡◌, ℕ, ◌%◌, Bool, true, false, ◌&&◌, List, [], ◌∷◌, IfSome, if◌then◌else◌, slice_index_or as get_or, Some, None, Option, option_map, nat_cmp, sym, refl, ap, ◌∙◌, subst, arith, false≢true, Csr, FenceI, Mret, Lines, Kept, access, access_csr, does_write, is_read_only, new_value, value_of, Effect, Faults, Retires, accesses, effect, operand_of, State, consistent_cleaned, memory_written, memory_written_back, Each, Store as QueuedStore, is_drained, with_write_back, Hardware, memory_behind, layout_of, seen}
+use Rattle.std.specs.FinSet as set
+use Rattle.rv_isa.specs.declared.instructions.CsrSource.{CsrSource}
+use Rattle.rv_isa.specs.declared.operations.CsrOp.{CsrOp}
+use Rattle.rv_isa.specs.declared.csrs.Csr.{Csr as Register}
+use Rattle.rv_isa.specs.declared.csrs.Csr.TheVariants as csr
+use Rattle.rv_isa.specs.Csr.{csr_at}
+use Rattle.rv_arch.specs.Csr.{written}
+use Rattle.rv_hardware.proofs.Headline.Invariant.{HoldsMemory, IsSound}
+use Rattle.rv_hardware.proofs.Headline.Retires.{aligned_next}
+use Rattle.rv_hardware.proofs.Headline.Words.{IsRetiredStore, memory_behind-fresh}
+
+-- ---- what the effect of a serialising instruction leaves
+pub record IsSerial (h : Hardware) (next : State) : Type 0 where
+  pub ram_is : next.ram ≡ (seen h).ram
+  pub pc_aligned : next.pc % 4 ≡ 0
+  pub mepc_aligned : next.csrs.mepc % 4 ≡ 0
+  pub memory : HoldsMemory h.values next.stale h.cache h.committed
+
+-- an effect that leaves RAM as it was, pc and mepc aligned, and the cache with the memory that programs see
+abbrev pub IsSerialEffect : Hardware → Effect → Type 0
+IsSerialEffect h (Retires register next) = IsSerial h next
+IsSerialEffect h (Faults cause value) = Unit {0}
+
+-- mepc is a multiple of 4, whatever is written
+mepc_written : (kept : Kept) (register : Register) (word : ℕ) → kept.mepc % 4 ≡ 0 → (written kept register word).mepc % 4 ≡ 0
+mepc_written kept csr.Mepc word aligned = omega arith
+mepc_written kept _ word aligned = aligned
+
+mepc_by : (writes : Bool) (kept new : Kept) → kept.mepc % 4 ≡ 0 → new.mepc % 4 ≡ 0 → (if writes then new else kept).mepc % 4 ≡ 0
+mepc_by true kept new aligned after = after
+mepc_by false kept new aligned after = aligned
+
+module _ (h : Hardware) (is : IsSound h) where
+  csr_done : (rd : ℕ) (word : ℕ) (found : Option (ℕ × Kept)) → IfSome found (λ f. f.1.mepc % 4 ≡ 0) → IsSerialEffect h (accesses (seen h) word rd found)
+  csr_done rd word None aligned = tt
+  csr_done rd word (Some found) aligned = record { ram_is = refl; pc_aligned = aligned_next h.pc is.pc_aligned; mepc_aligned = aligned; memory = is.memory }
+
+  found_aligned : (lines : Lines) (op : CsrOp) (zero_field : Bool) (value : ℕ) (register : Option Register) →
+      IfSome (option_map (access_csr h.csrs lines op zero_field value) register) (λ f. f.1.mepc % 4 ≡ 0)
+  found_aligned lines op zero_field value None = tt
+  found_aligned lines op zero_field value (Some register) =
+      mepc_by (does_write op zero_field) h.csrs (written h.csrs register (new_value op (value_of h.csrs lines register) value)) is.mepc_aligned
+      (mepc_written h.csrs register (new_value op (value_of h.csrs lines register) value) is.mepc_aligned)
+
+  access_by : (b : Bool) (found : Option (ℕ × Kept)) → IfSome found (λ f. f.1.mepc % 4 ≡ 0) → IfSome (if b then None else found) (λ f. f.1.mepc % 4 ≡ 0)
+  access_by true found aligned = tt
+  access_by false found aligned = aligned
+
+  -- the effect of a CSR instruction is such a one
+  pub csr_serial : (lines : Lines) (word : ℕ) (op : CsrOp) (rd address : ℕ) (source : CsrSource) → IsSerialEffect h (effect (layout_of h.values) (seen h) lines word (Csr op rd address source))
+  csr_serial lines word op rd address source =
+      let operand = operand_of h.registers source in
+      csr_done rd word (access h.csrs lines op address operand)
+      (access_by (does_write op operand.field_is_zero && is_read_only address) (option_map (access_csr h.csrs lines op operand.field_is_zero operand.value) (csr_at address))
+      (found_aligned lines op operand.field_is_zero operand.value (csr_at address)))
+
+  -- the effect of MRET is such a one
+  pub mret_serial : (lines : Lines) (word : ℕ) → IsSerialEffect h (effect (layout_of h.values) (seen h) lines word Mret)
+  mret_serial lines word = record { ram_is = refl; pc_aligned = is.mepc_aligned; mepc_aligned = is.mepc_aligned; memory = is.memory }
+
+  -- ---- FENCE.I
+  -- once every dirty line is written, RAM has all bytes that the cache has
+  all_written : memory_written_back h.cache h.cache.backing.bytes ≡ h.cache.bytes
+  all_written = memory_written h.cache.base h.cache.values h.cache.bytes h.cache.backing.bytes h.cache.sets is.memory.consistent
+
+  -- hardware whose cache was written back is sound
+  pub written_back_sound : IsSound (with_write_back h)
+  written_back_sound =
+      let was = is.memory in
+      record {
+        pc_aligned = is.pc_aligned;
+        mepc_aligned = is.mepc_aligned;
+        memory = record {
+          base_aligned = was.base_aligned;
+          size_aligned = was.size_aligned;
+          layout = was.layout;
+          cache_base = was.cache_base;
+          cache_size = was.cache_size;
+          consistent = consistent_cleaned h.cache.base h.cache.values h.cache.bytes h.cache.backing.bytes h.cache.sets was.consistent _ all_written;
+          retired = was.retired;
+          drains = was.drains;
+          fresh = λ i fresh. ap (λ (xs : List ℕ). get_or xs i 0) all_written ∙ sym (memory_behind-fresh (layout_of h.values) h.stale h.committed h.cache.bytes was.retired was.cache_size i fresh);
+          inside = was.inside;
+        };
+        program = is.program;
+      }
+
+  none_left : (stores : List QueuedStore) → is_drained (record h { committed = stores }) ≡ true → stores ≡ []
+  none_left [] drained = refl
+  none_left (s ∷ ss) drained = absurd (false≢true drained)
+
+  -- the effect of FENCE.I is such a one, once the queue is drained and the cache written back
+  pub fence_serial : is_drained h ≡ true → (lines : Lines) (word : ℕ) → IsSerialEffect (with_write_back h) (effect (layout_of h.values) (seen h) lines word FenceI)
+  fence_serial drained lines word =
+      let was = is.memory in
+      let none = none_left h.committed drained in
+      let same : memory_behind h.values.ram_base h.committed h.cache.bytes ≡ h.cache.bytes = ap (λ (ss : List QueuedStore). memory_behind h.values.ram_base ss h.cache.bytes) none in
+      record {
+        ram_is = refl;
+        pc_aligned = aligned_next h.pc is.pc_aligned;
+        mepc_aligned = is.mepc_aligned;
+        memory = record {
+          base_aligned = was.base_aligned;
+          size_aligned = was.size_aligned;
+          layout = was.layout;
+          cache_base = was.cache_base;
+          cache_size = was.cache_size;
+          consistent = consistent_cleaned h.cache.base h.cache.values h.cache.bytes h.cache.backing.bytes h.cache.sets was.consistent _ all_written;
+          retired = subst (Each (IsRetiredStore (layout_of h.values) set.empty)) (sym none) tt;
+          drains = was.drains;
+          fresh = λ i fresh. ap (λ (xs : List ℕ). get_or xs i 0) (all_written ∙ sym same);
+          inside = λ other marked. absurd (false≢true (sym (set.contains-empty nat_cmp other) ∙ marked));
+        };
+      }

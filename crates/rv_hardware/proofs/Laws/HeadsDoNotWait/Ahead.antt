@@ -1,0 +1,221 @@
+-- In every run a finished head does not wait, and the front keeps ahead.
+use Rattle.rv_hardware.proofs.Words.{◌≡◌, ℕ, ◌+◌, ◌-◌, ◌<◌, ◌≤◌, Bool, true, false, ◌&&◌, ◌⊎◌, List, [], ◌∷◌, ◌++◌, length, is_some, ◌==◌, Some, None, filter, Option, nat_cmp, sym, refl, ap, ◌∙◌, subst, inl, inr, true≢false, append_assoc, append-nil, arith, length-append, leb-true, list_any, IsLegal, is_serialising, is_store, kind_of_word, at_kind, Lines, Kind, Values, due, Each, with_oldest_draining, without_drained, Store as QueuedStore, Entry, FetchBuffer, Fetched, broadcast, Committing, commit_turn, commit_unless, IsCycle, any_prediction, execute, with_lines, Dispatching, dispatch, has_full_stations, is_stationed, drain, Hardware, issue, Turn, Report, stores_behind, last_from, stamp_of, Step, and_first, and_second, count, EveryBehind-at, Leads, kept_by_turns}
+use Rattle.std.specs.FinSet as set
+use Rattle.rv_hardware.proofs.Turns.KeptByBroadcast.{IsKeptByBroadcast, broadcast-keeps}
+use Rattle.rv_hardware.proofs.Turns.KeptByCycle.{cycle-keeps, phases-keep}
+use Rattle.rv_hardware.proofs.Turns.KeptByDispatch.{IsKeptByDispatch, dispatch-keeps}
+use Rattle.rv_hardware.proofs.Turns.KeptByDrain.{IsKeptByDrain, drain-keeps}
+use Rattle.rv_hardware.proofs.Always.Halted.{HaltsBehind, IsHalted, words_of, halted-kept, halted-at_reset}
+use Rattle.rv_hardware.proofs.Turns.KeptByIssue.{IsKeptByIssue, issue-keeps}
+use Rattle.rv_hardware.proofs.Turns.Commit.{CommitTurn, no_head, stale_head, unfinished, fence_waits, fence_writes, fence_retires, executes, serial_faults, traps, retires, retires_last, commit_turn_is}
+use Rattle.rv_hardware.proofs.Marks.History.{Anything, anything_is_kept, Passed, History, began, went_on, begin, committing, dispatching, sent_all, cycle_passes, history_is_legal, history_is_sound}
+use Rattle.rv_hardware.proofs.Turns.Dispatch.{has_full_queue, WaitsFor, for_serial, for_buffer, for_station, for_queue}
+use Rattle.rv_hardware.proofs.Always.Faults.{HasFaults, faults-kept, faults-at_reset}
+use Rattle.rv_hardware.proofs.Turns.Fetched.{IsNew}
+use Rattle.rv_hardware.proofs.Laws.HeadsDoNotWait.Follow.{last_stamp, last_stamp-push, has_step, has_step-push, Follows, AllFollow, Committed, commit_leads_by}
+use Rattle.rv_hardware.proofs.Laws.NoIdleDispatch.{dispatch_leaves}
+use Rattle.rv_hardware.proofs.Laws.HeadsDoNotWait.Next.{Next, HasNext, next_executed}
+use Rattle.rv_hardware.proofs.Always.Shape.{HasShape}
+
+some_station : (v : Values) → IsLegal v → (k : Kind) → 0 < (at_kind k v.kinds).stations
+some_station v legal k = omega (arith, (legal.kinds k).stations)
+
+module _ (v : Values) (legal : IsLegal v) where
+  -- with nothing in flight only a store waits
+  station_free : (h : Hardware) → HasShape v h → h.rob.entries ≡ [] → (o : Option Kind) → has_full_stations h o ≡ true → ⊥
+  station_free h shape none None full = absurd (cc)
+  station_free h shape none (Some k) full =
+      let held = leb-true (at_kind k h.values.kinds).stations (length (filter (is_stationed k) h.rob.entries)) full in
+      let empty = ap (λ es. length (filter (is_stationed k) es)) none in
+      let some = some_station v legal k in
+      let same = ap (λ (w : Values). (at_kind k w.kinds).stations) shape.values in
+      omega (arith, held, empty, some, same)
+
+  -- with no store that has retired, it does not either
+  queue_free : (store_waits : Bool) (h : Hardware) (f : Fetched) → HasShape v h → h.rob.entries ≡ [] → (store_waits ≡ false → h.committed ≡ []) → has_full_queue h f ≡ true → (store_waits && is_store f.instruction) ≡ true
+  queue_free true h f shape none unused is = and_first (is_store f.instruction) _ is
+  queue_free false h f shape none unused is =
+      let full = leb-true h.values.store_queue (length (stores_behind h h.rob.entries)) (and_second (is_store f.instruction) _ is) in
+      let empty = ap (λ es. length (stores_behind h es)) none ∙ ap (λ (ss : List QueuedStore). length (ss ++ [])) (unused refl) in
+      let same = ap (λ (w : Values). w.store_queue) shape.values in
+      absurd (omega (arith, full, empty, same, legal.pipeline.store_queue))
+
+  waits_as_store : (store_waits : Bool) (h : Hardware) (f : Fetched) → HasShape v h → h.rob.entries ≡ [] → (store_waits ≡ false → h.committed ≡ []) → WaitsFor h f → (store_waits && is_store f.instruction) ≡ true
+  waits_as_store store_waits h f shape none unused (for_serial is) = absurd (true≢false (sym is ∙ ap (λ es. list_any (λ (e : Entry). is_serialising e.instruction) es) none))
+  waits_as_store store_waits h f shape none unused (for_buffer is) =
+      let full = leb-true h.rob.capacity (length h.rob.entries) is in
+      let empty = ap (λ (es : List Entry). length es) none in
+      absurd (omega (arith, full, empty, shape.buffer, legal.pipeline.rob))
+  waits_as_store store_waits h f shape none unused (for_station is) = absurd (station_free h shape none (kind_of_word f.instruction) is)
+  waits_as_store store_waits h f shape none unused (for_queue is) = queue_free store_waits h f shape none unused is
+
+  -- what dispatch leaves in the fetch buffer where nothing is in flight
+  only_store_left : (store_waits : Bool) (g : Hardware) (now : ℕ) (d : Dispatching) → d ≡ dispatch g → g.values ≡ v → g.cycle ≡ now → HasShape v d.hardware → (store_waits ≡ false → d.hardware.committed ≡ []) → (f : Fetched) (fs : List Fetched) → d.hardware.rob.entries ≡ [] → d.hardware.front.entries ≡ f ∷ fs →
+      (store_waits && is_store f.instruction) ≡ true
+  only_store_left store_waits g now d is values cycle shape unused f fs none first =
+      by_left (subst (λ (x : Dispatching). (f : Fetched) (fs : List Fetched) → x.hardware.front.entries ≡ f ∷ fs → (v.dispatch_width ≤ count (λ (e : Entry). e.dispatched == now) x.hardware.rob.entries) ⊎ WaitsFor x.hardware f) (sym is)
+      (dispatch_leaves v now g (ap (λ (w : Values). w.dispatch_width) values) cycle) f fs first)
+    where
+      by_left : (v.dispatch_width ≤ count (λ (e : Entry). e.dispatched == now) d.hardware.rob.entries) ⊎ WaitsFor d.hardware f → (store_waits && is_store f.instruction) ≡ true
+      by_left (inl wide) = let empty = ap (λ es. count (λ (e : Entry). e.dispatched == now) es) none in absurd (omega (arith, wide, empty, legal.pipeline.dispatch_width))
+      by_left (inr why) = waits_as_store store_waits d.hardware f shape none unused why
+
+  -- a front with nothing in flight and nothing fetched fetches
+  module _ (now s : ℕ) (store_waits : Bool) (stale : set.FinSet nat_cmp) (front : FetchBuffer) (added : List Fetched) (new : Each (IsNew now) added) (width : front.width ≡ v.fetch_width) (room : front.capacity ≡ v.fetch_buffer)
+      (goes_on : added ≡ [] → (front.halted ≡ true) ⊎ ((front.width ≡ 0) ⊎ (front.capacity - length front.entries ≡ 0))) where
+    fetches_one : (b : Bool) → front.halted ≡ b → HaltsBehind b [] → length front.entries ≡ 0 → added ≡ [] → ⊥
+    fetches_one true is behind empty none = absurd (cc)
+    fetches_one false is behind empty none = by_cause (goes_on none)
+      where
+        by_cause : (front.halted ≡ true) ⊎ ((front.width ≡ 0) ⊎ (front.capacity - length front.entries ≡ 0)) → ⊥
+        by_cause (inl halted) = true≢false (sym halted ∙ is)
+        by_cause (inr (inl narrow)) = omega (arith, narrow, width, legal.pipeline.fetch_width)
+        by_cause (inr (inr full)) = omega (arith, full, room, empty, legal.pipeline.fetch_buffer)
+
+    next_added : (more : List Fetched) → Each (IsNew now) more → (more ≡ [] → ⊥) → now ≤ s → Next (now + 1) (now + 1) s store_waits stale [] more
+    next_added [] are none_of le = absurd (none_of refl)
+    next_added (f ∷ fs) are none_of le = (omega (arith, are.0.0, le), λ plain. omega (arith, le))
+
+    next_fetched : (es : List Entry) (fs : List Fetched) → front.entries ≡ fs → HaltsBehind front.halted (words_of es fs) → ((f : Fetched) (gs : List Fetched) → es ≡ [] → fs ≡ f ∷ gs → (store_waits && is_store f.instruction) ≡ true) →
+        Next (now + 1) now s store_waits stale es fs → Next (now + 1) (now + 1) s store_waits stale es (fs ++ added)
+    next_fetched (e ∷ es) fs at behind stores next = next
+    next_fetched [] (f ∷ fs) at behind stores next = (next.0, λ plain. absurd (true≢false (sym (stores f fs refl refl) ∙ plain)))
+    next_fetched [] [] at behind stores next = next_added added new (λ none. fetches_one front.halted refl behind (ap (λ (l : List Fetched). length l) at) none) next
+
+pub history_has_faults : (v : Values) {steps : List Step} {h : Hardware} → History v steps h → HasFaults h
+history_has_faults v (began image start legal) = faults-at_reset v image start
+history_has_faults v (went_on before is) = cycle-keeps faults-kept is (history_has_faults v before)
+
+history_is_halted : (v : Values) {steps : List Step} {h : Hardware} → History v steps h → IsHalted h
+history_is_halted v (began image start legal) = halted-at_reset v image start
+history_is_halted v (went_on before is) = cycle-keeps halted-kept is (history_is_halted v before)
+
+both_empty : (xs ys : List Step) → xs ++ ys ≡ [] → (xs ≡ []) × (ys ≡ [])
+both_empty [] ys none = (refl, none)
+both_empty (x ∷ xs) ys none = absurd (cc)
+
+some_step : (x : Step) (steps : List Step) → is_some (last_from (Some x) (λ s. true) steps) ≡ true
+some_step x [] = refl
+some_step x (y ∷ steps) = some_step y steps
+
+no_step : (steps : List Step) → has_step steps ≡ false → steps ≡ []
+no_step [] none = refl
+no_step (x ∷ steps) none = absurd (true≢false (sym (some_step x steps) ∙ none))
+
+not_empty : {P : Type 0} (steps : List Step) (x : Step) → steps ++ x ∷ [] ≡ [] → P
+not_empty steps x none = absurd (let all = length-append steps (x ∷ []) in omega (arith, all, ap (λ (l : List Step). length l) none))
+
+abbrev IsUnused : Committing → Type 0
+IsUnused c = c.steps ≡ [] → c.hardware.committed ≡ []
+
+turn_unused : (c : Committing) (t : Turn Committing) → CommitTurn set.contains c t → IsUnused c → Leads IsUnused IsUnused t
+turn_unused c _ (no_head none) p = p
+turn_unused c _ (stale_head e es at is) p = p
+turn_unused c _ (unfinished e es head plain none) p = p
+turn_unused c _ (fence_waits e es head is) p = p
+turn_unused c _ (fence_writes e es head is drained) p = p
+turn_unused c _ (fence_retires e es written next head is drained) p = λ none. not_empty c.steps _ none
+turn_unused c _ (executes e es written next head serial) p = λ none. not_empty c.steps _ none
+turn_unused c _ (serial_faults e es cause value head serial) p = λ none. not_empty c.steps _ none
+turn_unused c _ (traps e es issue cycle message fault head plain at is) p = λ none. not_empty c.steps _ none
+turn_unused c _ (retires e es issue cycle message head plain at none) p = λ empty. not_empty c.steps _ empty
+turn_unused c _ (retires_last e es issue cycle message head plain at none) p = λ empty. not_empty c.steps _ empty
+
+commit_unused : (o : Option ℕ) (h : Hardware) → h.committed ≡ [] → IsUnused (commit_unless set.contains o h)
+commit_unused (Some code) h none = λ empty. absurd (cc)
+commit_unused None h none = kept_by_turns IsUnused (commit_turn set.contains) (λ c p. turn_unused c (commit_turn set.contains c) (commit_turn_is set.contains c) p) h.values.commit_width (record { hardware = h; steps = []; stop = None }) (λ empty. none)
+
+execute_unused : (h : Hardware) → h.committed ≡ [] → (execute h).hardware.committed ≡ []
+execute_unused h none =
+    dispatch-keeps kept_by_dispatch (broadcast (issue (drain h))) (broadcast-keeps kept_by_broadcast (issue (drain h)) (issue-keeps HasNoStore kept_by_issue (drain h) (drain-keeps kept_by_drain h none)))
+  where
+    HasNoStore : Hardware → Type 0
+    HasNoStore g = g.committed ≡ []
+
+    kept_by_drain : IsKeptByDrain HasNoStore
+    kept_by_drain = record { leaves = λ g is idle. ap without_drained is; drains = λ g access is idle at. ap with_oldest_draining is }
+
+    kept_by_issue : (k : Kind) → IsKeptByIssue HasNoStore k
+    kept_by_issue k = record { accesses = λ g older younger e address is split ready by. is; starts = λ g older younger e cost message is split waits of_kind result costs. is }
+
+    kept_by_broadcast : IsKeptByBroadcast HasNoStore
+    kept_by_broadcast = record { broadcasts = λ g older younger e message is split gives. is; mends = λ g older younger e next is split. is }
+
+    kept_by_dispatch : IsKeptByDispatch HasNoStore
+    kept_by_dispatch = record { dispatches = λ g f rest is first none. is }
+
+record NextPast (steps : List Step) (h : Hardware) : Type 0 where
+  follow : AllFollow steps
+  next : Next h.cycle h.cycle (last_stamp steps) (has_step steps) h.stale h.rob.entries h.front.entries
+  unused : steps ≡ [] → h.committed ≡ []
+
+module _ (v : Values) {earlier : List Step} {old new : Hardware} {lines : Lines} {report : Report} (before : History v earlier old) (past : NextPast earlier old) (is : IsCycle any_prediction lines old report new) where
+  passed : Passed v Anything earlier lines old report new
+  passed = cycle_passes v (history_is_legal v before) Anything earlier lines old new report (anything_is_kept v old.cycle) (history_is_sound v before) tt is
+
+  committed : Committed v old.cycle earlier (committing lines old)
+  committed =
+      let g : Hardware = with_lines lines old in
+      let begins = history_is_sound v before in
+      let first = begin v (history_is_legal v before) Anything earlier lines old new report (anything_is_kept v old.cycle) begins tt in
+      let legal = history_is_legal v before in
+      commit_leads_by v old.cycle earlier v.commit_width (omega (arith, legal.pipeline.commit_width)) (due g.csrs g.lines) g (ap (λ (w : Values). w.commit_width) begins.shape.values) first
+      (rw (append-nil earlier) (past.follow)) (rw (append-nil earlier) (past.next)) (history_has_faults v before).1
+
+  here : earlier ++ report.steps ≡ earlier ++ (committing lines old).steps
+  here = ap (λ l. earlier ++ l) passed.steps
+
+  d : Hardware
+  d = (dispatching lines old).hardware
+
+  d_is : is.dispatching ≡ dispatching lines old
+  d_is = is.executes ∙ ap (λ (c : Committing). execute c.hardware) is.commits
+
+  dispatched : HasNext old.cycle (last_stamp (earlier ++ report.steps)) (has_step (earlier ++ report.steps)) (dispatching lines old).hardware
+  dispatched = next_executed old.cycle (last_stamp (earlier ++ report.steps)) (has_step (earlier ++ report.steps)) (committing lines old).hardware (passed.committed.basics.cycle, subst (λ l. Next (old.cycle + 1) old.cycle (last_stamp l) (has_step l) (committing lines old).hardware.stale (committing lines old).hardware.rob.entries (committing lines old).hardware.front.entries) (sym here) committed.next)
+
+  d_halted : IsHalted (dispatching lines old).hardware
+  d_halted = subst (λ (x : Dispatching). IsHalted x.hardware) d_is (phases-keep halted-kept.phases is (history_is_halted v before))
+
+  -- no store has retired where there is no step
+  c_unused : earlier ++ report.steps ≡ [] → (committing lines old).hardware.committed ≡ []
+  c_unused none =
+      let parts = both_empty earlier report.steps none in
+      commit_unused (due (with_lines lines old).csrs (with_lines lines old).lines) (with_lines lines old) (past.unused parts.0) (sym passed.steps ∙ parts.1)
+
+  d_unused : earlier ++ report.steps ≡ [] → (dispatching lines old).hardware.committed ≡ []
+  d_unused none = execute_unused (committing lines old).hardware (c_unused none)
+
+  fetched : Next (old.cycle + 1) (old.cycle + 1) (last_stamp (earlier ++ report.steps)) (has_step (earlier ++ report.steps)) (dispatching lines old).hardware.stale (dispatching lines old).hardware.rob.entries ((dispatching lines old).hardware.front.entries ++ passed.fetches.added)
+  fetched =
+      let h : Hardware = (dispatching lines old).hardware in
+      let b = passed.dispatches.basics in
+      next_fetched v (history_is_legal v before) old.cycle (last_stamp (earlier ++ report.steps)) (has_step (earlier ++ report.steps)) h.stale h.front passed.fetches.added passed.fetches.are_new b.shape.width b.shape.room passed.fetches.goes_on
+      h.rob.entries h.front.entries refl d_halted.1
+      (λ f gs none first. only_store_left v (history_is_legal v before) (has_step (earlier ++ report.steps)) (sent_all lines old) old.cycle (dispatching lines old) refl passed.sends.basics.shape.values passed.sends.basics.cycle b.shape (λ none_yet. d_unused (no_step (earlier ++ report.steps) none_yet)) f gs none first)
+      dispatched.1
+
+  next_goes_on : NextPast (earlier ++ report.steps) new
+  next_goes_on =
+      let h : Hardware = (dispatching lines old).hardware in
+      record {
+        follow = subst AllFollow (sym here) committed.follow;
+        next = rw (ap (λ (g : Hardware). g.cycle) passed.others_stay, ap (λ (g : Hardware). g.stale) passed.others_stay, ap (λ (g : Hardware). g.rob.entries) passed.others_stay, passed.fetches.entries) fetched;
+        unused = λ none. ap (λ (g : Hardware). g.committed) passed.others_stay ∙ d_unused none;
+      }
+
+history_has_next : (v : Values) {steps : List Step} {h : Hardware} → History v steps h → NextPast steps h
+history_has_next v (began image start legal) = record { follow = tt; next = omega arith; unused = λ none. refl }
+history_has_next v (went_on before is) = next_goes_on v before (history_has_next v before) is
+
+-- each step follows the one before it as the laws say
+pub all_follow : (v : Values) {steps : List Step} {h : Hardware} → History v steps h → AllFollow steps
+all_follow v history = (history_has_next v history).follow
+
+module _ (v : Values) {steps : List Step} {h : Hardware} (history : History v steps h) where
+  -- of two neighbouring steps of a run the second follows the first without waiting
+  pub follows : (first rest : List Step) (a b : Step) → steps ≡ first ++ a ∷ b ∷ rest → Follows (stamp_of a) true b
+  follows first rest a b at =
+      let all : AllFollow ((first ++ a ∷ []) ++ b ∷ rest) = subst AllFollow (at ∙ sym (append_assoc first (a ∷ []) (b ∷ rest))) (all_follow v history) in
+      subst (λ w. Follows (stamp_of a) w b) (has_step-push first a)
+      (subst (λ n. Follows n (has_step (first ++ a ∷ [])) b) (last_stamp-push first a) (EveryBehind-at (λ before x. Follows (last_stamp before) (has_step before) x) (first ++ a ∷ []) rest b all))

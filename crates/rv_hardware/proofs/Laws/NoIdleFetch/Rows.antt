@@ -1,0 +1,174 @@
+-- In every history each mark tells why the next was not fetched earlier.
+use Rattle.rv_hardware.proofs.Words.{◌≡◌, ℕ, ◌+◌, ◌-◌, ◌<◌, ◌≤◌, true, false, ◌⊎◌, List, [], ◌∷◌, ◌++◌, map, length, Some, None, Option, sym, refl, ap, ◌∙◌, subst, inl, inr, true≢false, append-nil, arith, length-append, cases_lt, Lines, Early, Values, due, Each, FetchBuffer, Fetched, Committing, IsCycle, any_prediction, execute, with_lines, Dispatching, Hardware, Report, rows_of, Row, Step, Each-weaker, Each-map, count}
+use Rattle.std.specs.FinSet as set
+use Rattle.rv_hardware.proofs.Turns.Fetch.{fetch-cases}
+use Rattle.rv_hardware.proofs.Marks.Counted.{count-as_of}
+use Rattle.rv_hardware.proofs.Marks.History.{Passed, History, began, went_on, is_buffered_mark, buffered_words, committing, issued_all, dispatching, cycle_passes, history_is_legal, history_is_sound}
+use Rattle.rv_hardware.proofs.Turns.Fetched.{IsNew}
+use Rattle.rv_hardware.proofs.Laws.NoIdleFetch.Linked.{with_word, IsBy, Followed, IsOpen, Linked, LastIs, held_behind, held_count, WasLinked, was_linked_kept, linked_stays, linked_on, linked_cut, linked_words, last_at}
+use Rattle.rv_hardware.proofs.Laws.NoIdleFetch.Phases.{size, size_of_marks, Uncut, Left, commit_goes_by, drain_and_issue, broadcast_and_dispatch}
+use Rattle.rv_hardware.proofs.Marks.List.{Mark, mark_of_row, mark_of_entry, mark_of_fetched, marks_in, marks, marks_at_entry}
+use Rattle.rv_hardware.proofs.Marks.Past.{as_of_now, marks_settled}
+use Rattle.rv_hardware.proofs.Marks.Row.{SoundRow}
+use Rattle.rv_hardware.proofs.Marks.Sound.{SoundFetched}
+
+-- the last mark after a squash: a row, or the instruction whose broadcast squashed the rest
+abbrev Squashes : Values → ℕ → Mark → Type 0
+Squashes v now m = IsBy m.retired now ⊎ ((v.recovery ≡ Early) × (m.broadcast ≡ Some now))
+
+last_row : (v : Values) (now : ℕ) (rows : List Row) → Each (SoundRow v (now + 1)) rows → LastIs (Squashes v now) (map mark_of_row rows)
+last_row v now [] sound = tt
+last_row v now (row ∷ []) sound = inl (let below = sound.0 in omega (arith, below.below))
+last_row v now (row ∷ r ∷ rs) sound = last_row v now (r ∷ rs) sound.1
+
+no_rest : {X : Type 0} (xs rest : List X) (n : ℕ) → length (xs ++ rest) ≡ n → length xs ≡ n → rest ≡ []
+no_rest xs [] n all one = refl
+no_rest xs (y ∷ ys) n all one = absurd (let both = length-append xs (y ∷ ys) in omega (arith, both, all, one))
+
+-- a front that is halted stays
+pub stays_halted : {lines : Lines} {old new : Hardware} {report : Report} → IsCycle any_prediction lines old report new → (dispatching lines old).hardware.front.halted ≡ true → new.front ≡ (dispatching lines old).hardware.front
+stays_halted {lines} {old} {new} {report} is =
+    let same : is.dispatching ≡ dispatching lines old = is.executes ∙ ap (λ (c : Committing). execute c.hardware) is.commits in
+    subst (λ (d : Dispatching). d.hardware.front.halted ≡ true → new.front ≡ d.hardware.front) same
+    (fetch-cases any_prediction is.dispatching.hardware.cache.backing old.cycle is.dispatching.hardware.front new.front is.fetch_stop
+    (is.dispatching.hardware.front.halted ≡ true → new.front ≡ is.dispatching.hardware.front)
+    (λ halted stays h. stays) (λ runs adds h. absurd (true≢false (sym h ∙ runs))) is.fetches)
+
+module _ (v : Values) {earlier : List Step} {old new : Hardware} {lines : Lines} {report : Report} (before : History v earlier old) (is : IsCycle any_prediction lines old report new)
+    (linked : Linked v old.cycle (IsOpen v old.front.halted old.cycle) (λ c. 0) (marks_in earlier old)) where
+  abbrev Was : List Mark → Type 0
+  Was = WasLinked v old.cycle old.front.halted (length (marks_in earlier old))
+
+  passed : Passed v Was earlier lines old report new
+  passed =
+      cycle_passes v (history_is_legal v before) Was earlier lines old new report (was_linked_kept v old.cycle old.front.halted (length (marks_in earlier old))) (history_is_sound v before)
+      ([], rw (append-nil (marks_in earlier old)) linked, rw (append-nil (marks_in earlier old)) refl) is
+
+  abbrev d : Hardware
+  d = (dispatching lines old).hardware
+
+  abbrev all : List Step
+  all = earlier ++ report.steps
+
+  left : Left (length (marks_in earlier old)) old.front.halted v old.cycle all d
+  left =
+      let g : Hardware = with_lines lines old in
+      let n : ℕ = length (marks_in earlier old) in
+      let b = old.front.halted in
+      let begins = inl (ap (λ l. size l g) (append-nil earlier) ∙ sym (size_of_marks earlier old), refl) in
+      let commits = commit_goes_by n b earlier set.contains (due g.csrs g.lines) g begins in
+      let c = (committing lines old).hardware in
+      let issues = drain_and_issue n b v old.cycle all c (rw (passed.steps) commits) in
+      broadcast_and_dispatch n b v old.cycle all (issued_all lines old) passed.issues.basics.cycle passed.issues.basics.shape.values issues
+
+  fetches_none : {P : Type 0} (f : Fetched) (fs : List Fetched) → passed.fetches.added ≡ f ∷ fs → d.front.halted ≡ true → P
+  fetches_none f fs at halted =
+      let same = ap (λ (r : FetchBuffer). length r.entries) (stays_halted is halted) in
+      let more = ap length passed.fetches.entries ∙ length-append d.front.entries passed.fetches.added in
+      let some = ap length at in
+      absurd (omega (arith, same, more, some))
+
+  abbrev Next : List Mark → Type 0
+  Next ms = Linked v (old.cycle + 1) (IsOpen v new.front.halted (old.cycle + 1)) (λ c. 0) ms
+
+  new_ones : (fs : List Fetched) → passed.fetches.added ≡ fs → Each (λ m. m.fetched ≡ old.cycle) (map mark_of_fetched fs)
+  new_ones fs at = Each-map (λ m. m.fetched ≡ old.cycle) mark_of_fetched fs (Each-weaker (IsNew old.cycle) (λ f. f.cycle ≡ old.cycle) (λ f w. w.0) fs (subst (Each (IsNew old.cycle)) at passed.fetches.are_new))
+
+  -- after a squash
+
+  abbrev Behind : (ℕ → ℕ) → Mark → Type 0
+  Behind h x = Squashes v old.cycle x
+
+  squash_followed : (f : Mark) → f.fetched ≡ old.cycle → (h : ℕ → ℕ) (x : Mark) → Squashes v old.cycle x → Followed v (old.cycle + 1) h x f
+  squash_followed f at h x (inl over) = (omega (arith, at), inl (rw at over))
+  squash_followed f at h x (inr early) = (omega (arith, at), inr (inl (early.0, rw at (early.1))))
+
+  behind_squash : LastIs (Squashes v old.cycle) (marks_in all d) → d.front.entries ≡ [] → d.front.halted ≡ false → (fs : List Fetched) → passed.fetches.added ≡ fs → Next (marks_in all d ++ map mark_of_fetched fs)
+  behind_squash last none runs [] at = absurd (by_reason (passed.fetches.goes_on at))
+    where
+      by_reason : (d.front.halted ≡ true) ⊎ ((d.front.width ≡ 0) ⊎ (d.front.capacity - length d.front.entries ≡ 0)) → ⊥
+      by_reason (inl halted) = true≢false (sym halted ∙ runs)
+      by_reason (inr (inl narrow)) = let legal = (history_is_legal v before).pipeline.fetch_width in omega (arith, narrow, passed.dispatches.basics.shape.width, legal)
+      by_reason (inr (inr full)) = let legal = (history_is_legal v before).pipeline.fetch_buffer in let empty = ap length none in omega (arith, full, empty, passed.dispatches.basics.shape.room, legal)
+  behind_squash last none runs (f ∷ fs) at =
+      let was = passed.dispatches.marks in
+      let cut = linked_cut v old.cycle (IsOpen v old.front.halted old.cycle) (Squashes v old.cycle) (λ c. 0) (marks_in all d) was.0 last was.1 in
+      let these = new_ones (f ∷ fs) at in
+      linked_on v old.cycle Behind (IsOpen v new.front.halted (old.cycle + 1)) (λ c. 0) (marks_in all d) (mark_of_fetched f) (map mark_of_fetched fs) (squash_followed (mark_of_fetched f) these.0) cut
+      (λ h. linked_words v old.cycle new.front.halted h (map mark_of_fetched (f ∷ fs)) these)
+
+  -- where nothing was squashed
+
+  module _ (uncut : Uncut (length (marks_in earlier old)) old.front.halted all d) where
+    still : Linked v old.cycle (IsOpen v old.front.halted old.cycle) (λ c. 0) (marks_in all d)
+    still =
+        let was = passed.dispatches.marks in
+        let none = no_rest (marks_in all d) was.0 (length (marks_in earlier old)) was.2 (size_of_marks all d ∙ uncut.0) in
+        subst (Linked v old.cycle (IsOpen v old.front.halted old.cycle) (λ c. 0)) (ap (λ l. marks_in all d ++ l) none ∙ append-nil (marks_in all d)) was.1
+
+    on_followed : (f : Fetched) (fs : List Fetched) → passed.fetches.added ≡ f ∷ fs → f.cycle ≡ old.cycle → (h : ℕ → ℕ) (x : Mark) → IsOpen v old.front.halted old.cycle h x → Followed v (old.cycle + 1) h x (mark_of_fetched f)
+    on_followed f fs at same h x (inl halted) = fetches_none f fs at (uncut.1 ∙ halted)
+    on_followed f fs at same h x (inr (inl over)) = (omega (arith, same), inl (rw same over))
+    on_followed f fs at same h x (inr (inr full)) = (omega (arith, same), inr (inr (rw same full)))
+
+    -- the words fill the buffer
+    full_now : d.front.capacity - length d.front.entries ≡ 0 → v.fetch_buffer ≤ held_behind (λ c. 0) (marks_in all d) old.cycle
+    full_now full =
+        let b = passed.dispatches.basics in
+        let words = Each-weaker (SoundFetched old.cycle) (SoundFetched (old.cycle + 1)) (λ f w. (omega (arith, w.0), w.1)) d.front.entries b.fetched in
+        let held = held_count (λ c. 0) (marks_in all d) old.cycle in
+        let counts = count-as_of is_buffered_mark old.cycle (marks_in all d) in
+        let settled = ap (count is_buffered_mark) (as_of_now old.cycle (marks_in all d) (marks_settled v old.cycle all d.rob.entries d.front.entries b.rows b.entries words)) in
+        let many = buffered_words all d.rob.entries d.front.entries in
+        omega (arith, full, b.shape.room, held, counts, settled, many)
+
+    stays_open : v.fetch_buffer ≤ held_behind (λ c. 0) (marks_in all d) old.cycle → (h : ℕ → ℕ) (x : Mark) → with_word h x old.cycle ≡ held_behind (λ c. 0) (marks_in all d) old.cycle → IsOpen v old.front.halted old.cycle h x →
+        IsOpen v new.front.halted (old.cycle + 1) h x
+    stays_open full h x same (inl halted) = inl (ap (λ (r : FetchBuffer). r.halted) (stays_halted is (uncut.1 ∙ halted)) ∙ uncut.1 ∙ halted)
+    stays_open full h x same (inr (inl over)) = inr (inl (by_later x.retired over))
+      where
+        by_later : (o : Option ℕ) → IsBy o old.cycle → IsBy o (old.cycle + 1)
+        by_later None by = by
+        by_later (Some c) by = omega (arith, by)
+    stays_open full h x same (inr (inr filled)) = inr (inr (λ c after earlier. by_cycle c after (cases_lt c old.cycle) earlier))
+      where
+        by_cycle : (c : ℕ) → x.fetched < c → (c < old.cycle) ⊎ (old.cycle ≤ c) → c < old.cycle + 1 → v.fetch_buffer ≤ with_word h x c
+        by_cycle c after (inl lt) earlier = filled c after lt
+        by_cycle c after (inr le) earlier = let at : c ≡ old.cycle = omega (arith, le, earlier) in rw at (omega (arith, full, same))
+
+    goes_on : (fs : List Fetched) → passed.fetches.added ≡ fs → Next (marks_in all d ++ map mark_of_fetched fs)
+    goes_on [] at = rw (append-nil (marks_in all d)) (by_reason (passed.fetches.goes_on at))
+      where
+        by_reason : (d.front.halted ≡ true) ⊎ ((d.front.width ≡ 0) ⊎ (d.front.capacity - length d.front.entries ≡ 0)) → Next (marks_in all d)
+        by_reason (inl halted) =
+            linked_stays v old.cycle (IsOpen v old.front.halted old.cycle) (IsOpen v new.front.halted (old.cycle + 1)) (λ c. 0) (marks_in all d)
+            (λ h x same was. inl (ap (λ (r : FetchBuffer). r.halted) (stays_halted is halted) ∙ halted)) still
+        by_reason (inr (inl narrow)) = absurd (let legal = (history_is_legal v before).pipeline.fetch_width in omega (arith, narrow, passed.dispatches.basics.shape.width, legal))
+        by_reason (inr (inr full)) =
+            linked_stays v old.cycle (IsOpen v old.front.halted old.cycle) (IsOpen v new.front.halted (old.cycle + 1)) (λ c. 0) (marks_in all d) (stays_open (full_now full)) still
+    goes_on (f ∷ fs) at =
+        let these = new_ones (f ∷ fs) at in
+        linked_on v old.cycle (IsOpen v old.front.halted old.cycle) (IsOpen v new.front.halted (old.cycle + 1)) (λ c. 0) (marks_in all d) (mark_of_fetched f) (map mark_of_fetched fs) (on_followed f fs at these.0) still
+        (λ h. linked_words v old.cycle new.front.halted h (map mark_of_fetched (f ∷ fs)) these)
+
+  by_squash : Left (length (marks_in earlier old)) old.front.halted v old.cycle all d → Next (marks_in all d ++ map mark_of_fetched passed.fetches.added)
+  by_squash (inl (inl uncut)) = goes_on uncut passed.fetches.added refl
+  by_squash (inl (inr empty)) =
+      behind_squash
+      (subst (LastIs (Squashes v old.cycle)) (sym (ap (λ es. marks all es d.front.entries) empty.0 ∙ ap (λ fs. marks all [] fs) empty.1 ∙ append-nil (map mark_of_row (rows_of all)))) (last_row v old.cycle (rows_of all) passed.dispatches.basics.rows))
+      empty.1 empty.2 passed.fetches.added refl
+  by_squash (inr mended) =
+      behind_squash
+      (subst (LastIs (Squashes v old.cycle)) (sym (ap (λ es. marks all es d.front.entries) mended.entries ∙ ap (λ fs. marks all (mended.older ++ mended.last ∷ []) fs) mended.words ∙ marks_at_entry all mended.older [] mended.last []))
+      (last_at (Squashes v old.cycle) (map mark_of_row (rows_of all) ++ map mark_of_entry mended.older) (mark_of_entry mended.last) (inr (mended.early, mended.sent))))
+      mended.words mended.runs passed.fetches.added refl
+
+  pub linked_in_cycle : Linked v new.cycle (IsOpen v new.front.halted new.cycle) (λ c. 0) (marks_in all new)
+  linked_in_cycle =
+      let next : new.cycle ≡ old.cycle + 1 = ap (λ (h : Hardware). h.cycle) passed.others_stay in
+      rw (next, passed.new_marks) (by_squash left)
+
+-- in every history each mark tells why the next one was not fetched earlier
+pub marks_are_linked : (v : Values) {steps : List Step} {h : Hardware} → History v steps h → Linked v h.cycle (IsOpen v h.front.halted h.cycle) (λ c. 0) (marks_in steps h)
+marks_are_linked v (began image start legal) = tt
+marks_are_linked v (went_on before is) = linked_in_cycle v before is (marks_are_linked v before)

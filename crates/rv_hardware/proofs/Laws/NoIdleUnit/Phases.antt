@@ -1,0 +1,312 @@
+-- The issue phase leaves no pipelined unit idle, and the other phases keep it so.
+use Rattle.rv_hardware.proofs.Words.{◌≡◌, ℕ, suc, ◌+◌, ◌<◌, ◌≤◌, Bool, true, false, cond, List, [], ◌∷◌, ◌++◌, map, length, nat_lt, nat_le, Some, None, filter, Option, nat_cmp, sym, refl, ap, ◌∙◌, subst, append_assoc, append-nil, arith, ltb-false, le-ltb, eq-eqb, and_from, and_right, at_kind-for_each, with_kind-each, with_kind-other, with_kind-own, IsLegal, is_of_kind, kind_of_word, at_kind, for_each, with_kind, Issue, Lines, Kind, PerKind, Values, due, Each, Pool, free_pool, held_for, holding, holds_unit, is_free, started, Entry, broadcast_turn, Committing, commit_turn, commit_unless, with_lines, Dispatching, dispatch_turn, Hardware, cost_of, is_ready, issue, issue_kind, issue_turn, issued, path, Turn, Report, rows_of, Step, Each-append, Each-left, Each-weaker, Each-all, Each-filter, EveryBehind, count, count-set-one_more, EveryBehind-append, EveryBehind-right, EveryBehind-moved, EveryBehind-all, EveryBehind-weaker, Leads, turns_within, kept_by_turns}
+use Rattle.std.specs.FinSet as set
+use Rattle.rv_isa.specs.declared.operations.Kind.TheVariants as kind
+use Rattle.rv_units.specs.Pool.{started as started_unit}
+use Rattle.rv_hardware.proofs.Turns.KeptByIssue.{ready-parts}
+use Rattle.rv_hardware.proofs.Marks.Advance.{IsBefore, Starts}
+use Rattle.rv_hardware.proofs.Turns.Broadcast.{BroadcastTurn, none_ready as no_result, sends, mends, broadcast_turn_is}
+use Rattle.rv_hardware.proofs.Turns.Commit.{CommitTurn, no_head, stale_head, unfinished, fence_waits, fence_writes, fence_retires, executes, serial_faults, traps, retires, retires_last, commit_turn_is}
+use Rattle.rv_hardware.proofs.Marks.History.{Anything, anything_is_kept, History, began, went_on, Passed, cycle_passes, history_is_legal, history_is_sound, committing, drained, issued_all, sent_all, dispatching}
+use Rattle.rv_hardware.proofs.Turns.Dispatch.{DispatchTurn, buffer_empty, waits, dispatches, dispatch_turn_is}
+use Rattle.rv_hardware.proofs.Laws.NoIdleUnit.Marks.{MayStart, BusyUnits, may_back, busy_units_are_kept, rows_do_not_start, words_do_not_start, entries_do_not_start}
+use Rattle.rv_hardware.proofs.Turns.Issue.{IssueTurn, no_unit, none_ready, starts, issue_turn_is, access_keeps, message_at, started_entries}
+use Rattle.rv_hardware.proofs.Marks.List.{Mark, mark_of_row, mark_of_entry, mark_of_fetched, marks, marks_in, marks_at_entry}
+use Rattle.rv_hardware.proofs.Marks.Phases.{Issues, issue_turn_keeps, issue_kind_keeps, start_is, with_marks, goes_later, broadcast_keeps, dispatch_keeps}
+use Rattle.rv_hardware.proofs.Marks.Sound.{SoundEntry}
+use Rattle.rv_hardware.proofs.Laws.OtherUnits.Rows.{starts_at, begins_mark}
+use Rattle.rv_hardware.proofs.Laws.OtherUnits.Phases.{issued_units, drain_units}
+
+-- every start of a pipelined kind was over by a cycle
+abbrev pub Over : ℕ → Pool → Type 0
+Over now pool = Each (λ s. s.cycle + s.cost ≤ now) pool.starts
+
+none_holds : (now : ℕ) (starts : List Issue) → Each (λ s. s.cycle + s.cost ≤ now) starts → holding now starts ≡ []
+none_holds now [] h = refl
+none_holds now (s ∷ ss) h = rw (and_right (nat_le s.cycle now) (nat_lt now (s.cycle + s.cost)) (le-ltb now (s.cycle + s.cost) h.0)) (none_holds now ss h.1)
+
+fewer_held : (now : ℕ) (xs : List Issue) → length (holding now (holding now xs)) ≤ length (holding now xs)
+fewer_held now xs = filtered (holds_unit now) (holding now xs)
+  where
+    picks : (b : Bool) (m n : ℕ) → m ≤ n → cond b (suc m) m ≤ suc n
+    picks true m n le = omega arith
+    picks false m n le = omega arith
+
+    pick_length : {X : Type 0} (b : Bool) (x : X) (ys : List X) → length (cond b (x ∷ ys) ys) ≡ cond b (suc (length ys)) (length ys)
+    pick_length true x ys = refl
+    pick_length false x ys = refl
+
+    filtered : {X : Type 0} (p : X → Bool) (ys : List X) → length (filter p ys) ≤ length ys
+    filtered p [] = omega arith
+    filtered p (y ∷ ys) = let rest = filtered p ys in let here = pick_length (p y) y (filter p ys) in let less = picks (p y) (length (filter p ys)) (length ys) rest in omega (arith, here, less)
+
+filter-append_length : (now : ℕ) (xs : List Issue) (s : Issue) → length (holding now (xs ++ s ∷ [])) ≤ suc (length (holding now xs))
+filter-append_length now [] s = one (holds_unit now s)
+  where
+    one : (b : Bool) → length (cond b (s ∷ []) []) ≤ 1
+    one true = omega arith
+    one false = omega arith
+filter-append_length now (x ∷ xs) s = by_test (holds_unit now x) (filter-append_length now xs s)
+  where
+    by_test : (b : Bool) → length (holding now (xs ++ s ∷ [])) ≤ suc (length (holding now xs)) → length (cond b (x ∷ holding now (xs ++ s ∷ [])) (holding now (xs ++ s ∷ []))) ≤ suc (length (cond b (x ∷ holding now xs) (holding now xs)))
+    by_test true le = omega arith
+    by_test false le = le
+
+module _ (v : Values) (legal : IsLegal v) (now : ℕ) (steps : List Step) (k : Kind) where
+  abbrev units_here : ℕ
+  units_here = (at_kind k v.kinds).units
+
+  abbrev Busy : ℕ → Hardware → Type 0
+  Busy j h = Issues v legal now Anything (anything_is_kept v now) steps h × EveryBehind (BusyUnits k j now) [] (marks_in steps h) × (length (holding now (at_kind k h.units).starts) ≤ j)
+
+  never_busy : (j : ℕ) (before xs : List Mark) → EveryBehind (λ b m. MayStart k now b m → ⊥) before xs → EveryBehind (BusyUnits k j now) before xs
+  never_busy j before xs h = EveryBehind-weaker (λ b m. MayStart k now b m → ⊥) (BusyUnits k j now) (λ b m never may. absurd (never may)) before xs h
+
+  none_started : (j : ℕ) (h : Hardware) → Issues v legal now Anything (anything_is_kept v now) steps h → EveryBehind (λ b e. is_ready h k b e ≡ false) [] h.rob.entries → EveryBehind (BusyUnits k j now) [] (marks_in steps h)
+  none_started j h p none =
+      let rows : List Mark = map mark_of_row (rows_of steps) in
+      let es : List Mark = map mark_of_entry h.rob.entries in
+      EveryBehind-append (BusyUnits k j now) [] rows (es ++ map mark_of_fetched h.front.entries) (never_busy j [] rows (rows_do_not_start v k now (now + 1) [] (rows_of steps) p.basics.rows))
+      (EveryBehind-append (BusyUnits k j now) rows es (map mark_of_fetched h.front.entries)
+      (never_busy j rows es (subst (λ l. EveryBehind (λ b m. MayStart k now b m → ⊥) l es) (append-nil rows) (entries_do_not_start v k now now (now + 1) now (rows_of steps) h [] h.rob.entries tt p.basics.entries none)))
+      (never_busy j (rows ++ es) (map mark_of_fetched h.front.entries) (words_do_not_start v k now (rows ++ es) h.front.entries)))
+
+  module _ (j : ℕ) (h : Hardware) (older younger : List Entry) (e : Entry) (at : h.rob.entries ≡ older ++ e ∷ younger) (is : is_ready h k older e ≡ true)
+      (none : EveryBehind (λ before x. is_ready h k before x ≡ false) [] older) (p : Busy j h) where
+    abbrev begun : Entry
+    begun = started (record { cycle = h.cycle; cost = cost_of h k (path h older e) }) (message_at h older e) e
+
+    evidence : Starts v now (map mark_of_row (rows_of steps) ++ map mark_of_entry older) (mark_of_entry e) (mark_of_entry begun)
+    evidence = start_is v legal now Anything (anything_is_kept v now) steps k h older younger e at is p.0
+
+    after_start : EveryBehind (BusyUnits k (suc j) now) [] (marks_in steps (issued k h older e))
+    after_start =
+        let rows : List Mark = map mark_of_row (rows_of steps) in
+        let xs : List Mark = rows ++ map mark_of_entry older in
+        let ys : List Mark = map mark_of_entry younger ++ map mark_of_fetched h.front.entries in
+        let m : Mark = mark_of_entry e in
+        let n : Mark = mark_of_entry begun in
+        let front = ap (λ r. r.entries) (access_keeps (path h older e) h).front in
+        let olders = Each-left (SoundEntry v now (now + 1) now) older (e ∷ younger) (subst (Each (SoundEntry v now (now + 1) now)) at p.0.basics.entries) in
+        let old = EveryBehind-right (BusyUnits k j now) [] xs (m ∷ ys) (subst (EveryBehind (BusyUnits k j now) []) (ap (λ es. marks steps es h.front.entries) at ∙ marks_at_entry steps older younger e h.front.entries) p.1) in
+        let same_start : n.start ≡ Some evidence.start = ap (λ x. x.start) evidence.becomes in
+        rw (started_entries k h older younger e at, front, marks_at_entry steps older younger begun h.front.entries)
+        (EveryBehind-append (BusyUnits k (suc j) now) [] xs (n ∷ ys)
+        (EveryBehind-append (BusyUnits k (suc j) now) [] rows (map mark_of_entry older) (never_busy (suc j) [] rows (rows_do_not_start v k now (now + 1) [] (rows_of steps) p.0.basics.rows))
+        (never_busy (suc j) rows (map mark_of_entry older) (subst (λ l. EveryBehind (λ b z. MayStart k now b z → ⊥) l (map mark_of_entry older)) (append-nil rows) (entries_do_not_start v k now now (now + 1) now (rows_of steps) h [] older tt olders none)))) (
+          (λ may. absurd (has_begun may.not_yet)),
+          EveryBehind-moved (BusyUnits k j now) (BusyUnits k (suc j) now) (xs ++ m ∷ []) (xs ++ n ∷ [])
+              (λ mid z busy may.
+              let here : MayStart k now (xs ++ m ∷ mid) z = may_back now m n refl (λ known some. subst (IsBefore now) (ap (λ x. x.broadcast) evidence.becomes) (known some)) (λ serial some. serial some) k xs mid z (subst (λ l. MayStart k now l z) (append_assoc xs (n ∷ []) mid) may) in
+              let before = busy (subst (λ l. MayStart k now l z) (sym (append_assoc xs (m ∷ []) mid)) here) in
+              let grown : count (begins_mark k now) ((xs ++ n ∷ []) ++ mid) ≡ suc (count (begins_mark k now) ((xs ++ m ∷ []) ++ mid)) = rw (append_assoc xs (n ∷ []) mid, append_assoc xs (m ∷ []) mid) (count-set-one_more (begins_mark k now) xs mid m n
+              (and_right (is_of_kind k (kind_of_word e.instruction)) (starts_at now m.start) (ap (starts_at now) evidence.not_yet))
+              (and_from (is_of_kind k (kind_of_word e.instruction)) (starts_at now n.start) (ready-parts h k older e is).of_kind (eq-eqb h.cycle now p.0.basics.cycle))) in
+              omega (arith, before, grown))
+              ys old.1,
+        ))
+      where
+        has_begun : (mark_of_entry begun).start ≡ None → ⊥
+        has_begun none' = absurd (cc)
+
+  held_after : (j : ℕ) (h : Hardware) (older : List Entry) (e : Entry) → h.cycle ≡ now → length (holding now (at_kind k h.units).starts) ≤ j → length (holding now (at_kind k (issued k h older e).units).starts) ≤ suc j
+  held_after j h older e cycle le =
+      let cost : ℕ = cost_of h k (path h older e) in
+      let pool : Pool = at_kind k h.units in
+      let same = ap (at_kind k) (issued_units k h older e) ∙ with_kind-own k (started_unit cost h.cycle pool) h.units ∙ ap (λ n. started_unit cost n pool) cycle in
+      let more = filter-append_length now (holding now pool.starts) (record { cycle = now; cost = held_for pool.is_pipelined cost }) in
+      let fewer = fewer_held now pool.starts in
+      let all = ap (λ (q : Pool). length (holding now q.starts)) same in
+      omega (arith, all, more, fewer, le)
+
+  busy_leads : (j : ℕ) (h : Hardware) (t : Turn Hardware) → j < units_here → IssueTurn k h t → Busy j h → Leads (Issues v legal now Anything (anything_is_kept v now) steps) (Issues v legal now Anything (anything_is_kept v now) steps) t →
+      Leads (Busy (suc j)) (λ g. EveryBehind (BusyUnits k units_here now) [] (marks_in steps g)) t
+  busy_leads j h _ lt (no_unit held) p goes =
+      let full = ltb-false (length (holding now (at_kind k h.units).starts)) (at_kind k h.units).units (subst (λ n. is_free n (at_kind k h.units) ≡ false) p.0.basics.cycle held) in
+      absurd (too_many full (p.0.basics.shape.units k) p.2)
+    where
+      too_many : (at_kind k h.units).units ≤ length (holding now (at_kind k h.units).starts) → (at_kind k h.units).units ≡ units_here → length (holding now (at_kind k h.units).starts) ≤ j → ⊥
+      too_many full same le = omega (arith, full, same, le, lt)
+  busy_leads j h _ lt (none_ready none) p goes = none_started units_here h p.0 none
+  busy_leads j h _ lt (starts older younger e at is none free) p goes = (goes, after_start j h older younger e at is none p, held_after j h older e p.0.basics.cycle p.2)
+
+  pub kind_is_busy : (h : Hardware) → Issues v legal now Anything (anything_is_kept v now) steps h → Over now (at_kind k h.units) → EveryBehind (BusyUnits k units_here now) [] (marks_in steps (issue_kind k h))
+  kind_is_busy h p over =
+      let none = ap (λ l. length l) (none_holds now (at_kind k h.units).starts over) in
+      turns_within units_here Busy (λ g. EveryBehind (BusyUnits k units_here now) [] (marks_in steps g)) (issue_turn k)
+      (λ j g lt q. busy_leads j g (issue_turn k g) lt (issue_turn_is k g) q (issue_turn_keeps v legal now Anything (anything_is_kept v now) steps k g (issue_turn k g) (issue_turn_is k g) q.0))
+      (λ g q. q.1) (at_kind k h.values.kinds).units 0 h (let same = ap (λ (w : Values). (at_kind k w.kinds).units) p.basics.shape.values in omega (arith, same))
+      (p, EveryBehind-all (λ m. Unit {0}) (BusyUnits k 0 now) (λ b m u may. omega arith) [] (marks_in steps h) (Each-all (λ m. Unit {0}) (λ m. tt) (marks_in steps h)), omega (arith, none))
+
+-- the other phases leave the units as they are
+
+commit_units : (is_stale : set.FinSet nat_cmp → ℕ → Bool) (u : PerKind Pool) (c : Committing) (t : Turn Committing) → CommitTurn is_stale c t → c.hardware.units ≡ u → Leads (λ d. d.hardware.units ≡ u) (λ d. d.hardware.units ≡ u) t
+commit_units is_stale u c _ (no_head none) h = h
+commit_units is_stale u c _ (stale_head e es at is) h = h
+commit_units is_stale u c _ (unfinished e es head plain none) h = h
+commit_units is_stale u c _ (fence_waits e es head is) h = h
+commit_units is_stale u c _ (fence_writes e es head is drained) h = h
+commit_units is_stale u c _ (fence_retires e es written next head is drained) h = h
+commit_units is_stale u c _ (executes e es written next head serial) h = h
+commit_units is_stale u c _ (serial_faults e es cause value head serial) h = h
+commit_units is_stale u c _ (traps e es issue cycle message fault head plain at is) h = h
+commit_units is_stale u c _ (retires e es issue cycle message head plain at none) h = h
+commit_units is_stale u c _ (retires_last e es issue cycle message head plain at none) h = h
+
+commit_units_by : (o : Option ℕ) (h : Hardware) → (commit_unless set.contains o h).hardware.units ≡ h.units
+commit_units_by (Some code) h = refl
+commit_units_by None h =
+    kept_by_turns (λ c. c.hardware.units ≡ h.units) (commit_turn set.contains) (λ c q. commit_units set.contains h.units c (commit_turn set.contains c) (commit_turn_is set.contains c) q) h.values.commit_width (record { hardware = h; steps = []; stop = None }) refl
+
+broadcast_units : (u : PerKind Pool) (h : Hardware) (t : Turn Hardware) → BroadcastTurn h t → h.units ≡ u → Leads (λ g. g.units ≡ u) (λ g. g.units ≡ u) t
+broadcast_units u h _ (no_result none) p = p
+broadcast_units u h _ (sends older younger e issue message sent late) p = p
+broadcast_units u h _ (mends older younger e issue message sent early) p = p
+
+dispatch_units : (u : PerKind Pool) (d : Dispatching) (t : Turn Dispatching) → DispatchTurn d t → d.hardware.units ≡ u → Leads (λ x. x.hardware.units ≡ u) (λ x. x.hardware.units ≡ u) t
+dispatch_units u d _ (buffer_empty none) p = p
+dispatch_units u d _ (waits f fs reason at why) p = p
+dispatch_units u d _ (dispatches f fs at nothing) p = p
+
+begin_units : (lines : Lines) (old : Hardware) → (drained lines old).units ≡ old.units
+begin_units lines old =
+    let g : Hardware = with_lines lines old in
+    drain_units (committing lines old).hardware ∙ commit_units_by (due g.csrs g.lines) g
+
+end_units : (lines : Lines) (old : Hardware) → (dispatching lines old).hardware.units ≡ (issued_all lines old).units
+end_units lines old =
+    let i : Hardware = issued_all lines old in
+    let s : Hardware = sent_all lines old in
+    kept_by_turns (λ d. d.hardware.units ≡ s.units) dispatch_turn (λ d q. dispatch_units s.units d (dispatch_turn d) (dispatch_turn_is d) q) s.values.dispatch_width (record { hardware = s; dispatched = 0; waits_for = None }) refl ∙
+    kept_by_turns (λ g. g.units ≡ i.units) broadcast_turn (λ g q. broadcast_units i.units g (broadcast_turn g) (broadcast_turn_is g) q) i.values.bus_width i refl
+
+-- the starts of a pipelined kind are over in the next cycle
+
+module _ (v : Values) (legal : IsLegal v) (now : ℕ) (steps : List Step) (k : Kind) (pipelined : (at_kind k v.kinds).pipelined ≡ true) where
+  abbrev Timely : Hardware → Type 0
+  Timely h = Issues v legal now Anything (anything_is_kept v now) steps h × Over (now + 1) (at_kind k h.units)
+
+  -- of a start of some kind
+  over_by : (j : Kind) (cost : ℕ) (u : PerKind Pool) → (at_kind k u).is_pipelined ≡ true → Over (now + 1) (at_kind k u) → Over (now + 1) (at_kind k (with_kind j (started_unit cost now (at_kind j u)) u))
+  over_by j cost u = with_kind-each j (started_unit cost now (at_kind j u)) u (λ i pool. (at_kind i u).is_pipelined ≡ true → Over (now + 1) (at_kind i u) → Over (now + 1) pool)
+      (λ line over.
+      Each-append (λ s. s.cycle + s.cost ≤ now + 1) (holding now (at_kind j u).starts) (record { cycle = now; cost = held_for (at_kind j u).is_pipelined cost } ∷ [])
+      (Each-filter (λ s. s.cycle + s.cost ≤ now + 1) (holds_unit now) (at_kind j u).starts over) (one_cycle (at_kind j u).is_pipelined line, tt))
+      (λ other differs line over. over) k
+    where
+      one_cycle : (b : Bool) → b ≡ true → now + held_for b cost ≤ now + 1
+      one_cycle true e = omega arith
+      one_cycle false e = absurd (cc)
+
+  timely_turn : (j : Kind) (h : Hardware) (t : Turn Hardware) → IssueTurn j h t → Timely h → Leads (Issues v legal now Anything (anything_is_kept v now) steps) (Issues v legal now Anything (anything_is_kept v now) steps) t → Leads Timely Timely t
+  timely_turn j h _ (no_unit held) p goes = p
+  timely_turn j h _ (none_ready none) p goes = p
+  timely_turn j h _ (starts older younger e at is none free) p goes = (
+    goes,
+    subst (λ u. Over (now + 1) (at_kind k u)) (sym (issued_units j h older e))
+        (subst (λ n. Over (now + 1) (at_kind k (with_kind j (started_unit (cost_of h j (path h older e)) n (at_kind j h.units)) h.units))) (sym p.0.basics.cycle)
+        (over_by j (cost_of h j (path h older e)) h.units (p.0.basics.shape.pipelined k ∙ pipelined) p.1)),
+  )
+
+  timely_kind : (j : Kind) (h : Hardware) → Timely h → Timely (issue_kind j h)
+  timely_kind j h p =
+      kept_by_turns Timely (issue_turn j) (λ g q. timely_turn j g (issue_turn j g) (issue_turn_is j g) q (issue_turn_keeps v legal now Anything (anything_is_kept v now) steps j g (issue_turn j g) (issue_turn_is j g) q.0)) (at_kind j h.values.kinds).units h p
+
+  timely_issue : (h : Hardware) → Timely h → Timely (issue h)
+  timely_issue h p =
+      timely_kind kind.Mem (issue_kind kind.Div (issue_kind kind.Mul (issue_kind kind.Alu h)))
+      (timely_kind kind.Div (issue_kind kind.Mul (issue_kind kind.Alu h)) (timely_kind kind.Mul (issue_kind kind.Alu h) (timely_kind kind.Alu h p)))
+
+  -- another kind's starts leave the pool
+  abbrev Apart : Pool → Hardware → Type 0
+  Apart pool h = at_kind k h.units ≡ pool
+
+  apart_turn : (pool : Pool) (j : Kind) (h : Hardware) (t : Turn Hardware) → is_of_kind k (Some j) ≡ false → IssueTurn j h t → Apart pool h → Leads (Apart pool) (Apart pool) t
+  apart_turn pool j h _ other (no_unit held) p = p
+  apart_turn pool j h _ other (none_ready none) p = p
+  apart_turn pool j h _ other (starts older younger e at is none free) p =
+      ap (at_kind k) (issued_units j h older e) ∙ with_kind-other j (started_unit (cost_of h j (path h older e)) h.cycle (at_kind j h.units)) h.units k other ∙ p
+
+  apart_kind : (pool : Pool) (j : Kind) (h : Hardware) → is_of_kind k (Some j) ≡ false → Apart pool h → Apart pool (issue_kind j h)
+  apart_kind pool j h other p = kept_by_turns (Apart pool) (issue_turn j) (λ g q. apart_turn pool j g (issue_turn j g) other (issue_turn_is j g) q) (at_kind j h.values.kinds).units h p
+
+  -- what a kind's phase leaves is kept by the others
+  abbrev BusyNow : List Mark → Type 0
+  BusyNow = EveryBehind (BusyUnits k (at_kind k v.kinds).units now) []
+
+  abbrev KeepsBusy : Hardware → Type 0
+  KeepsBusy h = Issues v legal now BusyNow (busy_units_are_kept k (at_kind k v.kinds).units v now) steps h
+
+  plain : (h : Hardware) → Issues v legal now Anything (anything_is_kept v now) steps h → (j : Kind) → Issues v legal now Anything (anything_is_kept v now) steps (issue_kind j h)
+  plain h p j = issue_kind_keeps v legal now Anything (anything_is_kept v now) steps j h p
+
+  on : (h : Hardware) → KeepsBusy h → (j : Kind) → KeepsBusy (issue_kind j h)
+  on h p j = issue_kind_keeps v legal now BusyNow (busy_units_are_kept k (at_kind k v.kinds).units v now) steps j h p
+
+  here : (h : Hardware) → Issues v legal now Anything (anything_is_kept v now) steps h → Over now (at_kind k h.units) → KeepsBusy (issue_kind k h)
+  here h p over = with_marks v now now (now + 1) now now (now + 1) Anything BusyNow steps (issue_kind k h) (kind_is_busy v legal now steps k h p over) (plain h p k)
+
+-- the issue phase of all kinds
+module _ (v : Values) (legal : IsLegal v) (now : ℕ) (steps : List Step) (h : Hardware) (p : Issues v legal now Anything (anything_is_kept v now) steps h) where
+  pub issue_is_busy : (k : Kind) → (at_kind k v.kinds).pipelined ≡ true → Over now (at_kind k h.units) → EveryBehind (BusyUnits k (at_kind k v.kinds).units now) [] (marks_in steps (issue h))
+  issue_is_busy kind.Alu line over =
+      let a = issue_kind kind.Alu h in
+      let m = issue_kind kind.Mul a in
+      (on v legal now steps kind.Alu line (issue_kind kind.Div m) (on v legal now steps kind.Alu line m (on v legal now steps kind.Alu line a (here v legal now steps kind.Alu line h p over) kind.Mul) kind.Div) kind.Mem).marks
+  issue_is_busy kind.Mul line over =
+      let a = issue_kind kind.Alu h in
+      let m = issue_kind kind.Mul a in
+      let at_a = plain v legal now steps kind.Mul line h p kind.Alu in
+      let over_a = subst (Over now) (sym (apart_kind v legal now steps kind.Mul line (at_kind kind.Mul h.units) kind.Alu h refl refl)) over in
+      (on v legal now steps kind.Mul line (issue_kind kind.Div m) (on v legal now steps kind.Mul line m (here v legal now steps kind.Mul line a at_a over_a) kind.Div) kind.Mem).marks
+  issue_is_busy kind.Div line over =
+      let a = issue_kind kind.Alu h in
+      let m = issue_kind kind.Mul a in
+      let at_m = plain v legal now steps kind.Div line a (plain v legal now steps kind.Div line h p kind.Alu) kind.Mul in
+      let pool : Pool = at_kind kind.Div h.units in
+      let over_m = subst (Over now) (sym (apart_kind v legal now steps kind.Div line pool kind.Mul a refl (apart_kind v legal now steps kind.Div line pool kind.Alu h refl refl))) over in
+      (on v legal now steps kind.Div line (issue_kind kind.Div m) (here v legal now steps kind.Div line m at_m over_m) kind.Mem).marks
+  issue_is_busy kind.Mem line over =
+      let a = issue_kind kind.Alu h in
+      let m = issue_kind kind.Mul a in
+      let d = issue_kind kind.Div m in
+      let at_d = plain v legal now steps kind.Mem line m (plain v legal now steps kind.Mem line a (plain v legal now steps kind.Mem line h p kind.Alu) kind.Mul) kind.Div in
+      let pool : Pool = at_kind kind.Mem h.units in
+      let over_d = subst (Over now) (sym (apart_kind v legal now steps kind.Mem line pool kind.Div m refl (apart_kind v legal now steps kind.Mem line pool kind.Mul a refl (apart_kind v legal now steps kind.Mem line pool kind.Alu h refl refl)))) over in
+      (here v legal now steps kind.Mem line d at_d over_d).marks
+
+-- in every history
+
+over_at_reset : (v : Values) (k : Kind) → Over 0 (at_kind k (for_each free_pool v.kinds))
+over_at_reset v k = rw (at_kind-for_each free_pool v.kinds k) tt
+
+pub over_of_history : (v : Values) (k : Kind) → (at_kind k v.kinds).pipelined ≡ true → {steps : List Step} {h : Hardware} → History v steps h → Over h.cycle (at_kind k h.units)
+over_of_history v k line (began image start legal) = over_at_reset v k
+over_of_history v k line (went_on {earlier} {old} {new} {lines} {report} before is) =
+    let legal = history_is_legal v before in
+    let passed = cycle_passes v legal Anything earlier lines old new report (anything_is_kept v old.cycle) (history_is_sound v before) tt is in
+    let begins = subst (λ u. Over old.cycle (at_kind k u)) (sym (begin_units lines old)) (over_of_history v k line before) in
+    let later = Each-weaker (λ s. s.cycle + s.cost ≤ old.cycle) (λ s. s.cycle + s.cost ≤ old.cycle + 1) (λ s le. omega (arith, le)) (at_kind k (drained lines old).units).starts begins in
+    let issues = timely_issue v legal old.cycle (earlier ++ report.steps) k line (drained lines old) (passed.drains, later) in
+    let next : new.cycle ≡ old.cycle + 1 = ap (λ (h : Hardware). h.cycle) passed.others_stay in
+    let units : new.units ≡ (issued_all lines old).units = ap (λ (h : Hardware). h.units) passed.others_stay ∙ end_units lines old in
+    rw next (subst (λ u. Over (old.cycle + 1) (at_kind k u)) (sym units) issues.1)
+
+-- at the end of a cycle
+pub units_are_busy : (v : Values) (k : Kind) → (at_kind k v.kinds).pipelined ≡ true → (earlier : List Step) (lines : Lines) (old new : Hardware) (report : Report) (R : List Mark → Type 0) → History v earlier old → Passed v R earlier lines old report new →
+    EveryBehind (BusyUnits k (at_kind k v.kinds).units old.cycle) [] (marks_in (earlier ++ report.steps) new)
+units_are_busy v k line earlier lines old new report R before passed =
+    let legal = history_is_legal v before in
+    let now : ℕ = old.cycle in
+    let all : List Step = earlier ++ report.steps in
+    let n : ℕ = (at_kind k v.kinds).units in
+    let begins = subst (λ u. Over now (at_kind k u)) (sym (begin_units lines old)) (over_of_history v k line before) in
+    let busy = issue_is_busy v legal now all (drained lines old) (with_marks v now now (now + 1) now now (now + 1) R Anything all (drained lines old) tt passed.drains) k line begins in
+    let i : Hardware = issued_all lines old in
+    let s : Hardware = sent_all lines old in
+    let issued = goes_later v now now (now + 1) now now (now + 1) now (now + 1) (now + 1) (now + 1) (EveryBehind (BusyUnits k n now) []) all i (omega arith) (omega arith) (omega arith) (omega arith) (with_marks v now now (now + 1) now now (now + 1) R (EveryBehind (BusyUnits k n now) []) all i busy passed.issues) in
+    let sent = broadcast_keeps v now (EveryBehind (BusyUnits k n now) []) (busy_units_are_kept k n v now) all i issued in
+    let dispatched = dispatch_keeps v now (EveryBehind (BusyUnits k n now) []) (busy_units_are_kept k n v now) all s (goes_later v now now (now + 1) (now + 1) now (now + 1) (now + 1) (now + 1) (now + 1) (now + 1) (EveryBehind (BusyUnits k n now) []) all s (omega arith) (omega arith) (omega arith) (omega arith) sent) in
+    rw (passed.new_marks) (EveryBehind-append (BusyUnits k n now) [] (marks_in all (dispatching lines old).hardware) (map mark_of_fetched passed.fetches.added) dispatched.marks
+    (EveryBehind-weaker (λ b m. MayStart k now b m → ⊥) (BusyUnits k n now) (λ b m never may. absurd (never may)) (marks_in all (dispatching lines old).hardware) (map mark_of_fetched passed.fetches.added)
+    (words_do_not_start v k now (marks_in all (dispatching lines old).hardware) passed.fetches.added)))

@@ -1,0 +1,46 @@
+-- An interrupt that is due is the one step of its cycle, and a cycle dispatches something or stalls for one reason.
+use Rattle.rv_hardware.proofs.Words.{◌≡◌, ℕ, ◌+◌, List, [], ◌∷◌, ◌++◌, length, ◌==◌, Some, None, Option, sym, ap, ◌∙◌, subst, arith, Arrival, Lines, Values, due, interrupt_cause, Committing, commit_unless, IsCycle, any_prediction, with_lines, stall_of, Hardware, stall_cycles, Report, Cycles, Reachable, busy_of, cycled, ended, stalls_of, Step, Interrupt}
+use Rattle.std.specs.FinSet as set
+use Rattle.rv_hardware.proofs.Laws.Counts.{IsCounted, AllTell, dispatch_tells, busy_and_stalls}
+use Rattle.rv_hardware.proofs.Marks.History.{Anything, anything_is_kept, History, went_on, Passed, cycle_passes, history_is_legal, history_is_sound, reachable_has_history, sent_all, dispatching}
+
+interrupted_by : (o : Option ℕ) (h : Hardware) (code : ℕ) → o ≡ Some code → (commit_unless set.contains o h).steps ≡ Interrupt h.pc (interrupt_cause code) h.cycle ∷ []
+interrupted_by None h code is = absurd (cc)
+interrupted_by (Some found) h code is = let same : found ≡ code = cc in ap (λ n. Interrupt h.pc (interrupt_cause n) h.cycle ∷ []) same
+
+-- an interrupt that is due is the one step of the cycle
+pub due_interrupt_is_taken : (lines : Lines) (old new : Hardware) (report : Report) (code : ℕ) → IsCycle any_prediction lines old report new → due old.csrs lines ≡ Some code →
+    report.steps ≡ Interrupt old.pc (interrupt_cause code) old.cycle ∷ []
+due_interrupt_is_taken lines old new report code is at =
+    ap (λ r. r.steps) is.reports ∙ ap (λ (c : Committing). c.steps) is.commits ∙ interrupted_by (due old.csrs lines) (with_lines lines old) code at
+
+module _ (v : Values) {steps : List Step} {old new : Hardware} {lines : Lines} {report : Report} (history : History v steps old) (is : IsCycle any_prediction lines old report new) where
+  -- a cycle that goes on from a history passes through its phases
+  pub passes_here : Passed v Anything steps lines old report new
+  passes_here = cycle_passes v (history_is_legal v history) Anything steps lines old new report (anything_is_kept v old.cycle) (history_is_sound v history) tt is
+
+  -- it dispatches something, or else stalls for one reason
+  pub cycle_tells : IsCounted (report.dispatched == 0) report.stall
+  cycle_tells =
+      let legal = history_is_legal v history in
+      let width = ap (λ (w : Values). w.dispatch_width) passes_here.sends.basics.shape.values in
+      let tells = dispatch_tells (sent_all lines old) (omega (arith, width, legal.pipeline.dispatch_width)) in
+      subst (λ o. IsCounted (report.dispatched == 0) o) (sym passes_here.report_is.1) (subst (λ n. IsCounted (n == 0) (stall_of (dispatching lines old))) (sym passes_here.report_is.0) tells)
+
+-- over a run
+
+pub run_tells : (v : Values) {arrivals : List Arrival} (steps : List Step) {old new : Hardware} {reports : List Report} → Cycles arrivals old reports new → History v steps old → AllTell reports × (new.cycle ≡ old.cycle + length reports)
+run_tells v steps ended history = (tt, omega arith)
+run_tells v steps (cycled {old = old} {middle = middle} {report = report} {reports = reports} is rest) history =
+    let passed = passes_here v history is in
+    let next : middle.cycle ≡ old.cycle + 1 = ap (λ (h : Hardware). h.cycle) passed.others_stay in
+    let further = run_tells v (steps ++ report.steps) rest (went_on history is) in
+    ((cycle_tells v history is, further.0), omega (arith, further.1, next))
+
+-- busy cycles and stalls make the cycles of a run
+pub counts_of_runs : {arrivals : List Arrival} {old new : Hardware} {reports : List Report} → Reachable old → Cycles arrivals old reports new →
+    (busy_of reports + stall_cycles (stalls_of reports) ≡ length reports) × (new.cycle ≡ old.cycle + length reports)
+counts_of_runs {reports = reports} reached cycles =
+    let before = reachable_has_history reached in
+    let tells = run_tells before.0 before.1 cycles before.2 in
+    (busy_and_stalls reports tells.0, tells.1)

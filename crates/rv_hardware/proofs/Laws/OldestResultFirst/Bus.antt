@@ -1,0 +1,103 @@
+-- Of the results that are ready the oldest is broadcast first.
+use Rattle.rv_hardware.proofs.Words.{◌≡◌, ℕ, ◌+◌, ◌<◌, ◌≤◌, List, [], ◌∷◌, ◌++◌, map, IfSome, Some, None, Option, sym, ap, ◌∙◌, subst, arith, Values, Each, Fetched, Hardware, Step, Each-append, Each-left, Each-right, Each-set, Each-place, Each-weaker, Each-all, Each-both, Each-map, EveryPair, EveryPair-append, EveryPair-left, EveryPair-right, EveryPair-across, EveryPair-set}
+use Rattle.rv_hardware.proofs.Marks.Advance.{IsBefore, Advances, retires, starts, is_sent, enters, Starts, IsSent, IsSentIfReady}
+use Rattle.rv_hardware.proofs.Marks.History.{KeptMarks, History, marks_of_history}
+use Rattle.rv_hardware.proofs.Marks.List.{Mark, Start, mark_of_fetched, marks_in}
+
+-- where b was broadcast, an earlier a whose result was ready by then was broadcast by then
+abbrev pub ReadyFirst : Option Start → Option ℕ → ℕ → Type 0
+ReadyFirst start sent b = IfSome start (λ s. s.cycle + s.cost ≤ b → IsBefore (b + 1) sent)
+
+-- of two marks, where the later was broadcast, the earlier was by then if its result was ready
+abbrev pub OldestFirst : Mark → Mark → Type 0
+OldestFirst m n = IfSome n.broadcast (λ b. ReadyFirst m.start m.broadcast b)
+
+abbrev pub SentBy : ℕ → Mark → Type 0
+SentBy now m = IfSome m.broadcast (λ b. b ≤ now)
+
+pub record BusOrder (now : ℕ) (ms : List Mark) : Type 0 where
+  pub oldest_first : EveryPair OldestFirst ms
+  pub by_now : Each (SentBy now) ms
+
+-- a mark that keeps its broadcast
+pair_second : (m n z : Mark) → n.broadcast ≡ m.broadcast → OldestFirst z m → OldestFirst z n
+pair_second m n z same h = subst (λ o. IfSome o (λ b. ReadyFirst z.start z.broadcast b)) (sym same) h
+
+-- a mark that keeps its start and its broadcast
+pair_first : (m n z : Mark) → n.start ≡ m.start → n.broadcast ≡ m.broadcast → OldestFirst m z → OldestFirst n z
+pair_first m n z start same h = rw (start, same) h
+
+-- one that starts, where others were broadcast by now
+started_later : (s : Start) (now : ℕ) (o : Option ℕ) (p : Option ℕ) → s.cycle ≡ now → 0 < s.cost → IfSome o (λ b. b ≤ now) → IfSome o (λ b. ReadyFirst (Some s) p b)
+started_later s now None p at cost by = tt
+started_later s now (Some b) p at cost by = λ ready. absurd (omega (arith, at, cost, by, ready))
+
+-- one that is broadcast, where others were broadcast before it was ready
+sent_later : (s : Start) (now : ℕ) (o : Option ℕ) → IfSome o (λ b. ReadyFirst (Some s) None b) → IfSome o (λ b. ReadyFirst (Some s) (Some now) b)
+sent_later s now None h = tt
+sent_later s now (Some b) h = λ ready. absurd (h ready)
+
+module _ (now : ℕ) (xs ys : List Mark) (m n : Mark) where
+  same_bus : n.start ≡ m.start → n.broadcast ≡ m.broadcast → BusOrder now (xs ++ m ∷ ys) → BusOrder now (xs ++ n ∷ ys)
+  same_bus start same o = record {
+    oldest_first = EveryPair-set OldestFirst xs ys m n (λ z w. pair_second m n z same w) (λ z w. pair_first m n z start same w) o.oldest_first;
+    by_now = Each-set (SentBy now) xs ys m n (rw same (Each-place (SentBy now) xs ys m o.by_now)) o.by_now;
+  }
+
+  started_bus : (v : Values) → Starts v now xs m n → BusOrder now (xs ++ m ∷ ys) → BusOrder now (xs ++ n ∷ ys)
+  started_bus v a o =
+      let same : n.broadcast ≡ m.broadcast = ap (λ x. x.broadcast) a.becomes in
+      let start : n.start ≡ Some a.start = ap (λ x. x.start) a.becomes in
+      record {
+        oldest_first = EveryPair-append OldestFirst xs (n ∷ ys) (EveryPair-left OldestFirst xs (m ∷ ys) o.oldest_first) (
+          Each-weaker (SentBy now) (OldestFirst n) (λ z by. subst (λ q. IfSome z.broadcast (λ b. ReadyFirst q n.broadcast b)) (sym start) (started_later a.start now z.broadcast n.broadcast a.now_is a.positive by)) ys (Each-right (SentBy now) xs (m ∷ ys) o.by_now).1,
+          (EveryPair-right OldestFirst xs (m ∷ ys) o.oldest_first).1,
+        )
+            (Each-weaker (λ x. Each (OldestFirst x) (m ∷ ys)) (λ x. Each (OldestFirst x) (n ∷ ys)) (λ x w. (pair_second m n x same w.0, w.1)) xs (EveryPair-across OldestFirst xs (m ∷ ys) o.oldest_first));
+        by_now = Each-set (SentBy now) xs ys m n (rw same (Each-place (SentBy now) xs ys m o.by_now)) o.by_now;
+      }
+
+  sent_bus : IsSent now xs m n → BusOrder now (xs ++ m ∷ ys) → BusOrder now (xs ++ n ∷ ys)
+  sent_bus a o =
+      let sent : n.broadcast ≡ Some now = ap (λ x. x.broadcast) a.becomes in
+      let start : n.start ≡ Some a.start = ap (λ x. x.start) a.becomes ∙ a.started in
+      let behind = EveryPair-right OldestFirst xs (m ∷ ys) o.oldest_first in
+      record {
+        oldest_first = EveryPair-append OldestFirst xs (n ∷ ys) (EveryPair-left OldestFirst xs (m ∷ ys) o.oldest_first)
+            (Each-weaker (OldestFirst m) (OldestFirst n) (λ z w. rw (start, sent) (sent_later a.start now z.broadcast (rw (a.started, a.not_yet) at w))) ys behind.0, behind.1)
+            (Each-both (λ x. Each (OldestFirst x) (m ∷ ys)) (IsSentIfReady now) (λ x. Each (OldestFirst x) (n ∷ ys)) (λ x w ready. (rw sent ready, w.1)) xs (EveryPair-across OldestFirst xs (m ∷ ys) o.oldest_first) a.oldest);
+        by_now = Each-set (SentBy now) xs ys m n (rw sent (omega arith)) o.by_now;
+      }
+
+bus_set : (v : Values) (now : ℕ) (xs ys : List Mark) (m n : Mark) → Advances v now xs m n → BusOrder now (xs ++ m ∷ ys) → BusOrder now (xs ++ n ∷ ys)
+bus_set v now xs ys m n (retires a) o = same_bus now xs ys m n (ap (λ x. x.start) a.becomes) (ap (λ x. x.broadcast) a.becomes) o
+bus_set v now xs ys m n (starts a) o = started_bus now xs ys m n v a o
+bus_set v now xs ys m n (is_sent a) o = sent_bus now xs ys m n a o
+bus_set v now xs ys m n (enters a) o = same_bus now xs ys m n (ap (λ x. x.start) a.becomes) (ap (λ x. x.broadcast) a.becomes) o
+
+none_sent : (fs : List Fetched) → EveryPair OldestFirst (map mark_of_fetched fs)
+none_sent [] = tt
+none_sent (f ∷ fs) = (Each-map (OldestFirst (mark_of_fetched f)) mark_of_fetched fs (Each-all (λ g. Unit {0}) (λ g. tt) fs), none_sent fs)
+
+sent_by_later : (now : ℕ) (m : Mark) (o : Option ℕ) → IfSome o (λ b. b ≤ now) → IfSome o (λ b. b ≤ now + 1)
+sent_by_later now m None h = tt
+sent_by_later now m (Some b) h = omega (arith, h)
+
+pub bus_is_kept : (v : Values) → KeptMarks v BusOrder
+bus_is_kept v = record {
+  at_reset = record { oldest_first = tt; by_now = tt };
+  kept = λ now. record {
+    cut = λ xs ys o. record { oldest_first = EveryPair-left OldestFirst xs ys o.oldest_first; by_now = Each-left (SentBy now) xs ys o.by_now };
+    set = bus_set v now;
+  };
+  more = λ now ms fs words o. record {
+    oldest_first = EveryPair-append OldestFirst ms (map mark_of_fetched fs) o.oldest_first (none_sent fs)
+        (Each-all (λ m. Each (OldestFirst m) (map mark_of_fetched fs)) (λ m. Each-map (OldestFirst m) mark_of_fetched fs (Each-all (λ g. Unit {0}) (λ g. tt) fs)) ms);
+    by_now = Each-append (SentBy (now + 1)) ms (map mark_of_fetched fs) (Each-weaker (SentBy now) (SentBy (now + 1)) (λ m w. sent_by_later now m m.broadcast w) ms o.by_now)
+        (Each-map (SentBy (now + 1)) mark_of_fetched fs (Each-all (λ g. Unit {0}) (λ g. tt) fs));
+  };
+}
+
+-- in every history the results were broadcast oldest first
+pub history_has_bus_order : (v : Values) {steps : List Step} {h : Hardware} → History v steps h → BusOrder h.cycle (marks_in steps h)
+history_has_bus_order v history = marks_of_history v BusOrder (bus_is_kept v) history

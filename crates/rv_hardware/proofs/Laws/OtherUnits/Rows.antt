@@ -1,0 +1,47 @@
+-- Of rows that hold a unit in a cycle there are at most as many as there are units.
+use Rattle.rv_hardware.proofs.Words.{◌≡◌, ℕ, ◌+◌, ◌<◌, ◌≤◌, Bool, true, false, ◌&&◌, List, ◌++◌, map, IfSome, ◌==◌, Some, None, count_by, Option, ap, ◌∙◌, arith, is_of_kind, kind_of_word, at_kind, Lines, Kind, Values, Fetched, Hardware, Report, rows_of, Execution, Row, Step, Each-weaker, Each-all, count, count-append, count-none, count-map, count-le}
+use Rattle.rv_hardware.proofs.Marks.Counted.{Shows, counted_law}
+use Rattle.rv_hardware.proofs.Marks.History.{History, Passed, dispatching, history_is_legal}
+use Rattle.rv_hardware.proofs.Marks.List.{Mark, Start, mark_of_row, mark_of_entry, mark_of_fetched, marks_in, Extends}
+use Rattle.rv_hardware.proofs.Marks.Row.{SoundRow}
+use Rattle.rv_hardware.proofs.Laws.OtherUnits.Phases.{holds_mark, units_in_cycle, units_of_history}
+use Rattle.rv_hardware.proofs.Marks.Widths.{count_marks}
+
+-- an execution lies between the dispatch and the retirement
+abbrev pub Between : ℕ → ℕ → Option Execution → Type 0
+Between D C x = IfSome x (λ x. (D < x.issued) × (x.issued + x.cost ≤ x.broadcast) × (x.broadcast < C))
+
+-- at most as many as hold a unit
+module _ (v : Values) (k : Kind) (test : ℕ → Mark → Bool)
+    (holds : (c : ℕ) (m : Mark) → test c m ≡ true → holds_mark v k c m ≡ true)
+    (gone : (now : ℕ) (row : Row) → SoundRow v (now + 1) row → test now (mark_of_row row) ≡ false)
+    (no_word : (now : ℕ) (f : Fetched) → test now (mark_of_fetched f) ≡ false) where
+  held_at_end : (earlier : List Step) (old new : Hardware) (lines : Lines) (report : Report) → History v earlier old → History v (earlier ++ report.steps) new →
+      Passed v (Extends old.cycle (marks_in earlier old)) earlier lines old report new → count (test old.cycle) (marks_in (earlier ++ report.steps) new) ≤ (at_kind k v.kinds).units
+  held_at_end earlier old new lines report before after passed =
+      let p : Mark → Bool = test old.cycle in
+      let d : Hardware = (dispatching lines old).hardware in
+      let all = ap (count p) passed.new_marks ∙ count-append p (marks_in (earlier ++ report.steps) d) (map mark_of_fetched passed.fetches.added) in
+      let parts = count_marks p (earlier ++ report.steps) d.rob.entries d.front.entries in
+      let rows = count-none (λ row. p (mark_of_row row)) (rows_of (earlier ++ report.steps)) (Each-weaker (SoundRow v (old.cycle + 1)) (λ row. p (mark_of_row row) ≡ false) (gone old.cycle) (rows_of (earlier ++ report.steps)) passed.dispatches.basics.rows) in
+      let words = count-none (λ f. p (mark_of_fetched f)) d.front.entries (Each-all (λ f. p (mark_of_fetched f) ≡ false) (no_word old.cycle) d.front.entries) in
+      let added = count-map p mark_of_fetched passed.fetches.added ∙ count-none (λ f. p (mark_of_fetched f)) passed.fetches.added (Each-all (λ f. p (mark_of_fetched f) ≡ false) (no_word old.cycle) passed.fetches.added) in
+      let held = units_in_cycle v (history_is_legal v before) earlier lines old new report (Extends old.cycle (marks_in earlier old)) passed (units_of_history v before) k in
+      let entries = count-le (λ e. p (mark_of_entry e)) (λ e. holds_mark v k old.cycle (mark_of_entry e)) d.rob.entries (Each-all (λ e. p (mark_of_entry e) ≡ true → holds_mark v k old.cycle (mark_of_entry e) ≡ true) (λ e. holds old.cycle (mark_of_entry e)) d.rob.entries) in
+      let tied = held.tied old.cycle (omega arith) in
+      let within = held.within old.cycle (omega arith) in
+      omega (arith, all, parts, rows, words, added, entries, tied, within)
+
+  module _ (row_test : ℕ → Row → Bool) (shows : Shows v row_test test) where
+    -- in no cycle do more rows pass a test of holding a unit than there are units
+    pub units_law : {steps : List Step} {h : Hardware} → History v steps h → (c : ℕ) → count_by (row_test c) (rows_of steps) ≤ (at_kind k v.kinds).units
+    units_law history = counted_law v row_test test shows (at_kind k v.kinds).units held_at_end history
+
+-- a start in a cycle
+abbrev pub starts_at : ℕ → Option Start → Bool
+starts_at c None = false
+starts_at c (Some s) = s.cycle == c
+
+-- a mark's instruction starts on a unit of this kind in a cycle
+abbrev pub begins_mark : Kind → ℕ → Mark → Bool
+begins_mark k c m = is_of_kind k (kind_of_word m.instruction) && starts_at c m.start

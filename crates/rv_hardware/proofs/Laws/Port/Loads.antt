@@ -1,0 +1,67 @@
+-- The cache's port serves one load at a time.
+use Rattle.rv_hardware.proofs.Words.{◌≡◌, ℕ, ◌+◌, ◌≤◌, Bool, true, false, cond, not, ◌&&◌, ◌||◌, List, take, ℤ, is_some, IfSome, ◌==◌, Some, None, Option, sym, refl, ap, ◌∙◌, true≢false, arith, eq-eqb, leb-true, list_all, is_load, bytes_of, width_of, modulo_word, sum, Instr, Load, Kind, LoadForm, Values, is_aligned, is_in_ram, State, register_of, forwarded, is_known as is_known_store, Entry, Hardware, FromCache, FromStores, Path, Without, cost_of, has_port, may_load, path, path_of, with_access, result_of_word, layout_of, seen_behind, stores_behind}
+use Rattle.rv_hardware.proofs.Marks.List.{Mark, Start}
+use Rattle.rv_hardware.proofs.Always.Shape.{HasShape}
+
+-- a load that takes its bytes from the cache: it gives no fault and costs another number of cycles than a forwarded one
+abbrev pub uses_cache : Values → Option Instr → Start → Bool
+uses_cache v i s = is_load i && (not s.faults && not (s.cost == v.forward))
+
+-- where a mark is such a load
+abbrev pub WhereUsed : Values → Mark → (Start → Type 0) → Type 0
+WhereUsed v m P = IfSome m.start (λ s. uses_cache v m.instruction s ≡ true → P s)
+
+-- its access is over by a cycle
+abbrev pub OverBy : Values → ℕ → Mark → Type 0
+OverBy v c m = WhereUsed v m (λ s. s.cycle + s.cost ≤ c)
+
+-- of two, where one began in a cycle the other was over
+abbrev pub OneAtATime : Values → ℕ → Mark → Mark → Type 0
+OneAtATime v now m n = WhereUsed v m (λ s. s.cycle ≡ now → OverBy v now n) × WhereUsed v n (λ s. s.cycle ≡ now → OverBy v now m)
+
+-- the path of a load that uses the cache
+
+module _ (v : Values) (h : Hardware) (shape : HasShape v h) (older : List Entry) (s : State) (k : Kind) where
+  abbrev pub Goes_to_cache : Option Instr → Type 0
+  Goes_to_cache i = (address : ℕ) × (path_of h older s i ≡ FromCache address)
+
+  from_cache : (b : Bool) (address : ℕ) → ((cost_of h k (cond b FromStores (FromCache address)) == v.forward) ≡ false) → (a : ℕ) × (cond b FromStores (FromCache address) ≡ FromCache a)
+  from_cache true address other = absurd (true≢false (sym (eq-eqb h.values.forward v.forward (ap (λ (w : Values). w.forward) shape.values)) ∙ other))
+  from_cache false address other = (address, refl)
+
+  load_path : (form : LoadForm) (rd rs1 : ℕ) (offset : ℤ) (a b : Bool) → is_aligned (sum (register_of s rs1) (modulo_word offset)) (bytes_of (width_of form)) ≡ a →
+      is_in_ram (layout_of h.values) (sum (register_of s rs1) (modulo_word offset)) (bytes_of (width_of form)) ≡ b → (w : Option ℕ) →
+      is_some (result_of_word (layout_of h.values) s h.lines w (Some (Load form rd rs1 offset))).fault ≡ false →
+      ((cost_of h k (path_of h older s (Some (Load form rd rs1 offset))) == v.forward) ≡ false) → Goes_to_cache (Some (Load form rd rs1 offset))
+  load_path form rd rs1 offset a b aligned inside None none other = absurd (cc)
+  load_path form rd rs1 offset false b aligned inside (Some w) none other = absurd (true≢false (rw aligned at none))
+  load_path form rd rs1 offset true false aligned inside (Some w) none other = absurd (true≢false (rw (aligned, inside) at none))
+  load_path form rd rs1 offset true true aligned inside (Some w) none other =
+      rw (aligned, inside) (from_cache (list_all is_some (take (bytes_of (width_of form)) (forwarded (stores_behind h older) (sum (register_of s rs1) (modulo_word offset)) (bytes_of (width_of form))))) (sum (register_of s rs1) (modulo_word offset)) (rw (aligned, inside) at other))
+
+  -- a load without a fault that costs another time than a forwarded one goes to the cache
+  pub path_of_user : (i : Option Instr) (w : Option ℕ) → is_load i ≡ true → is_some (result_of_word (layout_of h.values) s h.lines w i).fault ≡ false → ((cost_of h k (path_of h older s i) == v.forward) ≡ false) → Goes_to_cache i
+  path_of_user None w load none other = absurd (cc)
+  path_of_user (Some (Load form rd rs1 offset)) w load none other = load_path form rd rs1 offset _ _ refl refl w none other
+  path_of_user i w load none other = absurd (cc)
+
+-- an instruction that may leave has the port that it needs
+path_without : (h : Hardware) (older : List Entry) (s : State) (i : Option Instr) → is_load i ≡ false → has_port h (path_of h older s i) ≡ true
+path_without h older s None plain = refl
+path_without h older s (Some (Load form rd rs1 offset)) plain = absurd (cc)
+path_without h older s i plain = refl
+
+port_by : (b c d : Bool) → (b ≡ false → d ≡ true) → (not b || (c && d)) ≡ true → d ≡ true
+port_by true true d f h = h
+port_by true false d f h = absurd (cc)
+port_by false c d f h = f refl
+
+-- an instruction that may leave its station has the port that its path needs
+pub has_its_port : (h : Hardware) (older : List Entry) (e : Entry) → may_load h older e ≡ true → has_port h (path h older e) ≡ true
+has_its_port h older e may = port_by (is_load e.instruction) (list_all is_known_store (stores_behind h older)) (has_port h (path h older e)) (λ plain. path_without h older (seen_behind h older e.pc) e.instruction plain) may
+
+-- the port is not free earlier
+pub port_grows : (h : Hardware) (p : Path) → has_port h p ≡ true → h.port_free ≤ (with_access p h).port_free
+port_grows h Without has = omega arith
+port_grows h FromStores has = omega arith
+port_grows h (FromCache address) has = let le = leb-true h.port_free h.cycle has in omega (arith, le)

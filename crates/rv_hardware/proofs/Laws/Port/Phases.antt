@@ -1,0 +1,270 @@
+-- Through every phase the port is busy until each load that uses the cache is over, and one begins when all others are.
+use Rattle.rv_hardware.proofs.Words.{◌≡◌, ℕ, ◌+◌, ◌<◌, ◌≤◌, Bool, true, false, cond, not, ◌&&◌, ◌⊎◌, List, [], ◌∷◌, ◌++◌, length, IfSome, nat_le, ◌==◌, Some, None, Option, nat_cmp, sym, refl, ap, ◌∙◌, subst, inl, inr, true≢false, append_assoc, arith, leb-true, IsLegal, is_load, at_kind, StoreAccess, Instr, Lines, Kind, Values, due, Each, oldest_to_drain, finished, predicting, started, ReorderBuffer, Entry, broadcast_turn, with_broadcast, with_recovery, Committing, commit_turn, commit_unless, with_fault, with_lines, Dispatching, dispatch_turn, entry_of_fetched, drain, end_drain, start_drain, Hardware, cost_of, has_port, issue, issue_kind, issue_turn, issued, path, with_access, Turn, Report, seen_behind, Step, and_first, and_second, Each-append, Each-left, Each-right, Each-set, Each-place, Each-weaker, Each-all, Each-both, EveryPair, EveryPair-append, EveryPair-left, EveryPair-right, EveryPair-across, EveryPair-set, Leads, kept_by_turns}
+use Rattle.std.specs.FinSet as set
+use Rattle.rv_isa.specs.declared.operations.Kind.TheVariants as kind
+use Rattle.rv_hardware.proofs.Turns.KeptByIssue.{IsReady, ready-parts}
+use Rattle.rv_hardware.proofs.Marks.Basics.{finished_mark, dispatched_mark}
+use Rattle.rv_hardware.proofs.Turns.Broadcast.{BroadcastTurn, none_ready as no_result, sends, mends, broadcast_turn_is, sent_entries, mended_entries}
+use Rattle.rv_hardware.proofs.Turns.Commit.{CommitTurn, no_head, stale_head, unfinished, fence_waits, fence_writes, fence_retires, executes, serial_faults, traps, retires, retires_last, executed, written_back, retired_with, retired_and_flushed, commit_turn_is}
+use Rattle.rv_hardware.proofs.Marks.History.{Anything, anything_is_kept, Passed, committing, drained, issued_all, sent_all, dispatching}
+use Rattle.rv_hardware.proofs.Turns.Dispatch.{DispatchTurn, buffer_empty, waits, dispatches, dispatch_turn_is}
+use Rattle.rv_hardware.proofs.Turns.Issue.{IssueTurn, no_unit, none_ready, starts, issue_turn_is, message_at, started_entries}
+use Rattle.rv_hardware.proofs.Marks.List.{Mark, Start, mark_of_entry, start_of_issue}
+use Rattle.rv_hardware.proofs.Marks.Phases.{Issues, issue_turn_keeps, drain_same, with_marks}
+use Rattle.rv_hardware.proofs.Laws.Port.Loads.{uses_cache, WhereUsed, OverBy, OneAtATime, path_of_user, has_its_port, port_grows}
+use Rattle.rv_hardware.proofs.Always.Shape.{head_retired_entries}
+use Rattle.rv_hardware.proofs.Marks.Sound.{positive_cost}
+
+-- the port is busy until it is over
+abbrev pub Tied : Values → ℕ → Mark → Type 0
+Tied v c m = WhereUsed v m (λ s. (s.cycle + s.cost ≤ c) × (0 < s.cost))
+
+-- the port is busy until each load that uses the cache is over, and none began before another was
+pub record PortOk (v : Values) (now : ℕ) (h : Hardware) : Type 0 where
+  pub tie : Each (λ e. Tied v h.port_free (mark_of_entry e)) h.rob.entries
+  pub pairs : EveryPair (λ a b. OneAtATime v now (mark_of_entry a) (mark_of_entry b)) h.rob.entries
+
+used_weaker : (v : Values) (i : Option Instr) (o : Option Start) (P Q : Start → Type 0) → ((s : Start) → P s → Q s) → IfSome o (λ s. uses_cache v i s ≡ true → P s) → IfSome o (λ s. uses_cache v i s ≡ true → Q s)
+used_weaker v i None P Q f h = tt
+used_weaker v i (Some s) P Q f h = λ used. f s (h used)
+
+tied_later : (v : Values) (c d : ℕ) (m : Mark) → c ≤ d → Tied v c m → Tied v d m
+tied_later v c d m le h = used_weaker v m.instruction m.start (λ s. (s.cycle + s.cost ≤ c) × (0 < s.cost)) (λ s. (s.cycle + s.cost ≤ d) × (0 < s.cost)) (λ s k. (omega (arith, k.0, le), k.1)) h
+
+tied_over : (v : Values) (c d : ℕ) (m : Mark) → c ≤ d → Tied v c m → OverBy v d m
+tied_over v c d m le h = used_weaker v m.instruction m.start (λ s. (s.cycle + s.cost ≤ c) × (0 < s.cost)) (λ s. s.cycle + s.cost ≤ d) (λ s k. omega (arith, k.0, le)) h
+
+-- the same entries, or fewer
+
+pub port_same : (v : Values) (now : ℕ) (g h : Hardware) → g.rob.entries ≡ h.rob.entries → h.port_free ≤ g.port_free → PortOk v now h → PortOk v now g
+port_same v now g h at le ok = record {
+  tie = rw at (Each-weaker (λ e. Tied v h.port_free (mark_of_entry e)) (λ e. Tied v g.port_free (mark_of_entry e)) (λ e k. tied_later v h.port_free g.port_free (mark_of_entry e) le k) h.rob.entries ok.tie);
+  pairs = rw at (ok.pairs);
+}
+
+port_none : (v : Values) (now : ℕ) (g : Hardware) → g.rob.entries ≡ [] → PortOk v now g
+port_none v now g at = record { tie = rw at tt; pairs = rw at tt }
+
+port_tail : (v : Values) (now : ℕ) (g h : Hardware) (e : Entry) (es : List Entry) → h.rob.entries ≡ e ∷ es → g.rob.entries ≡ es → g.port_free ≡ h.port_free → PortOk v now h → PortOk v now g
+port_tail v now g h e es at at' port ok = record {
+  tie = rw (at', port) (subst (Each (λ x. Tied v h.port_free (mark_of_entry x))) at ok.tie).1;
+  pairs = rw at' (subst (EveryPair (λ a b. OneAtATime v now (mark_of_entry a) (mark_of_entry b))) at ok.pairs).1;
+}
+
+-- where the port is found idle, it is free by now
+pub drained_idle : (a : Bool) (h : Hardware) → (a && nat_le h.port_free h.cycle) ≡ true → h.port_free ≤ h.cycle
+drained_idle a h is = leb-true h.port_free h.cycle (and_second a (nat_le h.port_free h.cycle) is)
+
+commit_port : (is_stale : set.FinSet nat_cmp → ℕ → Bool) (v : Values) (now : ℕ) (c : Committing) (t : Turn Committing) → CommitTurn is_stale c t → PortOk v now c.hardware → Leads (λ d. PortOk v now d.hardware) (λ d. PortOk v now d.hardware) t
+commit_port is_stale v now c _ (no_head none) ok = ok
+commit_port is_stale v now c _ (stale_head e es at is) ok = ok
+commit_port is_stale v now c _ (unfinished e es head plain none) ok = ok
+commit_port is_stale v now c _ (fence_waits e es head is) ok = ok
+commit_port is_stale v now c _ (fence_writes e es head is drained) ok =
+    let le = drained_idle _ c.hardware drained in port_same v now (written_back c).hardware c.hardware refl (omega (arith, le)) ok
+commit_port is_stale v now c _ (fence_retires e es written next head is drained) ok = port_none v now (executed e written next (written_back c)).hardware refl
+commit_port is_stale v now c _ (executes e es written next head serial) ok = port_none v now (executed e written next c).hardware refl
+commit_port is_stale v now c _ (serial_faults e es cause value head serial) ok = port_none v now (with_fault e cause value c).hardware refl
+commit_port is_stale v now c _ (traps e es issue cycle message fault head plain at is) ok = port_none v now (with_fault e fault.cause fault.value c).hardware refl
+commit_port is_stale v now c _ (retires e es issue cycle message head plain at none) ok = port_tail v now (retired_with e message c).hardware c.hardware e es head.place (head_retired_entries c.hardware.rob e es head.place) refl ok
+commit_port is_stale v now c _ (retires_last e es issue cycle message head plain at none) ok = port_none v now (retired_and_flushed e message c).hardware refl
+
+commit_port_by : (v : Values) (now : ℕ) (o : Option ℕ) (h : Hardware) → PortOk v now h → PortOk v now (commit_unless set.contains o h).hardware
+commit_port_by v now (Some code) h ok = port_none v now (commit_unless set.contains (Some code) h).hardware refl
+commit_port_by v now None h ok =
+    kept_by_turns (λ c. PortOk v now c.hardware) (commit_turn set.contains) (λ c q. commit_port set.contains v now c (commit_turn set.contains c) (commit_turn_is set.contains c) q) h.values.commit_width (record { hardware = h; steps = []; stop = None }) ok
+
+drain_grows_by : (b : Bool) (o : Option StoreAccess) (h : Hardware) → nat_le h.port_free h.cycle ≡ b → h.port_free ≤ (cond b (start_drain o (end_drain h)) h).port_free
+drain_grows_by true None h is = omega arith
+drain_grows_by true (Some access) h is = let le = leb-true h.port_free h.cycle is in omega (arith, le)
+drain_grows_by false o h is = omega arith
+
+drain_grows : (h : Hardware) → h.port_free ≤ (drain h).port_free
+drain_grows h = drain_grows_by (nat_le h.port_free h.cycle) (oldest_to_drain (end_drain h).committed) h refl
+
+-- issue
+
+-- one that begins, beside one that is over where it uses the cache
+pair_with_new : (v : Values) (now : ℕ) (a x : Mark) → Tied v now a ⊎ (WhereUsed v x (λ t. ⊥)) → OneAtATime v now a x
+pair_with_new v now a x (inl over) = (
+  used_weaker v a.instruction a.start (λ s. (s.cycle + s.cost ≤ now) × (0 < s.cost)) (λ s. s.cycle ≡ now → OverBy v now x) (λ s k at. absurd (too_long s k at)) over,
+  whenever v x (tied_over v now now a (omega arith) over),
+)
+  where
+    too_long : (s : Start) → (s.cycle + s.cost ≤ now) × (0 < s.cost) → s.cycle ≡ now → ⊥
+    too_long s k at = omega (arith, k.0, k.1, at)
+
+    whenever : (w : Values) (m : Mark) → OverBy v now a → WhereUsed v m (λ s. s.cycle ≡ now → OverBy v now a)
+    whenever w m h = by_start m.start
+      where
+        by_start : (o : Option Start) → IfSome o (λ s. uses_cache v m.instruction s ≡ true → s.cycle ≡ now → OverBy v now a)
+        by_start None = tt
+        by_start (Some s) = λ used at. h
+pair_with_new v now a x (inr none) =
+    (by_start a.start, used_weaker v x.instruction x.start (λ t. ⊥) (λ t. t.cycle ≡ now → OverBy v now a) (λ t k. absurd k) none)
+  where
+    over : OverBy v now x
+    over = used_weaker v x.instruction x.start (λ t. ⊥) (λ t. t.cycle + t.cost ≤ now) (λ t k. absurd k) none
+
+    by_start : (o : Option Start) → IfSome o (λ s. uses_cache v a.instruction s ≡ true → s.cycle ≡ now → OverBy v now x)
+    by_start None = tt
+    by_start (Some s) = λ used at. over
+
+pub turned : (v : Values) (now : ℕ) (a b : Mark) → OneAtATime v now a b → OneAtATime v now b a
+turned v now a b p = (p.1, p.0)
+
+module _ (v : Values) (legal : IsLegal v) (now : ℕ) (steps : List Step) where
+  abbrev IssuingPort : Hardware → Type 0
+  IssuingPort h = Issues v legal now Anything (anything_is_kept v now) steps h × PortOk v now h
+
+  module _ (k : Kind) (h : Hardware) (older younger : List Entry) (e : Entry) (at : h.rob.entries ≡ older ++ e ∷ younger) (ready : IsReady h k older e) (p : IssuingPort h) where
+    abbrev new_start : Start
+    new_start = start_of_issue (record { cycle = h.cycle; cost = cost_of h k (path h older e) }) (message_at h older e)
+
+    abbrev new_entry : Entry
+    new_entry = started (record { cycle = h.cycle; cost = cost_of h k (path h older e) }) (message_at h older e) e
+
+    abbrev new_port : ℕ
+    new_port = (with_access (path h older e) h).port_free
+
+    not_true : (b : Bool) → not b ≡ true → b ≡ false
+    not_true true is = absurd (cc)
+    not_true false is = refl
+
+    -- where it uses the cache, the port was idle and is busy with it
+    by_cache : uses_cache v e.instruction (new_start) ≡ true → (h.port_free ≤ h.cycle) × (h.cycle + cost_of h k (path h older e) ≤ new_port)
+    by_cache used =
+        let rest = and_second (is_load e.instruction) (not (new_start).faults && not ((new_start).cost == v.forward)) used in
+        let none = not_true (new_start).faults (and_first (not (new_start).faults) (not ((new_start).cost == v.forward)) rest) in
+        let other = not_true ((new_start).cost == v.forward) (and_second (not (new_start).faults) (not ((new_start).cost == v.forward)) rest) in
+        let goes = path_of_user v h p.0.basics.shape older (seen_behind h older e.pc) k e.instruction e.word (and_first (is_load e.instruction) (not (new_start).faults && not ((new_start).cost == v.forward)) used) none other in
+        let idle : nat_le h.port_free h.cycle ≡ true = subst (λ q. has_port h q ≡ true) goes.1 (has_its_port h older e ready.loads) in (
+          leb-true h.port_free h.cycle idle,
+          subst (λ q. h.cycle + cost_of h k q ≤ (with_access q h).port_free) (sym goes.1) (omega arith),
+        )
+
+    grows : h.port_free ≤ new_port
+    grows = port_grows h (path h older e) (has_its_port h older e ready.loads)
+
+    others : (xs : List Entry) → Each (λ z. Tied v h.port_free (mark_of_entry z)) xs → Each (λ z. OneAtATime v now (mark_of_entry z) (mark_of_entry new_entry)) xs
+    others xs tie = by_use (uses_cache v e.instruction (new_start)) refl
+      where
+        by_use : (b : Bool) → uses_cache v e.instruction (new_start) ≡ b → Each (λ z. OneAtATime v now (mark_of_entry z) (mark_of_entry new_entry)) xs
+        by_use true used =
+            Each-weaker (λ z. Tied v h.port_free (mark_of_entry z)) (λ z. OneAtATime v now (mark_of_entry z) (mark_of_entry new_entry))
+            (λ z k. pair_with_new v now (mark_of_entry z) (mark_of_entry new_entry) (inl (tied_later v h.port_free now (mark_of_entry z) (let idle = (by_cache used).0 in omega (arith, idle, p.0.basics.cycle)) k))) xs tie
+        by_use false used =
+            Each-weaker (λ z. Tied v h.port_free (mark_of_entry z)) (λ z. OneAtATime v now (mark_of_entry z) (mark_of_entry new_entry))
+            (λ z k. pair_with_new v now (mark_of_entry z) (mark_of_entry new_entry) (inr (λ is. absurd (true≢false (sym is ∙ used))))) xs tie
+
+    pub started_port : PortOk v now (issued k h older e)
+    started_port =
+        let tie = subst (Each (λ z. Tied v h.port_free (mark_of_entry z))) at p.1.tie in
+        let pairs = subst (EveryPair (λ a b. OneAtATime v now (mark_of_entry a) (mark_of_entry b))) at p.1.pairs in
+        let olders = Each-left (λ z. Tied v h.port_free (mark_of_entry z)) older (e ∷ younger) tie in
+        let youngers = (Each-right (λ z. Tied v h.port_free (mark_of_entry z)) older (e ∷ younger) tie).1 in
+        let right = EveryPair-right (λ a b. OneAtATime v now (mark_of_entry a) (mark_of_entry b)) older (e ∷ younger) pairs in
+        record {
+          tie = rw (started_entries k h older younger e at)
+              (Each-set (λ z. Tied v new_port (mark_of_entry z)) older younger e new_entry (λ used. ((by_cache used).1, positive_cost v legal h p.0.basics.shape k (path h older e)))
+              (Each-weaker (λ z. Tied v h.port_free (mark_of_entry z)) (λ z. Tied v new_port (mark_of_entry z)) (λ z w. tied_later v h.port_free new_port (mark_of_entry z) grows w) (older ++ e ∷ younger) tie));
+          pairs = rw (started_entries k h older younger e at)
+              (EveryPair-append (λ a b. OneAtATime v now (mark_of_entry a) (mark_of_entry b)) older (new_entry ∷ younger) (EveryPair-left (λ a b. OneAtATime v now (mark_of_entry a) (mark_of_entry b)) older (e ∷ younger) pairs)
+              (Each-weaker (λ z. OneAtATime v now (mark_of_entry z) (mark_of_entry new_entry)) (λ z. OneAtATime v now (mark_of_entry new_entry) (mark_of_entry z)) (λ z w. turned v now (mark_of_entry z) (mark_of_entry new_entry) w) younger (others younger youngers), right.1)
+              (Each-both (λ a. Each (λ b. OneAtATime v now (mark_of_entry a) (mark_of_entry b)) (e ∷ younger)) (λ a. OneAtATime v now (mark_of_entry a) (mark_of_entry new_entry)) (λ a. Each (λ b. OneAtATime v now (mark_of_entry a) (mark_of_entry b)) (new_entry ∷ younger)) (λ a w n. (n, w.1)) older
+              (EveryPair-across (λ a b. OneAtATime v now (mark_of_entry a) (mark_of_entry b)) older (e ∷ younger) pairs) (others older olders)));
+        }
+
+  issue_port : (k : Kind) (h : Hardware) (t : Turn Hardware) → IssueTurn k h t → IssuingPort h → Leads (Issues v legal now Anything (anything_is_kept v now) steps) (Issues v legal now Anything (anything_is_kept v now) steps) t → Leads IssuingPort IssuingPort t
+  issue_port k h _ (no_unit held) p goes = p
+  issue_port k h _ (none_ready none) p goes = p
+  issue_port k h _ (starts older younger e at is none free) p goes = (goes, started_port k h older younger e at (ready-parts h k older e is) p)
+
+  kind_port : (k : Kind) (h : Hardware) → IssuingPort h → IssuingPort (issue_kind k h)
+  kind_port k h p =
+      kept_by_turns IssuingPort (issue_turn k) (λ g q. issue_port k g (issue_turn k g) (issue_turn_is k g) q (issue_turn_keeps v legal now Anything (anything_is_kept v now) steps k g (issue_turn k g) (issue_turn_is k g) q.0)) (at_kind k h.values.kinds).units h p
+
+  pub issue_keeps_port : (h : Hardware) → IssuingPort h → IssuingPort (issue h)
+  issue_keeps_port h p =
+      kind_port kind.Mem (issue_kind kind.Div (issue_kind kind.Mul (issue_kind kind.Alu h)))
+      (kind_port kind.Div (issue_kind kind.Mul (issue_kind kind.Alu h)) (kind_port kind.Mul (issue_kind kind.Alu h) (kind_port kind.Alu h p)))
+
+-- broadcast and dispatch: what began stays
+
+-- a mark with the same start
+same_tied : (v : Values) (c : ℕ) (m n : Mark) → n.instruction ≡ m.instruction → n.start ≡ m.start → Tied v c m → Tied v c n
+same_tied v c m n instruction start h = rw (instruction, start) h
+
+same_first : (v : Values) (now : ℕ) (m n z : Mark) → n.instruction ≡ m.instruction → n.start ≡ m.start → OneAtATime v now m z → OneAtATime v now n z
+same_first v now m n z instruction start h = rw (instruction, start) h
+
+same_second : (v : Values) (now : ℕ) (m n z : Mark) → n.instruction ≡ m.instruction → n.start ≡ m.start → OneAtATime v now z m → OneAtATime v now z n
+same_second v now m n z instruction start h = turned v now n z (same_first v now m n z instruction start (turned v now z m h))
+
+module _ (v : Values) (now : ℕ) (g h : Hardware) (older younger : List Entry) (e x : Entry) (at : h.rob.entries ≡ older ++ e ∷ younger)
+    (instruction : (mark_of_entry x).instruction ≡ (mark_of_entry e).instruction) (start : (mark_of_entry x).start ≡ (mark_of_entry e).start) (port : g.port_free ≡ h.port_free) (ok : PortOk v now h) where
+  set_tie : Each (λ z. Tied v g.port_free (mark_of_entry z)) (older ++ x ∷ younger)
+  set_tie =
+      rw port (let tie = subst (Each (λ z. Tied v h.port_free (mark_of_entry z))) at ok.tie in
+      Each-set (λ z. Tied v h.port_free (mark_of_entry z)) older younger e x (same_tied v h.port_free (mark_of_entry e) (mark_of_entry x) instruction start (Each-place (λ z. Tied v h.port_free (mark_of_entry z)) older younger e tie)) tie)
+
+  set_pairs : EveryPair (λ a b. OneAtATime v now (mark_of_entry a) (mark_of_entry b)) (older ++ x ∷ younger)
+  set_pairs =
+      EveryPair-set (λ a b. OneAtATime v now (mark_of_entry a) (mark_of_entry b)) older younger e x
+      (λ z w. same_second v now (mark_of_entry e) (mark_of_entry x) (mark_of_entry z) instruction start w) (λ z w. same_first v now (mark_of_entry e) (mark_of_entry x) (mark_of_entry z) instruction start w)
+      (subst (EveryPair (λ a b. OneAtATime v now (mark_of_entry a) (mark_of_entry b))) at ok.pairs)
+
+  port_set : g.rob.entries ≡ older ++ x ∷ younger → PortOk v now g
+  port_set at' = record { tie = rw at' set_tie; pairs = rw at' set_pairs }
+
+  port_cut : g.rob.entries ≡ older ++ x ∷ [] → PortOk v now g
+  port_cut at' = record {
+    tie = rw at' (Each-left (λ z. Tied v g.port_free (mark_of_entry z)) (older ++ x ∷ []) younger (rw (append_assoc older (x ∷ []) younger) set_tie));
+    pairs = rw at' (EveryPair-left (λ a b. OneAtATime v now (mark_of_entry a) (mark_of_entry b)) (older ++ x ∷ []) younger (rw (append_assoc older (x ∷ []) younger) set_pairs));
+  }
+
+broadcast_port : (v : Values) (now : ℕ) (h : Hardware) (t : Turn Hardware) → BroadcastTurn h t → PortOk v now h → Leads (PortOk v now) (PortOk v now) t
+broadcast_port v now h _ (no_result none) p = p
+broadcast_port v now h _ (sends older younger e issue message sent late) p =
+    let x : Entry = finished message h.cycle e in
+    let same = finished_mark h.cycle e issue message sent.runs in
+    port_set v now (with_broadcast (h.rob.retired + length older) message h) h older younger e x sent.place refl (ap (λ (m : Mark). m.start) same) refl p (sent_entries h older younger e message sent.place)
+broadcast_port v now h _ (mends older younger e issue message sent early) p =
+    let y : Entry = predicting message.next_pc (finished message h.cycle e) in
+    let same = finished_mark h.cycle e issue message sent.runs in
+    port_cut v now (with_recovery (h.rob.retired + length older) message (with_broadcast (h.rob.retired + length older) message h)) h older younger e y sent.place refl (ap (λ (m : Mark). m.start) same) refl p (mended_entries h older younger e message sent.place)
+
+not_started : (v : Values) (m : Mark) (P : Start → Type 0) → m.start ≡ None → WhereUsed v m P
+not_started v m P none = rw none tt
+
+-- a mark that has not started makes a good pair with each
+pub new_pair : (v : Values) (now : ℕ) (a n : Mark) → n.start ≡ None → OneAtATime v now a n
+new_pair v now a n none = pair_with_new v now a n (inr (not_started v n (λ t. ⊥) none))
+
+dispatch_port : (v : Values) (now : ℕ) (d : Dispatching) (t : Turn Dispatching) → DispatchTurn d t → PortOk v now d.hardware → Leads (λ x. PortOk v now x.hardware) (λ x. PortOk v now x.hardware) t
+dispatch_port v now d _ (buffer_empty none) p = p
+dispatch_port v now d _ (waits f fs reason at why) p = p
+dispatch_port v now d _ (dispatches f fs at nothing) p =
+    let h : Hardware = d.hardware in
+    let e : Entry = entry_of_fetched h f in
+    let none = ap (λ (m : Mark). m.start) (dispatched_mark h f) in
+    record {
+      tie = Each-append (λ z. Tied v h.port_free (mark_of_entry z)) h.rob.entries (e ∷ []) p.tie (not_started v (mark_of_entry e) (λ s. (s.cycle + s.cost ≤ h.port_free) × (0 < s.cost)) none, tt);
+      pairs = EveryPair-append (λ a b. OneAtATime v now (mark_of_entry a) (mark_of_entry b)) h.rob.entries (e ∷ []) p.pairs (tt, tt)
+          (Each-all (λ a. Each (λ b. OneAtATime v now (mark_of_entry a) (mark_of_entry b)) (e ∷ [])) (λ a. (new_pair v now (mark_of_entry a) (mark_of_entry e) none, tt)) h.rob.entries);
+    }
+
+-- a cycle
+
+-- the phases of a cycle up to dispatch keep it
+pub port_in_cycle : (v : Values) (legal : IsLegal v) (earlier : List Step) (lines : Lines) (old new : Hardware) (report : Report) (R : List Mark → Type 0) → Passed v R earlier lines old report new → PortOk v old.cycle old → PortOk v old.cycle (dispatching lines old).hardware
+port_in_cycle v legal earlier lines old new report R passed ok =
+    let now : ℕ = old.cycle in
+    let all : List Step = earlier ++ report.steps in
+    let g : Hardware = with_lines lines old in
+    let c : Hardware = (committing lines old).hardware in
+    let committed = commit_port_by v now (due g.csrs g.lines) g (port_same v now g old refl (omega arith) ok) in
+    let drains = port_same v now (drain c) c (ap (λ (r : ReorderBuffer). r.entries) (drain_same c).0) (drain_grows c) committed in
+    let issues = issue_keeps_port v legal now all (drained lines old) (with_marks v now now (now + 1) now now (now + 1) R Anything all (drained lines old) tt passed.drains, drains) in
+    let sends = kept_by_turns (PortOk v now) broadcast_turn (λ h q. broadcast_port v now h (broadcast_turn h) (broadcast_turn_is h) q) (issued_all lines old).values.bus_width (issued_all lines old) issues.1 in
+    kept_by_turns (λ d. PortOk v now d.hardware) dispatch_turn (λ d q. dispatch_port v now d (dispatch_turn d) (dispatch_turn_is d) q) (sent_all lines old).values.dispatch_width (record { hardware = sent_all lines old; dispatched = 0; waits_for = None }) sends

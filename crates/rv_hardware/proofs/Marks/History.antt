@@ -1,0 +1,240 @@
+-- A cycle passes through its phases, and a history is all cycles since the reset with all their steps.
+use Rattle.rv_hardware.proofs.Words.{◌≡◌, ℕ, suc, ◌+◌, ◌-◌, ◌<◌, ◌≤◌, Bool, List, [], ◌∷◌, ◌++◌, map, length, is_none, sym, refl, ap, ◌∙◌, subst, append-nil, arith, at_kind-for_each, IsLegal, at_kind, Lines, Values, Each, Pool, free_pool, Entry, Fetched, broadcast, Committing, IsCycle, any_prediction, commit_with, execute, with_lines, Dispatching, dispatch, stall_of, drain, Hardware, issue, Report, reset_hardware, Reachable, at_reset, by_cycle, rows_of, Row, Step, Each-append, Each-weaker, Each-map, count, count-append}
+use Rattle.std.specs.FinSet as set
+use Rattle.rv_hardware.proofs.Marks.Advance.{Kept}
+use Rattle.rv_hardware.proofs.Marks.Basics.{Basics}
+use Rattle.rv_hardware.proofs.Turns.Fetched.{FetchPhase, IsNew, fetch_phase}
+use Rattle.rv_hardware.proofs.Marks.List.{Mark, mark_of_row, mark_of_entry, mark_of_fetched, marks, marks_in, marks_fetched}
+use Rattle.rv_hardware.proofs.Marks.Phases.{Goes, commit_keeps, drain_keeps, issue_keeps, broadcast_keeps, dispatch_keeps, goes_later}
+use Rattle.rv_hardware.proofs.Marks.Row.{SoundRow}
+use Rattle.rv_hardware.proofs.Always.Shape.{same_shape}
+use Rattle.rv_hardware.proofs.Marks.Sound.{SoundEntry, SoundFetched}
+
+-- between two cycles
+abbrev pub Sound : Values → List Step → Hardware → Type 0
+Sound v steps h = Basics v h.cycle h.cycle h.cycle h.cycle h.cycle h.cycle steps h
+
+-- the hardware after each phase
+abbrev pub committing : Lines → Hardware → Committing
+committing lines old = commit_with set.contains lines old
+
+-- the hardware after the drain phase
+abbrev pub drained : Lines → Hardware → Hardware
+drained lines old = drain (committing lines old).hardware
+
+-- the hardware after the issue phase
+abbrev pub issued_all : Lines → Hardware → Hardware
+issued_all lines old = issue (drained lines old)
+
+-- the hardware after the broadcast phase
+abbrev pub sent_all : Lines → Hardware → Hardware
+sent_all lines old = broadcast (issued_all lines old)
+
+-- what the dispatch phase leaves
+abbrev pub dispatching : Lines → Hardware → Dispatching
+dispatching lines old = dispatch (sent_all lines old)
+
+-- what holds after each phase
+pub record Passed (v : Values) (R : List Mark → Type 0) (earlier : List Step) (lines : Lines) (old : Hardware) (report : Report) (new : Hardware) : Type 0 where
+  pub begins : Sound v earlier old
+  pub marks : R (marks_in earlier old)
+  pub committed : Goes v old.cycle old.cycle old.cycle old.cycle old.cycle (old.cycle + 1) R (earlier ++ report.steps) (committing lines old).hardware
+  pub drains : Goes v old.cycle old.cycle (old.cycle + 1) old.cycle old.cycle (old.cycle + 1) R (earlier ++ report.steps) (drained lines old)
+  pub issues : Goes v old.cycle old.cycle (old.cycle + 1) old.cycle old.cycle (old.cycle + 1) R (earlier ++ report.steps) (issued_all lines old)
+  pub sends : Goes v old.cycle old.cycle (old.cycle + 1) (old.cycle + 1) old.cycle (old.cycle + 1) R (earlier ++ report.steps) (sent_all lines old)
+  pub dispatches : Goes v old.cycle (old.cycle + 1) (old.cycle + 1) (old.cycle + 1) old.cycle (old.cycle + 1) R (earlier ++ report.steps) (dispatching lines old).hardware
+  pub fetches : FetchPhase old.cycle (dispatching lines old).hardware.front new.front
+  pub others_stay : new ≡ record (dispatching lines old).hardware { front = new.front; cycle = old.cycle + 1 }
+  pub steps : report.steps ≡ (committing lines old).steps
+  pub report_is : (report.dispatched ≡ (dispatching lines old).dispatched) × (report.stall ≡ stall_of (dispatching lines old))
+  pub ends : Sound v (earlier ++ report.steps) new
+  pub new_marks : marks_in (earlier ++ report.steps) new ≡ marks_in (earlier ++ report.steps) (dispatching lines old).hardware ++ map mark_of_fetched fetches.added
+
+module _ (v : Values) (legal : IsLegal v) (R : List Mark → Type 0) (earlier : List Step) (lines : Lines) (old new : Hardware) (report : Report) (kept : Kept v old.cycle R) (begins : Sound v earlier old) (holds : R (marks_in earlier old)) where
+  -- with the cycle's lines, what held between two cycles holds before the commit phase
+  pub begin : Goes v old.cycle old.cycle old.cycle old.cycle old.cycle (old.cycle + 1) R (earlier ++ []) (with_lines lines old)
+  begin =
+      rw (append-nil earlier)
+      (goes_later v old.cycle old.cycle old.cycle old.cycle old.cycle old.cycle old.cycle old.cycle old.cycle (old.cycle + 1) R earlier (with_lines lines old) (omega arith) (omega arith) (omega arith) (omega arith) (record {
+        basics = record {
+          cycle = refl;
+          shape = same_shape v (with_lines lines old) old (record { values = refl; cache = refl; buffer = refl; room = refl; width = refl; units = λ k. refl; pipelined = λ k. refl }) begins.shape;
+          rows = begins.rows;
+          entries = begins.entries;
+          fetched = begins.fetched;
+        };
+        marks = holds;
+      }))
+
+  module _ (steps : List Step) (d : Hardware) (dispatched : Goes v old.cycle (old.cycle + 1) (old.cycle + 1) (old.cycle + 1) old.cycle (old.cycle + 1) R steps d)
+      (fetches : FetchPhase old.cycle d.front new.front) (others_stay : new ≡ record d { front = new.front; cycle = old.cycle + 1 }) where
+    ended : Basics v (old.cycle + 1) (old.cycle + 1) (old.cycle + 1) (old.cycle + 1) (old.cycle + 1) (old.cycle + 1) steps new
+    ended = record {
+      cycle = ap (λ (h : Hardware). h.cycle) others_stay;
+      shape = same_shape v new d (record {
+        values = ap (λ (h : Hardware). h.values) others_stay;
+        cache = ap (λ (h : Hardware). h.cache.values) others_stay;
+        buffer = ap (λ (h : Hardware). h.rob.capacity) others_stay;
+        room = fetches.capacity;
+        width = fetches.width;
+        units = λ k. ap (λ (h : Hardware). (at_kind k h.units).units) others_stay;
+        pipelined = λ k. ap (λ (h : Hardware). (at_kind k h.units).is_pipelined) others_stay;
+      }) dispatched.basics.shape;
+      rows = dispatched.basics.rows;
+      entries = subst (Each (SoundEntry v (old.cycle + 1) (old.cycle + 1) (old.cycle + 1))) (sym (ap (λ (h : Hardware). h.rob.entries) others_stay)) dispatched.basics.entries;
+      fetched = rw (fetches.entries) (Each-append (SoundFetched (old.cycle + 1)) d.front.entries fetches.added
+          (Each-weaker (SoundFetched old.cycle) (SoundFetched (old.cycle + 1)) (λ f w. (omega (arith, w.0), w.1)) d.front.entries dispatched.basics.fetched)
+          (Each-weaker (IsNew old.cycle) (SoundFetched (old.cycle + 1)) (λ f w. (omega (arith, w.0), w.1)) fetches.added fetches.are_new));
+    }
+
+    more_marks : marks_in steps new ≡ marks_in steps d ++ map mark_of_fetched fetches.added
+    more_marks =
+        ap (λ es. marks steps es new.front.entries) (ap (λ (h : Hardware). h.rob.entries) others_stay) ∙
+        ap (λ fs. marks steps d.rob.entries fs) fetches.entries ∙
+        marks_fetched steps d.rob.entries d.front.entries fetches.added
+
+  -- each phase of a cycle keeps what is basic and a property of marks that it may keep
+  pub cycle_passes : IsCycle any_prediction lines old report new → Passed v R earlier lines old report new
+  cycle_passes is =
+      let steps : report.steps ≡ (committing lines old).steps = ap (λ r. r.steps) is.reports ∙ ap (λ (c : Committing). c.steps) is.commits in
+      let d_is : is.dispatching ≡ dispatching lines old = is.executes ∙ ap (λ (c : Committing). execute c.hardware) is.commits in
+      let committed = subst (λ l. Goes v old.cycle old.cycle old.cycle old.cycle old.cycle (old.cycle + 1) R (earlier ++ l) (committing lines old).hardware) (sym steps)
+      (commit_keeps v old.cycle R kept earlier set.contains (with_lines lines old) begin) in
+      let drains = drain_keeps v old.cycle old.cycle (old.cycle + 1) old.cycle old.cycle (old.cycle + 1) R (earlier ++ report.steps) (committing lines old).hardware
+      (goes_later v old.cycle old.cycle old.cycle old.cycle old.cycle (old.cycle + 1) old.cycle (old.cycle + 1) old.cycle (old.cycle + 1) R (earlier ++ report.steps) (committing lines old).hardware (omega arith) (omega arith) (omega arith) (omega arith) committed) in
+      let issues = issue_keeps v legal old.cycle R kept (earlier ++ report.steps) (drained lines old) drains in
+      let sends = broadcast_keeps v old.cycle R kept (earlier ++ report.steps) (issued_all lines old)
+      (goes_later v old.cycle old.cycle (old.cycle + 1) old.cycle old.cycle (old.cycle + 1) old.cycle (old.cycle + 1) (old.cycle + 1) (old.cycle + 1) R (earlier ++ report.steps) (issued_all lines old) (omega arith) (omega arith) (omega arith) (omega arith) issues) in
+      let dispatched = dispatch_keeps v old.cycle R kept (earlier ++ report.steps) (sent_all lines old)
+      (goes_later v old.cycle old.cycle (old.cycle + 1) (old.cycle + 1) old.cycle (old.cycle + 1) (old.cycle + 1) (old.cycle + 1) (old.cycle + 1) (old.cycle + 1) R (earlier ++ report.steps) (sent_all lines old) (omega arith) (omega arith) (omega arith) (omega arith) sends) in
+      let fetches = subst (λ (d : Dispatching). FetchPhase old.cycle d.hardware.front new.front) d_is
+      (fetch_phase any_prediction is.dispatching.hardware.cache.backing old.cycle is.dispatching.hardware.front new.front is.fetch_stop is.fetches) in
+      let others_stay = subst (λ (d : Dispatching). new ≡ record d.hardware { front = new.front; cycle = old.cycle + 1 }) d_is is.others_stay in
+      let at_end = ended (earlier ++ report.steps) (dispatching lines old).hardware dispatched fetches others_stay in
+      record {
+        begins = begins;
+        marks = holds;
+        committed = committed;
+        drains = drains;
+        issues = issues;
+        sends = sends;
+        dispatches = dispatched;
+        fetches = fetches;
+        others_stay = others_stay;
+        steps = steps;
+        report_is = (ap (λ r. r.dispatched) is.reports ∙ ap (λ (d : Dispatching). d.dispatched) d_is, ap (λ r. r.stall) is.reports ∙ ap stall_of d_is);
+        ends = subst (λ n. Basics v n n n n n n (earlier ++ report.steps) new) (sym at_end.cycle) at_end;
+        new_marks = more_marks (earlier ++ report.steps) (dispatching lines old).hardware dispatched fetches others_stay;
+      }
+
+-- all cycles since the reset, with all their steps
+pub data History (v : Values) : List Step → Hardware → Type 0 where
+  began : (image : List ℕ) (start : ℕ) → IsLegal v → History v [] (reset_hardware v image start)
+  went_on : {earlier : List Step} {old new : Hardware} {lines : Lines} {report : Report} →
+      History v earlier old → IsCycle any_prediction lines old report new → History v (earlier ++ report.steps) new
+
+-- the description of every history is legal
+pub history_is_legal : (v : Values) {steps : List Step} {h : Hardware} → History v steps h → IsLegal v
+history_is_legal v (began image start legal) = legal
+history_is_legal v (went_on before is) = history_is_legal v before
+
+sound_at_reset : (v : Values) (image : List ℕ) (start : ℕ) → Sound v [] (reset_hardware v image start)
+sound_at_reset v image start = record {
+  cycle = refl;
+  shape = record { values = refl; cache = refl; buffer = refl; room = refl; width = refl; units = λ k. ap (λ (p : Pool). p.units) (at_kind-for_each free_pool v.kinds k); pipelined = λ k. ap (λ (p : Pool). p.is_pipelined) (at_kind-for_each free_pool v.kinds k) };
+  rows = tt;
+  entries = tt;
+  fetched = tt;
+}
+
+-- the property that all marks have
+abbrev pub Anything : List Mark → Type 0
+Anything ms = Unit {0}
+
+-- every cycle keeps the property that all marks have
+pub anything_is_kept : (v : Values) (now : ℕ) → Kept v now Anything
+anything_is_kept v now = record { cut = λ xs ys r. tt; set = λ xs ys m n a r. tt }
+
+-- what is basic holds in every history
+pub history_is_sound : (v : Values) {steps : List Step} {h : Hardware} → History v steps h → Sound v steps h
+history_is_sound v (began image start legal) = sound_at_reset v image start
+history_is_sound v (went_on {earlier} {old} {new} {lines} {report} before is) = (cycle_passes v (history_is_legal v before) Anything earlier lines old new report (anything_is_kept v old.cycle) (history_is_sound v before) tt is).ends
+
+-- the words that a cycle adds to some marks
+abbrev pub is_buffered_mark : Mark → Bool
+is_buffered_mark m = is_none m.dispatched
+
+-- the words of this cycle come after those of earlier cycles, within the width and the room of the fetch buffer
+pub record NewWords (v : Values) (now : ℕ) (ms : List Mark) (fs : List Fetched) : Type 0 where
+  pub by_now : Each (λ m. m.fetched < now) ms
+  pub are_new : Each (IsNew now) fs
+  pub within_width : length fs ≤ v.fetch_width
+  pub within_room : length fs ≤ v.fetch_buffer - count is_buffered_mark ms
+
+-- a property of marks that beginnings, marks that go on and new words keep
+pub record KeptMarks (v : Values) (R : ℕ → List Mark → Type 0) : Type 0 where
+  pub at_reset : R 0 []
+  pub kept : (now : ℕ) → Kept v now (R now)
+  pub more : (now : ℕ) (ms : List Mark) (fs : List Fetched) → NewWords v now ms fs → R now ms → R (now + 1) (ms ++ map mark_of_fetched fs)
+
+pub fetched_before : (v : Values) (now : ℕ) (steps : List Step) (es : List Entry) (fs : List Fetched) → Each (SoundRow v (now + 1)) (rows_of steps) → Each (SoundEntry v (now + 1) (now + 1) (now + 1)) es → Each (SoundFetched now) fs →
+    Each (λ m. m.fetched < now) (marks steps es fs)
+fetched_before v now steps es fs rows entries words =
+    Each-append (λ m. m.fetched < now) (map mark_of_row (rows_of steps)) (map mark_of_entry es ++ map mark_of_fetched fs)
+    (Each-map (λ m. m.fetched < now) mark_of_row (rows_of steps) (Each-weaker (SoundRow v (now + 1)) (λ row. row.fetched < now) (λ row w. omega (arith, w.stamps.dispatched_after_fetch, w.stamps.retired_after_dispatch, w.below)) (rows_of steps) rows))
+    (Each-append (λ m. m.fetched < now) (map mark_of_entry es) (map mark_of_fetched fs)
+    (Each-map (λ m. m.fetched < now) mark_of_entry es (Each-weaker (SoundEntry v (now + 1) (now + 1) (now + 1)) (λ e. e.fetched < now) (λ e w. omega (arith, w.after_fetch, w.by_now)) es entries))
+    (Each-map (λ m. m.fetched < now) mark_of_fetched fs (Each-weaker (SoundFetched now) (λ f. f.cycle < now) (λ f w. w.0) fs words)))
+
+rows_not_buffered : (rows : List Row) → count is_buffered_mark (map mark_of_row rows) ≡ 0
+rows_not_buffered [] = refl
+rows_not_buffered (row ∷ rows) = rows_not_buffered rows
+
+entries_not_buffered : (es : List Entry) → count is_buffered_mark (map mark_of_entry es) ≡ 0
+entries_not_buffered [] = refl
+entries_not_buffered (e ∷ es) = entries_not_buffered es
+
+words_are_buffered : (fs : List Fetched) → count is_buffered_mark (map mark_of_fetched fs) ≡ length fs
+words_are_buffered [] = refl
+words_are_buffered (f ∷ fs) = ap suc (words_are_buffered fs)
+
+-- the marks that wait for dispatch are as many as the fetch buffer's words
+pub buffered_words : (steps : List Step) (es : List Entry) (fs : List Fetched) → count is_buffered_mark (marks steps es fs) ≡ length fs
+buffered_words steps es fs =
+    let all = count-append is_buffered_mark (map mark_of_row (rows_of steps)) (map mark_of_entry es ++ map mark_of_fetched fs) in
+    let rest = count-append is_buffered_mark (map mark_of_entry es) (map mark_of_fetched fs) in
+    let a = rows_not_buffered (rows_of steps) in
+    let b = entries_not_buffered es in
+    let c = words_are_buffered fs in
+    omega (arith, all, rest, a, b, c)
+
+-- the words that a cycle fetches are new ones after the marks so far
+pub new_words : (v : Values) (R : List Mark → Type 0) (earlier : List Step) (lines : Lines) (old new : Hardware) (report : Report) (passed : Passed v R earlier lines old report new) →
+    NewWords v old.cycle (marks_in (earlier ++ report.steps) (dispatching lines old).hardware) passed.fetches.added
+new_words v R earlier lines old new report passed =
+    let d : Hardware = (dispatching lines old).hardware in
+    let b = passed.dispatches.basics in
+    let held = buffered_words (earlier ++ report.steps) d.rob.entries d.front.entries in
+    record {
+      by_now = fetched_before v old.cycle (earlier ++ report.steps) d.rob.entries d.front.entries b.rows b.entries b.fetched;
+      are_new = passed.fetches.are_new;
+      within_width = omega (arith, passed.fetches.within_width, b.shape.width);
+      within_room = omega (arith, passed.fetches.within_room, b.shape.room, held);
+    }
+
+-- a property of marks that is kept holds in every history
+pub marks_of_history : (v : Values) (R : ℕ → List Mark → Type 0) → KeptMarks v R → {steps : List Step} {h : Hardware} → History v steps h → R h.cycle (marks_in steps h)
+marks_of_history v R r (began image start legal) = r.at_reset
+marks_of_history v R r (went_on {earlier} {old} {new} {lines} {report} before is) =
+    let passed = cycle_passes v (history_is_legal v before) (R old.cycle) earlier lines old new report (r.kept old.cycle) (history_is_sound v before) (marks_of_history v R r before) is in
+    let d : Hardware = (dispatching lines old).hardware in
+    let steps : List Step = earlier ++ report.steps in
+    let next : new.cycle ≡ old.cycle + 1 = ap (λ (h : Hardware). h.cycle) passed.others_stay in
+    let words = new_words v (R old.cycle) earlier lines old new report passed in
+    rw (next, passed.new_marks) (r.more old.cycle (marks_in steps d) passed.fetches.added words passed.dispatches.marks)
+
+-- whatever is reachable has a history
+pub reachable_has_history : {h : Hardware} → Reachable h → (v : Values) × (steps : List Step) × History v steps h
+reachable_has_history (at_reset {values = values} {image = image} {start = start} legal loadable) = (values, [], began image start legal)
+reachable_has_history (by_cycle {report = report} reached counted is) =
+    let before = reachable_has_history reached in (before.0, before.1 ++ report.steps, went_on before.2 is)

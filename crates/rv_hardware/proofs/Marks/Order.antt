@@ -1,0 +1,169 @@
+-- Instructions are fetched and dispatched in order, and the reorder buffer and the stations hold no more than they have room for.
+use Rattle.rv_hardware.proofs.Words.{◌≡◌, ℕ, ◌+◌, ◌<◌, ◌≤◌, Bool, true, false, ◌&&◌, List, [], ◌∷◌, ◌++◌, map, is_some, is_none, IfSome, Some, None, Option, sym, refl, ap, ◌∙◌, subst, arith, and_left, and_right, is_of_kind, kind_of_word, at_kind, Kind, Values, Each, Fetched, Hardware, Step, and_second, never_both, Each-append, Each-left, Each-set, Each-place, Each-weaker, Each-all, Each-both, Each-map, EveryPair, count, Across, EveryPair-append, EveryPair-left, EveryPair-right, EveryPair-across, EveryPair-set, count-append, count-none, count-map, count-length, count-set-same, count-set-less, count-push-most, count-left}
+use Rattle.rv_hardware.proofs.Marks.Advance.{IsBefore, Advances, retires, starts, is_sent, enters, Enters, is_in_flight_mark, is_stationed_mark}
+use Rattle.rv_hardware.proofs.Marks.History.{NewWords, is_buffered_mark, KeptMarks, History, marks_of_history}
+use Rattle.rv_hardware.proofs.Turns.Fetched.{IsNew}
+use Rattle.rv_hardware.proofs.Marks.List.{Mark, mark_of_fetched, marks_in}
+
+-- a later instruction was dispatched no earlier
+abbrev pub IsDispatchedFirst : Mark → Mark → Type 0
+IsDispatchedFirst m n = IfSome n.dispatched (λ d. IsBefore (d + 1) m.dispatched)
+
+abbrev pub DispatchedBy : ℕ → Mark → Type 0
+DispatchedBy now m = IfSome m.dispatched (λ d. d ≤ now)
+
+pub record Orderly (v : Values) (now : ℕ) (ms : List Mark) : Type 0 where
+  pub fetched : EveryPair (λ m n. m.fetched ≤ n.fetched) ms
+  pub dispatched : EveryPair IsDispatchedFirst ms
+  pub by_now : Each (DispatchedBy now) ms
+  pub buffer : count is_in_flight_mark ms ≤ v.rob
+  pub words : count is_buffered_mark ms ≤ v.fetch_buffer
+  pub stations : (k : Kind) → count (is_stationed_mark k) ms ≤ (at_kind k v.kinds).stations
+
+module _ (v : Values) (now : ℕ) (xs ys : List Mark) (m n : Mark) where
+  -- where its dispatch stays
+  stays : n.fetched ≡ m.fetched → n.dispatched ≡ m.dispatched → (is_in_flight_mark n ≡ true → is_in_flight_mark m ≡ true) → ((k : Kind) → is_stationed_mark k n ≡ true → is_stationed_mark k m ≡ true) →
+      Orderly v now (xs ++ m ∷ ys) → Orderly v now (xs ++ n ∷ ys)
+  stays fetched dispatched flight station o = record {
+    fetched = EveryPair-set (λ x y. x.fetched ≤ y.fetched) xs ys m n (λ z w. omega (arith, w, fetched)) (λ z w. omega (arith, w, fetched)) o.fetched;
+    dispatched = EveryPair-set IsDispatchedFirst xs ys m n (λ z w. subst (λ x. IfSome x (λ d. IsBefore (d + 1) z.dispatched)) (sym dispatched) w) (λ z w. subst (λ x. IfSome z.dispatched (λ d. IsBefore (d + 1) x)) (sym dispatched) w) o.dispatched;
+    by_now = Each-set (DispatchedBy now) xs ys m n (subst (λ x. IfSome x (λ d. d ≤ now)) (sym dispatched) (Each-place (DispatchedBy now) xs ys m o.by_now)) o.by_now;
+    buffer = fewer is_in_flight_mark flight v.rob o.buffer;
+    words = fewer is_buffered_mark (λ h. rw (dispatched) at h) v.fetch_buffer o.words;
+    stations = λ k. fewer (is_stationed_mark k) (station k) (at_kind k v.kinds).stations (o.stations k);
+  } where
+    by_test : (p : Mark → Bool) (b : Bool) → p n ≡ b → (p n ≡ true → p m ≡ true) → count p (xs ++ n ∷ ys) ≤ count p (xs ++ m ∷ ys)
+    by_test p true is f = let same = count-set-same p xs ys m n (f is ∙ sym is) in omega (arith, same)
+    by_test p false is f = count-set-less p xs ys m n is
+
+    fewer : (p : Mark → Bool) → (p n ≡ true → p m ≡ true) → (bound : ℕ) → count p (xs ++ m ∷ ys) ≤ bound → count p (xs ++ n ∷ ys) ≤ bound
+    fewer p f bound le = let less = by_test p (p n) refl f in omega (arith, less)
+
+  -- where it is dispatched, what is younger is not
+  none_before : (o : Option ℕ) → IfSome o (λ d. ⊥) → o ≡ None
+  none_before None h = refl
+  none_before (Some d) h = absurd h
+
+  some_before : (o : Option ℕ) → is_some o ≡ true → IfSome o (λ d. d ≤ now) → IsBefore (now + 1) o
+  some_before None is le = absurd (cc)
+  some_before (Some d) is le = omega (arith, le)
+
+  module _ (a : Enters v now xs m n) (o : Orderly v now (xs ++ m ∷ ys)) where
+    pairs : EveryPair IsDispatchedFirst (m ∷ ys)
+    pairs = EveryPair-right IsDispatchedFirst xs (m ∷ ys) o.dispatched
+
+    across : Across IsDispatchedFirst xs (m ∷ ys)
+    across = EveryPair-across IsDispatchedFirst xs (m ∷ ys) o.dispatched
+
+    younger : Each (λ y. y.dispatched ≡ None) ys
+    younger = Each-weaker (IsDispatchedFirst m) (λ y. y.dispatched ≡ None) (λ y w. none_before y.dispatched (subst (λ x. IfSome y.dispatched (λ d. IsBefore (d + 1) x)) a.not_yet w)) ys (pairs).0
+
+    n_dispatched : n.dispatched ≡ Some now
+    n_dispatched = ap (λ x. x.dispatched) a.becomes
+
+    olders : Each (λ x. IsBefore (now + 1) x.dispatched) xs
+    olders = Each-both (λ x. is_some x.dispatched ≡ true) (DispatchedBy now) (λ x. IsBefore (now + 1) x.dispatched) (λ x is le. some_before x.dispatched is le) xs a.in_order (Each-left (DispatchedBy now) xs (m ∷ ys) o.by_now)
+
+    entered_pairs : EveryPair IsDispatchedFirst (xs ++ n ∷ ys)
+    entered_pairs =
+        EveryPair-append IsDispatchedFirst xs (n ∷ ys) (EveryPair-left IsDispatchedFirst xs (m ∷ ys) o.dispatched)
+        (Each-weaker (λ y. y.dispatched ≡ None) (IsDispatchedFirst n) (λ y none. rw none tt) ys younger, (pairs).1)
+        (Each-both (λ x. Each (IsDispatchedFirst x) (m ∷ ys)) (λ x. IsBefore (now + 1) x.dispatched) (λ x. Each (IsDispatchedFirst x) (n ∷ ys)) (λ x w b. (rw n_dispatched b, w.1)) xs across olders)
+
+    not_in_flight : count is_in_flight_mark ys ≡ 0
+    not_in_flight = count-none is_in_flight_mark ys (Each-weaker (λ y. y.dispatched ≡ None) (λ y. is_in_flight_mark y ≡ false) (λ y none. rw none refl) ys younger)
+
+    not_stationed : (k : Kind) → count (is_stationed_mark k) ys ≡ 0
+    not_stationed k = count-none (is_stationed_mark k) ys (Each-weaker (λ y. y.dispatched ≡ None) (λ y. is_stationed_mark k y ≡ false) (λ y none. rw none (and_right (is_of_kind k (kind_of_word y.instruction)) false refl)) ys younger)
+
+    station_by : (k : Kind) (b : Bool) → is_of_kind k (kind_of_word m.instruction) ≡ b → count (is_stationed_mark k) (xs ++ n ∷ ys) ≤ (at_kind k v.kinds).stations
+    station_by k true is =
+        let more = count-push-most (is_stationed_mark k) xs ys n in
+        omega (arith, more, not_stationed k, a.stations k is)
+    station_by k false is =
+        let less = count-set-less (is_stationed_mark k) xs ys m n (and_left (is_of_kind k (kind_of_word n.instruction)) (is_some n.dispatched && is_none n.start) (ap (λ x. is_of_kind k (kind_of_word x.instruction)) a.becomes ∙ is)) in
+        omega (arith, less, o.stations k)
+
+    entered : Orderly v now (xs ++ n ∷ ys)
+    entered =
+        let same : n.fetched ≡ m.fetched = ap (λ x. x.fetched) a.becomes in
+        let more = count-push-most is_in_flight_mark xs ys n in
+        record {
+          fetched = EveryPair-set (λ x y. x.fetched ≤ y.fetched) xs ys m n (λ z w. omega (arith, w, same)) (λ z w. omega (arith, w, same)) o.fetched;
+          dispatched = entered_pairs;
+          by_now = Each-set (DispatchedBy now) xs ys m n (subst (λ x. IfSome x (λ d. d ≤ now)) (sym n_dispatched) (omega arith)) o.by_now;
+          buffer = omega (arith, more, not_in_flight, a.room);
+          words = let less = count-set-less is_buffered_mark xs ys m n (ap is_none n_dispatched) in omega (arith, less, o.words);
+          stations = λ k. station_by k (is_of_kind k (kind_of_word m.instruction)) refl;
+        }
+
+orderly_set : (v : Values) (now : ℕ) (xs ys : List Mark) (m n : Mark) → Advances v now xs m n → Orderly v now (xs ++ m ∷ ys) → Orderly v now (xs ++ n ∷ ys)
+orderly_set v now xs ys m n (retires a) o =
+    stays v now xs ys m n (ap (λ x. x.fetched) a.becomes) (ap (λ x. x.dispatched) a.becomes)
+    (λ h. never_both (is_some m.dispatched) (rw (a.becomes) at h)) (λ k h. rw (a.becomes) at h) o
+orderly_set v now xs ys m n (starts a) o =
+    stays v now xs ys m n (ap (λ x. x.fetched) a.becomes) (ap (λ x. x.dispatched) a.becomes)
+    (λ h. rw (a.becomes) at h) (λ k h. absurd (started k (rw (a.becomes) at h))) o
+  where
+    started : (k : Kind) → (is_of_kind k (kind_of_word m.instruction) && (is_some m.dispatched && false)) ≡ true → ⊥
+    started k h = never_both (is_some m.dispatched) (and_second (is_of_kind k (kind_of_word m.instruction)) (is_some m.dispatched && false) h)
+orderly_set v now xs ys m n (is_sent a) o =
+    stays v now xs ys m n (ap (λ x. x.fetched) a.becomes) (ap (λ x. x.dispatched) a.becomes) (λ h. rw (a.becomes) at h) (λ k h. rw (a.becomes) at h) o
+orderly_set v now xs ys m n (enters a) o = entered v now xs ys m n a o
+
+orderly_cut : (v : Values) (now : ℕ) (xs ys : List Mark) → Orderly v now (xs ++ ys) → Orderly v now xs
+orderly_cut v now xs ys o = record {
+  fetched = EveryPair-left (λ x y. x.fetched ≤ y.fetched) xs ys o.fetched;
+  dispatched = EveryPair-left IsDispatchedFirst xs ys o.dispatched;
+  by_now = Each-left (DispatchedBy now) xs ys o.by_now;
+  buffer = let less = count-left is_in_flight_mark xs ys in omega (arith, less, o.buffer);
+  words = let less = count-left is_buffered_mark xs ys in omega (arith, less, o.words);
+  stations = λ k. let less = count-left (is_stationed_mark k) xs ys in omega (arith, less, o.stations k);
+}
+
+not_there : (p : Mark → Bool) (ms : List Mark) (fs : List Fetched) → ((f : Fetched) → p (mark_of_fetched f) ≡ false) → count p (ms ++ map mark_of_fetched fs) ≡ count p ms
+not_there p ms fs none =
+    let all = count-append p ms (map mark_of_fetched fs) in
+    let zero_more = count-map p mark_of_fetched fs ∙ count-none (λ f. p (mark_of_fetched f)) fs (Each-all (λ f. p (mark_of_fetched f) ≡ false) none fs) in
+    omega (arith, all, zero_more)
+
+new_in_order : (now : ℕ) (fs : List Fetched) → Each (IsNew now) fs → EveryPair (λ x y. x.fetched ≤ y.fetched) (map mark_of_fetched fs)
+new_in_order now [] are = tt
+new_in_order now (f ∷ fs) are =
+    (Each-map (λ y. f.cycle ≤ y.fetched) mark_of_fetched fs (Each-weaker (IsNew now) (λ g. f.cycle ≤ g.cycle) (λ g w. omega (arith, w.0, are.0.0)) fs are.1), new_in_order now fs are.1)
+
+none_dispatched : (fs : List Fetched) → EveryPair IsDispatchedFirst (map mark_of_fetched fs)
+none_dispatched [] = tt
+none_dispatched (f ∷ fs) = (Each-map (IsDispatchedFirst (mark_of_fetched f)) mark_of_fetched fs (Each-all (λ g. IsDispatchedFirst (mark_of_fetched f) (mark_of_fetched g)) (λ g. tt) fs), none_dispatched fs)
+
+orderly_more : (v : Values) (now : ℕ) (ms : List Mark) (fs : List Fetched) → NewWords v now ms fs → Orderly v now ms → Orderly v (now + 1) (ms ++ map mark_of_fetched fs)
+orderly_more v now ms fs words o = record {
+  fetched = EveryPair-append (λ x y. x.fetched ≤ y.fetched) ms (map mark_of_fetched fs) o.fetched (new_in_order now fs words.are_new)
+      (Each-weaker (λ m. m.fetched < now) (λ m. Each (λ y. m.fetched ≤ y.fetched) (map mark_of_fetched fs)) (λ m le. Each-map (λ y. m.fetched ≤ y.fetched) mark_of_fetched fs (Each-weaker (IsNew now) (λ g. m.fetched ≤ g.cycle) (λ g w. omega (arith, w.0, le)) fs words.are_new)) ms words.by_now);
+  dispatched = EveryPair-append IsDispatchedFirst ms (map mark_of_fetched fs) o.dispatched (none_dispatched fs)
+      (Each-all (λ m. Each (IsDispatchedFirst m) (map mark_of_fetched fs)) (λ m. Each-map (IsDispatchedFirst m) mark_of_fetched fs (Each-all (λ g. IsDispatchedFirst m (mark_of_fetched g)) (λ g. tt) fs)) ms);
+  by_now = Each-append (DispatchedBy (now + 1)) ms (map mark_of_fetched fs)
+      (Each-weaker (DispatchedBy now) (DispatchedBy (now + 1)) (λ m w. later m.dispatched w) ms o.by_now)
+      (Each-map (DispatchedBy (now + 1)) mark_of_fetched fs (Each-all (λ f. DispatchedBy (now + 1) (mark_of_fetched f)) (λ f. tt) fs));
+  buffer = let same = not_there is_in_flight_mark ms fs (λ f. refl) in omega (arith, same, o.buffer);
+  words =
+      let all = count-append is_buffered_mark ms (map mark_of_fetched fs) in
+      let more = count-map is_buffered_mark mark_of_fetched fs in
+      let most = count-length (λ f. is_buffered_mark (mark_of_fetched f)) fs in
+      omega (arith, all, more, most, words.within_room, o.words);
+  stations = λ k. let same = not_there (is_stationed_mark k) ms fs (λ f. and_right (is_of_kind k (kind_of_word f.instruction)) false refl) in omega (arith, same, o.stations k);
+} where
+  later : (x : Option ℕ) → IfSome x (λ d. d ≤ now) → IfSome x (λ d. d ≤ now + 1)
+  later None h = tt
+  later (Some d) h = omega (arith, h)
+
+pub orderly_is_kept : (v : Values) → KeptMarks v (Orderly v)
+orderly_is_kept v = record {
+  at_reset = record { fetched = tt; dispatched = tt; by_now = tt; buffer = omega arith; words = omega arith; stations = λ k. omega arith };
+  kept = λ now. record { cut = orderly_cut v now; set = orderly_set v now };
+  more = orderly_more v;
+}
+
+-- in every history marks are in order and within the room
+pub history_is_orderly : (v : Values) {steps : List Step} {h : Hardware} → History v steps h → Orderly v h.cycle (marks_in steps h)
+history_is_orderly v history = marks_of_history v (Orderly v) (orderly_is_kept v) history

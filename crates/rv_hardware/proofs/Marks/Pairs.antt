@@ -1,0 +1,66 @@
+-- A relation of each two marks gives one of each two rows, and the rows before a row are sound.
+use Rattle.rv_hardware.proofs.Words.{◌≡◌, ℕ, ◌≤◌, true, List, [], ◌∷◌, ◌++◌, map, Some, None, Option, refl, is_serialising, is_target, kind_of_word, target_of_word, Instr, Csr, FenceI, Mret, Values, Each, Hardware, instruction_of_row, rows_of, Row, Step, Interrupt, Retired, Trap, Each-append, Each-both, EveryPair, EveryBehind, EveryPair-left, EveryPair-weaker, EveryPair-unmap, EveryBehind-left, EveryBehind-unmap, EveryBehind-EveryPair}
+use Rattle.rv_hardware.proofs.Marks.History.{History, history_is_sound}
+use Rattle.rv_hardware.proofs.Marks.List.{Mark, marks_in, mark_of_row, mark_of_entry, mark_of_fetched}
+use Rattle.rv_hardware.proofs.Laws.Operands.Known.{StartsBehind, history_starts_behind}
+use Rattle.rv_hardware.proofs.Marks.Row.{SoundRow}
+use Rattle.rv_hardware.proofs.Laws.StepsInOrder.Steps.{InOrder, history_has_steps}
+
+-- pairs of marks give pairs of rows
+pub row_pairs : (R : Mark → Mark → Type 0) (Q : Row → Row → Type 0) → ((a b : Row) → R (mark_of_row a) (mark_of_row b) → Q a b) → (steps : List Step) (h : Hardware) → EveryPair R (marks_in steps h) → EveryPair Q (rows_of steps)
+row_pairs R Q f steps h pairs =
+    EveryPair-weaker (λ a b. R (mark_of_row a) (mark_of_row b)) Q f (rows_of steps)
+    (EveryPair-unmap R mark_of_row (rows_of steps) (EveryPair-left R (map mark_of_row (rows_of steps)) (map mark_of_entry h.rob.entries ++ map mark_of_fetched h.front.entries) pairs))
+
+-- rows that start after others
+pub rows_start_behind : (v : Values) {steps : List Step} {h : Hardware} → History v steps h → EveryBehind (λ before row. StartsBehind (map mark_of_row before) (mark_of_row row)) [] (rows_of steps)
+rows_start_behind v {steps} {h} history =
+    EveryBehind-unmap StartsBehind mark_of_row [] (rows_of steps)
+    (EveryBehind-left StartsBehind [] (map mark_of_row (rows_of steps)) (map mark_of_entry h.rob.entries ++ map mark_of_fetched h.front.entries) (history_starts_behind v history))
+
+-- an instruction that writes a register and uses no unit serialises
+pub writer_serialises : (register : ℕ) (i : Option Instr) → kind_of_word i ≡ None → is_target register (target_of_word i) ≡ true → is_serialising i ≡ true
+writer_serialises register None kind writes = absurd (cc)
+writer_serialises register (Some FenceI) kind writes = refl
+writer_serialises register (Some (Csr op rd csr source)) kind writes = refl
+writer_serialises register (Some Mret) kind writes = refl
+writer_serialises register i kind writes = absurd (cc)
+
+-- what is known of a row that is older than another
+pub record Older (v : Values) (bound : ℕ) (row a : Row) : Type 0 where
+  pub sound : SoundRow v bound a
+  pub serial : is_serialising (instruction_of_row a) ≡ true → a.retired ≤ row.fetched
+
+-- pairs of steps give pairs of rows
+abbrev SerialFirst : Row → Row → Type 0
+SerialFirst a b = is_serialising (instruction_of_row a) ≡ true → a.retired ≤ b.fetched
+
+rows_after : (a : Row) (steps : List Step) → Each (InOrder (Retired a)) steps → Each (SerialFirst a) (rows_of steps)
+rows_after a [] h = tt
+rows_after a (Retired row ∷ steps) h = (h.0.anew, rows_after a steps h.1)
+rows_after a (Trap pc cause value cycle ∷ steps) h = rows_after a steps h.1
+rows_after a (Interrupt pc cause cycle ∷ steps) h = rows_after a steps h.1
+
+rows_in_pairs : (steps : List Step) → EveryPair InOrder steps → EveryPair SerialFirst (rows_of steps)
+rows_in_pairs [] h = tt
+rows_in_pairs (Retired row ∷ steps) h = (rows_after row steps h.0, rows_in_pairs steps h.1)
+rows_in_pairs (Trap pc cause value cycle ∷ steps) h = rows_in_pairs steps h.1
+rows_in_pairs (Interrupt pc cause cycle ∷ steps) h = rows_in_pairs steps h.1
+
+-- each row after those that are older, which are sound
+every_before : {X : Type 0} (P : X → Type 0) (before xs : List X) → Each P before → Each P xs → EveryBehind (λ b x. Each P b) before xs
+every_before P before [] h g = tt
+every_before P before (x ∷ xs) h g = (h, every_before P (before ++ x ∷ []) xs (Each-append P before (x ∷ []) h (g.0, tt)) g.1)
+
+-- what follows from two facts of each element behind others holds of each
+pub two_behind : {X : Type 0} (P Q R : List X → X → Type 0) → ((b : List X) (x : X) → P b x → Q b x → R b x) → (before xs : List X) → EveryBehind P before xs → EveryBehind Q before xs → EveryBehind R before xs
+two_behind P Q R f before [] h g = tt
+two_behind P Q R f before (x ∷ xs) h g = (f before x h.0 g.0, two_behind P Q R f (before ++ x ∷ []) xs h.1 g.1)
+
+-- in every history what is known of older rows holds of all before a row
+pub rows_are_older : (v : Values) {steps : List Step} {h : Hardware} → History v steps h → EveryBehind (λ before row. Each (Older v h.cycle row) before) [] (rows_of steps)
+rows_are_older v {steps} {h} history =
+    two_behind (λ before row. Each (SoundRow v h.cycle) before) (λ before row. Each (λ a. SerialFirst a row) before) (λ before row. Each (Older v h.cycle row) before)
+    (λ before row sounds serials. Each-both (SoundRow v h.cycle) (λ a. SerialFirst a row) (Older v h.cycle row) (λ a s t. record { sound = s; serial = t }) before sounds serials) [] (rows_of steps)
+    (every_before (SoundRow v h.cycle) [] (rows_of steps) tt (history_is_sound v history).rows)
+    (EveryBehind-EveryPair SerialFirst [] (rows_of steps) tt (rows_in_pairs steps (history_has_steps v history).pairs))

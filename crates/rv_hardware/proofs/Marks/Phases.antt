@@ -1,0 +1,439 @@
+-- Every phase keeps what is basic, turn by turn, and its marks go on.
+use Rattle.rv_hardware.proofs.Words.{◌≡◌, ℕ, ◌+◌, ◌<◌, ◌≤◌, Bool, true, false, cond, not, ◌&&◌, ◌||◌, List, [], ◌∷◌, ◌++◌, map, length, nat_le, Some, None, filter, Option, nat_cmp, sym, refl, ap, ◌∙◌, subst, append_assoc, append-nil, arith, leb-false, list_all, IsLegal, is_load, is_of_kind, is_serialising, kind_of_word, sources_of_word, at_kind, Message, StoreAccess, Issue, Kind, PerKind, Values, due, interrupt_cause, Each, oldest_to_drain, is_known as is_known_store, Pool, finished, predicting, started, Entry, Fetched, broadcast, broadcast_turn, has_result, with_broadcast, with_recovery, Committing, commit, commit_turn, commit_unless, with_fault, Dispatching, dispatch, dispatch_turn, entry_of_fetched, has_full_stations, is_stationed, with_dispatched, drain, end_drain, start_drain, Hardware, cost_of, has_port, is_ready, issue, issue_kind, issue_turn, issued, may_load, path, with_access, Turn, written_of, stores_behind, rows_of, Step, Interrupt, Retired, Trap, Each-append, Each-left, Each-set, Each-place, Each-weaker, EveryBehind, Leads, kept_by_turns}
+use Rattle.std.specs.FinSet as set
+use Rattle.rv_isa.specs.declared.operations.Kind.TheVariants as kind
+use Rattle.rv_hardware.proofs.Turns.KeptByIssue.{ready-parts}
+use Rattle.rv_hardware.proofs.Marks.Advance.{Advances, Starts, IsSent, retires as a_retires, starts as a_starts, is_sent as a_is_sent, enters as a_enters, Kept}
+use Rattle.rv_hardware.proofs.Marks.Evidence.{operands_known, stores_known, none_waits, rows_and_entries_are_dispatched, in_flight_room, stations_room}
+use Rattle.rv_hardware.proofs.Marks.Basics.{Basics, started_sound, finished_sound, finished_mark, predicting_sound, dispatched_sound, dispatched_mark, is_waiting_is}
+use Rattle.rv_hardware.proofs.Turns.Broadcast.{BroadcastTurn, none_ready as no_result, sends, mends, broadcast_turn_is, Sends, sent_entries, mended_entries}
+use Rattle.rv_hardware.proofs.Turns.Commit.{CommitTurn, no_head, stale_head, unfinished, fence_waits, fence_writes, fence_retires, executes, serial_faults, traps, retires, retires_last, executed, written_back, retired_with, retired_and_flushed, commit_turn_is}
+use Rattle.rv_hardware.proofs.Turns.Dispatch.{DispatchTurn, buffer_empty, waits, dispatches, dispatch_turn_is}
+use Rattle.rv_hardware.proofs.Turns.Issue.{IssueTurn, no_unit, none_ready, starts, issue_turn_is, access_keeps, message_at, started_entries}
+use Rattle.rv_hardware.proofs.Marks.List.{Mark, start_of_issue, start_of_stage, broadcast_of_stage, mark_of_row, mark_of_entry, mark_of_fetched, marks, marks_in, marks_squashed, rows_append, marks_at_entry, marks_retired, marks_dispatched}
+use Rattle.rv_hardware.proofs.Marks.Row.{SoundRow, row_at, row_is_sound, row_advances, may_retire_serial, may_retire_finished, MayRetire}
+use Rattle.rv_hardware.proofs.Always.Shape.{HasShape, SameShape, same_shape, head_retired_capacity, head_retired_entries, pool_units, pool_pipelined}
+use Rattle.rv_hardware.proofs.Marks.Sound.{SoundCost, SoundEntry, SoundFetched, sound_later, is_of_kind_is, issued_cost, positive_cost}
+
+-- what is basic holds, and something of the marks that beginnings keep and marks that go on
+pub record Goes (v : Values) (now dispatch_bound issue_bound stage_bound fetch_bound row_bound : ℕ) (R : List Mark → Type 0) (steps : List Step) (h : Hardware) : Type 0 where
+  pub basics : Basics v now dispatch_bound issue_bound stage_bound fetch_bound row_bound steps h
+  pub marks : R (marks_in steps h)
+
+-- what goes on from marks to later ones
+marks_from : (R : List Mark → Type 0) (steps further : List Step) (g h : Hardware) (es : List Entry) (fs : List Fetched) → g.rob.entries ≡ es → g.front.entries ≡ fs →
+    R (marks_in steps h) → (R (marks_in steps h) → R (marks further es fs)) → R (marks_in further g)
+marks_from R steps further g h es fs at at' went goes = rw (at, at') (goes went)
+
+module _ (v : Values) (now : ℕ) (R : List Mark → Type 0) (kept : Kept v now R) (earlier : List Step) (is_stale : set.FinSet nat_cmp → ℕ → Bool) where
+  -- what holds in the commit phase
+  abbrev pub Commits : Committing → Type 0
+  Commits c = Goes v now now now now now (now + 1) R (earlier ++ c.steps) c.hardware
+
+  push : (c : Committing) (s : Step) → earlier ++ (c.steps ++ s ∷ []) ≡ (earlier ++ c.steps) ++ s ∷ []
+  push c s = sym (append_assoc earlier c.steps (s ∷ []))
+
+  -- everything is flushed after a step
+  flush : (c : Committing) (g : Hardware) (s : Step) → Commits c → SameShape g c.hardware → g.cycle ≡ c.hardware.cycle → g.rob.entries ≡ [] → g.front.entries ≡ [] →
+      Each (SoundRow v (now + 1)) (rows_of (s ∷ [])) → (R (marks_in (earlier ++ c.steps) c.hardware) → R (marks ((earlier ++ c.steps) ++ s ∷ []) [] [])) →
+      Goes v now now now now now (now + 1) R (earlier ++ (c.steps ++ s ∷ [])) g
+  flush c g s p shape cycle none none' row goes =
+      rw (push c s) (record {
+        basics = record {
+          cycle = cycle ∙ p.basics.cycle;
+          shape = same_shape v g c.hardware shape p.basics.shape;
+          rows = rw (rows_append (earlier ++ c.steps) (s ∷ [])) (Each-append (SoundRow v (now + 1)) (rows_of (earlier ++ c.steps)) (rows_of (s ∷ [])) p.basics.rows row);
+          entries = rw none tt;
+          fetched = rw none' tt;
+        };
+        marks = marks_from R (earlier ++ c.steps) ((earlier ++ c.steps) ++ s ∷ []) g c.hardware [] [] none none' p.marks goes;
+      })
+
+  squash_marks : (steps : List Step) (older younger : List Entry) (fs : List Fetched) → R (marks steps (older ++ younger) fs) → R (marks steps older [])
+  squash_marks steps older younger fs r =
+      let left = marks_squashed steps older younger fs in kept.cut (marks steps older []) left.0 (subst R left.1 r)
+
+  flush_marks : (steps further : List Step) (es : List Entry) (fs : List Fetched) → rows_of further ≡ rows_of steps → R (marks steps es fs) → R (marks further [] [])
+  flush_marks steps further es fs same r = rw same (squash_marks steps [] es fs r)
+
+  -- a trap or an interrupt has no row
+  no_row : (c : Committing) (s : Step) → rows_of (s ∷ []) ≡ [] → R (marks_in (earlier ++ c.steps) c.hardware) → R (marks ((earlier ++ c.steps) ++ s ∷ []) [] [])
+  no_row c s none =
+      flush_marks (earlier ++ c.steps) ((earlier ++ c.steps) ++ s ∷ []) c.hardware.rob.entries c.hardware.front.entries
+      (rows_append (earlier ++ c.steps) (s ∷ []) ∙ ap (λ l. rows_of (earlier ++ c.steps) ++ l) none ∙ append-nil (rows_of (earlier ++ c.steps)))
+
+  module _ (c : Committing) (e : Entry) (es : List Entry) (written : Option (ℕ × ℕ)) (place : c.hardware.rob.entries ≡ e ∷ es) (may : MayRetire e.instruction e.stage) (p : Commits c) where
+    head_sound : SoundEntry v now now now e
+    head_sound = (subst (Each (SoundEntry v now now now)) place p.basics.entries).0
+
+    row_sound : SoundRow v (now + 1) (row_at e written c.hardware.cycle)
+    row_sound = rw (p.basics.cycle) (row_is_sound v now e written head_sound may)
+
+    -- the head's mark becomes that of its row
+    row_goes : R (marks_in (earlier ++ c.steps) c.hardware) → R (marks ((earlier ++ c.steps) ++ Retired (row_at e written c.hardware.cycle) ∷ []) es c.hardware.front.entries)
+    row_goes =
+        rw (place, p.basics.cycle, marks_retired (earlier ++ c.steps) (row_at e written now) es c.hardware.front.entries)
+        (kept.set (map mark_of_row (rows_of (earlier ++ c.steps))) (map mark_of_entry es ++ map mark_of_fetched c.hardware.front.entries) (mark_of_entry e) (mark_of_row (row_at e written now))
+        (a_retires (row_advances v now e written head_sound may)))
+
+    row_flushes : R (marks_in (earlier ++ c.steps) c.hardware) → R (marks ((earlier ++ c.steps) ++ Retired (row_at e written c.hardware.cycle) ∷ []) [] [])
+    row_flushes r = squash_marks ((earlier ++ c.steps) ++ Retired (row_at e written c.hardware.cycle) ∷ []) [] es c.hardware.front.entries (row_goes r)
+
+  flushed_shape : (c : Committing) (g : Hardware) → g.values ≡ c.hardware.values → g.cache.values ≡ c.hardware.cache.values → g.rob.capacity ≡ c.hardware.rob.capacity →
+      g.front.capacity ≡ c.hardware.front.capacity → g.front.width ≡ c.hardware.front.width → g.units ≡ c.hardware.units → SameShape g c.hardware
+  flushed_shape c g values cache buffer room width units = record { values = values; cache = cache; buffer = buffer; room = room; width = width; units = λ k i. (at_kind k (units i)).units; pipelined = λ k i. (at_kind k (units i)).is_pipelined }
+
+  -- each turn of the commit phase keeps it
+  pub commit_turn_keeps : (c : Committing) (t : Turn Committing) → CommitTurn is_stale c t → Commits c → Leads Commits Commits t
+  commit_turn_keeps c _ (no_head none) p = p
+  commit_turn_keeps c _ (stale_head e es at is) p = p
+  commit_turn_keeps c _ (unfinished e es head plain none) p = p
+  commit_turn_keeps c _ (fence_waits e es head is) p = p
+  commit_turn_keeps c _ (fence_writes e es head is drained) p = record {
+    basics = record {
+      cycle = p.basics.cycle;
+      shape = same_shape v (written_back c).hardware c.hardware (flushed_shape c (written_back c).hardware refl refl refl refl refl refl) p.basics.shape;
+      rows = p.basics.rows;
+      entries = p.basics.entries;
+      fetched = p.basics.fetched;
+    };
+    marks = p.marks;
+  }
+  commit_turn_keeps c _ (fence_retires e es written next head is drained) p =
+      let may = may_retire_serial e.instruction e.stage (ap is_serialising is) in
+      flush c (executed e written next (written_back c)).hardware (Retired (row_at e written c.hardware.cycle)) p
+      (flushed_shape c (executed e written next (written_back c)).hardware refl refl (head_retired_capacity c.hardware.rob) refl refl refl) refl refl refl (row_sound c e es written head.place may p, tt)
+      (row_flushes c e es written head.place may p)
+  commit_turn_keeps c _ (executes e es written next head serial) p =
+      let may = may_retire_serial e.instruction e.stage serial in
+      flush c (executed e written next c).hardware (Retired (row_at e written c.hardware.cycle)) p
+      (flushed_shape c (executed e written next c).hardware refl refl (head_retired_capacity c.hardware.rob) refl refl refl) refl refl refl (row_sound c e es written head.place may p, tt)
+      (row_flushes c e es written head.place may p)
+  commit_turn_keeps c _ (serial_faults e es cause value head serial) p =
+      flush c (with_fault e cause value c).hardware (Trap e.pc cause value c.hardware.cycle) p (flushed_shape c (with_fault e cause value c).hardware refl refl refl refl refl refl) refl refl refl tt (no_row c (Trap e.pc cause value c.hardware.cycle) refl)
+  commit_turn_keeps c _ (traps e es issue cycle message fault head plain at is) p =
+      flush c (with_fault e fault.cause fault.value c).hardware (Trap e.pc fault.cause fault.value c.hardware.cycle) p (flushed_shape c (with_fault e fault.cause fault.value c).hardware refl refl refl refl refl refl) refl refl refl tt
+      (no_row c (Trap e.pc fault.cause fault.value c.hardware.cycle) refl)
+  commit_turn_keeps c _ (retires e es issue cycle message head plain at none) p =
+      let may = may_retire_finished e.instruction e.stage issue cycle message at none in
+      let g : Hardware = (retired_with e message c).hardware in
+      let here = head_retired_entries c.hardware.rob e es head.place in
+      rw (push c (Retired (row_at e (written_of e message) c.hardware.cycle))) (record {
+        basics = record {
+          cycle = p.basics.cycle;
+          shape = same_shape v g c.hardware (flushed_shape c g refl refl (head_retired_capacity c.hardware.rob) refl refl refl) p.basics.shape;
+          rows = rw (rows_append (earlier ++ c.steps) (Retired (row_at e (written_of e message) c.hardware.cycle) ∷ []))
+              (Each-append (SoundRow v (now + 1)) (rows_of (earlier ++ c.steps)) (row_at e (written_of e message) c.hardware.cycle ∷ []) p.basics.rows (row_sound c e es (written_of e message) head.place may p, tt));
+          entries = subst (Each (SoundEntry v now now now)) (sym here) (subst (Each (SoundEntry v now now now)) head.place p.basics.entries).1;
+          fetched = p.basics.fetched;
+        };
+        marks = marks_from R (earlier ++ c.steps) ((earlier ++ c.steps) ++ Retired (row_at e (written_of e message) c.hardware.cycle) ∷ []) g c.hardware es c.hardware.front.entries here refl p.marks
+            (row_goes c e es (written_of e message) head.place may p);
+      })
+  commit_turn_keeps c _ (retires_last e es issue cycle message head plain at none) p =
+      let may = may_retire_finished e.instruction e.stage issue cycle message at none in
+      let g : Hardware = (retired_and_flushed e message c).hardware in
+      flush c g (Retired (row_at e (written_of e message) c.hardware.cycle)) p (flushed_shape c g refl refl (head_retired_capacity c.hardware.rob) refl refl refl) refl refl refl (row_sound c e es (written_of e message) head.place may p, tt)
+      (row_flushes c e es (written_of e message) head.place may p)
+
+  commit_by_due : (o : Option ℕ) (h : Hardware) → Goes v now now now now now (now + 1) R (earlier ++ []) h → Commits (commit_unless is_stale o h)
+  commit_by_due (Some code) h p =
+      let c : Committing = record { hardware = h; steps = []; stop = None } in
+      let g : Hardware = (commit_unless is_stale (Some code) h).hardware in
+      let s : Step = Interrupt h.pc (interrupt_cause code) h.cycle in
+      flush c g s p (flushed_shape c g refl refl refl refl refl refl) refl refl refl tt (no_row c s refl)
+  commit_by_due None h p =
+      kept_by_turns Commits (commit_turn is_stale) (λ c q. commit_turn_keeps c (commit_turn is_stale c) (commit_turn_is is_stale c) q) h.values.commit_width (record { hardware = h; steps = []; stop = None }) p
+
+  -- the commit phase keeps it
+  pub commit_keeps : (h : Hardware) → Goes v now now now now now (now + 1) R (earlier ++ []) h → Commits (commit is_stale h)
+  commit_keeps h p = commit_by_due (due h.csrs h.lines) h p
+
+-- drain changes neither instructions nor words
+
+start_drain_same : (o : Option StoreAccess) (h : Hardware) → ((start_drain o h).rob ≡ h.rob) × ((start_drain o h).front ≡ h.front) × ((start_drain o h).cycle ≡ h.cycle) × SameShape (start_drain o h) h
+start_drain_same None h = (refl, refl, refl, record { values = refl; cache = refl; buffer = refl; room = refl; width = refl; units = λ k. refl; pipelined = λ k. refl })
+start_drain_same (Some access) h = (refl, refl, refl, record { values = refl; cache = refl; buffer = refl; room = refl; width = refl; units = λ k. refl; pipelined = λ k. refl })
+
+drain_by : (b : Bool) (o : Option StoreAccess) (h : Hardware) → let g : Hardware = cond b (start_drain o (end_drain h)) h in (g.rob ≡ h.rob) × (g.front ≡ h.front) × (g.cycle ≡ h.cycle) × SameShape g h
+drain_by true o h =
+    let same = start_drain_same o (end_drain h) in
+    (same.0, same.1, same.2, record { values = same.3.values; cache = same.3.cache; buffer = same.3.buffer; room = same.3.room; width = same.3.width; units = same.3.units; pipelined = same.3.pipelined })
+drain_by false o h = (refl, refl, refl, record { values = refl; cache = refl; buffer = refl; room = refl; width = refl; units = λ k. refl; pipelined = λ k. refl })
+
+-- the drain phase leaves reorder buffer, fetch buffer, cycle and shape as they were
+pub drain_same : (h : Hardware) → ((drain h).rob ≡ h.rob) × ((drain h).front ≡ h.front) × ((drain h).cycle ≡ h.cycle) × SameShape (drain h) h
+drain_same h = drain_by (nat_le h.port_free h.cycle) (oldest_to_drain (end_drain h).committed) h
+
+-- the drain phase keeps what is basic and the marks
+pub drain_keeps : (v : Values) (now d a b f r : ℕ) (R : List Mark → Type 0) (steps : List Step) (h : Hardware) → Goes v now d a b f r R steps h → Goes v now d a b f r R steps (drain h)
+drain_keeps v now d a b f r R steps h p =
+    let same = drain_same h in
+    record {
+      basics = record {
+        cycle = same.2 ∙ p.basics.cycle;
+        shape = same_shape v (drain h) h same.3 p.basics.shape;
+        rows = p.basics.rows;
+        entries = rw (same.0) (p.basics.entries);
+        fetched = rw (same.1) (p.basics.fetched);
+      };
+      marks = rw (same.0, same.1) (p.marks);
+    }
+
+-- issue and broadcast
+
+module _ (v : Values) (now bound : ℕ) (R : List Mark → Type 0) (kept : Kept v now R) (steps : List Step) where
+  abbrev pub Executes : Hardware → Type 0
+  Executes h = Goes v now now (now + 1) bound now (now + 1) R steps h
+
+  -- one instruction changes
+  change : (g h : Hardware) (older younger : List Entry) (e x : Entry) → h.rob.entries ≡ older ++ e ∷ younger → g.rob.entries ≡ older ++ x ∷ younger → g.front.entries ≡ h.front.entries →
+      g.cycle ≡ h.cycle → SameShape g h → SoundEntry v now (now + 1) bound x →
+      Advances v now (map mark_of_row (rows_of steps) ++ map mark_of_entry older) (mark_of_entry e) (mark_of_entry x) → Executes h → Executes g
+  change g h older younger e x at at' front cycle shape sound agree p = record {
+    basics = record {
+      cycle = cycle ∙ p.basics.cycle;
+      shape = same_shape v g h shape p.basics.shape;
+      rows = p.basics.rows;
+      entries = rw at' (Each-set (SoundEntry v now (now + 1) bound) older younger e x sound (subst (Each (SoundEntry v now (now + 1) bound)) at p.basics.entries));
+      fetched = rw front (p.basics.fetched);
+    };
+    marks = marks_from R steps steps g h (older ++ x ∷ younger) h.front.entries at' front p.marks
+        (rw (at, marks_at_entry steps older younger e h.front.entries, marks_at_entry steps older younger x h.front.entries)
+        (kept.set (map mark_of_row (rows_of steps) ++ map mark_of_entry older) (map mark_of_entry younger ++ map mark_of_fetched h.front.entries) (mark_of_entry e) (mark_of_entry x) agree));
+  }
+
+  entry_sound : (h : Hardware) (older younger : List Entry) (e : Entry) → h.rob.entries ≡ older ++ e ∷ younger → Executes h → SoundEntry v now (now + 1) bound e
+  entry_sound h older younger e at p = Each-place (SoundEntry v now (now + 1) bound) older younger e (subst (Each (SoundEntry v now (now + 1) bound)) at p.basics.entries)
+
+  issued_shape : (k : Kind) (h : Hardware) (older : List Entry) (e : Entry) → SameShape (issued k h older e) h
+  issued_shape k h older e =
+      let keep = access_keeps (path h older e) h in
+      let cost : ℕ = cost_of h k (path h older e) in
+      record {
+        values = keep.values;
+        cache = keep.cache_values;
+        buffer = ap (λ r. r.capacity) keep.rob;
+        room = ap (λ r. r.capacity) keep.front;
+        width = ap (λ r. r.width) keep.front;
+        units = λ j. pool_units k j cost (with_access (path h older e) h).cycle (with_access (path h older e) h).units ∙ ap (λ (u : PerKind Pool). (at_kind j u).units) keep.units;
+        pipelined = λ j. pool_pipelined k j cost (with_access (path h older e) h).cycle (with_access (path h older e) h).units ∙ ap (λ (u : PerKind Pool). (at_kind j u).is_pipelined) keep.units;
+      }
+
+-- a load that leaves its station has all older stores known
+load_waits_by : (b c d : Bool) → b ≡ true → (not b || (c && d)) ≡ true → c ≡ true
+load_waits_by true true d is h = refl
+load_waits_by true false d is h = absurd (cc)
+load_waits_by false c d is h = absurd (cc)
+
+load_waits : (h : Hardware) (older : List Entry) (e : Entry) → is_load e.instruction ≡ true → may_load h older e ≡ true → list_all is_known_store (stores_behind h older) ≡ true
+load_waits h older e load may = load_waits_by (is_load e.instruction) (list_all is_known_store (stores_behind h older)) (has_port h (path h older e)) load may
+
+-- issue: broadcasts lie in earlier cycles
+
+module _ (v : Values) (legal : IsLegal v) (now : ℕ) (R : List Mark → Type 0) (kept : Kept v now R) (steps : List Step) where
+  -- what holds in the issue phase
+  abbrev pub Issues : Hardware → Type 0
+  Issues h = Executes v now now R kept steps h
+
+  -- what a start finds
+  pub start_is : (k : Kind) (h : Hardware) (older younger : List Entry) (e : Entry) → h.rob.entries ≡ older ++ e ∷ younger → is_ready h k older e ≡ true → Issues h →
+      Starts v now (map mark_of_row (rows_of steps) ++ map mark_of_entry older) (mark_of_entry e) (mark_of_entry (started (record { cycle = h.cycle; cost = cost_of h k (path h older e) }) (message_at h older e) e))
+  start_is k h older younger e at is p =
+      let ready = ready-parts h k older e is in
+      let cost : ℕ = cost_of h k (path h older e) in
+      let message : Message = message_at h older e in
+      let x : Entry = started (record { cycle = h.cycle; cost = cost }) message e in
+      let sound : SoundEntry v now (now + 1) now e = entry_sound v now now R kept steps h older younger e at p in
+      let olders : Each (SoundEntry v now (now + 1) now) older = Each-left (SoundEntry v now (now + 1) now) older (e ∷ younger) (subst (Each (SoundEntry v now (now + 1) now)) at p.basics.entries) in
+      record {
+        start = start_of_issue (record { cycle = h.cycle; cost = cost }) message;
+        becomes = λ i. record (mark_of_entry x) { broadcast = sym (ap broadcast_of_stage (is_waiting_is e.stage ready.waits)) i };
+        now_is = p.basics.cycle;
+        positive = positive_cost v legal h p.basics.shape k (path h older e);
+        not_yet = ap start_of_stage (is_waiting_is e.stage ready.waits);
+        not_sent = ap broadcast_of_stage (is_waiting_is e.stage ready.waits);
+        not_retired = refl;
+        cycle = e.dispatched;
+        dispatched = refl;
+        before = sound.by_now;
+        operands = operands_known v now (now + 1) now (rows_of steps) p.basics.rows older (sources_of_word e.instruction) olders ready.operands;
+        stores = λ load. stores_known v now (now + 1) now (rows_of steps) p.basics.rows h.committed h.rob.retired older olders (load_waits h older e load ready.loads);
+      }
+
+  -- each turn of the issue phase keeps it
+  pub issue_turn_keeps : (k : Kind) (h : Hardware) (t : Turn Hardware) → IssueTurn k h t → Issues h → Leads Issues Issues t
+  issue_turn_keeps k h _ (no_unit held) p = p
+  issue_turn_keeps k h _ (none_ready none) p = p
+  issue_turn_keeps k h _ (starts older younger e at is none free) p =
+      let ready = ready-parts h k older e is in
+      let keep = access_keeps (path h older e) h in
+      let cost : ℕ = cost_of h k (path h older e) in
+      let message : Message = message_at h older e in
+      let x : Entry = started (record { cycle = h.cycle; cost = cost }) message e in
+      let sound : SoundEntry v now (now + 1) now e = entry_sound v now now R kept steps h older younger e at p in
+      change v now now R kept steps (issued k h older e) h older younger e x at (started_entries k h older younger e at)
+      (ap (λ r. r.entries) keep.front) keep.cycle (issued_shape v now now R kept steps k h older e)
+      (subst (λ n. SoundEntry v now (now + 1) now (started (record { cycle = n; cost = cost }) message e)) (sym p.basics.cycle)
+      (started_sound v now now k e cost message sound ready.of_kind (subst (λ n. SoundCost v e.instruction (start_of_issue (record { cycle = n; cost = cost }) message)) p.basics.cycle (issued_cost v h p.basics.shape older e k ready.of_kind))))
+      (a_starts (start_is k h older younger e at is p)) p
+
+  -- the turns of one kind keep it
+  pub issue_kind_keeps : (k : Kind) (h : Hardware) → Issues h → Issues (issue_kind k h)
+  issue_kind_keeps k h p = kept_by_turns Issues (issue_turn k) (λ g q. issue_turn_keeps k g (issue_turn k g) (issue_turn_is k g) q) (at_kind k h.values.kinds).units h p
+
+  -- the issue phase keeps it
+  pub issue_keeps : (h : Hardware) → Issues h → Issues (issue h)
+  issue_keeps h p =
+      issue_kind_keeps kind.Mem (issue_kind kind.Div (issue_kind kind.Mul (issue_kind kind.Alu h)))
+      (issue_kind_keeps kind.Div (issue_kind kind.Mul (issue_kind kind.Alu h))
+      (issue_kind_keeps kind.Mul (issue_kind kind.Alu h)
+      (issue_kind_keeps kind.Alu h p)))
+
+-- broadcast: starts lie in this cycle at the latest
+
+module _ (v : Values) (now : ℕ) (R : List Mark → Type 0) (kept : Kept v now R) (steps : List Step) where
+  -- what holds in the broadcast phase
+  abbrev pub Broadcasts : Hardware → Type 0
+  Broadcasts h = Executes v now (now + 1) R kept steps h
+
+  sent_shape : (h : Hardware) (g : Hardware) → g.values ≡ h.values → g.cache ≡ h.cache → g.rob.capacity ≡ h.rob.capacity → g.front.capacity ≡ h.front.capacity → g.front.width ≡ h.front.width → g.units ≡ h.units → SameShape g h
+  sent_shape h g values cache buffer room width units = record { values = values; cache = ap (λ c. c.values) cache; buffer = buffer; room = room; width = width; units = λ k i. (at_kind k (units i)).units; pipelined = λ k i. (at_kind k (units i)).is_pipelined }
+
+  -- what is younger is squashed
+  squash : (r g : Hardware) (older younger : List Entry) (x y : Entry) → g.rob.entries ≡ older ++ x ∷ younger → r.rob.entries ≡ older ++ y ∷ [] → r.front.entries ≡ [] →
+      r.cycle ≡ g.cycle → SameShape r g → (SoundEntry v now (now + 1) (now + 1) x → SoundEntry v now (now + 1) (now + 1) y) → mark_of_entry x ≡ mark_of_entry y → Broadcasts g → Broadcasts r
+  squash r g older younger x y at at' none cycle shape sound same q =
+      let entries = subst (Each (SoundEntry v now (now + 1) (now + 1))) at q.basics.entries in
+      record {
+        basics = record {
+          cycle = cycle ∙ q.basics.cycle;
+          shape = same_shape v r g shape q.basics.shape;
+          rows = q.basics.rows;
+          entries = rw at' (Each-append (SoundEntry v now (now + 1) (now + 1)) older (y ∷ []) (Each-left (SoundEntry v now (now + 1) (now + 1)) older (x ∷ younger) entries) (sound (Each-place (SoundEntry v now (now + 1) (now + 1)) older younger x entries), tt));
+          fetched = rw none tt;
+        };
+        marks = marks_from R steps steps r g (older ++ y ∷ []) [] at' none q.marks
+            (rw (at, ← append_assoc older (x ∷ []) younger)
+            (λ went. subst R (marks_at_entry steps older [] x [] ∙ ap (λ m. (map mark_of_row (rows_of steps) ++ map mark_of_entry older) ++ m ∷ []) same ∙ sym (marks_at_entry steps older [] y []))
+            (squash_marks v now R kept [] (λ words word. false) steps (older ++ x ∷ []) younger g.front.entries went)));
+      }
+
+  -- what a broadcast finds
+  pub send_is : (h : Hardware) (older younger : List Entry) (e : Entry) (issue : Issue) (message : Message) → Sends h older younger e issue message → Broadcasts h →
+      IsSent now (map mark_of_row (rows_of steps) ++ map mark_of_entry older) (mark_of_entry e) (mark_of_entry (finished message h.cycle e))
+  send_is h older younger e issue message sent p =
+      let olders : Each (SoundEntry v now (now + 1) (now + 1)) older = Each-left (SoundEntry v now (now + 1) (now + 1)) older (e ∷ younger) (subst (Each (SoundEntry v now (now + 1) (now + 1))) sent.place p.basics.entries) in
+      record {
+        start = start_of_issue issue message;
+        becomes = ap (λ n. mark_of_entry (finished message n e)) p.basics.cycle ∙ finished_mark now e issue message sent.runs;
+        started = ap start_of_stage sent.runs;
+        ready = omega (arith, sent.over, p.basics.cycle);
+        not_yet = ap broadcast_of_stage sent.runs;
+        not_retired = refl;
+        oldest = none_waits v now (now + 1) now (rows_of steps) older p.basics.rows olders (subst (λ n. EveryBehind (λ before z. has_result n before z ≡ false) [] older) p.basics.cycle sent.oldest_one);
+      }
+
+  -- the oldest result is broadcast
+  send : (h : Hardware) (older younger : List Entry) (e : Entry) (issue : Issue) (message : Message) → Sends h older younger e issue message → Broadcasts h →
+      Broadcasts (with_broadcast (h.rob.retired + length older) message h)
+  send h older younger e issue message sent p =
+      let g : Hardware = with_broadcast (h.rob.retired + length older) message h in
+      let x : Entry = finished message h.cycle e in
+      let sound : SoundEntry v now (now + 1) (now + 1) e = entry_sound v now (now + 1) R kept steps h older younger e sent.place p in
+      change v now (now + 1) R kept steps g h older younger e x sent.place (sent_entries h older younger e message sent.place) refl refl (sent_shape h g refl refl refl refl refl refl)
+      (subst (λ n. SoundEntry v now (now + 1) (now + 1) (finished message n e)) (sym p.basics.cycle) (finished_sound v now e issue message sound sent.runs (omega (arith, sent.over, p.basics.cycle))))
+      (a_is_sent (send_is h older younger e issue message sent p)) p
+
+  -- each turn of the broadcast phase keeps it
+  pub broadcast_turn_keeps : (h : Hardware) (t : Turn Hardware) → BroadcastTurn h t → Broadcasts h → Leads Broadcasts Broadcasts t
+  broadcast_turn_keeps h _ (no_result none) p = p
+  broadcast_turn_keeps h _ (sends older younger e issue message sent late) p = send h older younger e issue message sent p
+  broadcast_turn_keeps h _ (mends older younger e issue message sent early) p =
+      let seq : ℕ = h.rob.retired + length older in
+      let g : Hardware = with_broadcast seq message h in
+      let r : Hardware = with_recovery seq message g in
+      let x : Entry = finished message h.cycle e in
+      let y : Entry = predicting message.next_pc x in
+      squash r g older younger x y (sent_entries h older younger e message sent.place) (mended_entries h older younger e message sent.place) refl refl (sent_shape g r refl refl refl refl refl refl)
+      (λ sound. predicting_sound v now (now + 1) (now + 1) message.next_pc x sound) refl (send h older younger e issue message sent p)
+
+  -- the broadcast phase keeps it
+  pub broadcast_keeps : (h : Hardware) → Broadcasts h → Broadcasts (broadcast h)
+  broadcast_keeps h p = kept_by_turns Broadcasts broadcast_turn (λ g q. broadcast_turn_keeps g (broadcast_turn g) (broadcast_turn_is g) q) h.values.bus_width h p
+
+-- dispatch
+
+module _ (v : Values) (now : ℕ) (R : List Mark → Type 0) (kept : Kept v now R) (steps : List Step) where
+  abbrev pub Dispatches : Dispatching → Type 0
+  Dispatches d = Goes v now (now + 1) (now + 1) (now + 1) now (now + 1) R steps d.hardware
+
+  full_stations : (h : Hardware) (o : Option Kind) (k : Kind) → HasShape v h → has_full_stations h o ≡ false → is_of_kind k o ≡ true → length (filter (is_stationed k) h.rob.entries) < (at_kind k v.kinds).stations
+  full_stations h o k shape free is =
+      let at : o ≡ Some k = is_of_kind_is k o is in
+      let room = leb-false (at_kind k h.values.kinds).stations (length (filter (is_stationed k) h.rob.entries)) (sym (ap (has_full_stations h) at) ∙ free) in
+      omega (arith, room, ap (λ (w : Values). (at_kind k w.kinds).stations) shape.values)
+
+  pub dispatch_turn_keeps : (d : Dispatching) (t : Turn Dispatching) → DispatchTurn d t → Dispatches d → Leads Dispatches Dispatches t
+  dispatch_turn_keeps d _ (buffer_empty none) p = p
+  dispatch_turn_keeps d _ (waits f fs reason at why) p = p
+  dispatch_turn_keeps d _ (dispatches f fs at nothing) p =
+      let h : Hardware = d.hardware in
+      let g : Hardware = with_dispatched f fs h in
+      let e : Entry = entry_of_fetched h f in
+      let sound = subst (Each (SoundFetched now)) at p.basics.fetched in
+      let buffer = leb-false h.rob.capacity (length h.rob.entries) nothing.buffer in
+      record {
+        basics = record {
+          cycle = p.basics.cycle;
+          shape = same_shape v g h (record { values = refl; cache = refl; buffer = refl; room = refl; width = refl; units = λ k. refl; pipelined = λ k. refl }) p.basics.shape;
+          rows = p.basics.rows;
+          entries = Each-append (SoundEntry v (now + 1) (now + 1) (now + 1)) h.rob.entries (e ∷ []) p.basics.entries (dispatched_sound v now h f p.basics.cycle sound.0, tt);
+          fetched = sound.1;
+        };
+        marks = marks_from R steps steps g h (h.rob.entries ++ e ∷ []) fs refl refl p.marks
+            (rw (at, marks_dispatched steps h.rob.entries f fs, marks_at_entry steps h.rob.entries [] e fs)
+            (kept.set (map mark_of_row (rows_of steps) ++ map mark_of_entry h.rob.entries) (map mark_of_fetched fs) (mark_of_fetched f) (mark_of_entry e)
+            (a_enters (record {
+              becomes = dispatched_mark h f ∙ ap (λ n. record (mark_of_fetched f) { dispatched = Some n }) p.basics.cycle;
+              not_yet = refl;
+              not_sent = refl;
+              not_retired = refl;
+              before = sound.0.0;
+              in_order = rows_and_entries_are_dispatched (rows_of steps) h.rob.entries;
+              room = omega (arith, buffer, p.basics.shape.buffer, in_flight_room (rows_of steps) h.rob.entries);
+              stations = λ k is. omega (arith, full_stations h (kind_of_word f.instruction) k p.basics.shape nothing.stations is, stations_room v (now + 1) (now + 1) (now + 1) (now + 1) k (rows_of steps) h.rob.entries p.basics.rows p.basics.entries);
+            }))));
+      }
+
+  -- the dispatch phase keeps what is basic and the marks
+  pub dispatch_keeps : (h : Hardware) → Goes v now (now + 1) (now + 1) (now + 1) now (now + 1) R steps h → Dispatches (dispatch h)
+  dispatch_keeps h p =
+      kept_by_turns Dispatches dispatch_turn (λ d q. dispatch_turn_keeps d (dispatch_turn d) (dispatch_turn_is d) q) h.values.dispatch_width (record { hardware = h; dispatched = 0; waits_for = None }) p
+
+-- bounds that are further on
+pub goes_later : (v : Values) (now d a b f r d' a' b' r' : ℕ) (R : List Mark → Type 0) (steps : List Step) (h : Hardware) → d ≤ d' → a ≤ a' → b ≤ b' → r ≤ r' →
+    Goes v now d a b f r R steps h → Goes v now d' a' b' f r' R steps h
+goes_later v now d a b f r d' a' b' r' R steps h le le' le'' le''' p = record {
+  basics = record {
+    cycle = p.basics.cycle;
+    shape = p.basics.shape;
+    rows = Each-weaker (SoundRow v r) (SoundRow v r') (λ row w. record { stamps = w.stamps; cost = w.cost; below = omega (arith, w.below) }) (rows_of steps) p.basics.rows;
+    entries = Each-weaker (SoundEntry v d a b) (SoundEntry v d' a' b') (λ e w. sound_later v d a b d' a' b' le le' le'' e w) h.rob.entries p.basics.entries;
+    fetched = p.basics.fetched;
+  };
+  marks = p.marks;
+}
+
+-- the phases from drain to dispatch
+pub execute_keeps : (v : Values) → IsLegal v → (now : ℕ) (R : List Mark → Type 0) → Kept v now R → (steps : List Step) (h : Hardware) → Goes v now now now now now (now + 1) R steps h →
+    Goes v now (now + 1) (now + 1) (now + 1) now (now + 1) R steps (dispatch (broadcast (issue (drain h)))).hardware
+execute_keeps v legal now R kept steps h p =
+    let drains = drain_keeps v now now (now + 1) now now (now + 1) R steps h (goes_later v now now now now now (now + 1) now (now + 1) now (now + 1) R steps h (omega arith) (omega arith) (omega arith) (omega arith) p) in
+    let issues = issue_keeps v legal now R kept steps (drain h) drains in
+    let sends = broadcast_keeps v now R kept steps (issue (drain h)) (goes_later v now now (now + 1) now now (now + 1) now (now + 1) (now + 1) (now + 1) R steps (issue (drain h)) (omega arith) (omega arith) (omega arith) (omega arith) issues) in
+    dispatch_keeps v now R kept steps (broadcast (issue (drain h))) (goes_later v now now (now + 1) (now + 1) now (now + 1) (now + 1) (now + 1) (now + 1) (now + 1) R steps (broadcast (issue (drain h))) (omega arith) (omega arith) (omega arith) (omega arith) sends)
+
+-- the same of other marks
+pub with_marks : (v : Values) (now d a b f r : ℕ) (R S : List Mark → Type 0) (steps : List Step) (h : Hardware) → S (marks_in steps h) → Goes v now d a b f r R steps h → Goes v now d a b f r S steps h
+with_marks v now d a b f r R S steps h s p = record { basics = p.basics; marks = s }

@@ -1,0 +1,82 @@
+-- The issue phase keeps what a load's access to the cache and the start of an execution keep.
+use Rattle.rv_hardware.proofs.Words.{◌≡◌, ℕ, ◌+◌, ◌≤◌, true, ◌&&◌, List, ◌∷◌, ◌++◌, length, Some, None, Option, sym, refl, ap, ◌∙◌, subst, and_parts, is_of_kind, kind_of_word, sources_of_word, at_kind, Message, Kind, is_free, started, with_entry, Entry, Hardware, is_waiting, FromCache, FromStores, Path, Without, cost_of, has_operands, is_ready, issue, issue_kind, issue_oldest, issue_turn, issued, may_load, oldest, path, with_access, with_start, Ends, result_of_word, layout_of, seen_behind, by_test, Leaves, kept_by_turns}
+use Rattle.rv_isa.specs.declared.operations.Kind.TheVariants as kind
+use Rattle.rv_hardware.proofs.Turns.Costs.{cost_of-most}
+use Rattle.rv_hardware.proofs.Turns.Forms.{with_entries, with_started, with_unit, longest_execution, IsResultOfWord}
+use Rattle.rv_hardware.proofs.Oldest.{IsFound, oldest_found, with_entry-at}
+
+-- what it is to be ready
+pub record IsReady (h : Hardware) (k : Kind) (older : List Entry) (e : Entry) : Type 0 where
+  pub waits : is_waiting e.stage ≡ true
+  pub of_kind : is_of_kind k (kind_of_word e.instruction) ≡ true
+  pub operands : has_operands older (sources_of_word e.instruction) ≡ true
+  pub loads : may_load h older e ≡ true
+
+-- an instruction that is ready waits, is of the kind, has its operands and may load
+pub ready-parts : (h : Hardware) (k : Kind) (older : List Entry) (e : Entry) → is_ready h k older e ≡ true → IsReady h k older e
+ready-parts h k older e ready =
+    let three = and_parts (is_waiting e.stage && is_of_kind k (kind_of_word e.instruction) && has_operands older (sources_of_word e.instruction)) (may_load h older e) ready in
+    let two = and_parts (is_waiting e.stage && is_of_kind k (kind_of_word e.instruction)) (has_operands older (sources_of_word e.instruction)) three.0 in
+    let one = and_parts (is_waiting e.stage) (is_of_kind k (kind_of_word e.instruction)) two.0 in
+    record { waits = one.0; of_kind = one.1; operands = two.1; loads = three.1 }
+
+module _ (P : Hardware → Type 0) (k : Kind) where
+  -- an instruction that is ready may access the cache and start
+  pub record IsKeptByIssue : Type 0 where
+    pub accesses : (h : Hardware) (older younger : List Entry) (e : Entry) (address : ℕ) → P h →
+        h.rob.entries ≡ older ++ e ∷ younger → is_ready h k older e ≡ true → path h older e ≡ FromCache address →
+        P (with_access (FromCache address) h)
+    pub starts : (h : Hardware) (older younger : List Entry) (e : Entry) (cost : ℕ) (message : Message) → P h →
+        h.rob.entries ≡ older ++ e ∷ younger → is_waiting e.stage ≡ true → is_of_kind k (kind_of_word e.instruction) ≡ true →
+        IsResultOfWord e.word e.instruction message → cost ≤ longest_execution h →
+        P (with_started k cost message older e younger h)
+
+module _ {P : Hardware → Type 0} {k : Kind} (kept : IsKeptByIssue P k) where
+  begins : (h : Hardware) (older younger : List Entry) (e : Entry) (cost : ℕ) (message : Message) → P h →
+      h.rob.entries ≡ older ++ e ∷ younger → is_waiting e.stage ≡ true → is_of_kind k (kind_of_word e.instruction) ≡ true →
+      IsResultOfWord e.word e.instruction message → cost ≤ longest_execution h →
+      P (with_start k (h.rob.retired + length older) cost message h)
+  begins h older younger e cost message holds split waits of_kind result costs =
+      let start : Entry → Entry = started (record { cycle = h.cycle; cost = cost }) message in
+      let all : with_entry start (h.rob.retired + length older) h.rob.retired h.rob.entries ≡ older ++ start e ∷ younger =
+      ap (λ es. with_entry start (h.rob.retired + length older) h.rob.retired es) split
+      ∙ with_entry-at start (h.rob.retired + length older) h.rob.retired older younger e refl in
+      subst (λ es. P (with_entries es (with_unit k cost h))) (sym all) (kept.starts h older younger e cost message holds split waits of_kind result costs)
+
+  begins_by : (h : Hardware) (older younger : List Entry) (e : Entry) (p : Path) → path h older e ≡ p → P h →
+      h.rob.entries ≡ older ++ e ∷ younger → is_ready h k older e ≡ true → is_waiting e.stage ≡ true → is_of_kind k (kind_of_word e.instruction) ≡ true →
+      P (with_start k (h.rob.retired + length older) (cost_of h k p) (result_of_word (layout_of h.values) (seen_behind h older e.pc) h.lines e.word e.instruction) (with_access p h))
+  begins_by h older younger e Without by holds split ready waits of_kind =
+      begins h older younger e (cost_of h k Without) _ holds split waits of_kind
+      (record { layout = layout_of h.values; state = seen_behind h older e.pc; lines = h.lines; is = refl }) (cost_of-most h k Without)
+  begins_by h older younger e FromStores by holds split ready waits of_kind =
+      begins h older younger e (cost_of h k FromStores) _ holds split waits of_kind
+      (record { layout = layout_of h.values; state = seen_behind h older e.pc; lines = h.lines; is = refl }) (cost_of-most h k FromStores)
+  begins_by h older younger e (FromCache address) by holds split ready waits of_kind =
+      begins (with_access (FromCache address) h) older younger e (cost_of h k (FromCache address)) _
+      (kept.accesses h older younger e address holds split ready by) split waits of_kind
+      (record { layout = layout_of h.values; state = seen_behind h older e.pc; lines = h.lines; is = refl }) (cost_of-most h k (FromCache address))
+
+  after_found : (h : Hardware) (older : List Entry) (e : Entry) → P h → IsFound (is_ready h k) h.rob.entries older e → P (issued k h older e)
+  after_found h older e holds found =
+      let ready = ready-parts h k older e found.passes in
+      begins_by h older found.younger e (path h older e) refl holds found.split found.passes ready.waits ready.of_kind
+
+  after_oldest : (h : Hardware) (found : Option (List Entry × Entry)) → oldest (is_ready h k) h.rob.entries ≡ found → P h → Leaves P (issue_oldest k h found)
+  after_oldest h None is holds = holds
+  after_oldest h (Some (older, e)) is holds = after_found h older e holds (oldest_found (is_ready h k) h.rob.entries older e is)
+
+  -- so a turn of the issue phase keeps it
+  pub issue_turn-keeps : (h : Hardware) → P h → Leaves P (issue_turn k h)
+  issue_turn-keeps h holds =
+      by_test (Leaves P) (is_free h.cycle (at_kind k h.units)) (issue_oldest k h (oldest (is_ready h k) h.rob.entries)) (Ends h)
+      (λ free. after_oldest h (oldest (is_ready h k) h.rob.entries) refl holds) (λ held. holds)
+
+  -- and so the turns of a kind do
+  pub issue_kind-keeps : (h : Hardware) → P h → P (issue_kind k h)
+  issue_kind-keeps h holds = kept_by_turns P (issue_turn k) issue_turn-keeps (at_kind k h.values.kinds).units h holds
+
+-- the four kinds, one after another
+pub issue-keeps : (P : Hardware → Type 0) → ((k : Kind) → IsKeptByIssue P k) → (h : Hardware) → P h → P (issue h)
+issue-keeps P kept h holds =
+    issue_kind-keeps (kept kind.Mem) _ (issue_kind-keeps (kept kind.Div) _ (issue_kind-keeps (kept kind.Mul) _ (issue_kind-keeps (kept kind.Alu) h holds)))
