@@ -183,7 +183,7 @@ begun_in_cycle {lines} {old} {new} reached cycle =
     let before : Stands old.cycle (drain_end old) (with_lines lines old) = record {
       cycle = refl;
       queue = whole.queue;
-      costs = omega (arith, whole.sizes.legal.cache.1.hit, ap (λ c. c.hit) whole.sizes.cache_is);
+      costs = omega (arith, whole.sizes.legal.cache.1.hit, ap (λ c. c.hit) whole.sizes.cache);
       ends = refl;
     } in
     let h = (commit_with set.contains lines old).hardware in

@@ -10,6 +10,4 @@ pub mod Stores
 pub mod Serial
 pub mod Halted
 pub mod Sound
-pub mod Shape
-pub mod Told
 pub mod Faults

@@ -1,9 +1,8 @@
 -- What a described predictor guides is determined: from the same hardware and predictor, two runs are the same run.
-use Rattle.std.proofs.Common.{◌≡◌, ◌∙◌, ℕ, zero, suc, ◌+◌, ◌-◌, ◌^◌, ◌<◌, ◌≤◌, Bool, true, false, List, [], ◌∷◌, ◌++◌, length, Option, Some, None, MatchBool, MatchOption, is_some, refl, sym, ap, subst, arith, length-append}
+use Rattle.std.proofs.Common.{◌≡◌, ◌∙◌, ℕ, zero, suc, ◌+◌, ◌-◌, ◌^◌, ◌≤◌, Bool, true, false, List, [], ◌∷◌, ◌++◌, length, Option, Some, None, MatchBool, MatchOption, is_some, refl, sym, ap, subst, arith, length-append}
 use Rattle.std.specs.Prelude.{◌*◌, ◌/◌, option_and_then, unwrap_or}
 use Rattle.std.specs.List.{fold}
 use Rattle.std.proofs.lemmas.Bool.{true≢false}
-use Rattle.rv_isa.specs.Arrivals.{lines_at}
 use Rattle.rv_isa.specs.declared.{lines.Arrival.Arrival, lines.Lines.Lines}
 use Rattle.rv_decode.specs.Decodes.{instruction_of}
 use Rattle.rv_memory.specs.Memory.{Memory}
@@ -16,7 +15,7 @@ use Rattle.rv_front.specs.declared.fetched.{Fetched.Fetched, FetchStop.FetchStop
 use Rattle.rv_front.specs.declared.fetched.FetchStop.TheVariants.{Halted}
 use Rattle.rv_front.specs.declared.predictors.DescribedPredictor.{DescribedPredictor}
 use Rattle.rv_hardware.specs.Commit.{Committing}
-use Rattle.rv_hardware.specs.Cycle.{IsCycle, execute, report_of}
+use Rattle.rv_hardware.specs.Cycle.{execute, report_of}
 use Rattle.rv_hardware.specs.Dispatch.{Dispatching}
 use Rattle.rv_hardware.specs.Guided.{GuidedCycles, GuidedHardware, IsGuidedCycle, cycled, ended}
 use Rattle.rv_hardware.specs.Hardware.{Hardware}

@@ -1,5 +1,4 @@
 -- No run stands still for longer than the bound.
-pub mod Reasons
 pub mod Patience
 pub mod Bound
 pub mod Silent

@@ -1,5 +1,5 @@
 -- The hardware with the predictor that guides its fetch: what a cycle asks of it and teaches it.
-use Rattle.std.specs.Prelude.{◌≡◌, List, [], ◌∷◌, Option}
+use Rattle.std.specs.Prelude.{List, [], ◌∷◌, Option}
 use Rattle.rv_isa.specs.Arrivals.{lines_at}
 use Rattle.rv_isa.specs.declared.{lines.Arrival.Arrival, lines.Lines.Lines}
 use Rattle.rv_front.specs.Predictors.{AreTaught, answers_of}

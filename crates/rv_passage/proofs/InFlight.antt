@@ -16,12 +16,12 @@ use Rattle.rv_passage.specs.Passage.{in_flight, of_entry, of_fetched}
 pub few_entries : {h : Hardware} → Reachable h → h.rob.capacity ≤ 256
 few_entries reached =
     let sizes = (sound reached).sizes in
-    omega (arith, sizes.rob_is, sizes.legal.pipeline.rob.1)
+    omega (arith, sizes.buffer, sizes.legal.pipeline.rob.1)
 
 pub few_words : {h : Hardware} → Reachable h → h.front.capacity ≤ 32
 few_words reached =
     let sizes = (sound reached).sizes in
-    omega (arith, sizes.buffer_is, sizes.legal.pipeline.fetch_buffer.1)
+    omega (arith, sizes.room, sizes.legal.pipeline.fetch_buffer.1)
 
 pub length-in_flight : (h : Hardware) → length (in_flight h) ≡ length h.rob.entries + length h.front.entries
 length-in_flight h =

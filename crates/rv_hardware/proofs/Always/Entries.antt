@@ -1,31 +1,29 @@
--- An instruction in flight that waits has a unit to wait for or waits to be the oldest, and only a store tells what it writes.
--- Where no word was fetched, a fault is known.
-use Rattle.rv_hardware.proofs.Words.{◌≡◌, ℕ, ◌+◌, Bool, true, false, cond, ◌||◌, List, ◌∷◌, ◌++◌, is_some, nat_le, Some, None, Option, option_and_then, sym, refl, subst, is_serialising, is_store, kind_of_word, Message, StoreAccess, Fault, Instr, Lines, Kind, Values, instruction_of, Layout, Memory, Effect, Faults, Retires, effect, State, Each, finished, predicting, started, Entry, Stage, Finished, Running, Waiting, IsFetchedAt, Fetched, result_at, any_prediction, entry_of_fetched, stage_by, Hardware, reset_hardware, access_of, effect_message, result_of_word, layout_of, seen_behind, Each-left, Each-right, Each-push, Each-change}
+-- An instruction in flight waits for a unit or to be the oldest, or its message tells no more, and no less, than it may.
+use Rattle.rv_hardware.proofs.Words.{◌≡◌, ℕ, Bool, true, false, ◌||◌, List, ◌∷◌, ◌++◌, is_some, Some, None, Option, option_and_then, sym, refl, ap, subst, is_of_kind, is_serialising, is_store, kind_of_word, Message, Instr, Lines, Kind, Values, instruction_of, Layout, Memory, Effect, Faults, Retires, effect, State, Each, finished, issue_of, predicting, started, Entry, Stage, Finished, Running, Waiting, IsFetchedAt, Fetched, any_prediction, entry_of_fetched, stage_by, Hardware, broadcast_of, is_waiting, reset_hardware, access_of, effect_message, result_of_word, layout_of, seen_behind, Each-left, Each-right, Each-push, Each-change}
 use Rattle.rv_isa.specs.declared.instructions.Instr.TheVariants.{Store}
 use Rattle.rv_hardware.proofs.Turns.Fetch.{each-fetched}
 use Rattle.rv_hardware.proofs.Turns.KeptByCycle.{IsKept}
 use Rattle.rv_hardware.proofs.Turns.Forms.{IsResultOfWord}
+use Rattle.rv_hardware.proofs.Always.Faults.{HasWordOr, IsUnitFault, by_result}
+use Rattle.rv_hardware.proofs.Turns.Broadcast.{HasRun}
+use Rattle.rv_hardware.proofs.Marks.Sound.{some_kind}
 
--- what a message says of a store is said by a store
-abbrev pub TellsStore : Option Instr → Option StoreAccess → Type 0
-TellsStore instruction None = Unit {0}
-TellsStore instruction (Some access) = is_store instruction ≡ true
+-- a result that is no fault tells what is written where it is a store's, and nowhere else
+abbrev pub TellsItsStore : Option Instr → Message → Type 0
+TellsItsStore i message = message.fault ≡ None → is_some message.store ≡ is_store i
 
--- a word was fetched, or a fault is known
-abbrev pub HasWordOr : Option Fault → Option ℕ → Type 0
-HasWordOr fault (Some word) = Unit {0}
-HasWordOr None None = ⊥
-HasWordOr (Some fault) None = Unit {0}
+-- what a message tells of its instruction
+pub record Tells (word : Option ℕ) (instruction : Option Instr) (message : Message) : Type 0 where
+  pub fault : HasWordOr message.fault word
+  pub store : TellsItsStore instruction message
 
-abbrev TellsNoMore : Option ℕ → Option Instr → Message → Type 0
-TellsNoMore word instruction message = HasWordOr message.fault word × TellsStore instruction message.store
-
--- by its stage, an instruction waits for a unit or to be the oldest, or its message tells no more than it may
+-- by its stage, an instruction waits for a unit or to be the oldest, or its message tells what it may
 abbrev pub IsShaped : Option ℕ → Option Instr → Stage → Type 0
 IsShaped word instruction Waiting =
     HasWordOr None word × ((is_some (kind_of_word instruction) || is_serialising instruction) ≡ true)
-IsShaped word instruction (Running issue message) = TellsNoMore word instruction message
-IsShaped word instruction (Finished issue cycle message) = TellsNoMore word instruction message
+IsShaped word instruction (Running issue message) = Tells word instruction message × IsUnitFault message.fault
+IsShaped word instruction (Finished None cycle message) = Tells word instruction message
+IsShaped word instruction (Finished (Some issue) cycle message) = Tells word instruction message × IsUnitFault message.fault
 
 -- an instruction in flight is so
 abbrev pub Shaped : Entry → Type 0
@@ -44,36 +42,56 @@ FetchedShape f = HasWordFor f.word f.instruction
 abbrev pub AreShaped : Hardware → Type 0
 AreShaped h = Each Shaped h.rob.entries × Each FetchedShape h.front.entries
 
+-- what is known of the message of an instruction that has finished
+pub told_at_end : (word : Option ℕ) (instruction : Option Instr) (stage : Stage) (message : Message) → broadcast_of stage ≡ Some message →
+    IsShaped word instruction stage → Tells word instruction message
+told_at_end word instruction Waiting message is shaped = absurd (cc)
+told_at_end word instruction (Running issue given) message is shaped = absurd (cc)
+told_at_end word instruction (Finished None cycle given) message is shaped = let same : given ≡ message = cc in subst (Tells word instruction) same shaped
+told_at_end word instruction (Finished (Some issue) cycle given) message is shaped =
+    let same : given ≡ message = cc in subst (Tells word instruction) same shaped.0
+
 -- ---- what an instruction gives
-tells_store : (s : State) (instruction : Instr) → TellsStore (Some instruction) (access_of s instruction)
-tells_store s (Store width rs1 rs2 offset) = refl
-tells_store s _ = tt
+access_tells : (s : State) (i : Instr) → is_some (access_of s i) ≡ is_store (Some i)
+access_tells s (Store width rs1 rs2 offset) = refl
+access_tells s _ = refl
 
-told_effect : (s : State) (word : ℕ) (instruction : Instr) (effect : Effect) → TellsNoMore (Some word) (Some instruction) (effect_message (access_of s instruction) effect)
-told_effect s word instruction (Retires written next) = (tt, tells_store s instruction)
-told_effect s word instruction (Faults cause value) = (tt, tt)
+effect_tells : (s : State) (i : Instr) (given : Effect) → TellsItsStore (Some i) (effect_message (access_of s i) given)
+effect_tells s i (Retires written next) = λ none. access_tells s i
+effect_tells s i (Faults cause value) = λ none. absurd (cc)
 
-told_word : (layout : Layout) (s : State) (lines : Lines) (word : Option ℕ) (instruction : Option Instr) → TellsNoMore word instruction (result_of_word layout s lines word instruction)
-told_word layout s lines None instruction = (tt, tt)
-told_word layout s lines (Some word) None = (tt, tt)
-told_word layout s lines (Some word) (Some instruction) = told_effect s word instruction (effect layout s lines word instruction)
+word_tells : (layout : Layout) (s : State) (lines : Lines) (word : Option ℕ) (i : Option Instr) → TellsItsStore i (result_of_word layout s lines word i)
+word_tells layout s lines None i = λ none. absurd (cc)
+word_tells layout s lines (Some word) None = λ none. absurd (cc)
+word_tells layout s lines (Some word) (Some i) = effect_tells s i (effect layout s lines word i)
 
-told_result : (word : Option ℕ) (instruction : Option Instr) (message : Message) → IsResultOfWord word instruction message → TellsNoMore word instruction message
-told_result word instruction message result =
-    subst (TellsNoMore word instruction) (sym result.is) (told_word result.layout result.state result.lines word instruction)
+word_told : (layout : Layout) (s : State) (lines : Lines) (word : Option ℕ) (instruction : Option Instr) → HasWordOr (result_of_word layout s lines word instruction).fault word
+word_told layout s lines None instruction = tt
+word_told layout s lines (Some word) instruction = tt
 
--- ---- a broadcast
-told_broadcast : (b : Bool) (word : Option ℕ) (instruction : Option Instr) (given message : Message) → cond b (Some given) None ≡ Some message → TellsNoMore word instruction given → TellsNoMore word instruction message
-told_broadcast true word instruction given message is told =
-    let same : given ≡ message = cc in
-    subst (TellsNoMore word instruction) same told
-told_broadcast false word instruction given message is told = absurd (cc)
+result_told : (layout : Layout) (s : State) (lines : Lines) (word : Option ℕ) (instruction : Option Instr) →
+    Tells word instruction (result_of_word layout s lines word instruction)
+result_told layout s lines word instruction =
+    record { fault = word_told layout s lines word instruction; store = word_tells layout s lines word instruction }
 
-told_at : (cycle : ℕ) (word : Option ℕ) (instruction : Option Instr) (stage : Stage) (message : Message) → result_at cycle stage ≡ Some message → IsShaped word instruction stage → TellsNoMore word instruction message
-told_at cycle word instruction Waiting message is shaped = absurd (cc)
-told_at cycle word instruction (Running issue given) message is shaped =
-    told_broadcast (nat_le (issue.cycle + issue.cost) cycle) word instruction given message is shaped
-told_at cycle word instruction (Finished issue finished given) message is shaped = absurd (cc)
+-- ---- an execution begins, and its result is broadcast
+waits_with_word : (word : Option ℕ) (instruction : Option Instr) (stage : Stage) → is_waiting stage ≡ true → IsShaped word instruction stage → HasWordOr None word
+waits_with_word word instruction Waiting waits shaped = shaped.0
+waits_with_word word instruction (Running issue message) waits shaped = absurd (cc)
+waits_with_word word instruction (Finished issue cycle message) waits shaped = absurd (cc)
+
+begun_shape : (k : Kind) (e : Entry) (message : Message) → is_waiting e.stage ≡ true → is_of_kind k (kind_of_word e.instruction) ≡ true →
+    IsResultOfWord e.word e.instruction message → Shaped e → Tells e.word e.instruction message × IsUnitFault message.fault
+begun_shape k e message waits of_kind result shaped = (
+  subst (Tells e.word e.instruction) (sym result.is) (result_told result.layout result.state result.lines e.word e.instruction),
+  by_result e.word e.instruction message result (waits_with_word e.word e.instruction e.stage waits shaped)
+      (some_kind k (kind_of_word e.instruction) of_kind),
+)
+
+known_shape : (cycle : ℕ) (word : Option ℕ) (instruction : Option Instr) (stage : Stage) (message : Message) → HasRun cycle stage message →
+    IsShaped word instruction stage → IsShaped word instruction (Finished (issue_of stage) cycle message)
+known_shape cycle word instruction stage message gives shaped =
+    rw (ap issue_of gives.runs) (subst (IsShaped word instruction) gives.runs shaped)
 
 -- ---- a dispatch
 word_for : (word : Option ℕ) (instruction : Option Instr) → HasWordFor word instruction → (is_some (kind_of_word instruction) || is_serialising instruction) ≡ true → HasWordOr None word
@@ -86,7 +104,7 @@ or_true true = refl
 or_true false = refl
 
 shaped_by : (word : Option ℕ) (instruction : Option Instr) (kind : Option Kind) (serialising : Bool) (cycle : ℕ) (message : Message) →
-    kind_of_word instruction ≡ kind → is_serialising instruction ≡ serialising → HasWordFor word instruction → TellsNoMore word instruction message →
+    kind_of_word instruction ≡ kind → is_serialising instruction ≡ serialising → HasWordFor word instruction → Tells word instruction message →
     IsShaped word instruction (stage_by kind serialising (Finished None cycle message))
 shaped_by word instruction (Some kind) serialising cycle message of_kind serial has told =
     let waits : (is_some (kind_of_word instruction) || is_serialising instruction) ≡ true = rw of_kind refl in
@@ -99,7 +117,7 @@ shaped_by word instruction None false cycle message of_kind serial has told = to
 shaped_entry : (h : Hardware) (f : Fetched) → FetchedShape f → Shaped (entry_of_fetched h f)
 shaped_entry h f has =
     shaped_by f.word f.instruction (kind_of_word f.instruction) (is_serialising f.instruction) h.cycle _ refl refl has
-    (told_word (layout_of h.values) (seen_behind h h.rob.entries f.pc) h.lines f.word f.instruction)
+    (result_told (layout_of h.values) (seen_behind h h.rob.entries f.pc) h.lines f.word f.instruction)
 
 -- ---- a fetch
 no_word : (word : Option ℕ) (instruction : Option Instr) → instruction ≡ option_and_then instruction_of word → HasWordFor word instruction
@@ -111,8 +129,8 @@ fetched_shape : (ram : Memory) (cycle pc : ℕ) (f : Fetched) → IsFetchedAt an
 fetched_shape ram cycle pc f at = no_word f.word f.instruction at.instruction_is
 
 -- every cycle keeps it
-pub shape-kept : IsKept AreShaped
-shape-kept = record {
+pub entries-kept : IsKept AreShaped
+entries-kept = record {
   phases = record {
     lines = λ h levels shape. shape;
     commit = record {
@@ -126,11 +144,11 @@ shape-kept = record {
     issue = λ k. record {
       accesses = λ h older younger e address shape split ready by. shape;
       starts = λ h older younger e cost message shape split waits of_kind result costs.
-          (Each-change Shaped older younger e (started (record { cycle = h.cycle; cost = cost }) message e) (λ shaped. told_result e.word e.instruction message result) (subst (Each Shaped) split shape.0), shape.1);
+          (Each-change Shaped older younger e (started (record { cycle = h.cycle; cost = cost }) message e) (begun_shape k e message waits of_kind result) (subst (Each Shaped) split shape.0), shape.1);
     };
     broadcast = record {
       broadcasts = λ h older younger e message shape split gives.
-          (Each-change Shaped older younger e (finished message h.cycle e) (told_at h.cycle e.word e.instruction e.stage message gives) (subst (Each Shaped) split shape.0), shape.1);
+          (Each-change Shaped older younger e (finished message h.cycle e) (known_shape h.cycle e.word e.instruction e.stage message gives) (subst (Each Shaped) split shape.0), shape.1);
       mends = λ h older younger e next shape split.
           let all : Each Shaped (older ++ e ∷ younger) = subst (Each Shaped) split shape.0 in
           (Each-push Shaped older (predicting next e) (Each-right Shaped older (e ∷ younger) all).0 (Each-left Shaped older (e ∷ younger) all), tt);
@@ -148,5 +166,5 @@ shape-kept = record {
 }
 
 -- it holds at reset
-pub shape-at_reset : (values : Values) (image : List ℕ) (start : ℕ) → AreShaped (reset_hardware values image start)
-shape-at_reset values image start = (tt, tt)
+pub entries-at_reset : (values : Values) (image : List ℕ) (start : ℕ) → AreShaped (reset_hardware values image start)
+entries-at_reset values image start = (tt, tt)

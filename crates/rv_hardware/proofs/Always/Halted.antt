@@ -1,8 +1,9 @@
 -- Where fetch is halted, the last word, fetched or in flight, is the one that was not there.
-use Rattle.rv_hardware.proofs.Words.{◌≡◌, ℕ, zero, suc, ◌-◌, Bool, true, false, List, [], ◌∷◌, ◌++◌, map, length, ◌==◌, Some, None, Option, MatchOption, sym, refl, ap, ◌∙◌, subst, append_assoc, map-append, pc_plus_4, Message, Values, Memory, Each, finished, started, Entry, Stage, Finished, Running, Waiting, FetchBuffer, Fetches, FetchesInto, is_halted, stop_behind, stop_for, FetchStop, Halted, Prediction, Room, Fetched, any_prediction, entry_of_fetched, Hardware, broadcast_of, reset_hardware, map-change}
+use Rattle.rv_hardware.proofs.Words.{◌≡◌, ℕ, zero, suc, ◌-◌, Bool, true, false, List, [], ◌∷◌, ◌++◌, map, length, ◌==◌, Some, None, Option, MatchOption, sym, refl, ap, ◌∙◌, subst, append_assoc, map-append, pc_plus_4, Message, Values, Memory, Each, finished, started, Entry, FetchBuffer, Fetches, FetchesInto, is_halted, stop_behind, stop_for, FetchStop, Halted, Prediction, Room, Fetched, any_prediction, entry_of_fetched, Hardware, reset_hardware, map-change}
 use Rattle.rv_front.specs.declared.fetched.FetchStop.TheVariants.{Width}
 use Rattle.rv_hardware.proofs.Turns.KeptByCycle.{IsKept, IsKeptByPhases}
-use Rattle.rv_hardware.proofs.Always.Entries.{AreShaped, HasWordOr, IsShaped, Shaped, shape-kept, shape-at_reset}
+use Rattle.rv_hardware.proofs.Always.Entries.{AreShaped, Shaped, entries-kept, entries-at_reset, told_at_end}
+use Rattle.rv_hardware.proofs.Always.Faults.{HasWordOr}
 use Rattle.rv_hardware.proofs.Turns.Fetch.{fetch-cases}
 
 abbrev word_of_entry : Entry → Option ℕ
@@ -39,13 +40,8 @@ last-append before [] ys = refl
 last-append before (x ∷ xs) ys = last-append x xs ys
 
 -- ---- a retirement
-has_word : (word : Option ℕ) (stage : Stage) (message : Message) (e : Entry) → broadcast_of stage ≡ Some message → message.fault ≡ None → IsShaped word e.instruction stage → HasWordOr None word
-has_word word Waiting message e is faultless shaped = absurd (cc)
-has_word word (Running issue given) message e is faultless shaped = absurd (cc)
-has_word word (Finished issue cycle given) message e is faultless shaped =
-    let same : given ≡ message = cc in
-    let none : given.fault ≡ None = ap (λ (m : Message). m.fault) same ∙ faultless in
-    subst (λ fault. HasWordOr fault word) none shaped.0
+has_word : (word : Option ℕ) (message : Message) → message.fault ≡ None → HasWordOr message.fault word → HasWordOr None word
+has_word word message faultless has = subst (λ fault. HasWordOr fault word) faultless has
 
 next_last : (halted : Bool) (word : Option ℕ) (ws : List (Option ℕ)) → HasWordOr None word → HaltsBehind halted (word ∷ ws) → HaltsBehind halted ws
 next_last false word ws has behind = tt
@@ -115,7 +111,7 @@ module _ (ram : Memory) (cycle : ℕ) where
 -- every cycle keeps it
 pub halted-kept : IsKept IsHalted
 halted-kept =
-    let shape : IsKeptByPhases AreShaped = shape-kept.phases in
+    let shape : IsKeptByPhases AreShaped = entries-kept.phases in
     record {
       phases = record {
         lines = λ h levels has. has;
@@ -125,7 +121,7 @@ halted-kept =
               let all : Each Shaped (e ∷ es) = subst (Each Shaped) split has.0.0 in
               let behind : HaltsBehind h.front.halted (words_of (e ∷ es) h.front.entries) = subst (λ l. HaltsBehind h.front.halted (words_of l h.front.entries)) split has.1 in (
                 shape.commit.retires h e es s message has.0 split known faultless,
-                next_last h.front.halted e.word (words_of es h.front.entries) (has_word e.word e.stage message e known faultless all.0) behind,
+                next_last h.front.halted e.word (words_of es h.front.entries) (has_word e.word message faultless (told_at_end e.word e.instruction e.stage message known all.0).fault) behind,
               );
           writes_back = λ h has drained. has;
         };
@@ -151,10 +147,10 @@ halted-kept =
       };
       fetch = record {
         fetches = λ ram cycle h front stop has fetches.
-            (shape-kept.fetch.fetches ram cycle h front stop has.0 fetches, behind_fetched ram cycle h.rob.entries h.front front stop fetches has.1);
+            (entries-kept.fetch.fetches ram cycle h front stop has.0 fetches, behind_fetched ram cycle h.rob.entries h.front front stop fetches has.1);
       };
     }
 
 -- it holds at reset
 pub halted-at_reset : (values : Values) (image : List ℕ) (start : ℕ) → IsHalted (reset_hardware values image start)
-halted-at_reset values image start = (shape-at_reset values image start, tt)
+halted-at_reset values image start = (entries-at_reset values image start, tt)

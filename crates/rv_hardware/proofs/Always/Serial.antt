@@ -1,7 +1,7 @@
 -- An instruction that waits to be the oldest is the youngest: nothing younger is in flight beside it.
 use Rattle.rv_hardware.proofs.Words.{◌≡◌, ℕ, true, false, List, [], ◌∷◌, ◌++◌, Option, sym, refl, ap, ◌∙◌, subst, or_parts, map-append, is_serialising, Instr, Values, finished, predicting, started, Entry, entry_of_fetched, Hardware, reset_hardware, map-change}
 use Rattle.rv_hardware.proofs.Turns.KeptByCycle.{IsKept}
-use Rattle.rv_hardware.proofs.Gap.Reasons.{is_any_serialising, no_reason}
+use Rattle.rv_hardware.proofs.Turns.Dispatch.{is_any_serialising}
 use Rattle.rv_hardware.proofs.Always.Stores.{instruction_of_entry, instructions_of}
 
 -- where others are younger
@@ -75,7 +75,7 @@ last-kept = record {
     dispatch = record {
       dispatches = λ h fetched rest last first none.
           subst AreSerialLast (sym (map-append instruction_of_entry h.rob.entries (entry_of_fetched h fetched ∷ [])))
-          (push_last h.rob.entries fetched.instruction (no_reason h fetched none).alone);
+          (push_last h.rob.entries fetched.instruction none.serial);
     };
   };
   fetch = record { fetches = λ ram cycle h front stop last fetches. last };

@@ -1,77 +1,108 @@
--- The sizes of the hardware stay as they are described.
-use Rattle.rv_hardware.proofs.Words.{◌≡◌, ℕ, List, refl, ap, ◌∙◌, at_kind-for_each, with_kind-each, IsLegal, at_kind, with_kind, Kind, PerKind, CacheValues, Values, Pool, free_pool, any_prediction, Hardware, reset_hardware}
+-- The sizes of the hardware are the described ones.
+use Rattle.rv_hardware.proofs.Words.{◌≡◌, ℕ, ◌+◌, List, refl, ap, ◌∙◌, at_kind-for_each, with_kind-each, IsLegal, at_kind, with_kind, Kind, PerKind, CacheValues, Values, Pool, free_pool, FetchBuffer, any_prediction, Hardware, reset_hardware}
 use Rattle.rv_units.specs.Pool.{started as started_unit}
 use Rattle.rv_hardware.proofs.Turns.KeptByCycle.{IsKept}
 use Rattle.rv_hardware.proofs.Turns.Fetch.{fetch-same}
 
-abbrev AreDescribed : Values → PerKind Pool → Type 0
-AreDescribed values units = (k : Kind) → (at_kind k units).units ≡ (at_kind k values.kinds).units
+-- the description is legal, and its values, the cache's, and the rooms and units that they give, are the hardware's
+pub record AreSizes (v given : Values) (lines : CacheValues) (entries words most : ℕ) (pools : PerKind Pool) : Type 0 where
+  pub legal : IsLegal v
+  pub values : given ≡ v
+  pub cache : lines ≡ v.cache
+  pub buffer : entries ≡ v.rob
+  pub room : words ≡ v.fetch_buffer
+  pub width : most ≡ v.fetch_width
+  pub units : (k : Kind) → (at_kind k pools).units ≡ (at_kind k v.kinds).units
+  pub pipelined : (k : Kind) → (at_kind k pools).is_pipelined ≡ (at_kind k v.kinds).pipelined
 
-pub record AreSizes (values : Values) (cache : CacheValues) (rob buffer width : ℕ) (units : PerKind Pool) : Type 0 where
-  pub legal : IsLegal values
-  pub cache_is : cache ≡ values.cache
-  pub rob_is : rob ≡ values.rob
-  pub buffer_is : buffer ≡ values.fetch_buffer
-  pub width_is : width ≡ values.fetch_width
-  pub units_are : AreDescribed values units
+-- the hardware is of a description
+abbrev pub HasShape : Values → Hardware → Type 0
+HasShape v h = AreSizes v h.values h.cache.values h.rob.capacity h.front.capacity h.front.width h.units
 
--- the description is legal, and the hardware's sizes are the described ones
+-- the hardware is of its own description
 abbrev pub HasSizes : Hardware → Type 0
-HasSizes h = AreSizes h.values h.cache.values h.rob.capacity h.front.capacity h.front.width h.units
+HasSizes h = HasShape h.values h
 
-units_stay : (h : Hardware) (k : Kind) (cost : ℕ) → HasSizes h → AreDescribed h.values (with_kind k (started_unit cost h.cycle (at_kind k h.units)) h.units)
-units_stay h k cost sizes =
-    with_kind-each k (started_unit cost h.cycle (at_kind k h.units)) h.units (λ other pool. pool.units ≡ (at_kind other h.values.kinds).units) (sizes.units_are k) (λ other differs. sizes.units_are other)
-
--- every cycle keeps it
-pub sizes-kept : IsKept HasSizes
-sizes-kept = record {
-  phases = record {
-    lines = λ h levels holds. holds;
-    commit = record {
-      empties = λ h s retired holds. holds;
-      retires = λ h e es s message holds split known faultless. holds;
-      writes_back = λ h holds drained. holds;
-    };
-    drain = record { leaves = λ h holds idle. holds; drains = λ h access holds idle is. holds };
-    issue = λ k. record {
-      accesses = λ h older younger e address holds split ready by. holds;
-      starts = λ h older younger e cost message holds split waits of_kind result costs. record {
-        legal = holds.legal;
-        cache_is = holds.cache_is;
-        rob_is = holds.rob_is;
-        buffer_is = holds.buffer_is;
-        width_is = holds.width_is;
-        units_are = units_stay h k cost holds;
-      };
-    };
-    broadcast = record {
-      broadcasts = λ h older younger e message holds split gives. holds;
-      mends = λ h older younger e next holds split. holds;
-    };
-    dispatch = record { dispatches = λ h fetched rest holds first none. holds };
-  };
-  fetch = record {
-    fetches = λ ram cycle h front stop holds fetches.
-        let same = fetch-same any_prediction ram cycle h.front front stop fetches in
-        record {
-          legal = holds.legal;
-          cache_is = holds.cache_is;
-          rob_is = holds.rob_is;
-          buffer_is = same.0 ∙ holds.buffer_is;
-          width_is = same.1 ∙ holds.width_is;
-          units_are = holds.units_are;
-        };
-  };
+-- another front with the same room and width leaves it so
+pub with_front : (v : Values) (h : Hardware) (front : FetchBuffer) (cycle : ℕ) → front.capacity ≡ h.front.capacity → front.width ≡ h.front.width →
+    HasShape v h → HasShape v (record h { front = front; cycle = cycle })
+with_front v h front cycle room width shape = record {
+  legal = shape.legal;
+  values = shape.values;
+  cache = shape.cache;
+  buffer = shape.buffer;
+  room = room ∙ shape.room;
+  width = width ∙ shape.width;
+  units = shape.units;
+  pipelined = shape.pipelined;
 }
 
+-- of the description that the hardware's own stands for
+module _ (described : Values → Values) where
+  abbrev IsSized : Hardware → Type 0
+  IsSized h = HasShape (described h.values) h
+
+  begun : (h : Hardware) (k : Kind) (cost : ℕ) → IsSized h →
+      IsSized (record h { units = with_kind k (started_unit cost h.cycle (at_kind k h.units)) h.units })
+  begun h k cost shape =
+      let v : Values = described h.values in
+      let pool : Pool = started_unit cost h.cycle (at_kind k h.units) in
+      record {
+        legal = shape.legal;
+        values = shape.values;
+        cache = shape.cache;
+        buffer = shape.buffer;
+        room = shape.room;
+        width = shape.width;
+        units = with_kind-each k pool h.units (λ j p. p.units ≡ (at_kind j v.kinds).units) (shape.units k) (λ j differs. shape.units j);
+        pipelined = with_kind-each k pool h.units (λ j p. p.is_pipelined ≡ (at_kind j v.kinds).pipelined) (shape.pipelined k)
+            (λ j differs. shape.pipelined j);
+      }
+
+  kept : IsKept IsSized
+  kept = record {
+    phases = record {
+      lines = λ h levels shape. shape;
+      commit = record {
+        empties = λ h s retired shape. shape;
+        retires = λ h e es s message shape split known faultless. shape;
+        writes_back = λ h shape drained. shape;
+      };
+      drain = record { leaves = λ h shape idle. shape; drains = λ h access shape idle is. shape };
+      issue = λ k. record {
+        accesses = λ h older younger e address shape split ready by. shape;
+        starts = λ h older younger e cost message shape split waits of_kind result costs. begun h k cost shape;
+      };
+      broadcast = record {
+        broadcasts = λ h older younger e message shape split gives. shape;
+        mends = λ h older younger e next shape split. shape;
+      };
+      dispatch = record { dispatches = λ h fetched rest shape first none. shape };
+    };
+    fetch = record {
+      fetches = λ ram cycle h front stop shape fetches.
+          let same = fetch-same any_prediction ram cycle h.front front stop fetches in
+          with_front (described h.values) h front (h.cycle + 1) same.0 same.1 shape;
+    };
+  }
+
+-- every cycle keeps the shape of a description
+pub shape-kept : (v : Values) → IsKept (HasShape v)
+shape-kept v = kept (λ own. v)
+
+-- and that of its own
+pub sizes-kept : IsKept HasSizes
+sizes-kept = kept (λ own. own)
+
 -- it holds at reset
-pub sizes-at_reset : (values : Values) (image : List ℕ) (start : ℕ) → IsLegal values → HasSizes (reset_hardware values image start)
-sizes-at_reset values image start legal = record {
+pub shape-at_reset : (v : Values) (image : List ℕ) (start : ℕ) → IsLegal v → HasShape v (reset_hardware v image start)
+shape-at_reset v image start legal = record {
   legal = legal;
-  cache_is = refl;
-  rob_is = refl;
-  buffer_is = refl;
-  width_is = refl;
-  units_are = λ k. ap (λ (p : Pool). p.units) (at_kind-for_each free_pool values.kinds k);
+  values = refl;
+  cache = refl;
+  buffer = refl;
+  room = refl;
+  width = refl;
+  units = λ k. ap (λ (p : Pool). p.units) (at_kind-for_each free_pool v.kinds k);
+  pipelined = λ k. ap (λ (p : Pool). p.is_pipelined) (at_kind-for_each free_pool v.kinds k);
 }

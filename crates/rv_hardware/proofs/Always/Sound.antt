@@ -6,7 +6,7 @@ use Rattle.rv_hardware.proofs.Always.Port.{HasPort, port-kept, port-at_reset}
 use Rattle.rv_hardware.proofs.Always.Queue.{HasQueue, queue-kept, queue-at_reset}
 use Rattle.rv_hardware.proofs.Always.Executions.{AreEnding, ending-kept, ending-at_reset}
 use Rattle.rv_hardware.proofs.Always.Serial.{IsSerialLast, last-kept, last-at_reset}
-use Rattle.rv_hardware.proofs.Always.Sizes.{HasSizes, sizes-kept, sizes-at_reset}
+use Rattle.rv_hardware.proofs.Always.Sizes.{HasSizes, sizes-kept, shape-at_reset}
 use Rattle.rv_hardware.proofs.Always.Stores.{HasStores, stores-kept, stores-at_reset}
 use Rattle.rv_hardware.proofs.Always.Units.{AreHeld, held-kept, held-at_reset}
 
@@ -36,7 +36,7 @@ sound-cycle cycle sound = record {
 
 pub sound-at_reset : (values : Values) (image : List ℕ) (start : ℕ) → IsLegal values → IsBounded (reset_hardware values image start)
 sound-at_reset values image start legal = record {
-  sizes = sizes-at_reset values image start legal;
+  sizes = shape-at_reset values image start legal;
   queue = queue-at_reset values image start;
   stores = stores-at_reset values image start;
   ending = ending-at_reset values image start;

@@ -1,8 +1,8 @@
 -- There are no more stores, retired or in flight, than the queue holds.
-use Rattle.rv_hardware.proofs.Words.{◌≡◌, ℕ, ◌+◌, ◌≤◌, Bool, true, false, cond, ◌&&◌, List, [], ◌∷◌, ◌++◌, map, length, nat_le, Some, None, Option, refl, ap, ◌∙◌, subst, arith, length-append, leb-false, is_store, Message, StoreAccess, Instr, Values, Each, with_oldest_draining, without_drained, is_draining, Store, finished, predicting, started, Entry, Stage, Finished, Running, Waiting, Fetched, entry_of_fetched, reason_of, Hardware, broadcast_of, stores_of, reset_hardware, committed_store, stores_behind, by_test, map-change}
+use Rattle.rv_hardware.proofs.Words.{◌≡◌, ℕ, ◌+◌, ◌≤◌, Bool, true, false, cond, ◌&&◌, List, [], ◌∷◌, ◌++◌, map, length, is_some, nat_le, Some, None, Option, sym, refl, ap, ◌∙◌, subst, arith, length-append, leb-false, is_store, Message, StoreAccess, Instr, Values, Each, with_oldest_draining, without_drained, is_draining, Store, finished, predicting, started, Entry, Fetched, entry_of_fetched, Hardware, broadcast_of, stores_of, reset_hardware, committed_store, stores_behind, by_test, map-change}
 use Rattle.rv_hardware.proofs.Turns.KeptByCycle.{IsKept, IsKeptByPhases}
-use Rattle.rv_hardware.proofs.Always.Entries.{AreShaped, IsShaped, Shaped, TellsStore, shape-kept, shape-at_reset}
-use Rattle.rv_hardware.proofs.Gap.Reasons.{no_reason}
+use Rattle.rv_hardware.proofs.Always.Entries.{AreShaped, Shaped, entries-kept, entries-at_reset, told_at_end}
+use Rattle.rv_hardware.proofs.Turns.Dispatch.{WaitsForNothing}
 
 -- the instruction of an entry
 abbrev pub instruction_of_entry : Entry → Option Instr
@@ -46,22 +46,16 @@ abbrev pub HasStores : Hardware → Type 0
 HasStores h = AreShaped h × FitQueue h h.committed h.rob.entries
 
 -- ---- a retirement
-told_known : (word : Option ℕ) (instruction : Option Instr) (stage : Stage) (message : Message) → broadcast_of stage ≡ Some message → IsShaped word instruction stage → TellsStore instruction message.store
-told_known word instruction Waiting message is shaped = absurd (cc)
-told_known word instruction (Running issue given) message is shaped = absurd (cc)
-told_known word instruction (Finished issue cycle given) message is shaped =
-    let same : given ≡ message = cc in
-    subst (λ (m : Message). TellsStore instruction m.store) same shaped.1
-
-one_committed : (instruction : Option Instr) (seq : ℕ) (access : Option StoreAccess) → TellsStore instruction access → length (committed_store seq access) ≤ cond (is_store instruction) 1 0
+one_committed : (instruction : Option Instr) (seq : ℕ) (access : Option StoreAccess) → is_some access ≡ is_store instruction →
+    length (committed_store seq access) ≤ cond (is_store instruction) 1 0
 one_committed instruction seq None tells = omega arith
-one_committed instruction seq (Some access) tells = rw tells (omega arith)
+one_committed instruction seq (Some access) tells = rw (sym tells) (omega arith)
 
 fits_retired : (h : Hardware) (e : Entry) (es : List Entry) (message : Message) → HasStores h → h.rob.entries ≡ e ∷ es → broadcast_of e.stage ≡ Some message →
-    FitQueue h (h.committed ++ committed_store h.rob.retired message.store) es
-fits_retired h e es message has split known =
+    message.fault ≡ None → FitQueue h (h.committed ++ committed_store h.rob.retired message.store) es
+fits_retired h e es message has split known faultless =
     let all : Each Shaped (e ∷ es) = subst (Each Shaped) split has.0.0 in
-    let one = one_committed e.instruction h.rob.retired message.store (told_known e.word e.instruction e.stage message known all.0) in
+    let one = one_committed e.instruction h.rob.retired message.store ((told_at_end e.word e.instruction e.stage message known all.0).store faultless) in
     let fits : FitQueue h h.committed (e ∷ es) = subst (FitQueue h h.committed) split has.1 in
     omega (arith, length-append h.committed (committed_store h.rob.retired message.store), one, fits)
 
@@ -85,24 +79,24 @@ fits_one_more : (is_one : Bool) (count limit : ℕ) → (is_one && nat_le limit 
 fits_one_more true count limit may fits = omega (arith, leb-false limit count may)
 fits_one_more false count limit may fits = omega arith
 
-fits_dispatched : (h : Hardware) (fetched : Fetched) → HasStores h → reason_of h fetched ≡ None → FitQueue h h.committed (h.rob.entries ++ entry_of_fetched h fetched ∷ [])
+fits_dispatched : (h : Hardware) (fetched : Fetched) → HasStores h → WaitsForNothing h fetched → FitQueue h h.committed (h.rob.entries ++ entry_of_fetched h fetched ∷ [])
 fits_dispatched h fetched has none =
     let all : ℕ = length (stores_behind h h.rob.entries) in
     let counted : all ≡ length h.committed + store_count (instructions_of h.rob.entries) = length-stores_behind h h.rob.entries in
-    let one = fits_one_more (is_store fetched.instruction) all h.values.store_queue (no_reason h fetched none).store (omega (arith, counted, has.1)) in
+    let one = fits_one_more (is_store fetched.instruction) all h.values.store_queue none.queue (omega (arith, counted, has.1)) in
     omega (arith, counted, one, count_of h.rob.entries (entry_of_fetched h fetched ∷ []))
 
 -- every cycle keeps it
 pub stores-kept : IsKept HasStores
 stores-kept =
-    let shape : IsKeptByPhases AreShaped = shape-kept.phases in
+    let shape : IsKeptByPhases AreShaped = entries-kept.phases in
     record {
       phases = record {
         lines = λ h levels has. has;
         commit = record {
           empties = λ h s retired has. (shape.commit.empties h s retired has.0, omega (arith, has.1));
           retires = λ h e es s message has split known faultless.
-              (shape.commit.retires h e es s message has.0 split known faultless, fits_retired h e es message has split known);
+              (shape.commit.retires h e es s message has.0 split known faultless, fits_retired h e es message has split known faultless);
           writes_back = λ h has drained. has;
         };
         drain = record {
@@ -134,9 +128,9 @@ stores-kept =
               (shape.dispatch.dispatches h fetched rest has.0 first none, fits_dispatched h fetched has none);
         };
       };
-      fetch = record { fetches = λ ram cycle h front stop has fetches. (shape-kept.fetch.fetches ram cycle h front stop has.0 fetches, has.1) };
+      fetch = record { fetches = λ ram cycle h front stop has fetches. (entries-kept.fetch.fetches ram cycle h front stop has.0 fetches, has.1) };
     }
 
 -- it holds at reset
 pub stores-at_reset : (values : Values) (image : List ℕ) (start : ℕ) → HasStores (reset_hardware values image start)
-stores-at_reset values image start = (shape-at_reset values image start, omega arith)
+stores-at_reset values image start = (entries-at_reset values image start, omega arith)

@@ -93,9 +93,9 @@ module _ (h : Hardware) (sound : IsBounded h) where
   -- one more cycle, in which a stale word may stop the run, is below the bound too
   pub patience-below : patience h + 1 < gap_bound_of h.values
   patience-below =
-      let same : longest_access h ≡ greatest_access h.values.cache = ap greatest_access sound.sizes.cache_is in
+      let same : longest_access h ≡ greatest_access h.values.cache = ap greatest_access sound.sizes.cache in
       let lines : longest_write_back h ≡ h.values.cache.sets * h.values.cache.ways * h.values.cache.write_back =
-      ap (λ (c : CacheValues). c.sets * c.ways * h.values.cache.write_back) sound.sizes.cache_is in
+      ap (λ (c : CacheValues). c.sets * c.ways * h.values.cache.write_back) sound.sizes.cache in
       let most = subst (λ access. patience h ≤ 2 * longest_write_back h + (h.values.store_queue + 3) * access + 2 * greatest_latency h.values + 7) same patience-most in
       let under = slack h.values.store_queue (greatest_access h.values.cache) (greatest_latency h.values) (longest_write_back h) (patience h) most in
       let twice : 2 * longest_write_back h ≡ 2 * h.values.cache.sets * h.values.cache.ways * h.values.cache.write_back = omega (arith, lines) in

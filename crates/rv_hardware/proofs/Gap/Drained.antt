@@ -1,8 +1,7 @@
 -- A cycle brings the port nearer to idle, and after the drain phase it is busy or no retired store waits for it.
-use Rattle.rv_hardware.proofs.Words.{◌≡◌, ℕ, ◌+◌, ◌-◌, ◌*◌, ◌<◌, ◌≤◌, true, false, cond, ◌⊎◌, List, [], ◌∷◌, length, nat_le, Some, None, Option, refl, ap, ◌∙◌, subst, inl, inr, arith, leb-false, leb-true, StoreAccess, access_cost, Each, oldest_to_drain, without_drained, access_to_drain, draining, is_committed_state, is_draining, is_draining_state, state_to_drain, Store, Committed, Draining, Speculative, StoreState, Faulted, Filled, drain, end_drain, start_drain, with_drained, Hardware, by_test}
+use Rattle.rv_hardware.proofs.Words.{◌≡◌, ℕ, ◌+◌, ◌-◌, ◌*◌, ◌<◌, ◌≤◌, true, false, cond, ◌⊎◌, List, [], ◌∷◌, length, nat_le, Some, None, Option, refl, ap, subst, inl, inr, arith, leb-false, leb-true, StoreAccess, access_cost, Each, oldest_to_drain, without_drained, access_to_drain, draining, is_committed_state, is_draining, is_draining_state, state_to_drain, Store, Committed, Draining, Speculative, StoreState, Faulted, Filled, drain, end_drain, start_drain, Hardware, by_test}
 use Rattle.rv_stores.specs.declared.store.StoreState.TheVariants.{Waiting}
 use Rattle.rv_hardware.proofs.Turns.Costs.{access_cost-least, access_cost-most}
-use Rattle.rv_hardware.proofs.Turns.KeptByDrain.{IsKeptByDrain, drain-keeps}
 use Rattle.rv_hardware.proofs.Turns.Forms.{longest_access}
 use Rattle.rv_hardware.proofs.Gap.Patience.{port_time, time_of_stores}
 use Rattle.rv_hardware.proofs.Always.Queue.{CanDrain, HasQueue, IsQueue, queue_of_all}
@@ -74,32 +73,3 @@ drains h queue costs =
     (λ busy.
     let later = leb-false h.port_free h.cycle busy in
     record { fall = omega (arith, later); port = inl (later, omega (arith, later)) })
-
--- ---- what a drain leaves as it was
-pub record SameButPort (h after : Hardware) : Type 0 where
-  pub values : after.values ≡ h.values
-  pub cache : after.cache.values ≡ h.cache.values
-  pub rob : after.rob ≡ h.rob
-  pub front : after.front ≡ h.front
-  pub units : after.units ≡ h.units
-  pub cycle : after.cycle ≡ h.cycle
-
-still_same : (h g after : Hardware) → SameButPort h g → after.values ≡ g.values → after.cache.values ≡ g.cache.values → after.rob ≡ g.rob → after.front ≡ g.front → after.units ≡ g.units → after.cycle ≡ g.cycle → SameButPort h after
-still_same h g after same values cache rob front units cycle = record {
-  values = values ∙ same.values;
-  cache = cache ∙ same.cache;
-  rob = rob ∙ same.rob;
-  front = front ∙ same.front;
-  units = units ∙ same.units;
-  cycle = cycle ∙ same.cycle;
-}
-
-drain_keeps_same : (h : Hardware) → IsKeptByDrain (SameButPort h)
-drain_keeps_same h = record {
-  leaves = λ g same idle. still_same h g (end_drain g) same refl refl refl refl refl refl;
-  drains = λ g access same idle is. still_same h g (with_drained access g) same refl refl refl refl refl refl;
-}
-
--- the drain phase changes the port, the cache's lines, memory and the retired stores alone
-pub drain-same : (h : Hardware) → SameButPort h (drain h)
-drain-same h = drain-keeps (drain_keeps_same h) h (record { values = refl; cache = refl; rob = refl; front = refl; units = refl; cycle = refl })

@@ -1,9 +1,10 @@
 -- No phase after commit changes what was described, and the stage of the oldest bounds the patience in the next cycle.
-use Rattle.rv_hardware.proofs.Words.{◌≡◌, ℕ, ◌+◌, ◌≤◌, false, List, [], ◌∷◌, Some, Option, sym, refl, ap, ◌∙◌, subst, arith, is_serialising, Message, Instr, FenceI, Issue, CacheValues, Values, Each, finished, issue_of, predicting, Entry, Stage, Finished, Running, Waiting, FetchBuffer, broadcast, broadcast_turn, result_at, execute, dispatch, entry_of_fetched, drain, Hardware, issue, Leaves}
+use Rattle.rv_hardware.proofs.Words.{◌≡◌, ℕ, ◌+◌, ◌≤◌, false, List, [], ◌∷◌, Some, Option, sym, refl, ap, ◌∙◌, subst, true≢false, arith, is_serialising, Message, Instr, FenceI, Issue, CacheValues, Values, Each, finished, issue_of, predicting, Entry, Stage, Finished, Running, Waiting, FetchBuffer, broadcast, broadcast_turn, execute, dispatch, entry_of_fetched, drain, Hardware, is_waiting, issue, Leaves}
 use Rattle.rv_hardware.proofs.Turns.KeptByDrain.{drain-keeps}
 use Rattle.rv_hardware.proofs.Turns.KeptByIssue.{issue-keeps}
+use Rattle.rv_hardware.proofs.Turns.Broadcast.{HasRun}
 use Rattle.rv_hardware.proofs.Turns.KeptByBroadcast.{IsKeptByBroadcast, broadcast-keeps, broadcast_turn-keeps}
-use Rattle.rv_hardware.proofs.Turns.KeptByCycle.{IsKeptByPhases, execute-keeps}
+use Rattle.rv_hardware.proofs.Turns.KeptByCycle.{SameAs, same-kept, execute-keeps}
 use Rattle.rv_hardware.proofs.Turns.KeptByDispatch.{IsKeptByDispatch, dispatch-keeps}
 use Rattle.rv_hardware.proofs.Turns.Forms.{longest_execution}
 use Rattle.rv_hardware.proofs.Gap.Head.{HasBegun, HeadIs, Waits, head-change, head-cut, head-push, IsAnywhere}
@@ -13,31 +14,6 @@ use Rattle.rv_hardware.proofs.Always.Executions.{AreEnding, Ending, EndsBy}
 -- the next cycle begins
 abbrev pub later : FetchBuffer → Hardware → Hardware
 later front h = record h { front = front; cycle = h.cycle + 1 }
-
--- ---- no phase changes what was described, nor the cycle's number
-abbrev pub SameAs : Values → CacheValues → ℕ → Hardware → Type 0
-SameAs values cache cycle h = (h.values ≡ values) × (h.cache.values ≡ cache) × (h.cycle ≡ cycle)
-
--- no phase from commit to dispatch changes what was described or the cycle's number
-pub same-kept : (values : Values) (cache : CacheValues) (cycle : ℕ) → IsKeptByPhases (SameAs values cache cycle)
-same-kept values cache cycle = record {
-  lines = λ h levels same. same;
-  commit = record {
-    empties = λ h s retired same. same;
-    retires = λ h e es s message same split known faultless. same;
-    writes_back = λ h same drained. same;
-  };
-  drain = record { leaves = λ h same idle. same; drains = λ h access same idle is. same };
-  issue = λ k. record {
-    accesses = λ h older younger e address same split ready by. same;
-    starts = λ h older younger e cost message same split waits of_kind result costs. same;
-  };
-  broadcast = record {
-    broadcasts = λ h older younger e message same split gives. same;
-    mends = λ h older younger e next same split. same;
-  };
-  dispatch = record { dispatches = λ h fetched rest same first none. same };
-}
 
 -- so the phases from drain to dispatch do not
 pub execute-same : (h : Hardware) → SameAs h.values h.cache.values h.cycle (execute h).hardware
@@ -63,7 +39,7 @@ same-longest h front =
 
 -- ---- the oldest instruction in the phases after issue
 module _ (instruction : Option Instr) (R : Stage → Type 0) (cycle : ℕ)
-    (closed : (stage : Stage) (message : Message) (issue : Option Issue) → result_at cycle stage ≡ Some message → R stage → R (Finished issue cycle message)) where
+    (closed : (stage : Stage) (message : Message) (issue : Option Issue) → HasRun cycle stage message → R stage → R (Finished issue cycle message)) where
   abbrev HasHead : Hardware → Type 0
   HasHead h = HeadIs instruction R h.rob.entries × (h.cycle ≡ cycle)
 
@@ -73,7 +49,7 @@ module _ (instruction : Option Instr) (R : Stage → Type 0) (cycle : ℕ)
       head-change instruction R older younger e (finished message h.cycle e) refl
           (λ same before.
           subst (λ c. R (Finished (issue_of e.stage) c message)) (sym head.1)
-          (closed e.stage message (issue_of e.stage) (subst (λ c. result_at c e.stage ≡ Some message) head.1 gives) before))
+          (closed e.stage message (issue_of e.stage) (subst (λ c. HasRun c e.stage message) head.1 gives) before))
           (subst (HeadIs instruction R) split head.0),
       head.1,
     );
@@ -134,15 +110,16 @@ begun-patience h instruction plain head ends =
 
 -- ---- stages and results
 -- a result leaves any stage in one
-pub anywhere_closed : (cycle : ℕ) (stage : Stage) (message : Message) (issue : Option Issue) → result_at cycle stage ≡ Some message → IsAnywhere stage → IsAnywhere (Finished issue cycle message)
+pub anywhere_closed : (cycle : ℕ) (stage : Stage) (message : Message) (issue : Option Issue) → HasRun cycle stage message →
+    IsAnywhere stage → IsAnywhere (Finished issue cycle message)
 anywhere_closed cycle stage message issue gives is = tt
 
 -- what has begun and gives a result has begun
-pub begun_closed : (cycle : ℕ) (stage : Stage) (message : Message) (issue : Option Issue) → result_at cycle stage ≡ Some message → HasBegun stage → HasBegun (Finished issue cycle message)
+pub begun_closed : (cycle : ℕ) (stage : Stage) (message : Message) (issue : Option Issue) → HasRun cycle stage message →
+    HasBegun stage → HasBegun (Finished issue cycle message)
 begun_closed cycle stage message issue gives begun = refl
 
 -- an instruction that waits gives no result
-pub waits_closed : (cycle : ℕ) (stage : Stage) (message : Message) (issue : Option Issue) → result_at cycle stage ≡ Some message → Waits stage → Waits (Finished issue cycle message)
-waits_closed cycle Waiting message issue gives waits = absurd (cc)
-waits_closed cycle (Running given m) message issue gives waits = absurd (cc)
-waits_closed cycle (Finished given c m) message issue gives waits = absurd (cc)
+pub waits_closed : (cycle : ℕ) (stage : Stage) (message : Message) (issue : Option Issue) → HasRun cycle stage message →
+    Waits stage → Waits (Finished issue cycle message)
+waits_closed cycle stage message issue gives waits = absurd (true≢false (sym waits ∙ ap is_waiting gives.runs))

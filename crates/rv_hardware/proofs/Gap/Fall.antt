@@ -2,9 +2,10 @@
 use Rattle.rv_hardware.proofs.Words.{◌≡◌, ℕ, ◌+◌, ◌≤◌, true, false, ◌||◌, List, [], ◌∷◌, is_some, Some, None, Option, sym, refl, ap, ◌∙◌, subst, inl, inr, arith, is_serialising, kind_of_word, Instr, Csr, FenceI, Mret, Lines, Kind, CacheValues, Memory, Each, Entry, Stage, Finished, Running, Waiting, FetchBuffer, FetchesInto, FetchStop, Committing, commit, IsCycle, any_prediction, execute, with_lines, Dispatching, drain, Hardware, broadcast_of, Report}
 use Rattle.std.specs.FinSet as set
 use Rattle.rv_hardware.proofs.Turns.KeptByCommit.{commit-keeps}
+use Rattle.rv_hardware.proofs.Turns.KeptByCycle.{same-kept}
 use Rattle.rv_hardware.proofs.Gap.Drained.{Drains, drains}
 use Rattle.rv_hardware.proofs.Always.Entries.{IsShaped, Shaped}
-use Rattle.rv_hardware.proofs.Gap.Execute.{execute-same, later, plain-head, same-kept}
+use Rattle.rv_hardware.proofs.Gap.Execute.{execute-same, later, plain-head}
 use Rattle.rv_hardware.proofs.Gap.FallEmpty.{fall_empty}
 use Rattle.rv_hardware.proofs.Gap.FallFence.{fall_fence_waits, fall_write_back}
 use Rattle.rv_hardware.proofs.Gap.FallRunning.{RunsUntil, fall_running}
@@ -31,7 +32,7 @@ module _ (lines : Lines) (old : Hardware) (sound : IsBounded old) where
 
   drained : Drains h (drain h)
   drained =
-      let hit : h.cache.values.hit ≡ h.values.cache.hit = ap (λ (c : CacheValues). c.hit) sound.sizes.cache_is in
+      let hit : h.cache.values.hit ≡ h.values.cache.hit = ap (λ (c : CacheValues). c.hit) sound.sizes.cache in
       drains h sound.queue (omega (arith, hit, sound.sizes.legal.cache.1.hit.0))
 
   empty_falls : h.rob.entries ≡ [] → Falls h

@@ -1,19 +1,18 @@
 -- Where nothing is in flight, a cycle fetches, dispatches, or brings the retired stores nearer to their end.
-use Rattle.rv_hardware.proofs.Words.{◌≡◌, ℕ, zero, suc, ◌+◌, ◌-◌, ◌*◌, ◌≤◌, Bool, true, false, cond, ◌&&◌, List, [], ◌∷◌, ◌++◌, length, nat_le, Some, None, filter, Option, sym, refl, ap, ◌∙◌, subst, arith, length-append, leb-true, and_parts, nat_tests, is_store, kind_of_word, at_kind, Kind, CacheValues, Values, Memory, Store, Entry, FetchBuffer, Fetches, FetchesInto, FetchStop, Fetched, broadcast, any_prediction, execute, Dispatching, dispatch, dispatch_turn, dispatch_turn_of, dispatch_unless, has_full_stations, is_stationed, reason_of, with_dispatched, drain, Hardware, issue, followed_by, repeated, stores_behind, Stall}
-use Rattle.rv_hardware.specs.declared.report.Stall.TheVariants as stall
+use Rattle.rv_hardware.proofs.Words.{◌≡◌, ℕ, zero, suc, ◌+◌, ◌-◌, ◌*◌, ◌≤◌, false, List, [], ◌∷◌, ◌++◌, length, nat_le, Some, None, filter, Option, sym, refl, ap, ◌∙◌, subst, true≢false, arith, length-append, leb-true, and_parts, nat_tests, is_store, kind_of_word, at_kind, Kind, CacheValues, Values, Memory, Store, Entry, FetchBuffer, Fetches, FetchesInto, FetchStop, Fetched, broadcast, any_prediction, execute, Dispatching, dispatch, dispatch_turn, has_full_stations, is_stationed, with_dispatched, drain, Hardware, issue, Turn, followed_by, repeated, stores_behind}
 use Rattle.rv_hardware.proofs.Gap.Bound.{flight_time-most}
 use Rattle.rv_hardware.proofs.Turns.KeptByBroadcast.{IsKeptByBroadcast, broadcast-keeps}
 use Rattle.rv_hardware.proofs.Turns.KeptByDispatch.{IsKeptByDispatch, dispatch_turns-keep}
 use Rattle.rv_hardware.proofs.Turns.KeptByCycle.{execute-keeps}
-use Rattle.rv_hardware.proofs.Turns.KeptByDrain.{drain-keeps}
-use Rattle.rv_hardware.proofs.Gap.Drained.{Drains, drain-same, next_port_time}
+use Rattle.rv_hardware.proofs.Turns.KeptByDrain.{drain-keeps, drain-same}
+use Rattle.rv_hardware.proofs.Gap.Drained.{Drains, next_port_time}
 use Rattle.rv_hardware.proofs.Gap.Execute.{execute-same, later, same-longest}
 use Rattle.rv_hardware.proofs.Turns.Fetch.{fetch-cases}
 use Rattle.rv_hardware.proofs.Turns.Forms.{longest_access, longest_execution, longest_write_back}
 use Rattle.rv_hardware.proofs.Always.Halted.{HaltsBehind, words_of, runs-empty}
 use Rattle.rv_hardware.proofs.Turns.KeptByIssue.{IsKeptByIssue, issue-keeps}
 use Rattle.rv_hardware.proofs.Gap.Patience.{fetch_time, flight_time, patience, port_time, time_of_stores}
-use Rattle.rv_hardware.proofs.Gap.Reasons.{is_any_serialising}
+use Rattle.rv_hardware.proofs.Turns.Dispatch.{DispatchTurn, WaitsFor, buffer_empty, waits as word_waits, dispatches, for_serial, for_buffer, for_station, for_queue, dispatch_turn_is, is_any_serialising}
 use Rattle.rv_hardware.proofs.Always.Sizes.{HasSizes, sizes-kept}
 use Rattle.rv_hardware.proofs.Always.Sound.{IsBounded}
 
@@ -52,16 +51,8 @@ no_fetch_time [] some = absurd some
 no_fetch_time (f ∷ rest) some = refl
 
 -- ---- what a word waits for where nothing is in flight
-next_reason : (b : Bool) (given : Stall) (rest : Option Stall) (reason : Stall) → cond b (Some given) rest ≡ Some reason → b ≡ false → rest ≡ Some reason
-next_reason true given rest reason is fails = absurd (cc (fails))
-next_reason false given rest reason is fails = is
-
 le_none : (capacity : ℕ) → 1 ≤ capacity → nat_le capacity 0 ≡ false
 le_none capacity some = grind (arith, nat_tests)
-
-last_reason : (b : Bool) (reason : Stall) → cond b (Some stall.Store) None ≡ Some reason → b ≡ true
-last_reason true reason is = refl
-last_reason false reason is = absurd (cc)
 
 some_stations : (h : Hardware) (k : Kind) → HasSizes h → 1 ≤ (at_kind k h.values.kinds).stations
 some_stations h k sizes = (sizes.legal.kinds k).stations.0
@@ -71,20 +62,16 @@ free_stations h None sizes none = refl
 free_stations h (Some k) sizes none =
     ap (λ (l : List Entry). nat_le (at_kind k h.values.kinds).stations (length (filter (is_stationed k) l))) none ∙ le_none (at_kind k h.values.kinds).stations (some_stations h k sizes)
 
-waits_for_stores : (h : Hardware) (fetched : Fetched) (reason : Stall) → HasSizes h → h.rob.entries ≡ [] → reason_of h fetched ≡ Some reason → h.values.store_queue ≤ length h.committed
-waits_for_stores h fetched reason sizes none is =
-    let full : Bool = is_store fetched.instruction && nat_le h.values.store_queue (length (stores_behind h h.rob.entries)) in
-    let fourth : Option Stall = cond full (Some stall.Store) None in
-    let third : Option Stall = cond (has_full_stations h (kind_of_word fetched.instruction)) (Some stall.Station) fourth in
-    let second : Option Stall = cond (nat_le h.rob.capacity (length h.rob.entries)) (Some stall.Rob) third in
-    let alone : is_any_serialising h.rob.entries ≡ false = ap is_any_serialising none in
-    let capacity : 1 ≤ h.rob.capacity = omega (arith, sizes.rob_is, sizes.legal.pipeline.rob.0) in
-    let room : nat_le h.rob.capacity (length h.rob.entries) ≡ false = ap (λ (l : List Entry). nat_le h.rob.capacity (length l)) none ∙ le_none h.rob.capacity capacity in
-    let a = next_reason (is_any_serialising h.rob.entries) stall.Serial second reason is alone in
-    let b = next_reason (nat_le h.rob.capacity (length h.rob.entries)) stall.Rob third reason a room in
-    let c = next_reason (has_full_stations h (kind_of_word fetched.instruction)) stall.Station fourth reason b (free_stations h (kind_of_word fetched.instruction) sizes none) in
-    let stores = (and_parts (is_store fetched.instruction) (nat_le h.values.store_queue (length (stores_behind h h.rob.entries))) (last_reason full reason c)).1 in
-    let many = leb-true h.values.store_queue (length (stores_behind h h.rob.entries)) stores in
+waits_for_stores : (h : Hardware) (fetched : Fetched) → HasSizes h → h.rob.entries ≡ [] → WaitsFor h fetched → h.values.store_queue ≤ length h.committed
+waits_for_stores h fetched sizes none (for_serial is) = absurd (true≢false (sym is ∙ ap is_any_serialising none))
+waits_for_stores h fetched sizes none (for_buffer is) =
+    let capacity : 1 ≤ h.rob.capacity = omega (arith, sizes.buffer, sizes.legal.pipeline.rob.0) in
+    absurd (true≢false (sym is ∙ ap (λ (l : List Entry). nat_le h.rob.capacity (length l)) none ∙ le_none h.rob.capacity capacity))
+waits_for_stores h fetched sizes none (for_station is) =
+    absurd (true≢false (sym is ∙ free_stations h (kind_of_word fetched.instruction) sizes none))
+waits_for_stores h fetched sizes none (for_queue is) =
+    let full = (and_parts (is_store fetched.instruction) (nat_le h.values.store_queue (length (stores_behind h h.rob.entries))) is).1 in
+    let many = leb-true h.values.store_queue (length (stores_behind h h.rob.entries)) full in
     let count : length (stores_behind h h.rob.entries) ≡ length (stores_behind h []) = ap (λ l. length (stores_behind h l)) none in
     let empty : List Store = [] in
     omega (arith, many, count, length-append h.committed empty)
@@ -133,22 +120,20 @@ module _ (g : Hardware) (sizes : HasSizes g) (none : g.rob.entries ≡ []) (time
   abbrev first : Dispatching
   first = record { hardware = g; dispatched = 0; waits_for = None }
 
-  by_reason : (fetched : Fetched) (rest : List Fetched) (reason : Option Stall) → g.front.entries ≡ fetched ∷ rest → reason_of g fetched ≡ reason →
-      Dispatched time g (followed_by (repeated dispatch_turn width) (dispatch_unless reason fetched rest first)).hardware
-  by_reason fetched rest None words is =
-      entered (dispatch_turns-keep (something_dispatch time) width (record { hardware = with_dispatched fetched rest g; dispatched = 0 + 1; waits_for = None }) (pushed_cons g.rob.entries _, port))
-  by_reason fetched rest (Some reason) words is =
-      waits refl (subst IsCons (sym words) tt) (waits_for_stores g fetched reason sizes none is)
-
-  by_words : (words : List Fetched) → g.front.entries ≡ words → Dispatched time g (followed_by (repeated dispatch_turn width) (dispatch_turn_of words first)).hardware
-  by_words [] is = none_fetched refl is
-  by_words (fetched ∷ rest) is = by_reason fetched rest (reason_of g fetched) is refl
+  by_turn : (t : Turn Dispatching) → DispatchTurn first t → Dispatched time g (followed_by (repeated dispatch_turn width) t).hardware
+  by_turn _ (buffer_empty words) = none_fetched refl words
+  by_turn _ (word_waits fetched rest reason words why) =
+      waits refl (subst IsCons (sym words) tt) (waits_for_stores g fetched sizes none why)
+  by_turn _ (dispatches fetched rest words nothing) =
+      let after : Dispatching = record { hardware = with_dispatched fetched rest g; dispatched = 0 + 1; waits_for = None } in
+      entered (dispatch_turns-keep (something_dispatch time) width after (pushed_cons g.rob.entries _, port))
 
 dispatched : (g : Hardware) → HasSizes g → g.rob.entries ≡ [] → (time : ℕ) → next_port_time g ≡ time → Dispatched time g (dispatch g).hardware
 dispatched g sizes none time port =
     let wide : g.values.dispatch_width ≡ suc (g.values.dispatch_width - 1) = omega (arith, sizes.legal.pipeline.dispatch_width.0) in
+    let first_of_all : Dispatching = record { hardware = g; dispatched = 0; waits_for = None } in
     subst (λ n. Dispatched time g (repeated dispatch_turn n (record { hardware = g; dispatched = 0; waits_for = None })).hardware) (sym wide)
-    (by_words g sizes none time port (g.values.dispatch_width - 1) g.front.entries refl)
+    (by_turn g sizes none time port (g.values.dispatch_width - 1) (dispatch_turn first_of_all) (dispatch_turn_is first_of_all))
 
 -- ---- in all
 some_time : (access : ℕ) (stores : List Store) → 1 ≤ length stores → 1 ≤ time_of_stores access stores
@@ -207,8 +192,8 @@ module _ (h : Hardware) (front : FetchBuffer) (ram : Memory) (cycle : ℕ) (stop
       let no_entry : words_of h.rob.entries h.front.entries ≡ [] = ap (λ es. words_of es h.front.entries) none ∙ ap (λ ws. words_of [] ws) no_words in
       let runs = runs-empty h.front.halted (subst (HaltsBehind h.front.halted) no_entry halts) in
       let after : HasSizes d = execute-keeps sizes-kept.phases h sizes in
-      let wide : 1 ≤ d.front.width = omega (arith, after.width_is, after.legal.pipeline.fetch_width.0) in
-      let room : 1 ≤ d.front.capacity = omega (arith, after.buffer_is, after.legal.pipeline.fetch_buffer.0) in
+      let wide : 1 ≤ d.front.width = omega (arith, after.width, after.legal.pipeline.fetch_width.0) in
+      let room : 1 ≤ d.front.capacity = omega (arith, after.room, after.legal.pipeline.fetch_buffer.0) in
       let comes = word_comes ram cycle d.front front stop fetches (ap (λ (f : FetchBuffer). f.entries) old_front ∙ no_words) (ap (λ (f : FetchBuffer). f.halted) old_front ∙ runs) wide room in
       let still : new.rob.entries ≡ [] = ap (λ (g : Hardware). g.rob.entries) same ∙ nothing.0 in
       let port : port_time new ≡ time = ap next_port_time same ∙ nothing.1 in

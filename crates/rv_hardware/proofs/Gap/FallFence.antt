@@ -3,8 +3,8 @@ use Rattle.rv_hardware.proofs.Words.{◌≡◌, ℕ, ◌+◌, ◌*◌, ◌≤◌
 use Rattle.rv_hardware.proofs.Gap.Bound.{dirty_time-most}
 use Rattle.rv_hardware.proofs.Turns.KeptByBroadcast.{IsKeptByBroadcast, broadcast-keeps}
 use Rattle.rv_hardware.proofs.Turns.KeptByDispatch.{IsKeptByDispatch, dispatch-keeps}
-use Rattle.rv_hardware.proofs.Turns.KeptByDrain.{drain-keeps}
-use Rattle.rv_hardware.proofs.Gap.Drained.{Drains, SameButPort, drain-same, next_port_time}
+use Rattle.rv_hardware.proofs.Turns.KeptByDrain.{drain-keeps, SameButPort, drain-same}
+use Rattle.rv_hardware.proofs.Gap.Drained.{Drains, next_port_time}
 use Rattle.rv_hardware.proofs.Gap.Execute.{broadcast-same, head-broadcasted, head-dispatched, head-patience, issued-same, later, anywhere_closed}
 use Rattle.rv_hardware.proofs.Turns.Forms.{longest_access, longest_execution, longest_write_back}
 use Rattle.rv_hardware.proofs.Gap.Head.{HeadIs, IsAnywhere}

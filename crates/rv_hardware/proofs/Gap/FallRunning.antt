@@ -1,7 +1,8 @@
 -- Where the oldest instruction executes, a cycle brings its end nearer.
-use Rattle.rv_hardware.proofs.Words.{◌≡◌, ℕ, suc, ◌+◌, ◌-◌, ◌<◌, ◌≤◌, true, false, not, List, [], ◌∷◌, ◌++◌, length, is_none, nat_le, Some, None, Option, sym, refl, ap, ◌∙◌, subst, inl, inr, arith, le-leb, cases_lt, cond-false, cond-true, false≢true, lt-leb, is_serialising, Message, Instr, Issue, Kind, Values, finished, predicting, started, Entry, Stage, Finished, Running, Waiting, FetchBuffer, broadcast, broadcast_oldest, broadcast_result, broadcast_turn, has_result, result_at, execute, drain, Hardware, is_waiting, issue, oldest, oldest_from, repeated, by_test, Leaves, left_by_the_rest, kept_by_turns}
-use Rattle.rv_hardware.proofs.Turns.KeptByBroadcast.{IsMadeByBroadcast, result-makes}
-use Rattle.rv_hardware.proofs.Gap.Drained.{drain-same}
+use Rattle.rv_hardware.proofs.Words.{◌≡◌, ℕ, suc, ◌+◌, ◌-◌, ◌<◌, ◌≤◌, true, false, not, List, [], ◌∷◌, ◌++◌, is_none, Option, sym, refl, ap, ◌∙◌, subst, inl, inr, true≢false, arith, le-leb, cases_lt, is_serialising, Message, Instr, Issue, Kind, Values, finished, predicting, started, Entry, Stage, Finished, Running, Waiting, FetchBuffer, broadcast, broadcast_turn, has_result, result_at, execute, drain, Hardware, is_waiting, issue, Turn, repeated, EveryBehind, Leaves, left_by_the_rest, kept_by_turns}
+use Rattle.rv_hardware.proofs.Turns.Broadcast.{BroadcastTurn, HasRun, none_ready, sends, mends, broadcast_turn_is}
+use Rattle.rv_hardware.proofs.Turns.KeptByBroadcast.{IsMadeByBroadcast, sends-makes, mends-makes}
+use Rattle.rv_hardware.proofs.Turns.KeptByDrain.{drain-same}
 use Rattle.rv_hardware.proofs.Gap.Execute.{broadcast-same, execute-same, head-broadcasted, head-dispatched, head-turn, issued-same, later, plain-patience}
 use Rattle.rv_hardware.proofs.Gap.Head.{HeadIs, head-change, head-cut}
 use Rattle.rv_hardware.proofs.Turns.KeptByIssue.{IsKeptByIssue, issue-keeps}
@@ -21,16 +22,9 @@ IsOver (Running issue message) = ⊥
 IsOver (Finished issue cycle message) = Unit {0}
 
 -- ---- its result
-not_yet : (end cycle : ℕ) (stage : Stage) → RunsUntil end stage → cycle < end → result_at cycle stage ≡ None
-not_yet end cycle Waiting runs late = absurd runs
-not_yet end cycle (Running issue message) runs late =
-    cond-false (nat_le (issue.cycle + issue.cost) cycle) (Some message) None (lt-leb (issue.cycle + issue.cost) cycle (omega arith))
-not_yet end cycle (Finished issue finished message) runs late = absurd runs
-
-result_due : (end cycle : ℕ) (stage : Stage) → RunsUntil end stage → end ≤ cycle → (message : Message) × (result_at cycle stage ≡ Some message)
+result_due : (end cycle : ℕ) (stage : Stage) → RunsUntil end stage → end ≤ cycle → not (is_none (result_at cycle stage)) ≡ true
 result_due end cycle Waiting runs due = absurd runs
-result_due end cycle (Running issue message) runs due =
-    (message, cond-true (nat_le (issue.cycle + issue.cost) cycle) (Some message) None (le-leb (issue.cycle + issue.cost) cycle (omega arith)))
+result_due end cycle (Running issue message) runs due = rw (le-leb (issue.cycle + issue.cost) cycle (omega arith)) refl
 result_due end cycle (Finished issue finished message) runs due = absurd runs
 
 not_waiting : (end : ℕ) (stage : Stage) → is_waiting stage ≡ true → RunsUntil end stage → ⊥
@@ -61,8 +55,11 @@ module _ (h : Hardware) (front : FetchBuffer) (instruction : Option Instr) (end 
   -- ---- it goes on
   still_runs : h.cycle < end → HeadIs instruction (RunsUntil end) (execute h).hardware.rob.entries
   still_runs late =
-      let closed : (stage : Stage) (message : Message) (start : Option Issue) → result_at h.cycle stage ≡ Some message → RunsUntil end stage → RunsUntil end (Finished start h.cycle message) =
-      λ stage message start gives runs. absurd (cc (gives, not_yet end h.cycle stage runs late)) in
+      let closed : (stage : Stage) (message : Message) (start : Option Issue) → HasRun h.cycle stage message →
+      RunsUntil end stage → RunsUntil end (Finished start h.cycle message) =
+      λ stage message start gives runs.
+      let ends : gives.issue.cycle + gives.issue.cost ≡ end = subst (RunsUntil end) gives.runs runs in
+      absurd (omega (arith, ends, gives.over, late)) in
       head-dispatched instruction (RunsUntil end) h.cycle closed (broadcast issued)
       (head-broadcasted instruction (RunsUntil end) h.cycle closed issued runs_issued number) (broadcast-same issued ∙ number)
 
@@ -75,7 +72,8 @@ module _ (h : Hardware) (front : FetchBuffer) (instruction : Option Instr) (end 
   abbrev Over : Hardware → Type 0
   Over g = HeadIs instruction IsOver g.rob.entries × (g.cycle ≡ h.cycle)
 
-  over_closed : (stage : Stage) (message : Message) (start : Option Issue) → result_at h.cycle stage ≡ Some message → IsOver stage → IsOver (Finished start h.cycle message)
+  over_closed : (stage : Stage) (message : Message) (start : Option Issue) → HasRun h.cycle stage message →
+      IsOver stage → IsOver (Finished start h.cycle message)
   over_closed stage message start gives over = tt
 
   made_over : IsMadeByBroadcast (λ g older e. (older ≡ []) × (e.instruction ≡ instruction) × (g.cycle ≡ h.cycle)) Over
@@ -86,15 +84,27 @@ module _ (h : Hardware) (front : FetchBuffer) (instruction : Option Instr) (end 
         (head-cut instruction IsOver older younger e (predicting next e) refl refl (subst (HeadIs instruction IsOver) split over.0), over.1);
   }
 
-  first_result : end ≤ h.cycle → (entries : List Entry) → issued.rob.entries ≡ entries → HeadIs instruction (RunsUntil end) entries → Leaves Over (broadcast_oldest issued (oldest (has_result issued.cycle) entries))
-  first_result due [] split runs = absurd runs
-  first_result due (e ∷ es) split runs =
-      let none : List Entry = [] in
-      let result = result_due end issued.cycle e.stage runs.1 (omega (arith, number)) in
-      let makes : Leaves Over (broadcast_result issued (issued.rob.retired + length none) e (Some result.0)) = result-makes made_over issued [] es e result.0 (refl, runs.0, number) split result.1 in
-      by_test (λ found. Leaves Over (broadcast_oldest issued found)) (has_result issued.cycle [] e) (Some ([], e)) (oldest_from (has_result issued.cycle) (e ∷ []) es)
-      (λ has. subst (λ message. Leaves Over (broadcast_result issued (issued.rob.retired + length none) e message)) (sym result.1) makes)
-      (λ lacks. absurd (false≢true (sym lacks ∙ ap (λ (message : Option Message). not (is_none message)) result.1)))
+  abbrev NoneDue : List Entry → Type 0
+  NoneDue = EveryBehind (λ before e. has_result issued.cycle before e ≡ false) []
+
+  one_is_due : end ≤ h.cycle → (entries : List Entry) → HeadIs instruction (RunsUntil end) entries → NoneDue entries → ⊥
+  one_is_due due [] runs none = runs
+  one_is_due due (e ∷ es) runs none =
+      true≢false (sym (result_due end issued.cycle e.stage runs.1 (omega (arith, number))) ∙ none.0)
+
+  it_is_first : end ≤ h.cycle → (older younger : List Entry) (e : Entry) → HeadIs instruction (RunsUntil end) (older ++ e ∷ younger) →
+      NoneDue older → (older ≡ []) × (e.instruction ≡ instruction)
+  it_is_first due [] younger e runs none = (refl, runs.0)
+  it_is_first due (o ∷ older) younger e runs none = absurd (one_is_due due (o ∷ []) runs (none.0, tt))
+
+  first_result : end ≤ h.cycle → (t : Turn Hardware) → BroadcastTurn issued t → Leaves Over t
+  first_result due _ (none_ready none) = absurd (one_is_due due issued.rob.entries runs_issued none)
+  first_result due _ (sends older younger e issue message sent late) =
+      let first = it_is_first due older younger e (subst (HeadIs instruction (RunsUntil end)) sent.place runs_issued) sent.oldest_one in
+      sends-makes made_over issued older younger e issue message sent (first.0, first.1, number)
+  first_result due _ (mends older younger e issue message sent early) =
+      let first = it_is_first due older younger e (subst (HeadIs instruction (RunsUntil end)) sent.place runs_issued) sent.oldest_one in
+      mends-makes made_over issued older younger e issue message sent (first.0, first.1, number)
 
   is_over : end ≤ h.cycle → 1 ≤ issued.values.bus_width → HeadIs instruction IsOver (execute h).hardware.rob.entries
   is_over due wide =
@@ -102,7 +112,7 @@ module _ (h : Hardware) (front : FetchBuffer) (instruction : Option Instr) (end 
       let rest : ℕ = issued.values.bus_width - 1 in
       let turns : Over (repeated broadcast_turn (suc rest) issued) =
       left_by_the_rest Over Over (repeated broadcast_turn rest) (λ g over. kept_by_turns Over broadcast_turn (head-turn instruction IsOver h.cycle over_closed) rest g over)
-      (broadcast_turn issued) (first_result due issued.rob.entries refl runs_issued) in
+      (broadcast_turn issued) (first_result due (broadcast_turn issued) (broadcast_turn_is issued)) in
       let all : Over (broadcast issued) = subst (λ n. Over (repeated broadcast_turn n issued)) (sym width) turns in
       head-dispatched instruction IsOver h.cycle over_closed (broadcast issued) all.0 all.1
 

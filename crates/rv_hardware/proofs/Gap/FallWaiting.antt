@@ -3,7 +3,8 @@ use Rattle.rv_hardware.proofs.Words.{◌≡◌, ℕ, zero, suc, ◌+◌, ◌-◌
 use Rattle.rv_hardware.proofs.Gap.Bound.{free_time-most, no_more, unit_time-most}
 use Rattle.rv_hardware.proofs.Turns.KeptByBroadcast.{IsKeptByBroadcast, broadcast-keeps}
 use Rattle.rv_hardware.proofs.Turns.KeptByDispatch.{IsKeptByDispatch, dispatch-keeps}
-use Rattle.rv_hardware.proofs.Gap.Drained.{Drains, drain-same, next_port_time}
+use Rattle.rv_hardware.proofs.Gap.Drained.{Drains, next_port_time}
+use Rattle.rv_hardware.proofs.Turns.KeptByDrain.{drain-same}
 use Rattle.rv_hardware.proofs.Gap.Execute.{begun-patience, begun_closed, begun_stage, broadcast-same, execute-same, head-broadcasted, head-dispatched, issued-same, later, plain-patience, same-longest, waits_closed, anywhere_closed}
 use Rattle.rv_hardware.proofs.Turns.Forms.{longest_access, longest_execution}
 use Rattle.rv_hardware.proofs.Gap.Head.{HasBegun, HeadIs, Waits, head-change, head-weaken, IsAnywhere}
@@ -105,7 +106,7 @@ module _ (h : Hardware) (front : FetchBuffer) (instruction : Option Instr) (k : 
       dispatch-keeps keeps_dispatch (broadcast issued) (broadcast-keeps keeps_broadcast issued (can.1, port_when issued can.3)) in
       let patient = plain-patience new instruction Waits (unit_time (h.cycle + 1) pool.starts + longest_execution h + 2) (new.cycle + longest_execution new) plain
       (λ stage waiting ends. still_waits stage waiting keeps) waits ending in
-      let some : 1 ≤ pool.units = omega (arith, some_units h k sizes, sizes.units_are k) in
+      let some : 1 ≤ pool.units = omega (arith, some_units h k sizes, sizes.units k) in
       let falls = unit_time-held h.cycle pool some held in
       let least = free_time-least (cond (is_load instruction) (port_time h) 0) (unit_time (h.cycle + 1) pool.starts) (unit_time h.cycle pool.starts) (longest_execution h) falls most in
       omega (arith, patient, least, is)

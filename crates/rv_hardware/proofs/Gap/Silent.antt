@@ -1,7 +1,7 @@
 -- A commit phase that reports no step and does not stop leaves its oldest instruction waiting.
-use Rattle.rv_hardware.proofs.Words.{◌≡◌, ℕ, suc, ◌-◌, ◌≤◌, Bool, true, false, cond, ◌⊎◌, List, [], ◌∷◌, ◌++◌, ◌==◌, Some, None, Option, nat_cmp, sym, refl, subst, inl, inr, arith, Message, Fault, Instr, Csr, FenceI, Mret, word_of, due, Effect, Faults, Retires, Entry, Stage, Committing, commit, commit_turn, commit_turn_of, commit_unless, execute_head, fence_instructions, finish_broadcast, finish_head, head_turn, is_drained, retire, take_effect, with_write_back, write_back_time, Hardware, broadcast_of, Ends, GoesOn, Turn, followed_by, repeated, row_of, with_result, written_of, flushed, Step, by_test, Leaves, kept_by_turns}
+use Rattle.rv_hardware.proofs.Words.{◌≡◌, ℕ, suc, ◌-◌, ◌≤◌, Bool, true, false, ◌⊎◌, List, [], ◌∷◌, ◌++◌, ◌==◌, Some, None, Option, nat_cmp, sym, refl, subst, inl, inr, arith, is_serialising, Instr, Csr, FenceI, Mret, due, Entry, Stage, Committing, commit, commit_turn, commit_unless, is_drained, with_write_back, write_back_time, Hardware, broadcast_of, Ends, GoesOn, Turn, followed_by, repeated, Step, Leaves, kept_by_turns}
 use Rattle.std.specs.FinSet as set
-use Rattle.rv_arch.specs.declared.outcome.Stop.TheVariants as stop
+use Rattle.rv_hardware.proofs.Turns.Commit.{CommitTurn, no_head, stale_head, unfinished, fence_waits, fence_writes, fence_retires, executes, serial_faults, traps, retires, retires_last, commit_turn_is}
 
 -- ---- a step that was reported stays reported
 abbrev IsSome : List Step → Type 0
@@ -14,42 +14,6 @@ some_push (t ∷ ss) s = tt
 
 abbrev HasStep : Committing → Type 0
 HasStep c = IsSome c.steps
-
-effect_steps : (e : Entry) (effect : Effect) (c : Committing) → HasStep (take_effect e effect c)
-effect_steps e (Retires written next) c = some_push c.steps _
-effect_steps e (Faults cause value) c = some_push c.steps _
-
-executed_steps : (e : Entry) (instruction : Instr) (c : Committing) → HasStep (execute_head e instruction c)
-executed_steps e instruction c = effect_steps e _ c
-
-retired_steps : (e : Entry) (message : Message) (c : Committing) → Leaves HasStep (retire e message c)
-retired_steps e message c =
-    let h : Hardware = with_result e message c.hardware in
-    let c' : Committing = record c { hardware = h; steps = c.steps ++ row_of e (written_of e message) c.hardware.cycle ∷ [] } in
-    by_test (Leaves HasStep) (message.next_pc == e.predicted_next) (GoesOn c') (Ends (record c' { hardware = flushed h }))
-    (λ right. some_push c.steps _) (λ wrong. some_push c.steps _)
-
-finished_steps : (e : Entry) (message : Message) (fault : Option Fault) (c : Committing) → Leaves HasStep (finish_head e message fault c)
-finished_steps e message None c = retired_steps e message c
-finished_steps e message (Some fault) c = some_push c.steps _
-
-known_steps : (e : Entry) (message : Option Message) (c : Committing) → HasStep c → Leaves HasStep (finish_broadcast e message c)
-known_steps e None c some = some
-known_steps e (Some message) c some = finished_steps e message message.fault c
-
-fence_steps : (e : Entry) (c : Committing) → HasStep c → HasStep (fence_instructions e c)
-fence_steps e c some =
-    let written_back : Committing = record c { hardware = with_write_back c.hardware } in
-    by_test HasStep (is_drained c.hardware) (cond (write_back_time c.hardware == 0) (execute_head e FenceI written_back) written_back) c
-    (λ drained.
-    by_test HasStep (write_back_time c.hardware == 0) (execute_head e FenceI written_back) written_back
-    (λ clean. executed_steps e FenceI written_back) (λ dirty. some)) (λ waits. some)
-
-head_steps : (e : Entry) (instruction : Option Instr) (c : Committing) → HasStep c → Leaves HasStep (head_turn e instruction c)
-head_steps e (Some FenceI) c some = fence_steps e c some
-head_steps e (Some (Csr op rd csr source)) c some = executed_steps e (Csr op rd csr source) c
-head_steps e (Some Mret) c some = executed_steps e Mret c
-head_steps e _ c some = known_steps e (broadcast_of e.stage) c some
 
 -- ---- what a silent commit leaves
 abbrev pub SilentFence : Hardware → Hardware → Type 0
@@ -68,60 +32,71 @@ abbrev pub SilentAt : List Entry → Hardware → Hardware → Type 0
 SilentAt [] h after = after ≡ h
 SilentAt (e ∷ es) h after = SilentHead e.instruction e.stage h after
 
+silent_plain : (h : Hardware) (instruction : Option Instr) (stage : Stage) → is_serialising instruction ≡ false → broadcast_of stage ≡ None →
+    SilentHead instruction stage h h
+silent_plain h (Some FenceI) stage plain unknown = absurd (cc)
+silent_plain h (Some (Csr op rd csr source)) stage plain unknown = absurd (cc)
+silent_plain h (Some Mret) stage plain unknown = absurd (cc)
+silent_plain h _ stage plain unknown = (unknown, refl)
+
 module _ (is_stale : set.FinSet nat_cmp → ℕ → Bool) where
-  stale_steps : (es : List Entry) (c : Committing) → HasStep c → Leaves HasStep (commit_turn_of is_stale es c)
-  stale_steps [] c some = some
-  stale_steps (e ∷ es) c some =
-      by_test (Leaves HasStep) (is_stale c.hardware.stale (word_of e.pc)) (Ends (record c { stop = Some (stop.Stale e.pc) })) (head_turn e e.instruction c)
-      (λ stale. some) (λ fresh. head_steps e e.instruction c some)
+  turn_steps : (c : Committing) (t : Turn Committing) → CommitTurn is_stale c t → HasStep c → Leaves HasStep t
+  turn_steps c _ (no_head none) some = some
+  turn_steps c _ (stale_head e es at is) some = some
+  turn_steps c _ (unfinished e es head plain none) some = some
+  turn_steps c _ (fence_waits e es head is busy) some = some
+  turn_steps c _ (fence_writes e es head is drained dirty) some = some
+  turn_steps c _ (fence_retires e es written next head is drained) some = some_push c.steps _
+  turn_steps c _ (executes e es written next head serial) some = some_push c.steps _
+  turn_steps c _ (serial_faults e es cause value head serial) some = some_push c.steps _
+  turn_steps c _ (traps e es issue cycle message fault head plain at is) some = some_push c.steps _
+  turn_steps c _ (retires e es issue cycle message head plain at none) some = some_push c.steps _
+  turn_steps c _ (retires_last e es issue cycle message head plain at none) some = some_push c.steps _
 
   module _ (h : Hardware) (width : ℕ) where
     abbrev rest : Committing → Committing
     rest c = repeated (commit_turn is_stale) width c
 
-    abbrev Outcome : (Hardware → Type 0) → Turn Committing → Type 0
-    Outcome Left t = (followed_by rest t).steps ≡ [] → (followed_by rest t).stop ≡ None → Left (followed_by rest t).hardware
+    abbrev Left : Hardware → Type 0
+    Left after = SilentAt h.rob.entries h after
+
+    abbrev Outcome : Turn Committing → Type 0
+    Outcome t = (followed_by rest t).steps ≡ [] → (followed_by rest t).stop ≡ None → Left (followed_by rest t).hardware
 
     none_reported : (steps : List Step) → IsSome steps → steps ≡ [] → ⊥
     none_reported [] some none = some
     none_reported (s ∷ ss) some none = cc
 
     -- a turn that reports is not silent
-    reports : (Left : Hardware → Type 0) (t : Turn Committing) → Leaves HasStep t → Outcome Left t
-    reports Left (GoesOn c) some silent going =
-        let still = kept_by_turns HasStep (commit_turn is_stale) (λ d was. stale_steps d.hardware.rob.entries d was) width c some in
+    reports : (t : Turn Committing) → Leaves HasStep t → Outcome t
+    reports (GoesOn c) some silent going =
+        let still = kept_by_turns HasStep (commit_turn is_stale) (λ d was. turn_steps d (commit_turn is_stale d) (commit_turn_is is_stale d) was) width c some in
         absurd (none_reported (rest c).steps still silent)
-    reports Left (Ends c) some silent going = absurd (none_reported c.steps some silent)
+    reports (Ends c) some silent going = absurd (none_reported c.steps some silent)
 
     abbrev start : Committing
     start = record { hardware = h; steps = []; stop = None }
 
-    fence_outcome : (e : Entry) → Outcome (SilentFence h) (Ends (fence_instructions e start))
-    fence_outcome e =
-        let written_back : Committing = record start { hardware = with_write_back h } in
-        by_test (λ c. Outcome (SilentFence h) (Ends c)) (is_drained h) (cond (write_back_time h == 0) (execute_head e FenceI written_back) written_back) start
-        (λ drained.
-        by_test (λ c. Outcome (SilentFence h) (Ends c)) (write_back_time h == 0) (execute_head e FenceI written_back) written_back
-        (λ clean. reports (SilentFence h) (Ends (execute_head e FenceI written_back)) (executed_steps e FenceI written_back))
-        (λ dirty silent going. inr (drained, dirty, refl)))
-        (λ waits silent going. inl (waits, refl))
+    at_head : (e : Entry) (es : List Entry) (after : Hardware) → h.rob.entries ≡ e ∷ es → SilentHead e.instruction e.stage h after → Left after
+    at_head e es after split silent = subst (λ l. SilentAt l h after) (sym split) silent
 
-    known_outcome : (e : Entry) (message : Option Message) → broadcast_of e.stage ≡ message → Outcome (λ after. (broadcast_of e.stage ≡ None) × (after ≡ h)) (finish_broadcast e message start)
-    known_outcome e None is = λ silent going. (is, refl)
-    known_outcome e (Some message) is =
-        reports (λ after. (broadcast_of e.stage ≡ None) × (after ≡ h)) (finish_head e message message.fault start) (finished_steps e message message.fault start)
+    at_fence : (e : Entry) (es : List Entry) (after : Hardware) → h.rob.entries ≡ e ∷ es → e.instruction ≡ Some FenceI → SilentFence h after → Left after
+    at_fence e es after split is silent = at_head e es after split (subst (λ i. SilentHead i e.stage h after) (sym is) silent)
 
-    head_outcome : (e : Entry) (instruction : Option Instr) → Outcome (SilentHead instruction e.stage h) (head_turn e instruction start)
-    head_outcome e (Some FenceI) = fence_outcome e
-    head_outcome e (Some (Csr op rd csr source)) = reports (λ after. ⊥) (Ends (execute_head e (Csr op rd csr source) start)) (executed_steps e (Csr op rd csr source) start)
-    head_outcome e (Some Mret) = reports (λ after. ⊥) (Ends (execute_head e Mret start)) (executed_steps e Mret start)
-    head_outcome e _ = known_outcome e (broadcast_of e.stage) refl
-
-    entries_outcome : (entries : List Entry) → Outcome (SilentAt entries h) (commit_turn_of is_stale entries start)
-    entries_outcome [] = λ silent going. refl
-    entries_outcome (e ∷ es) =
-        by_test (Outcome (SilentHead e.instruction e.stage h)) (is_stale h.stale (word_of e.pc)) (Ends (record start { stop = Some (stop.Stale e.pc) })) (head_turn e e.instruction start)
-        (λ stale silent going. absurd (cc)) (λ fresh. head_outcome e e.instruction)
+    first_outcome : (t : Turn Committing) → CommitTurn is_stale start t → Outcome t
+    first_outcome _ (no_head none) = λ silent going. subst (λ l. SilentAt l h h) (sym none) refl
+    first_outcome _ (stale_head e es at is) = λ silent going. absurd (cc)
+    first_outcome _ (unfinished e es head plain none) = λ silent going.
+        at_head e es h head.place (silent_plain h e.instruction e.stage plain none)
+    first_outcome _ (fence_waits e es head is busy) = λ silent going. at_fence e es h head.place is (inl (busy, refl))
+    first_outcome _ (fence_writes e es head is drained dirty) = λ silent going.
+        at_fence e es (with_write_back h) head.place is (inr (drained, dirty, refl))
+    first_outcome _ (fence_retires e es written next head is drained) = reports (Ends _) tt
+    first_outcome _ (executes e es written next head serial) = reports (Ends _) tt
+    first_outcome _ (serial_faults e es cause value head serial) = reports (Ends _) tt
+    first_outcome _ (traps e es issue cycle message fault head plain at is) = reports (Ends _) tt
+    first_outcome _ (retires e es issue cycle message head plain at none) = reports (GoesOn _) tt
+    first_outcome _ (retires_last e es issue cycle message head plain at none) = reports (Ends _) tt
 
   unless_silent : (code : Option ℕ) (h : Hardware) → 1 ≤ h.values.commit_width → (commit_unless is_stale code h).steps ≡ [] → (commit_unless is_stale code h).stop ≡ None →
       SilentAt h.rob.entries h (commit_unless is_stale code h).hardware
@@ -130,7 +105,7 @@ module _ (is_stale : set.FinSet nat_cmp → ℕ → Bool) where
       let width : h.values.commit_width ≡ suc (h.values.commit_width - 1) = omega arith in
       let first : Committing = record { hardware = h; steps = []; stop = None } in
       subst (λ w. (repeated (commit_turn is_stale) w first).steps ≡ [] → (repeated (commit_turn is_stale) w first).stop ≡ None → SilentAt h.rob.entries h (repeated (commit_turn is_stale) w first).hardware)
-      (sym width) (entries_outcome h (h.values.commit_width - 1) h.rob.entries) silent going
+      (sym width) (first_outcome h (h.values.commit_width - 1) (commit_turn is_stale first) (commit_turn_is is_stale first)) silent going
 
   -- a commit phase that reports no step and does not stop leaves its oldest waiting
   pub silent_commit : (h : Hardware) → 1 ≤ h.values.commit_width → (commit is_stale h).steps ≡ [] → (commit is_stale h).stop ≡ None → SilentAt h.rob.entries h (commit is_stale h).hardware

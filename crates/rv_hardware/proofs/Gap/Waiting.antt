@@ -2,7 +2,7 @@
 use Rattle.rv_hardware.proofs.Words.{◌≡◌, ℕ, suc, ◌+◌, ◌-◌, ◌≤◌, true, false, ◌⊎◌, List, [], ◌∷◌, Some, Option, sym, refl, ap, ◌∙◌, subst, inl, inr, arith, cases_Bool, false≢true, is_same-own, is_same-true, with_kind-other, is_load, is_of_kind, kind_of_word, at_kind, is_same, Message, Instr, Kind, Pool, is_free, started, with_entry, Entry, Hardware, FromCache, FromStores, Path, Without, is_ready, issue, issue_kind, issue_oldest, issue_turn, issued, oldest, oldest_from, path, with_access, with_start, Ends, Turn, followed_by, repeated, by_test, Leaves, left_by_the_rest, kept_by_turns}
 use Rattle.rv_isa.specs.declared.operations.Kind.TheVariants as kind
 use Rattle.rv_hardware.proofs.Gap.Head.{HasBegun, HeadIs, Waits, head-change}
-use Rattle.rv_hardware.proofs.Turns.KeptByIssue.{IsKeptByIssue, issue_kind-keeps, issue_turn-keeps}
+use Rattle.rv_hardware.proofs.Turns.KeptByIssue.{IsKeptByIssue, starts-keep, issue_kind-keeps, issue_turn-keeps}
 use Rattle.rv_hardware.proofs.Gap.Ready.{CanGo, cache_access, loads_of_mem, ready_head}
 use Rattle.rv_hardware.proofs.Oldest.{with_entry-at}
 
@@ -16,7 +16,7 @@ begun_by_issue instruction j = record {
 }
 
 pub begun-issue_kind : (instruction : Option Instr) (j : Kind) (h : Hardware) → HeadIs instruction HasBegun h.rob.entries → HeadIs instruction HasBegun (issue_kind j h).rob.entries
-begun-issue_kind instruction j h head = issue_kind-keeps (begun_by_issue instruction j) h head
+begun-issue_kind instruction j h head = issue_kind-keeps j (starts-keep (begun_by_issue instruction j)) h head
 
 module _ (instruction : Option Instr) (k : Kind) (of_kind : kind_of_word instruction ≡ Some k) (pool : Pool) (cycle : ℕ) where
   -- it waits, and can go
@@ -53,7 +53,7 @@ module _ (instruction : Option Instr) (k : Kind) (of_kind : kind_of_word instruc
   }
 
   others_turn : (j : Kind) → is_same k j ≡ false → (h : Hardware) → CanStart h → CanStart (issue_kind j h)
-  others_turn j other h can = issue_kind-keeps (others_keep j other) h can
+  others_turn j other h can = issue_kind-keeps j (starts-keep (others_keep j other)) h can
 
   after_others : (j : Kind) → is_same k j ≡ false → (h : Hardware) → IsAfterIssue h → IsAfterIssue (issue_kind j h)
   after_others j other h (inl (can, held)) = inl (others_turn j other h can, held)
@@ -86,7 +86,7 @@ module _ (instruction : Option Instr) (k : Kind) (of_kind : kind_of_word instruc
   begun_after : (units : ℕ) (t : Turn Hardware) → Leaves (λ (after : Hardware). HeadIs instruction HasBegun after.rob.entries) t → HeadIs instruction HasBegun (followed_by (repeated (issue_turn k) units) t).rob.entries
   begun_after units t begun =
       let Begun : Hardware → Type 0 = λ after. HeadIs instruction HasBegun after.rob.entries in
-      left_by_the_rest Begun Begun (repeated (issue_turn k) units) (kept_by_turns Begun (issue_turn k) (issue_turn-keeps (begun_by_issue instruction k)) units) t begun
+      left_by_the_rest Begun Begun (repeated (issue_turn k) units) (kept_by_turns Begun (issue_turn k) (issue_turn-keeps k (starts-keep (begun_by_issue instruction k))) units) t begun
 
   own_turns : (units : ℕ) (h : Hardware) → CanStart h → IsAfterIssue (repeated (issue_turn k) (suc units) h)
   own_turns units h can =

@@ -1,6 +1,7 @@
 -- The dispatch phase changes nothing that programs see.
-use Rattle.rv_hardware.proofs.Words.{◌≡◌, ℕ, Bool, true, false, List, [], ◌∷◌, ◌++◌, Some, None, Option, sym, refl, ◌∙◌, subst, true≢false, no_lines, is_load, is_serialising, kind_of_word, sources_of_word, Instr, Branch, Csr, Jalr, Load, Op, OpImmediate, Shift, Kind, Values, Layout, State, pushed, Entry, Finished, Fetched, Dispatching, dispatch, dispatch_turn, dispatch_turn_of, dispatch_unless, entry_of_fetched, reason_of, stage_by, Hardware, result_of_word, layout_of, seen, seen_behind, Stall, Leaves, kept_by_turns}
+use Rattle.rv_hardware.proofs.Words.{◌≡◌, ℕ, Bool, true, false, List, [], ◌∷◌, ◌++◌, Some, None, Option, sym, refl, ◌∙◌, subst, true≢false, no_lines, is_load, is_serialising, kind_of_word, sources_of_word, Instr, Branch, Csr, Jalr, Load, Op, OpImmediate, Shift, Kind, Values, Layout, State, pushed, Entry, Finished, Fetched, dispatch, entry_of_fetched, stage_by, Hardware, result_of_word, layout_of, seen, seen_behind}
 use Rattle.rv_isa.specs.declared.instructions.Instr.TheVariants.{Store}
+use Rattle.rv_hardware.proofs.Turns.KeptByDispatch.{dispatch-keeps}
 use Rattle.rv_hardware.proofs.Headline.Fold.{behind, IsResult, IsInFlight, AreInBuffer}
 use Rattle.rv_hardware.proofs.Headline.Invariant.{FollowsProgram, IsSoundAt, with_other_program}
 use Rattle.rv_hardware.proofs.Headline.Result.{ReadsSame, same_result}
@@ -63,22 +64,12 @@ module _ (h : Hardware) (fetched : Fetched) where
       }
 
 module _ (values : Values) (cycle : ℕ) (state : State) where
-  abbrev Kept : Dispatching → Type 0
-  Kept d = IsSoundAt values cycle state d.hardware
-
-  unless_kept : (o : Option Stall) (fetched : Fetched) (rest : List Fetched) (d : Dispatching) → fetched ∷ rest ≡ d.hardware.front.entries → Kept d → Leaves Kept (dispatch_unless o fetched rest d)
-  unless_kept (Some reason) fetched rest d are is = is
-  unless_kept None fetched rest d are is =
-      let h = d.hardware in
-      with_other_program values cycle state h is h.units (pushed (entry_of_fetched h fetched) h.rob) (record h.front { entries = rest })
-      (dispatched_program h fetched rest
-      (subst (λ (es : List Fetched). FollowsProgram (layout_of h.values) (seen h) h.rob.entries (record h.front { entries = es })) (sym are) is.sound.program))
-
-  turn_kept : (es : List Fetched) (d : Dispatching) → es ≡ d.hardware.front.entries → Kept d → Leaves Kept (dispatch_turn_of es d)
-  turn_kept [] d are is = is
-  turn_kept (fetched ∷ rest) d are is = unless_kept (reason_of d.hardware fetched) fetched rest d are is
-
   -- the dispatch phase keeps the hardware sound, with the same state seen
   pub dispatch_kept : (h : Hardware) → IsSoundAt values cycle state h → IsSoundAt values cycle state (dispatch h).hardware
   dispatch_kept h is =
-      kept_by_turns Kept dispatch_turn (λ d. turn_kept d.hardware.front.entries d refl) h.values.dispatch_width (record { hardware = h; dispatched = 0; waits_for = None }) is
+      dispatch-keeps {P = IsSoundAt values cycle state} (record {
+        dispatches = λ h fetched rest is first none.
+            with_other_program values cycle state h is h.units (pushed (entry_of_fetched h fetched) h.rob) (record h.front { entries = rest })
+            (dispatched_program h fetched rest
+            (subst (λ (es : List Fetched). FollowsProgram (layout_of h.values) (seen h) h.rob.entries (record h.front { entries = es })) first is.sound.program));
+      }) h is

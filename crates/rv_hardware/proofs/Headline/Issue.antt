@@ -1,7 +1,6 @@
 -- The issue phase changes nothing that programs see, and what it computes is the one-at-a-time machine's.
-use Rattle.rv_hardware.proofs.Words.{◌≡◌, ℕ, ◌+◌, ◌<◌, ◌≤◌, Bool, true, false, not, ◌&&◌, ◌||◌, List, ◌∷◌, ◌++◌, length, if◌then◌else◌, Some, None, Option, sym, refl, ap, ◌∙◌, subst, inl, inr, arith, leb-true, and_parts, false≢true, list_all, is_load, is_of_kind, is_serialising, kind_of_word, sources_of_word, width_of, at_kind, with_kind, Message, Instr, Csr, FenceI, Load, Mret, Kind, Values, is_aligned, is_in_ram, State, consistent_after, is_known as is_known_store, is_free, started, changed, Entry, Running, Hardware, is_waiting, FromCache, FromStores, Path, Without, cost_of, has_operands, has_port, is_ready, issue, issue_kind, issue_oldest, issue_turn, issued, may_load, oldest, path, path_of, with_access, with_start, Ends, layout_of, seen, seen_behind, stores_behind, Leaves, kept_by_turns}
+use Rattle.rv_hardware.proofs.Words.{is_known as is_known_store, ◌≡◌, ℕ, ◌+◌, ◌<◌, ◌≤◌, Bool, true, false, not, ◌&&◌, ◌||◌, List, ◌∷◌, ◌++◌, length, if◌then◌else◌, Some, Option, sym, refl, ap, ◌∙◌, subst, inl, inr, arith, leb-true, and_parts, false≢true, list_all, is_load, kind_of_word, width_of, at_kind, with_kind, Message, Instr, Load, Kind, Values, is_aligned, is_in_ram, State, consistent_after, started, changed, Entry, Running, Hardware, FromCache, FromStores, Path, Without, cost_of, has_port, is_ready, issue, issued, path, path_of, with_access, with_start, layout_of, seen, seen_behind, stores_behind}
 use Rattle.rv_isa.specs.declared.Issue.{Issue}
-use Rattle.rv_isa.specs.declared.operations.Kind.TheVariants as kind
 use Rattle.rv_units.specs.Pool.{started as started_unit}
 use Rattle.rv_hardware.proofs.Headline.Drain.{with_other_memory}
 use Rattle.rv_hardware.proofs.Headline.Fold.{result_at, behind, AreInFlight}
@@ -12,14 +11,9 @@ use Rattle.rv_hardware.proofs.Headline.Split.{AreInFlight-older}
 use Rattle.rv_hardware.proofs.Headline.Stage.{here_in_flight, FollowsProgram-staged}
 use Rattle.rv_hardware.proofs.Headline.Victim.{access_mixed}
 use Rattle.rv_hardware.proofs.Headline.Words.{memory_behind-fresh}
-use Rattle.rv_hardware.proofs.Oldest.{IsFound, oldest_found, with_entry-at}
-
--- an instruction with a unit is not serialising
-pub plain_by_kind : (k : Kind) (i : Option Instr) → is_of_kind k (kind_of_word i) ≡ true → is_serialising i ≡ false
-plain_by_kind k (Some FenceI) of = absurd (false≢true of)
-plain_by_kind k (Some (Csr op rd csr source)) of = absurd (false≢true of)
-plain_by_kind k (Some Mret) of = absurd (false≢true of)
-plain_by_kind k _ of = refl
+use Rattle.rv_hardware.proofs.Marks.Sound.{kind_is_plain, some_kind}
+use Rattle.rv_hardware.proofs.Turns.KeptByIssue.{ready-parts, issue-by}
+use Rattle.rv_hardware.proofs.Oldest.{with_entry-at}
 
 loads_known : (load known port : Bool) → (not load || (known && port)) ≡ true → load ≡ true → known ≡ true
 loads_known true known port may is = (and_parts known port may).0
@@ -88,31 +82,20 @@ module _ (values : Values) (cycle : ℕ) (state : State) where
   started_kept (FromCache address) k cost seq message older e younger h inside is entries at result =
       start_kept k cost seq message older e younger (with_access (FromCache address) h) (access_kept (FromCache address) h inside is) entries at result
 
-  issued_kept : (k : Kind) (h : Hardware) (older : List Entry) (e : Entry) → IsSoundAt values cycle state h → IsFound (is_ready h k) h.rob.entries older e → IsSoundAt values cycle state (issued k h older e)
-  issued_kept k h older e is found =
-      let entries : h.rob.entries ≡ older ++ e ∷ found.younger = found.split in
-      let all : AreInFlight (layout_of h.values) (seen h) (seen h) (older ++ e ∷ found.younger) = subst (AreInFlight (layout_of h.values) (seen h) (seen h)) entries is.sound.program.in_flight in
-      let here = here_in_flight (layout_of h.values) (seen h) older e found.younger all in
-      let passes = and_parts _ (may_load h older e) found.passes in
-      let ready = and_parts _ (has_operands older (sources_of_word e.instruction)) passes.0 in
-      let waits = and_parts (is_waiting e.stage) (is_of_kind k (kind_of_word e.instruction)) ready.0 in
-      let result = issued_result h older e (AreInFlight-older (layout_of h.values) (seen h) (seen h) older (e ∷ found.younger) all) here.pc
-      (plain_by_kind k e.instruction waits.1) ready.1 (loads_known (is_load e.instruction) (list_all is_known_store (stores_behind h older)) (has_port h (path h older e)) passes.1) in
-      started_kept (path h older e) k (cost_of h k (path h older e)) (h.rob.retired + length older) _ older e found.younger h (path_in_ram h older (seen_behind h older e.pc) e.instruction) is entries refl result
-
-  oldest_kept : (k : Kind) (h : Hardware) (o : Option (List Entry × Entry)) → oldest (is_ready h k) h.rob.entries ≡ o → IsSoundAt values cycle state h → Leaves (IsSoundAt values cycle state) (issue_oldest k h o)
-  oldest_kept k h None at is = is
-  oldest_kept k h (Some found) at is = issued_kept k h found.0 found.1 is (oldest_found (is_ready h k) h.rob.entries found.0 found.1 at)
-
-  turn_by : (b : Bool) (k : Kind) (h : Hardware) → IsSoundAt values cycle state h →
-      Leaves (IsSoundAt values cycle state) (if b then issue_oldest k h (oldest (is_ready h k) h.rob.entries) else Ends h)
-  turn_by true k h is = oldest_kept k h _ refl is
-  turn_by false k h is = is
-
-  kind_kept : (k : Kind) (h : Hardware) → IsSoundAt values cycle state h → IsSoundAt values cycle state (issue_kind k h)
-  kind_kept k h is =
-      kept_by_turns (IsSoundAt values cycle state) (issue_turn k) (λ now. turn_by (is_free now.cycle (at_kind k now.units)) k now) (at_kind k h.values.kinds).units h is
+  issued_kept : (k : Kind) (h : Hardware) (older younger : List Entry) (e : Entry) → IsSoundAt values cycle state h → h.rob.entries ≡ older ++ e ∷ younger →
+      is_ready h k older e ≡ true → IsSoundAt values cycle state (issued k h older e)
+  issued_kept k h older younger e is entries passes =
+      let all : AreInFlight (layout_of h.values) (seen h) (seen h) (older ++ e ∷ younger) =
+      subst (AreInFlight (layout_of h.values) (seen h) (seen h)) entries is.sound.program.in_flight in
+      let here = here_in_flight (layout_of h.values) (seen h) older e younger all in
+      let ready = ready-parts h k older e passes in
+      let plain = kind_is_plain e.instruction (some_kind k (kind_of_word e.instruction) ready.of_kind) in
+      let result = issued_result h older e (AreInFlight-older (layout_of h.values) (seen h) (seen h) older (e ∷ younger) all) here.pc plain ready.operands
+      (loads_known (is_load e.instruction) (list_all is_known_store (stores_behind h older)) (has_port h (path h older e)) ready.loads) in
+      started_kept (path h older e) k (cost_of h k (path h older e)) (h.rob.retired + length older) _ older e younger h
+      (path_in_ram h older (seen_behind h older e.pc) e.instruction) is entries refl result
 
   -- the issue phase keeps the hardware sound, with the same state seen
   pub issue_kept : (h : Hardware) → IsSoundAt values cycle state h → IsSoundAt values cycle state (issue h)
-  issue_kept h is = kind_kept kind.Mem _ (kind_kept kind.Div _ (kind_kept kind.Mul _ (kind_kept kind.Alu h is)))
+  issue_kept h is =
+      issue-by (IsSoundAt values cycle state) (λ k h older younger e is at ready free. issued_kept k h older younger e is at ready) h is

@@ -35,8 +35,8 @@ module _ (c : Committing) (is : IsSound c.hardware) where
   by_turn t (no_head at) = no_step c c refl refl
   by_turn t (stale_head e es at stale) = no_step c (record c { stop = Some (stop.Stale e.pc) }) refl refl
   by_turn t (unfinished e es head plain waits) = no_step c c refl refl
-  by_turn t (fence_waits e es head fence) = no_step c c refl refl
-  by_turn t (fence_writes e es head fence drained) = no_step c (written_back c) refl refl
+  by_turn t (fence_waits e es head fence busy) = no_step c c refl refl
+  by_turn t (fence_writes e es head fence drained dirty) = no_step c (written_back c) refl refl
   by_turn t (fence_retires e es written next head fence drained) =
       one_step c (executed e written next (written_back c)) (row_of e written c.hardware.cycle) refl (here e es head.place)
   by_turn t (executes e es written next head serial) =

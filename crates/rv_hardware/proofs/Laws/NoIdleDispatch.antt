@@ -9,7 +9,7 @@ use Rattle.rv_hardware.proofs.Marks.List.{Mark, Start, mark_of_row, mark_of_entr
 use Rattle.rv_hardware.proofs.Marks.Pairs.{Older, rows_are_older}
 use Rattle.rv_hardware.proofs.Marks.Past.{rows_obey}
 use Rattle.rv_hardware.proofs.Marks.Row.{SoundRow}
-use Rattle.rv_hardware.proofs.Always.Shape.{HasShape}
+use Rattle.rv_hardware.proofs.Always.Sizes.{HasShape}
 use Rattle.rv_hardware.proofs.Marks.Sound.{some_kind}
 use Rattle.rv_hardware.proofs.Marks.Widths.{is_at}
 

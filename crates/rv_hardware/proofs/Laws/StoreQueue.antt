@@ -1,6 +1,6 @@
 -- Every cycle keeps the store queue's tie to the rows, and so it holds no more stores than it has room for.
 pub mod Queue
-use Rattle.rv_hardware.proofs.Words.{◌≡◌, ℕ, zero, suc, ◌+◌, ◌<◌, ◌≤◌, Bool, true, false, cond, ◌&&◌, List, [], ◌∷◌, ◌++◌, map, length, is_some, nat_lt, nat_le, Some, None, filter, Option, nat_cmp, sym, refl, ap, ◌∙◌, subst, inl, inr, append_assoc, append-nil, arith, ltb-true, le-ltb, lt-ltb, le-leb, leb-true, and_from, cases_lt, is_serialising, is_store, Message, Instr, Issue, Lines, Kind, CacheValues, Values, due, interrupt_cause, Each, Store, Entry, Stage, Finished, broadcast, Committing, commit_unless, with_fault, with_lines, dispatch, drain, Hardware, FromCache, has_port, issue, NeverMoreThan, Turn, Report, written_of, is_queued_in, is_store_row, rows_of, Row, Step, Interrupt, Retired, Trap, and_first, and_second, Each-weaker, Each-all, count, count-count_by, count-append, count-none, count-map, count-le, count-length, Beginning-count, Leads}
+use Rattle.rv_hardware.proofs.Words.{◌≡◌, ℕ, zero, suc, ◌+◌, ◌<◌, ◌≤◌, Bool, true, false, cond, ◌&&◌, List, [], ◌∷◌, ◌++◌, map, length, is_some, nat_lt, nat_le, Some, None, filter, Option, nat_cmp, sym, refl, ap, ◌∙◌, subst, inl, inr, append_assoc, append-nil, arith, ltb-true, le-ltb, lt-ltb, le-leb, leb-true, and_from, cases_lt, is_serialising, is_store, Message, Issue, Lines, Kind, CacheValues, Values, due, interrupt_cause, Each, Store, Entry, Finished, broadcast, Committing, commit_unless, with_fault, with_lines, dispatch, drain, Hardware, broadcast_of, FromCache, has_port, issue, NeverMoreThan, Turn, Report, written_of, is_queued_in, is_store_row, rows_of, Row, Step, Interrupt, Retired, Trap, and_first, and_second, Each-weaker, Each-all, count, count-count_by, count-append, count-none, count-map, count-le, count-length, Beginning-count, Leads}
 use Rattle.std.specs.FinSet as set
 use Rattle.rv_hardware.proofs.Turns.KeptByBroadcast.{IsKeptByBroadcast, broadcast-keeps}
 use Rattle.rv_hardware.proofs.Turns.Costs.{access_cost-least}
@@ -9,7 +9,7 @@ use Rattle.rv_hardware.proofs.Turns.KeptByDrain.{IsKeptByDrain, drain-keeps}
 use Rattle.rv_hardware.proofs.Turns.KeptByIssue.{IsKeptByIssue, issue-keeps, ready-parts}
 use Rattle.rv_hardware.proofs.Always.Stores.{HasStores, store_count, instructions_of, stores-kept, stores-at_reset}
 use Rattle.rv_hardware.proofs.Headline.Stores.{serialising_is_no_store}
-use Rattle.rv_hardware.proofs.Turns.Commit.{CommitTurn, no_head, stale_head, unfinished, fence_waits, fence_writes, fence_retires, executes, serial_faults, traps, retires, retires_last, written_back, retired_with}
+use Rattle.rv_hardware.proofs.Turns.Commit.{CommitTurn, no_head, stale_head, unfinished, fence_waits, fence_writes, fence_retires, executes, serial_faults, traps, retires, retires_last, written_back, retired_with, head_retired_entries}
 use Rattle.rv_hardware.proofs.Marks.Counted.{count-as_of}
 use Rattle.rv_hardware.proofs.Marks.History.{Anything, anything_is_kept, Passed, History, began, went_on, begin, committing, drained, cycle_passes, history_is_legal, history_is_sound}
 use Rattle.rv_hardware.proofs.Marks.Keeps.{history_keeps, InCommit, commit_turns_keep}
@@ -19,9 +19,8 @@ use Rattle.rv_hardware.proofs.Laws.Port.Loads.{has_its_port, port_grows}
 use Rattle.rv_hardware.proofs.Laws.Port.Phases.{drained_idle}
 use Rattle.rv_hardware.proofs.Laws.StoreQueue.Queue.{QueueOk, queued_length, queue_later, queue_next, plain_retires, queue_retires, queue_leaves, queue_begins}
 use Rattle.rv_hardware.proofs.Marks.Row.{SoundRow, row_at, retiring_is_one, may_retire_serial, may_retire_finished, MayRetire}
-use Rattle.rv_hardware.proofs.Always.Shape.{head_retired_entries}
 use Rattle.rv_hardware.proofs.Marks.Sound.{SoundEntry, row_decodes}
-use Rattle.rv_hardware.proofs.Always.Told.{Telling, AreTelling, TellsIn, telling-kept}
+use Rattle.rv_hardware.proofs.Always.Entries.{AreShaped, Shaped, told_at_end, entries-kept}
 use Rattle.rv_hardware.proofs.Marks.Widths.{count_marks}
 
 abbrev pub Queue : Values → ℕ → List Step → Hardware → Type 0
@@ -31,7 +30,7 @@ Queue v now steps h = QueueOk v.cache.hit now (rows_of steps) h.port_free h.comm
 
 module _ (v : Values) (now : ℕ) (earlier : List Step) (is_stale : set.FinSet nat_cmp → ℕ → Bool) where
   abbrev Queues : Committing → Type 0
-  Queues c = AreTelling c.hardware × Queue v now (earlier ++ c.steps) c.hardware
+  Queues c = Each Shaped c.hardware.rob.entries × Queue v now (earlier ++ c.steps) c.hardware
 
   pushed : (c : Committing) (s : Step) → rows_of (earlier ++ (c.steps ++ s ∷ [])) ≡ rows_of (earlier ++ c.steps) ++ rows_of (s ∷ [])
   pushed c s = ap rows_of (sym (append_assoc earlier c.steps (s ∷ []))) ∙ rows_append (earlier ++ c.steps) (s ∷ [])
@@ -57,16 +56,13 @@ module _ (v : Values) (now : ℕ) (earlier : List Step) (is_stale : set.FinSet n
       rw (pushed c (Retired row)) (queue_later v.cache.hit now (rows_of (earlier ++ c.steps) ++ row ∷ []) c.hardware.port_free c.hardware.committed more port le)
 
   -- a result
-  finished_tells : (i : Option Instr) (st : Stage) (issue : Option Issue) (cycle : ℕ) (message : Message) → st ≡ Finished issue cycle message → message.fault ≡ None → TellsIn i st → is_some message.store ≡ is_store i
-  finished_tells i st issue cycle message at none tells = (subst (TellsIn i) at tells) none
-
   result_row : (c : Committing) (e : Entry) (es : List Entry) (issue : Option Issue) (cycle : ℕ) (message : Message) → c.hardware.rob.entries ≡ e ∷ es → e.stage ≡ Finished issue cycle message → message.fault ≡ None → InCommit v now earlier is_stale c → Queues c →
       Queue v now (earlier ++ (c.steps ++ Retired (row_at e (written_of e message) c.hardware.cycle) ∷ [])) (retired_with e message c).hardware
   result_row c e es issue cycle message place at none p ok =
       let row : Row = row_at e (written_of e message) c.hardware.cycle in
       let same = row_is_store c e es (written_of e message) place (may_retire_finished e.instruction e.stage issue cycle message at none) p in
-      let telling : Each Telling (e ∷ es) = subst (Each Telling) place ok.0 in
-      let tells = finished_tells e.instruction e.stage issue cycle message at none telling.0 in
+      let telling : Each Shaped (e ∷ es) = subst (Each Shaped) place ok.0 in
+      let tells = (told_at_end e.word e.instruction e.stage message (ap broadcast_of at) telling.0).store none in
       rw (pushed c (Retired row))
       (queue_retires v.cache.hit now (rows_of (earlier ++ c.steps)) c.hardware.port_free c.hardware.committed ok.1 row c.hardware.rob.retired message.store (tells ∙ sym same) (omega (arith, p.basics.cycle)))
 
@@ -74,8 +70,8 @@ module _ (v : Values) (now : ℕ) (earlier : List Step) (is_stale : set.FinSet n
   commit_queue c _ (no_head none) p ok = ok
   commit_queue c _ (stale_head e es at is) p ok = ok
   commit_queue c _ (unfinished e es head plain none) p ok = ok
-  commit_queue c _ (fence_waits e es head is) p ok = ok
-  commit_queue c _ (fence_writes e es head is drained) p ok =
+  commit_queue c _ (fence_waits e es head is busy) p ok = ok
+  commit_queue c _ (fence_writes e es head is drained dirty) p ok =
       let le = drained_idle _ c.hardware drained in
       (ok.0, queue_later v.cache.hit now (rows_of (earlier ++ c.steps)) c.hardware.port_free c.hardware.committed ok.1 (written_back c).hardware.port_free (omega (arith, le)))
   commit_queue c _ (fence_retires e es written next head is drained) p ok =
@@ -85,11 +81,11 @@ module _ (v : Values) (now : ℕ) (earlier : List Step) (is_stale : set.FinSet n
   commit_queue c _ (serial_faults e es cause value head serial) p ok = (tt, no_row c (Trap e.pc cause value c.hardware.cycle) (with_fault e cause value c).hardware refl refl refl ok.1)
   commit_queue c _ (traps e es issue cycle message fault head plain at is) p ok = (tt, no_row c (Trap e.pc fault.cause fault.value c.hardware.cycle) (with_fault e fault.cause fault.value c).hardware refl refl refl ok.1)
   commit_queue c _ (retires e es issue cycle message head plain at none) p ok =
-      let telling : Each Telling (e ∷ es) = subst (Each Telling) head.place ok.0 in
-      (subst (Each Telling) (sym (head_retired_entries c.hardware.rob e es head.place)) telling.1, result_row c e es issue cycle message head.place at none p ok)
+      let telling : Each Shaped (e ∷ es) = subst (Each Shaped) head.place ok.0 in
+      (subst (Each Shaped) (sym (head_retired_entries c.hardware.rob e es head.place)) telling.1, result_row c e es issue cycle message head.place at none p ok)
   commit_queue c _ (retires_last e es issue cycle message head plain at none) p ok = (tt, result_row c e es issue cycle message head.place at none p ok)
 
-  commit_queue_by : (o : Option ℕ) (h : Hardware) → InCommit v now earlier is_stale (record { hardware = h; steps = []; stop = None }) → AreTelling h → Queue v now (earlier ++ []) h → Queue v now (earlier ++ (commit_unless is_stale o h).steps) (commit_unless is_stale o h).hardware
+  commit_queue_by : (o : Option ℕ) (h : Hardware) → InCommit v now earlier is_stale (record { hardware = h; steps = []; stop = None }) → Each Shaped h.rob.entries → Queue v now (earlier ++ []) h → Queue v now (earlier ++ (commit_unless is_stale o h).steps) (commit_unless is_stale o h).hardware
   commit_queue_by (Some code) h p telling ok =
       no_row (record { hardware = h; steps = []; stop = None }) (Interrupt h.pc (interrupt_cause code) h.cycle) (commit_unless is_stale (Some code) h).hardware refl refl refl ok
   commit_queue_by None h p telling ok =
@@ -135,7 +131,7 @@ queue_in_cycle : (v : Values) (R : List Mark → Type 0) {earlier : List Step} {
 queue_in_cycle v R {earlier} {old} {new} {lines} {report} before passed ok =
     let first = begin v (history_is_legal v before) Anything earlier lines old new report (anything_is_kept v old.cycle) passed.begins tt in
     let g : Hardware = with_lines lines old in
-    let committed = commit_queue_by v old.cycle earlier set.contains (due g.csrs g.lines) g first (history_keeps v AreTelling telling-kept (λ image start. tt) before) (rw (append-nil earlier) ok) in
+    let committed = commit_queue_by v old.cycle earlier set.contains (due g.csrs g.lines) g first (history_keeps v AreShaped entries-kept (λ image start. (tt, tt)) before).0 (rw (append-nil earlier) ok) in
     let at_commit : Queue v old.cycle (earlier ++ report.steps) (committing lines old).hardware = rw (passed.steps) committed in
     let done = executed_queue v old.cycle (earlier ++ report.steps) (committing lines old).hardware (passed.committed.basics.cycle, passed.committed.basics.shape.cache, at_commit) in
     subst (λ (h : Hardware). Queue v old.cycle (earlier ++ report.steps) h) (sym passed.others_stay) done

@@ -2,7 +2,7 @@
 use Rattle.rv_hardware.proofs.Words.{◌≡◌, ℕ, ◌+◌, ◌≤◌, Bool, true, false, List, is_some, Some, None, Option, option_and_then, sym, refl, ap, ◌∙◌, subst, inl, inr, arith, is_of_kind, is_serialising, kind_of_word, Message, Instr, Issue, Lines, Kind, Values, instruction_of, Layout, State, Each, finished, issue_of, predicting, started, Entry, Stage, Finished, Running, Waiting, Fetched, entry_of_fetched, stage_by, Hardware, is_waiting, result_of_word, layout_of, seen_behind, rows_of, Step}
 use Rattle.rv_hardware.proofs.Marks.List.{mark_of_entry, mark_of_fetched, start_of_issue, start_of_stage, broadcast_of_stage}
 use Rattle.rv_hardware.proofs.Marks.Row.{SoundRow}
-use Rattle.rv_hardware.proofs.Always.Shape.{HasShape}
+use Rattle.rv_hardware.proofs.Always.Sizes.{HasShape}
 use Rattle.rv_hardware.proofs.Marks.Sound.{SoundCost, SoundEntry, SoundStage, SoundFetched, some_kind}
 
 -- in cycle `now`: dispatches, executions, fetches and retirements lie below bounds

@@ -1,13 +1,13 @@
 -- A cycle passes through its phases, and a history is all cycles since the reset with all their steps.
-use Rattle.rv_hardware.proofs.Words.{◌≡◌, ℕ, suc, ◌+◌, ◌-◌, ◌<◌, ◌≤◌, Bool, List, [], ◌∷◌, ◌++◌, map, length, is_none, sym, refl, ap, ◌∙◌, subst, append-nil, arith, at_kind-for_each, IsLegal, at_kind, Lines, Values, Each, Pool, free_pool, Entry, Fetched, broadcast, Committing, IsCycle, any_prediction, commit_with, execute, with_lines, Dispatching, dispatch, stall_of, drain, Hardware, issue, Report, reset_hardware, Reachable, at_reset, by_cycle, rows_of, Row, Step, Each-append, Each-weaker, Each-map, count, count-append}
+use Rattle.rv_hardware.proofs.Words.{◌≡◌, ℕ, suc, ◌+◌, ◌-◌, ◌<◌, ◌≤◌, Bool, List, [], ◌∷◌, ◌++◌, map, length, is_none, sym, refl, ap, ◌∙◌, subst, append-nil, arith, IsLegal, Lines, Values, Each, Entry, Fetched, broadcast, Committing, IsCycle, any_prediction, commit_with, execute, with_lines, Dispatching, dispatch, stall_of, drain, Hardware, issue, Report, reset_hardware, Reachable, at_reset, by_cycle, rows_of, Row, Step, Each-append, Each-weaker, Each-map, count, count-append}
 use Rattle.std.specs.FinSet as set
 use Rattle.rv_hardware.proofs.Marks.Advance.{Kept}
 use Rattle.rv_hardware.proofs.Marks.Basics.{Basics}
 use Rattle.rv_hardware.proofs.Turns.Fetched.{FetchPhase, IsNew, fetch_phase}
 use Rattle.rv_hardware.proofs.Marks.List.{Mark, mark_of_row, mark_of_entry, mark_of_fetched, marks, marks_in, marks_fetched}
 use Rattle.rv_hardware.proofs.Marks.Phases.{Goes, commit_keeps, drain_keeps, issue_keeps, broadcast_keeps, dispatch_keeps, goes_later}
+use Rattle.rv_hardware.proofs.Always.Sizes.{HasShape, with_front, shape-at_reset}
 use Rattle.rv_hardware.proofs.Marks.Row.{SoundRow}
-use Rattle.rv_hardware.proofs.Always.Shape.{same_shape}
 use Rattle.rv_hardware.proofs.Marks.Sound.{SoundEntry, SoundFetched}
 
 -- between two cycles
@@ -58,7 +58,7 @@ module _ (v : Values) (legal : IsLegal v) (R : List Mark → Type 0) (earlier : 
       (goes_later v old.cycle old.cycle old.cycle old.cycle old.cycle old.cycle old.cycle old.cycle old.cycle (old.cycle + 1) R earlier (with_lines lines old) (omega arith) (omega arith) (omega arith) (omega arith) (record {
         basics = record {
           cycle = refl;
-          shape = same_shape v (with_lines lines old) old (record { values = refl; cache = refl; buffer = refl; room = refl; width = refl; units = λ k. refl; pipelined = λ k. refl }) begins.shape;
+          shape = begins.shape;
           rows = begins.rows;
           entries = begins.entries;
           fetched = begins.fetched;
@@ -71,15 +71,8 @@ module _ (v : Values) (legal : IsLegal v) (R : List Mark → Type 0) (earlier : 
     ended : Basics v (old.cycle + 1) (old.cycle + 1) (old.cycle + 1) (old.cycle + 1) (old.cycle + 1) (old.cycle + 1) steps new
     ended = record {
       cycle = ap (λ (h : Hardware). h.cycle) others_stay;
-      shape = same_shape v new d (record {
-        values = ap (λ (h : Hardware). h.values) others_stay;
-        cache = ap (λ (h : Hardware). h.cache.values) others_stay;
-        buffer = ap (λ (h : Hardware). h.rob.capacity) others_stay;
-        room = fetches.capacity;
-        width = fetches.width;
-        units = λ k. ap (λ (h : Hardware). (at_kind k h.units).units) others_stay;
-        pipelined = λ k. ap (λ (h : Hardware). (at_kind k h.units).is_pipelined) others_stay;
-      }) dispatched.basics.shape;
+      shape = subst (HasShape v) (sym others_stay)
+          (with_front v d new.front (old.cycle + 1) fetches.capacity fetches.width dispatched.basics.shape);
       rows = dispatched.basics.rows;
       entries = subst (Each (SoundEntry v (old.cycle + 1) (old.cycle + 1) (old.cycle + 1))) (sym (ap (λ (h : Hardware). h.rob.entries) others_stay)) dispatched.basics.entries;
       fetched = rw (fetches.entries) (Each-append (SoundFetched (old.cycle + 1)) d.front.entries fetches.added
@@ -138,10 +131,10 @@ pub history_is_legal : (v : Values) {steps : List Step} {h : Hardware} → Histo
 history_is_legal v (began image start legal) = legal
 history_is_legal v (went_on before is) = history_is_legal v before
 
-sound_at_reset : (v : Values) (image : List ℕ) (start : ℕ) → Sound v [] (reset_hardware v image start)
-sound_at_reset v image start = record {
+sound_at_reset : (v : Values) (image : List ℕ) (start : ℕ) → IsLegal v → Sound v [] (reset_hardware v image start)
+sound_at_reset v image start legal = record {
   cycle = refl;
-  shape = record { values = refl; cache = refl; buffer = refl; room = refl; width = refl; units = λ k. ap (λ (p : Pool). p.units) (at_kind-for_each free_pool v.kinds k); pipelined = λ k. ap (λ (p : Pool). p.is_pipelined) (at_kind-for_each free_pool v.kinds k) };
+  shape = shape-at_reset v image start legal;
   rows = tt;
   entries = tt;
   fetched = tt;
@@ -157,7 +150,7 @@ anything_is_kept v now = record { cut = λ xs ys r. tt; set = λ xs ys m n a r. 
 
 -- what is basic holds in every history
 pub history_is_sound : (v : Values) {steps : List Step} {h : Hardware} → History v steps h → Sound v steps h
-history_is_sound v (began image start legal) = sound_at_reset v image start
+history_is_sound v (began image start legal) = sound_at_reset v image start legal
 history_is_sound v (went_on {earlier} {old} {new} {lines} {report} before is) = (cycle_passes v (history_is_legal v before) Anything earlier lines old new report (anything_is_kept v old.cycle) (history_is_sound v before) tt is).ends
 
 -- the words that a cycle adds to some marks

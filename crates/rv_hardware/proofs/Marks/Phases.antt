@@ -1,18 +1,21 @@
 -- Every phase keeps what is basic, turn by turn, and its marks go on.
-use Rattle.rv_hardware.proofs.Words.{◌≡◌, ℕ, ◌+◌, ◌<◌, ◌≤◌, Bool, true, false, cond, not, ◌&&◌, ◌||◌, List, [], ◌∷◌, ◌++◌, map, length, nat_le, Some, None, filter, Option, nat_cmp, sym, refl, ap, ◌∙◌, subst, append_assoc, append-nil, arith, leb-false, list_all, IsLegal, is_load, is_of_kind, is_serialising, kind_of_word, sources_of_word, at_kind, Message, StoreAccess, Issue, Kind, PerKind, Values, due, interrupt_cause, Each, oldest_to_drain, is_known as is_known_store, Pool, finished, predicting, started, Entry, Fetched, broadcast, broadcast_turn, has_result, with_broadcast, with_recovery, Committing, commit, commit_turn, commit_unless, with_fault, Dispatching, dispatch, dispatch_turn, entry_of_fetched, has_full_stations, is_stationed, with_dispatched, drain, end_drain, start_drain, Hardware, cost_of, has_port, is_ready, issue, issue_kind, issue_turn, issued, may_load, path, with_access, Turn, written_of, stores_behind, rows_of, Step, Interrupt, Retired, Trap, Each-append, Each-left, Each-set, Each-place, Each-weaker, EveryBehind, Leads, kept_by_turns}
+use Rattle.rv_hardware.proofs.Words.{is_known as is_known_store, ◌≡◌, ℕ, ◌+◌, ◌<◌, ◌≤◌, Bool, true, false, not, ◌&&◌, ◌||◌, List, [], ◌∷◌, ◌++◌, map, length, Some, None, filter, Option, nat_cmp, sym, refl, ap, ◌∙◌, subst, append_assoc, append-nil, arith, leb-false, list_all, IsLegal, is_load, is_of_kind, is_serialising, kind_of_word, sources_of_word, at_kind, Message, Issue, Kind, Values, due, interrupt_cause, Each, finished, predicting, started, Entry, Fetched, broadcast, broadcast_turn, has_result, with_broadcast, with_recovery, Committing, commit, commit_turn, commit_unless, with_fault, Dispatching, dispatch, dispatch_turn, entry_of_fetched, has_full_stations, is_stationed, with_dispatched, drain, Hardware, cost_of, has_port, is_ready, issue, issue_kind, issue_turn, issued, may_load, path, Turn, written_of, stores_behind, rows_of, Step, Interrupt, Retired, Trap, Each-append, Each-left, Each-set, Each-place, Each-weaker, EveryBehind, Leads, Leaves, kept_by_turns}
 use Rattle.std.specs.FinSet as set
 use Rattle.rv_isa.specs.declared.operations.Kind.TheVariants as kind
-use Rattle.rv_hardware.proofs.Turns.KeptByIssue.{ready-parts}
+use Rattle.rv_hardware.proofs.Turns.KeptByCommit.{commit_outcome-keeps, unless-keeps}
+use Rattle.rv_hardware.proofs.Turns.KeptByDrain.{drain-keeps, drain-same}
+use Rattle.rv_hardware.proofs.Turns.KeptByBroadcast.{sends-makes, mends-makes}
+use Rattle.rv_hardware.proofs.Turns.KeptByIssue.{ready-parts, starts-keep}
 use Rattle.rv_hardware.proofs.Marks.Advance.{Advances, Starts, IsSent, retires as a_retires, starts as a_starts, is_sent as a_is_sent, enters as a_enters, Kept}
 use Rattle.rv_hardware.proofs.Marks.Evidence.{operands_known, stores_known, none_waits, rows_and_entries_are_dispatched, in_flight_room, stations_room}
 use Rattle.rv_hardware.proofs.Marks.Basics.{Basics, started_sound, finished_sound, finished_mark, predicting_sound, dispatched_sound, dispatched_mark, is_waiting_is}
 use Rattle.rv_hardware.proofs.Turns.Broadcast.{BroadcastTurn, none_ready as no_result, sends, mends, broadcast_turn_is, Sends, sent_entries, mended_entries}
-use Rattle.rv_hardware.proofs.Turns.Commit.{CommitTurn, no_head, stale_head, unfinished, fence_waits, fence_writes, fence_retires, executes, serial_faults, traps, retires, retires_last, executed, written_back, retired_with, retired_and_flushed, commit_turn_is}
+use Rattle.rv_hardware.proofs.Turns.Commit.{CommitTurn, no_head, stale_head, unfinished, fence_waits, fence_writes, fence_retires, executes, serial_faults, traps, retires, retires_last, executed, written_back, retired_with, retired_and_flushed, commit_turn_is, head_retired_entries}
 use Rattle.rv_hardware.proofs.Turns.Dispatch.{DispatchTurn, buffer_empty, waits, dispatches, dispatch_turn_is}
 use Rattle.rv_hardware.proofs.Turns.Issue.{IssueTurn, no_unit, none_ready, starts, issue_turn_is, access_keeps, message_at, started_entries}
 use Rattle.rv_hardware.proofs.Marks.List.{Mark, start_of_issue, start_of_stage, broadcast_of_stage, mark_of_row, mark_of_entry, mark_of_fetched, marks, marks_in, marks_squashed, rows_append, marks_at_entry, marks_retired, marks_dispatched}
 use Rattle.rv_hardware.proofs.Marks.Row.{SoundRow, row_at, row_is_sound, row_advances, may_retire_serial, may_retire_finished, MayRetire}
-use Rattle.rv_hardware.proofs.Always.Shape.{HasShape, SameShape, same_shape, head_retired_capacity, head_retired_entries, pool_units, pool_pipelined}
+use Rattle.rv_hardware.proofs.Always.Sizes.{HasShape, shape-kept}
 use Rattle.rv_hardware.proofs.Marks.Sound.{SoundCost, SoundEntry, SoundFetched, sound_later, is_of_kind_is, issued_cost, positive_cost}
 
 -- what is basic holds, and something of the marks that beginnings keep and marks that go on
@@ -34,14 +37,14 @@ module _ (v : Values) (now : ℕ) (R : List Mark → Type 0) (kept : Kept v now 
   push c s = sym (append_assoc earlier c.steps (s ∷ []))
 
   -- everything is flushed after a step
-  flush : (c : Committing) (g : Hardware) (s : Step) → Commits c → SameShape g c.hardware → g.cycle ≡ c.hardware.cycle → g.rob.entries ≡ [] → g.front.entries ≡ [] →
+  flush : (c : Committing) (g : Hardware) (s : Step) → Commits c → HasShape v g → g.cycle ≡ c.hardware.cycle → g.rob.entries ≡ [] → g.front.entries ≡ [] →
       Each (SoundRow v (now + 1)) (rows_of (s ∷ [])) → (R (marks_in (earlier ++ c.steps) c.hardware) → R (marks ((earlier ++ c.steps) ++ s ∷ []) [] [])) →
       Goes v now now now now now (now + 1) R (earlier ++ (c.steps ++ s ∷ [])) g
   flush c g s p shape cycle none none' row goes =
       rw (push c s) (record {
         basics = record {
           cycle = cycle ∙ p.basics.cycle;
-          shape = same_shape v g c.hardware shape p.basics.shape;
+          shape = shape;
           rows = rw (rows_append (earlier ++ c.steps) (s ∷ [])) (Each-append (SoundRow v (now + 1)) (rows_of (earlier ++ c.steps)) (rows_of (s ∷ [])) p.basics.rows row);
           entries = rw none tt;
           fetched = rw none' tt;
@@ -79,49 +82,45 @@ module _ (v : Values) (now : ℕ) (R : List Mark → Type 0) (kept : Kept v now 
     row_flushes : R (marks_in (earlier ++ c.steps) c.hardware) → R (marks ((earlier ++ c.steps) ++ Retired (row_at e written c.hardware.cycle) ∷ []) [] [])
     row_flushes r = squash_marks ((earlier ++ c.steps) ++ Retired (row_at e written c.hardware.cycle) ∷ []) [] es c.hardware.front.entries (row_goes r)
 
-  flushed_shape : (c : Committing) (g : Hardware) → g.values ≡ c.hardware.values → g.cache.values ≡ c.hardware.cache.values → g.rob.capacity ≡ c.hardware.rob.capacity →
-      g.front.capacity ≡ c.hardware.front.capacity → g.front.width ≡ c.hardware.front.width → g.units ≡ c.hardware.units → SameShape g c.hardware
-  flushed_shape c g values cache buffer room width units = record { values = values; cache = cache; buffer = buffer; room = room; width = width; units = λ k i. (at_kind k (units i)).units; pipelined = λ k i. (at_kind k (units i)).is_pipelined }
-
-  -- each turn of the commit phase keeps it
-  pub commit_turn_keeps : (c : Committing) (t : Turn Committing) → CommitTurn is_stale c t → Commits c → Leads Commits Commits t
-  commit_turn_keeps c _ (no_head none) p = p
-  commit_turn_keeps c _ (stale_head e es at is) p = p
-  commit_turn_keeps c _ (unfinished e es head plain none) p = p
-  commit_turn_keeps c _ (fence_waits e es head is) p = p
-  commit_turn_keeps c _ (fence_writes e es head is drained) p = record {
+  turn_goes : (c : Committing) (t : Turn Committing) → CommitTurn is_stale c t → Commits c → Leaves (λ d. HasShape v d.hardware) t →
+      Leads Commits Commits t
+  turn_goes c _ (no_head none) p shape = p
+  turn_goes c _ (stale_head e es at is) p shape = p
+  turn_goes c _ (unfinished e es head plain none) p shape = p
+  turn_goes c _ (fence_waits e es head is busy) p shape = p
+  turn_goes c _ (fence_writes e es head is drained dirty) p shape = record {
     basics = record {
       cycle = p.basics.cycle;
-      shape = same_shape v (written_back c).hardware c.hardware (flushed_shape c (written_back c).hardware refl refl refl refl refl refl) p.basics.shape;
+      shape = shape;
       rows = p.basics.rows;
       entries = p.basics.entries;
       fetched = p.basics.fetched;
     };
     marks = p.marks;
   }
-  commit_turn_keeps c _ (fence_retires e es written next head is drained) p =
+  turn_goes c _ (fence_retires e es written next head is drained) p shape =
       let may = may_retire_serial e.instruction e.stage (ap is_serialising is) in
       flush c (executed e written next (written_back c)).hardware (Retired (row_at e written c.hardware.cycle)) p
-      (flushed_shape c (executed e written next (written_back c)).hardware refl refl (head_retired_capacity c.hardware.rob) refl refl refl) refl refl refl (row_sound c e es written head.place may p, tt)
+      shape refl refl refl (row_sound c e es written head.place may p, tt)
       (row_flushes c e es written head.place may p)
-  commit_turn_keeps c _ (executes e es written next head serial) p =
+  turn_goes c _ (executes e es written next head serial) p shape =
       let may = may_retire_serial e.instruction e.stage serial in
       flush c (executed e written next c).hardware (Retired (row_at e written c.hardware.cycle)) p
-      (flushed_shape c (executed e written next c).hardware refl refl (head_retired_capacity c.hardware.rob) refl refl refl) refl refl refl (row_sound c e es written head.place may p, tt)
+      shape refl refl refl (row_sound c e es written head.place may p, tt)
       (row_flushes c e es written head.place may p)
-  commit_turn_keeps c _ (serial_faults e es cause value head serial) p =
-      flush c (with_fault e cause value c).hardware (Trap e.pc cause value c.hardware.cycle) p (flushed_shape c (with_fault e cause value c).hardware refl refl refl refl refl refl) refl refl refl tt (no_row c (Trap e.pc cause value c.hardware.cycle) refl)
-  commit_turn_keeps c _ (traps e es issue cycle message fault head plain at is) p =
-      flush c (with_fault e fault.cause fault.value c).hardware (Trap e.pc fault.cause fault.value c.hardware.cycle) p (flushed_shape c (with_fault e fault.cause fault.value c).hardware refl refl refl refl refl refl) refl refl refl tt
+  turn_goes c _ (serial_faults e es cause value head serial) p shape =
+      flush c (with_fault e cause value c).hardware (Trap e.pc cause value c.hardware.cycle) p shape refl refl refl tt (no_row c (Trap e.pc cause value c.hardware.cycle) refl)
+  turn_goes c _ (traps e es issue cycle message fault head plain at is) p shape =
+      flush c (with_fault e fault.cause fault.value c).hardware (Trap e.pc fault.cause fault.value c.hardware.cycle) p shape refl refl refl tt
       (no_row c (Trap e.pc fault.cause fault.value c.hardware.cycle) refl)
-  commit_turn_keeps c _ (retires e es issue cycle message head plain at none) p =
+  turn_goes c _ (retires e es issue cycle message head plain at none) p shape =
       let may = may_retire_finished e.instruction e.stage issue cycle message at none in
       let g : Hardware = (retired_with e message c).hardware in
       let here = head_retired_entries c.hardware.rob e es head.place in
       rw (push c (Retired (row_at e (written_of e message) c.hardware.cycle))) (record {
         basics = record {
           cycle = p.basics.cycle;
-          shape = same_shape v g c.hardware (flushed_shape c g refl refl (head_retired_capacity c.hardware.rob) refl refl refl) p.basics.shape;
+          shape = shape;
           rows = rw (rows_append (earlier ++ c.steps) (Retired (row_at e (written_of e message) c.hardware.cycle) ∷ []))
               (Each-append (SoundRow v (now + 1)) (rows_of (earlier ++ c.steps)) (row_at e (written_of e message) c.hardware.cycle ∷ []) p.basics.rows (row_sound c e es (written_of e message) head.place may p, tt));
           entries = subst (Each (SoundEntry v now now now)) (sym here) (subst (Each (SoundEntry v now now now)) head.place p.basics.entries).1;
@@ -130,18 +129,22 @@ module _ (v : Values) (now : ℕ) (R : List Mark → Type 0) (kept : Kept v now 
         marks = marks_from R (earlier ++ c.steps) ((earlier ++ c.steps) ++ Retired (row_at e (written_of e message) c.hardware.cycle) ∷ []) g c.hardware es c.hardware.front.entries here refl p.marks
             (row_goes c e es (written_of e message) head.place may p);
       })
-  commit_turn_keeps c _ (retires_last e es issue cycle message head plain at none) p =
+  turn_goes c _ (retires_last e es issue cycle message head plain at none) p shape =
       let may = may_retire_finished e.instruction e.stage issue cycle message at none in
       let g : Hardware = (retired_and_flushed e message c).hardware in
-      flush c g (Retired (row_at e (written_of e message) c.hardware.cycle)) p (flushed_shape c g refl refl (head_retired_capacity c.hardware.rob) refl refl refl) refl refl refl (row_sound c e es (written_of e message) head.place may p, tt)
+      flush c g (Retired (row_at e (written_of e message) c.hardware.cycle)) p shape refl refl refl (row_sound c e es (written_of e message) head.place may p, tt)
       (row_flushes c e es (written_of e message) head.place may p)
+
+  -- each turn of the commit phase keeps it
+  pub commit_turn_keeps : (c : Committing) (t : Turn Committing) → CommitTurn is_stale c t → Commits c → Leads Commits Commits t
+  commit_turn_keeps c t is p = turn_goes c t is p (commit_outcome-keeps (shape-kept v).phases.commit is_stale c t is p.basics.shape)
 
   commit_by_due : (o : Option ℕ) (h : Hardware) → Goes v now now now now now (now + 1) R (earlier ++ []) h → Commits (commit_unless is_stale o h)
   commit_by_due (Some code) h p =
       let c : Committing = record { hardware = h; steps = []; stop = None } in
       let g : Hardware = (commit_unless is_stale (Some code) h).hardware in
       let s : Step = Interrupt h.pc (interrupt_cause code) h.cycle in
-      flush c g s p (flushed_shape c g refl refl refl refl refl refl) refl refl refl tt (no_row c s refl)
+      flush c g s p (unless-keeps (shape-kept v).phases.commit is_stale (Some code) h p.basics.shape) refl refl refl tt (no_row c s refl)
   commit_by_due None h p =
       kept_by_turns Commits (commit_turn is_stale) (λ c q. commit_turn_keeps c (commit_turn is_stale c) (commit_turn_is is_stale c) q) h.values.commit_width (record { hardware = h; steps = []; stop = None }) p
 
@@ -151,33 +154,19 @@ module _ (v : Values) (now : ℕ) (R : List Mark → Type 0) (kept : Kept v now 
 
 -- drain changes neither instructions nor words
 
-start_drain_same : (o : Option StoreAccess) (h : Hardware) → ((start_drain o h).rob ≡ h.rob) × ((start_drain o h).front ≡ h.front) × ((start_drain o h).cycle ≡ h.cycle) × SameShape (start_drain o h) h
-start_drain_same None h = (refl, refl, refl, record { values = refl; cache = refl; buffer = refl; room = refl; width = refl; units = λ k. refl; pipelined = λ k. refl })
-start_drain_same (Some access) h = (refl, refl, refl, record { values = refl; cache = refl; buffer = refl; room = refl; width = refl; units = λ k. refl; pipelined = λ k. refl })
-
-drain_by : (b : Bool) (o : Option StoreAccess) (h : Hardware) → let g : Hardware = cond b (start_drain o (end_drain h)) h in (g.rob ≡ h.rob) × (g.front ≡ h.front) × (g.cycle ≡ h.cycle) × SameShape g h
-drain_by true o h =
-    let same = start_drain_same o (end_drain h) in
-    (same.0, same.1, same.2, record { values = same.3.values; cache = same.3.cache; buffer = same.3.buffer; room = same.3.room; width = same.3.width; units = same.3.units; pipelined = same.3.pipelined })
-drain_by false o h = (refl, refl, refl, record { values = refl; cache = refl; buffer = refl; room = refl; width = refl; units = λ k. refl; pipelined = λ k. refl })
-
--- the drain phase leaves reorder buffer, fetch buffer, cycle and shape as they were
-pub drain_same : (h : Hardware) → ((drain h).rob ≡ h.rob) × ((drain h).front ≡ h.front) × ((drain h).cycle ≡ h.cycle) × SameShape (drain h) h
-drain_same h = drain_by (nat_le h.port_free h.cycle) (oldest_to_drain (end_drain h).committed) h
-
 -- the drain phase keeps what is basic and the marks
 pub drain_keeps : (v : Values) (now d a b f r : ℕ) (R : List Mark → Type 0) (steps : List Step) (h : Hardware) → Goes v now d a b f r R steps h → Goes v now d a b f r R steps (drain h)
 drain_keeps v now d a b f r R steps h p =
-    let same = drain_same h in
+    let same = drain-same h in
     record {
       basics = record {
-        cycle = same.2 ∙ p.basics.cycle;
-        shape = same_shape v (drain h) h same.3 p.basics.shape;
+        cycle = same.cycle ∙ p.basics.cycle;
+        shape = drain-keeps (shape-kept v).phases.drain h p.basics.shape;
         rows = p.basics.rows;
-        entries = rw (same.0) (p.basics.entries);
-        fetched = rw (same.1) (p.basics.fetched);
+        entries = rw (same.rob) (p.basics.entries);
+        fetched = rw (same.front) (p.basics.fetched);
       };
-      marks = rw (same.0, same.1) (p.marks);
+      marks = rw (same.rob, same.front) (p.marks);
     }
 
 -- issue and broadcast
@@ -188,12 +177,12 @@ module _ (v : Values) (now bound : ℕ) (R : List Mark → Type 0) (kept : Kept 
 
   -- one instruction changes
   change : (g h : Hardware) (older younger : List Entry) (e x : Entry) → h.rob.entries ≡ older ++ e ∷ younger → g.rob.entries ≡ older ++ x ∷ younger → g.front.entries ≡ h.front.entries →
-      g.cycle ≡ h.cycle → SameShape g h → SoundEntry v now (now + 1) bound x →
+      g.cycle ≡ h.cycle → HasShape v g → SoundEntry v now (now + 1) bound x →
       Advances v now (map mark_of_row (rows_of steps) ++ map mark_of_entry older) (mark_of_entry e) (mark_of_entry x) → Executes h → Executes g
   change g h older younger e x at at' front cycle shape sound agree p = record {
     basics = record {
       cycle = cycle ∙ p.basics.cycle;
-      shape = same_shape v g h shape p.basics.shape;
+      shape = shape;
       rows = p.basics.rows;
       entries = rw at' (Each-set (SoundEntry v now (now + 1) bound) older younger e x sound (subst (Each (SoundEntry v now (now + 1) bound)) at p.basics.entries));
       fetched = rw front (p.basics.fetched);
@@ -205,20 +194,6 @@ module _ (v : Values) (now bound : ℕ) (R : List Mark → Type 0) (kept : Kept 
 
   entry_sound : (h : Hardware) (older younger : List Entry) (e : Entry) → h.rob.entries ≡ older ++ e ∷ younger → Executes h → SoundEntry v now (now + 1) bound e
   entry_sound h older younger e at p = Each-place (SoundEntry v now (now + 1) bound) older younger e (subst (Each (SoundEntry v now (now + 1) bound)) at p.basics.entries)
-
-  issued_shape : (k : Kind) (h : Hardware) (older : List Entry) (e : Entry) → SameShape (issued k h older e) h
-  issued_shape k h older e =
-      let keep = access_keeps (path h older e) h in
-      let cost : ℕ = cost_of h k (path h older e) in
-      record {
-        values = keep.values;
-        cache = keep.cache_values;
-        buffer = ap (λ r. r.capacity) keep.rob;
-        room = ap (λ r. r.capacity) keep.front;
-        width = ap (λ r. r.width) keep.front;
-        units = λ j. pool_units k j cost (with_access (path h older e) h).cycle (with_access (path h older e) h).units ∙ ap (λ (u : PerKind Pool). (at_kind j u).units) keep.units;
-        pipelined = λ j. pool_pipelined k j cost (with_access (path h older e) h).cycle (with_access (path h older e) h).units ∙ ap (λ (u : PerKind Pool). (at_kind j u).is_pipelined) keep.units;
-      }
 
 -- a load that leaves its station has all older stores known
 load_waits_by : (b c d : Bool) → b ≡ true → (not b || (c && d)) ≡ true → c ≡ true
@@ -273,7 +248,8 @@ module _ (v : Values) (legal : IsLegal v) (now : ℕ) (R : List Mark → Type 0)
       let x : Entry = started (record { cycle = h.cycle; cost = cost }) message e in
       let sound : SoundEntry v now (now + 1) now e = entry_sound v now now R kept steps h older younger e at p in
       change v now now R kept steps (issued k h older e) h older younger e x at (started_entries k h older younger e at)
-      (ap (λ r. r.entries) keep.front) keep.cycle (issued_shape v now now R kept steps k h older e)
+      (ap (λ r. r.entries) keep.front) keep.cycle
+      (starts-keep ((shape-kept v).phases.issue k) h older younger e p.basics.shape at is free)
       (subst (λ n. SoundEntry v now (now + 1) now (started (record { cycle = n; cost = cost }) message e)) (sym p.basics.cycle)
       (started_sound v now now k e cost message sound ready.of_kind (subst (λ n. SoundCost v e.instruction (start_of_issue (record { cycle = n; cost = cost }) message)) p.basics.cycle (issued_cost v h p.basics.shape older e k ready.of_kind))))
       (a_starts (start_is k h older younger e at is p)) p
@@ -297,18 +273,15 @@ module _ (v : Values) (now : ℕ) (R : List Mark → Type 0) (kept : Kept v now 
   abbrev pub Broadcasts : Hardware → Type 0
   Broadcasts h = Executes v now (now + 1) R kept steps h
 
-  sent_shape : (h : Hardware) (g : Hardware) → g.values ≡ h.values → g.cache ≡ h.cache → g.rob.capacity ≡ h.rob.capacity → g.front.capacity ≡ h.front.capacity → g.front.width ≡ h.front.width → g.units ≡ h.units → SameShape g h
-  sent_shape h g values cache buffer room width units = record { values = values; cache = ap (λ c. c.values) cache; buffer = buffer; room = room; width = width; units = λ k i. (at_kind k (units i)).units; pipelined = λ k i. (at_kind k (units i)).is_pipelined }
-
   -- what is younger is squashed
   squash : (r g : Hardware) (older younger : List Entry) (x y : Entry) → g.rob.entries ≡ older ++ x ∷ younger → r.rob.entries ≡ older ++ y ∷ [] → r.front.entries ≡ [] →
-      r.cycle ≡ g.cycle → SameShape r g → (SoundEntry v now (now + 1) (now + 1) x → SoundEntry v now (now + 1) (now + 1) y) → mark_of_entry x ≡ mark_of_entry y → Broadcasts g → Broadcasts r
+      r.cycle ≡ g.cycle → HasShape v r → (SoundEntry v now (now + 1) (now + 1) x → SoundEntry v now (now + 1) (now + 1) y) → mark_of_entry x ≡ mark_of_entry y → Broadcasts g → Broadcasts r
   squash r g older younger x y at at' none cycle shape sound same q =
       let entries = subst (Each (SoundEntry v now (now + 1) (now + 1))) at q.basics.entries in
       record {
         basics = record {
           cycle = cycle ∙ q.basics.cycle;
-          shape = same_shape v r g shape q.basics.shape;
+          shape = shape;
           rows = q.basics.rows;
           entries = rw at' (Each-append (SoundEntry v now (now + 1) (now + 1)) older (y ∷ []) (Each-left (SoundEntry v now (now + 1) (now + 1)) older (x ∷ younger) entries) (sound (Each-place (SoundEntry v now (now + 1) (now + 1)) older younger x entries), tt));
           fetched = rw none tt;
@@ -341,7 +314,8 @@ module _ (v : Values) (now : ℕ) (R : List Mark → Type 0) (kept : Kept v now 
       let g : Hardware = with_broadcast (h.rob.retired + length older) message h in
       let x : Entry = finished message h.cycle e in
       let sound : SoundEntry v now (now + 1) (now + 1) e = entry_sound v now (now + 1) R kept steps h older younger e sent.place p in
-      change v now (now + 1) R kept steps g h older younger e x sent.place (sent_entries h older younger e message sent.place) refl refl (sent_shape h g refl refl refl refl refl refl)
+      change v now (now + 1) R kept steps g h older younger e x sent.place (sent_entries h older younger e message sent.place) refl refl
+      (sends-makes (shape-kept v).phases.broadcast h older younger e issue message sent p.basics.shape)
       (subst (λ n. SoundEntry v now (now + 1) (now + 1) (finished message n e)) (sym p.basics.cycle) (finished_sound v now e issue message sound sent.runs (omega (arith, sent.over, p.basics.cycle))))
       (a_is_sent (send_is h older younger e issue message sent p)) p
 
@@ -355,7 +329,8 @@ module _ (v : Values) (now : ℕ) (R : List Mark → Type 0) (kept : Kept v now 
       let r : Hardware = with_recovery seq message g in
       let x : Entry = finished message h.cycle e in
       let y : Entry = predicting message.next_pc x in
-      squash r g older younger x y (sent_entries h older younger e message sent.place) (mended_entries h older younger e message sent.place) refl refl (sent_shape g r refl refl refl refl refl refl)
+      squash r g older younger x y (sent_entries h older younger e message sent.place) (mended_entries h older younger e message sent.place) refl refl
+      (mends-makes (shape-kept v).phases.broadcast h older younger e issue message sent p.basics.shape)
       (λ sound. predicting_sound v now (now + 1) (now + 1) message.next_pc x sound) refl (send h older younger e issue message sent p)
 
   -- the broadcast phase keeps it
@@ -386,7 +361,7 @@ module _ (v : Values) (now : ℕ) (R : List Mark → Type 0) (kept : Kept v now 
       record {
         basics = record {
           cycle = p.basics.cycle;
-          shape = same_shape v g h (record { values = refl; cache = refl; buffer = refl; room = refl; width = refl; units = λ k. refl; pipelined = λ k. refl }) p.basics.shape;
+          shape = p.basics.shape;
           rows = p.basics.rows;
           entries = Each-append (SoundEntry v (now + 1) (now + 1) (now + 1)) h.rob.entries (e ∷ []) p.basics.entries (dispatched_sound v now h f p.basics.cycle sound.0, tt);
           fetched = sound.1;

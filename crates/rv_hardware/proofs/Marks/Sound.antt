@@ -2,7 +2,7 @@
 use Rattle.rv_hardware.proofs.Words.{◌≡◌, ℕ, ◌+◌, ◌<◌, ◌≤◌, Bool, true, false, cond, ◌⊎◌, List, take, ℤ, is_some, IfSome, Some, None, Option, option_and_then, unwrap_or, sym, refl, ap, subst, inl, inr, arith, list_all, is_same-true, IsLegal, is_load, is_of_kind, is_serialising, kind_of_word, bytes_of, width_of, at_kind, modulo_word, sum, Instr, Csr, FenceI, Load, Mret, Kind, LoadForm, CacheValues, Values, instruction_of, is_aligned, is_in_ram, State, register_of, cost_of_access, eviction_cost, CacheLine, forwarded, Entry, Stage, Finished, Running, Waiting, Fetched, Hardware, FromCache, FromStores, Path, Without, cost_of, path, path_of, IsCost, IsLoadCost, result_of_word, layout_of, seen_behind, stores_behind}
 use Rattle.rv_hardware.proofs.Turns.Issue.{message_at}
 use Rattle.rv_hardware.proofs.Marks.List.{Start, start_of_issue}
-use Rattle.rv_hardware.proofs.Always.Shape.{HasShape}
+use Rattle.rv_hardware.proofs.Always.Sizes.{HasShape}
 
 -- an execution costs what its kind costs, unless it gives a fault
 abbrev pub SoundCost : Values → Option Instr → Start → Type 0

@@ -21,6 +21,12 @@ result_cases cycle Waiting some = absurd (cc)
 result_cases cycle (Running issue message) some = running_result (nat_le (issue.cycle + issue.cost) cycle) cycle issue message refl some
 result_cases cycle (Finished issue broadcast message) some = absurd (cc)
 
+-- its execution gave a message and is over
+pub record HasRun (cycle : ℕ) (st : Stage) (message : Message) : Type 0 where
+  pub issue : Issue
+  pub runs : st ≡ Running issue message
+  pub over : issue.cycle + issue.cost ≤ cycle
+
 -- what a broadcast finds
 pub record Sends (h : Hardware) (older younger : List Entry) (e : Entry) (issue : Issue) (message : Message) : Type 0 where
   pub place : h.rob.entries ≡ older ++ e ∷ younger

@@ -1,5 +1,5 @@
 -- A turn of the commit phase finds no head, leaves it waiting, retires it, executes it, takes its trap, or stops at a stale word.
-use Rattle.rv_hardware.proofs.Words.{◌≡◌, ℕ, Bool, true, false, cond, List, [], ◌∷◌, ◌++◌, ◌==◌, Some, None, Option, nat_cmp, unwrap_or, refl, ap, is_serialising, pc_plus_4, Message, Cause, Fault, Instr, Csr, FenceI, Mret, Issue, word_of, Effect, Faults, Retires, effect, State, head_retired, Entry, Stage, Finished, Running, Waiting, Committing, commit_turn, commit_turn_of, execute_head, finish_broadcast, finish_head, head_turn, is_drained, take_effect, with_fault, with_write_back, write_back_time, broadcast_of, Ends, GoesOn, Turn, row_of, with_result, written_of, layout_of, seen, with_state, flushed}
+use Rattle.rv_hardware.proofs.Words.{◌≡◌, ℕ, Bool, true, false, cond, List, [], ◌∷◌, ◌++◌, ◌==◌, Some, None, Option, nat_cmp, unwrap_or, refl, ap, is_serialising, pc_plus_4, Message, Cause, Fault, Instr, Csr, FenceI, Mret, Issue, word_of, Effect, Faults, Retires, effect, State, ReorderBuffer, after_head, head_retired, Entry, Stage, Finished, Running, Waiting, Committing, commit_turn, commit_turn_of, execute_head, finish_broadcast, finish_head, head_turn, is_drained, take_effect, with_fault, with_write_back, write_back_time, broadcast_of, Ends, GoesOn, Turn, row_of, with_result, written_of, layout_of, seen, with_state, flushed}
 use Rattle.std.specs.FinSet as set
 use Rattle.rv_arch.specs.declared.outcome.Stop.TheVariants as stop
 
@@ -33,6 +33,14 @@ retired_and_flushed e message c = record c {
   steps = c.steps ++ row_of e (written_of e message) c.hardware.cycle ∷ [];
 }
 
+entries_behind : (r : ReorderBuffer) (e : Entry) (es fs : List Entry) → fs ≡ e ∷ es → (after_head r fs).entries ≡ es
+entries_behind r e es [] at = absurd (cc)
+entries_behind r e es (f ∷ fs) at = cc
+
+-- after a retirement the entries are those after the head
+pub head_retired_entries : (r : ReorderBuffer) (e : Entry) (es : List Entry) → r.entries ≡ e ∷ es → (head_retired r).entries ≡ es
+head_retired_entries r e es at = entries_behind r e es r.entries at
+
 module _ (is_stale : set.FinSet nat_cmp → ℕ → Bool) where
   -- nothing is in flight; the head is stale, unfinished or a FENCE.I that waits; it retires, executes or traps
   pub data CommitTurn (c : Committing) : Turn Committing → Type 0 where
@@ -41,9 +49,10 @@ module _ (is_stale : set.FinSet nat_cmp → ℕ → Bool) where
         CommitTurn c (Ends (record c { stop = Some (stop.Stale e.pc) }))
     unfinished : (e : Entry) (es : List Entry) → Head is_stale c e es → is_serialising e.instruction ≡ false → broadcast_of e.stage ≡ None →
         CommitTurn c (Ends c)
-    fence_waits : (e : Entry) (es : List Entry) → Head is_stale c e es → e.instruction ≡ Some FenceI → CommitTurn c (Ends c)
+    fence_waits : (e : Entry) (es : List Entry) → Head is_stale c e es → e.instruction ≡ Some FenceI → is_drained c.hardware ≡ false →
+        CommitTurn c (Ends c)
     fence_writes : (e : Entry) (es : List Entry) → Head is_stale c e es → e.instruction ≡ Some FenceI → is_drained c.hardware ≡ true →
-        CommitTurn c (Ends (written_back c))
+        (write_back_time c.hardware == 0) ≡ false → CommitTurn c (Ends (written_back c))
     fence_retires : (e : Entry) (es : List Entry) (written : Option (ℕ × ℕ)) (next : State) → Head is_stale c e es → e.instruction ≡ Some FenceI → is_drained c.hardware ≡ true →
         CommitTurn c (Ends (executed e written next (written_back c)))
     executes : (e : Entry) (es : List Entry) (written : Option (ℕ × ℕ)) (next : State) → Head is_stale c e es → is_serialising e.instruction ≡ true →
@@ -62,17 +71,17 @@ module _ (is_stale : set.FinSet nat_cmp → ℕ → Bool) where
     by_effect serial (Retires written next) = executes e es written next head serial
     by_effect serial (Faults cause value) = serial_faults e es cause value head serial
 
-    by_write_back : e.instruction ≡ Some FenceI → is_drained c.hardware ≡ true → (b : Bool) →
+    by_write_back : e.instruction ≡ Some FenceI → is_drained c.hardware ≡ true → (b : Bool) → (write_back_time c.hardware == 0) ≡ b →
         CommitTurn c (Ends (cond b (execute_head e FenceI (written_back c)) (written_back c)))
-    by_write_back is drained true =
+    by_write_back is drained true clean =
         let s : State = seen (with_write_back c.hardware) in
         fence_retires e es None (record s { pc = pc_plus_4 s.pc; stale = set.empty }) head is drained
-    by_write_back is drained false = fence_writes e es head is drained
+    by_write_back is drained false dirty = fence_writes e es head is drained dirty
 
     by_drained : e.instruction ≡ Some FenceI → (b : Bool) → is_drained c.hardware ≡ b →
         CommitTurn c (Ends (cond b (cond (write_back_time c.hardware == 0) (execute_head e FenceI (written_back c)) (written_back c)) c))
-    by_drained is true drained = by_write_back is drained (write_back_time c.hardware == 0)
-    by_drained is false drained = fence_waits e es head is
+    by_drained is true drained = by_write_back is drained (write_back_time c.hardware == 0) refl
+    by_drained is false busy = fence_waits e es head is busy
 
     by_prediction : (issue : Option Issue) (cycle : ℕ) (message : Message) → is_serialising e.instruction ≡ false → e.stage ≡ Finished issue cycle message → message.fault ≡ None →
         (b : Bool) → CommitTurn c (cond b (GoesOn (retired_with e message c)) (Ends (retired_and_flushed e message c)))

@@ -1,10 +1,14 @@
 -- A turn of the dispatch phase finds no word, leaves the oldest waiting for room, or dispatches it.
-use Rattle.rv_hardware.proofs.Words.{◌≡◌, ◌+◌, Bool, true, false, cond, ◌&&◌, List, [], ◌∷◌, length, nat_le, Some, None, refl, list_any, is_serialising, is_store, kind_of_word, Fetched, Dispatching, dispatch_turn, dispatch_turn_of, dispatch_unless, has_full_stations, with_dispatched, Hardware, Ends, GoesOn, Turn, stores_behind, Stall}
+use Rattle.rv_hardware.proofs.Words.{◌≡◌, ◌+◌, Bool, true, false, cond, ◌&&◌, List, [], ◌∷◌, length, nat_le, Some, None, refl, list_any, is_serialising, is_store, kind_of_word, Entry, Fetched, Dispatching, dispatch_turn, dispatch_turn_of, dispatch_unless, has_full_stations, with_dispatched, Hardware, Ends, GoesOn, Turn, stores_behind, Stall}
 use Rattle.rv_hardware.specs.declared.report.Stall.TheVariants as stall
+
+-- one of some instructions in flight serialises
+abbrev pub is_any_serialising : List Entry → Bool
+is_any_serialising entries = list_any (λ e. is_serialising e.instruction) entries
 
 -- the four things that an instruction may wait for
 abbrev pub has_serial : Hardware → Bool
-has_serial h = list_any (λ e. is_serialising e.instruction) h.rob.entries
+has_serial h = is_any_serialising h.rob.entries
 
 abbrev pub has_full_buffer : Hardware → Bool
 has_full_buffer h = nat_le h.rob.capacity (length h.rob.entries)

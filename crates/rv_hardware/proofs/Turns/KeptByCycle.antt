@@ -1,5 +1,5 @@
 -- A whole cycle keeps what its phases and its fetch keep.
-use Rattle.rv_hardware.proofs.Words.{◌≡◌, ℕ, ◌+◌, sym, refl, ap, ◌∙◌, subst, Lines, Kind, Memory, Answers, FetchBuffer, FetchesInto, FetchStop, IsCycle, any_prediction, execute, with_lines, Hardware, Report}
+use Rattle.rv_hardware.proofs.Words.{◌≡◌, ℕ, ◌+◌, sym, refl, ap, ◌∙◌, subst, Lines, Kind, CacheValues, Values, Memory, Answers, FetchBuffer, FetchesInto, FetchStop, IsCycle, any_prediction, execute, with_lines, Hardware, Report}
 use Rattle.std.specs.FinSet as set
 use Rattle.rv_hardware.proofs.Turns.KeptByBroadcast.{IsKeptByBroadcast, broadcast-keeps}
 use Rattle.rv_hardware.proofs.Turns.KeptByCommit.{IsKeptByCommit, commit-keeps}
@@ -40,9 +40,13 @@ module _ {P : Hardware → Type 0} (kept : IsKeptByPhases P) where
       subst (λ c. P c.hardware) (sym cycle.commits) (commit-keeps kept.commit set.contains (with_lines lines old) (kept.lines old lines holds)) in
       subst (λ d. P d.hardware) (sym cycle.executes) (execute-keeps cycle.committing.hardware committed)
 
--- no phase changes the number of the cycle
-same_cycle : (number : ℕ) → IsKeptByPhases (λ h. h.cycle ≡ number)
-same_cycle number = record {
+-- what was described, and the cycle's number
+abbrev pub SameAs : Values → CacheValues → ℕ → Hardware → Type 0
+SameAs values cache cycle h = (h.values ≡ values) × (h.cache.values ≡ cache) × (h.cycle ≡ cycle)
+
+-- no phase from commit to dispatch changes what was described or the cycle's number
+pub same-kept : (values : Values) (cache : CacheValues) (cycle : ℕ) → IsKeptByPhases (SameAs values cache cycle)
+same-kept values cache cycle = record {
   lines = λ h levels same. same;
   commit = record {
     empties = λ h s retired same. same;
@@ -61,11 +65,11 @@ same_cycle number = record {
   dispatch = record { dispatches = λ h fetched rest same first none. same };
 }
 
--- and a whole cycle does
+-- a whole cycle keeps what its phases and its fetch keep
 pub cycle-keeps : {P : Hardware → Type 0} {lines : Lines} {old new : Hardware} {report : Report} → IsKept P → IsCycle any_prediction lines old report new → P old → P new
 cycle-keeps {P} {lines} {old} {new} kept cycle holds =
     let after = phases-keep kept.phases cycle holds in
     let d : Hardware = cycle.dispatching.hardware in
-    let number : d.cycle ≡ old.cycle = phases-keep (same_cycle old.cycle) cycle refl in
+    let number : d.cycle ≡ old.cycle = (phases-keep (same-kept old.values old.cache.values old.cycle) cycle (refl, refl, refl)).2 in
     let fetched = kept.fetch.fetches d.cache.backing old.cycle d new.front cycle.fetch_stop after cycle.fetches in
     subst P (ap (λ n. record d { front = new.front; cycle = n + 1 }) number ∙ sym cycle.others_stay) fetched

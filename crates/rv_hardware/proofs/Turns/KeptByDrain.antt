@@ -1,5 +1,5 @@
 -- The drain phase keeps what the end of a store's access and the start of another's keep.
-use Rattle.rv_hardware.proofs.Words.{◌≡◌, true, nat_le, Some, None, Option, refl, StoreAccess, oldest_to_drain, drain, end_drain, start_drain, with_drained, Hardware, by_test}
+use Rattle.rv_hardware.proofs.Words.{◌≡◌, ℕ, true, nat_le, Some, None, Option, refl, StoreAccess, PerKind, CacheValues, Values, oldest_to_drain, Pool, ReorderBuffer, FetchBuffer, drain, end_drain, start_drain, with_drained, Hardware, by_test}
 
 module _ (P : Hardware → Type 0) where
   -- the end of a store's access and the start of another's keep the property
@@ -19,3 +19,22 @@ module _ {P : Hardware → Type 0} (kept : IsKeptByDrain P) where
   drain-keeps h holds =
       by_test P (nat_le h.port_free h.cycle) (start_drain (oldest_to_drain (end_drain h).committed) (end_drain h)) h
       (λ idle. start_drain-keeps (end_drain h) (oldest_to_drain (end_drain h).committed) (kept.leaves h holds idle) idle refl) (λ busy. holds)
+
+-- what the drain phase leaves is as it was
+pub record AreSame (h : Hardware) (given : Values) (lines : CacheValues) (entries : ReorderBuffer) (words : FetchBuffer)
+    (pools : PerKind Pool) (number : ℕ) : Type 0 where
+  pub values : given ≡ h.values
+  pub cache : lines ≡ h.cache.values
+  pub rob : entries ≡ h.rob
+  pub front : words ≡ h.front
+  pub units : pools ≡ h.units
+  pub cycle : number ≡ h.cycle
+
+abbrev pub SameButPort : Hardware → Hardware → Type 0
+SameButPort h g = AreSame h g.values g.cache.values g.rob g.front g.units g.cycle
+
+-- the drain phase changes the port, the cache's lines, memory and the retired stores alone
+pub drain-same : (h : Hardware) → SameButPort h (drain h)
+drain-same h =
+    drain-keeps {P = SameButPort h} (record { leaves = λ g same idle. same; drains = λ g access same idle is. same }) h
+    (record { values = refl; cache = refl; rob = refl; front = refl; units = refl; cycle = refl })

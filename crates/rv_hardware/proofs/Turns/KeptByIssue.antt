@@ -1,9 +1,10 @@
 -- The issue phase keeps what a load's access to the cache and the start of an execution keep.
-use Rattle.rv_hardware.proofs.Words.{◌≡◌, ℕ, ◌+◌, ◌≤◌, true, ◌&&◌, List, ◌∷◌, ◌++◌, length, Some, None, Option, sym, refl, ap, ◌∙◌, subst, and_parts, is_of_kind, kind_of_word, sources_of_word, at_kind, Message, Kind, is_free, started, with_entry, Entry, Hardware, is_waiting, FromCache, FromStores, Path, Without, cost_of, has_operands, is_ready, issue, issue_kind, issue_oldest, issue_turn, issued, may_load, oldest, path, with_access, with_start, Ends, result_of_word, layout_of, seen_behind, by_test, Leaves, kept_by_turns}
+use Rattle.rv_hardware.proofs.Words.{◌≡◌, ℕ, ◌+◌, ◌≤◌, true, ◌&&◌, List, ◌∷◌, ◌++◌, length, sym, refl, ap, ◌∙◌, subst, and_parts, is_of_kind, kind_of_word, sources_of_word, at_kind, Message, Kind, is_free, started, with_entry, Entry, Hardware, is_waiting, FromCache, FromStores, Path, Without, cost_of, has_operands, is_ready, issue, issue_kind, issue_turn, issued, may_load, path, with_access, with_start, Turn, result_of_word, layout_of, seen_behind, Leaves, kept_by_turns}
 use Rattle.rv_isa.specs.declared.operations.Kind.TheVariants as kind
 use Rattle.rv_hardware.proofs.Turns.Costs.{cost_of-most}
 use Rattle.rv_hardware.proofs.Turns.Forms.{with_entries, with_started, with_unit, longest_execution, IsResultOfWord}
-use Rattle.rv_hardware.proofs.Oldest.{IsFound, oldest_found, with_entry-at}
+use Rattle.rv_hardware.proofs.Turns.Issue.{IssueTurn, no_unit, none_ready, starts, issue_turn_is}
+use Rattle.rv_hardware.proofs.Oldest.{with_entry-at}
 
 -- what it is to be ready
 pub record IsReady (h : Hardware) (k : Kind) (older : List Entry) (e : Entry) : Type 0 where
@@ -31,6 +32,12 @@ module _ (P : Hardware → Type 0) (k : Kind) where
         IsResultOfWord e.word e.instruction message → cost ≤ longest_execution h →
         P (with_started k cost message older e younger h)
 
+-- the start of the oldest instruction that is ready, where a unit is free, keeps the property
+abbrev pub KeepsStarts : (Hardware → Type 0) → Kind → Type 0
+KeepsStarts P k =
+    (h : Hardware) (older younger : List Entry) (e : Entry) → P h → h.rob.entries ≡ older ++ e ∷ younger →
+    is_ready h k older e ≡ true → is_free h.cycle (at_kind k h.units) ≡ true → P (issued k h older e)
+
 module _ {P : Hardware → Type 0} {k : Kind} (kept : IsKeptByIssue P k) where
   begins : (h : Hardware) (older younger : List Entry) (e : Entry) (cost : ℕ) (message : Message) → P h →
       h.rob.entries ≡ older ++ e ∷ younger → is_waiting e.stage ≡ true → is_of_kind k (kind_of_word e.instruction) ≡ true →
@@ -57,26 +64,32 @@ module _ {P : Hardware → Type 0} {k : Kind} (kept : IsKeptByIssue P k) where
       (kept.accesses h older younger e address holds split ready by) split waits of_kind
       (record { layout = layout_of h.values; state = seen_behind h older e.pc; lines = h.lines; is = refl }) (cost_of-most h k (FromCache address))
 
-  after_found : (h : Hardware) (older : List Entry) (e : Entry) → P h → IsFound (is_ready h k) h.rob.entries older e → P (issued k h older e)
-  after_found h older e holds found =
-      let ready = ready-parts h k older e found.passes in
-      begins_by h older found.younger e (path h older e) refl holds found.split found.passes ready.waits ready.of_kind
+  -- its access and its start keep it, so the whole does
+  pub starts-keep : KeepsStarts P k
+  starts-keep h older younger e holds split is free =
+      let ready = ready-parts h k older e is in
+      begins_by h older younger e (path h older e) refl holds split is ready.waits ready.of_kind
 
-  after_oldest : (h : Hardware) (found : Option (List Entry × Entry)) → oldest (is_ready h k) h.rob.entries ≡ found → P h → Leaves P (issue_oldest k h found)
-  after_oldest h None is holds = holds
-  after_oldest h (Some (older, e)) is holds = after_found h older e holds (oldest_found (is_ready h k) h.rob.entries older e is)
+module _ {P : Hardware → Type 0} (k : Kind) (keeps : KeepsStarts P k) where
+  turn-keeps : (h : Hardware) (t : Turn Hardware) → IssueTurn k h t → P h → Leaves P t
+  turn-keeps h _ (no_unit held) holds = holds
+  turn-keeps h _ (none_ready none) holds = holds
+  turn-keeps h _ (starts older younger e at is none free) holds = keeps h older younger e holds at is free
 
   -- so a turn of the issue phase keeps it
   pub issue_turn-keeps : (h : Hardware) → P h → Leaves P (issue_turn k h)
-  issue_turn-keeps h holds =
-      by_test (Leaves P) (is_free h.cycle (at_kind k h.units)) (issue_oldest k h (oldest (is_ready h k) h.rob.entries)) (Ends h)
-      (λ free. after_oldest h (oldest (is_ready h k) h.rob.entries) refl holds) (λ held. holds)
+  issue_turn-keeps h holds = turn-keeps h (issue_turn k h) (issue_turn_is k h) holds
 
   -- and so the turns of a kind do
   pub issue_kind-keeps : (h : Hardware) → P h → P (issue_kind k h)
   issue_kind-keeps h holds = kept_by_turns P (issue_turn k) issue_turn-keeps (at_kind k h.values.kinds).units h holds
 
--- the four kinds, one after another
+-- the four kinds, one after another, keep what the starts of each keep
+pub issue-by : (P : Hardware → Type 0) → ((k : Kind) → KeepsStarts P k) → (h : Hardware) → P h → P (issue h)
+issue-by P keeps h holds =
+    issue_kind-keeps kind.Mem (keeps kind.Mem) _ (issue_kind-keeps kind.Div (keeps kind.Div) _
+    (issue_kind-keeps kind.Mul (keeps kind.Mul) _ (issue_kind-keeps kind.Alu (keeps kind.Alu) h holds)))
+
+-- and so what an access to the cache and a start keep
 pub issue-keeps : (P : Hardware → Type 0) → ((k : Kind) → IsKeptByIssue P k) → (h : Hardware) → P h → P (issue h)
-issue-keeps P kept h holds =
-    issue_kind-keeps (kept kind.Mem) _ (issue_kind-keeps (kept kind.Div) _ (issue_kind-keeps (kept kind.Mul) _ (issue_kind-keeps (kept kind.Alu) h holds)))
+issue-keeps P kept h holds = issue-by P (λ k. starts-keep (kept k)) h holds

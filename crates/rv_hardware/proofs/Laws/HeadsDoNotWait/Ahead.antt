@@ -1,5 +1,5 @@
 -- In every run a finished head does not wait, and the front keeps ahead.
-use Rattle.rv_hardware.proofs.Words.{◌≡◌, ℕ, ◌+◌, ◌-◌, ◌<◌, ◌≤◌, Bool, true, false, ◌&&◌, ◌⊎◌, List, [], ◌∷◌, ◌++◌, length, is_some, ◌==◌, Some, None, filter, Option, nat_cmp, sym, refl, ap, ◌∙◌, subst, inl, inr, true≢false, append_assoc, append-nil, arith, length-append, leb-true, list_any, IsLegal, is_serialising, is_store, kind_of_word, at_kind, Lines, Kind, Values, due, Each, with_oldest_draining, without_drained, Store as QueuedStore, Entry, FetchBuffer, Fetched, broadcast, Committing, commit_turn, commit_unless, IsCycle, any_prediction, execute, with_lines, Dispatching, dispatch, has_full_stations, is_stationed, drain, Hardware, issue, Turn, Report, stores_behind, last_from, stamp_of, Step, and_first, and_second, count, EveryBehind-at, Leads, kept_by_turns}
+use Rattle.rv_hardware.proofs.Words.{Store as QueuedStore, ◌≡◌, ℕ, ◌+◌, ◌-◌, ◌<◌, ◌≤◌, Bool, true, false, ◌&&◌, ◌⊎◌, List, [], ◌∷◌, ◌++◌, length, is_some, ◌==◌, Some, None, filter, Option, nat_cmp, sym, refl, ap, ◌∙◌, subst, inl, inr, true≢false, append_assoc, append-nil, arith, length-append, leb-true, list_any, IsLegal, is_serialising, is_store, kind_of_word, at_kind, Lines, Kind, Values, due, Each, with_oldest_draining, without_drained, Entry, FetchBuffer, Fetched, broadcast, Committing, commit_turn, commit_unless, IsCycle, any_prediction, execute, with_lines, Dispatching, dispatch, has_full_stations, is_stationed, drain, Hardware, issue, Turn, Report, stores_behind, last_from, stamp_of, Step, and_first, and_second, count, EveryBehind-at, Leads, kept_by_turns}
 use Rattle.std.specs.FinSet as set
 use Rattle.rv_hardware.proofs.Turns.KeptByBroadcast.{IsKeptByBroadcast, broadcast-keeps}
 use Rattle.rv_hardware.proofs.Turns.KeptByCycle.{cycle-keeps, phases-keep}
@@ -10,12 +10,11 @@ use Rattle.rv_hardware.proofs.Turns.KeptByIssue.{IsKeptByIssue, issue-keeps}
 use Rattle.rv_hardware.proofs.Turns.Commit.{CommitTurn, no_head, stale_head, unfinished, fence_waits, fence_writes, fence_retires, executes, serial_faults, traps, retires, retires_last, commit_turn_is}
 use Rattle.rv_hardware.proofs.Marks.History.{Anything, anything_is_kept, Passed, History, began, went_on, begin, committing, dispatching, sent_all, cycle_passes, history_is_legal, history_is_sound}
 use Rattle.rv_hardware.proofs.Turns.Dispatch.{has_full_queue, WaitsFor, for_serial, for_buffer, for_station, for_queue}
-use Rattle.rv_hardware.proofs.Always.Faults.{HasFaults, faults-kept, faults-at_reset}
 use Rattle.rv_hardware.proofs.Turns.Fetched.{IsNew}
 use Rattle.rv_hardware.proofs.Laws.HeadsDoNotWait.Follow.{last_stamp, last_stamp-push, has_step, has_step-push, Follows, AllFollow, Committed, commit_leads_by}
 use Rattle.rv_hardware.proofs.Laws.NoIdleDispatch.{dispatch_leaves}
 use Rattle.rv_hardware.proofs.Laws.HeadsDoNotWait.Next.{Next, HasNext, next_executed}
-use Rattle.rv_hardware.proofs.Always.Shape.{HasShape}
+use Rattle.rv_hardware.proofs.Always.Sizes.{HasShape}
 
 some_station : (v : Values) → IsLegal v → (k : Kind) → 0 < (at_kind k v.kinds).stations
 some_station v legal k = omega (arith, (legal.kinds k).stations)
@@ -82,10 +81,6 @@ module _ (v : Values) (legal : IsLegal v) where
     next_fetched [] (f ∷ fs) at behind stores next = (next.0, λ plain. absurd (true≢false (sym (stores f fs refl refl) ∙ plain)))
     next_fetched [] [] at behind stores next = next_added added new (λ none. fetches_one front.halted refl behind (ap (λ (l : List Fetched). length l) at) none) next
 
-pub history_has_faults : (v : Values) {steps : List Step} {h : Hardware} → History v steps h → HasFaults h
-history_has_faults v (began image start legal) = faults-at_reset v image start
-history_has_faults v (went_on before is) = cycle-keeps faults-kept is (history_has_faults v before)
-
 history_is_halted : (v : Values) {steps : List Step} {h : Hardware} → History v steps h → IsHalted h
 history_is_halted v (began image start legal) = halted-at_reset v image start
 history_is_halted v (went_on before is) = cycle-keeps halted-kept is (history_is_halted v before)
@@ -112,8 +107,8 @@ turn_unused : (c : Committing) (t : Turn Committing) → CommitTurn set.contains
 turn_unused c _ (no_head none) p = p
 turn_unused c _ (stale_head e es at is) p = p
 turn_unused c _ (unfinished e es head plain none) p = p
-turn_unused c _ (fence_waits e es head is) p = p
-turn_unused c _ (fence_writes e es head is drained) p = p
+turn_unused c _ (fence_waits e es head is busy) p = p
+turn_unused c _ (fence_writes e es head is drained dirty) p = p
 turn_unused c _ (fence_retires e es written next head is drained) p = λ none. not_empty c.steps _ none
 turn_unused c _ (executes e es written next head serial) p = λ none. not_empty c.steps _ none
 turn_unused c _ (serial_faults e es cause value head serial) p = λ none. not_empty c.steps _ none
@@ -160,7 +155,7 @@ module _ (v : Values) {earlier : List Step} {old new : Hardware} {lines : Lines}
       let first = begin v (history_is_legal v before) Anything earlier lines old new report (anything_is_kept v old.cycle) begins tt in
       let legal = history_is_legal v before in
       commit_leads_by v old.cycle earlier v.commit_width (omega (arith, legal.pipeline.commit_width)) (due g.csrs g.lines) g (ap (λ (w : Values). w.commit_width) begins.shape.values) first
-      (rw (append-nil earlier) (past.follow)) (rw (append-nil earlier) (past.next)) (history_has_faults v before).1
+      (rw (append-nil earlier) (past.follow)) (rw (append-nil earlier) (past.next)) (history_is_halted v before).0.0
 
   here : earlier ++ report.steps ≡ earlier ++ (committing lines old).steps
   here = ap (λ l. earlier ++ l) passed.steps

@@ -3,14 +3,14 @@ use Rattle.rv_hardware.proofs.Words.{◌≡◌, ℕ, suc, ◌+◌, ◌<◌, ◌�
 use Rattle.std.specs.FinSet as set
 use Rattle.rv_isa.specs.declared.instructions.Instr.TheVariants.{Store}
 use Rattle.rv_arch.specs.declared.outcome.Stop.TheVariants as stop
-use Rattle.rv_hardware.proofs.Turns.Commit.{CommitTurn, Head, no_head, stale_head, unfinished, fence_waits, fence_writes, fence_retires, executes, serial_faults, traps, retires, retires_last, executed, written_back, retired_with, retired_and_flushed, commit_turn_is}
+use Rattle.rv_hardware.proofs.Turns.Commit.{CommitTurn, Head, no_head, stale_head, unfinished, fence_waits, fence_writes, fence_retires, executes, serial_faults, traps, retires, retires_last, executed, written_back, retired_with, retired_and_flushed, commit_turn_is, head_retired_entries}
 use Rattle.rv_hardware.proofs.Marks.History.{Anything, anything_is_kept}
 use Rattle.rv_hardware.proofs.Marks.Evidence.{last_from-append}
-use Rattle.rv_hardware.proofs.Always.Faults.{GivesUnitFault, GivesUnitFaultIn, IsUnitFault}
+use Rattle.rv_hardware.proofs.Always.Faults.{IsUnitFault}
+use Rattle.rv_hardware.proofs.Always.Entries.{IsShaped, Shaped}
 use Rattle.rv_hardware.proofs.Laws.HeadsDoNotWait.Next.{IsKnownSince, HasReason, NextEntry, Next}
 use Rattle.rv_hardware.proofs.Marks.Phases.{Goes, Commits, commit_turn_keeps}
 use Rattle.rv_hardware.proofs.Marks.Row.{MayRetire, may_retire_serial, may_retire_finished, retiring_is_one, row_at}
-use Rattle.rv_hardware.proofs.Always.Shape.{head_retired_entries}
 use Rattle.rv_hardware.proofs.Marks.Sound.{SoundEntry, SoundFetched, SoundStage, kind_is_plain, serial_has_no_kind, row_decodes}
 
 -- the cycle of the last of some steps, 0 where there is none
@@ -106,12 +106,12 @@ module _ (v : Values) (now s : ℕ) (store_waits : Bool) (stale : set.FinSet nat
       }
 
   -- a fault that needs no unit
-  trapped_by_stage : (i : Option Instr) (D : ℕ) (issue : Option Issue) (cycle : ℕ) (message : Message) (fault : Fault) → SoundStage v i D now now (Finished issue cycle message) → GivesUnitFaultIn (Finished issue cycle message) →
+  trapped_by_stage : (word : Option ℕ) (i : Option Instr) (D : ℕ) (issue : Option Issue) (cycle : ℕ) (message : Message) (fault : Fault) → SoundStage v i D now now (Finished issue cycle message) → IsShaped word i (Finished issue cycle message) →
       message.fault ≡ Some fault → needs_no_unit fault.cause ≡ true → ((store_waits && is_store i) ≡ false → D ≤ s + 1) → IsKnownSince now i D (Finished issue cycle message) → now ≤ s + 2
-  trapped_by_stage i D None cycle message fault held found is needs soon since = let le = soon (no_store store_waits i held.0) in omega (arith, le, since)
-  trapped_by_stage i D (Some issue) cycle message fault held found is needs soon since = not_both needs (subst IsUnitFault is found)
+  trapped_by_stage word i D None cycle message fault held found is needs soon since = let le = soon (no_store store_waits i held.0) in omega (arith, le, since)
+  trapped_by_stage word i D (Some issue) cycle message fault held found is needs soon since = not_both needs (subst IsUnitFault is found.1)
 
-  trap_follows : (issue : Option Issue) (cycle : ℕ) (message : Message) (fault : Fault) → is_serialising e.instruction ≡ false → e.stage ≡ Finished issue cycle message → message.fault ≡ Some fault → GivesUnitFault e →
+  trap_follows : (issue : Option Issue) (cycle : ℕ) (message : Message) (fault : Fault) → is_serialising e.instruction ≡ false → e.stage ≡ Finished issue cycle message → message.fault ≡ Some fault → Shaped e →
       Follows s store_waits (Trap e.pc fault.cause fault.value now)
   trap_follows issue cycle message fault plain at is found = record { waits = tt; ahead = tt; soon = λ needs. by_reason needs next.reason }
     where
@@ -120,7 +120,7 @@ module _ (v : Values) (now s : ℕ) (store_waits : Bool) (stale : set.FinSet nat
       by_reason needs (inr (inl old)) = not_both old fresh
       by_reason needs (inr (inr (inl fence))) = not_both (fence_serialises e.instruction fence) plain
       by_reason needs (inr (inr (inr since))) =
-          trapped_by_stage e.instruction e.dispatched issue cycle message fault (subst (SoundStage v e.instruction e.dispatched now now) at sound.stage) (subst GivesUnitFaultIn at found) is needs next.dispatched
+          trapped_by_stage e.word e.instruction e.dispatched issue cycle message fault (subst (SoundStage v e.instruction e.dispatched now now) at sound.stage) (subst (IsShaped e.word e.instruction) at found) is needs next.dispatched
           (subst (IsKnownSince now e.instruction e.dispatched) at since)
 
   serial_by_stage : (i : Option Instr) (D : ℕ) (st : Stage) → is_serialising i ≡ true → SoundStage v i D now now st → IsKnownSince now i D st → now ≤ D + 1
@@ -214,7 +214,7 @@ module _ (v : Values) (now : ℕ) (earlier : List Step) where
     follow : AllFollow (earlier ++ c.steps)
     next : NextIn now c
     later : 0 < k → NextIn (now + 1) c
-    found : Each GivesUnitFault c.hardware.rob.entries
+    found : Each Shaped c.hardware.rob.entries
 
   regroup : (c : Committing) (x : Step) → earlier ++ (c.steps ++ x ∷ []) ≡ (earlier ++ c.steps) ++ x ∷ []
   regroup c x = sym (append_assoc earlier c.steps (x ∷ []))
@@ -255,8 +255,8 @@ module _ (v : Values) (now : ℕ) (earlier : List Step) where
     head_next : NextEntry now (last_stamp (earlier ++ c.steps)) (has_step (earlier ++ c.steps)) c.hardware.stale e
     head_next = subst (λ l. Next now now (last_stamp (earlier ++ c.steps)) (has_step (earlier ++ c.steps)) c.hardware.stale l c.hardware.front.entries) head.place p.next
 
-    head_found : GivesUnitFault e
-    head_found = (subst (Each GivesUnitFault) head.place p.found).0
+    head_found : Shaped e
+    head_found = (subst (Each Shaped) head.place p.found).0
 
     retired_follows : (written : Option (ℕ × ℕ)) → MayRetire e.instruction e.stage → Follows (last_stamp (earlier ++ c.steps)) (has_step (earlier ++ c.steps)) (Retired (row_at e written c.hardware.cycle))
     retired_follows written may =
@@ -273,8 +273,8 @@ module _ (v : Values) (now : ℕ) (earlier : List Step) where
       record { follow = same.follow; next = same.next }
   turn_leads total k c _ turn (unfinished e es head plain none) q p goes =
       standing k c c.stop p (λ x rest at. inr (inr (inr (subst (λ (y : Entry). IsKnownSince (now + 1) y.instruction y.dispatched y.stage) (same_head e x es rest c.hardware.rob.entries head.place at) (unfinished_since (now + 1) e.dispatched e.instruction e.stage plain none)))))
-  turn_leads total k c _ turn (fence_waits e es head is) q p goes = standing k c c.stop p (fence_stands k c e es head q p (ap is_fence_i is))
-  turn_leads total k c _ turn (fence_writes e es head is drained) q p goes =
+  turn_leads total k c _ turn (fence_waits e es head is busy) q p goes = standing k c c.stop p (fence_stands k c e es head q p (ap is_fence_i is))
+  turn_leads total k c _ turn (fence_writes e es head is drained dirty) q p goes =
       let same = standing k c c.stop p (fence_stands k c e es head q p (ap is_fence_i is)) in
       record { follow = same.follow; next = same.next }
   turn_leads total k c _ turn (fence_retires e es written next head is drained) q p goes =
@@ -302,7 +302,7 @@ module _ (v : Values) (now : ℕ) (earlier : List Step) where
         follow = more_follow c x p.follow (retired_follows k c e es head q p (written_of e message) (may_retire_finished e.instruction e.stage issue cycle message at none));
         next = here now (omega arith);
         later = λ some. here (now + 1) (omega arith);
-        found = subst (Each GivesUnitFault) (sym (head_retired_entries c.hardware.rob e es head.place)) (subst (Each GivesUnitFault) head.place p.found).1;
+        found = subst (Each Shaped) (sym (head_retired_entries c.hardware.rob e es head.place)) (subst (Each Shaped) head.place p.found).1;
       }
   turn_leads total k c _ turn (retires_last e es issue cycle message head plain at none) q p goes =
       flushing c (Retired (row_at e (written_of e message) c.hardware.cycle)) (retired_and_flushed e message c).hardware c.stop q.basics.cycle p.follow
@@ -310,7 +310,7 @@ module _ (v : Values) (now : ℕ) (earlier : List Step) where
 
   -- the commit phase takes steps that follow one another, and leaves the next instruction with its reason to wait
   pub commit_leads_by : (total : ℕ) → 1 ≤ total → (o : Option ℕ) (h : Hardware) → h.values.commit_width ≡ total → Goes v now now now now now (now + 1) Anything (earlier ++ []) h → AllFollow (earlier ++ []) →
-      Next now now (last_stamp (earlier ++ [])) (has_step (earlier ++ [])) h.stale h.rob.entries h.front.entries → Each GivesUnitFault h.rob.entries → Committed (commit_unless set.contains o h)
+      Next now now (last_stamp (earlier ++ [])) (has_step (earlier ++ [])) h.stale h.rob.entries h.front.entries → Each Shaped h.rob.entries → Committed (commit_unless set.contains o h)
   commit_leads_by total le (Some code) h width goes follow next found =
       let c : Committing = record { hardware = h; steps = []; stop = None } in
       flushing c (Interrupt h.pc (interrupt_cause code) h.cycle) (commit_unless set.contains (Some code) h).hardware None goes.basics.cycle follow (record { waits = tt; ahead = tt; soon = tt }) refl refl

@@ -1,6 +1,7 @@
 -- The next instruction of the program, in flight or in the fetch buffer, keeps its reason not to have retired.
-use Rattle.rv_hardware.proofs.Words.{◌≡◌, ℕ, ◌+◌, ◌≤◌, Bool, true, false, ◌&&◌, ◌⊎◌, List, [], ◌∷◌, ◌++◌, Some, None, Option, nat_cmp, subst, inr, arith, is_fence_i, is_serialising, is_store, kind_of_word, Message, Instr, Kind, word_of, finished, issue_of, predicting, started, Entry, Stage, Finished, Running, Waiting, Fetched, broadcast, result_at, execute, entry_of_fetched, stage_by, drain, Hardware, issue, result_of_word, layout_of, seen_behind}
+use Rattle.rv_hardware.proofs.Words.{◌≡◌, ℕ, ◌+◌, ◌≤◌, Bool, true, false, ◌&&◌, ◌⊎◌, List, [], ◌∷◌, ◌++◌, Some, None, Option, nat_cmp, ap, subst, inr, arith, is_fence_i, is_serialising, is_store, kind_of_word, Message, Instr, Kind, word_of, finished, issue_of, predicting, started, Entry, Stage, Finished, Running, Waiting, Fetched, broadcast, execute, entry_of_fetched, stage_by, drain, Hardware, issue, result_of_word, layout_of, seen_behind}
 use Rattle.std.specs.FinSet as set
+use Rattle.rv_hardware.proofs.Turns.Broadcast.{HasRun}
 use Rattle.rv_hardware.proofs.Turns.KeptByBroadcast.{IsKeptByBroadcast, broadcast-keeps}
 use Rattle.rv_hardware.proofs.Turns.KeptByDispatch.{IsKeptByDispatch, dispatch-keeps}
 use Rattle.rv_hardware.proofs.Turns.KeptByDrain.{IsKeptByDrain, drain-keeps}
@@ -48,10 +49,9 @@ module _ (now s : ℕ) (store_waits : Bool) where
   abbrev pub HasNext : Hardware → Type 0
   HasNext h = (h.cycle ≡ now) × Next (now + 1) now s store_waits h.stale h.rob.entries h.front.entries
 
-  known_now : (cycle D : ℕ) (i : Option Instr) (message : Message) (st : Stage) → cycle ≡ now → result_at cycle st ≡ Some message → IsKnownSince (now + 1) i D (Finished (issue_of st) cycle message)
-  known_now cycle D i message Waiting at gives = absurd (cc)
-  known_now cycle D i message (Running issue given) at gives = omega (arith, at)
-  known_now cycle D i message (Finished issue c given) at gives = absurd (cc)
+  known_now : (cycle D : ℕ) (i : Option Instr) (message : Message) (st : Stage) → cycle ≡ now → HasRun cycle st message →
+      IsKnownSince (now + 1) i D (Finished (issue_of st) cycle message)
+  known_now cycle D i message st at gives = rw (ap issue_of gives.runs) (omega (arith, at))
 
   known_at_dispatch : (cycle : ℕ) (i : Option Instr) (message : Message) (kind : Option Kind) (serial : Bool) → cycle ≡ now → IsKnownSince (now + 1) i cycle (stage_by kind serial (Finished None cycle message))
   known_at_dispatch cycle i message (Some kind) serial at = λ is. omega (arith, at)

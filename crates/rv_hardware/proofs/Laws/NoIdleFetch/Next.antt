@@ -6,14 +6,13 @@ use Rattle.rv_hardware.proofs.Turns.KeptByDispatch.{IsKeptByDispatch, dispatch-k
 use Rattle.rv_hardware.proofs.Turns.KeptByDrain.{IsKeptByDrain, drain-keeps}
 use Rattle.rv_hardware.proofs.Turns.KeptByIssue.{IsKeptByIssue, issue-keeps}
 use Rattle.rv_hardware.proofs.Always.Halted.{IsHalted, HaltsBehind, words_of, halted-kept, halted-at_reset, runs-empty}
-use Rattle.rv_hardware.proofs.Turns.Commit.{CommitTurn, no_head, stale_head, unfinished, fence_waits, fence_writes, fence_retires, executes, serial_faults, traps, retires, retires_last, executed, written_back, retired_with, retired_and_flushed}
+use Rattle.rv_hardware.proofs.Turns.Commit.{CommitTurn, no_head, stale_head, unfinished, fence_waits, fence_writes, fence_retires, executes, serial_faults, traps, retires, retires_last, executed, written_back, retired_with, retired_and_flushed, head_retired_entries}
 use Rattle.rv_hardware.proofs.Marks.History.{Anything, anything_is_kept, Passed, History, began, went_on, begin, committing, dispatching, cycle_passes, history_is_legal, history_is_sound}
 use Rattle.rv_hardware.proofs.Marks.Keeps.{history_keeps, InCommit, commit_turns_keep}
-use Rattle.rv_hardware.proofs.Laws.NoIdleFetch.Linked.{LastIs, last_at, last_of}
+use Rattle.rv_hardware.proofs.Laws.NoIdleFetch.Links.{LastIs, last_at, last_of}
 use Rattle.rv_hardware.proofs.Laws.NoIdleFetch.Rows.{stays_halted}
 use Rattle.rv_hardware.proofs.Turns.Fetched.{IsNew}
 use Rattle.rv_hardware.proofs.Marks.Row.{row_at}
-use Rattle.rv_hardware.proofs.Always.Shape.{head_retired_entries}
 use Rattle.rv_hardware.proofs.Marks.Sound.{SoundEntry, SoundFetched}
 
 -- a row was fetched by a cycle
@@ -98,8 +97,8 @@ module _ (v : Values) (now : ℕ) (earlier : List Step) (is_stale : set.FinSet n
   commit_follows c _ (no_head none) q p = p
   commit_follows c _ (stale_head e es at is) q p = p
   commit_follows c _ (unfinished e es head plain none) q p = p
-  commit_follows c _ (fence_waits e es head is) q p = p
-  commit_follows c _ (fence_writes e es head is drained) q p = p
+  commit_follows c _ (fence_waits e es head is busy) q p = p
+  commit_follows c _ (fence_writes e es head is drained dirty) q p = p
   commit_follows c _ (fence_retires e es written next head is drained) q p = one_more c (Retired (row_at e written c.hardware.cycle)) (executed e written next (written_back c)).hardware q.basics.cycle (omega arith) (head_next c e es written head.place p) p
   commit_follows c _ (executes e es written next head serial) q p = one_more c (Retired (row_at e written c.hardware.cycle)) (executed e written next c).hardware q.basics.cycle (omega arith) (head_next c e es written head.place p) p
   commit_follows c _ (serial_faults e es cause value head serial) q p = one_more c (Trap e.pc cause value c.hardware.cycle) (with_fault e cause value c).hardware q.basics.cycle (omega arith) (no_row_next c (Trap e.pc cause value c.hardware.cycle) (λ a. tt) p) p

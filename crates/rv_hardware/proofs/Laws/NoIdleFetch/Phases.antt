@@ -7,10 +7,9 @@ use Rattle.rv_hardware.proofs.Turns.KeptByDrain.{IsKeptByDrain, drain-keeps}
 use Rattle.rv_hardware.proofs.Turns.KeptByIssue.{IsKeptByIssue, issue-keeps}
 use Rattle.rv_hardware.proofs.Marks.Basics.{finished_mark}
 use Rattle.rv_hardware.proofs.Turns.Broadcast.{BroadcastTurn, none_ready, sends, mends, broadcast_turn_is, sent_entries, mended_entries}
-use Rattle.rv_hardware.proofs.Turns.Commit.{CommitTurn, no_head, stale_head, unfinished, fence_waits, fence_writes, fence_retires, executes, serial_faults, traps, retires, retires_last, commit_turn_is}
+use Rattle.rv_hardware.proofs.Turns.Commit.{CommitTurn, no_head, stale_head, unfinished, fence_waits, fence_writes, fence_retires, executes, serial_faults, traps, retires, retires_last, commit_turn_is, head_retired_entries}
 use Rattle.rv_hardware.proofs.Marks.List.{Mark, mark_of_row, mark_of_entry, mark_of_fetched, marks_in, broadcast_of_stage, rows_append}
 use Rattle.rv_hardware.proofs.Marks.Row.{row_at}
-use Rattle.rv_hardware.proofs.Always.Shape.{head_retired_entries}
 
 -- how many instructions retired, are in flight and were fetched
 abbrev pub size : List Step → Hardware → ℕ
@@ -71,8 +70,8 @@ module _ (n : ℕ) (halted : Bool) where
     commit_goes c _ (no_head none) p = p
     commit_goes c _ (stale_head e es at is) p = p
     commit_goes c _ (unfinished e es head plain none) p = p
-    commit_goes c _ (fence_waits e es head is) p = p
-    commit_goes c _ (fence_writes e es head is drained) p = p
+    commit_goes c _ (fence_waits e es head is busy) p = p
+    commit_goes c _ (fence_writes e es head is drained dirty) p = p
     commit_goes c _ (fence_retires e es written next head is drained) p = inr (refl, refl, refl)
     commit_goes c _ (executes e es written next head serial) p = inr (refl, refl, refl)
     commit_goes c _ (serial_faults e es cause value head serial) p = inr (refl, refl, refl)

@@ -5,7 +5,7 @@ use Rattle.rv_hardware.proofs.Turns.Fetch.{fetch-cases}
 use Rattle.rv_hardware.proofs.Marks.Counted.{count-as_of}
 use Rattle.rv_hardware.proofs.Marks.History.{Passed, History, began, went_on, is_buffered_mark, buffered_words, committing, issued_all, dispatching, cycle_passes, history_is_legal, history_is_sound}
 use Rattle.rv_hardware.proofs.Turns.Fetched.{IsNew}
-use Rattle.rv_hardware.proofs.Laws.NoIdleFetch.Linked.{with_word, IsBy, Followed, IsOpen, Linked, LastIs, held_behind, held_count, WasLinked, was_linked_kept, linked_stays, linked_on, linked_cut, linked_words, last_at}
+use Rattle.rv_hardware.proofs.Laws.NoIdleFetch.Links.{with_word, IsBy, Followed, IsOpen, Linked, LastIs, held_behind, held_count, WasLinked, was_linked_kept, linked_stays, linked_on, linked_cut, linked_words, last_at}
 use Rattle.rv_hardware.proofs.Laws.NoIdleFetch.Phases.{size, size_of_marks, Uncut, Left, commit_goes_by, drain_and_issue, broadcast_and_dispatch}
 use Rattle.rv_hardware.proofs.Marks.List.{Mark, mark_of_row, mark_of_entry, mark_of_fetched, marks_in, marks, marks_at_entry}
 use Rattle.rv_hardware.proofs.Marks.Past.{as_of_now, marks_settled}

@@ -1,21 +1,23 @@
 -- The issue phase leaves no pipelined unit idle, and the other phases keep it so.
-use Rattle.rv_hardware.proofs.Words.{◌≡◌, ℕ, suc, ◌+◌, ◌<◌, ◌≤◌, Bool, true, false, cond, List, [], ◌∷◌, ◌++◌, map, length, nat_lt, nat_le, Some, None, filter, Option, nat_cmp, sym, refl, ap, ◌∙◌, subst, append_assoc, append-nil, arith, ltb-false, le-ltb, eq-eqb, and_from, and_right, at_kind-for_each, with_kind-each, with_kind-other, with_kind-own, IsLegal, is_of_kind, kind_of_word, at_kind, for_each, with_kind, Issue, Lines, Kind, PerKind, Values, due, Each, Pool, free_pool, held_for, holding, holds_unit, is_free, started, Entry, broadcast_turn, Committing, commit_turn, commit_unless, with_lines, Dispatching, dispatch_turn, Hardware, cost_of, is_ready, issue, issue_kind, issue_turn, issued, path, Turn, Report, rows_of, Step, Each-append, Each-left, Each-weaker, Each-all, Each-filter, EveryBehind, count, count-set-one_more, EveryBehind-append, EveryBehind-right, EveryBehind-moved, EveryBehind-all, EveryBehind-weaker, Leads, turns_within, kept_by_turns}
+use Rattle.rv_hardware.proofs.Words.{◌≡◌, ℕ, suc, ◌+◌, ◌<◌, ◌≤◌, Bool, true, false, cond, List, [], ◌∷◌, ◌++◌, map, length, nat_lt, nat_le, Some, None, filter, sym, refl, ap, ◌∙◌, subst, append_assoc, append-nil, arith, ltb-false, le-ltb, eq-eqb, and_from, and_right, at_kind-for_each, with_kind-each, with_kind-other, with_kind-own, IsLegal, is_of_kind, kind_of_word, at_kind, for_each, with_kind, Issue, Lines, Kind, PerKind, Values, Each, Pool, free_pool, held_for, holding, holds_unit, is_free, started, Entry, with_lines, Hardware, cost_of, is_ready, issue, issue_kind, issue_turn, issued, path, Turn, Report, rows_of, Step, Each-append, Each-left, Each-weaker, Each-all, Each-filter, EveryBehind, count, count-set-one_more, EveryBehind-append, EveryBehind-right, EveryBehind-moved, EveryBehind-all, EveryBehind-weaker, Leads, turns_within}
 use Rattle.std.specs.FinSet as set
 use Rattle.rv_isa.specs.declared.operations.Kind.TheVariants as kind
 use Rattle.rv_units.specs.Pool.{started as started_unit}
-use Rattle.rv_hardware.proofs.Turns.KeptByIssue.{ready-parts}
+use Rattle.rv_hardware.proofs.Turns.KeptByBroadcast.{broadcast-keeps}
+use Rattle.rv_hardware.proofs.Turns.KeptByCommit.{commit-keeps}
+use Rattle.rv_hardware.proofs.Turns.KeptByDispatch.{dispatch-keeps}
+use Rattle.rv_hardware.proofs.Turns.KeptByDrain.{drain-same}
+use Rattle.rv_hardware.proofs.Turns.KeptByIssue.{ready-parts, issue-by, issue_kind-keeps}
+use Rattle.rv_hardware.proofs.Marks.Keeps.{InCycle, starts_in_cycle}
 use Rattle.rv_hardware.proofs.Marks.Advance.{IsBefore, Starts}
-use Rattle.rv_hardware.proofs.Turns.Broadcast.{BroadcastTurn, none_ready as no_result, sends, mends, broadcast_turn_is}
-use Rattle.rv_hardware.proofs.Turns.Commit.{CommitTurn, no_head, stale_head, unfinished, fence_waits, fence_writes, fence_retires, executes, serial_faults, traps, retires, retires_last, commit_turn_is}
 use Rattle.rv_hardware.proofs.Marks.History.{Anything, anything_is_kept, History, began, went_on, Passed, cycle_passes, history_is_legal, history_is_sound, committing, drained, issued_all, sent_all, dispatching}
-use Rattle.rv_hardware.proofs.Turns.Dispatch.{DispatchTurn, buffer_empty, waits, dispatches, dispatch_turn_is}
 use Rattle.rv_hardware.proofs.Laws.NoIdleUnit.Marks.{MayStart, BusyUnits, may_back, busy_units_are_kept, rows_do_not_start, words_do_not_start, entries_do_not_start}
 use Rattle.rv_hardware.proofs.Turns.Issue.{IssueTurn, no_unit, none_ready, starts, issue_turn_is, access_keeps, message_at, started_entries}
 use Rattle.rv_hardware.proofs.Marks.List.{Mark, mark_of_row, mark_of_entry, mark_of_fetched, marks, marks_in, marks_at_entry}
 use Rattle.rv_hardware.proofs.Marks.Phases.{Issues, issue_turn_keeps, issue_kind_keeps, start_is, with_marks, goes_later, broadcast_keeps, dispatch_keeps}
 use Rattle.rv_hardware.proofs.Marks.Sound.{SoundEntry}
 use Rattle.rv_hardware.proofs.Laws.OtherUnits.Rows.{starts_at, begins_mark}
-use Rattle.rv_hardware.proofs.Laws.OtherUnits.Phases.{issued_units, drain_units}
+use Rattle.rv_hardware.proofs.Laws.OtherUnits.Phases.{issued_units}
 
 -- every start of a pipelined kind was over by a cycle
 abbrev pub Over : ℕ → Pool → Type 0
@@ -140,51 +142,32 @@ module _ (v : Values) (legal : IsLegal v) (now : ℕ) (steps : List Step) (k : K
 
 -- the other phases leave the units as they are
 
-commit_units : (is_stale : set.FinSet nat_cmp → ℕ → Bool) (u : PerKind Pool) (c : Committing) (t : Turn Committing) → CommitTurn is_stale c t → c.hardware.units ≡ u → Leads (λ d. d.hardware.units ≡ u) (λ d. d.hardware.units ≡ u) t
-commit_units is_stale u c _ (no_head none) h = h
-commit_units is_stale u c _ (stale_head e es at is) h = h
-commit_units is_stale u c _ (unfinished e es head plain none) h = h
-commit_units is_stale u c _ (fence_waits e es head is) h = h
-commit_units is_stale u c _ (fence_writes e es head is drained) h = h
-commit_units is_stale u c _ (fence_retires e es written next head is drained) h = h
-commit_units is_stale u c _ (executes e es written next head serial) h = h
-commit_units is_stale u c _ (serial_faults e es cause value head serial) h = h
-commit_units is_stale u c _ (traps e es issue cycle message fault head plain at is) h = h
-commit_units is_stale u c _ (retires e es issue cycle message head plain at none) h = h
-commit_units is_stale u c _ (retires_last e es issue cycle message head plain at none) h = h
-
-commit_units_by : (o : Option ℕ) (h : Hardware) → (commit_unless set.contains o h).hardware.units ≡ h.units
-commit_units_by (Some code) h = refl
-commit_units_by None h =
-    kept_by_turns (λ c. c.hardware.units ≡ h.units) (commit_turn set.contains) (λ c q. commit_units set.contains h.units c (commit_turn set.contains c) (commit_turn_is set.contains c) q) h.values.commit_width (record { hardware = h; steps = []; stop = None }) refl
-
-broadcast_units : (u : PerKind Pool) (h : Hardware) (t : Turn Hardware) → BroadcastTurn h t → h.units ≡ u → Leads (λ g. g.units ≡ u) (λ g. g.units ≡ u) t
-broadcast_units u h _ (no_result none) p = p
-broadcast_units u h _ (sends older younger e issue message sent late) p = p
-broadcast_units u h _ (mends older younger e issue message sent early) p = p
-
-dispatch_units : (u : PerKind Pool) (d : Dispatching) (t : Turn Dispatching) → DispatchTurn d t → d.hardware.units ≡ u → Leads (λ x. x.hardware.units ≡ u) (λ x. x.hardware.units ≡ u) t
-dispatch_units u d _ (buffer_empty none) p = p
-dispatch_units u d _ (waits f fs reason at why) p = p
-dispatch_units u d _ (dispatches f fs at nothing) p = p
+abbrev AreUnits : PerKind Pool → Hardware → Type 0
+AreUnits u h = h.units ≡ u
 
 begin_units : (lines : Lines) (old : Hardware) → (drained lines old).units ≡ old.units
 begin_units lines old =
-    let g : Hardware = with_lines lines old in
-    drain_units (committing lines old).hardware ∙ commit_units_by (due g.csrs g.lines) g
+    (drain-same (committing lines old).hardware).units ∙
+    commit-keeps {P = AreUnits old.units} (record {
+      empties = λ h s retired same. same;
+      retires = λ h e es s message same split known faultless. same;
+      writes_back = λ h same drained. same;
+    }) set.contains (with_lines lines old) refl
 
 end_units : (lines : Lines) (old : Hardware) → (dispatching lines old).hardware.units ≡ (issued_all lines old).units
 end_units lines old =
-    let i : Hardware = issued_all lines old in
-    let s : Hardware = sent_all lines old in
-    kept_by_turns (λ d. d.hardware.units ≡ s.units) dispatch_turn (λ d q. dispatch_units s.units d (dispatch_turn d) (dispatch_turn_is d) q) s.values.dispatch_width (record { hardware = s; dispatched = 0; waits_for = None }) refl ∙
-    kept_by_turns (λ g. g.units ≡ i.units) broadcast_turn (λ g q. broadcast_units i.units g (broadcast_turn g) (broadcast_turn_is g) q) i.values.bus_width i refl
+    let u : PerKind Pool = (issued_all lines old).units in
+    dispatch-keeps {P = AreUnits u} (record { dispatches = λ h f rest same first nothing. same }) (sent_all lines old)
+    (broadcast-keeps {P = AreUnits u} (record {
+      broadcasts = λ h older younger e message same split gives. same;
+      mends = λ h older younger e next same split. same;
+    }) (issued_all lines old) refl)
 
 -- the starts of a pipelined kind are over in the next cycle
 
 module _ (v : Values) (legal : IsLegal v) (now : ℕ) (steps : List Step) (k : Kind) (pipelined : (at_kind k v.kinds).pipelined ≡ true) where
   abbrev Timely : Hardware → Type 0
-  Timely h = Issues v legal now Anything (anything_is_kept v now) steps h × Over (now + 1) (at_kind k h.units)
+  Timely h = InCycle v now h × Over (now + 1) (at_kind k h.units)
 
   -- of a start of some kind
   over_by : (j : Kind) (cost : ℕ) (u : PerKind Pool) → (at_kind k u).is_pipelined ≡ true → Over (now + 1) (at_kind k u) → Over (now + 1) (at_kind k (with_kind j (started_unit cost now (at_kind j u)) u))
@@ -198,37 +181,23 @@ module _ (v : Values) (legal : IsLegal v) (now : ℕ) (steps : List Step) (k : K
       one_cycle true e = omega arith
       one_cycle false e = absurd (cc)
 
-  timely_turn : (j : Kind) (h : Hardware) (t : Turn Hardware) → IssueTurn j h t → Timely h → Leads (Issues v legal now Anything (anything_is_kept v now) steps) (Issues v legal now Anything (anything_is_kept v now) steps) t → Leads Timely Timely t
-  timely_turn j h _ (no_unit held) p goes = p
-  timely_turn j h _ (none_ready none) p goes = p
-  timely_turn j h _ (starts older younger e at is none free) p goes = (
-    goes,
-    subst (λ u. Over (now + 1) (at_kind k u)) (sym (issued_units j h older e))
-        (subst (λ n. Over (now + 1) (at_kind k (with_kind j (started_unit (cost_of h j (path h older e)) n (at_kind j h.units)) h.units))) (sym p.0.basics.cycle)
-        (over_by j (cost_of h j (path h older e)) h.units (p.0.basics.shape.pipelined k ∙ pipelined) p.1)),
-  )
-
-  timely_kind : (j : Kind) (h : Hardware) → Timely h → Timely (issue_kind j h)
-  timely_kind j h p =
-      kept_by_turns Timely (issue_turn j) (λ g q. timely_turn j g (issue_turn j g) (issue_turn_is j g) q (issue_turn_keeps v legal now Anything (anything_is_kept v now) steps j g (issue_turn j g) (issue_turn_is j g) q.0)) (at_kind j h.values.kinds).units h p
-
   timely_issue : (h : Hardware) → Timely h → Timely (issue h)
   timely_issue h p =
-      timely_kind kind.Mem (issue_kind kind.Div (issue_kind kind.Mul (issue_kind kind.Alu h)))
-      (timely_kind kind.Div (issue_kind kind.Mul (issue_kind kind.Alu h)) (timely_kind kind.Mul (issue_kind kind.Alu h) (timely_kind kind.Alu h p)))
+      issue-by Timely (λ j h older younger e p at is free. (
+        starts_in_cycle v now j h older younger e p.0 at is free,
+        subst (λ u. Over (now + 1) (at_kind k u)) (sym (issued_units j h older e))
+            (subst (λ n. Over (now + 1) (at_kind k (with_kind j (started_unit (cost_of h j (path h older e)) n (at_kind j h.units)) h.units))) (sym p.0.1)
+            (over_by j (cost_of h j (path h older e)) h.units (p.0.0.pipelined k ∙ pipelined) p.1)),
+      )) h p
 
   -- another kind's starts leave the pool
   abbrev Apart : Pool → Hardware → Type 0
   Apart pool h = at_kind k h.units ≡ pool
 
-  apart_turn : (pool : Pool) (j : Kind) (h : Hardware) (t : Turn Hardware) → is_of_kind k (Some j) ≡ false → IssueTurn j h t → Apart pool h → Leads (Apart pool) (Apart pool) t
-  apart_turn pool j h _ other (no_unit held) p = p
-  apart_turn pool j h _ other (none_ready none) p = p
-  apart_turn pool j h _ other (starts older younger e at is none free) p =
-      ap (at_kind k) (issued_units j h older e) ∙ with_kind-other j (started_unit (cost_of h j (path h older e)) h.cycle (at_kind j h.units)) h.units k other ∙ p
-
   apart_kind : (pool : Pool) (j : Kind) (h : Hardware) → is_of_kind k (Some j) ≡ false → Apart pool h → Apart pool (issue_kind j h)
-  apart_kind pool j h other p = kept_by_turns (Apart pool) (issue_turn j) (λ g q. apart_turn pool j g (issue_turn j g) other (issue_turn_is j g) q) (at_kind j h.values.kinds).units h p
+  apart_kind pool j h other p =
+      issue_kind-keeps {P = Apart pool} j (λ h older younger e p at is free.
+      ap (at_kind k) (issued_units j h older e) ∙ with_kind-other j (started_unit (cost_of h j (path h older e)) h.cycle (at_kind j h.units)) h.units k other ∙ p) h p
 
   -- what a kind's phase leaves is kept by the others
   abbrev BusyNow : List Mark → Type 0
@@ -287,7 +256,7 @@ over_of_history v k line (went_on {earlier} {old} {new} {lines} {report} before 
     let passed = cycle_passes v legal Anything earlier lines old new report (anything_is_kept v old.cycle) (history_is_sound v before) tt is in
     let begins = subst (λ u. Over old.cycle (at_kind k u)) (sym (begin_units lines old)) (over_of_history v k line before) in
     let later = Each-weaker (λ s. s.cycle + s.cost ≤ old.cycle) (λ s. s.cycle + s.cost ≤ old.cycle + 1) (λ s le. omega (arith, le)) (at_kind k (drained lines old).units).starts begins in
-    let issues = timely_issue v legal old.cycle (earlier ++ report.steps) k line (drained lines old) (passed.drains, later) in
+    let issues = timely_issue v legal old.cycle (earlier ++ report.steps) k line (drained lines old) ((passed.drains.basics.shape, passed.drains.basics.cycle), later) in
     let next : new.cycle ≡ old.cycle + 1 = ap (λ (h : Hardware). h.cycle) passed.others_stay in
     let units : new.units ≡ (issued_all lines old).units = ap (λ (h : Hardware). h.units) passed.others_stay ∙ end_units lines old in
     rw next (subst (λ u. Over (old.cycle + 1) (at_kind k u)) (sym units) issues.1)

@@ -1,17 +1,15 @@
 -- A unit executes one instruction at a time, or begins one a cycle where it is pipelined.
-use Rattle.rv_hardware.proofs.Words.{◌≡◌, ℕ, suc, ◌+◌, ◌≤◌, Bool, true, false, cond, ◌&&◌, List, [], ◌∷◌, ◌++◌, length, nat_lt, nat_le, Some, None, filter, Option, nat_cmp, sym, refl, ap, ◌∙◌, subst, true≢false, arith, ltb-true, lt-ltb, le-leb, and_from, and_left, and_right, at_kind-for_each, with_kind-each, IsLegal, is_of_kind, kind_of_word, at_kind, for_each, with_kind, StoreAccess, Issue, Lines, Kind, Values, due, Each, oldest_to_drain, Pool, free_pool, held_for, holding, holds_unit, is_free, finished, predicting, started, ReorderBuffer, Entry, broadcast_turn, with_broadcast, with_recovery, Committing, commit_turn, commit_unless, with_fault, with_lines, Dispatching, dispatch_turn, entry_of_fetched, with_dispatched, drain, end_drain, start_drain, Hardware, cost_of, issue, issue_kind, issue_turn, issued, path, Turn, Report, Step, and_second, Each-append, Each-weaker, Each-filter, count, count-append, count-yes, count-length, count-set-same, count-set-more, count-set-less, count-push-no, Leads, kept_by_turns}
-use Rattle.std.specs.FinSet as set
-use Rattle.rv_isa.specs.declared.operations.Kind.TheVariants as kind
+use Rattle.rv_hardware.proofs.Words.{◌≡◌, ℕ, suc, ◌+◌, ◌≤◌, Bool, true, false, cond, ◌&&◌, List, [], ◌∷◌, ◌++◌, length, nat_lt, nat_le, Some, None, filter, Option, sym, refl, ap, ◌∙◌, subst, true≢false, arith, ltb-true, lt-ltb, le-leb, and_from, and_left, and_right, at_kind-for_each, with_kind-each, IsLegal, is_of_kind, kind_of_word, at_kind, for_each, with_kind, Issue, Lines, Kind, Values, Each, Pool, free_pool, held_for, holding, holds_unit, is_free, finished, predicting, started, Entry, entry_of_fetched, with_dispatched, Hardware, cost_of, issued, path, Report, Step, and_second, Each-append, Each-weaker, Each-filter, count, count-append, count-yes, count-length, count-set-same, count-set-more, count-set-less, count-push-no}
 use Rattle.rv_units.specs.Pool.{started as started_unit}
+use Rattle.rv_hardware.proofs.Turns.Forms.{emptied, with_entries, without_head}
+use Rattle.rv_hardware.proofs.Turns.KeptByBroadcast.{IsKeptByBroadcast, with_mended}
+use Rattle.rv_hardware.proofs.Turns.KeptByCommit.{IsKeptByCommit}
+use Rattle.rv_hardware.proofs.Turns.KeptByDispatch.{IsKeptByDispatch}
 use Rattle.rv_hardware.proofs.Turns.KeptByIssue.{IsReady, ready-parts}
+use Rattle.rv_hardware.proofs.Marks.Keeps.{InCycle, IsKeptInCycle, in_cycle}
 use Rattle.rv_hardware.proofs.Marks.Basics.{finished_mark, dispatched_mark, is_waiting_is}
-use Rattle.rv_hardware.proofs.Turns.Broadcast.{BroadcastTurn, none_ready as no_result, sends, mends, broadcast_turn_is, sent_entries, mended_entries}
-use Rattle.rv_hardware.proofs.Turns.Dispatch.{DispatchTurn, buffer_empty, waits, dispatches, dispatch_turn_is}
-use Rattle.rv_hardware.proofs.Turns.Commit.{CommitTurn, no_head, stale_head, unfinished, fence_waits, fence_writes, fence_retires, executes, serial_faults, traps, retires, retires_last, executed, written_back, retired_with, retired_and_flushed, commit_turn_is}
-use Rattle.rv_hardware.proofs.Marks.History.{Anything, anything_is_kept, History, began, went_on, Passed, cycle_passes, history_is_legal, history_is_sound, committing, drained, issued_all, sent_all, dispatching}
-use Rattle.rv_hardware.proofs.Turns.Issue.{IssueTurn, no_unit, none_ready, starts, issue_turn_is, access_keeps, message_at, started_entries}
-use Rattle.rv_hardware.proofs.Marks.Phases.{Issues, issue_turn_keeps, drain_same, with_marks}
-use Rattle.rv_hardware.proofs.Always.Shape.{head_retired_entries}
+use Rattle.rv_hardware.proofs.Marks.History.{Anything, anything_is_kept, History, began, went_on, Passed, cycle_passes, history_is_legal, history_is_sound, dispatching}
+use Rattle.rv_hardware.proofs.Turns.Issue.{access_keeps, message_at, started_entries}
 use Rattle.rv_hardware.proofs.Marks.Sound.{is_of_kind_is}
 use Rattle.rv_hardware.proofs.Marks.List.{Mark, Start, mark_of_entry, start_of_issue, start_of_stage}
 
@@ -115,39 +113,16 @@ all_fewer v now g h units less held k = subst (λ u. Held v now k (at_kind k u) 
 
 -- commit
 
-commit_units : (is_stale : set.FinSet nat_cmp → ℕ → Bool) (v : Values) (now : ℕ) (c : Committing) (t : Turn Committing) → CommitTurn is_stale c t → AllHeld v now c.hardware → Leads (λ d. AllHeld v now d.hardware) (λ d. AllHeld v now d.hardware) t
-commit_units is_stale v now c _ (no_head none) h = h
-commit_units is_stale v now c _ (stale_head e es at is) h = h
-commit_units is_stale v now c _ (unfinished e es head plain none) h = h
-commit_units is_stale v now c _ (fence_waits e es head is) h = h
-commit_units is_stale v now c _ (fence_writes e es head is drained) h = h
-commit_units is_stale v now c _ (fence_retires e es written next head is drained) h = all_fewer v now (executed e written next (written_back c)).hardware c.hardware refl (λ k n le. omega arith) h
-commit_units is_stale v now c _ (executes e es written next head serial) h = all_fewer v now (executed e written next c).hardware c.hardware refl (λ k n le. omega arith) h
-commit_units is_stale v now c _ (serial_faults e es cause value head serial) h = all_fewer v now (with_fault e cause value c).hardware c.hardware refl (λ k n le. omega arith) h
-commit_units is_stale v now c _ (traps e es issue cycle message fault head plain at is) h = all_fewer v now (with_fault e fault.cause fault.value c).hardware c.hardware refl (λ k n le. omega arith) h
-commit_units is_stale v now c _ (retires e es issue cycle message head plain at none) h =
-    all_fewer v now (retired_with e message c).hardware c.hardware refl (λ k n le.
-    let here = ap (count (λ z. holds_mark v k n (mark_of_entry z))) (head_retired_entries c.hardware.rob e es head.place) in
-    let there = ap (count (λ z. holds_mark v k n (mark_of_entry z))) head.place in
-    let more = count-append (λ z. holds_mark v k n (mark_of_entry z)) (e ∷ []) es in
-    omega (arith, here, there, more)) h
-commit_units is_stale v now c _ (retires_last e es issue cycle message head plain at none) h = all_fewer v now (retired_and_flushed e message c).hardware c.hardware refl (λ k n le. omega arith) h
-
-commit_units_by : (v : Values) (now : ℕ) (o : Option ℕ) (h : Hardware) → AllHeld v now h → AllHeld v now (commit_unless set.contains o h).hardware
-commit_units_by v now (Some code) h held = all_fewer v now (commit_unless set.contains (Some code) h).hardware h refl (λ k n le. omega arith) held
-commit_units_by v now None h held =
-    kept_by_turns (λ c. AllHeld v now c.hardware) (commit_turn set.contains) (λ c q. commit_units set.contains v now c (commit_turn set.contains c) (commit_turn_is set.contains c) q) h.values.commit_width (record { hardware = h; steps = []; stop = None }) held
-
--- drain
-
-drain_units_by : (b : Bool) (o : Option StoreAccess) (h : Hardware) → (cond b (start_drain o (end_drain h)) h).units ≡ h.units
-drain_units_by true None h = refl
-drain_units_by true (Some access) h = refl
-drain_units_by false o h = refl
-
--- the drain phase leaves the units as they were
-pub drain_units : (h : Hardware) → (drain h).units ≡ h.units
-drain_units h = drain_units_by (nat_le h.port_free h.cycle) (oldest_to_drain (end_drain h).committed) h
+units_commit : (v : Values) (now : ℕ) → IsKeptByCommit (AllHeld v now)
+units_commit v now = record {
+  empties = λ h s retired held. all_fewer v now (emptied s retired h) h refl (λ k n le. omega arith) held;
+  retires = λ h e es s message held split known faultless. all_fewer v now (without_head s message.store es h) h refl
+      (λ k n le.
+      let there = ap (count (λ z. holds_mark v k n (mark_of_entry z))) split in
+      let more = count-append (λ z. holds_mark v k n (mark_of_entry z)) (e ∷ []) es in
+      omega (arith, there, more)) held;
+  writes_back = λ h held drained. held;
+}
 
 -- issue
 
@@ -157,11 +132,8 @@ issued_units k h older e =
     let keep = access_keeps (path h older e) h in
     λ i. with_kind k (started_unit (cost_of h k (path h older e)) (keep.cycle i) (at_kind k (keep.units i))) (keep.units i)
 
-module _ (v : Values) (legal : IsLegal v) (now : ℕ) (steps : List Step) where
-  abbrev Issuing : Hardware → Type 0
-  Issuing h = Issues v legal now Anything (anything_is_kept v now) steps h × AllHeld v now h
-
-  module _ (k : Kind) (h : Hardware) (older younger : List Entry) (e : Entry) (at : h.rob.entries ≡ older ++ e ∷ younger) (ready : IsReady h k older e) (free : is_free h.cycle (at_kind k h.units) ≡ true) (p : Issuing h) where
+module _ (v : Values) (now : ℕ) where
+  module _ (k : Kind) (h : Hardware) (older younger : List Entry) (e : Entry) (at : h.rob.entries ≡ older ++ e ∷ younger) (ready : IsReady h k older e) (free : is_free h.cycle (at_kind k h.units) ≡ true) (p : InCycle v now h × AllHeld v now h) where
     abbrev cost_here : ℕ
     cost_here = cost_of h k (path h older e)
 
@@ -170,10 +142,10 @@ module _ (v : Values) (legal : IsLegal v) (now : ℕ) (steps : List Step) where
 
     same_kind : Held v now k (started_unit (cost_of h k (path h older e)) h.cycle (at_kind k h.units)) (older ++ begun_here ∷ younger)
     same_kind =
-        subst (λ n. Held v now k (started_unit cost_here n (at_kind k h.units)) (older ++ begun_here ∷ younger)) (sym p.0.basics.cycle)
-        (held_started v now k (at_kind k h.units) older younger e begun_here cost_here (p.0.basics.shape.pipelined k) (p.0.basics.shape.units k) (subst (λ n. is_free n (at_kind k h.units) ≡ true) p.0.basics.cycle free) (ap start_of_stage (is_waiting_is e.stage ready.waits))
-        (λ c held. subst (λ n. holds_unit c (record { cycle = n; cost = held_for (at_kind k h.units).is_pipelined cost_here }) ≡ true) p.0.basics.cycle
-        (subst (λ b. holds_unit c (record { cycle = h.cycle; cost = held_for b cost_here }) ≡ true) (sym (p.0.basics.shape.pipelined k))
+        subst (λ n. Held v now k (started_unit cost_here n (at_kind k h.units)) (older ++ begun_here ∷ younger)) (sym p.0.1)
+        (held_started v now k (at_kind k h.units) older younger e begun_here cost_here (p.0.0.pipelined k) (p.0.0.units k) (subst (λ n. is_free n (at_kind k h.units) ≡ true) p.0.1 free) (ap start_of_stage (is_waiting_is e.stage ready.waits))
+        (λ c held. subst (λ n. holds_unit c (record { cycle = n; cost = held_for (at_kind k h.units).is_pipelined cost_here }) ≡ true) p.0.1
+        (subst (λ b. holds_unit c (record { cycle = h.cycle; cost = held_for b cost_here }) ≡ true) (sym (p.0.0.pipelined k))
         (and_second (is_of_kind k (kind_of_word e.instruction)) (start_holds (at_kind k v.kinds).pipelined c (Some (start_of_issue (record { cycle = h.cycle; cost = cost_here }) (message_at h older e)))) held)))
         (subst (Held v now k (at_kind k h.units)) at (p.1 k)))
 
@@ -190,71 +162,57 @@ module _ (v : Values) (legal : IsLegal v) (now : ℕ) (steps : List Step) where
         (subst (λ u. Held v now j (at_kind j u) (older ++ begun_here ∷ younger)) (sym (issued_units k h older e))
         (with_kind-each k (started_unit cost_here h.cycle (at_kind k h.units)) h.units (λ i q. Held v now i q (older ++ begun_here ∷ younger)) same_kind other_kind j))
 
-  issue_units : (k : Kind) (h : Hardware) (t : Turn Hardware) → IssueTurn k h t → Issuing h → Leads (Issues v legal now Anything (anything_is_kept v now) steps) (Issues v legal now Anything (anything_is_kept v now) steps) t → Leads Issuing Issuing t
-  issue_units k h _ (no_unit held) p goes = p
-  issue_units k h _ (none_ready none) p goes = p
-  issue_units k h _ (starts older younger e at is none free) p goes = (goes, started_units k h older younger e at (ready-parts h k older e is) free p)
-
-  kind_units : (k : Kind) (h : Hardware) → Issuing h → Issuing (issue_kind k h)
-  kind_units k h p =
-      kept_by_turns Issuing (issue_turn k) (λ g q. issue_units k g (issue_turn k g) (issue_turn_is k g) q (issue_turn_keeps v legal now Anything (anything_is_kept v now) steps k g (issue_turn k g) (issue_turn_is k g) q.0)) (at_kind k h.values.kinds).units h p
-
-  pub issue_keeps_units : (h : Hardware) → Issuing h → Issuing (issue h)
-  issue_keeps_units h p =
-      kind_units kind.Mem (issue_kind kind.Div (issue_kind kind.Mul (issue_kind kind.Alu h)))
-      (kind_units kind.Div (issue_kind kind.Mul (issue_kind kind.Alu h)) (kind_units kind.Mul (issue_kind kind.Alu h) (kind_units kind.Alu h p)))
-
 -- broadcast
 
-broadcast_units : (v : Values) (now : ℕ) (h : Hardware) (t : Turn Hardware) → BroadcastTurn h t → AllHeld v now h → Leads (AllHeld v now) (AllHeld v now) t
-broadcast_units v now h _ (no_result none) p = p
-broadcast_units v now h _ (sends older younger e issue message sent late) p =
-    all_fewer v now (with_broadcast (h.rob.retired + length older) message h) h refl (λ k c le.
-    let x : Entry = finished message h.cycle e in
-    let q : Entry → Bool = λ z. holds_mark v k c (mark_of_entry z) in
-    let same = count-set-same q older younger e x (sym (ap (holds_mark v k c) (finished_mark h.cycle e issue message sent.runs))) in
-    let here = ap (count q) (sent_entries h older younger e message sent.place) in
-    let there = ap (count q) sent.place in
-    omega (arith, same, here, there)) p
-broadcast_units v now h _ (mends older younger e issue message sent early) p =
-    all_fewer v now (with_recovery (h.rob.retired + length older) message (with_broadcast (h.rob.retired + length older) message h)) h refl (λ k c le.
-    let y : Entry = predicting message.next_pc (finished message h.cycle e) in
-    let q : Entry → Bool = λ z. holds_mark v k c (mark_of_entry z) in
-    let same = count-set-same q older [] e y (sym (ap (holds_mark v k c) (finished_mark h.cycle e issue message sent.runs))) in
-    let less = count-append q older (e ∷ []) in
-    let all = count-append q older (e ∷ younger) in
-    let more = count-append q (e ∷ []) younger in
-    let here = ap (count q) (mended_entries h older younger e message sent.place) in
-    let there = ap (count q) sent.place in
-    omega (arith, same, less, all, more, here, there)) p
+units_broadcast : (v : Values) (now : ℕ) → IsKeptByBroadcast (AllHeld v now)
+units_broadcast v now = record {
+  broadcasts = λ h older younger e message held split gives.
+      let x : Entry = finished message h.cycle e in
+      all_fewer v now (with_entries (older ++ x ∷ younger) h) h refl (λ k c le.
+      let q : Entry → Bool = λ z. holds_mark v k c (mark_of_entry z) in
+      let same = count-set-same q older younger e x (sym (ap (holds_mark v k c) (finished_mark h.cycle e gives.issue message gives.runs))) in
+      let there = ap (count q) split in
+      omega (arith, same, there)) held;
+  mends = λ h older younger e next held split.
+      let x : Entry = predicting next e in
+      all_fewer v now (with_mended next (older ++ x ∷ []) h) h refl (λ k c le.
+      let q : Entry → Bool = λ z. holds_mark v k c (mark_of_entry z) in
+      let same = count-set-same q older [] e x refl in
+      let less = count-append q older (e ∷ []) in
+      let all = count-append q older (e ∷ younger) in
+      let more = count-append q (e ∷ []) younger in
+      let there = ap (count q) split in
+      omega (arith, same, less, all, more, there)) held;
+}
 
 -- dispatch
 
-dispatch_units : (v : Values) (now : ℕ) (d : Dispatching) (t : Turn Dispatching) → DispatchTurn d t → AllHeld v now d.hardware → Leads (λ x. AllHeld v now x.hardware) (λ x. AllHeld v now x.hardware) t
-dispatch_units v now d _ (buffer_empty none) p = p
-dispatch_units v now d _ (waits f fs reason at why) p = p
-dispatch_units v now d _ (dispatches f fs at nothing) p =
-    all_fewer v now (with_dispatched f fs d.hardware) d.hardware refl (λ k c le.
-    let e : Entry = entry_of_fetched d.hardware f in
-    let q : Entry → Bool = λ z. holds_mark v k c (mark_of_entry z) in
-    let same = count-push-no q d.hardware.rob.entries e (ap (holds_mark v k c) (dispatched_mark d.hardware f) ∙ and_right (is_of_kind k (kind_of_word f.instruction)) false refl) in
-    omega (arith, same)) p
+units_dispatch : (v : Values) (now : ℕ) → IsKeptByDispatch (AllHeld v now)
+units_dispatch v now = record {
+  dispatches = λ h f rest held first nothing. all_fewer v now (with_dispatched f rest h) h refl (λ k c le.
+      let e : Entry = entry_of_fetched h f in
+      let q : Entry → Bool = λ z. holds_mark v k c (mark_of_entry z) in
+      let same = count-push-no q h.rob.entries e (ap (holds_mark v k c) (dispatched_mark h f) ∙ and_right (is_of_kind k (kind_of_word f.instruction)) false refl) in
+      omega (arith, same)) held;
+}
 
 -- a cycle
 
+-- each phase of a cycle keeps it that all units are held within their number
+units_kept : (v : Values) (now : ℕ) → IsKeptInCycle v now (AllHeld v now)
+units_kept v now = record {
+  lines = λ h levels held. held;
+  commit = units_commit v now;
+  drain = record { leaves = λ h held idle. held; drains = λ h access held idle is. held };
+  issue = λ k h older younger e here held at is free. started_units v now k h older younger e at (ready-parts h k older e is) free (here, held);
+  broadcast = units_broadcast v now;
+  dispatch = units_dispatch v now;
+}
+
 -- the phases of a cycle up to dispatch keep it that all units are held within their number
-pub units_in_cycle : (v : Values) (legal : IsLegal v) (earlier : List Step) (lines : Lines) (old new : Hardware) (report : Report) (R : List Mark → Type 0) → Passed v R earlier lines old report new → AllHeld v old.cycle old → AllHeld v old.cycle (dispatching lines old).hardware
-units_in_cycle v legal earlier lines old new report R passed held =
-    let now : ℕ = old.cycle in
-    let all : List Step = earlier ++ report.steps in
-    let g : Hardware = with_lines lines old in
-    let c : Hardware = (committing lines old).hardware in
-    let committed = commit_units_by v now (due g.csrs g.lines) g held in
-    let drain_rob = ap (λ (r : ReorderBuffer). r.entries) (drain_same c).0 in
-    let drains = all_fewer v now (drain c) c (drain_units c) (λ k n le. let same = ap (count (λ z. holds_mark v k n (mark_of_entry z))) drain_rob in omega (arith, same)) committed in
-    let issues = issue_keeps_units v legal now all (drained lines old) (with_marks v now now (now + 1) now now (now + 1) R Anything all (drained lines old) tt passed.drains, drains) in
-    let sends = kept_by_turns (AllHeld v now) broadcast_turn (λ h q. broadcast_units v now h (broadcast_turn h) (broadcast_turn_is h) q) (issued_all lines old).values.bus_width (issued_all lines old) issues.1 in
-    kept_by_turns (λ d. AllHeld v now d.hardware) dispatch_turn (λ d q. dispatch_units v now d (dispatch_turn d) (dispatch_turn_is d) q) (sent_all lines old).values.dispatch_width (record { hardware = sent_all lines old; dispatched = 0; waits_for = None }) sends
+pub units_in_cycle : (v : Values) (legal : IsLegal v) (earlier : List Step) (lines : Lines) (old new : Hardware) (report : Report) (R : List Mark → Type 0) →
+    Passed v R earlier lines old report new → AllHeld v old.cycle old → AllHeld v old.cycle (dispatching lines old).hardware
+units_in_cycle v legal earlier lines old new report R passed held = in_cycle (units_kept v old.cycle) passed held
 
 units_at_reset : (v : Values) (k : Kind) → Held v 0 k (at_kind k (for_each free_pool v.kinds)) []
 units_at_reset v k = rw (at_kind-for_each free_pool v.kinds k) (record { tied = λ c le. omega arith; within = λ c le. omega arith; begun = tt })

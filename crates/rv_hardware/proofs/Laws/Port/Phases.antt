@@ -1,18 +1,17 @@
 -- Through every phase the port is busy until each load that uses the cache is over, and one begins when all others are.
-use Rattle.rv_hardware.proofs.Words.{◌≡◌, ℕ, ◌+◌, ◌<◌, ◌≤◌, Bool, true, false, cond, not, ◌&&◌, ◌⊎◌, List, [], ◌∷◌, ◌++◌, length, IfSome, nat_le, ◌==◌, Some, None, Option, nat_cmp, sym, refl, ap, ◌∙◌, subst, inl, inr, true≢false, append_assoc, arith, leb-true, IsLegal, is_load, at_kind, StoreAccess, Instr, Lines, Kind, Values, due, Each, oldest_to_drain, finished, predicting, started, ReorderBuffer, Entry, broadcast_turn, with_broadcast, with_recovery, Committing, commit_turn, commit_unless, with_fault, with_lines, Dispatching, dispatch_turn, entry_of_fetched, drain, end_drain, start_drain, Hardware, cost_of, has_port, issue, issue_kind, issue_turn, issued, path, with_access, Turn, Report, seen_behind, Step, and_first, and_second, Each-append, Each-left, Each-right, Each-set, Each-place, Each-weaker, Each-all, Each-both, EveryPair, EveryPair-append, EveryPair-left, EveryPair-right, EveryPair-across, EveryPair-set, Leads, kept_by_turns}
-use Rattle.std.specs.FinSet as set
-use Rattle.rv_isa.specs.declared.operations.Kind.TheVariants as kind
+use Rattle.rv_hardware.proofs.Words.{◌≡◌, ℕ, ◌+◌, ◌<◌, ◌≤◌, Bool, true, false, not, ◌&&◌, ◌⊎◌, List, [], ◌∷◌, ◌++◌, IfSome, nat_le, ◌==◌, Some, None, Option, sym, refl, ap, ◌∙◌, subst, inl, inr, true≢false, append_assoc, arith, leb-true, IsLegal, is_load, Instr, Lines, Kind, Values, Each, finished, predicting, started, Entry, with_write_back, entry_of_fetched, with_drained, Hardware, cost_of, has_port, issued, path, with_access, Report, seen_behind, Step, and_first, and_second, Each-append, Each-left, Each-right, Each-set, Each-place, Each-weaker, Each-all, Each-both, EveryPair, EveryPair-append, EveryPair-left, EveryPair-right, EveryPair-across, EveryPair-set}
+use Rattle.rv_hardware.proofs.Turns.Forms.{with_entries}
+use Rattle.rv_hardware.proofs.Turns.KeptByBroadcast.{IsKeptByBroadcast, with_mended}
+use Rattle.rv_hardware.proofs.Turns.KeptByCommit.{IsKeptByCommit}
+use Rattle.rv_hardware.proofs.Turns.KeptByDispatch.{IsKeptByDispatch}
+use Rattle.rv_hardware.proofs.Turns.KeptByDrain.{IsKeptByDrain}
 use Rattle.rv_hardware.proofs.Turns.KeptByIssue.{IsReady, ready-parts}
+use Rattle.rv_hardware.proofs.Marks.Keeps.{InCycle, IsKeptInCycle, in_cycle}
 use Rattle.rv_hardware.proofs.Marks.Basics.{finished_mark, dispatched_mark}
-use Rattle.rv_hardware.proofs.Turns.Broadcast.{BroadcastTurn, none_ready as no_result, sends, mends, broadcast_turn_is, sent_entries, mended_entries}
-use Rattle.rv_hardware.proofs.Turns.Commit.{CommitTurn, no_head, stale_head, unfinished, fence_waits, fence_writes, fence_retires, executes, serial_faults, traps, retires, retires_last, executed, written_back, retired_with, retired_and_flushed, commit_turn_is}
-use Rattle.rv_hardware.proofs.Marks.History.{Anything, anything_is_kept, Passed, committing, drained, issued_all, sent_all, dispatching}
-use Rattle.rv_hardware.proofs.Turns.Dispatch.{DispatchTurn, buffer_empty, waits, dispatches, dispatch_turn_is}
-use Rattle.rv_hardware.proofs.Turns.Issue.{IssueTurn, no_unit, none_ready, starts, issue_turn_is, message_at, started_entries}
+use Rattle.rv_hardware.proofs.Marks.History.{Passed, dispatching}
+use Rattle.rv_hardware.proofs.Turns.Issue.{message_at, started_entries}
 use Rattle.rv_hardware.proofs.Marks.List.{Mark, Start, mark_of_entry, start_of_issue}
-use Rattle.rv_hardware.proofs.Marks.Phases.{Issues, issue_turn_keeps, drain_same, with_marks}
 use Rattle.rv_hardware.proofs.Laws.Port.Loads.{uses_cache, WhereUsed, OverBy, OneAtATime, path_of_user, has_its_port, port_grows}
-use Rattle.rv_hardware.proofs.Always.Shape.{head_retired_entries}
 use Rattle.rv_hardware.proofs.Marks.Sound.{positive_cost}
 
 -- the port is busy until it is over
@@ -42,45 +41,26 @@ port_same v now g h at le ok = record {
   pairs = rw at (ok.pairs);
 }
 
-port_none : (v : Values) (now : ℕ) (g : Hardware) → g.rob.entries ≡ [] → PortOk v now g
-port_none v now g at = record { tie = rw at tt; pairs = rw at tt }
-
-port_tail : (v : Values) (now : ℕ) (g h : Hardware) (e : Entry) (es : List Entry) → h.rob.entries ≡ e ∷ es → g.rob.entries ≡ es → g.port_free ≡ h.port_free → PortOk v now h → PortOk v now g
-port_tail v now g h e es at at' port ok = record {
-  tie = rw (at', port) (subst (Each (λ x. Tied v h.port_free (mark_of_entry x))) at ok.tie).1;
-  pairs = rw at' (subst (EveryPair (λ a b. OneAtATime v now (mark_of_entry a) (mark_of_entry b))) at ok.pairs).1;
-}
-
 -- where the port is found idle, it is free by now
 pub drained_idle : (a : Bool) (h : Hardware) → (a && nat_le h.port_free h.cycle) ≡ true → h.port_free ≤ h.cycle
 drained_idle a h is = leb-true h.port_free h.cycle (and_second a (nat_le h.port_free h.cycle) is)
 
-commit_port : (is_stale : set.FinSet nat_cmp → ℕ → Bool) (v : Values) (now : ℕ) (c : Committing) (t : Turn Committing) → CommitTurn is_stale c t → PortOk v now c.hardware → Leads (λ d. PortOk v now d.hardware) (λ d. PortOk v now d.hardware) t
-commit_port is_stale v now c _ (no_head none) ok = ok
-commit_port is_stale v now c _ (stale_head e es at is) ok = ok
-commit_port is_stale v now c _ (unfinished e es head plain none) ok = ok
-commit_port is_stale v now c _ (fence_waits e es head is) ok = ok
-commit_port is_stale v now c _ (fence_writes e es head is drained) ok =
-    let le = drained_idle _ c.hardware drained in port_same v now (written_back c).hardware c.hardware refl (omega (arith, le)) ok
-commit_port is_stale v now c _ (fence_retires e es written next head is drained) ok = port_none v now (executed e written next (written_back c)).hardware refl
-commit_port is_stale v now c _ (executes e es written next head serial) ok = port_none v now (executed e written next c).hardware refl
-commit_port is_stale v now c _ (serial_faults e es cause value head serial) ok = port_none v now (with_fault e cause value c).hardware refl
-commit_port is_stale v now c _ (traps e es issue cycle message fault head plain at is) ok = port_none v now (with_fault e fault.cause fault.value c).hardware refl
-commit_port is_stale v now c _ (retires e es issue cycle message head plain at none) ok = port_tail v now (retired_with e message c).hardware c.hardware e es head.place (head_retired_entries c.hardware.rob e es head.place) refl ok
-commit_port is_stale v now c _ (retires_last e es issue cycle message head plain at none) ok = port_none v now (retired_and_flushed e message c).hardware refl
+port_commit : (v : Values) (now : ℕ) → IsKeptByCommit (PortOk v now)
+port_commit v now = record {
+  empties = λ h s retired ok. record { tie = tt; pairs = tt };
+  retires = λ h e es s message ok split known faultless. record {
+    tie = (subst (Each (λ x. Tied v h.port_free (mark_of_entry x))) split ok.tie).1;
+    pairs = (subst (EveryPair (λ a b. OneAtATime v now (mark_of_entry a) (mark_of_entry b))) split ok.pairs).1;
+  };
+  writes_back = λ h ok drained. let le = drained_idle _ h drained in port_same v now (with_write_back h) h refl (omega (arith, le)) ok;
+}
 
-commit_port_by : (v : Values) (now : ℕ) (o : Option ℕ) (h : Hardware) → PortOk v now h → PortOk v now (commit_unless set.contains o h).hardware
-commit_port_by v now (Some code) h ok = port_none v now (commit_unless set.contains (Some code) h).hardware refl
-commit_port_by v now None h ok =
-    kept_by_turns (λ c. PortOk v now c.hardware) (commit_turn set.contains) (λ c q. commit_port set.contains v now c (commit_turn set.contains c) (commit_turn_is set.contains c) q) h.values.commit_width (record { hardware = h; steps = []; stop = None }) ok
-
-drain_grows_by : (b : Bool) (o : Option StoreAccess) (h : Hardware) → nat_le h.port_free h.cycle ≡ b → h.port_free ≤ (cond b (start_drain o (end_drain h)) h).port_free
-drain_grows_by true None h is = omega arith
-drain_grows_by true (Some access) h is = let le = leb-true h.port_free h.cycle is in omega (arith, le)
-drain_grows_by false o h is = omega arith
-
-drain_grows : (h : Hardware) → h.port_free ≤ (drain h).port_free
-drain_grows h = drain_grows_by (nat_le h.port_free h.cycle) (oldest_to_drain (end_drain h).committed) h refl
+port_drain : (v : Values) (now : ℕ) → IsKeptByDrain (PortOk v now)
+port_drain v now = record {
+  leaves = λ h ok idle. record { tie = ok.tie; pairs = ok.pairs };
+  drains = λ h access ok idle is.
+      let le = leb-true h.port_free h.cycle idle in port_same v now (with_drained access h) h refl (omega (arith, le)) ok;
+}
 
 -- issue
 
@@ -113,11 +93,8 @@ pair_with_new v now a x (inr none) =
 pub turned : (v : Values) (now : ℕ) (a b : Mark) → OneAtATime v now a b → OneAtATime v now b a
 turned v now a b p = (p.1, p.0)
 
-module _ (v : Values) (legal : IsLegal v) (now : ℕ) (steps : List Step) where
-  abbrev IssuingPort : Hardware → Type 0
-  IssuingPort h = Issues v legal now Anything (anything_is_kept v now) steps h × PortOk v now h
-
-  module _ (k : Kind) (h : Hardware) (older younger : List Entry) (e : Entry) (at : h.rob.entries ≡ older ++ e ∷ younger) (ready : IsReady h k older e) (p : IssuingPort h) where
+module _ (v : Values) (legal : IsLegal v) (now : ℕ) where
+  module _ (k : Kind) (h : Hardware) (older younger : List Entry) (e : Entry) (at : h.rob.entries ≡ older ++ e ∷ younger) (ready : IsReady h k older e) (p : InCycle v now h × PortOk v now h) where
     abbrev new_start : Start
     new_start = start_of_issue (record { cycle = h.cycle; cost = cost_of h k (path h older e) }) (message_at h older e)
 
@@ -137,7 +114,7 @@ module _ (v : Values) (legal : IsLegal v) (now : ℕ) (steps : List Step) where
         let rest = and_second (is_load e.instruction) (not (new_start).faults && not ((new_start).cost == v.forward)) used in
         let none = not_true (new_start).faults (and_first (not (new_start).faults) (not ((new_start).cost == v.forward)) rest) in
         let other = not_true ((new_start).cost == v.forward) (and_second (not (new_start).faults) (not ((new_start).cost == v.forward)) rest) in
-        let goes = path_of_user v h p.0.basics.shape older (seen_behind h older e.pc) k e.instruction e.word (and_first (is_load e.instruction) (not (new_start).faults && not ((new_start).cost == v.forward)) used) none other in
+        let goes = path_of_user v h p.0.0 older (seen_behind h older e.pc) k e.instruction e.word (and_first (is_load e.instruction) (not (new_start).faults && not ((new_start).cost == v.forward)) used) none other in
         let idle : nat_le h.port_free h.cycle ≡ true = subst (λ q. has_port h q ≡ true) goes.1 (has_its_port h older e ready.loads) in (
           leb-true h.port_free h.cycle idle,
           subst (λ q. h.cycle + cost_of h k q ≤ (with_access q h).port_free) (sym goes.1) (omega arith),
@@ -152,7 +129,7 @@ module _ (v : Values) (legal : IsLegal v) (now : ℕ) (steps : List Step) where
         by_use : (b : Bool) → uses_cache v e.instruction (new_start) ≡ b → Each (λ z. OneAtATime v now (mark_of_entry z) (mark_of_entry new_entry)) xs
         by_use true used =
             Each-weaker (λ z. Tied v h.port_free (mark_of_entry z)) (λ z. OneAtATime v now (mark_of_entry z) (mark_of_entry new_entry))
-            (λ z k. pair_with_new v now (mark_of_entry z) (mark_of_entry new_entry) (inl (tied_later v h.port_free now (mark_of_entry z) (let idle = (by_cache used).0 in omega (arith, idle, p.0.basics.cycle)) k))) xs tie
+            (λ z k. pair_with_new v now (mark_of_entry z) (mark_of_entry new_entry) (inl (tied_later v h.port_free now (mark_of_entry z) (let idle = (by_cache used).0 in omega (arith, idle, p.0.1)) k))) xs tie
         by_use false used =
             Each-weaker (λ z. Tied v h.port_free (mark_of_entry z)) (λ z. OneAtATime v now (mark_of_entry z) (mark_of_entry new_entry))
             (λ z k. pair_with_new v now (mark_of_entry z) (mark_of_entry new_entry) (inr (λ is. absurd (true≢false (sym is ∙ used))))) xs tie
@@ -166,7 +143,7 @@ module _ (v : Values) (legal : IsLegal v) (now : ℕ) (steps : List Step) where
         let right = EveryPair-right (λ a b. OneAtATime v now (mark_of_entry a) (mark_of_entry b)) older (e ∷ younger) pairs in
         record {
           tie = rw (started_entries k h older younger e at)
-              (Each-set (λ z. Tied v new_port (mark_of_entry z)) older younger e new_entry (λ used. ((by_cache used).1, positive_cost v legal h p.0.basics.shape k (path h older e)))
+              (Each-set (λ z. Tied v new_port (mark_of_entry z)) older younger e new_entry (λ used. ((by_cache used).1, positive_cost v legal h p.0.0 k (path h older e)))
               (Each-weaker (λ z. Tied v h.port_free (mark_of_entry z)) (λ z. Tied v new_port (mark_of_entry z)) (λ z w. tied_later v h.port_free new_port (mark_of_entry z) grows w) (older ++ e ∷ younger) tie));
           pairs = rw (started_entries k h older younger e at)
               (EveryPair-append (λ a b. OneAtATime v now (mark_of_entry a) (mark_of_entry b)) older (new_entry ∷ younger) (EveryPair-left (λ a b. OneAtATime v now (mark_of_entry a) (mark_of_entry b)) older (e ∷ younger) pairs)
@@ -174,20 +151,6 @@ module _ (v : Values) (legal : IsLegal v) (now : ℕ) (steps : List Step) where
               (Each-both (λ a. Each (λ b. OneAtATime v now (mark_of_entry a) (mark_of_entry b)) (e ∷ younger)) (λ a. OneAtATime v now (mark_of_entry a) (mark_of_entry new_entry)) (λ a. Each (λ b. OneAtATime v now (mark_of_entry a) (mark_of_entry b)) (new_entry ∷ younger)) (λ a w n. (n, w.1)) older
               (EveryPair-across (λ a b. OneAtATime v now (mark_of_entry a) (mark_of_entry b)) older (e ∷ younger) pairs) (others older olders)));
         }
-
-  issue_port : (k : Kind) (h : Hardware) (t : Turn Hardware) → IssueTurn k h t → IssuingPort h → Leads (Issues v legal now Anything (anything_is_kept v now) steps) (Issues v legal now Anything (anything_is_kept v now) steps) t → Leads IssuingPort IssuingPort t
-  issue_port k h _ (no_unit held) p goes = p
-  issue_port k h _ (none_ready none) p goes = p
-  issue_port k h _ (starts older younger e at is none free) p goes = (goes, started_port k h older younger e at (ready-parts h k older e is) p)
-
-  kind_port : (k : Kind) (h : Hardware) → IssuingPort h → IssuingPort (issue_kind k h)
-  kind_port k h p =
-      kept_by_turns IssuingPort (issue_turn k) (λ g q. issue_port k g (issue_turn k g) (issue_turn_is k g) q (issue_turn_keeps v legal now Anything (anything_is_kept v now) steps k g (issue_turn k g) (issue_turn_is k g) q.0)) (at_kind k h.values.kinds).units h p
-
-  pub issue_keeps_port : (h : Hardware) → IssuingPort h → IssuingPort (issue h)
-  issue_keeps_port h p =
-      kind_port kind.Mem (issue_kind kind.Div (issue_kind kind.Mul (issue_kind kind.Alu h)))
-      (kind_port kind.Div (issue_kind kind.Mul (issue_kind kind.Alu h)) (kind_port kind.Mul (issue_kind kind.Alu h) (kind_port kind.Alu h p)))
 
 -- broadcast and dispatch: what began stays
 
@@ -223,16 +186,16 @@ module _ (v : Values) (now : ℕ) (g h : Hardware) (older younger : List Entry) 
     pairs = rw at' (EveryPair-left (λ a b. OneAtATime v now (mark_of_entry a) (mark_of_entry b)) (older ++ x ∷ []) younger (rw (append_assoc older (x ∷ []) younger) set_pairs));
   }
 
-broadcast_port : (v : Values) (now : ℕ) (h : Hardware) (t : Turn Hardware) → BroadcastTurn h t → PortOk v now h → Leads (PortOk v now) (PortOk v now) t
-broadcast_port v now h _ (no_result none) p = p
-broadcast_port v now h _ (sends older younger e issue message sent late) p =
-    let x : Entry = finished message h.cycle e in
-    let same = finished_mark h.cycle e issue message sent.runs in
-    port_set v now (with_broadcast (h.rob.retired + length older) message h) h older younger e x sent.place refl (ap (λ (m : Mark). m.start) same) refl p (sent_entries h older younger e message sent.place)
-broadcast_port v now h _ (mends older younger e issue message sent early) p =
-    let y : Entry = predicting message.next_pc (finished message h.cycle e) in
-    let same = finished_mark h.cycle e issue message sent.runs in
-    port_cut v now (with_recovery (h.rob.retired + length older) message (with_broadcast (h.rob.retired + length older) message h)) h older younger e y sent.place refl (ap (λ (m : Mark). m.start) same) refl p (mended_entries h older younger e message sent.place)
+port_broadcast : (v : Values) (now : ℕ) → IsKeptByBroadcast (PortOk v now)
+port_broadcast v now = record {
+  broadcasts = λ h older younger e message ok split gives.
+      let x : Entry = finished message h.cycle e in
+      let same = finished_mark h.cycle e gives.issue message gives.runs in
+      port_set v now (with_entries (older ++ x ∷ younger) h) h older younger e x split refl (ap (λ (m : Mark). m.start) same) refl ok refl;
+  mends = λ h older younger e next ok split.
+      let x : Entry = predicting next e in
+      port_cut v now (with_mended next (older ++ x ∷ []) h) h older younger e x split refl refl refl ok refl;
+}
 
 not_started : (v : Values) (m : Mark) (P : Start → Type 0) → m.start ≡ None → WhereUsed v m P
 not_started v m P none = rw none tt
@@ -241,30 +204,32 @@ not_started v m P none = rw none tt
 pub new_pair : (v : Values) (now : ℕ) (a n : Mark) → n.start ≡ None → OneAtATime v now a n
 new_pair v now a n none = pair_with_new v now a n (inr (not_started v n (λ t. ⊥) none))
 
-dispatch_port : (v : Values) (now : ℕ) (d : Dispatching) (t : Turn Dispatching) → DispatchTurn d t → PortOk v now d.hardware → Leads (λ x. PortOk v now x.hardware) (λ x. PortOk v now x.hardware) t
-dispatch_port v now d _ (buffer_empty none) p = p
-dispatch_port v now d _ (waits f fs reason at why) p = p
-dispatch_port v now d _ (dispatches f fs at nothing) p =
-    let h : Hardware = d.hardware in
-    let e : Entry = entry_of_fetched h f in
-    let none = ap (λ (m : Mark). m.start) (dispatched_mark h f) in
-    record {
-      tie = Each-append (λ z. Tied v h.port_free (mark_of_entry z)) h.rob.entries (e ∷ []) p.tie (not_started v (mark_of_entry e) (λ s. (s.cycle + s.cost ≤ h.port_free) × (0 < s.cost)) none, tt);
-      pairs = EveryPair-append (λ a b. OneAtATime v now (mark_of_entry a) (mark_of_entry b)) h.rob.entries (e ∷ []) p.pairs (tt, tt)
-          (Each-all (λ a. Each (λ b. OneAtATime v now (mark_of_entry a) (mark_of_entry b)) (e ∷ [])) (λ a. (new_pair v now (mark_of_entry a) (mark_of_entry e) none, tt)) h.rob.entries);
-    }
+port_dispatch : (v : Values) (now : ℕ) → IsKeptByDispatch (PortOk v now)
+port_dispatch v now = record {
+  dispatches = λ h f rest ok first nothing.
+      let e : Entry = entry_of_fetched h f in
+      let none = ap (λ (m : Mark). m.start) (dispatched_mark h f) in
+      record {
+        tie = Each-append (λ z. Tied v h.port_free (mark_of_entry z)) h.rob.entries (e ∷ []) ok.tie
+            (not_started v (mark_of_entry e) (λ s. (s.cycle + s.cost ≤ h.port_free) × (0 < s.cost)) none, tt);
+        pairs = EveryPair-append (λ a b. OneAtATime v now (mark_of_entry a) (mark_of_entry b)) h.rob.entries (e ∷ []) ok.pairs (tt, tt)
+            (Each-all (λ a. Each (λ b. OneAtATime v now (mark_of_entry a) (mark_of_entry b)) (e ∷ []))
+            (λ a. (new_pair v now (mark_of_entry a) (mark_of_entry e) none, tt)) h.rob.entries);
+      };
+}
 
--- a cycle
+-- each phase of a cycle keeps it
+port_kept : (v : Values) → IsLegal v → (now : ℕ) → IsKeptInCycle v now (PortOk v now)
+port_kept v legal now = record {
+  lines = λ h levels ok. record { tie = ok.tie; pairs = ok.pairs };
+  commit = port_commit v now;
+  drain = port_drain v now;
+  issue = λ k h older younger e here ok at is free. started_port v legal now k h older younger e at (ready-parts h k older e is) (here, ok);
+  broadcast = port_broadcast v now;
+  dispatch = port_dispatch v now;
+}
 
 -- the phases of a cycle up to dispatch keep it
-pub port_in_cycle : (v : Values) (legal : IsLegal v) (earlier : List Step) (lines : Lines) (old new : Hardware) (report : Report) (R : List Mark → Type 0) → Passed v R earlier lines old report new → PortOk v old.cycle old → PortOk v old.cycle (dispatching lines old).hardware
-port_in_cycle v legal earlier lines old new report R passed ok =
-    let now : ℕ = old.cycle in
-    let all : List Step = earlier ++ report.steps in
-    let g : Hardware = with_lines lines old in
-    let c : Hardware = (committing lines old).hardware in
-    let committed = commit_port_by v now (due g.csrs g.lines) g (port_same v now g old refl (omega arith) ok) in
-    let drains = port_same v now (drain c) c (ap (λ (r : ReorderBuffer). r.entries) (drain_same c).0) (drain_grows c) committed in
-    let issues = issue_keeps_port v legal now all (drained lines old) (with_marks v now now (now + 1) now now (now + 1) R Anything all (drained lines old) tt passed.drains, drains) in
-    let sends = kept_by_turns (PortOk v now) broadcast_turn (λ h q. broadcast_port v now h (broadcast_turn h) (broadcast_turn_is h) q) (issued_all lines old).values.bus_width (issued_all lines old) issues.1 in
-    kept_by_turns (λ d. PortOk v now d.hardware) dispatch_turn (λ d q. dispatch_port v now d (dispatch_turn d) (dispatch_turn_is d) q) (sent_all lines old).values.dispatch_width (record { hardware = sent_all lines old; dispatched = 0; waits_for = None }) sends
+pub port_in_cycle : (v : Values) (legal : IsLegal v) (earlier : List Step) (lines : Lines) (old new : Hardware) (report : Report) (R : List Mark → Type 0) →
+    Passed v R earlier lines old report new → PortOk v old.cycle old → PortOk v old.cycle (dispatching lines old).hardware
+port_in_cycle v legal earlier lines old new report R passed ok = in_cycle (port_kept v legal old.cycle) passed ok

@@ -1,14 +1,13 @@
 -- Steps come in order, within the width; interrupts alone, flushes last; after a flush everything is fetched anew.
-use Rattle.rv_hardware.proofs.Words.{◌≡◌, ℕ, suc, ◌+◌, ◌<◌, ◌≤◌, Bool, true, false, List, [], ◌∷◌, ◌++◌, map, length, nat_eq as eqb, ◌==◌, Some, None, Option, nat_cmp, unwrap_or, sym, refl, ap, ◌∙◌, subst, true≢false, append_assoc, append-nil, arith, length-append, ne_eqb, eqb-true, IsLegal, is_serialising, Message, Issue, Lines, Values, instruction_of, due, interrupt_cause, Stop, Each, Entry, Finished, Committing, commit_turn, commit_unless, with_fault, IsCycle, any_prediction, with_lines, Hardware, IsFetchedSince, Turn, Report, written_of, flushes, rows_of, is_interrupt, stamp_of, Row, Step, Interrupt, Retired, Trap, Each-append, Each-left, Each-right, Each-set, Each-place, Each-weaker, Each-all, Each-both, Each-map, Each-unmap, EveryPair, count, EveryPair-append, count-append, count-none, count-length, Leads, leads_both, turns_within}
+use Rattle.rv_hardware.proofs.Words.{nat_eq as eqb, ◌≡◌, ℕ, suc, ◌+◌, ◌<◌, ◌≤◌, Bool, true, false, List, [], ◌∷◌, ◌++◌, map, length, ◌==◌, Some, None, Option, nat_cmp, unwrap_or, sym, refl, ap, ◌∙◌, subst, true≢false, append_assoc, append-nil, arith, length-append, ne_eqb, eqb-true, IsLegal, is_serialising, Message, Issue, Lines, Values, instruction_of, due, interrupt_cause, Stop, Each, Entry, Finished, Committing, commit_turn, commit_unless, with_fault, IsCycle, any_prediction, with_lines, Hardware, IsFetchedSince, Turn, Report, written_of, flushes, rows_of, is_interrupt, stamp_of, Row, Step, Interrupt, Retired, Trap, Each-append, Each-left, Each-right, Each-set, Each-place, Each-weaker, Each-all, Each-both, Each-map, Each-unmap, EveryPair, count, EveryPair-append, count-append, count-none, count-length, Leads, leads_both, turns_within}
 use Rattle.std.specs.FinSet as set
 use Rattle.rv_hardware.proofs.Marks.Advance.{Kept, Advances, retires as a_retires, starts as a_starts, is_sent as a_is_sent, enters as a_enters}
 use Rattle.rv_hardware.proofs.Turns.Fetched.{IsNew}
 use Rattle.rv_hardware.proofs.Marks.List.{Mark, mark_of_row, mark_of_entry, mark_of_fetched, marks_in}
-use Rattle.rv_hardware.proofs.Turns.Commit.{CommitTurn, no_head, stale_head, unfinished, fence_waits, fence_writes, fence_retires, executes, serial_faults, traps, retires, retires_last, executed, written_back, retired_with, retired_and_flushed, commit_turn_is}
+use Rattle.rv_hardware.proofs.Turns.Commit.{CommitTurn, no_head, stale_head, unfinished, fence_waits, fence_writes, fence_retires, executes, serial_faults, traps, retires, retires_last, executed, written_back, retired_with, retired_and_flushed, commit_turn_is, head_retired_entries}
 use Rattle.rv_hardware.proofs.Marks.History.{Anything, anything_is_kept, Sound, Passed, History, began, went_on, begin, committing, dispatching, cycle_passes, history_is_legal, history_is_sound}
 use Rattle.rv_hardware.proofs.Marks.Phases.{Goes, Commits, commit_turn_keeps, commit_keeps, execute_keeps, with_marks}
 use Rattle.rv_hardware.proofs.Marks.Row.{retiring_is_one, row_at, may_retire_finished}
-use Rattle.rv_hardware.proofs.Always.Shape.{head_retired_entries}
 use Rattle.rv_hardware.proofs.Marks.Sound.{SoundEntry, row_decodes}
 
 -- every flush among some steps was no later than a cycle
@@ -122,8 +121,8 @@ module _ (v : Values) (now : ℕ) (earlier : List Step) (before : Each (λ s. st
   turn_leads total k c _ lt (no_head none) q p goes = steps_up_to k total c (omega (arith, lt)) p.steps
   turn_leads total k c _ lt (stale_head e es at is) q p goes = standing k total c _ (omega (arith, lt)) refl refl refl goes p.steps
   turn_leads total k c _ lt (unfinished e es head plain none) q p goes = steps_up_to k total c (omega (arith, lt)) p.steps
-  turn_leads total k c _ lt (fence_waits e es head is) q p goes = steps_up_to k total c (omega (arith, lt)) p.steps
-  turn_leads total k c _ lt (fence_writes e es head is drained) q p goes = standing k total c (written_back c) (omega (arith, lt)) refl refl refl goes p.steps
+  turn_leads total k c _ lt (fence_waits e es head is busy) q p goes = steps_up_to k total c (omega (arith, lt)) p.steps
+  turn_leads total k c _ lt (fence_writes e es head is drained dirty) q p goes = standing k total c (written_back c) (omega (arith, lt)) refl refl refl goes p.steps
   turn_leads total k c _ lt (fence_retires e es written next head is drained) q p goes =
       steps_up_to (suc k) total _ lt (flushing k c (Retired (row_at e written c.hardware.cycle)) p q.basics.cycle refl (row_since c e es written head.place p.steps.entries) (executed e written next (written_back c)).hardware c.stop goes refl refl)
   turn_leads total k c _ lt (executes e es written next head serial) q p goes =
