@@ -3,7 +3,7 @@ use Rattle.rv_hardware.proofs.Words.{◌≡◌, ℕ, ◌+◌, ◌-◌, ◌<◌, 
 use Rattle.std.proofs.str.Laws.{order}
 use Rattle.rv_hardware.specs.LongestGap.{IsGap, IsLongestGap}
 use Rattle.rv_hardware.proofs.Headline.Cycle.{always_sound}
-use Rattle.rv_hardware.proofs.Headline.Run.{TrueCycles, none, one_more, counts_cycles, cycles_true, true_within}
+use Rattle.rv_hardware.proofs.Headline.Run.{TrueCycles, none, one_more, counts_cycles, cycles_true, true_run_within}
 
 -- a cycle is outside of so many cycles from the first on
 abbrev IsOutside : ℕ → ℕ → Step → Type 0
@@ -68,7 +68,7 @@ module _ (layout : Layout) (arrivals : List Arrival) where
   has_gap before {n = n} none few =
       record { first = n - before; since = omega arith; within = omega (arith, few); is_gap = All-nil (IsOutside (n - before) before) }
   has_gap before {n = n} {m = m} (one_more {report = report} {reports = reports} cycle rest) few =
-      let behind = All-weaker (λ y. (n + 1 ≤ stamp_of y) × (stamp_of y < m)) (λ y. n + 1 ≤ stamp_of y) (λ y within. within.0) (steps_of reports) (true_within layout arrivals rest) in
+      let behind = All-weaker (λ y. (n + 1 ≤ stamp_of y) × (stamp_of y < m)) (λ y. n + 1 ≤ stamp_of y) (λ y within. within.0) (steps_of reports) (true_run_within layout arrivals rest) in
       gap_from n before m reports few (omega (arith, counts_cycles layout arrivals rest)) behind report.steps cycle.stamped (has_gap (before + 1) rest (omega (arith, few))) (has_gap 0 rest (omega arith))
 
   -- and no gap is longer

@@ -1,5 +1,5 @@
 -- An instruction that waits to be the oldest is the youngest: nothing younger is in flight beside it.
-use Rattle.rv_hardware.proofs.Words.{◌≡◌, ℕ, true, false, List, [], ◌∷◌, ◌++◌, Option, sym, refl, ap, ◌∙◌, subst, or_parts, map-append, is_serialising, Instr, Values, finished, predicting, started, Entry, entry_of_fetched, Hardware, reset_hardware, map-change}
+use Rattle.rv_hardware.proofs.Words.{◌≡◌, ℕ, true, false, List, [], ◌∷◌, ◌++◌, Option, sym, refl, ap, ◌∙◌, subst, or_parts, map-append, is_serialising, Instr, Values, Each, finished, predicting, started, Entry, entry_of_fetched, Hardware, reset_hardware, map-change}
 use Rattle.rv_hardware.proofs.Turns.KeptByCycle.{IsKept}
 use Rattle.rv_hardware.proofs.Turns.Dispatch.{is_any_serialising}
 use Rattle.rv_hardware.proofs.Always.Stores.{instruction_of_entry, instructions_of}
@@ -89,3 +89,16 @@ last-at_reset values image start = tt
 pub alone : (e : Entry) (es : List Entry) → AreSerialLast (instructions_of (e ∷ es)) → is_serialising e.instruction ≡ true → es ≡ []
 alone e [] last serial = refl
 alone e (f ∷ es) last serial = absurd (cc (serial, last.0))
+
+-- and none that is older than another serialises
+pub older_plain : (older younger : List Entry) (e : Entry) → AreSerialLast (instructions_of (older ++ e ∷ younger)) →
+    Each (λ x. is_serialising x.instruction ≡ false) older
+older_plain [] younger e last = tt
+older_plain (x ∷ []) younger e last = (last.0, tt)
+older_plain (x ∷ y ∷ older) younger e last = (last.0, older_plain (y ∷ older) younger e last.1)
+
+-- a part of them, from the oldest on, is so too
+pub cut_serial : (older younger : List Entry) → AreSerialLast (instructions_of (older ++ younger)) → AreSerialLast (instructions_of older)
+cut_serial [] younger last = tt
+cut_serial (x ∷ []) younger last = (tt, tt)
+cut_serial (x ∷ y ∷ older) younger last = (last.0, cut_serial (y ∷ older) younger last.1)

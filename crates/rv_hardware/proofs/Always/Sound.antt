@@ -1,18 +1,18 @@
--- All that a reset and cycles lead to has its sizes, queue, executions, units, port and fetch within their bounds.
-use Rattle.rv_hardware.proofs.Words.{ℕ, List, IsLegal, Lines, Values, IsCycle, any_prediction, Hardware, Report, reset_hardware, Reachable, always}
-use Rattle.rv_hardware.proofs.Turns.KeptByCycle.{cycle-keeps}
+-- What every reachable hardware is: of its description, its queue, stores, executions, units, port, instructions and fetch within their bounds.
+use Rattle.rv_hardware.proofs.Words.{ℕ, List, sym, subst, IsLegal, Lines, Values, IsCycle, any_prediction, Hardware, Report, reset_hardware, Reachable, always}
+use Rattle.rv_hardware.proofs.Turns.KeptByCycle.{IsKept, kept-together, both-kept, cycle-keeps}
 use Rattle.rv_hardware.proofs.Always.Halted.{IsHalted, halted-kept, halted-at_reset}
 use Rattle.rv_hardware.proofs.Always.Port.{HasPort, port-kept, port-at_reset}
 use Rattle.rv_hardware.proofs.Always.Queue.{HasQueue, queue-kept, queue-at_reset}
 use Rattle.rv_hardware.proofs.Always.Executions.{AreEnding, ending-kept, ending-at_reset}
 use Rattle.rv_hardware.proofs.Always.Serial.{IsSerialLast, last-kept, last-at_reset}
-use Rattle.rv_hardware.proofs.Always.Sizes.{HasSizes, sizes-kept, shape-at_reset}
+use Rattle.rv_hardware.proofs.Always.Sizes.{HasShape, shape-kept, shape-at_reset}
 use Rattle.rv_hardware.proofs.Always.Stores.{HasStores, stores-kept, stores-at_reset}
 use Rattle.rv_hardware.proofs.Always.Units.{AreHeld, held-kept, held-at_reset}
 
--- all that is known of hardware for its gaps
-pub record IsBounded (h : Hardware) : Type 0 where
-  pub sizes : HasSizes h
+-- what hardware of a description is
+pub record IsSoundFor (v : Values) (h : Hardware) : Type 0 where
+  pub sizes : HasShape v h
   pub queue : HasQueue h
   pub stores : HasStores h
   pub ending : AreEnding h
@@ -22,32 +22,46 @@ pub record IsBounded (h : Hardware) : Type 0 where
   pub halted : IsHalted h
 
 -- every cycle keeps it
-pub sound-cycle : {lines : Lines} {old new : Hardware} {report : Report} → IsCycle any_prediction lines old report new → IsBounded old → IsBounded new
-sound-cycle cycle sound = record {
-  sizes = cycle-keeps sizes-kept cycle sound.sizes;
-  queue = cycle-keeps queue-kept cycle sound.queue;
-  stores = cycle-keeps stores-kept cycle sound.stores;
-  ending = cycle-keeps ending-kept cycle sound.ending;
-  held = cycle-keeps held-kept cycle sound.held;
-  port = cycle-keeps port-kept cycle sound.port;
-  last = cycle-keeps last-kept cycle sound.last;
-  halted = cycle-keeps halted-kept cycle sound.halted;
+pub always-kept : (v : Values) → IsKept (IsSoundFor v)
+always-kept v =
+    kept-together
+    (λ h sizes rest. record {
+      sizes = sizes;
+      queue = rest.0;
+      stores = rest.1.0;
+      ending = rest.1.1.0;
+      held = rest.1.1.1.0;
+      port = rest.1.1.1.1.0;
+      last = rest.1.1.1.1.1.0;
+      halted = rest.1.1.1.1.1.1;
+    }) (λ h all. all.sizes) (λ h all. (all.queue, (all.stores, (all.ending, (all.held, (all.port, (all.last, all.halted))))))) (shape-kept v)
+    (both-kept queue-kept (both-kept stores-kept (both-kept ending-kept (both-kept held-kept (both-kept port-kept (both-kept last-kept halted-kept))))))
+
+-- it holds at reset
+pub always-at_reset : (v : Values) (image : List ℕ) (start : ℕ) → IsLegal v → IsSoundFor v (reset_hardware v image start)
+always-at_reset v image start legal = record {
+  sizes = shape-at_reset v image start legal;
+  queue = queue-at_reset v image start;
+  stores = stores-at_reset v image start;
+  ending = ending-at_reset v image start;
+  held = held-at_reset v image start;
+  port = port-at_reset v image start;
+  last = last-at_reset v image start;
+  halted = halted-at_reset v image start;
 }
 
-pub sound-at_reset : (values : Values) (image : List ℕ) (start : ℕ) → IsLegal values → IsBounded (reset_hardware values image start)
-sound-at_reset values image start legal = record {
-  sizes = shape-at_reset values image start legal;
-  queue = queue-at_reset values image start;
-  stores = stores-at_reset values image start;
-  ending = ending-at_reset values image start;
-  held = held-at_reset values image start;
-  port = port-at_reset values image start;
-  last = last-at_reset values image start;
-  halted = halted-at_reset values image start;
-}
+-- what hardware is, of its own description
+abbrev pub IsBounded : Hardware → Type 0
+IsBounded h = IsSoundFor h.values h
+
+-- a cycle leaves it so
+pub sound-cycle : {lines : Lines} {old new : Hardware} {report : Report} → IsCycle any_prediction lines old report new → IsBounded old → IsBounded new
+sound-cycle {new = new} cycle sound =
+    let after = cycle-keeps (always-kept _) cycle sound in
+    subst (λ v. IsSoundFor v new) (sym after.sizes.values) after
 
 -- it holds of all reachable hardware
 pub sound : {h : Hardware} → Reachable h → IsBounded h
 sound reached =
-    always IsBounded (λ values base image start legal loadable. sound-at_reset values image start legal)
+    always IsBounded (λ values base image start legal loadable. always-at_reset values image start legal)
     (λ old new lines report reachable before counted cycle. sound-cycle cycle before) reached

@@ -11,7 +11,7 @@ use Rattle.rv_hardware.proofs.Headline.Invariant.{IsSound}
 use Rattle.rv_hardware.proofs.Headline.Known.{broadcast_is}
 use Rattle.rv_hardware.proofs.Headline.Retired.{flushed_sound, trap_sound, seen_result, result_sound, memory_stored}
 use Rattle.rv_hardware.proofs.Headline.Serial.{IsSerialEffect, csr_serial, mret_serial, fence_serial, written_back_sound}
-use Rattle.rv_hardware.proofs.Headline.Steps.{AreRetirements, retirements_push, lead_push, true_retirements, true_push}
+use Rattle.rv_hardware.proofs.Headline.Steps.{AreRetirements, retirements_push, true_cycle_leads, true_retirements, true_push}
 
 -- the phase while it goes on: so far instructions retired
 pub record IsGoing (lines : Lines) (before : State) (old : Hardware) (c : Committing) : Type 0 where
@@ -113,7 +113,7 @@ module _ (lines : Lines) (before : State) (old : Hardware) where
           lines_are = going.lines_are;
           calm = going.calm;
           sound = result_sound h e message going.sound es entries result takes.tells.store (eqb-true message.next_pc e.predicted_next is) takes.tells.aligned;
-          leads = lead_push going.leads row retired_now;
+          leads = true_cycle_leads going.leads row retired_now;
           retirements = retirements_push h.cycle c.steps row going.retirements refl refl;
           no_stop = going.no_stop;
         }
@@ -202,9 +202,9 @@ module _ (lines : Lines) (before : State) (old : Hardware) where
 
     -- ---- a turn
     -- the machine finds a stale word too, since that lies in RAM
-    stale_here : (pc : ℕ) → pc ≡ c.hardware.pc → set.contains c.hardware.stale (word_of pc) ≡ true →
+    true_cycle_stale : (pc : ℕ) → pc ≡ c.hardware.pc → set.contains c.hardware.stale (word_of pc) ≡ true →
         MachineStep (layout_of c.hardware.values) (seen c.hardware) c.hardware.lines (machine.Stale pc) (seen c.hardware)
-    stale_here pc here marked =
+    true_cycle_stale pc here marked =
         let at : set.contains c.hardware.stale (word_of c.hardware.pc) ≡ true = ap (λ n. set.contains c.hardware.stale (word_of n)) (sym here) ∙ marked in
         let whole : 4 * word_of c.hardware.pc ≡ c.hardware.pc = omega (arith, going.sound.pc_aligned) in
         let inside = subst (λ n. is_in_ram (layout_of c.hardware.values) n 4 ≡ true) whole (going.sound.memory.inside (word_of c.hardware.pc) at) in
@@ -215,7 +215,7 @@ module _ (lines : Lines) (before : State) (old : Hardware) where
     turn_by e es entries false marked = head_done e es entries marked e.instruction refl
     turn_by e es entries true marked =
         let all = subst (AreInFlight (layout_of c.hardware.values) (seen c.hardware) (seen c.hardware)) entries going.sound.program.in_flight in
-        let found = stale_here e.pc all.0.pc marked in
+        let found = true_cycle_stale e.pc all.0.pc marked in
         record {
           values_are = going.values_are;
           cycle_is = going.cycle_is;

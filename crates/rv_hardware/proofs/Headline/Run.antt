@@ -43,11 +43,11 @@ module _ (layout : Layout) (arrivals : List Arrival) where
         stepped (subst (λ k. MachineStep layout s (lines_at arrivals k) (told first) t) (sym at) takes) (never_stale first)
         (by_lead more (All-tail (λ x. stamp_of x ≡ n) first steps stamped) rest)
 
-  pub true_runs : {s u : State} {n m : ℕ} {reports : List Report} → TrueCycles layout arrivals s n reports u m →
+  pub true_run_runs : {s u : State} {n m : ℕ} {reports : List Report} → TrueCycles layout arrivals s n reports u m →
       Run layout arrivals s (map stamp_of (steps_of reports)) (map told (steps_of reports)) u
-  true_runs none = ended
-  true_runs (one_more {s = s} {t = t} {u = u} {n = n} {report = report} {reports = reports} cycle rest) =
-      lead_runs n s t u report.steps (steps_of reports) cycle.leads cycle.stamped (true_runs rest)
+  true_run_runs none = ended
+  true_run_runs (one_more {s = s} {t = t} {u = u} {n = n} {report = report} {reports = reports} cycle rest) =
+      lead_runs n s t u report.steps (steps_of reports) cycle.leads cycle.stamped (true_run_runs rest)
 
   -- ---- stamps
   pub counts_cycles : {s u : State} {n m : ℕ} {reports : List Report} → TrueCycles layout arrivals s n reports u m → m ≡ n + length reports
@@ -58,13 +58,13 @@ module _ (layout : Layout) (arrivals : List Arrival) where
   IsWithin first done x = (first ≤ stamp_of x) × (stamp_of x < done)
 
   -- each step of true cycles is of one of these cycles
-  pub true_within : {s u : State} {n m : ℕ} {reports : List Report} → TrueCycles layout arrivals s n reports u m → All (IsWithin n m) (steps_of reports)
-  true_within {n = n} {m = m} none = All-nil (IsWithin n m)
-  true_within {n = n} {m = m} (one_more {report = report} {reports = reports} cycle rest) =
+  pub true_run_within : {s u : State} {n m : ℕ} {reports : List Report} → TrueCycles layout arrivals s n reports u m → All (IsWithin n m) (steps_of reports)
+  true_run_within {n = n} {m = m} none = All-nil (IsWithin n m)
+  true_run_within {n = n} {m = m} (one_more {report = report} {reports = reports} cycle rest) =
       let count = counts_cycles rest in
       All-append (IsWithin n m) report.steps (steps_of reports)
       (All-weaker (λ x. stamp_of x ≡ n) (IsWithin n m) (λ x at. (omega arith, omega (arith, count))) report.steps cycle.stamped)
-      (All-weaker (IsWithin (n + 1) m) (IsWithin n m) (λ x within. (omega (arith, within.0), within.1)) (steps_of reports) (true_within rest))
+      (All-weaker (IsWithin (n + 1) m) (IsWithin n m) (λ x within. (omega (arith, within.0), within.1)) (steps_of reports) (true_run_within rest))
 
   ordered : (n : ℕ) (xs ys : List Step) → EndAtTraps xs → All (λ x. stamp_of x ≡ n) xs → All (λ y. n + 1 ≤ stamp_of y) ys → AllPairs ComesBefore ys → AllPairs ComesBefore (xs ++ ys)
   ordered n [] ys precise stamped later rest = rest
@@ -83,14 +83,14 @@ module _ (layout : Layout) (arrivals : List Arrival) where
       }))
       (ordered n xs ys precise.1 others later rest)
 
-  pub true_order : {s u : State} {n m : ℕ} {reports : List Report} → TrueCycles layout arrivals s n reports u m → AllPairs ComesBefore (steps_of reports)
-  true_order none = λ i j d below within. absurd (omega arith)
-  true_order {n = n} {m = m} (one_more {report = report} {reports = reports} cycle rest) =
+  pub true_run_in_order : {s u : State} {n m : ℕ} {reports : List Report} → TrueCycles layout arrivals s n reports u m → AllPairs ComesBefore (steps_of reports)
+  true_run_in_order none = λ i j d below within. absurd (omega arith)
+  true_run_in_order {n = n} {m = m} (one_more {report = report} {reports = reports} cycle rest) =
       ordered n report.steps (steps_of reports) cycle.precise cycle.stamped
-      (All-weaker (IsWithin (n + 1) m) (λ y. n + 1 ≤ stamp_of y) (λ y within. within.0) (steps_of reports) (true_within rest)) (true_order rest)
+      (All-weaker (IsWithin (n + 1) m) (λ y. n + 1 ≤ stamp_of y) (λ y within. within.0) (steps_of reports) (true_run_within rest)) (true_run_in_order rest)
 
   pub true_run : {s u : State} {n m : ℕ} {reports : List Report} → TrueCycles layout arrivals s n reports u m → IsTrueRun layout arrivals n m s (steps_of reports) u
-  true_run cycles = record { runs = true_runs cycles; within = true_within cycles; in_order = true_order cycles }
+  true_run cycles = record { runs = true_run_runs cycles; within = true_run_within cycles; in_order = true_run_in_order cycles }
 
 -- The theorem for the cycles of a run.
 pub headline_of_run : (arrivals : List Arrival) (old new : Hardware) (reports : List Report) → Reachable old → Cycles arrivals old reports new →

@@ -16,31 +16,31 @@ pub retirements_push : (cycle : ℕ) (xs : List Step) (x : Step) → AreRetireme
 retirements_push cycle [] x all retires stamped = (retires, stamped, tt)
 retirements_push cycle (y ∷ xs) x all retires stamped = (all.0, all.1, retirements_push cycle xs x all.2 retires stamped)
 
-stamps : (cycle : ℕ) (xs : List Step) → AreRetirements cycle xs → All (λ s. stamp_of s ≡ cycle) xs
-stamps cycle [] all = All-nil (λ s. stamp_of s ≡ cycle)
-stamps cycle (x ∷ xs) all = All-cons (λ s. stamp_of s ≡ cycle) x xs all.1 (stamps cycle xs all.2)
+true_cycle_stamped : (cycle : ℕ) (xs : List Step) → AreRetirements cycle xs → All (λ s. stamp_of s ≡ cycle) xs
+true_cycle_stamped cycle [] all = All-nil (λ s. stamp_of s ≡ cycle)
+true_cycle_stamped cycle (x ∷ xs) all = All-cons (λ s. stamp_of s ≡ cycle) x xs all.1 (true_cycle_stamped cycle xs all.2)
 
-ends : (cycle : ℕ) (xs : List Step) → AreRetirements cycle xs → EndAtTraps xs
-ends cycle [] all = tt
-ends cycle (x ∷ xs) all = ((λ traps. absurd (true≢false (sym all.0 ∙ traps))), ends cycle xs all.2)
+true_cycle_precise : (cycle : ℕ) (xs : List Step) → AreRetirements cycle xs → EndAtTraps xs
+true_cycle_precise cycle [] all = tt
+true_cycle_precise cycle (x ∷ xs) all = ((λ traps. absurd (true≢false (sym all.0 ∙ traps))), true_cycle_precise cycle xs all.2)
 
-ends_push : (cycle : ℕ) (xs : List Step) (x : Step) → AreRetirements cycle xs → EndAtTraps (xs ++ x ∷ [])
-ends_push cycle [] x all = ((λ traps. refl), tt)
-ends_push cycle (y ∷ xs) x all = ((λ traps. absurd (true≢false (sym all.0 ∙ traps))), ends_push cycle xs x all.2)
+true_cycle_precise_push : (cycle : ℕ) (xs : List Step) (x : Step) → AreRetirements cycle xs → EndAtTraps (xs ++ x ∷ [])
+true_cycle_precise_push cycle [] x all = ((λ traps. refl), tt)
+true_cycle_precise_push cycle (y ∷ xs) x all = ((λ traps. absurd (true≢false (sym all.0 ∙ traps))), true_cycle_precise_push cycle xs x all.2)
 
 retirement_breaks_nothing : (x : Step) → is_retirement x ≡ true → is_breakpoint x ≡ false
 retirement_breaks_nothing (step.Retired row) retires = refl
 retirement_breaks_nothing (step.Trap pc cause value cycle) retires = absurd (false≢true retires)
 retirement_breaks_nothing (step.Interrupt pc cause cycle) retires = refl
 
-no_breakpoint : (cycle : ℕ) (xs : List Step) → AreRetirements cycle xs → list_any is_breakpoint xs ≡ false
-no_breakpoint cycle [] all = refl
-no_breakpoint cycle (x ∷ xs) all = or_from (is_breakpoint x) (list_any is_breakpoint xs) (retirement_breaks_nothing x all.0) (no_breakpoint cycle xs all.2)
+true_cycle_breakpoint : (cycle : ℕ) (xs : List Step) → AreRetirements cycle xs → list_any is_breakpoint xs ≡ false
+true_cycle_breakpoint cycle [] all = refl
+true_cycle_breakpoint cycle (x ∷ xs) all = or_from (is_breakpoint x) (list_any is_breakpoint xs) (retirement_breaks_nothing x all.0) (true_cycle_breakpoint cycle xs all.2)
 
 -- the machine's steps so far, and one more
-pub lead_push : {layout : Layout} {lines : Lines} {s t u : State} {xs : List Step} → Lead layout lines s xs t → (x : Step) → MachineStep layout t lines (told x) u → Lead layout lines s (xs ++ x ∷ []) u
-lead_push nowhere x takes = onwards takes nowhere
-lead_push (onwards first rest) x takes = onwards first (lead_push rest x takes)
+pub true_cycle_leads : {layout : Layout} {lines : Lines} {s t u : State} {xs : List Step} → Lead layout lines s xs t → (x : Step) → MachineStep layout t lines (told x) u → Lead layout lines s (xs ++ x ∷ []) u
+true_cycle_leads nowhere x takes = onwards takes nowhere
+true_cycle_leads (onwards first rest) x takes = onwards first (true_cycle_leads rest x takes)
 
 or-none : (b : Bool) → (b || false) ≡ b
 or-none true = refl
@@ -52,9 +52,9 @@ module _ (layout : Layout) (lines : Lines) (cycle : ℕ) (before s : State) (xs 
       IsTrueCycle layout lines cycle before xs ending s
   true_retirements ending breaks stale = record {
     leads = leads;
-    precise = ends cycle xs all;
-    stamped = stamps cycle xs all;
-    breakpoint = ((λ is. absurd (breaks is)), (λ is. absurd (false≢true (sym (no_breakpoint cycle xs all) ∙ is))));
+    precise = true_cycle_precise cycle xs all;
+    stamped = true_cycle_stamped cycle xs all;
+    breakpoint = ((λ is. absurd (breaks is)), (λ is. absurd (false≢true (sym (true_cycle_breakpoint cycle xs all) ∙ is))));
     stale = stale;
   }
 
@@ -63,11 +63,11 @@ module _ (layout : Layout) (lines : Lines) (cycle : ℕ) (before s : State) (xs 
       (ending ≡ Some stop.Breakpoint) ↔ (is_breakpoint x ≡ true) → ((pc : ℕ) → ending ≡ Some (stop.Stale pc) → ⊥) → IsTrueCycle layout lines cycle before (xs ++ x ∷ []) ending t
   true_push x t ending takes stamped breaks stale =
       let any : list_any is_breakpoint (xs ++ x ∷ []) ≡ is_breakpoint x =
-      list_any-append is_breakpoint xs (x ∷ []) ∙ ap (λ (b : Bool). b || (is_breakpoint x || false)) (no_breakpoint cycle xs all) ∙ or-none (is_breakpoint x) in
+      list_any-append is_breakpoint xs (x ∷ []) ∙ ap (λ (b : Bool). b || (is_breakpoint x || false)) (true_cycle_breakpoint cycle xs all) ∙ or-none (is_breakpoint x) in
       record {
-        leads = lead_push leads x takes;
-        precise = ends_push cycle xs x all;
-        stamped = All-append (λ s. stamp_of s ≡ cycle) xs (x ∷ []) (stamps cycle xs all) (All-cons (λ s. stamp_of s ≡ cycle) x [] stamped (All-nil (λ s. stamp_of s ≡ cycle)));
+        leads = true_cycle_leads leads x takes;
+        precise = true_cycle_precise_push cycle xs x all;
+        stamped = All-append (λ s. stamp_of s ≡ cycle) xs (x ∷ []) (true_cycle_stamped cycle xs all) (All-cons (λ s. stamp_of s ≡ cycle) x [] stamped (All-nil (λ s. stamp_of s ≡ cycle)));
         breakpoint = ((λ is. any ∙ breaks.0 is), (λ is. breaks.1 (sym any ∙ is)));
         stale = λ pc is. absurd (stale pc is);
       }

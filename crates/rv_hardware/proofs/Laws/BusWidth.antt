@@ -86,5 +86,5 @@ law_of_bus_width v history =
     let words = count-none (λ f. p (mark_of_fetched f)) d.front.entries (Each-all (λ f. p (mark_of_fetched f) ≡ false) (λ f. refl) d.front.entries) in
     let added = count-map p mark_of_fetched passed.fetches.added ∙ count-none (λ f. p (mark_of_fetched f)) passed.fetches.added (Each-all (λ f. p (mark_of_fetched f) ≡ false) (λ f. refl) passed.fetches.added) in
     let at_start = count-none (is_sent_now old.cycle v.bus_width) (issued_all lines old).rob.entries (Each-weaker (SoundEntry v old.cycle (old.cycle + 1) old.cycle) (λ e. is_at old.cycle (broadcast_of_stage e.stage) ≡ false) (λ e w. sent_earlier v e.instruction e.dispatched (old.cycle + 1) old.cycle e.stage w.stage) (issued_all lines old).rob.entries passed.issues.basics.entries) in
-    let within = dispatch_keeps_sent old.cycle v.bus_width (sent_all lines old) (broadcast_within old.cycle v.bus_width (issued_all lines old) (ap (λ (w : Values). w.bus_width) passed.issues.basics.shape.values) (omega (arith, at_start))) in
+    let within = dispatch_keeps_sent old.cycle v.bus_width (sent_all lines old) (broadcast_within old.cycle v.bus_width (issued_all lines old) (ap (λ (w : Values). w.bus_width) passed.issues.basics.always.sizes.values) (omega (arith, at_start))) in
     omega (arith, all, parts, rows, words, added, within)) history

@@ -44,5 +44,5 @@ law_of_dispatch_width v history =
     let words = count-none (λ f. p (mark_of_fetched f)) d.front.entries (Each-all (λ f. p (mark_of_fetched f) ≡ false) (λ f. refl) d.front.entries) in
     let added = count-map p mark_of_fetched passed.fetches.added ∙ count-none (λ f. p (mark_of_fetched f)) passed.fetches.added (Each-all (λ f. p (mark_of_fetched f) ≡ false) (λ f. refl) passed.fetches.added) in
     let at_start = count-none (λ e. e.dispatched == old.cycle) (sent_all lines old).rob.entries (Each-weaker (SoundEntry v old.cycle (old.cycle + 1) (old.cycle + 1)) (λ e. (e.dispatched == old.cycle) ≡ false) (λ e w. ne_eqb e.dispatched old.cycle (omega (arith, w.by_now))) (sent_all lines old).rob.entries passed.sends.basics.entries) in
-    let within = dispatch_within old.cycle v.dispatch_width (sent_all lines old) (ap (λ (w : Values). w.dispatch_width) passed.sends.basics.shape.values) (omega (arith, at_start)) in
+    let within = dispatch_within old.cycle v.dispatch_width (sent_all lines old) (ap (λ (w : Values). w.dispatch_width) passed.sends.basics.always.sizes.values) (omega (arith, at_start)) in
     omega (arith, all, parts, rows, words, added, within)) history

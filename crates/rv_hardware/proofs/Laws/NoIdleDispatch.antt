@@ -153,13 +153,13 @@ soon_marks v history =
     let all : List Step = earlier ++ report.steps in
     let now : ℕ = old.cycle in
     let d : Hardware = (dispatching lines old).hardware in
-    let left = dispatch_leaves v now (sent_all lines old) (ap (λ (w : Values). w.dispatch_width) passed.sends.basics.shape.values) passed.sends.basics.cycle in
+    let left = dispatch_leaves v now (sent_all lines old) (ap (λ (w : Values). w.dispatch_width) passed.sends.basics.always.sizes.values) passed.sends.basics.cycle in
     let rows : List Mark = map mark_of_row (rows_of all) in
     let es : List Mark = map mark_of_entry d.rob.entries in
     let fs : List Mark = map mark_of_fetched d.front.entries in
     rw (passed.new_marks) (EveryBehind-append (EntersSoon v now) [] (rows ++ (es ++ fs)) (map mark_of_fetched passed.fetches.added)
     (EveryBehind-append (EntersSoon v now) [] rows (es ++ fs) (dispatched_ones v now [] rows (rows_dispatched (rows_of all)))
-    (EveryBehind-append (EntersSoon v now) rows es fs (dispatched_ones v now rows es (entries_dispatched d.rob.entries)) (words_wait v now (rows_of all) d passed.dispatches.basics.shape d.front.entries refl left)))
+    (EveryBehind-append (EntersSoon v now) rows es fs (dispatched_ones v now rows es (entries_dispatched d.rob.entries)) (words_wait v now (rows_of all) d passed.dispatches.basics.always.sizes d.front.entries refl left)))
     (EveryBehind-all (λ m. now ≤ m.fetched) (EntersSoon v now) (λ b x le may. absurd (too_new now x le may.fetched)) (rows ++ (es ++ fs)) (map mark_of_fetched passed.fetches.added)
     (Each-map (λ m. now ≤ m.fetched) mark_of_fetched passed.fetches.added (Each-weaker (IsNew now) (λ f. now ≤ f.cycle) (λ f w. omega (arith, w.0)) passed.fetches.added passed.fetches.are_new)))))
     history

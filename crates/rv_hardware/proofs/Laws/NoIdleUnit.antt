@@ -1,11 +1,10 @@
 -- No pipelined unit is idle while an instruction that is no load has its operands.
 pub mod Marks
 pub mod Phases
-use Rattle.rv_hardware.proofs.Words.{◌≡◌, ℕ, ◌+◌, ◌<◌, ◌≤◌, Bool, true, false, cond, ◌&&◌, List, [], ◌∷◌, map, is_some, IfSome, nat_le, ◌==◌, Some, None, count_by, Option, option_map, sym, refl, ap, ◌∙◌, subst, arith, le-leb, and_from, is_serialising, kind_of_word, at_kind, Kind, Values, Each, Hardware, HasOperandsIn, LeaveNoUnitIdle, is_pipelined, instruction_of_row, is_issued_in, is_row_of_kind, last_from, last_that, passes, producer_among, rows_of, sources_of_row, writes_register, Execution, Row, Step, and_first, and_second, Each-All, Each-place, Each-weaker, EveryBehind, Beginning-EveryBehind, EachBehind-EveryBehind, EveryBehind-EveryPair}
+use Rattle.rv_hardware.proofs.Words.{◌≡◌, ℕ, ◌+◌, ◌<◌, ◌≤◌, Bool, true, false, cond, ◌&&◌, List, [], ◌∷◌, map, is_some, IfSome, nat_le, ◌==◌, Some, None, count_by, Option, option_map, sym, refl, ap, ◌∙◌, subst, arith, le-leb, and_from, kind_of_word, at_kind, Kind, Values, Each, Hardware, HasOperandsIn, LeaveNoUnitIdle, is_pipelined, instruction_of_row, is_issued_in, is_row_of_kind, last_from, last_that, passes, producer_among, rows_of, sources_of_row, writes_register, Execution, Row, Step, and_first, and_second, Each-All, Each-place, Each-weaker, EveryBehind, Beginning-EveryBehind, EachBehind-EveryBehind, EveryBehind-EveryPair}
 use Rattle.rv_hardware.proofs.Marks.Advance.{IsBefore, writes_mark, IsKnownMark, OperandsKnown}
 use Rattle.rv_hardware.proofs.Marks.Counted.{behind_law, behind_count}
 use Rattle.rv_hardware.proofs.Marks.History.{History, history_is_sound}
-use Rattle.rv_hardware.proofs.Laws.NoIdleDispatch.{as_of_rows}
 use Rattle.rv_hardware.proofs.Laws.NoIdleUnit.Marks.{MayStart, BusyUnits}
 use Rattle.rv_hardware.proofs.Laws.NoIdleUnit.Phases.{units_are_busy}
 use Rattle.rv_hardware.proofs.Marks.List.{Mark, mark_of_row, as_of, as_of-cons, at_end, was_fetched, until, start_until, start_until_now, start_of_execution, broadcast_of_execution, until_by}
@@ -99,7 +98,6 @@ law_of_no_idle_unit v {steps} {h} history k line before after row at kind plain 
           dispatched = rw (until_by c row.dispatched (omega (arith, dispatched))) dispatched;
           not_yet = ap (λ o. start_until c (start_of_execution o)) e ∙ not_until c x later;
           operands = rw (all_fetched c before all) (sources_known c v h.cycle before row older (sources_of_row row) (Each-All (λ source. IfSome (producer_among before source) (λ p. IfSome p.execution (λ y. y.broadcast < c))) (sources_of_row row) operands));
-          serial = as_of_rows (λ m. is_serialising m.instruction ≡ true → IsBefore c m.retired) c before (Each-weaker (Older v h.cycle row) (λ a. is_serialising (instruction_of_row a) ≡ true → IsBefore c (until c (Some a.retired))) (λ a o is. retired_before c a row (o.serial is) dispatched) before older);
         } in
         let busy = behind_law (BusyUnits k (at_kind k v.kinds).units c) c (rows_of steps) before after row (busy_rows v k line history c (omega (arith, later, between.1, between.2, sound.below))) at fetched may in
         let fewer = behind_count (begins_mark k c) (is_issued_in k c) c before (Each-weaker (Older v h.cycle row) (λ a. (was_fetched c (mark_of_row a) && begins_mark k c (at_end c (mark_of_row a))) ≡ true → is_issued_in k c a ≡ true)
@@ -108,6 +106,3 @@ law_of_no_idle_unit v {steps} {h} history k line before after row at kind plain 
       where
         not_until : (c : ℕ) (x : Execution) → c < x.issued → start_until c (Some (record { cycle = x.issued; cost = x.cost; faults = false })) ≡ None
         not_until c x lt = start_until_now c (record { cycle = x.issued; cost = x.cost; faults = false }) lt
-
-        retired_before : (c : ℕ) (a r : Row) → a.retired ≤ row.fetched → row.dispatched < c → IsBefore c (until c (Some a.retired))
-        retired_before c a r le lt = rw (until_by c a.retired (omega (arith, le, lt, sound.stamps.dispatched_after_fetch))) (omega (arith, le, lt, sound.stamps.dispatched_after_fetch))

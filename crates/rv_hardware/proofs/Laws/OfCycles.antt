@@ -23,7 +23,7 @@ module _ (v : Values) {steps : List Step} {old new : Hardware} {lines : Lines} {
   pub cycle_tells : IsCounted (report.dispatched == 0) report.stall
   cycle_tells =
       let legal = history_is_legal v history in
-      let width = ap (λ (w : Values). w.dispatch_width) passes_here.sends.basics.shape.values in
+      let width = ap (λ (w : Values). w.dispatch_width) passes_here.sends.basics.always.sizes.values in
       let tells = dispatch_tells (sent_all lines old) (omega (arith, width, legal.pipeline.dispatch_width)) in
       subst (λ o. IsCounted (report.dispatched == 0) o) (sym passes_here.report_is.1) (subst (λ n. IsCounted (n == 0) (stall_of (dispatching lines old))) (sym passes_here.report_is.0) tells)
 

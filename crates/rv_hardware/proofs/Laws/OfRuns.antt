@@ -238,6 +238,6 @@ module _ (v : Values) (earlier steps : List Step) (old new : Hardware) (before_r
 pub laws_of_runs : {arrivals : List Arrival} {old new : Hardware} {reports : List Report} → Reachable old → Cycles arrivals old reports new → Laws old.values old.cycle new.cycle (steps_of reports)
 laws_of_runs {old = old} {new = new} {reports = reports} reached cycles =
     let before = reachable_has_history reached in
-    let same : old.values ≡ before.0 = (history_is_sound before.0 before.2).shape.values in
+    let same : old.values ≡ before.0 = (history_is_sound before.0 before.2).always.sizes.values in
     subst (λ v. Laws v old.cycle new.cycle (steps_of reports)) (sym same)
     (laws_of_steps before.0 before.1 (steps_of reports) old new before.2 (history_runs before.0 before.1 cycles before.2) (since_by before.0 old.cycle before.1 cycles before.2 (omega arith)))

@@ -7,12 +7,12 @@ use Rattle.rv_hardware.proofs.Turns.Costs.{access_cost-least}
 use Rattle.rv_hardware.proofs.Turns.KeptByDispatch.{IsKeptByDispatch, dispatch-keeps}
 use Rattle.rv_hardware.proofs.Turns.KeptByDrain.{IsKeptByDrain, drain-keeps}
 use Rattle.rv_hardware.proofs.Turns.KeptByIssue.{IsKeptByIssue, issue-keeps, ready-parts}
-use Rattle.rv_hardware.proofs.Always.Stores.{HasStores, store_count, instructions_of, stores-kept, stores-at_reset}
+use Rattle.rv_hardware.proofs.Always.Stores.{store_count, instructions_of}
 use Rattle.rv_hardware.proofs.Headline.Stores.{serialising_is_no_store}
-use Rattle.rv_hardware.proofs.Turns.Commit.{CommitTurn, no_head, stale_head, unfinished, fence_waits, fence_writes, fence_retires, executes, serial_faults, traps, retires, retires_last, written_back, retired_with, head_retired_entries}
+use Rattle.rv_hardware.proofs.Turns.Commit.{CommitTurn, no_head, stale_head, unfinished, fence_waits, fence_writes, fence_retires, executes, serial_faults, traps, retires, retires_last, written_back, retired_with}
 use Rattle.rv_hardware.proofs.Marks.Counted.{count-as_of}
 use Rattle.rv_hardware.proofs.Marks.History.{Anything, anything_is_kept, Passed, History, began, went_on, begin, committing, drained, cycle_passes, history_is_legal, history_is_sound}
-use Rattle.rv_hardware.proofs.Marks.Keeps.{history_keeps, InCommit, commit_turns_keep}
+use Rattle.rv_hardware.proofs.Marks.Keeps.{InCommit, commit_turns_keep}
 use Rattle.rv_hardware.proofs.Marks.List.{Mark, mark_of_row, mark_of_entry, mark_of_fetched, marks_in, at_end, as_of, was_fetched, until, Extends, rows_append, until_by}
 use Rattle.rv_hardware.proofs.Marks.Past.{rows_obey}
 use Rattle.rv_hardware.proofs.Laws.Port.Loads.{has_its_port, port_grows}
@@ -20,7 +20,7 @@ use Rattle.rv_hardware.proofs.Laws.Port.Phases.{drained_idle}
 use Rattle.rv_hardware.proofs.Laws.StoreQueue.Queue.{QueueOk, queued_length, queue_later, queue_next, plain_retires, queue_retires, queue_leaves, queue_begins}
 use Rattle.rv_hardware.proofs.Marks.Row.{SoundRow, row_at, retiring_is_one, may_retire_serial, may_retire_finished, MayRetire}
 use Rattle.rv_hardware.proofs.Marks.Sound.{SoundEntry, row_decodes}
-use Rattle.rv_hardware.proofs.Always.Entries.{AreShaped, Shaped, told_at_end, entries-kept}
+use Rattle.rv_hardware.proofs.Always.Entries.{Shaped, told_at_end}
 use Rattle.rv_hardware.proofs.Marks.Widths.{count_marks}
 
 abbrev pub Queue : Values → ℕ → List Step → Hardware → Type 0
@@ -30,7 +30,7 @@ Queue v now steps h = QueueOk v.cache.hit now (rows_of steps) h.port_free h.comm
 
 module _ (v : Values) (now : ℕ) (earlier : List Step) (is_stale : set.FinSet nat_cmp → ℕ → Bool) where
   abbrev Queues : Committing → Type 0
-  Queues c = Each Shaped c.hardware.rob.entries × Queue v now (earlier ++ c.steps) c.hardware
+  Queues c = Queue v now (earlier ++ c.steps) c.hardware
 
   pushed : (c : Committing) (s : Step) → rows_of (earlier ++ (c.steps ++ s ∷ [])) ≡ rows_of (earlier ++ c.steps) ++ rows_of (s ∷ [])
   pushed c s = ap rows_of (sym (append_assoc earlier c.steps (s ∷ []))) ∙ rows_append (earlier ++ c.steps) (s ∷ [])
@@ -61,10 +61,10 @@ module _ (v : Values) (now : ℕ) (earlier : List Step) (is_stale : set.FinSet n
   result_row c e es issue cycle message place at none p ok =
       let row : Row = row_at e (written_of e message) c.hardware.cycle in
       let same = row_is_store c e es (written_of e message) place (may_retire_finished e.instruction e.stage issue cycle message at none) p in
-      let telling : Each Shaped (e ∷ es) = subst (Each Shaped) place ok.0 in
+      let telling : Each Shaped (e ∷ es) = subst (Each Shaped) place p.basics.always.stores.0.0 in
       let tells = (told_at_end e.word e.instruction e.stage message (ap broadcast_of at) telling.0).store none in
       rw (pushed c (Retired row))
-      (queue_retires v.cache.hit now (rows_of (earlier ++ c.steps)) c.hardware.port_free c.hardware.committed ok.1 row c.hardware.rob.retired message.store (tells ∙ sym same) (omega (arith, p.basics.cycle)))
+      (queue_retires v.cache.hit now (rows_of (earlier ++ c.steps)) c.hardware.port_free c.hardware.committed ok row c.hardware.rob.retired message.store (tells ∙ sym same) (omega (arith, p.basics.cycle)))
 
   commit_queue : (c : Committing) (t : Turn Committing) → CommitTurn is_stale c t → InCommit v now earlier is_stale c → Queues c → Leads Queues Queues t
   commit_queue c _ (no_head none) p ok = ok
@@ -73,23 +73,22 @@ module _ (v : Values) (now : ℕ) (earlier : List Step) (is_stale : set.FinSet n
   commit_queue c _ (fence_waits e es head is busy) p ok = ok
   commit_queue c _ (fence_writes e es head is drained dirty) p ok =
       let le = drained_idle _ c.hardware drained in
-      (ok.0, queue_later v.cache.hit now (rows_of (earlier ++ c.steps)) c.hardware.port_free c.hardware.committed ok.1 (written_back c).hardware.port_free (omega (arith, le)))
+      queue_later v.cache.hit now (rows_of (earlier ++ c.steps)) c.hardware.port_free c.hardware.committed ok (written_back c).hardware.port_free (omega (arith, le))
   commit_queue c _ (fence_retires e es written next head is drained) p ok =
       let le = drained_idle _ c.hardware drained in
-      (tt, serial_row c e es written (written_back c).hardware.port_free head.place (ap is_serialising is) (omega (arith, le)) p ok.1)
-  commit_queue c _ (executes e es written next head serial) p ok = (tt, serial_row c e es written c.hardware.port_free head.place serial (omega arith) p ok.1)
-  commit_queue c _ (serial_faults e es cause value head serial) p ok = (tt, no_row c (Trap e.pc cause value c.hardware.cycle) (with_fault e cause value c).hardware refl refl refl ok.1)
-  commit_queue c _ (traps e es issue cycle message fault head plain at is) p ok = (tt, no_row c (Trap e.pc fault.cause fault.value c.hardware.cycle) (with_fault e fault.cause fault.value c).hardware refl refl refl ok.1)
+      serial_row c e es written (written_back c).hardware.port_free head.place (ap is_serialising is) (omega (arith, le)) p ok
+  commit_queue c _ (executes e es written next head serial) p ok = serial_row c e es written c.hardware.port_free head.place serial (omega arith) p ok
+  commit_queue c _ (serial_faults e es cause value head serial) p ok = no_row c (Trap e.pc cause value c.hardware.cycle) (with_fault e cause value c).hardware refl refl refl ok
+  commit_queue c _ (traps e es issue cycle message fault head plain at is) p ok = no_row c (Trap e.pc fault.cause fault.value c.hardware.cycle) (with_fault e fault.cause fault.value c).hardware refl refl refl ok
   commit_queue c _ (retires e es issue cycle message head plain at none) p ok =
-      let telling : Each Shaped (e ∷ es) = subst (Each Shaped) head.place ok.0 in
-      (subst (Each Shaped) (sym (head_retired_entries c.hardware.rob e es head.place)) telling.1, result_row c e es issue cycle message head.place at none p ok)
-  commit_queue c _ (retires_last e es issue cycle message head plain at none) p ok = (tt, result_row c e es issue cycle message head.place at none p ok)
+      result_row c e es issue cycle message head.place at none p ok
+  commit_queue c _ (retires_last e es issue cycle message head plain at none) p ok = result_row c e es issue cycle message head.place at none p ok
 
-  commit_queue_by : (o : Option ℕ) (h : Hardware) → InCommit v now earlier is_stale (record { hardware = h; steps = []; stop = None }) → Each Shaped h.rob.entries → Queue v now (earlier ++ []) h → Queue v now (earlier ++ (commit_unless is_stale o h).steps) (commit_unless is_stale o h).hardware
-  commit_queue_by (Some code) h p telling ok =
+  commit_queue_by : (o : Option ℕ) (h : Hardware) → InCommit v now earlier is_stale (record { hardware = h; steps = []; stop = None }) → Queue v now (earlier ++ []) h → Queue v now (earlier ++ (commit_unless is_stale o h).steps) (commit_unless is_stale o h).hardware
+  commit_queue_by (Some code) h p ok =
       no_row (record { hardware = h; steps = []; stop = None }) (Interrupt h.pc (interrupt_cause code) h.cycle) (commit_unless is_stale (Some code) h).hardware refl refl refl ok
-  commit_queue_by None h p telling ok =
-      (commit_turns_keep v now earlier is_stale Queues commit_queue h.values.commit_width (record { hardware = h; steps = []; stop = None }) p (telling, ok)).1
+  commit_queue_by None h p ok =
+      commit_turns_keep v now earlier is_stale Queues commit_queue h.values.commit_width (record { hardware = h; steps = []; stop = None }) p ok
 
 -- drain, and the phases after it
 
@@ -131,9 +130,9 @@ queue_in_cycle : (v : Values) (R : List Mark → Type 0) {earlier : List Step} {
 queue_in_cycle v R {earlier} {old} {new} {lines} {report} before passed ok =
     let first = begin v (history_is_legal v before) Anything earlier lines old new report (anything_is_kept v old.cycle) passed.begins tt in
     let g : Hardware = with_lines lines old in
-    let committed = commit_queue_by v old.cycle earlier set.contains (due g.csrs g.lines) g first (history_keeps v AreShaped entries-kept (λ image start. (tt, tt)) before).0 (rw (append-nil earlier) ok) in
+    let committed = commit_queue_by v old.cycle earlier set.contains (due g.csrs g.lines) g first (rw (append-nil earlier) ok) in
     let at_commit : Queue v old.cycle (earlier ++ report.steps) (committing lines old).hardware = rw (passed.steps) committed in
-    let done = executed_queue v old.cycle (earlier ++ report.steps) (committing lines old).hardware (passed.committed.basics.cycle, passed.committed.basics.shape.cache, at_commit) in
+    let done = executed_queue v old.cycle (earlier ++ report.steps) (committing lines old).hardware (passed.committed.basics.cycle, passed.committed.basics.always.sizes.cache, at_commit) in
     subst (λ (h : Hardware). Queue v old.cycle (earlier ++ report.steps) h) (sym passed.others_stay) done
 
 pub queue_of_history : (v : Values) {steps : List Step} {h : Hardware} → History v steps h → Queue v h.cycle steps h
@@ -191,8 +190,8 @@ law_by_cycle v history =
     let rows = queued_rows v.cache.hit old.cycle (rows_of (earlier ++ report.steps)) new.port_free new.committed ok in
     let entries = queued_entries v.cache.hit old.cycle new.rob.entries in
     let words = count-none (λ f. p (mark_of_fetched f)) new.front.entries (Each-all (λ f. p (mark_of_fetched f) ≡ false) (λ f. not_dispatched (is_store f.instruction)) new.front.entries) in
-    let room = (history_keeps v HasStores stores-kept (λ image start. stores-at_reset v image start) after).1 in
-    let values = ap (λ (w : Values). w.store_queue) (history_is_sound v after).shape.values in
+    let room = (history_is_sound v after).always.stores.1 in
+    let values = ap (λ (w : Values). w.store_queue) (history_is_sound v after).always.sizes.values in
     omega (arith, parts, rows, entries, words, room, values)) history
   where
     not_dispatched : (b : Bool) → (b && false) ≡ false

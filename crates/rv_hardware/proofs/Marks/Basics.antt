@@ -2,13 +2,13 @@
 use Rattle.rv_hardware.proofs.Words.{◌≡◌, ℕ, ◌+◌, ◌≤◌, Bool, true, false, List, is_some, Some, None, Option, option_and_then, sym, refl, ap, ◌∙◌, subst, inl, inr, arith, is_of_kind, is_serialising, kind_of_word, Message, Instr, Issue, Lines, Kind, Values, instruction_of, Layout, State, Each, finished, issue_of, predicting, started, Entry, Stage, Finished, Running, Waiting, Fetched, entry_of_fetched, stage_by, Hardware, is_waiting, result_of_word, layout_of, seen_behind, rows_of, Step}
 use Rattle.rv_hardware.proofs.Marks.List.{mark_of_entry, mark_of_fetched, start_of_issue, start_of_stage, broadcast_of_stage}
 use Rattle.rv_hardware.proofs.Marks.Row.{SoundRow}
-use Rattle.rv_hardware.proofs.Always.Sizes.{HasShape}
+use Rattle.rv_hardware.proofs.Always.Sound.{IsSoundFor}
 use Rattle.rv_hardware.proofs.Marks.Sound.{SoundCost, SoundEntry, SoundStage, SoundFetched, some_kind}
 
 -- in cycle `now`: dispatches, executions, fetches and retirements lie below bounds
 pub record Basics (v : Values) (now dispatch_bound issue_bound stage_bound fetch_bound row_bound : ℕ) (steps : List Step) (h : Hardware) : Type 0 where
   pub cycle : h.cycle ≡ now
-  pub shape : HasShape v h
+  pub always : IsSoundFor v h
   pub rows : Each (SoundRow v row_bound) (rows_of steps)
   pub entries : Each (SoundEntry v dispatch_bound issue_bound stage_bound) h.rob.entries
   pub fetched : Each (SoundFetched fetch_bound) h.front.entries

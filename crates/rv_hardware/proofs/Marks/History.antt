@@ -6,7 +6,8 @@ use Rattle.rv_hardware.proofs.Marks.Basics.{Basics}
 use Rattle.rv_hardware.proofs.Turns.Fetched.{FetchPhase, IsNew, fetch_phase}
 use Rattle.rv_hardware.proofs.Marks.List.{Mark, mark_of_row, mark_of_entry, mark_of_fetched, marks, marks_in, marks_fetched}
 use Rattle.rv_hardware.proofs.Marks.Phases.{Goes, commit_keeps, drain_keeps, issue_keeps, broadcast_keeps, dispatch_keeps, goes_later}
-use Rattle.rv_hardware.proofs.Always.Sizes.{HasShape, with_front, shape-at_reset}
+use Rattle.rv_hardware.proofs.Always.Sound.{IsSoundFor, always-kept, always-at_reset}
+use Rattle.rv_hardware.proofs.Turns.KeptByCycle.{cycle-keeps}
 use Rattle.rv_hardware.proofs.Marks.Row.{SoundRow}
 use Rattle.rv_hardware.proofs.Marks.Sound.{SoundEntry, SoundFetched}
 
@@ -58,7 +59,7 @@ module _ (v : Values) (legal : IsLegal v) (R : List Mark → Type 0) (earlier : 
       (goes_later v old.cycle old.cycle old.cycle old.cycle old.cycle old.cycle old.cycle old.cycle old.cycle (old.cycle + 1) R earlier (with_lines lines old) (omega arith) (omega arith) (omega arith) (omega arith) (record {
         basics = record {
           cycle = refl;
-          shape = begins.shape;
+          always = (always-kept v).phases.lines old lines begins.always;
           rows = begins.rows;
           entries = begins.entries;
           fetched = begins.fetched;
@@ -67,12 +68,11 @@ module _ (v : Values) (legal : IsLegal v) (R : List Mark → Type 0) (earlier : 
       }))
 
   module _ (steps : List Step) (d : Hardware) (dispatched : Goes v old.cycle (old.cycle + 1) (old.cycle + 1) (old.cycle + 1) old.cycle (old.cycle + 1) R steps d)
-      (fetches : FetchPhase old.cycle d.front new.front) (others_stay : new ≡ record d { front = new.front; cycle = old.cycle + 1 }) where
+      (fetches : FetchPhase old.cycle d.front new.front) (others_stay : new ≡ record d { front = new.front; cycle = old.cycle + 1 }) (always : IsSoundFor v new) where
     ended : Basics v (old.cycle + 1) (old.cycle + 1) (old.cycle + 1) (old.cycle + 1) (old.cycle + 1) (old.cycle + 1) steps new
     ended = record {
       cycle = ap (λ (h : Hardware). h.cycle) others_stay;
-      shape = subst (HasShape v) (sym others_stay)
-          (with_front v d new.front (old.cycle + 1) fetches.capacity fetches.width dispatched.basics.shape);
+      always = always;
       rows = dispatched.basics.rows;
       entries = subst (Each (SoundEntry v (old.cycle + 1) (old.cycle + 1) (old.cycle + 1))) (sym (ap (λ (h : Hardware). h.rob.entries) others_stay)) dispatched.basics.entries;
       fetched = rw (fetches.entries) (Each-append (SoundFetched (old.cycle + 1)) d.front.entries fetches.added
@@ -103,7 +103,8 @@ module _ (v : Values) (legal : IsLegal v) (R : List Mark → Type 0) (earlier : 
       let fetches = subst (λ (d : Dispatching). FetchPhase old.cycle d.hardware.front new.front) d_is
       (fetch_phase any_prediction is.dispatching.hardware.cache.backing old.cycle is.dispatching.hardware.front new.front is.fetch_stop is.fetches) in
       let others_stay = subst (λ (d : Dispatching). new ≡ record d.hardware { front = new.front; cycle = old.cycle + 1 }) d_is is.others_stay in
-      let at_end = ended (earlier ++ report.steps) (dispatching lines old).hardware dispatched fetches others_stay in
+      let always = cycle-keeps (always-kept v) is begins.always in
+      let at_end = ended (earlier ++ report.steps) (dispatching lines old).hardware dispatched fetches others_stay always in
       record {
         begins = begins;
         marks = holds;
@@ -117,7 +118,7 @@ module _ (v : Values) (legal : IsLegal v) (R : List Mark → Type 0) (earlier : 
         steps = steps;
         report_is = (ap (λ r. r.dispatched) is.reports ∙ ap (λ (d : Dispatching). d.dispatched) d_is, ap (λ r. r.stall) is.reports ∙ ap stall_of d_is);
         ends = subst (λ n. Basics v n n n n n n (earlier ++ report.steps) new) (sym at_end.cycle) at_end;
-        new_marks = more_marks (earlier ++ report.steps) (dispatching lines old).hardware dispatched fetches others_stay;
+        new_marks = more_marks (earlier ++ report.steps) (dispatching lines old).hardware dispatched fetches others_stay always;
       }
 
 -- all cycles since the reset, with all their steps
@@ -134,7 +135,7 @@ history_is_legal v (went_on before is) = history_is_legal v before
 sound_at_reset : (v : Values) (image : List ℕ) (start : ℕ) → IsLegal v → Sound v [] (reset_hardware v image start)
 sound_at_reset v image start legal = record {
   cycle = refl;
-  shape = shape-at_reset v image start legal;
+  always = always-at_reset v image start legal;
   rows = tt;
   entries = tt;
   fetched = tt;
@@ -211,8 +212,8 @@ new_words v R earlier lines old new report passed =
     record {
       by_now = fetched_before v old.cycle (earlier ++ report.steps) d.rob.entries d.front.entries b.rows b.entries b.fetched;
       are_new = passed.fetches.are_new;
-      within_width = omega (arith, passed.fetches.within_width, b.shape.width);
-      within_room = omega (arith, passed.fetches.within_room, b.shape.room, held);
+      within_width = omega (arith, passed.fetches.within_width, b.always.sizes.width);
+      within_room = omega (arith, passed.fetches.within_room, b.always.sizes.room, held);
     }
 
 -- a property of marks that is kept holds in every history

@@ -1,23 +1,17 @@
--- What every cycle keeps holds in every history, and what each turn, or each phase, keeps, all turns and the whole cycle keep.
-use Rattle.rv_hardware.proofs.Words.{◌≡◌, ℕ, Bool, true, List, ◌∷◌, ◌++◌, nat_cmp, ◌∙◌, at_kind, Lines, Kind, Values, is_free, Entry, Committing, commit_turn, with_lines, Hardware, is_ready, issued, path, Turn, repeated, Report, reset_hardware, Step, Leads, leads_both, left_by_turns}
+-- What each turn of the commit phase keeps all its turns keep, and what each phase keeps the phases of a cycle keep.
+use Rattle.rv_hardware.proofs.Words.{◌≡◌, ℕ, Bool, true, List, ◌∷◌, ◌++◌, nat_cmp, ◌∙◌, at_kind, Lines, Kind, Values, is_free, Entry, Committing, commit_turn, with_lines, Hardware, is_ready, issued, path, Turn, repeated, Report, Step, Leads, leads_both, left_by_turns}
 use Rattle.std.specs.FinSet as set
 use Rattle.rv_hardware.proofs.Turns.Issue.{access_keeps}
 use Rattle.rv_hardware.proofs.Turns.KeptByBroadcast.{IsKeptByBroadcast, broadcast-keeps}
 use Rattle.rv_hardware.proofs.Turns.KeptByCommit.{IsKeptByCommit, commit-keeps}
-use Rattle.rv_hardware.proofs.Turns.KeptByCycle.{IsKept, cycle-keeps}
 use Rattle.rv_hardware.proofs.Turns.KeptByDispatch.{IsKeptByDispatch, dispatch-keeps}
 use Rattle.rv_hardware.proofs.Turns.KeptByDrain.{IsKeptByDrain, drain-keeps}
 use Rattle.rv_hardware.proofs.Turns.KeptByIssue.{KeepsStarts, starts-keep, issue-by}
 use Rattle.rv_hardware.proofs.Always.Sizes.{HasShape, shape-kept}
 use Rattle.rv_hardware.proofs.Marks.List.{Mark}
 use Rattle.rv_hardware.proofs.Turns.Commit.{CommitTurn, commit_turn_is}
-use Rattle.rv_hardware.proofs.Marks.History.{Anything, anything_is_kept, History, began, went_on, Passed, committing, drained, issued_all, sent_all, dispatching}
+use Rattle.rv_hardware.proofs.Marks.History.{Anything, anything_is_kept, Passed, committing, drained, issued_all, sent_all, dispatching}
 use Rattle.rv_hardware.proofs.Marks.Phases.{Commits, commit_turn_keeps}
-
--- what holds at reset and every cycle keeps holds in every history
-pub history_keeps : (v : Values) (P : Hardware → Type 0) → IsKept P → ((image : List ℕ) (start : ℕ) → P (reset_hardware v image start)) → {steps : List Step} {h : Hardware} → History v steps h → P h
-history_keeps v P kept first (began image start legal) = first image start
-history_keeps v P kept first (went_on before is) = cycle-keeps kept is (history_keeps v P kept first before)
 
 module _ (v : Values) (now : ℕ) (earlier : List Step) (is_stale : set.FinSet nat_cmp → ℕ → Bool) where
   -- what is basic in the commit phase
@@ -65,5 +59,5 @@ in_cycle {v} {R} {earlier} {lines} {old} {new} {report} {P} kept passed holds =
     let issues = issue-by (λ h. InCycle v now h × P h)
     (λ k h older younger e p at is free.
     (starts_in_cycle v now k h older younger e p.0 at is free, kept.issue k h older younger e p.0 p.1 at is free))
-    (drained lines old) ((passed.drains.basics.shape, passed.drains.basics.cycle), drains) in
+    (drained lines old) ((passed.drains.basics.always.sizes, passed.drains.basics.cycle), drains) in
     dispatch-keeps kept.dispatch (sent_all lines old) (broadcast-keeps kept.broadcast (issued_all lines old) issues.1)

@@ -15,7 +15,8 @@ use Rattle.rv_hardware.proofs.Turns.Dispatch.{DispatchTurn, buffer_empty, waits,
 use Rattle.rv_hardware.proofs.Turns.Issue.{IssueTurn, no_unit, none_ready, starts, issue_turn_is, access_keeps, message_at, started_entries}
 use Rattle.rv_hardware.proofs.Marks.List.{Mark, start_of_issue, start_of_stage, broadcast_of_stage, mark_of_row, mark_of_entry, mark_of_fetched, marks, marks_in, marks_squashed, rows_append, marks_at_entry, marks_retired, marks_dispatched}
 use Rattle.rv_hardware.proofs.Marks.Row.{SoundRow, row_at, row_is_sound, row_advances, may_retire_serial, may_retire_finished, MayRetire}
-use Rattle.rv_hardware.proofs.Always.Sizes.{HasShape, shape-kept}
+use Rattle.rv_hardware.proofs.Always.Sizes.{HasShape}
+use Rattle.rv_hardware.proofs.Always.Sound.{IsSoundFor, always-kept}
 use Rattle.rv_hardware.proofs.Marks.Sound.{SoundCost, SoundEntry, SoundFetched, sound_later, is_of_kind_is, issued_cost, positive_cost}
 
 -- what is basic holds, and something of the marks that beginnings keep and marks that go on
@@ -37,14 +38,14 @@ module _ (v : Values) (now : ℕ) (R : List Mark → Type 0) (kept : Kept v now 
   push c s = sym (append_assoc earlier c.steps (s ∷ []))
 
   -- everything is flushed after a step
-  flush : (c : Committing) (g : Hardware) (s : Step) → Commits c → HasShape v g → g.cycle ≡ c.hardware.cycle → g.rob.entries ≡ [] → g.front.entries ≡ [] →
+  flush : (c : Committing) (g : Hardware) (s : Step) → Commits c → IsSoundFor v g → g.cycle ≡ c.hardware.cycle → g.rob.entries ≡ [] → g.front.entries ≡ [] →
       Each (SoundRow v (now + 1)) (rows_of (s ∷ [])) → (R (marks_in (earlier ++ c.steps) c.hardware) → R (marks ((earlier ++ c.steps) ++ s ∷ []) [] [])) →
       Goes v now now now now now (now + 1) R (earlier ++ (c.steps ++ s ∷ [])) g
-  flush c g s p shape cycle none none' row goes =
+  flush c g s p always cycle none none' row goes =
       rw (push c s) (record {
         basics = record {
           cycle = cycle ∙ p.basics.cycle;
-          shape = shape;
+          always = always;
           rows = rw (rows_append (earlier ++ c.steps) (s ∷ [])) (Each-append (SoundRow v (now + 1)) (rows_of (earlier ++ c.steps)) (rows_of (s ∷ [])) p.basics.rows row);
           entries = rw none tt;
           fetched = rw none' tt;
@@ -82,45 +83,45 @@ module _ (v : Values) (now : ℕ) (R : List Mark → Type 0) (kept : Kept v now 
     row_flushes : R (marks_in (earlier ++ c.steps) c.hardware) → R (marks ((earlier ++ c.steps) ++ Retired (row_at e written c.hardware.cycle) ∷ []) [] [])
     row_flushes r = squash_marks ((earlier ++ c.steps) ++ Retired (row_at e written c.hardware.cycle) ∷ []) [] es c.hardware.front.entries (row_goes r)
 
-  turn_goes : (c : Committing) (t : Turn Committing) → CommitTurn is_stale c t → Commits c → Leaves (λ d. HasShape v d.hardware) t →
+  turn_goes : (c : Committing) (t : Turn Committing) → CommitTurn is_stale c t → Commits c → Leaves (λ d. IsSoundFor v d.hardware) t →
       Leads Commits Commits t
-  turn_goes c _ (no_head none) p shape = p
-  turn_goes c _ (stale_head e es at is) p shape = p
-  turn_goes c _ (unfinished e es head plain none) p shape = p
-  turn_goes c _ (fence_waits e es head is busy) p shape = p
-  turn_goes c _ (fence_writes e es head is drained dirty) p shape = record {
+  turn_goes c _ (no_head none) p always = p
+  turn_goes c _ (stale_head e es at is) p always = p
+  turn_goes c _ (unfinished e es head plain none) p always = p
+  turn_goes c _ (fence_waits e es head is busy) p always = p
+  turn_goes c _ (fence_writes e es head is drained dirty) p always = record {
     basics = record {
       cycle = p.basics.cycle;
-      shape = shape;
+      always = always;
       rows = p.basics.rows;
       entries = p.basics.entries;
       fetched = p.basics.fetched;
     };
     marks = p.marks;
   }
-  turn_goes c _ (fence_retires e es written next head is drained) p shape =
+  turn_goes c _ (fence_retires e es written next head is drained) p always =
       let may = may_retire_serial e.instruction e.stage (ap is_serialising is) in
       flush c (executed e written next (written_back c)).hardware (Retired (row_at e written c.hardware.cycle)) p
-      shape refl refl refl (row_sound c e es written head.place may p, tt)
+      always refl refl refl (row_sound c e es written head.place may p, tt)
       (row_flushes c e es written head.place may p)
-  turn_goes c _ (executes e es written next head serial) p shape =
+  turn_goes c _ (executes e es written next head serial) p always =
       let may = may_retire_serial e.instruction e.stage serial in
       flush c (executed e written next c).hardware (Retired (row_at e written c.hardware.cycle)) p
-      shape refl refl refl (row_sound c e es written head.place may p, tt)
+      always refl refl refl (row_sound c e es written head.place may p, tt)
       (row_flushes c e es written head.place may p)
-  turn_goes c _ (serial_faults e es cause value head serial) p shape =
-      flush c (with_fault e cause value c).hardware (Trap e.pc cause value c.hardware.cycle) p shape refl refl refl tt (no_row c (Trap e.pc cause value c.hardware.cycle) refl)
-  turn_goes c _ (traps e es issue cycle message fault head plain at is) p shape =
-      flush c (with_fault e fault.cause fault.value c).hardware (Trap e.pc fault.cause fault.value c.hardware.cycle) p shape refl refl refl tt
+  turn_goes c _ (serial_faults e es cause value head serial) p always =
+      flush c (with_fault e cause value c).hardware (Trap e.pc cause value c.hardware.cycle) p always refl refl refl tt (no_row c (Trap e.pc cause value c.hardware.cycle) refl)
+  turn_goes c _ (traps e es issue cycle message fault head plain at is) p always =
+      flush c (with_fault e fault.cause fault.value c).hardware (Trap e.pc fault.cause fault.value c.hardware.cycle) p always refl refl refl tt
       (no_row c (Trap e.pc fault.cause fault.value c.hardware.cycle) refl)
-  turn_goes c _ (retires e es issue cycle message head plain at none) p shape =
+  turn_goes c _ (retires e es issue cycle message head plain at none) p always =
       let may = may_retire_finished e.instruction e.stage issue cycle message at none in
       let g : Hardware = (retired_with e message c).hardware in
       let here = head_retired_entries c.hardware.rob e es head.place in
       rw (push c (Retired (row_at e (written_of e message) c.hardware.cycle))) (record {
         basics = record {
           cycle = p.basics.cycle;
-          shape = shape;
+          always = always;
           rows = rw (rows_append (earlier ++ c.steps) (Retired (row_at e (written_of e message) c.hardware.cycle) ∷ []))
               (Each-append (SoundRow v (now + 1)) (rows_of (earlier ++ c.steps)) (row_at e (written_of e message) c.hardware.cycle ∷ []) p.basics.rows (row_sound c e es (written_of e message) head.place may p, tt));
           entries = subst (Each (SoundEntry v now now now)) (sym here) (subst (Each (SoundEntry v now now now)) head.place p.basics.entries).1;
@@ -129,22 +130,22 @@ module _ (v : Values) (now : ℕ) (R : List Mark → Type 0) (kept : Kept v now 
         marks = marks_from R (earlier ++ c.steps) ((earlier ++ c.steps) ++ Retired (row_at e (written_of e message) c.hardware.cycle) ∷ []) g c.hardware es c.hardware.front.entries here refl p.marks
             (row_goes c e es (written_of e message) head.place may p);
       })
-  turn_goes c _ (retires_last e es issue cycle message head plain at none) p shape =
+  turn_goes c _ (retires_last e es issue cycle message head plain at none) p always =
       let may = may_retire_finished e.instruction e.stage issue cycle message at none in
       let g : Hardware = (retired_and_flushed e message c).hardware in
-      flush c g (Retired (row_at e (written_of e message) c.hardware.cycle)) p shape refl refl refl (row_sound c e es (written_of e message) head.place may p, tt)
+      flush c g (Retired (row_at e (written_of e message) c.hardware.cycle)) p always refl refl refl (row_sound c e es (written_of e message) head.place may p, tt)
       (row_flushes c e es (written_of e message) head.place may p)
 
   -- each turn of the commit phase keeps it
   pub commit_turn_keeps : (c : Committing) (t : Turn Committing) → CommitTurn is_stale c t → Commits c → Leads Commits Commits t
-  commit_turn_keeps c t is p = turn_goes c t is p (commit_outcome-keeps (shape-kept v).phases.commit is_stale c t is p.basics.shape)
+  commit_turn_keeps c t is p = turn_goes c t is p (commit_outcome-keeps (always-kept v).phases.commit is_stale c t is p.basics.always)
 
   commit_by_due : (o : Option ℕ) (h : Hardware) → Goes v now now now now now (now + 1) R (earlier ++ []) h → Commits (commit_unless is_stale o h)
   commit_by_due (Some code) h p =
       let c : Committing = record { hardware = h; steps = []; stop = None } in
       let g : Hardware = (commit_unless is_stale (Some code) h).hardware in
       let s : Step = Interrupt h.pc (interrupt_cause code) h.cycle in
-      flush c g s p (unless-keeps (shape-kept v).phases.commit is_stale (Some code) h p.basics.shape) refl refl refl tt (no_row c s refl)
+      flush c g s p (unless-keeps (always-kept v).phases.commit is_stale (Some code) h p.basics.always) refl refl refl tt (no_row c s refl)
   commit_by_due None h p =
       kept_by_turns Commits (commit_turn is_stale) (λ c q. commit_turn_keeps c (commit_turn is_stale c) (commit_turn_is is_stale c) q) h.values.commit_width (record { hardware = h; steps = []; stop = None }) p
 
@@ -161,7 +162,7 @@ drain_keeps v now d a b f r R steps h p =
     record {
       basics = record {
         cycle = same.cycle ∙ p.basics.cycle;
-        shape = drain-keeps (shape-kept v).phases.drain h p.basics.shape;
+        always = drain-keeps (always-kept v).phases.drain h p.basics.always;
         rows = p.basics.rows;
         entries = rw (same.rob) (p.basics.entries);
         fetched = rw (same.front) (p.basics.fetched);
@@ -177,12 +178,12 @@ module _ (v : Values) (now bound : ℕ) (R : List Mark → Type 0) (kept : Kept 
 
   -- one instruction changes
   change : (g h : Hardware) (older younger : List Entry) (e x : Entry) → h.rob.entries ≡ older ++ e ∷ younger → g.rob.entries ≡ older ++ x ∷ younger → g.front.entries ≡ h.front.entries →
-      g.cycle ≡ h.cycle → HasShape v g → SoundEntry v now (now + 1) bound x →
+      g.cycle ≡ h.cycle → IsSoundFor v g → SoundEntry v now (now + 1) bound x →
       Advances v now (map mark_of_row (rows_of steps) ++ map mark_of_entry older) (mark_of_entry e) (mark_of_entry x) → Executes h → Executes g
-  change g h older younger e x at at' front cycle shape sound agree p = record {
+  change g h older younger e x at at' front cycle always sound agree p = record {
     basics = record {
       cycle = cycle ∙ p.basics.cycle;
-      shape = shape;
+      always = always;
       rows = p.basics.rows;
       entries = rw at' (Each-set (SoundEntry v now (now + 1) bound) older younger e x sound (subst (Each (SoundEntry v now (now + 1) bound)) at p.basics.entries));
       fetched = rw front (p.basics.fetched);
@@ -225,7 +226,7 @@ module _ (v : Values) (legal : IsLegal v) (now : ℕ) (R : List Mark → Type 0)
         start = start_of_issue (record { cycle = h.cycle; cost = cost }) message;
         becomes = λ i. record (mark_of_entry x) { broadcast = sym (ap broadcast_of_stage (is_waiting_is e.stage ready.waits)) i };
         now_is = p.basics.cycle;
-        positive = positive_cost v legal h p.basics.shape k (path h older e);
+        positive = positive_cost v legal h p.basics.always.sizes k (path h older e);
         not_yet = ap start_of_stage (is_waiting_is e.stage ready.waits);
         not_sent = ap broadcast_of_stage (is_waiting_is e.stage ready.waits);
         not_retired = refl;
@@ -249,9 +250,9 @@ module _ (v : Values) (legal : IsLegal v) (now : ℕ) (R : List Mark → Type 0)
       let sound : SoundEntry v now (now + 1) now e = entry_sound v now now R kept steps h older younger e at p in
       change v now now R kept steps (issued k h older e) h older younger e x at (started_entries k h older younger e at)
       (ap (λ r. r.entries) keep.front) keep.cycle
-      (starts-keep ((shape-kept v).phases.issue k) h older younger e p.basics.shape at is free)
+      (starts-keep ((always-kept v).phases.issue k) h older younger e p.basics.always at is free)
       (subst (λ n. SoundEntry v now (now + 1) now (started (record { cycle = n; cost = cost }) message e)) (sym p.basics.cycle)
-      (started_sound v now now k e cost message sound ready.of_kind (subst (λ n. SoundCost v e.instruction (start_of_issue (record { cycle = n; cost = cost }) message)) p.basics.cycle (issued_cost v h p.basics.shape older e k ready.of_kind))))
+      (started_sound v now now k e cost message sound ready.of_kind (subst (λ n. SoundCost v e.instruction (start_of_issue (record { cycle = n; cost = cost }) message)) p.basics.cycle (issued_cost v h p.basics.always.sizes older e k ready.of_kind))))
       (a_starts (start_is k h older younger e at is p)) p
 
   -- the turns of one kind keep it
@@ -275,13 +276,13 @@ module _ (v : Values) (now : ℕ) (R : List Mark → Type 0) (kept : Kept v now 
 
   -- what is younger is squashed
   squash : (r g : Hardware) (older younger : List Entry) (x y : Entry) → g.rob.entries ≡ older ++ x ∷ younger → r.rob.entries ≡ older ++ y ∷ [] → r.front.entries ≡ [] →
-      r.cycle ≡ g.cycle → HasShape v r → (SoundEntry v now (now + 1) (now + 1) x → SoundEntry v now (now + 1) (now + 1) y) → mark_of_entry x ≡ mark_of_entry y → Broadcasts g → Broadcasts r
-  squash r g older younger x y at at' none cycle shape sound same q =
+      r.cycle ≡ g.cycle → IsSoundFor v r → (SoundEntry v now (now + 1) (now + 1) x → SoundEntry v now (now + 1) (now + 1) y) → mark_of_entry x ≡ mark_of_entry y → Broadcasts g → Broadcasts r
+  squash r g older younger x y at at' none cycle always sound same q =
       let entries = subst (Each (SoundEntry v now (now + 1) (now + 1))) at q.basics.entries in
       record {
         basics = record {
           cycle = cycle ∙ q.basics.cycle;
-          shape = shape;
+          always = always;
           rows = q.basics.rows;
           entries = rw at' (Each-append (SoundEntry v now (now + 1) (now + 1)) older (y ∷ []) (Each-left (SoundEntry v now (now + 1) (now + 1)) older (x ∷ younger) entries) (sound (Each-place (SoundEntry v now (now + 1) (now + 1)) older younger x entries), tt));
           fetched = rw none tt;
@@ -315,7 +316,7 @@ module _ (v : Values) (now : ℕ) (R : List Mark → Type 0) (kept : Kept v now 
       let x : Entry = finished message h.cycle e in
       let sound : SoundEntry v now (now + 1) (now + 1) e = entry_sound v now (now + 1) R kept steps h older younger e sent.place p in
       change v now (now + 1) R kept steps g h older younger e x sent.place (sent_entries h older younger e message sent.place) refl refl
-      (sends-makes (shape-kept v).phases.broadcast h older younger e issue message sent p.basics.shape)
+      (sends-makes (always-kept v).phases.broadcast h older younger e issue message sent p.basics.always)
       (subst (λ n. SoundEntry v now (now + 1) (now + 1) (finished message n e)) (sym p.basics.cycle) (finished_sound v now e issue message sound sent.runs (omega (arith, sent.over, p.basics.cycle))))
       (a_is_sent (send_is h older younger e issue message sent p)) p
 
@@ -330,7 +331,7 @@ module _ (v : Values) (now : ℕ) (R : List Mark → Type 0) (kept : Kept v now 
       let x : Entry = finished message h.cycle e in
       let y : Entry = predicting message.next_pc x in
       squash r g older younger x y (sent_entries h older younger e message sent.place) (mended_entries h older younger e message sent.place) refl refl
-      (mends-makes (shape-kept v).phases.broadcast h older younger e issue message sent p.basics.shape)
+      (mends-makes (always-kept v).phases.broadcast h older younger e issue message sent p.basics.always)
       (λ sound. predicting_sound v now (now + 1) (now + 1) message.next_pc x sound) refl (send h older younger e issue message sent p)
 
   -- the broadcast phase keeps it
@@ -361,7 +362,7 @@ module _ (v : Values) (now : ℕ) (R : List Mark → Type 0) (kept : Kept v now 
       record {
         basics = record {
           cycle = p.basics.cycle;
-          shape = p.basics.shape;
+          always = (always-kept v).phases.dispatch.dispatches h f fs p.basics.always at nothing;
           rows = p.basics.rows;
           entries = Each-append (SoundEntry v (now + 1) (now + 1) (now + 1)) h.rob.entries (e ∷ []) p.basics.entries (dispatched_sound v now h f p.basics.cycle sound.0, tt);
           fetched = sound.1;
@@ -376,8 +377,8 @@ module _ (v : Values) (now : ℕ) (R : List Mark → Type 0) (kept : Kept v now 
               not_retired = refl;
               before = sound.0.0;
               in_order = rows_and_entries_are_dispatched (rows_of steps) h.rob.entries;
-              room = omega (arith, buffer, p.basics.shape.buffer, in_flight_room (rows_of steps) h.rob.entries);
-              stations = λ k is. omega (arith, full_stations h (kind_of_word f.instruction) k p.basics.shape nothing.stations is, stations_room v (now + 1) (now + 1) (now + 1) (now + 1) k (rows_of steps) h.rob.entries p.basics.rows p.basics.entries);
+              room = omega (arith, buffer, p.basics.always.sizes.buffer, in_flight_room (rows_of steps) h.rob.entries);
+              stations = λ k is. omega (arith, full_stations h (kind_of_word f.instruction) k p.basics.always.sizes nothing.stations is, stations_room v (now + 1) (now + 1) (now + 1) (now + 1) k (rows_of steps) h.rob.entries p.basics.rows p.basics.entries);
             }))));
       }
 
@@ -392,7 +393,7 @@ pub goes_later : (v : Values) (now d a b f r d' a' b' r' : ℕ) (R : List Mark �
 goes_later v now d a b f r d' a' b' r' R steps h le le' le'' le''' p = record {
   basics = record {
     cycle = p.basics.cycle;
-    shape = p.basics.shape;
+    always = p.basics.always;
     rows = Each-weaker (SoundRow v r) (SoundRow v r') (λ row w. record { stamps = w.stamps; cost = w.cost; below = omega (arith, w.below) }) (rows_of steps) p.basics.rows;
     entries = Each-weaker (SoundEntry v d a b) (SoundEntry v d' a' b') (λ e w. sound_later v d a b d' a' b' le le' le'' e w) h.rob.entries p.basics.entries;
     fetched = p.basics.fetched;

@@ -26,7 +26,59 @@ module _ (P : Hardware → Type 0) where
     pub phases : IsKeptByPhases
     pub fetch : IsKeptByFetch
 
--- the hardware after its commit, and after its dispatch
+-- what is kept and what is kept beside it are kept together
+pub kept-together : {P Q R : Hardware → Type 0} → ((h : Hardware) → P h → Q h → R h) → ((h : Hardware) → R h → P h) → ((h : Hardware) → R h → Q h) →
+    IsKept P → IsKept Q → IsKept R
+kept-together both one other p q = record {
+  phases = record {
+    lines = λ h levels r. both _ (p.phases.lines h levels (one h r)) (q.phases.lines h levels (other h r));
+    commit =
+        let a = p.phases.commit in
+        let b = q.phases.commit in
+        record {
+          empties = λ h s retired r. both _ (a.empties h s retired (one h r)) (b.empties h s retired (other h r));
+          retires = λ h e es s message r split known faultless.
+              both _ (a.retires h e es s message (one h r) split known faultless) (b.retires h e es s message (other h r) split known faultless);
+          writes_back = λ h r drained. both _ (a.writes_back h (one h r) drained) (b.writes_back h (other h r) drained);
+        };
+    drain = record {
+      leaves = λ h r idle. both _ (p.phases.drain.leaves h (one h r) idle) (q.phases.drain.leaves h (other h r) idle);
+      drains = λ h access r idle is. both _ (p.phases.drain.drains h access (one h r) idle is) (q.phases.drain.drains h access (other h r) idle is);
+    };
+    issue = λ k.
+        let a = p.phases.issue k in
+        let b = q.phases.issue k in
+        record {
+          accesses = λ h older younger e address r split ready by.
+              both _ (a.accesses h older younger e address (one h r) split ready by) (b.accesses h older younger e address (other h r) split ready by);
+          starts = λ h older younger e cost message r split waits of_kind result costs.
+              both _ (a.starts h older younger e cost message (one h r) split waits of_kind result costs)
+              (b.starts h older younger e cost message (other h r) split waits of_kind result costs);
+        };
+    broadcast =
+        let a = p.phases.broadcast in
+        let b = q.phases.broadcast in
+        record {
+          broadcasts = λ h older younger e message r split gives.
+              both _ (a.broadcasts h older younger e message (one h r) split gives) (b.broadcasts h older younger e message (other h r) split gives);
+          mends = λ h older younger e next r split.
+              both _ (a.mends h older younger e next (one h r) split) (b.mends h older younger e next (other h r) split);
+        };
+    dispatch = record {
+      dispatches = λ h fetched rest r first none.
+          both _ (p.phases.dispatch.dispatches h fetched rest (one h r) first none) (q.phases.dispatch.dispatches h fetched rest (other h r) first none);
+    };
+  };
+  fetch = record {
+    fetches = λ ram cycle h front stop r fetches.
+        both _ (p.fetch.fetches ram cycle h front stop (one h r) fetches) (q.fetch.fetches ram cycle h front stop (other h r) fetches);
+  };
+}
+
+-- two properties that are kept are kept together
+pub both-kept : {P Q : Hardware → Type 0} → IsKept P → IsKept Q → IsKept (λ h. P h × Q h)
+both-kept p q = kept-together (λ h one other. (one, other)) (λ h both. both.0) (λ h both. both.1) p q
+
 module _ {P : Hardware → Type 0} (kept : IsKeptByPhases P) where
   -- so the phases from drain to dispatch keep it
   pub execute-keeps : (h : Hardware) → P h → P (execute h).hardware

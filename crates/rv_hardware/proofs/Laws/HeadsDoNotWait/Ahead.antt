@@ -2,10 +2,10 @@
 use Rattle.rv_hardware.proofs.Words.{Store as QueuedStore, ◌≡◌, ℕ, ◌+◌, ◌-◌, ◌<◌, ◌≤◌, Bool, true, false, ◌&&◌, ◌⊎◌, List, [], ◌∷◌, ◌++◌, length, is_some, ◌==◌, Some, None, filter, Option, nat_cmp, sym, refl, ap, ◌∙◌, subst, inl, inr, true≢false, append_assoc, append-nil, arith, length-append, leb-true, list_any, IsLegal, is_serialising, is_store, kind_of_word, at_kind, Lines, Kind, Values, due, Each, with_oldest_draining, without_drained, Entry, FetchBuffer, Fetched, broadcast, Committing, commit_turn, commit_unless, IsCycle, any_prediction, execute, with_lines, Dispatching, dispatch, has_full_stations, is_stationed, drain, Hardware, issue, Turn, Report, stores_behind, last_from, stamp_of, Step, and_first, and_second, count, EveryBehind-at, Leads, kept_by_turns}
 use Rattle.std.specs.FinSet as set
 use Rattle.rv_hardware.proofs.Turns.KeptByBroadcast.{IsKeptByBroadcast, broadcast-keeps}
-use Rattle.rv_hardware.proofs.Turns.KeptByCycle.{cycle-keeps, phases-keep}
+use Rattle.rv_hardware.proofs.Turns.KeptByCycle.{phases-keep}
 use Rattle.rv_hardware.proofs.Turns.KeptByDispatch.{IsKeptByDispatch, dispatch-keeps}
 use Rattle.rv_hardware.proofs.Turns.KeptByDrain.{IsKeptByDrain, drain-keeps}
-use Rattle.rv_hardware.proofs.Always.Halted.{HaltsBehind, IsHalted, words_of, halted-kept, halted-at_reset}
+use Rattle.rv_hardware.proofs.Always.Halted.{HaltsBehind, IsHalted, words_of, halted-kept}
 use Rattle.rv_hardware.proofs.Turns.KeptByIssue.{IsKeptByIssue, issue-keeps}
 use Rattle.rv_hardware.proofs.Turns.Commit.{CommitTurn, no_head, stale_head, unfinished, fence_waits, fence_writes, fence_retires, executes, serial_faults, traps, retires, retires_last, commit_turn_is}
 use Rattle.rv_hardware.proofs.Marks.History.{Anything, anything_is_kept, Passed, History, began, went_on, begin, committing, dispatching, sent_all, cycle_passes, history_is_legal, history_is_sound}
@@ -81,10 +81,6 @@ module _ (v : Values) (legal : IsLegal v) where
     next_fetched [] (f ∷ fs) at behind stores next = (next.0, λ plain. absurd (true≢false (sym (stores f fs refl refl) ∙ plain)))
     next_fetched [] [] at behind stores next = next_added added new (λ none. fetches_one front.halted refl behind (ap (λ (l : List Fetched). length l) at) none) next
 
-history_is_halted : (v : Values) {steps : List Step} {h : Hardware} → History v steps h → IsHalted h
-history_is_halted v (began image start legal) = halted-at_reset v image start
-history_is_halted v (went_on before is) = cycle-keeps halted-kept is (history_is_halted v before)
-
 both_empty : (xs ys : List Step) → xs ++ ys ≡ [] → (xs ≡ []) × (ys ≡ [])
 both_empty [] ys none = (refl, none)
 both_empty (x ∷ xs) ys none = absurd (cc)
@@ -154,8 +150,8 @@ module _ (v : Values) {earlier : List Step} {old new : Hardware} {lines : Lines}
       let begins = history_is_sound v before in
       let first = begin v (history_is_legal v before) Anything earlier lines old new report (anything_is_kept v old.cycle) begins tt in
       let legal = history_is_legal v before in
-      commit_leads_by v old.cycle earlier v.commit_width (omega (arith, legal.pipeline.commit_width)) (due g.csrs g.lines) g (ap (λ (w : Values). w.commit_width) begins.shape.values) first
-      (rw (append-nil earlier) (past.follow)) (rw (append-nil earlier) (past.next)) (history_is_halted v before).0.0
+      commit_leads_by v old.cycle earlier v.commit_width (omega (arith, legal.pipeline.commit_width)) (due g.csrs g.lines) g (ap (λ (w : Values). w.commit_width) begins.always.sizes.values) first
+      (rw (append-nil earlier) (past.follow)) (rw (append-nil earlier) (past.next))
 
   here : earlier ++ report.steps ≡ earlier ++ (committing lines old).steps
   here = ap (λ l. earlier ++ l) passed.steps
@@ -170,7 +166,7 @@ module _ (v : Values) {earlier : List Step} {old new : Hardware} {lines : Lines}
   dispatched = next_executed old.cycle (last_stamp (earlier ++ report.steps)) (has_step (earlier ++ report.steps)) (committing lines old).hardware (passed.committed.basics.cycle, subst (λ l. Next (old.cycle + 1) old.cycle (last_stamp l) (has_step l) (committing lines old).hardware.stale (committing lines old).hardware.rob.entries (committing lines old).hardware.front.entries) (sym here) committed.next)
 
   d_halted : IsHalted (dispatching lines old).hardware
-  d_halted = subst (λ (x : Dispatching). IsHalted x.hardware) d_is (phases-keep halted-kept.phases is (history_is_halted v before))
+  d_halted = subst (λ (x : Dispatching). IsHalted x.hardware) d_is (phases-keep halted-kept.phases is ((history_is_sound v before).always.halted))
 
   -- no store has retired where there is no step
   c_unused : earlier ++ report.steps ≡ [] → (committing lines old).hardware.committed ≡ []
@@ -185,9 +181,9 @@ module _ (v : Values) {earlier : List Step} {old new : Hardware} {lines : Lines}
   fetched =
       let h : Hardware = (dispatching lines old).hardware in
       let b = passed.dispatches.basics in
-      next_fetched v (history_is_legal v before) old.cycle (last_stamp (earlier ++ report.steps)) (has_step (earlier ++ report.steps)) h.stale h.front passed.fetches.added passed.fetches.are_new b.shape.width b.shape.room passed.fetches.goes_on
+      next_fetched v (history_is_legal v before) old.cycle (last_stamp (earlier ++ report.steps)) (has_step (earlier ++ report.steps)) h.stale h.front passed.fetches.added passed.fetches.are_new b.always.sizes.width b.always.sizes.room passed.fetches.goes_on
       h.rob.entries h.front.entries refl d_halted.1
-      (λ f gs none first. only_store_left v (history_is_legal v before) (has_step (earlier ++ report.steps)) (sent_all lines old) old.cycle (dispatching lines old) refl passed.sends.basics.shape.values passed.sends.basics.cycle b.shape (λ none_yet. d_unused (no_step (earlier ++ report.steps) none_yet)) f gs none first)
+      (λ f gs none first. only_store_left v (history_is_legal v before) (has_step (earlier ++ report.steps)) (sent_all lines old) old.cycle (dispatching lines old) refl passed.sends.basics.always.sizes.values passed.sends.basics.cycle b.always.sizes (λ none_yet. d_unused (no_step (earlier ++ report.steps) none_yet)) f gs none first)
       dispatched.1
 
   next_goes_on : NextPast (earlier ++ report.steps) new

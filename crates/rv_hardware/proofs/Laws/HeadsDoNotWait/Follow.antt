@@ -3,7 +3,7 @@ use Rattle.rv_hardware.proofs.Words.{◌≡◌, ℕ, suc, ◌+◌, ◌<◌, ◌�
 use Rattle.std.specs.FinSet as set
 use Rattle.rv_isa.specs.declared.instructions.Instr.TheVariants.{Store}
 use Rattle.rv_arch.specs.declared.outcome.Stop.TheVariants as stop
-use Rattle.rv_hardware.proofs.Turns.Commit.{CommitTurn, Head, no_head, stale_head, unfinished, fence_waits, fence_writes, fence_retires, executes, serial_faults, traps, retires, retires_last, executed, written_back, retired_with, retired_and_flushed, commit_turn_is, head_retired_entries}
+use Rattle.rv_hardware.proofs.Turns.Commit.{CommitTurn, Head, no_head, stale_head, unfinished, fence_waits, fence_writes, fence_retires, executes, serial_faults, traps, retires, retires_last, executed, written_back, retired_with, retired_and_flushed, commit_turn_is}
 use Rattle.rv_hardware.proofs.Marks.History.{Anything, anything_is_kept}
 use Rattle.rv_hardware.proofs.Marks.Evidence.{last_from-append}
 use Rattle.rv_hardware.proofs.Always.Faults.{IsUnitFault}
@@ -214,7 +214,6 @@ module _ (v : Values) (now : ℕ) (earlier : List Step) where
     follow : AllFollow (earlier ++ c.steps)
     next : NextIn now c
     later : 0 < k → NextIn (now + 1) c
-    found : Each Shaped c.hardware.rob.entries
 
   regroup : (c : Committing) (x : Step) → earlier ++ (c.steps ++ x ∷ []) ≡ (earlier ++ c.steps) ++ x ∷ []
   regroup c x = sym (append_assoc earlier c.steps (x ∷ []))
@@ -256,7 +255,7 @@ module _ (v : Values) (now : ℕ) (earlier : List Step) where
     head_next = subst (λ l. Next now now (last_stamp (earlier ++ c.steps)) (has_step (earlier ++ c.steps)) c.hardware.stale l c.hardware.front.entries) head.place p.next
 
     head_found : Shaped e
-    head_found = (subst (Each Shaped) head.place p.found).0
+    head_found = (subst (Each Shaped) head.place q.basics.always.stores.0.0).0
 
     retired_follows : (written : Option (ℕ × ℕ)) → MayRetire e.instruction e.stage → Follows (last_stamp (earlier ++ c.steps)) (has_step (earlier ++ c.steps)) (Retired (row_at e written c.hardware.cycle))
     retired_follows written may =
@@ -302,7 +301,6 @@ module _ (v : Values) (now : ℕ) (earlier : List Step) where
         follow = more_follow c x p.follow (retired_follows k c e es head q p (written_of e message) (may_retire_finished e.instruction e.stage issue cycle message at none));
         next = here now (omega arith);
         later = λ some. here (now + 1) (omega arith);
-        found = subst (Each Shaped) (sym (head_retired_entries c.hardware.rob e es head.place)) (subst (Each Shaped) head.place p.found).1;
       }
   turn_leads total k c _ turn (retires_last e es issue cycle message head plain at none) q p goes =
       flushing c (Retired (row_at e (written_of e message) c.hardware.cycle)) (retired_and_flushed e message c).hardware c.stop q.basics.cycle p.follow
@@ -310,13 +308,13 @@ module _ (v : Values) (now : ℕ) (earlier : List Step) where
 
   -- the commit phase takes steps that follow one another, and leaves the next instruction with its reason to wait
   pub commit_leads_by : (total : ℕ) → 1 ≤ total → (o : Option ℕ) (h : Hardware) → h.values.commit_width ≡ total → Goes v now now now now now (now + 1) Anything (earlier ++ []) h → AllFollow (earlier ++ []) →
-      Next now now (last_stamp (earlier ++ [])) (has_step (earlier ++ [])) h.stale h.rob.entries h.front.entries → Each Shaped h.rob.entries → Committed (commit_unless set.contains o h)
-  commit_leads_by total le (Some code) h width goes follow next found =
+      Next now now (last_stamp (earlier ++ [])) (has_step (earlier ++ [])) h.stale h.rob.entries h.front.entries → Committed (commit_unless set.contains o h)
+  commit_leads_by total le (Some code) h width goes follow next =
       let c : Committing = record { hardware = h; steps = []; stop = None } in
       flushing c (Interrupt h.pc (interrupt_cause code) h.cycle) (commit_unless set.contains (Some code) h).hardware None goes.basics.cycle follow (record { waits = tt; ahead = tt; soon = tt }) refl refl
-  commit_leads_by total le None h width goes follow next found =
+  commit_leads_by total le None h width goes follow next =
       let first : Committing = record { hardware = h; steps = []; stop = None } in
       turns_within total (λ k c. InCommit c × Going k c) Committed (commit_turn set.contains)
       (λ k c lt p. let goes_on = commit_turn_keeps v now Anything (anything_is_kept v now) earlier set.contains c (commit_turn set.contains c) (commit_turn_is set.contains c) p.0 in
       leads_both InCommit (Going (suc k)) Committed (commit_turn set.contains c) goes_on (turn_leads total k c (commit_turn set.contains c) refl (commit_turn_is set.contains c) p.0 p.1 goes_on))
-      (λ c p. record { follow = p.1.follow; next = p.1.later le }) h.values.commit_width 0 first (omega (arith, width)) (goes, record { follow = follow; next = next; later = λ some. absurd (omega (arith, some)); found = found })
+      (λ c p. record { follow = p.1.follow; next = p.1.later le }) h.values.commit_width 0 first (omega (arith, width)) (goes, record { follow = follow; next = next; later = λ some. absurd (omega (arith, some)) })

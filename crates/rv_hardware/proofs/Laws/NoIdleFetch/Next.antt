@@ -5,10 +5,10 @@ use Rattle.rv_hardware.proofs.Turns.KeptByBroadcast.{IsKeptByBroadcast, broadcas
 use Rattle.rv_hardware.proofs.Turns.KeptByDispatch.{IsKeptByDispatch, dispatch-keeps}
 use Rattle.rv_hardware.proofs.Turns.KeptByDrain.{IsKeptByDrain, drain-keeps}
 use Rattle.rv_hardware.proofs.Turns.KeptByIssue.{IsKeptByIssue, issue-keeps}
-use Rattle.rv_hardware.proofs.Always.Halted.{IsHalted, HaltsBehind, words_of, halted-kept, halted-at_reset, runs-empty}
+use Rattle.rv_hardware.proofs.Always.Halted.{HaltsBehind, words_of, runs-empty}
 use Rattle.rv_hardware.proofs.Turns.Commit.{CommitTurn, no_head, stale_head, unfinished, fence_waits, fence_writes, fence_retires, executes, serial_faults, traps, retires, retires_last, executed, written_back, retired_with, retired_and_flushed, head_retired_entries}
 use Rattle.rv_hardware.proofs.Marks.History.{Anything, anything_is_kept, Passed, History, began, went_on, begin, committing, dispatching, cycle_passes, history_is_legal, history_is_sound}
-use Rattle.rv_hardware.proofs.Marks.Keeps.{history_keeps, InCommit, commit_turns_keep}
+use Rattle.rv_hardware.proofs.Marks.Keeps.{InCommit, commit_turns_keep}
 use Rattle.rv_hardware.proofs.Laws.NoIdleFetch.Links.{LastIs, last_at, last_of}
 use Rattle.rv_hardware.proofs.Laws.NoIdleFetch.Rows.{stays_halted}
 use Rattle.rv_hardware.proofs.Turns.Fetched.{IsNew}
@@ -174,17 +174,17 @@ module _ (v : Values) {earlier : List Step} {old new : Hardware} {lines : Lines}
 
       runs : new.front.halted ≡ false
       runs =
-          let here = (history_keeps v IsHalted halted-kept (λ image start. halted-at_reset v image start) (went_on before is)).1 in
+          let here = (history_is_sound v (went_on before is)).always.halted.1 in
           let entries = ap (λ (h : Hardware). h.rob.entries) passed.others_stay ∙ none in
           runs-empty new.front.halted (subst (HaltsBehind new.front.halted) (ap (λ es. words_of es new.front.entries) entries ∙ ap (words_of []) (passed.fetches.entries ∙ none')) here)
 
       by_reason : (d.front.halted ≡ true) ⊎ ((d.front.width ≡ 0) ⊎ (d.front.capacity - length d.front.entries ≡ 0)) → ⊥
       by_reason (inl halted) = true≢false (sym halted ∙ ap (λ (r : FetchBuffer). r.halted) (sym (stays_halted is halted)) ∙ runs)
-      by_reason (inr (inl narrow)) = let legal = (history_is_legal v before).pipeline.fetch_width in omega (arith, narrow, passed.dispatches.basics.shape.width, legal)
+      by_reason (inr (inl narrow)) = let legal = (history_is_legal v before).pipeline.fetch_width in omega (arith, narrow, passed.dispatches.basics.always.sizes.width, legal)
       by_reason (inr (inr full)) =
           let legal = (history_is_legal v before).pipeline.fetch_buffer in
           let empty = sym (length-append d.front.entries passed.fetches.added) ∙ ap length none' in
-          omega (arith, full, empty, passed.dispatches.basics.shape.room, legal)
+          omega (arith, full, empty, passed.dispatches.basics.always.sizes.room, legal)
 
   next_in_cycle : AreFetchedNext old.cycle earlier old → AreFetchedNext new.cycle (earlier ++ report.steps) new
   next_in_cycle p =

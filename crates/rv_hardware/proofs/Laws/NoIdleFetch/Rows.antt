@@ -59,7 +59,7 @@ module _ (v : Values) {earlier : List Step} {old new : Hardware} {lines : Lines}
       let commits = commit_goes_by n b earlier set.contains (due g.csrs g.lines) g begins in
       let c = (committing lines old).hardware in
       let issues = drain_and_issue n b v old.cycle all c (rw (passed.steps) commits) in
-      broadcast_and_dispatch n b v old.cycle all (issued_all lines old) passed.issues.basics.cycle passed.issues.basics.shape.values issues
+      broadcast_and_dispatch n b v old.cycle all (issued_all lines old) passed.issues.basics.cycle passed.issues.basics.always.sizes.values issues
 
   fetches_none : {P : Type 0} (f : Fetched) (fs : List Fetched) → passed.fetches.added ≡ f ∷ fs → d.front.halted ≡ true → P
   fetches_none f fs at halted =
@@ -88,8 +88,8 @@ module _ (v : Values) {earlier : List Step} {old new : Hardware} {lines : Lines}
     where
       by_reason : (d.front.halted ≡ true) ⊎ ((d.front.width ≡ 0) ⊎ (d.front.capacity - length d.front.entries ≡ 0)) → ⊥
       by_reason (inl halted) = true≢false (sym halted ∙ runs)
-      by_reason (inr (inl narrow)) = let legal = (history_is_legal v before).pipeline.fetch_width in omega (arith, narrow, passed.dispatches.basics.shape.width, legal)
-      by_reason (inr (inr full)) = let legal = (history_is_legal v before).pipeline.fetch_buffer in let empty = ap length none in omega (arith, full, empty, passed.dispatches.basics.shape.room, legal)
+      by_reason (inr (inl narrow)) = let legal = (history_is_legal v before).pipeline.fetch_width in omega (arith, narrow, passed.dispatches.basics.always.sizes.width, legal)
+      by_reason (inr (inr full)) = let legal = (history_is_legal v before).pipeline.fetch_buffer in let empty = ap length none in omega (arith, full, empty, passed.dispatches.basics.always.sizes.room, legal)
   behind_squash last none runs (f ∷ fs) at =
       let was = passed.dispatches.marks in
       let cut = linked_cut v old.cycle (IsOpen v old.front.halted old.cycle) (Squashes v old.cycle) (λ c. 0) (marks_in all d) was.0 last was.1 in
@@ -120,7 +120,7 @@ module _ (v : Values) {earlier : List Step} {old new : Hardware} {lines : Lines}
         let counts = count-as_of is_buffered_mark old.cycle (marks_in all d) in
         let settled = ap (count is_buffered_mark) (as_of_now old.cycle (marks_in all d) (marks_settled v old.cycle all d.rob.entries d.front.entries b.rows b.entries words)) in
         let many = buffered_words all d.rob.entries d.front.entries in
-        omega (arith, full, b.shape.room, held, counts, settled, many)
+        omega (arith, full, b.always.sizes.room, held, counts, settled, many)
 
     stays_open : v.fetch_buffer ≤ held_behind (λ c. 0) (marks_in all d) old.cycle → (h : ℕ → ℕ) (x : Mark) → with_word h x old.cycle ≡ held_behind (λ c. 0) (marks_in all d) old.cycle → IsOpen v old.front.halted old.cycle h x →
         IsOpen v new.front.halted (old.cycle + 1) h x
@@ -143,7 +143,7 @@ module _ (v : Values) {earlier : List Step} {old new : Hardware} {lines : Lines}
         by_reason (inl halted) =
             linked_stays v old.cycle (IsOpen v old.front.halted old.cycle) (IsOpen v new.front.halted (old.cycle + 1)) (λ c. 0) (marks_in all d)
             (λ h x same was. inl (ap (λ (r : FetchBuffer). r.halted) (stays_halted is halted) ∙ halted)) still
-        by_reason (inr (inl narrow)) = absurd (let legal = (history_is_legal v before).pipeline.fetch_width in omega (arith, narrow, passed.dispatches.basics.shape.width, legal))
+        by_reason (inr (inl narrow)) = absurd (let legal = (history_is_legal v before).pipeline.fetch_width in omega (arith, narrow, passed.dispatches.basics.always.sizes.width, legal))
         by_reason (inr (inr full)) =
             linked_stays v old.cycle (IsOpen v old.front.halted old.cycle) (IsOpen v new.front.halted (old.cycle + 1)) (λ c. 0) (marks_in all d) (stays_open (full_now full)) still
     goes_on (f ∷ fs) at =

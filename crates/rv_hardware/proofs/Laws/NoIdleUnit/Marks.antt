@@ -1,11 +1,13 @@
 -- Marks that go on keep it that no pipelined unit is idle while an instruction that is no load has its operands.
-use Rattle.rv_hardware.proofs.Words.{◌≡◌, ℕ, ◌<◌, ◌≤◌, Bool, true, false, cond, not, ◌&&◌, ◌||◌, List, [], ◌∷◌, ◌++◌, map, is_some, IfSome, Some, None, Option, sym, refl, ap, ◌∙◌, subst, true≢false, append_assoc, arith, and_from, is_load, is_of_kind, is_serialising, is_target, kind_of_word, sources_of_word, target_of_word, Instr, Kind, Values, Each, Entry, Stage, Finished, Running, Waiting, Fetched, Hardware, broadcast_of, is_known_from, is_waiting, writes, has_operands, is_ready, may_load, last_from, last_that, Execution, Row, never_both, Each-append, Each-right, Each-set, Each-place, EveryBehind, count, count-set-grows, EveryBehind-left, EveryBehind-set}
+use Rattle.rv_hardware.proofs.Words.{◌≡◌, ℕ, ◌<◌, ◌≤◌, Bool, true, false, cond, not, ◌&&◌, ◌||◌, List, [], ◌∷◌, ◌++◌, map, is_some, IfSome, Some, None, Option, sym, refl, ap, ◌∙◌, subst, true≢false, append_assoc, arith, and_from, is_load, is_of_kind, is_serialising, is_target, kind_of_word, sources_of_word, target_of_word, Instr, Kind, Values, Each, Entry, Stage, Finished, Running, Waiting, Fetched, Hardware, broadcast_of, is_known_from, is_waiting, writes, has_operands, is_ready, may_load, last_from, last_that, Execution, Row, never_both, Each-append, EveryBehind, count, count-set-grows, EveryBehind-left, EveryBehind-set}
 use Rattle.rv_hardware.specs.InFlight.{is_known}
 use Rattle.rv_hardware.proofs.Marks.Advance.{IsBefore, writes_mark, IsKnownMark, OperandsKnown, Advances, retires, starts, is_sent, enters, Kept}
 use Rattle.rv_hardware.proofs.Marks.Evidence.{last_from-append}
 use Rattle.rv_hardware.proofs.Marks.List.{Mark, mark_of_row, mark_of_entry, mark_of_fetched, broadcast_of_stage, marks_append, start_of_execution, start_of_stage}
 use Rattle.rv_hardware.proofs.Marks.Pairs.{writer_serialises}
 use Rattle.rv_hardware.proofs.Marks.Row.{SoundRow}
+use Rattle.rv_hardware.proofs.Always.Serial.{AreSerialLast, older_plain}
+use Rattle.rv_hardware.proofs.Always.Stores.{instructions_of}
 use Rattle.rv_hardware.proofs.Marks.Sound.{SoundEntry, SoundStage, is_of_kind_is}
 use Rattle.rv_hardware.proofs.Laws.OtherUnits.Rows.{starts_at, begins_mark}
 
@@ -16,7 +18,6 @@ pub record MayStart (k : Kind) (c : ℕ) (before : List Mark) (m : Mark) : Type 
   pub dispatched : IsBefore c m.dispatched
   pub not_yet : m.start ≡ None
   pub operands : OperandsKnown c before (sources_of_word m.instruction)
-  pub serial : Each (λ x. is_serialising x.instruction ≡ true → IsBefore c x.retired) before
 
 -- where one does not, so many that are older did
 abbrev pub BusyUnits : Kind → ℕ → ℕ → List Mark → Mark → Type 0
@@ -51,24 +52,21 @@ module _ (c : ℕ) (m n : Mark) (instruction : n.instruction ≡ m.instruction) 
   operands_back xs mid (None ∷ sources) h = (tt, operands_back xs mid sources h.1)
   operands_back xs mid (Some register ∷ sources) h = (last_back register xs mid h.0, operands_back xs mid sources h.1)
 
-  module _ (serial : (is_serialising n.instruction ≡ true → IsBefore c n.retired) → is_serialising m.instruction ≡ true → IsBefore c m.retired) where
-    -- what could start after a mark that went on could start after it before that
-    pub may_back : (k : Kind) (xs mid : List Mark) (z : Mark) → MayStart k c (xs ++ n ∷ mid) z → MayStart k c (xs ++ m ∷ mid) z
-    may_back k xs mid z may = record {
-      kind = may.kind;
-      plain = may.plain;
-      dispatched = may.dispatched;
-      not_yet = may.not_yet;
-      operands = operands_back xs mid (sources_of_word z.instruction) may.operands;
-      serial = Each-set (λ x. is_serialising x.instruction ≡ true → IsBefore c x.retired) xs mid n m (serial (Each-place (λ x. is_serialising x.instruction ≡ true → IsBefore c x.retired) xs mid n may.serial)) may.serial;
-    }
+  -- what could start after a mark that went on could start after it before that
+  pub may_back : (k : Kind) (xs mid : List Mark) (z : Mark) → MayStart k c (xs ++ n ∷ mid) z → MayStart k c (xs ++ m ∷ mid) z
+  may_back k xs mid z may = record {
+    kind = may.kind;
+    plain = may.plain;
+    dispatched = may.dispatched;
+    not_yet = may.not_yet;
+    operands = operands_back xs mid (sources_of_word z.instruction) may.operands;
+  }
 
 -- each way of going on
 
 record Back (now : ℕ) (m n : Mark) : Type 0 where
   instruction : n.instruction ≡ m.instruction
   known : IsKnownMark now n → IsKnownMark now m
-  serial : (is_serialising n.instruction ≡ true → IsBefore now n.retired) → is_serialising m.instruction ≡ true → IsBefore now m.retired
 
 not_now : {P : Type 0} (now : ℕ) (o : Option ℕ) → o ≡ Some now → IsBefore now o → P
 not_now now o at h = absurd (too_early (subst (IsBefore now) at h))
@@ -79,29 +77,22 @@ not_now now o at h = absurd (too_early (subst (IsBefore now) at h))
 same_known : (now : ℕ) (m n : Mark) → n.instruction ≡ m.instruction → n.broadcast ≡ m.broadcast → IsKnownMark now n → IsKnownMark now m
 same_known now m n instruction broadcast h some = subst (IsBefore now) broadcast (h (subst (λ i. is_some (kind_of_word i) ≡ true) (sym instruction) some))
 
-same_serial : (now : ℕ) (m n : Mark) → n.instruction ≡ m.instruction → n.retired ≡ m.retired → (is_serialising n.instruction ≡ true → IsBefore now n.retired) → is_serialising m.instruction ≡ true → IsBefore now m.retired
-same_serial now m n instruction retired h is = subst (IsBefore now) retired (h (subst (λ i. is_serialising i ≡ true) (sym instruction) is))
-
 goes_back : (v : Values) (now : ℕ) (xs : List Mark) (m n : Mark) → Advances v now xs m n → Back now m n
 goes_back v now xs m n (retires a) = record {
   instruction = ap (λ x. x.instruction) a.becomes;
   known = same_known now m n (ap (λ x. x.instruction) a.becomes) (ap (λ x. x.broadcast) a.becomes);
-  serial = λ h is. not_now now n.retired (ap (λ x. x.retired) a.becomes) (h (subst (λ i. is_serialising i ≡ true) (sym (ap (λ x. x.instruction) a.becomes)) is));
 }
 goes_back v now xs m n (starts a) = record {
   instruction = ap (λ x. x.instruction) a.becomes;
   known = same_known now m n (ap (λ x. x.instruction) a.becomes) (ap (λ x. x.broadcast) a.becomes);
-  serial = same_serial now m n (ap (λ x. x.instruction) a.becomes) (ap (λ x. x.retired) a.becomes);
 }
 goes_back v now xs m n (is_sent a) = record {
   instruction = ap (λ x. x.instruction) a.becomes;
   known = λ h some. not_now now n.broadcast (ap (λ x. x.broadcast) a.becomes) (h (subst (λ i. is_some (kind_of_word i) ≡ true) (sym (ap (λ x. x.instruction) a.becomes)) some));
-  serial = same_serial now m n (ap (λ x. x.instruction) a.becomes) (ap (λ x. x.retired) a.becomes);
 }
 goes_back v now xs m n (enters a) = record {
   instruction = ap (λ x. x.instruction) a.becomes;
   known = same_known now m n (ap (λ x. x.instruction) a.becomes) (ap (λ x. x.broadcast) a.becomes);
-  serial = same_serial now m n (ap (λ x. x.instruction) a.becomes) (ap (λ x. x.retired) a.becomes);
 }
 
 -- the mark itself, once it went on
@@ -116,7 +107,6 @@ itself k j v now xs m n (retires a) h may = h (record {
   dispatched = subst (IsBefore now) (ap (λ x. x.dispatched) a.becomes) may.dispatched;
   not_yet = sym (ap (λ x. x.start) a.becomes) ∙ may.not_yet;
   operands = subst (λ i. OperandsKnown now xs (sources_of_word i)) (ap (λ x. x.instruction) a.becomes) may.operands;
-  serial = may.serial;
 })
 itself k j v now xs m n (starts a) h may = some_not_none n.start a.start (ap (λ x. x.start) a.becomes) may.not_yet
 itself k j v now xs m n (is_sent a) h may = some_not_none n.start a.start (ap (λ x. x.start) a.becomes ∙ a.started) may.not_yet
@@ -136,7 +126,7 @@ busy_units_are_kept k j v now = record {
       (λ mid z busy may.
       let back = goes_back v now xs m n a in
       let grown = count-set-grows (begins_mark k now) xs mid m n (still_begins k v now xs m n a) in
-      let before = busy (may_back now m n back.instruction back.known back.serial k xs mid z may) in
+      let before = busy (may_back now m n back.instruction back.known k xs mid z may) in
       omega (arith, grown, before)) h;
 }
 
@@ -185,26 +175,17 @@ module _ (v : Values) (k : Kind) (now : ℕ) where
       (rw (last_from-append None (writes_mark register) (map mark_of_row rows) (map mark_of_entry older)) at h.0))
       (operands_by d i j rows older sources sound plain h.1)
 
-  plain_by : (b : Bool) → (b ≡ true → ⊥) → b ≡ false
-  plain_by true h = absurd (h refl)
-  plain_by false h = refl
-
-  plain_entries : (es : List Entry) → Each (λ x. is_serialising x.instruction ≡ true → IsBefore now x.retired) (map mark_of_entry es) → Each (λ e. is_serialising e.instruction ≡ false) es
-  plain_entries [] h = tt
-  plain_entries (e ∷ es) h = (plain_by (is_serialising e.instruction) (λ is. h.0 is), plain_entries es h.1)
-
   loads_by : (b c : Bool) → b ≡ false → (not b || c) ≡ true
   loads_by true c is = absurd (cc)
   loads_by false c is = refl
 
-  pub may_is_ready : (d i j : ℕ) (rows : List Row) (h : Hardware) (older : List Entry) (e : Entry) → Each (SoundEntry v d i j) older → SoundEntry v d i j e → MayStart k now (map mark_of_row rows ++ map mark_of_entry older) (mark_of_entry e) →
-      is_ready h k older e ≡ true
-  may_is_ready d i j rows h older e sounds sound may =
-      let plain = plain_entries older (Each-right (λ x. is_serialising x.instruction ≡ true → IsBefore now x.retired) (map mark_of_row rows) (map mark_of_entry older) may.serial) in
+  pub may_is_ready : (d i j : ℕ) (rows : List Row) (h : Hardware) (older : List Entry) (e : Entry) → Each (SoundEntry v d i j) older → Each (λ x. is_serialising x.instruction ≡ false) older → SoundEntry v d i j e →
+      MayStart k now (map mark_of_row rows ++ map mark_of_entry older) (mark_of_entry e) → is_ready h k older e ≡ true
+  may_is_ready d i j rows h older e sounds serial sound may =
       and_from (is_waiting e.stage && is_of_kind k (kind_of_word e.instruction) && has_operands older (sources_of_word e.instruction)) (may_load h older e)
       (and_from (is_waiting e.stage && is_of_kind k (kind_of_word e.instruction)) (has_operands older (sources_of_word e.instruction))
       (and_from (is_waiting e.stage) (is_of_kind k (kind_of_word e.instruction)) (waiting_by e.instruction e.dispatched i j e.stage sound.stage may.kind may.not_yet) may.kind)
-      (operands_by d i j rows older (sources_of_word e.instruction) sounds plain may.operands))
+      (operands_by d i j rows older (sources_of_word e.instruction) sounds serial may.operands))
       (loads_by (is_load e.instruction) _ may.plain)
 
   -- no row and no word may start
@@ -224,12 +205,14 @@ module _ (v : Values) (k : Kind) (now : ℕ) where
   words_do_not_start before (f ∷ fs) = ((λ may. may.dispatched), words_do_not_start (before ++ mark_of_fetched f ∷ []) fs)
 
   -- instructions that are not ready cannot start
-  pub entries_do_not_start : (d i j : ℕ) (rows : List Row) (h : Hardware) (before es : List Entry) → Each (SoundEntry v d i j) before → Each (SoundEntry v d i j) es → EveryBehind (λ b e. is_ready h k b e ≡ false) before es →
+  pub entries_do_not_start : (d i j : ℕ) (rows : List Row) (h : Hardware) (before es : List Entry) → Each (SoundEntry v d i j) before →
+      Each (SoundEntry v d i j) es → AreSerialLast (instructions_of (before ++ es)) → EveryBehind (λ b e. is_ready h k b e ≡ false) before es →
       EveryBehind (λ b m. MayStart k now b m → ⊥) (map mark_of_row rows ++ map mark_of_entry before) (map mark_of_entry es)
-  entries_do_not_start d i j rows h before [] sounds sound none = tt
-  entries_do_not_start d i j rows h before (e ∷ es) sounds sound none = (
-    (λ may. absurd (true≢false (sym (may_is_ready d i j rows h before e sounds sound.0 may) ∙ none.0))),
+  entries_do_not_start d i j rows h before [] sounds sound last none = tt
+  entries_do_not_start d i j rows h before (e ∷ es) sounds sound last none = (
+    (λ may. absurd (true≢false (sym (may_is_ready d i j rows h before e sounds (older_plain before es e last) sound.0 may) ∙ none.0))),
     subst (λ l. EveryBehind (λ b m. MayStart k now b m → ⊥) l (map mark_of_entry es))
         (ap (λ l. map mark_of_row rows ++ l) (marks_append before (e ∷ [])) ∙ sym (append_assoc (map mark_of_row rows) (map mark_of_entry before) (mark_of_entry e ∷ [])))
-        (entries_do_not_start d i j rows h (before ++ e ∷ []) es (Each-append (SoundEntry v d i j) before (e ∷ []) sounds (sound.0, tt)) sound.1 none.1),
+        (entries_do_not_start d i j rows h (before ++ e ∷ []) es (Each-append (SoundEntry v d i j) before (e ∷ []) sounds (sound.0, tt)) sound.1
+        (subst (λ l. AreSerialLast (instructions_of l)) (sym (append_assoc before (e ∷ []) es)) last) none.1),
   )

@@ -15,6 +15,8 @@ use Rattle.rv_hardware.proofs.Laws.NoIdleUnit.Marks.{MayStart, BusyUnits, may_ba
 use Rattle.rv_hardware.proofs.Turns.Issue.{IssueTurn, no_unit, none_ready, starts, issue_turn_is, access_keeps, message_at, started_entries}
 use Rattle.rv_hardware.proofs.Marks.List.{Mark, mark_of_row, mark_of_entry, mark_of_fetched, marks, marks_in, marks_at_entry}
 use Rattle.rv_hardware.proofs.Marks.Phases.{Issues, issue_turn_keeps, issue_kind_keeps, start_is, with_marks, goes_later, broadcast_keeps, dispatch_keeps}
+use Rattle.rv_hardware.proofs.Always.Serial.{AreSerialLast, cut_serial}
+use Rattle.rv_hardware.proofs.Always.Stores.{instructions_of}
 use Rattle.rv_hardware.proofs.Marks.Sound.{SoundEntry}
 use Rattle.rv_hardware.proofs.Laws.OtherUnits.Rows.{starts_at, begins_mark}
 use Rattle.rv_hardware.proofs.Laws.OtherUnits.Phases.{issued_units}
@@ -70,7 +72,7 @@ module _ (v : Values) (legal : IsLegal v) (now : ℕ) (steps : List Step) (k : K
       let es : List Mark = map mark_of_entry h.rob.entries in
       EveryBehind-append (BusyUnits k j now) [] rows (es ++ map mark_of_fetched h.front.entries) (never_busy j [] rows (rows_do_not_start v k now (now + 1) [] (rows_of steps) p.basics.rows))
       (EveryBehind-append (BusyUnits k j now) rows es (map mark_of_fetched h.front.entries)
-      (never_busy j rows es (subst (λ l. EveryBehind (λ b m. MayStart k now b m → ⊥) l es) (append-nil rows) (entries_do_not_start v k now now (now + 1) now (rows_of steps) h [] h.rob.entries tt p.basics.entries none)))
+      (never_busy j rows es (subst (λ l. EveryBehind (λ b m. MayStart k now b m → ⊥) l es) (append-nil rows) (entries_do_not_start v k now now (now + 1) now (rows_of steps) h [] h.rob.entries tt p.basics.entries p.basics.always.last none)))
       (never_busy j (rows ++ es) (map mark_of_fetched h.front.entries) (words_do_not_start v k now (rows ++ es) h.front.entries)))
 
   module _ (j : ℕ) (h : Hardware) (older younger : List Entry) (e : Entry) (at : h.rob.entries ≡ older ++ e ∷ younger) (is : is_ready h k older e ≡ true)
@@ -91,15 +93,16 @@ module _ (v : Values) (legal : IsLegal v) (now : ℕ) (steps : List Step) (k : K
         let front = ap (λ r. r.entries) (access_keeps (path h older e) h).front in
         let olders = Each-left (SoundEntry v now (now + 1) now) older (e ∷ younger) (subst (Each (SoundEntry v now (now + 1) now)) at p.0.basics.entries) in
         let old = EveryBehind-right (BusyUnits k j now) [] xs (m ∷ ys) (subst (EveryBehind (BusyUnits k j now) []) (ap (λ es. marks steps es h.front.entries) at ∙ marks_at_entry steps older younger e h.front.entries) p.1) in
+        let serial = cut_serial older (e ∷ younger) (subst (λ l. AreSerialLast (instructions_of l)) at p.0.basics.always.last) in
         let same_start : n.start ≡ Some evidence.start = ap (λ x. x.start) evidence.becomes in
         rw (started_entries k h older younger e at, front, marks_at_entry steps older younger begun h.front.entries)
         (EveryBehind-append (BusyUnits k (suc j) now) [] xs (n ∷ ys)
         (EveryBehind-append (BusyUnits k (suc j) now) [] rows (map mark_of_entry older) (never_busy (suc j) [] rows (rows_do_not_start v k now (now + 1) [] (rows_of steps) p.0.basics.rows))
-        (never_busy (suc j) rows (map mark_of_entry older) (subst (λ l. EveryBehind (λ b z. MayStart k now b z → ⊥) l (map mark_of_entry older)) (append-nil rows) (entries_do_not_start v k now now (now + 1) now (rows_of steps) h [] older tt olders none)))) (
+        (never_busy (suc j) rows (map mark_of_entry older) (subst (λ l. EveryBehind (λ b z. MayStart k now b z → ⊥) l (map mark_of_entry older)) (append-nil rows) (entries_do_not_start v k now now (now + 1) now (rows_of steps) h [] older tt olders serial none)))) (
           (λ may. absurd (has_begun may.not_yet)),
           EveryBehind-moved (BusyUnits k j now) (BusyUnits k (suc j) now) (xs ++ m ∷ []) (xs ++ n ∷ [])
               (λ mid z busy may.
-              let here : MayStart k now (xs ++ m ∷ mid) z = may_back now m n refl (λ known some. subst (IsBefore now) (ap (λ x. x.broadcast) evidence.becomes) (known some)) (λ serial some. serial some) k xs mid z (subst (λ l. MayStart k now l z) (append_assoc xs (n ∷ []) mid) may) in
+              let here : MayStart k now (xs ++ m ∷ mid) z = may_back now m n refl (λ known some. subst (IsBefore now) (ap (λ x. x.broadcast) evidence.becomes) (known some)) k xs mid z (subst (λ l. MayStart k now l z) (append_assoc xs (n ∷ []) mid) may) in
               let before = busy (subst (λ l. MayStart k now l z) (sym (append_assoc xs (m ∷ []) mid)) here) in
               let grown : count (begins_mark k now) ((xs ++ n ∷ []) ++ mid) ≡ suc (count (begins_mark k now) ((xs ++ m ∷ []) ++ mid)) = rw (append_assoc xs (n ∷ []) mid, append_assoc xs (m ∷ []) mid) (count-set-one_more (begins_mark k now) xs mid m n
               (and_right (is_of_kind k (kind_of_word e.instruction)) (starts_at now m.start) (ap (starts_at now) evidence.not_yet))
@@ -125,7 +128,7 @@ module _ (v : Values) (legal : IsLegal v) (now : ℕ) (steps : List Step) (k : K
       Leads (Busy (suc j)) (λ g. EveryBehind (BusyUnits k units_here now) [] (marks_in steps g)) t
   busy_leads j h _ lt (no_unit held) p goes =
       let full = ltb-false (length (holding now (at_kind k h.units).starts)) (at_kind k h.units).units (subst (λ n. is_free n (at_kind k h.units) ≡ false) p.0.basics.cycle held) in
-      absurd (too_many full (p.0.basics.shape.units k) p.2)
+      absurd (too_many full (p.0.basics.always.sizes.units k) p.2)
     where
       too_many : (at_kind k h.units).units ≤ length (holding now (at_kind k h.units).starts) → (at_kind k h.units).units ≡ units_here → length (holding now (at_kind k h.units).starts) ≤ j → ⊥
       too_many full same le = omega (arith, full, same, le, lt)
@@ -137,7 +140,7 @@ module _ (v : Values) (legal : IsLegal v) (now : ℕ) (steps : List Step) (k : K
       let none = ap (λ l. length l) (none_holds now (at_kind k h.units).starts over) in
       turns_within units_here Busy (λ g. EveryBehind (BusyUnits k units_here now) [] (marks_in steps g)) (issue_turn k)
       (λ j g lt q. busy_leads j g (issue_turn k g) lt (issue_turn_is k g) q (issue_turn_keeps v legal now Anything (anything_is_kept v now) steps k g (issue_turn k g) (issue_turn_is k g) q.0))
-      (λ g q. q.1) (at_kind k h.values.kinds).units 0 h (let same = ap (λ (w : Values). (at_kind k w.kinds).units) p.basics.shape.values in omega (arith, same))
+      (λ g q. q.1) (at_kind k h.values.kinds).units 0 h (let same = ap (λ (w : Values). (at_kind k w.kinds).units) p.basics.always.sizes.values in omega (arith, same))
       (p, EveryBehind-all (λ m. Unit {0}) (BusyUnits k 0 now) (λ b m u may. omega arith) [] (marks_in steps h) (Each-all (λ m. Unit {0}) (λ m. tt) (marks_in steps h)), omega (arith, none))
 
 -- the other phases leave the units as they are
@@ -256,7 +259,7 @@ over_of_history v k line (went_on {earlier} {old} {new} {lines} {report} before 
     let passed = cycle_passes v legal Anything earlier lines old new report (anything_is_kept v old.cycle) (history_is_sound v before) tt is in
     let begins = subst (λ u. Over old.cycle (at_kind k u)) (sym (begin_units lines old)) (over_of_history v k line before) in
     let later = Each-weaker (λ s. s.cycle + s.cost ≤ old.cycle) (λ s. s.cycle + s.cost ≤ old.cycle + 1) (λ s le. omega (arith, le)) (at_kind k (drained lines old).units).starts begins in
-    let issues = timely_issue v legal old.cycle (earlier ++ report.steps) k line (drained lines old) ((passed.drains.basics.shape, passed.drains.basics.cycle), later) in
+    let issues = timely_issue v legal old.cycle (earlier ++ report.steps) k line (drained lines old) ((passed.drains.basics.always.sizes, passed.drains.basics.cycle), later) in
     let next : new.cycle ≡ old.cycle + 1 = ap (λ (h : Hardware). h.cycle) passed.others_stay in
     let units : new.units ≡ (issued_all lines old).units = ap (λ (h : Hardware). h.units) passed.others_stay ∙ end_units lines old in
     rw next (subst (λ u. Over (old.cycle + 1) (at_kind k u)) (sym units) issues.1)

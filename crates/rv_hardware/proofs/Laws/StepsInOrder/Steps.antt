@@ -203,7 +203,7 @@ module _ (v : Values) (legal : IsLegal v) (earlier : List Step) (old new : Hardw
   committed =
       let g : Hardware = with_lines lines old in
       let first = begin v legal Anything earlier lines old new report (anything_is_kept v old.cycle) begins tt in
-      commit_leads_by v old.cycle earlier past.before set.contains v.commit_width (omega (arith, legal.pipeline.commit_width)) (due g.csrs g.lines) g (ap (λ (w : Values). w.commit_width) begins.shape.values) first
+      commit_leads_by v old.cycle earlier past.before set.contains v.commit_width (omega (arith, legal.pipeline.commit_width)) (due g.csrs g.lines) g (ap (λ (w : Values). w.commit_width) begins.always.sizes.values) first
       (rw (append-nil earlier) (past.pairs)) (rw (append-nil earlier) (past.entries)) (rw (append-nil earlier) (past.words))
       (commit_keeps v old.cycle Anything (anything_is_kept v old.cycle) earlier set.contains g first)
 
