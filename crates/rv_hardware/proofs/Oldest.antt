@@ -1,5 +1,5 @@
 -- The oldest instruction that passes a test stands after some that do not, and a change of it or a cut after it changes no other.
-use Rattle.rv_hardware.proofs.Words.{◌≡◌, ℕ, ◌+◌, ◌≤◌, Bool, true, false, cond, List, [], ◌∷◌, ◌++◌, length, Some, None, Option, sym, refl, ap, subst, append_assoc, append-nil, arith, le-ltb, lt-ltb, eq-eqb, ne_eqb, entries_below, with_entry, Entry, oldest, oldest_from, EveryBehind, EveryBehind-append}
+use Rattle.rv_hardware.proofs.Words.{◌≡◌, ℕ, ◌+◌, ◌≤◌, Bool, true, false, cond, List, [], ◌∷◌, ◌++◌, length, Some, None, Option, sym, refl, ap, append_assoc, append-nil, arith, le-ltb, lt-ltb, eq-eqb, ne_eqb, entries_below, with_entry, Entry, oldest, oldest_from, EveryBehind, EveryBehind-append}
 
 -- what a search for the oldest finds
 abbrev pub Finds : (List Entry → Entry → Bool) → List Entry → Option (List Entry × Entry) → Type 0
@@ -30,19 +30,6 @@ finds_from test before (e ∷ es) none =
 -- what the search for the oldest finds is the oldest that passes, or none passes
 pub oldest_finds : (test : List Entry → Entry → Bool) (es : List Entry) → Finds test es (oldest test es)
 oldest_finds test es = finds_from test [] es tt
-
--- an instruction that passes a test, among the others, with those that are older and those that are younger
-pub record IsFound (test : List Entry → Entry → Bool) (entries older : List Entry) (e : Entry) : Type 0 where
-  pub younger : List Entry
-  pub split : entries ≡ older ++ e ∷ younger
-  pub passes : test older e ≡ true
-
--- what the search for the oldest finds is such an instruction
-pub oldest_found : (test : List Entry → Entry → Bool) (entries older : List Entry) (e : Entry) → oldest test entries ≡ Some (older, e) →
-    IsFound test entries older e
-oldest_found test entries older e is =
-    let finds : Finds test entries (Some (older, e)) = subst (Finds test entries) is (oldest_finds test entries) in
-    record { younger = finds.0; split = finds.1; passes = finds.2 }
 
 -- a change by sequence number changes the instruction at its place alone
 pub with_entry-at : (change : Entry → Entry) (seq first : ℕ) (older younger : List Entry) (e : Entry) →

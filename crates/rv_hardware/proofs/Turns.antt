@@ -9,7 +9,6 @@ pub mod KeptByCommit
 pub mod KeptByCycle
 pub mod Fetch
 pub mod Issue
-pub mod Fetched
 pub mod Broadcast
 pub mod Dispatch
 pub mod Commit

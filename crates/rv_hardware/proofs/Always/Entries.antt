@@ -1,7 +1,7 @@
 -- An instruction in flight waits for a unit or to be the oldest, or its message tells no more, and no less, than it may.
-use Rattle.rv_hardware.proofs.Words.{◌≡◌, ℕ, Bool, true, false, ◌||◌, List, ◌∷◌, ◌++◌, is_some, Some, None, Option, option_and_then, sym, refl, ap, subst, is_of_kind, is_serialising, is_store, kind_of_word, Message, Instr, Lines, Kind, Values, instruction_of, Layout, Memory, Effect, Faults, Retires, effect, State, Each, finished, issue_of, predicting, started, Entry, Stage, Finished, Running, Waiting, IsFetchedAt, Fetched, any_prediction, entry_of_fetched, stage_by, Hardware, broadcast_of, is_waiting, reset_hardware, access_of, effect_message, result_of_word, layout_of, seen_behind, Each-left, Each-right, Each-push, Each-change}
+use Rattle.rv_hardware.proofs.Words.{◌≡◌, ℕ, Bool, true, false, ◌||◌, List, ◌∷◌, ◌++◌, is_some, Some, None, Option, option_and_then, sym, refl, ap, subst, is_of_kind, is_serialising, is_store, kind_of_word, Message, Instr, Lines, Kind, Values, instruction_of, Layout, Effect, Faults, Retires, effect, State, Each, finished, issue_of, predicting, started, Entry, Stage, Finished, Running, Waiting, Fetched, any_prediction, entry_of_fetched, stage_by, Hardware, broadcast_of, is_waiting, reset_hardware, access_of, effect_message, result_of_word, layout_of, seen_behind, Each-append, Each-left, Each-right, Each-push, Each-change, Each-weaker}
 use Rattle.rv_isa.specs.declared.instructions.Instr.TheVariants.{Store}
-use Rattle.rv_hardware.proofs.Turns.Fetch.{each-fetched}
+use Rattle.rv_hardware.proofs.Turns.Fetch.{IsNew, fetch_phase}
 use Rattle.rv_hardware.proofs.Turns.KeptByCycle.{IsKept}
 use Rattle.rv_hardware.proofs.Turns.Forms.{IsResultOfWord}
 use Rattle.rv_hardware.proofs.Always.Faults.{HasWordOr, IsUnitFault, by_result}
@@ -125,9 +125,6 @@ no_word (Some word) instruction is = tt
 no_word None None is = tt
 no_word None (Some instruction) is = absurd (cc)
 
-fetched_shape : (ram : Memory) (cycle pc : ℕ) (f : Fetched) → IsFetchedAt any_prediction ram cycle pc f → FetchedShape f
-fetched_shape ram cycle pc f at = no_word f.word f.instruction at.instruction_is
-
 -- every cycle keeps it
 pub entries-kept : IsKept AreShaped
 entries-kept = record {
@@ -161,7 +158,9 @@ entries-kept = record {
   };
   fetch = record {
     fetches = λ ram cycle h front stop shape fetches.
-        (shape.0, each-fetched ram cycle h.front front stop FetchedShape (fetched_shape ram cycle) fetches shape.1);
+        let phase = fetch_phase any_prediction ram cycle h.front front stop fetches in
+        let added = Each-weaker (IsNew cycle) FetchedShape (λ f new. no_word f.word f.instruction new.1) phase.added phase.are_new in
+        (shape.0, subst (Each FetchedShape) (sym phase.entries) (Each-append FetchedShape h.front.entries phase.added shape.1 added));
   };
 }
 

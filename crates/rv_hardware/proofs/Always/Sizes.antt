@@ -2,7 +2,7 @@
 use Rattle.rv_hardware.proofs.Words.{◌≡◌, ℕ, ◌+◌, List, refl, ap, ◌∙◌, at_kind-for_each, with_kind-each, IsLegal, at_kind, with_kind, Kind, PerKind, CacheValues, Values, Pool, free_pool, FetchBuffer, any_prediction, Hardware, reset_hardware}
 use Rattle.rv_units.specs.Pool.{started as started_unit}
 use Rattle.rv_hardware.proofs.Turns.KeptByCycle.{IsKept}
-use Rattle.rv_hardware.proofs.Turns.Fetch.{fetch-same}
+use Rattle.rv_hardware.proofs.Turns.Fetch.{fetch_phase}
 
 -- the description is legal, and its values, the cache's, and the rooms and units that they give, are the hardware's
 pub record AreSizes (v given : Values) (lines : CacheValues) (entries words most : ℕ) (pools : PerKind Pool) : Type 0 where
@@ -81,8 +81,8 @@ module _ (described : Values → Values) where
     };
     fetch = record {
       fetches = λ ram cycle h front stop shape fetches.
-          let same = fetch-same any_prediction ram cycle h.front front stop fetches in
-          with_front (described h.values) h front (h.cycle + 1) same.0 same.1 shape;
+          let same = fetch_phase any_prediction ram cycle h.front front stop fetches in
+          with_front (described h.values) h front (h.cycle + 1) same.capacity same.width shape;
     };
   }
 

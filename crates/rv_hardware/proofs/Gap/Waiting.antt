@@ -1,10 +1,10 @@
 -- The oldest instruction that waits and can go leaves for a unit in the issue phase, or no unit of its kind is free.
-use Rattle.rv_hardware.proofs.Words.{◌≡◌, ℕ, suc, ◌+◌, ◌-◌, ◌≤◌, true, false, ◌⊎◌, List, [], ◌∷◌, Some, Option, sym, refl, ap, ◌∙◌, subst, inl, inr, arith, cases_Bool, false≢true, is_same-own, is_same-true, with_kind-other, is_load, is_of_kind, kind_of_word, at_kind, is_same, Message, Instr, Kind, Pool, is_free, started, with_entry, Entry, Hardware, FromCache, FromStores, Path, Without, is_ready, issue, issue_kind, issue_oldest, issue_turn, issued, oldest, oldest_from, path, with_access, with_start, Ends, Turn, followed_by, repeated, by_test, Leaves, left_by_the_rest, kept_by_turns}
+use Rattle.rv_hardware.proofs.Words.{◌≡◌, ℕ, suc, ◌-◌, ◌≤◌, true, false, ◌⊎◌, List, [], ◌∷◌, ◌++◌, Some, Option, sym, refl, ap, ◌∙◌, subst, inl, inr, true≢false, arith, cases_Bool, false≢true, is_same-own, is_same-true, with_kind-other, is_load, is_of_kind, kind_of_word, at_kind, is_same, Instr, Kind, Pool, is_free, started, Entry, Hardware, FromCache, cost_of, is_ready, issue, issue_kind, issue_turn, issued, path, with_access, Turn, followed_by, repeated, EveryBehind, kept_by_turns}
 use Rattle.rv_isa.specs.declared.operations.Kind.TheVariants as kind
 use Rattle.rv_hardware.proofs.Gap.Head.{HasBegun, HeadIs, Waits, head-change}
+use Rattle.rv_hardware.proofs.Turns.Issue.{IssueTurn, no_unit, none_ready, starts, issue_turn_is, message_at, started_entries}
 use Rattle.rv_hardware.proofs.Turns.KeptByIssue.{IsKeptByIssue, starts-keep, issue_kind-keeps, issue_turn-keeps}
 use Rattle.rv_hardware.proofs.Gap.Ready.{CanGo, cache_access, loads_of_mem, ready_head}
-use Rattle.rv_hardware.proofs.Oldest.{with_entry-at}
 
 -- ---- once it has begun, it has
 begun_by_issue : (instruction : Option Instr) (j : Kind) → IsKeptByIssue (λ h. HeadIs instruction HasBegun h.rob.entries) j
@@ -60,45 +60,40 @@ module _ (instruction : Option Instr) (k : Kind) (of_kind : kind_of_word instruc
   after_others j other h (inr begun) = inr (begun-issue_kind instruction j h begun)
 
   -- ---- the turns of its own kind
-  starts_head : (h : Hardware) (e : Entry) (es : List Entry) (cost : ℕ) (message : Message) → h.rob.entries ≡ e ∷ es → e.instruction ≡ instruction →
-      HeadIs instruction HasBegun (with_start k (h.rob.retired + 0) cost message h).rob.entries
-  starts_head h e es cost message split is =
-      let start : Entry → Entry = started (record { cycle = h.cycle; cost = cost }) message in
-      let all : with_entry start (h.rob.retired + 0) h.rob.retired h.rob.entries ≡ start e ∷ es =
-      ap (λ l. with_entry start (h.rob.retired + 0) h.rob.retired l) split ∙ with_entry-at start (h.rob.retired + 0) h.rob.retired [] es e refl in
-      subst (HeadIs instruction HasBegun) (sym all) (is, refl)
+  abbrev NoneReady : Hardware → List Entry → Type 0
+  NoneReady h = EveryBehind (λ before e. is_ready h k before e ≡ false) []
 
-  starts_by : (h : Hardware) (e : Entry) (es : List Entry) (p : Path) (cost : ℕ) (message : Message) → h.rob.entries ≡ e ∷ es → e.instruction ≡ instruction →
-      HeadIs instruction HasBegun (with_start k (h.rob.retired + 0) cost message (with_access p h)).rob.entries
-  starts_by h e es Without cost message split is = starts_head h e es cost message split is
-  starts_by h e es FromStores cost message split is = starts_head h e es cost message split is
-  starts_by h e es (FromCache address) cost message split is = starts_head (with_access (FromCache address) h) e es cost message split is
+  it_is_ready : (h : Hardware) → CanStart h → (e : Entry) → e.instruction ≡ instruction → Waits e.stage → is_ready h k [] e ≡ true
+  it_is_ready h can e is waits = ready_head h k e waits (ap kind_of_word is ∙ of_kind) (subst (λ i. CanGo i h) (sym is) can.3)
 
-  first_turn : (h : Hardware) (entries : List Entry) → h.rob.entries ≡ entries → CanStart h → (is_free cycle pool ≡ true) → Leaves (λ (after : Hardware). HeadIs instruction HasBegun after.rob.entries) (issue_oldest k h (oldest (is_ready h k) entries))
-  first_turn h [] split can free = absurd (subst (HeadIs instruction Waits) split can.0)
-  first_turn h (e ∷ es) split can free =
-      let head : HeadIs instruction Waits (e ∷ es) = subst (HeadIs instruction Waits) split can.0 in
-      let ready = ready_head h k e head.1 (ap kind_of_word head.0 ∙ of_kind) (subst (λ i. CanGo i h) (sym head.0) can.3) in
-      let begun : HeadIs instruction HasBegun (issued k h [] e).rob.entries = starts_by h e es (path h [] e) _ _ split head.0 in
-      by_test (λ found. Leaves (λ (after : Hardware). HeadIs instruction HasBegun after.rob.entries) (issue_oldest k h found)) (is_ready h k [] e) (Some ([], e)) (oldest_from (is_ready h k) (e ∷ []) es)
-      (λ yes_ready. begun) (λ not_ready. absurd (cc (ready, not_ready)))
+  one_is_ready : (h : Hardware) → CanStart h → (entries : List Entry) → HeadIs instruction Waits entries → NoneReady h entries → ⊥
+  one_is_ready h can [] head none = head
+  one_is_ready h can (e ∷ es) head none = true≢false (sym (it_is_ready h can e head.0 head.1) ∙ none.0)
 
-  begun_after : (units : ℕ) (t : Turn Hardware) → Leaves (λ (after : Hardware). HeadIs instruction HasBegun after.rob.entries) t → HeadIs instruction HasBegun (followed_by (repeated (issue_turn k) units) t).rob.entries
-  begun_after units t begun =
-      let Begun : Hardware → Type 0 = λ after. HeadIs instruction HasBegun after.rob.entries in
-      left_by_the_rest Begun Begun (repeated (issue_turn k) units) (kept_by_turns Begun (issue_turn k) (issue_turn-keeps k (starts-keep (begun_by_issue instruction k))) units) t begun
+  it_is_first : (h : Hardware) → CanStart h → (older younger : List Entry) (e : Entry) → HeadIs instruction Waits (older ++ e ∷ younger) →
+      NoneReady h older → (older ≡ []) × (e.instruction ≡ instruction)
+  it_is_first h can [] younger e head none = (refl, head.0)
+  it_is_first h can (o ∷ older) younger e head none = absurd (one_is_ready h can (o ∷ []) head (none.0, tt))
 
-  own_turns : (units : ℕ) (h : Hardware) → CanStart h → IsAfterIssue (repeated (issue_turn k) (suc units) h)
-  own_turns units h can =
-      let free : is_free h.cycle (at_kind k h.units) ≡ is_free cycle pool = ap (λ c. is_free c (at_kind k h.units)) can.2 ∙ ap (is_free cycle) can.1 in
-      by_test (λ t. IsAfterIssue (followed_by (repeated (issue_turn k) units) t)) (is_free h.cycle (at_kind k h.units)) (issue_oldest k h (oldest (is_ready h k) h.rob.entries)) (Ends h)
-      (λ passes. inr (begun_after units (issue_oldest k h (oldest (is_ready h k) h.rob.entries)) (first_turn h h.rob.entries refl can (sym free ∙ passes))))
-      (λ held. inl (can, sym free ∙ held))
+  begun_after : (units : ℕ) (h : Hardware) → HeadIs instruction HasBegun h.rob.entries →
+      HeadIs instruction HasBegun (repeated (issue_turn k) units h).rob.entries
+  begun_after units h begun =
+      kept_by_turns (λ after. HeadIs instruction HasBegun after.rob.entries) (issue_turn k) (issue_turn-keeps k (starts-keep (begun_by_issue instruction k))) units h begun
+
+  first_turn : (units : ℕ) (h : Hardware) (t : Turn Hardware) → IssueTurn k h t → CanStart h → IsAfterIssue (followed_by (repeated (issue_turn k) units) t)
+  first_turn units h _ (no_unit held) can =
+      inl (can, sym (ap (λ c. is_free c (at_kind k h.units)) can.2 ∙ ap (is_free cycle) can.1) ∙ held)
+  first_turn units h _ (none_ready none) can = absurd (one_is_ready h can h.rob.entries can.0 none)
+  first_turn units h _ (starts older younger e at is none free) can =
+      let first = it_is_first h can older younger e (subst (HeadIs instruction Waits) at can.0) none in
+      let begun : Entry = started (record { cycle = h.cycle; cost = cost_of h k (path h older e) }) (message_at h older e) e in
+      inr (begun_after units (issued k h older e) (subst (HeadIs instruction HasBegun) (sym (started_entries k h older younger e at))
+      (subst (λ o. HeadIs instruction HasBegun (o ++ begun ∷ younger)) (sym first.0) (first.1, refl))))
 
   own_turn : (h : Hardware) → CanStart h → IsAfterIssue (issue_kind k h)
   own_turn h can =
       let some : (at_kind k h.values.kinds).units ≡ suc ((at_kind k h.values.kinds).units - 1) = omega (arith, can.4) in
-      subst (λ units. IsAfterIssue (repeated (issue_turn k) units h)) (sym some) (own_turns ((at_kind k h.values.kinds).units - 1) h can)
+      subst (λ units. IsAfterIssue (repeated (issue_turn k) units h)) (sym some) (first_turn ((at_kind k h.values.kinds).units - 1) h (issue_turn k h) (issue_turn_is k h) can)
 
 -- the four kinds, one after another
 pub after_issue : (instruction : Option Instr) (k : Kind) (of_kind : kind_of_word instruction ≡ Some k) (pool : Pool) (cycle : ℕ) (h : Hardware) →

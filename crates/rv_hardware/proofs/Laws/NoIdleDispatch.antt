@@ -4,7 +4,7 @@ use Rattle.rv_hardware.proofs.Marks.Advance.{is_in_flight_mark, is_stationed_mar
 use Rattle.rv_hardware.proofs.Marks.History.{History, history_is_sound, sent_all, dispatching}
 use Rattle.rv_hardware.proofs.Marks.Counted.{behind_law, behind_count}
 use Rattle.rv_hardware.proofs.Turns.Dispatch.{DispatchTurn, buffer_empty, waits, dispatches, dispatch_turn_is, WaitsFor, for_serial, for_buffer, for_station, for_queue}
-use Rattle.rv_hardware.proofs.Turns.Fetched.{IsNew}
+use Rattle.rv_hardware.proofs.Turns.Fetch.{IsNew}
 use Rattle.rv_hardware.proofs.Marks.List.{Mark, Start, mark_of_row, mark_of_entry, mark_of_fetched, at_end, as_of, was_fetched, until, start_until, start_of_stage, start_of_execution, until_by, until_now}
 use Rattle.rv_hardware.proofs.Marks.Pairs.{Older, rows_are_older}
 use Rattle.rv_hardware.proofs.Marks.Past.{rows_obey}

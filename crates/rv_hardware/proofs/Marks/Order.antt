@@ -2,7 +2,7 @@
 use Rattle.rv_hardware.proofs.Words.{◌≡◌, ℕ, ◌+◌, ◌<◌, ◌≤◌, Bool, true, false, ◌&&◌, List, [], ◌∷◌, ◌++◌, map, is_some, is_none, IfSome, Some, None, Option, sym, refl, ap, ◌∙◌, subst, arith, and_left, and_right, is_of_kind, kind_of_word, at_kind, Kind, Values, Each, Fetched, Hardware, Step, and_second, never_both, Each-append, Each-left, Each-set, Each-place, Each-weaker, Each-all, Each-both, Each-map, EveryPair, count, Across, EveryPair-append, EveryPair-left, EveryPair-right, EveryPair-across, EveryPair-set, count-append, count-none, count-map, count-length, count-set-same, count-set-less, count-push-most, count-left}
 use Rattle.rv_hardware.proofs.Marks.Advance.{IsBefore, Advances, retires, starts, is_sent, enters, Enters, is_in_flight_mark, is_stationed_mark}
 use Rattle.rv_hardware.proofs.Marks.History.{NewWords, is_buffered_mark, KeptMarks, History, marks_of_history}
-use Rattle.rv_hardware.proofs.Turns.Fetched.{IsNew}
+use Rattle.rv_hardware.proofs.Turns.Fetch.{IsNew}
 use Rattle.rv_hardware.proofs.Marks.List.{Mark, mark_of_fetched, marks_in}
 
 -- a later instruction was dispatched no earlier

@@ -2,7 +2,7 @@
 use Rattle.rv_hardware.proofs.Words.{◌≡◌, ℕ, ◌+◌, ◌<◌, ◌≤◌, false, List, [], ◌∷◌, ◌++◌, map, IfSome, Some, None, Option, sym, refl, ap, subst, inl, inr, arith, le-leb, cases_lt, Instr, Lines, Values, Each, Entry, Stage, Finished, Running, Waiting, Fetched, Hardware, Report, rows_of, Execution, Row, Step, Each-append, Each-weaker, Each-map, Beginning}
 use Rattle.rv_hardware.proofs.Marks.Basics.{Basics}
 use Rattle.rv_hardware.proofs.Marks.Advance.{extends_kept}
-use Rattle.rv_hardware.proofs.Turns.Fetched.{IsNew}
+use Rattle.rv_hardware.proofs.Turns.Fetch.{IsNew}
 use Rattle.rv_hardware.proofs.Marks.History.{dispatching, Passed, History, began, went_on, cycle_passes, history_is_legal, history_is_sound}
 use Rattle.rv_hardware.proofs.Marks.List.{Mark, Start, mark_of_row, mark_of_entry, mark_of_fetched, marks, marks_in, at_end, as_of, as_of-append, until, start_until, start_of_execution, broadcast_of_execution, start_of_stage, broadcast_of_stage, Extends, Extends-self, Extends-trans, Extends-more, until_by}
 use Rattle.rv_hardware.proofs.Marks.Row.{SoundRow}

@@ -1,5 +1,5 @@
--- A fetch adds words or nothing, and leaves the fetch buffer's room and width as they were.
-use Rattle.rv_hardware.proofs.Words.{◌≡◌, ℕ, zero, suc, ◌-◌, Bool, true, false, List, [], ◌∷◌, ◌++◌, length, Some, None, MatchBool, Option, MatchOption, sym, refl, ap, subst, Memory, Each, Answers, FetchBuffer, Fetches, FetchesInto, IsFetchedAt, is_halted, stop_behind, FetchStop, Halted, Fetched, any_prediction, Each-append}
+-- A fetch adds new words at the end of the fetch buffer, within its width and its room, or leaves it as it was.
+use Rattle.rv_hardware.proofs.Words.{◌≡◌, ℕ, zero, suc, ◌-◌, ◌≤◌, Bool, true, false, ◌⊎◌, List, [], ◌∷◌, ◌++◌, length, Some, None, MatchBool, Option, MatchOption, option_and_then, sym, refl, ap, ◌∙◌, inl, inr, append-nil, arith, instruction_of, Memory, Each, Answers, EndsFor, FetchBuffer, Fetches, FetchesInto, is_halted, stop_behind, FetchStop, Halted, Fetched}
 
 -- what a fetch adds where the front was not halted
 pub record Adds (answers : Answers) (ram : Memory) (cycle : ℕ) (old new : FetchBuffer) (stop : FetchStop) : Type 0 where
@@ -19,34 +19,82 @@ module _ (answers : Answers) (ram : Memory) (cycle : ℕ) (old new : FetchBuffer
   pub fetch-cases : (P : Type 0) → (old.halted ≡ true → new ≡ old → P) → (old.halted ≡ false → Adds answers ram cycle old new stop → P) → FetchesInto answers ram cycle old new stop → P
   fetch-cases P halted runs fetches = cases_by P old.halted refl halted runs fetches
 
-  -- a fetch leaves the fetch buffer's room and width as they were
-  pub fetch-same : FetchesInto answers ram cycle old new stop → (new.capacity ≡ old.capacity) × (new.width ≡ old.width)
-  fetch-same fetches =
-      fetch-cases ((new.capacity ≡ old.capacity) × (new.width ≡ old.width))
-      (λ halted same. (ap (λ f. f.capacity) same, ap (λ f. f.width) same))
-      (λ runs adds. (ap (λ f. f.capacity) adds.is, ap (λ f. f.width) adds.is)) fetches
+-- a word that a fetch adds
+abbrev pub IsNew : ℕ → Fetched → Type 0
+IsNew cycle f = (f.cycle ≡ cycle) × (f.instruction ≡ option_and_then instruction_of f.word)
 
--- ---- each word that a fetch adds
-module _ (answers : Answers) (ram : Memory) (cycle : ℕ) (Q : Fetched → Type 0) (fetched : (pc : ℕ) (e : Fetched) → IsFetchedAt answers ram cycle pc e → Q e) where
-  others_by : (width room : ℕ) (e : Fetched) (es : List Fetched) (next : ℕ) (stop : FetchStop) (behind : Option FetchStop) →
-      (Fetches answers ram cycle width room e.predicted es next stop → Each Q es) →
-      MatchOption behind (Fetches answers ram cycle width room e.predicted es next stop) (λ reason. (es ≡ []) × (next ≡ e.predicted) × (stop ≡ reason)) → Each Q es
-  others_by width room e es next stop None on rest = on rest
-  others_by width room e es next stop (Some reason) on (none, at, why) = subst (Each Q) (sym none) tt
+-- what some added words are
+pub record Added (cycle width room : ℕ) (added : List Fetched) : Type 0 where
+  pub are_new : Each (IsNew cycle) added
+  pub within_width : length added ≤ width
+  pub within_room : length added ≤ room
+  pub goes_on : added ≡ [] → (width ≡ 0) ⊎ (room ≡ 0)
 
-  pub each-added : (width room pc : ℕ) (added : List Fetched) (next : ℕ) (stop : FetchStop) → Fetches answers ram cycle width room pc added next stop → Each Q added
-  each-added width room pc [] next stop words = tt
-  each-added zero room pc (e ∷ es) next stop words = absurd words
-  each-added (suc width) zero pc (e ∷ es) next stop words = absurd words
-  each-added (suc width) (suc room) pc (e ∷ es) next stop (at, rest) =
-      (fetched pc e at, others_by width room e es next stop (stop_behind e) (λ on. each-added width room e.predicted es next stop on) rest)
+ends_with_none : (cycle width room : ℕ) (stop : FetchStop) → EndsFor width room stop → Added cycle width room []
+ends_with_none cycle zero room stop ends = record { are_new = tt; within_width = omega arith; within_room = omega arith; goes_on = λ e. inl refl }
+ends_with_none cycle (suc width) zero stop ends = record { are_new = tt; within_width = omega arith; within_room = omega arith; goes_on = λ e. inr refl }
+ends_with_none cycle (suc width) (suc room) stop ends = absurd ends
 
-module _ (ram : Memory) (cycle : ℕ) (old new : FetchBuffer) (stop : FetchStop) (Q : Fetched → Type 0) (fetched : (pc : ℕ) (e : Fetched) → IsFetchedAt any_prediction ram cycle pc e → Q e) where
-  -- what holds of each fetched word holds of each one still
-  pub each-fetched : FetchesInto any_prediction ram cycle old new stop → Each Q old.entries → Each Q new.entries
-  each-fetched fetches each =
-      fetch-cases any_prediction ram cycle old new stop (Each Q new.entries) (λ halted same. subst (λ f. Each Q f.entries) (sym same) each)
-      (λ runs adds.
-      subst (λ f. Each Q f.entries) (sym adds.is)
-      (Each-append Q old.entries adds.added each (each-added any_prediction ram cycle Q fetched old.width (old.capacity - length old.entries) old.next_pc adds.added new.next_pc stop adds.words)))
-      fetches
+one_more : (cycle width room : ℕ) (f : Fetched) (fs : List Fetched) → IsNew cycle f → Added cycle width room fs → Added cycle (suc width) (suc room) (f ∷ fs)
+one_more cycle width room f fs new added =
+    record { are_new = (new, added.are_new); within_width = omega (arith, added.within_width); within_room = omega (arith, added.within_room); goes_on = λ e. absurd (cc) }
+
+only_one : (cycle width room : ℕ) (f : Fetched) (fs : List Fetched) → IsNew cycle f → fs ≡ [] → Added cycle (suc width) (suc room) (f ∷ fs)
+only_one cycle width room f fs new none =
+    record { are_new = (new, rw none tt); within_width = rw none (omega arith); within_room = rw none (omega arith); goes_on = λ e. absurd (cc) }
+
+by_stop : (cycle width room : ℕ) (f : Fetched) (fs : List Fetched) (stop : FetchStop) (next : ℕ) (o : Option FetchStop) (Rest : Type 0) → IsNew cycle f →
+    (Rest → Added cycle width room fs) →
+    MatchOption o Rest (λ reason. (fs ≡ []) × (next ≡ f.predicted) × (stop ≡ reason)) → Added cycle (suc width) (suc room) (f ∷ fs)
+by_stop cycle width room f fs stop next None Rest new rest h = one_more cycle width room f fs new (rest h)
+by_stop cycle width room f fs stop next (Some reason) Rest new rest h = only_one cycle width room f fs new h.0
+
+fetches_add : (answers : Answers) (ram : Memory) (cycle width room pc : ℕ) (fs : List Fetched) (next : ℕ) (stop : FetchStop) →
+    Fetches answers ram cycle width room pc fs next stop → Added cycle width room fs
+fetches_add answers ram cycle width room pc [] next stop h = ends_with_none cycle width room stop h.0
+fetches_add answers ram cycle zero room pc (f ∷ fs) next stop h = absurd h
+fetches_add answers ram cycle (suc width) zero pc (f ∷ fs) next stop h = absurd h
+fetches_add answers ram cycle (suc width) (suc room) pc (f ∷ fs) next stop h =
+    by_stop cycle width room f fs stop next (stop_behind f) (Fetches answers ram cycle width room f.predicted fs next stop) (h.0.cycle_is, h.0.instruction_is)
+    (fetches_add answers ram cycle width room f.predicted fs next stop) h.1
+
+-- what the fetch phase leaves
+pub record FetchPhase (cycle : ℕ) (old new : FetchBuffer) : Type 0 where
+  pub added : List Fetched
+  pub entries : new.entries ≡ old.entries ++ added
+  pub are_new : Each (IsNew cycle) added
+  pub within_width : length added ≤ old.width
+  pub within_room : length added ≤ old.capacity - length old.entries
+  pub capacity : new.capacity ≡ old.capacity
+  pub width : new.width ≡ old.width
+  pub goes_on : added ≡ [] → (old.halted ≡ true) ⊎ ((old.width ≡ 0) ⊎ (old.capacity - length old.entries ≡ 0))
+
+-- a fetch adds new words at the end of the fetch buffer, within its width and room
+pub fetch_phase : (answers : Answers) (ram : Memory) (cycle : ℕ) (old new : FetchBuffer) (stop : FetchStop) →
+    FetchesInto answers ram cycle old new stop → FetchPhase cycle old new
+fetch_phase answers ram cycle old new stop fetches =
+    fetch-cases answers ram cycle old new stop (FetchPhase cycle old new)
+    (λ halted same. record {
+      added = [];
+      entries = ap (λ (front : FetchBuffer). front.entries) same ∙ sym (append-nil old.entries);
+      are_new = tt;
+      within_width = omega arith;
+      within_room = omega arith;
+      capacity = ap (λ (front : FetchBuffer). front.capacity) same;
+      width = ap (λ (front : FetchBuffer). front.width) same;
+      goes_on = λ none. inl halted;
+    })
+    (λ runs adds.
+    let room : ℕ = old.capacity - length old.entries in
+    let added = fetches_add answers ram cycle old.width room old.next_pc adds.added new.next_pc stop adds.words in
+    record {
+      added = adds.added;
+      entries = ap (λ (front : FetchBuffer). front.entries) adds.is;
+      are_new = added.are_new;
+      within_width = added.within_width;
+      within_room = added.within_room;
+      capacity = ap (λ (front : FetchBuffer). front.capacity) adds.is;
+      width = ap (λ (front : FetchBuffer). front.width) adds.is;
+      goes_on = λ none. inr (added.goes_on none);
+    })
+    fetches

@@ -10,7 +10,7 @@ use Rattle.rv_hardware.proofs.Turns.KeptByIssue.{IsKeptByIssue, issue-keeps}
 use Rattle.rv_hardware.proofs.Turns.Commit.{CommitTurn, no_head, stale_head, unfinished, fence_waits, fence_writes, fence_retires, executes, serial_faults, traps, retires, retires_last, commit_turn_is}
 use Rattle.rv_hardware.proofs.Marks.History.{Anything, anything_is_kept, Passed, History, began, went_on, begin, committing, dispatching, sent_all, cycle_passes, history_is_legal, history_is_sound}
 use Rattle.rv_hardware.proofs.Turns.Dispatch.{has_full_queue, WaitsFor, for_serial, for_buffer, for_station, for_queue}
-use Rattle.rv_hardware.proofs.Turns.Fetched.{IsNew}
+use Rattle.rv_hardware.proofs.Turns.Fetch.{IsNew}
 use Rattle.rv_hardware.proofs.Laws.HeadsDoNotWait.Follow.{last_stamp, last_stamp-push, has_step, has_step-push, Follows, AllFollow, Committed, commit_leads_by}
 use Rattle.rv_hardware.proofs.Laws.NoIdleDispatch.{dispatch_leaves}
 use Rattle.rv_hardware.proofs.Laws.HeadsDoNotWait.Next.{Next, HasNext, next_executed}

@@ -11,7 +11,7 @@ use Rattle.rv_hardware.proofs.Marks.History.{Anything, anything_is_kept, Passed,
 use Rattle.rv_hardware.proofs.Marks.Keeps.{InCommit, commit_turns_keep}
 use Rattle.rv_hardware.proofs.Laws.NoIdleFetch.Links.{LastIs, last_at, last_of}
 use Rattle.rv_hardware.proofs.Laws.NoIdleFetch.Rows.{stays_halted}
-use Rattle.rv_hardware.proofs.Turns.Fetched.{IsNew}
+use Rattle.rv_hardware.proofs.Turns.Fetch.{IsNew}
 use Rattle.rv_hardware.proofs.Marks.Row.{row_at}
 use Rattle.rv_hardware.proofs.Marks.Sound.{SoundEntry, SoundFetched}
 
