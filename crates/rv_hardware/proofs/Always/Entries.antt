@@ -43,8 +43,8 @@ abbrev pub AreShaped : Hardware → Type 0
 AreShaped h = Each Shaped h.rob.entries × Each FetchedShape h.front.entries
 
 -- what is known of the message of an instruction that has finished
-pub told_at_end : (word : Option ℕ) (instruction : Option Instr) (stage : Stage) (message : Message) → broadcast_of stage ≡ Some message →
-    IsShaped word instruction stage → Tells word instruction message
+pub told_at_end : (word : Option ℕ) (instruction : Option Instr) (stage : Stage) (message : Message) →
+    broadcast_of stage ≡ Some message → IsShaped word instruction stage → Tells word instruction message
 told_at_end word instruction Waiting message is shaped = absurd (cc)
 told_at_end word instruction (Running issue given) message is shaped = absurd (cc)
 told_at_end word instruction (Finished None cycle given) message is shaped = let same : given ≡ message = cc in subst (Tells word instruction) same shaped
@@ -60,12 +60,14 @@ effect_tells : (s : State) (i : Instr) (given : Effect) → TellsItsStore (Some 
 effect_tells s i (Retires written next) = λ none. access_tells s i
 effect_tells s i (Faults cause value) = λ none. absurd (cc)
 
-word_tells : (layout : Layout) (s : State) (lines : Lines) (word : Option ℕ) (i : Option Instr) → TellsItsStore i (result_of_word layout s lines word i)
+word_tells : (layout : Layout) (s : State) (lines : Lines) (word : Option ℕ) (i : Option Instr) →
+    TellsItsStore i (result_of_word layout s lines word i)
 word_tells layout s lines None i = λ none. absurd (cc)
 word_tells layout s lines (Some word) None = λ none. absurd (cc)
 word_tells layout s lines (Some word) (Some i) = effect_tells s i (effect layout s lines word i)
 
-word_told : (layout : Layout) (s : State) (lines : Lines) (word : Option ℕ) (instruction : Option Instr) → HasWordOr (result_of_word layout s lines word instruction).fault word
+word_told : (layout : Layout) (s : State) (lines : Lines) (word : Option ℕ) (instruction : Option Instr) →
+    HasWordOr (result_of_word layout s lines word instruction).fault word
 word_told layout s lines None instruction = tt
 word_told layout s lines (Some word) instruction = tt
 
@@ -75,26 +77,30 @@ result_told layout s lines word instruction =
     record { fault = word_told layout s lines word instruction; store = word_tells layout s lines word instruction }
 
 -- ---- an execution begins, and its result is broadcast
-waits_with_word : (word : Option ℕ) (instruction : Option Instr) (stage : Stage) → is_waiting stage ≡ true → IsShaped word instruction stage → HasWordOr None word
+waits_with_word : (word : Option ℕ) (instruction : Option Instr) (stage : Stage) → is_waiting stage ≡ true →
+    IsShaped word instruction stage → HasWordOr None word
 waits_with_word word instruction Waiting waits shaped = shaped.0
 waits_with_word word instruction (Running issue message) waits shaped = absurd (cc)
 waits_with_word word instruction (Finished issue cycle message) waits shaped = absurd (cc)
 
-begun_shape : (k : Kind) (e : Entry) (message : Message) → is_waiting e.stage ≡ true → is_of_kind k (kind_of_word e.instruction) ≡ true →
-    IsResultOfWord e.word e.instruction message → Shaped e → Tells e.word e.instruction message × IsUnitFault message.fault
+begun_shape : (k : Kind) (e : Entry) (message : Message) → is_waiting e.stage ≡ true →
+    is_of_kind k (kind_of_word e.instruction) ≡ true → IsResultOfWord e.word e.instruction message → Shaped e →
+    Tells e.word e.instruction message × IsUnitFault message.fault
 begun_shape k e message waits of_kind result shaped = (
   subst (Tells e.word e.instruction) (sym result.is) (result_told result.layout result.state result.lines e.word e.instruction),
   by_result e.word e.instruction message result (waits_with_word e.word e.instruction e.stage waits shaped)
       (some_kind k (kind_of_word e.instruction) of_kind),
 )
 
-known_shape : (cycle : ℕ) (word : Option ℕ) (instruction : Option Instr) (stage : Stage) (message : Message) → HasRun cycle stage message →
-    IsShaped word instruction stage → IsShaped word instruction (Finished (issue_of stage) cycle message)
+known_shape : (cycle : ℕ) (word : Option ℕ) (instruction : Option Instr) (stage : Stage) (message : Message) →
+    HasRun cycle stage message → IsShaped word instruction stage →
+    IsShaped word instruction (Finished (issue_of stage) cycle message)
 known_shape cycle word instruction stage message gives shaped =
     rw (ap issue_of gives.runs) (subst (IsShaped word instruction) gives.runs shaped)
 
 -- ---- a dispatch
-word_for : (word : Option ℕ) (instruction : Option Instr) → HasWordFor word instruction → (is_some (kind_of_word instruction) || is_serialising instruction) ≡ true → HasWordOr None word
+word_for : (word : Option ℕ) (instruction : Option Instr) → HasWordFor word instruction →
+    (is_some (kind_of_word instruction) || is_serialising instruction) ≡ true → HasWordOr None word
 word_for (Some word) instruction has waits = tt
 word_for None None has waits = absurd (cc)
 word_for None (Some instruction) has waits = absurd has
@@ -103,9 +109,7 @@ or_true : (b : Bool) → (b || true) ≡ true
 or_true true = refl
 or_true false = refl
 
-shaped_by : (word : Option ℕ) (instruction : Option Instr) (kind : Option Kind) (serialising : Bool) (cycle : ℕ) (message : Message) →
-    kind_of_word instruction ≡ kind → is_serialising instruction ≡ serialising → HasWordFor word instruction → Tells word instruction message →
-    IsShaped word instruction (stage_by kind serialising (Finished None cycle message))
+shaped_by : (word : Option ℕ) (instruction : Option Instr) (kind : Option Kind) (serialising : Bool) (cycle : ℕ) (message : Message) → kind_of_word instruction ≡ kind → is_serialising instruction ≡ serialising → HasWordFor word instruction → Tells word instruction message → IsShaped word instruction (stage_by kind serialising (Finished None cycle message))
 shaped_by word instruction (Some kind) serialising cycle message of_kind serial has told =
     let waits : (is_some (kind_of_word instruction) || is_serialising instruction) ≡ true = rw of_kind refl in
     (word_for word instruction has waits, waits)
@@ -120,7 +124,8 @@ shaped_entry h f has =
     (result_told (layout_of h.values) (seen_behind h h.rob.entries f.pc) h.lines f.word f.instruction)
 
 -- ---- a fetch
-no_word : (word : Option ℕ) (instruction : Option Instr) → instruction ≡ option_and_then instruction_of word → HasWordFor word instruction
+no_word : (word : Option ℕ) (instruction : Option Instr) → instruction ≡ option_and_then instruction_of word →
+    HasWordFor word instruction
 no_word (Some word) instruction is = tt
 no_word None None is = tt
 no_word None (Some instruction) is = absurd (cc)

@@ -22,7 +22,8 @@ one_later limit more Waiting past ends = tt
 one_later limit more (Running issue message) past ends = omega arith
 one_later limit more (Finished issue cycle message) past ends = tt
 
-dispatched_by : (limit : ℕ) (kind : Option Kind) (serialising : Bool) (cycle : ℕ) (message : Message) → EndsBy limit (stage_by kind serialising (Finished None cycle message))
+dispatched_by : (limit : ℕ) (kind : Option Kind) (serialising : Bool) (cycle : ℕ) (message : Message) →
+    EndsBy limit (stage_by kind serialising (Finished None cycle message))
 dispatched_by limit (Some kind) serialising cycle message = tt
 dispatched_by limit None true cycle message = tt
 dispatched_by limit None false cycle message = tt

@@ -30,7 +30,8 @@ by_store layout s width address word =
     by_test FindsFault (not (is_aligned address (bytes_of width))) (Faults StoreAddressMisaligned address) _ (λ is. refl)
     (λ is. by_test FindsFault (not (is_writable layout address (bytes_of width))) (Faults StoreAccessFault address) _ (λ outside. refl) (λ inside. tt))
 
-by_unit : (layout : Layout) (s : State) (lines : Lines) (word : ℕ) (instruction : Instr) → is_some (kind_of_word (Some instruction)) ≡ true → FindsFault (effect layout s lines word instruction)
+by_unit : (layout : Layout) (s : State) (lines : Lines) (word : ℕ) (instruction : Instr) →
+    is_some (kind_of_word (Some instruction)) ≡ true → FindsFault (effect layout s lines word instruction)
 by_unit layout s lines word (Jal rd offset) unit = by_jump s rd _
 by_unit layout s lines word (Jalr rd rs1 offset) unit = by_jump s rd _
 by_unit layout s lines word (Branch condition rs1 rs2 offset) unit = by_branch s (holds condition (register_of s rs1) (register_of s rs2)) (pc_plus s.pc offset)
@@ -51,12 +52,14 @@ HasWordOr fault (Some word) = Unit {0}
 HasWordOr None None = ⊥
 HasWordOr (Some fault) None = Unit {0}
 
-by_word : (layout : Layout) (s : State) (lines : Lines) (word : Option ℕ) (instruction : Option Instr) → HasWordOr None word → is_some (kind_of_word instruction) ≡ true → IsUnitFault (result_of_word layout s lines word instruction).fault
+by_word : (layout : Layout) (s : State) (lines : Lines) (word : Option ℕ) (instruction : Option Instr) → HasWordOr None word →
+    is_some (kind_of_word instruction) ≡ true → IsUnitFault (result_of_word layout s lines word instruction).fault
 by_word layout s lines None instruction has unit = absurd has
 by_word layout s lines (Some word) None has unit = absurd (cc)
 by_word layout s lines (Some word) (Some instruction) has unit = in_message (access_of s instruction) (effect layout s lines word instruction) (by_unit layout s lines word instruction unit)
 
 -- a message of an instruction with a unit gives no fault but one that its unit finds
-pub by_result : (word : Option ℕ) (instruction : Option Instr) (message : Message) → IsResultOfWord word instruction message → HasWordOr None word → is_some (kind_of_word instruction) ≡ true → IsUnitFault message.fault
+pub by_result : (word : Option ℕ) (instruction : Option Instr) (message : Message) → IsResultOfWord word instruction message →
+    HasWordOr None word → is_some (kind_of_word instruction) ≡ true → IsUnitFault message.fault
 by_result word instruction message result has unit =
     subst (λ (m : Message). IsUnitFault m.fault) (sym result.is) (by_word result.layout result.state result.lines word instruction has unit)

@@ -43,42 +43,47 @@ last-append before (x ∷ xs) ys = last-append x xs ys
 has_word : (word : Option ℕ) (message : Message) → message.fault ≡ None → HasWordOr message.fault word → HasWordOr None word
 has_word word message faultless has = subst (λ fault. HasWordOr fault word) faultless has
 
-next_last : (halted : Bool) (word : Option ℕ) (ws : List (Option ℕ)) → HasWordOr None word → HaltsBehind halted (word ∷ ws) → HaltsBehind halted ws
+next_last : (halted : Bool) (word : Option ℕ) (ws : List (Option ℕ)) → HasWordOr None word → HaltsBehind halted (word ∷ ws) →
+    HaltsBehind halted ws
 next_last false word ws has behind = tt
 next_last true None ws has behind = absurd has
 next_last true (Some word) [] has behind = absurd (cc)
 next_last true (Some word) (w ∷ ws) has behind = behind
 
 -- ---- one among the others is another one with the same word
-same_words : (h : Hardware) (older younger : List Entry) (old new : Entry) → new.word ≡ old.word → h.rob.entries ≡ older ++ old ∷ younger →
-    HaltsBehind h.front.halted (words_of h.rob.entries h.front.entries) → HaltsBehind h.front.halted (words_of (older ++ new ∷ younger) h.front.entries)
+same_words : (h : Hardware) (older younger : List Entry) (old new : Entry) → new.word ≡ old.word →
+    h.rob.entries ≡ older ++ old ∷ younger → HaltsBehind h.front.halted (words_of h.rob.entries h.front.entries) →
+    HaltsBehind h.front.halted (words_of (older ++ new ∷ younger) h.front.entries)
 same_words h older younger old new same split behind =
     subst (λ ws. HaltsBehind h.front.halted (ws ++ map word_of_fetched h.front.entries)) (ap (λ es. map word_of_entry es) split ∙ sym (map-change word_of_entry older younger old new same)) behind
 
 -- ---- a dispatch
-moved_words : (entries : List Entry) (e : Entry) (f : Fetched) (rest : List Fetched) → e.word ≡ f.word → words_of (entries ++ e ∷ []) rest ≡ words_of entries (f ∷ rest)
+moved_words : (entries : List Entry) (e : Entry) (f : Fetched) (rest : List Fetched) → e.word ≡ f.word →
+    words_of (entries ++ e ∷ []) rest ≡ words_of entries (f ∷ rest)
 moved_words entries e f rest same =
     ap (λ ws. ws ++ map word_of_fetched rest) (map-append word_of_entry entries (e ∷ []))
     ∙ append_assoc (map word_of_entry entries) (e.word ∷ []) (map word_of_fetched rest)
     ∙ ap (λ w. map word_of_entry entries ++ w ∷ map word_of_fetched rest) same
 
 -- ---- a fetch
-halted_for : (word : Option ℕ) (straight : Bool) (reason : FetchStop) → stop_for word straight ≡ Some reason → reason ≡ Halted → word ≡ None
+halted_for : (word : Option ℕ) (straight : Bool) (reason : FetchStop) → stop_for word straight ≡ Some reason → reason ≡ Halted →
+    word ≡ None
 halted_for None straight reason is halted = refl
 halted_for (Some word) true reason is halted = absurd (cc)
 halted_for (Some word) false reason is halted = absurd (cc)
 
 module _ (ram : Memory) (cycle : ℕ) where
-  last_by : (width room : ℕ) (e : Fetched) (es : List Fetched) (next : ℕ) (stop : FetchStop) (behind : Option FetchStop) → stop_behind e ≡ behind → stop ≡ Halted →
+  last_by : (width room : ℕ) (e : Fetched) (es : List Fetched) (next : ℕ) (stop : FetchStop) (behind : Option FetchStop) →
+      stop_behind e ≡ behind → stop ≡ Halted →
       (Fetches any_prediction ram cycle width room e.predicted es next stop → last_of e.word (map word_of_fetched es) ≡ None) →
-      MatchOption behind (Fetches any_prediction ram cycle width room e.predicted es next stop) (λ reason. (es ≡ []) × (next ≡ e.predicted) × (stop ≡ reason)) →
-      last_of e.word (map word_of_fetched es) ≡ None
+      MatchOption behind (Fetches any_prediction ram cycle width room e.predicted es next stop) (λ reason. (es ≡ []) × (next ≡ e.predicted) × (stop ≡ reason)) → last_of e.word (map word_of_fetched es) ≡ None
   last_by width room e es next stop None is halted on rest = on rest
   last_by width room e es next stop (Some reason) is halted on (none, at, why) =
       ap (λ l. last_of e.word (map word_of_fetched l)) none ∙ halted_for e.word (e.predicted == pc_plus_4 e.pc) reason is (sym why ∙ halted)
 
-  last_added : (width room pc : ℕ) (added : List Fetched) (next : ℕ) (stop : FetchStop) → Fetches any_prediction ram cycle width room pc added next stop → stop ≡ Halted →
-      (before : Option ℕ) → last_of before (map word_of_fetched added) ≡ None
+  last_added : (width room pc : ℕ) (added : List Fetched) (next : ℕ) (stop : FetchStop) →
+      Fetches any_prediction ram cycle width room pc added next stop → stop ≡ Halted → (before : Option ℕ) →
+      last_of before (map word_of_fetched added) ≡ None
   last_added zero room pc [] next stop words halted before = absurd (cc (words.0, halted))
   last_added (suc width) zero pc [] next stop words halted before = absurd (cc (words.0, halted))
   last_added (suc width) (suc room) pc [] next stop words halted before = absurd words.0
@@ -99,8 +104,9 @@ module _ (ram : Memory) (cycle : ℕ) where
       ∙ last-append (last_of (Some 0) (map word_of_entry entries)) (map word_of_fetched old.entries) (map word_of_fetched added)
       ∙ last_added old.width (old.capacity - length old.entries) old.next_pc added next Halted words refl _
 
-  behind_fetched : (entries : List Entry) (old new : FetchBuffer) (stop : FetchStop) → FetchesInto any_prediction ram cycle old new stop →
-      HaltsBehind old.halted (words_of entries old.entries) → HaltsBehind new.halted (words_of entries new.entries)
+  behind_fetched : (entries : List Entry) (old new : FetchBuffer) (stop : FetchStop) →
+      FetchesInto any_prediction ram cycle old new stop → HaltsBehind old.halted (words_of entries old.entries) →
+      HaltsBehind new.halted (words_of entries new.entries)
   behind_fetched entries old new stop fetches behind =
       fetch-cases any_prediction ram cycle old new stop (HaltsBehind new.halted (words_of entries new.entries))
       (λ halted same. subst (λ f. HaltsBehind f.halted (words_of entries f.entries)) (sym same) behind)

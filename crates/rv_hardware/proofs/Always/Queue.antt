@@ -25,7 +25,8 @@ queue_push : (ss : List Store) (s : Store) → CanDrain s → IsQueue ss → IsQ
 queue_push [] s can queue = (can.0, tt)
 queue_push (t ∷ ss) s can queue = (queue.0, Each-push CanDrain ss s can queue.1)
 
-queue_retired : (ss : List Store) (seq : ℕ) (access : Option StoreAccess) → IsQueue ss → IsQueue (ss ++ committed_store seq access)
+queue_retired : (ss : List Store) (seq : ℕ) (access : Option StoreAccess) → IsQueue ss →
+    IsQueue (ss ++ committed_store seq access)
 queue_retired ss seq None queue = subst IsQueue (sym (append-nil ss)) queue
 queue_retired ss seq (Some access) queue = queue_push ss (record { seq = seq; state = Filled access Committed }) (refl, refl) queue
 

@@ -18,7 +18,8 @@ AreSerialLast (x ∷ xs) = WhereOthers xs (is_serialising x ≡ false) × AreSer
 abbrev pub IsSerialLast : Hardware → Type 0
 IsSerialLast h = AreSerialLast (instructions_of h.rob.entries)
 
-fewer_others : (claim : Type 0) (xs ys : List (Option Instr)) (x : Option Instr) → WhereOthers (xs ++ x ∷ ys) claim → WhereOthers (xs ++ x ∷ []) claim
+fewer_others : (claim : Type 0) (xs ys : List (Option Instr)) (x : Option Instr) → WhereOthers (xs ++ x ∷ ys) claim →
+    WhereOthers (xs ++ x ∷ []) claim
 fewer_others claim [] ys x given = given
 fewer_others claim (y ∷ xs) ys x given = given
 
@@ -37,12 +38,14 @@ push_last (e ∷ es) x none =
     (others (is_serialising e.instruction ≡ false) (instructions_of es) x parts.0, push_last es x parts.1)
 
 -- one among them is another one with the same instruction
-changed_last : (es older younger : List Entry) (old new : Entry) → new.instruction ≡ old.instruction → es ≡ older ++ old ∷ younger → AreSerialLast (instructions_of es) → AreSerialLast (instructions_of (older ++ new ∷ younger))
+changed_last : (es older younger : List Entry) (old new : Entry) → new.instruction ≡ old.instruction →
+    es ≡ older ++ old ∷ younger → AreSerialLast (instructions_of es) → AreSerialLast (instructions_of (older ++ new ∷ younger))
 changed_last es older younger old new same split last =
     subst AreSerialLast (ap instructions_of split ∙ sym (map-change instruction_of_entry older younger old new same)) last
 
 -- what is younger is gone
-mended_last : (older younger : List Entry) (old new : Entry) → new.instruction ≡ old.instruction → AreSerialLast (instructions_of (older ++ old ∷ younger)) → AreSerialLast (instructions_of (older ++ new ∷ []))
+mended_last : (older younger : List Entry) (old new : Entry) → new.instruction ≡ old.instruction →
+    AreSerialLast (instructions_of (older ++ old ∷ younger)) → AreSerialLast (instructions_of (older ++ new ∷ []))
 mended_last older younger old new same last =
     let whole = subst AreSerialLast (map-append instruction_of_entry older (old ∷ younger)) last in
     let cut = cut_last (instructions_of older) (instructions_of younger) old.instruction whole in
@@ -86,7 +89,8 @@ pub last-at_reset : (values : Values) (image : List ℕ) (start : ℕ) → IsSer
 last-at_reset values image start = tt
 
 -- so one that is the oldest is alone
-pub alone : (e : Entry) (es : List Entry) → AreSerialLast (instructions_of (e ∷ es)) → is_serialising e.instruction ≡ true → es ≡ []
+pub alone : (e : Entry) (es : List Entry) → AreSerialLast (instructions_of (e ∷ es)) → is_serialising e.instruction ≡ true →
+    es ≡ []
 alone e [] last serial = refl
 alone e (f ∷ es) last serial = absurd (cc (serial, last.0))
 
@@ -98,7 +102,8 @@ older_plain (x ∷ []) younger e last = (last.0, tt)
 older_plain (x ∷ y ∷ older) younger e last = (last.0, older_plain (y ∷ older) younger e last.1)
 
 -- a part of them, from the oldest on, is so too
-pub cut_serial : (older younger : List Entry) → AreSerialLast (instructions_of (older ++ younger)) → AreSerialLast (instructions_of older)
+pub cut_serial : (older younger : List Entry) → AreSerialLast (instructions_of (older ++ younger)) →
+    AreSerialLast (instructions_of older)
 cut_serial [] younger last = tt
 cut_serial (x ∷ []) younger last = (tt, tt)
 cut_serial (x ∷ y ∷ older) younger last = (last.0, cut_serial (y ∷ older) younger last.1)

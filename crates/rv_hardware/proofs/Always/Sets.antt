@@ -20,7 +20,8 @@ empty_fits : (ways : ℕ) → Fits ways []
 empty_fits ways = omega arith
 
 -- an access leaves no more lines in a set than there is room for
-pub accessed-fit : (cache : Contents Memory) (address : ℕ) (writes : Bool) → FitIn cache.values cache.sets → FitIn cache.values (accessed_sets cache address writes)
+pub accessed-fit : (cache : Contents Memory) (address : ℕ) (writes : Bool) → FitIn cache.values cache.sets →
+    FitIn cache.values (accessed_sets cache address writes)
 accessed-fit cache address writes fits =
     let number : ℕ = line_of cache address in
     let room = Each-at (Fits cache.values.ways) cache.sets (number % cache.values.sets) [] (empty_fits cache.values.ways) fits.1 in
@@ -32,7 +33,8 @@ accessed-fit cache address writes fits =
 cleaned_fits : (ways : ℕ) (lines : List CacheLine) → Fits ways lines → Fits ways (map cleaned lines)
 cleaned_fits ways lines fits = omega (arith, length-map lines cleaned)
 
-pub written-fit : (values : CacheValues) (sets : List (List CacheLine)) → FitIn values sets → FitIn values (map (map cleaned) sets)
+pub written-fit : (values : CacheValues) (sets : List (List CacheLine)) → FitIn values sets →
+    FitIn values (map (map cleaned) sets)
 written-fit values sets fits =
     (omega (arith, length-map sets (map cleaned), fits.0), Each-map (Fits values.ways) (map cleaned) (cleaned_fits values.ways) sets fits.1)
 

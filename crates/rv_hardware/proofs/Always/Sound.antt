@@ -55,7 +55,8 @@ abbrev pub IsBounded : Hardware → Type 0
 IsBounded h = IsSoundFor h.values h
 
 -- a cycle leaves it so
-pub sound-cycle : {lines : Lines} {old new : Hardware} {report : Report} → IsCycle any_prediction lines old report new → IsBounded old → IsBounded new
+pub sound-cycle : {lines : Lines} {old new : Hardware} {report : Report} → IsCycle any_prediction lines old report new →
+    IsBounded old → IsBounded new
 sound-cycle {new = new} cycle sound =
     let after = cycle-keeps (always-kept _) cycle sound in
     subst (λ v. IsSoundFor v new) (sym after.sizes.values) after

@@ -22,7 +22,8 @@ store_count-append [] ys = omega arith
 store_count-append (x ∷ xs) ys = omega (arith, store_count-append xs ys)
 
 -- they are those that a load looks at
-one_store : (b : Bool) (s : Store) (ss : List Store) (rest : ℕ) → length ss ≡ rest → length (cond b (s ∷ ss) ss) ≡ cond b 1 0 + rest
+one_store : (b : Bool) (s : Store) (ss : List Store) (rest : ℕ) → length ss ≡ rest →
+    length (cond b (s ∷ ss) ss) ≡ cond b 1 0 + rest
 one_store true s ss rest is = omega (arith, is)
 one_store false s ss rest is = omega (arith, is)
 
@@ -30,7 +31,8 @@ length-stores : (seq : ℕ) (entries : List Entry) → length (stores_of seq ent
 length-stores seq [] = refl
 length-stores seq (e ∷ es) = one_store (is_store e.instruction) _ (stores_of (seq + 1) es) (store_count (instructions_of es)) (length-stores (seq + 1) es)
 
-pub length-stores_behind : (h : Hardware) (entries : List Entry) → length (stores_behind h entries) ≡ length h.committed + store_count (instructions_of entries)
+pub length-stores_behind : (h : Hardware) (entries : List Entry) →
+    length (stores_behind h entries) ≡ length h.committed + store_count (instructions_of entries)
 length-stores_behind h entries =
     omega (arith, length-append h.committed (stores_of h.rob.retired entries), length-stores h.rob.retired entries)
 
@@ -51,8 +53,9 @@ one_committed : (instruction : Option Instr) (seq : ℕ) (access : Option StoreA
 one_committed instruction seq None tells = omega arith
 one_committed instruction seq (Some access) tells = rw (sym tells) (omega arith)
 
-fits_retired : (h : Hardware) (e : Entry) (es : List Entry) (message : Message) → HasStores h → h.rob.entries ≡ e ∷ es → broadcast_of e.stage ≡ Some message →
-    message.fault ≡ None → FitQueue h (h.committed ++ committed_store h.rob.retired message.store) es
+fits_retired : (h : Hardware) (e : Entry) (es : List Entry) (message : Message) → HasStores h → h.rob.entries ≡ e ∷ es →
+    broadcast_of e.stage ≡ Some message → message.fault ≡ None →
+    FitQueue h (h.committed ++ committed_store h.rob.retired message.store) es
 fits_retired h e es message has split known faultless =
     let all : Each Shaped (e ∷ es) = subst (Each Shaped) split has.0.0 in
     let one = one_committed e.instruction h.rob.retired message.store ((told_at_end e.word e.instruction e.stage message known all.0).store faultless) in
@@ -69,17 +72,21 @@ length_draining [] = omega arith
 length_draining (s ∷ ss) = omega arith
 
 -- ---- a change of one instruction, a cut, a dispatch
-same_count : (older younger : List Entry) (old new : Entry) → new.instruction ≡ old.instruction → store_count (instructions_of (older ++ new ∷ younger)) ≡ store_count (instructions_of (older ++ old ∷ younger))
+same_count : (older younger : List Entry) (old new : Entry) → new.instruction ≡ old.instruction →
+    store_count (instructions_of (older ++ new ∷ younger)) ≡ store_count (instructions_of (older ++ old ∷ younger))
 same_count older younger old new same = ap store_count (map-change instruction_of_entry older younger old new same)
 
-count_of : (older younger : List Entry) → store_count (instructions_of (older ++ younger)) ≡ store_count (instructions_of older) + store_count (instructions_of younger)
+count_of : (older younger : List Entry) →
+    store_count (instructions_of (older ++ younger)) ≡ store_count (instructions_of older) + store_count (instructions_of younger)
 count_of older younger = ap store_count (instructions-append older younger) ∙ store_count-append (instructions_of older) (instructions_of younger)
 
-fits_one_more : (is_one : Bool) (count limit : ℕ) → (is_one && nat_le limit count) ≡ false → count ≤ limit → count + cond is_one 1 0 ≤ limit
+fits_one_more : (is_one : Bool) (count limit : ℕ) → (is_one && nat_le limit count) ≡ false → count ≤ limit →
+    count + cond is_one 1 0 ≤ limit
 fits_one_more true count limit may fits = omega (arith, leb-false limit count may)
 fits_one_more false count limit may fits = omega arith
 
-fits_dispatched : (h : Hardware) (fetched : Fetched) → HasStores h → WaitsForNothing h fetched → FitQueue h h.committed (h.rob.entries ++ entry_of_fetched h fetched ∷ [])
+fits_dispatched : (h : Hardware) (fetched : Fetched) → HasStores h → WaitsForNothing h fetched →
+    FitQueue h h.committed (h.rob.entries ++ entry_of_fetched h fetched ∷ [])
 fits_dispatched h fetched has none =
     let all : ℕ = length (stores_behind h h.rob.entries) in
     let counted : all ≡ length h.committed + store_count (instructions_of h.rob.entries) = length-stores_behind h h.rob.entries in

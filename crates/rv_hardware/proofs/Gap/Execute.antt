@@ -30,7 +30,8 @@ pub broadcast-same : (h : Hardware) → (broadcast h).cycle ≡ h.cycle
 broadcast-same h = (broadcast-keeps (same-kept h.values h.cache.values h.cycle).broadcast h (refl, refl, refl)).2
 
 -- in the next cycle the longest execution is the same
-pub same-longest : (h : Hardware) (front : FetchBuffer) → longest_execution (later front (execute h).hardware) ≡ longest_execution h
+pub same-longest : (h : Hardware) (front : FetchBuffer) →
+    longest_execution (later front (execute h).hardware) ≡ longest_execution h
 same-longest h front =
     let same = execute-same h in
     let d : Hardware = (execute h).hardware in
@@ -63,11 +64,13 @@ module _ (instruction : Option Instr) (R : Stage → Type 0) (cycle : ℕ)
   }
 
   -- the dispatch phase leaves the oldest instruction as it was
-  pub head-dispatched : (h : Hardware) → HeadIs instruction R h.rob.entries → h.cycle ≡ cycle → HeadIs instruction R (dispatch h).hardware.rob.entries
+  pub head-dispatched : (h : Hardware) → HeadIs instruction R h.rob.entries → h.cycle ≡ cycle →
+      HeadIs instruction R (dispatch h).hardware.rob.entries
   head-dispatched h head is = (dispatch-keeps head_dispatch h (head, is)).0
 
   -- the broadcast phase leaves the oldest instruction in such a stage
-  pub head-broadcasted : (h : Hardware) → HeadIs instruction R h.rob.entries → h.cycle ≡ cycle → HeadIs instruction R (broadcast h).rob.entries
+  pub head-broadcasted : (h : Hardware) → HeadIs instruction R h.rob.entries → h.cycle ≡ cycle →
+      HeadIs instruction R (broadcast h).rob.entries
   head-broadcasted h head is = (broadcast-keeps head_broadcast h (head, is)).0
 
   -- a turn of the broadcast phase does
@@ -75,36 +78,44 @@ module _ (instruction : Option Instr) (R : Stage → Type 0) (cycle : ℕ)
   head-turn h has = broadcast_turn-keeps head_broadcast h has
 
 -- ---- its patience in the cycle after
-plain_time : (h : Hardware) (instruction : Option Instr) (stage : Stage) → is_serialising instruction ≡ false → head_time h instruction stage ≡ stage_time h instruction stage
+plain_time : (h : Hardware) (instruction : Option Instr) (stage : Stage) → is_serialising instruction ≡ false →
+    head_time h instruction stage ≡ stage_time h instruction stage
 plain_time h (Some FenceI) stage plain = absurd (cc)
 plain_time h instruction stage plain = refl
 
 module _ (h : Hardware) (instruction : Option Instr) (R : Stage → Type 0) (most limit : ℕ) where
-  head_in : (entries : List Entry) → ((stage : Stage) → R stage → EndsBy limit stage → head_time h instruction stage ≤ most) → HeadIs instruction R entries → Each (Ending limit) entries → flight_time h entries ≤ most
+  head_in : (entries : List Entry) → ((stage : Stage) → R stage → EndsBy limit stage → head_time h instruction stage ≤ most) →
+      HeadIs instruction R entries → Each (Ending limit) entries → flight_time h entries ≤ most
   head_in [] bound head ends = absurd head
   head_in (e ∷ es) bound head ends = subst (λ i. head_time h i e.stage ≤ most) (sym head.0) (bound e.stage head.1 ends.0)
 
   -- the patience is no greater than what the oldest instruction's stage allows
-  pub head-patience : ((stage : Stage) → R stage → EndsBy limit stage → head_time h instruction stage ≤ most) → HeadIs instruction R h.rob.entries → Each (Ending limit) h.rob.entries → patience h ≤ most
+  pub head-patience : ((stage : Stage) → R stage → EndsBy limit stage → head_time h instruction stage ≤ most) →
+      HeadIs instruction R h.rob.entries → Each (Ending limit) h.rob.entries → patience h ≤ most
   head-patience bound head ends = head_in h.rob.entries bound head ends
 
   -- the same, where the oldest does not serialise
-  pub plain-patience : is_serialising instruction ≡ false → ((stage : Stage) → R stage → EndsBy limit stage → stage_time h instruction stage ≤ most) → HeadIs instruction R h.rob.entries → Each (Ending limit) h.rob.entries → patience h ≤ most
+  pub plain-patience : is_serialising instruction ≡ false →
+      ((stage : Stage) → R stage → EndsBy limit stage → stage_time h instruction stage ≤ most) →
+      HeadIs instruction R h.rob.entries → Each (Ending limit) h.rob.entries → patience h ≤ most
   plain-patience plain bound head ends =
       head-patience (λ stage is by. subst (λ n. n ≤ most) (sym (plain_time h instruction stage plain)) (bound stage is by)) head ends
 
 -- the patience of hardware with a given oldest instruction
-pub plain-head : (h : Hardware) (e : Entry) (es : List Entry) → h.rob.entries ≡ e ∷ es → is_serialising e.instruction ≡ false → patience h ≡ stage_time h e.instruction e.stage
+pub plain-head : (h : Hardware) (e : Entry) (es : List Entry) → h.rob.entries ≡ e ∷ es → is_serialising e.instruction ≡ false →
+    patience h ≡ stage_time h e.instruction e.stage
 plain-head h e es split plain = ap (flight_time h) split ∙ plain_time h e.instruction e.stage plain
 
 -- where it has begun, it is over within the longest execution
-pub begun_stage : (h : Hardware) (instruction : Option Instr) (stage : Stage) → HasBegun stage → EndsBy (h.cycle + longest_execution h) stage → stage_time h instruction stage ≤ longest_execution h + 1
+pub begun_stage : (h : Hardware) (instruction : Option Instr) (stage : Stage) → HasBegun stage →
+    EndsBy (h.cycle + longest_execution h) stage → stage_time h instruction stage ≤ longest_execution h + 1
 begun_stage h instruction Waiting begun ends = absurd (cc)
 begun_stage h instruction (Running issue message) begun ends = omega arith
 begun_stage h instruction (Finished issue cycle message) begun ends = omega arith
 
 -- where the oldest has begun its execution, the patience is the longest execution's time and one at most
-pub begun-patience : (h : Hardware) (instruction : Option Instr) → is_serialising instruction ≡ false → HeadIs instruction HasBegun h.rob.entries → AreEnding h → patience h ≤ longest_execution h + 1
+pub begun-patience : (h : Hardware) (instruction : Option Instr) → is_serialising instruction ≡ false →
+    HeadIs instruction HasBegun h.rob.entries → AreEnding h → patience h ≤ longest_execution h + 1
 begun-patience h instruction plain head ends =
     plain-patience h instruction HasBegun (longest_execution h + 1) (h.cycle + longest_execution h) plain (λ stage is by. begun_stage h instruction stage is by) head ends
 

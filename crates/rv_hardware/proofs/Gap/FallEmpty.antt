@@ -31,7 +31,8 @@ module _ (ram : Memory) (cycle : ℕ) (old new : FetchBuffer) (stop : FetchStop)
       fetch-cases any_prediction ram cycle old new stop (IsCons new.entries) (λ halted same. subst (λ f. IsCons f.entries) (sym same) some)
       (λ runs adds. subst (λ f. IsCons f.entries) (sym adds.is) (cons_append old.entries adds.added some)) fetches
 
-  some_added : (width room pc : ℕ) (added : List Fetched) (next : ℕ) → 1 ≤ width → 1 ≤ room → Fetches any_prediction ram cycle width room pc added next stop → IsCons added
+  some_added : (width room pc : ℕ) (added : List Fetched) (next : ℕ) → 1 ≤ width → 1 ≤ room →
+      Fetches any_prediction ram cycle width room pc added next stop → IsCons added
   some_added width room pc (f ∷ added) next wide free words = tt
   some_added zero room pc [] next wide free words = absurd (omega arith)
   some_added (suc width) zero pc [] next wide free words = absurd (omega arith)
@@ -62,7 +63,8 @@ free_stations h None sizes none = refl
 free_stations h (Some k) sizes none =
     ap (λ (l : List Entry). nat_le (at_kind k h.values.kinds).stations (length (filter (is_stationed k) l))) none ∙ le_none (at_kind k h.values.kinds).stations (some_stations h k sizes)
 
-waits_for_stores : (h : Hardware) (fetched : Fetched) → HasSizes h → h.rob.entries ≡ [] → WaitsFor h fetched → h.values.store_queue ≤ length h.committed
+waits_for_stores : (h : Hardware) (fetched : Fetched) → HasSizes h → h.rob.entries ≡ [] → WaitsFor h fetched →
+    h.values.store_queue ≤ length h.committed
 waits_for_stores h fetched sizes none (for_serial is) = absurd (true≢false (sym is ∙ ap is_any_serialising none))
 waits_for_stores h fetched sizes none (for_buffer is) =
     let capacity : 1 ≤ h.rob.capacity = omega (arith, sizes.buffer, sizes.legal.pipeline.rob.0) in
@@ -114,13 +116,15 @@ pushed_cons (x ∷ es) e = tt
 data Dispatched (time : ℕ) (before after : Hardware) : Type 0 where
   entered : Something time after → Dispatched time before after
   none_fetched : after ≡ before → before.front.entries ≡ [] → Dispatched time before after
-  waits : after ≡ before → IsCons before.front.entries → before.values.store_queue ≤ length before.committed → Dispatched time before after
+  waits : after ≡ before → IsCons before.front.entries → before.values.store_queue ≤ length before.committed →
+      Dispatched time before after
 
 module _ (g : Hardware) (sizes : HasSizes g) (none : g.rob.entries ≡ []) (time : ℕ) (port : next_port_time g ≡ time) (width : ℕ) where
   abbrev first : Dispatching
   first = record { hardware = g; dispatched = 0; waits_for = None }
 
-  by_turn : (t : Turn Dispatching) → DispatchTurn first t → Dispatched time g (followed_by (repeated dispatch_turn width) t).hardware
+  by_turn : (t : Turn Dispatching) → DispatchTurn first t →
+      Dispatched time g (followed_by (repeated dispatch_turn width) t).hardware
   by_turn _ (buffer_empty words) = none_fetched refl words
   by_turn _ (word_waits fetched rest reason words why) =
       waits refl (subst IsCons (sym words) tt) (waits_for_stores g fetched sizes none why)
@@ -128,7 +132,8 @@ module _ (g : Hardware) (sizes : HasSizes g) (none : g.rob.entries ≡ []) (time
       let after : Dispatching = record { hardware = with_dispatched fetched rest g; dispatched = 0 + 1; waits_for = None } in
       entered (dispatch_turns-keep (something_dispatch time) width after (pushed_cons g.rob.entries _, port))
 
-dispatched : (g : Hardware) → HasSizes g → g.rob.entries ≡ [] → (time : ℕ) → next_port_time g ≡ time → Dispatched time g (dispatch g).hardware
+dispatched : (g : Hardware) → HasSizes g → g.rob.entries ≡ [] → (time : ℕ) → next_port_time g ≡ time →
+    Dispatched time g (dispatch g).hardware
 dispatched g sizes none time port =
     let wide : g.values.dispatch_width ≡ suc (g.values.dispatch_width - 1) = omega (arith, sizes.legal.pipeline.dispatch_width.0) in
     let first_of_all : Dispatching = record { hardware = g; dispatched = 0; waits_for = None } in
@@ -140,7 +145,8 @@ some_time : (access : ℕ) (stores : List Store) → 1 ≤ length stores → 1 �
 some_time access [] some = absurd (omega arith)
 some_time access (s ∷ ss) some = omega arith
 
-in_flight_most : (g : Hardware) → IsBounded g → (entries : List Entry) → g.rob.entries ≡ entries → IsCons entries → patience g ≤ port_time g + longest_write_back g + 2 * longest_execution g + 2
+in_flight_most : (g : Hardware) → IsBounded g → (entries : List Entry) → g.rob.entries ≡ entries → IsCons entries →
+    patience g ≤ port_time g + longest_write_back g + 2 * longest_execution g + 2
 in_flight_most g sound [] split some = absurd some
 in_flight_most g sound (e ∷ es) split some = flight_time-most g sound e es split
 
@@ -179,7 +185,8 @@ module _ (h : Hardware) (front : FetchBuffer) (ram : Memory) (cycle : ℕ) (stop
   before_is : patience h ≡ port_time h + longest_write_back h + 2 * longest_execution h + 3 + fetch_time h.front.entries
   before_is = ap (flight_time h) none
 
-  empty_is : new.rob.entries ≡ [] → patience new ≡ port_time new + longest_write_back new + 2 * longest_execution new + 3 + fetch_time front.entries
+  empty_is : new.rob.entries ≡ [] →
+      patience new ≡ port_time new + longest_write_back new + 2 * longest_execution new + 3 + fetch_time front.entries
   empty_is still = ap (flight_time new) still
 
   by_dispatch : Dispatched time last d → patience new + 1 ≤ patience h

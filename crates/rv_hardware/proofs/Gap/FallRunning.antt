@@ -32,7 +32,8 @@ not_waiting end Waiting waits runs = runs
 not_waiting end (Running issue message) waits runs = cc
 not_waiting end (Finished issue cycle message) waits runs = runs
 
-runs_by_issue : (instruction : Option Instr) (end : ℕ) (k : Kind) → IsKeptByIssue (λ h. HeadIs instruction (RunsUntil end) h.rob.entries) k
+runs_by_issue : (instruction : Option Instr) (end : ℕ) (k : Kind) →
+    IsKeptByIssue (λ h. HeadIs instruction (RunsUntil end) h.rob.entries) k
 runs_by_issue instruction end k = record {
   accesses = λ h older younger e address head split ready by. head;
   starts = λ h older younger e cost message head split waits of_kind result costs.
@@ -92,8 +93,8 @@ module _ (h : Hardware) (front : FetchBuffer) (instruction : Option Instr) (end 
   one_is_due due (e ∷ es) runs none =
       true≢false (sym (result_due end issued.cycle e.stage runs.1 (omega (arith, number))) ∙ none.0)
 
-  it_is_first : end ≤ h.cycle → (older younger : List Entry) (e : Entry) → HeadIs instruction (RunsUntil end) (older ++ e ∷ younger) →
-      NoneDue older → (older ≡ []) × (e.instruction ≡ instruction)
+  it_is_first : end ≤ h.cycle → (older younger : List Entry) (e : Entry) →
+      HeadIs instruction (RunsUntil end) (older ++ e ∷ younger) → NoneDue older → (older ≡ []) × (e.instruction ≡ instruction)
   it_is_first due [] younger e runs none = (refl, runs.0)
   it_is_first due (o ∷ older) younger e runs none = absurd (one_is_due due (o ∷ []) runs (none.0, tt))
 

@@ -32,8 +32,8 @@ abbrev pub SilentAt : List Entry → Hardware → Hardware → Type 0
 SilentAt [] h after = after ≡ h
 SilentAt (e ∷ es) h after = SilentHead e.instruction e.stage h after
 
-silent_plain : (h : Hardware) (instruction : Option Instr) (stage : Stage) → is_serialising instruction ≡ false → broadcast_of stage ≡ None →
-    SilentHead instruction stage h h
+silent_plain : (h : Hardware) (instruction : Option Instr) (stage : Stage) → is_serialising instruction ≡ false →
+    broadcast_of stage ≡ None → SilentHead instruction stage h h
 silent_plain h (Some FenceI) stage plain unknown = absurd (cc)
 silent_plain h (Some (Csr op rd csr source)) stage plain unknown = absurd (cc)
 silent_plain h (Some Mret) stage plain unknown = absurd (cc)
@@ -77,10 +77,12 @@ module _ (is_stale : set.FinSet nat_cmp → ℕ → Bool) where
     abbrev start : Committing
     start = record { hardware = h; steps = []; stop = None }
 
-    at_head : (e : Entry) (es : List Entry) (after : Hardware) → h.rob.entries ≡ e ∷ es → SilentHead e.instruction e.stage h after → Left after
+    at_head : (e : Entry) (es : List Entry) (after : Hardware) → h.rob.entries ≡ e ∷ es →
+        SilentHead e.instruction e.stage h after → Left after
     at_head e es after split silent = subst (λ l. SilentAt l h after) (sym split) silent
 
-    at_fence : (e : Entry) (es : List Entry) (after : Hardware) → h.rob.entries ≡ e ∷ es → e.instruction ≡ Some FenceI → SilentFence h after → Left after
+    at_fence : (e : Entry) (es : List Entry) (after : Hardware) → h.rob.entries ≡ e ∷ es → e.instruction ≡ Some FenceI →
+        SilentFence h after → Left after
     at_fence e es after split is silent = at_head e es after split (subst (λ i. SilentHead i e.stage h after) (sym is) silent)
 
     first_outcome : (t : Turn Committing) → CommitTurn is_stale start t → Outcome t
@@ -98,8 +100,8 @@ module _ (is_stale : set.FinSet nat_cmp → ℕ → Bool) where
     first_outcome _ (retires e es issue cycle message head plain at none) = reports (GoesOn _) tt
     first_outcome _ (retires_last e es issue cycle message head plain at none) = reports (Ends _) tt
 
-  unless_silent : (code : Option ℕ) (h : Hardware) → 1 ≤ h.values.commit_width → (commit_unless is_stale code h).steps ≡ [] → (commit_unless is_stale code h).stop ≡ None →
-      SilentAt h.rob.entries h (commit_unless is_stale code h).hardware
+  unless_silent : (code : Option ℕ) (h : Hardware) → 1 ≤ h.values.commit_width → (commit_unless is_stale code h).steps ≡ [] →
+      (commit_unless is_stale code h).stop ≡ None → SilentAt h.rob.entries h (commit_unless is_stale code h).hardware
   unless_silent (Some code) h wide silent going = absurd (cc)
   unless_silent None h wide silent going =
       let width : h.values.commit_width ≡ suc (h.values.commit_width - 1) = omega arith in
@@ -108,5 +110,6 @@ module _ (is_stale : set.FinSet nat_cmp → ℕ → Bool) where
       (sym width) (first_outcome h (h.values.commit_width - 1) (commit_turn is_stale first) (commit_turn_is is_stale first)) silent going
 
   -- a commit phase that reports no step and does not stop leaves its oldest waiting
-  pub silent_commit : (h : Hardware) → 1 ≤ h.values.commit_width → (commit is_stale h).steps ≡ [] → (commit is_stale h).stop ≡ None → SilentAt h.rob.entries h (commit is_stale h).hardware
+  pub silent_commit : (h : Hardware) → 1 ≤ h.values.commit_width → (commit is_stale h).steps ≡ [] →
+      (commit is_stale h).stop ≡ None → SilentAt h.rob.entries h (commit is_stale h).hardware
   silent_commit h wide silent going = unless_silent (due h.csrs h.lines) h wide silent going

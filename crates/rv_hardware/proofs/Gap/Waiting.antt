@@ -15,7 +15,8 @@ begun_by_issue instruction j = record {
       (subst (HeadIs instruction HasBegun) split head);
 }
 
-pub begun-issue_kind : (instruction : Option Instr) (j : Kind) (h : Hardware) → HeadIs instruction HasBegun h.rob.entries → HeadIs instruction HasBegun (issue_kind j h).rob.entries
+pub begun-issue_kind : (instruction : Option Instr) (j : Kind) (h : Hardware) → HeadIs instruction HasBegun h.rob.entries →
+    HeadIs instruction HasBegun (issue_kind j h).rob.entries
 begun-issue_kind instruction j h head = issue_kind-keeps j (starts-keep (begun_by_issue instruction j)) h head
 
 module _ (instruction : Option Instr) (k : Kind) (of_kind : kind_of_word instruction ≡ Some k) (pool : Pool) (cycle : ℕ) where
@@ -70,8 +71,8 @@ module _ (instruction : Option Instr) (k : Kind) (of_kind : kind_of_word instruc
   one_is_ready h can [] head none = head
   one_is_ready h can (e ∷ es) head none = true≢false (sym (it_is_ready h can e head.0 head.1) ∙ none.0)
 
-  it_is_first : (h : Hardware) → CanStart h → (older younger : List Entry) (e : Entry) → HeadIs instruction Waits (older ++ e ∷ younger) →
-      NoneReady h older → (older ≡ []) × (e.instruction ≡ instruction)
+  it_is_first : (h : Hardware) → CanStart h → (older younger : List Entry) (e : Entry) →
+      HeadIs instruction Waits (older ++ e ∷ younger) → NoneReady h older → (older ≡ []) × (e.instruction ≡ instruction)
   it_is_first h can [] younger e head none = (refl, head.0)
   it_is_first h can (o ∷ older) younger e head none = absurd (one_is_ready h can (o ∷ []) head (none.0, tt))
 
@@ -80,7 +81,8 @@ module _ (instruction : Option Instr) (k : Kind) (of_kind : kind_of_word instruc
   begun_after units h begun =
       kept_by_turns (λ after. HeadIs instruction HasBegun after.rob.entries) (issue_turn k) (issue_turn-keeps k (starts-keep (begun_by_issue instruction k))) units h begun
 
-  first_turn : (units : ℕ) (h : Hardware) (t : Turn Hardware) → IssueTurn k h t → CanStart h → IsAfterIssue (followed_by (repeated (issue_turn k) units) t)
+  first_turn : (units : ℕ) (h : Hardware) (t : Turn Hardware) → IssueTurn k h t → CanStart h →
+      IsAfterIssue (followed_by (repeated (issue_turn k) units) t)
   first_turn units h _ (no_unit held) can =
       inl (can, sym (ap (λ c. is_free c (at_kind k h.units)) can.2 ∙ ap (is_free cycle) can.1) ∙ held)
   first_turn units h _ (none_ready none) can = absurd (one_is_ready h can h.rob.entries can.0 none)
@@ -96,8 +98,7 @@ module _ (instruction : Option Instr) (k : Kind) (of_kind : kind_of_word instruc
       subst (λ units. IsAfterIssue (repeated (issue_turn k) units h)) (sym some) (first_turn ((at_kind k h.values.kinds).units - 1) h (issue_turn k h) (issue_turn_is k h) can)
 
 -- the four kinds, one after another
-pub after_issue : (instruction : Option Instr) (k : Kind) (of_kind : kind_of_word instruction ≡ Some k) (pool : Pool) (cycle : ℕ) (h : Hardware) →
-    CanStart instruction k of_kind pool cycle h → IsAfterIssue instruction k of_kind pool cycle (issue h)
+pub after_issue : (instruction : Option Instr) (k : Kind) (of_kind : kind_of_word instruction ≡ Some k) (pool : Pool) (cycle : ℕ) (h : Hardware) → CanStart instruction k of_kind pool cycle h → IsAfterIssue instruction k of_kind pool cycle (issue h)
 after_issue instruction kind.Alu is pool cycle h can =
     let a : Hardware = issue_kind kind.Alu h in
     let m : Hardware = issue_kind kind.Mul a in

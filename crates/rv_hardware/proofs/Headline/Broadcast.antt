@@ -8,13 +8,15 @@ use Rattle.rv_hardware.proofs.Headline.Stage.{behind_aligned, here_in_flight, Fo
 use Rattle.rv_hardware.proofs.Turns.Broadcast.{BroadcastTurn, Sends, none_ready, sends, mends, broadcast_turn_is, sent_entries, mended_entries}
 
 -- ---- the pc after an instruction that does not fault is a multiple of 4
-aligned_effect : (layout : Layout) (s : State) (target : Option ℕ) (access : Option StoreAccess) (effect : Effect) → IsTold layout s target access effect →
-    is_none (effect_message access effect).fault ≡ true → (effect_message access effect).next_pc % 4 ≡ 0
+aligned_effect : (layout : Layout) (s : State) (target : Option ℕ) (access : Option StoreAccess) (effect : Effect) →
+    IsTold layout s target access effect → is_none (effect_message access effect).fault ≡ true →
+    (effect_message access effect).next_pc % 4 ≡ 0
 aligned_effect layout s target access (Retires written next) told none = told.aligned
 aligned_effect layout s target access (Faults cause value) told none = absurd (false≢true none)
 
-pub aligned_result : (layout : Layout) (s : State) (lines : Lines) (word : Option ℕ) (i : Option Instr) → s.pc % 4 ≡ 0 → is_serialising i ≡ false →
-    is_none (result_of_word layout s lines word i).fault ≡ true → (result_of_word layout s lines word i).next_pc % 4 ≡ 0
+pub aligned_result : (layout : Layout) (s : State) (lines : Lines) (word : Option ℕ) (i : Option Instr) → s.pc % 4 ≡ 0 →
+    is_serialising i ≡ false → is_none (result_of_word layout s lines word i).fault ≡ true →
+    (result_of_word layout s lines word i).next_pc % 4 ≡ 0
 aligned_result layout s lines None i here plain none = absurd (false≢true none)
 aligned_result layout s lines (Some word) None here plain none = absurd (false≢true none)
 aligned_result layout s lines (Some word) (Some i) here plain none =
@@ -59,7 +61,8 @@ module _ (values : Values) (cycle : ℕ) (state : State) (h : Hardware) (is : Is
   abbrev mended : Entry
   mended = predicting message.next_pc known
 
-  recovered_one : message.next_pc % 4 ≡ 0 → IsSoundAt values cycle state (with_recovery seq message (with_broadcast seq message h))
+  recovered_one : message.next_pc % 4 ≡ 0 →
+      IsSoundAt values cycle state (with_recovery seq message (with_broadcast seq message h))
   recovered_one aligned =
       let after = mended_entries h older younger e message sent.place in
       let both : AreInFlight layout s s (older ++ known ∷ younger) =
@@ -85,7 +88,8 @@ module _ (values : Values) (cycle : ℕ) (state : State) (h : Hardware) (is : Is
       (sym (ap (λ (m : Message). is_none m.fault) result) ∙ kinds.1)
 
 module _ (values : Values) (cycle : ℕ) (state : State) where
-  turn_kept : (h : Hardware) (t : Turn Hardware) → BroadcastTurn h t → IsSoundAt values cycle state h → Leaves (IsSoundAt values cycle state) t
+  turn_kept : (h : Hardware) (t : Turn Hardware) → BroadcastTurn h t → IsSoundAt values cycle state h →
+      Leaves (IsSoundAt values cycle state) t
   turn_kept h _ (none_ready none) is = is
   turn_kept h _ (sends older younger e issue message sent late) is = broadcast_one values cycle state h is older younger e issue message sent
   turn_kept h _ (mends older younger e issue message sent early) is =

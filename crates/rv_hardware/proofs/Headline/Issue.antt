@@ -25,7 +25,8 @@ IsInRam h Without = Unit {0}
 IsInRam h FromStores = Unit {0}
 IsInRam h (FromCache address) = (h.values.ram_base ≤ address) × (address < h.values.ram_base + h.values.ram_size)
 
-load_in_ram : (h : Hardware) (address count : ℕ) (fits covered : Bool) → 1 ≤ count → (is_aligned address count && is_in_ram (layout_of h.values) address count) ≡ fits →
+load_in_ram : (h : Hardware) (address count : ℕ) (fits covered : Bool) → 1 ≤ count →
+    (is_aligned address count && is_in_ram (layout_of h.values) address count) ≡ fits →
     IsInRam h (if not fits then Without else (if covered then FromStores else FromCache address))
 load_in_ram h address count false covered some fits = tt
 load_in_ram h address count true true some fits = tt
@@ -35,13 +36,15 @@ load_in_ram h address count true false some fits =
     let below = leb-true (address + count) (h.values.ram_base + h.values.ram_size) inside.1 in
     (above, omega (arith, some, below))
 
-path_in_ram : (h : Hardware) (older : List Entry) (s : State) (instruction : Option Instr) → IsInRam h (path_of h older s instruction)
+path_in_ram : (h : Hardware) (older : List Entry) (s : State) (instruction : Option Instr) →
+    IsInRam h (path_of h older s instruction)
 path_in_ram h older s (Some (Load form rd rs1 offset)) = load_in_ram h _ _ _ _ (some_bytes (width_of form)) refl
 path_in_ram h older s _ = tt
 
 module _ (values : Values) (cycle : ℕ) (state : State) where
   -- ---- an access to the cache
-  access_kept : (p : Path) (h : Hardware) → IsInRam h p → IsSoundAt values cycle state h → IsSoundAt values cycle state (with_access p h)
+  access_kept : (p : Path) (h : Hardware) → IsInRam h p → IsSoundAt values cycle state h →
+      IsSoundAt values cycle state (with_access p h)
   access_kept Without h inside is = is
   access_kept FromStores h inside is = is
   access_kept (FromCache address) h inside is =
@@ -64,9 +67,7 @@ module _ (values : Values) (cycle : ℕ) (state : State) where
       })
 
   -- ---- the start of an execution
-  start_kept : (k : Kind) (cost seq : ℕ) (message : Message) (older : List Entry) (e : Entry) (younger : List Entry) (h : Hardware) → IsSoundAt values cycle state h →
-      h.rob.entries ≡ older ++ e ∷ younger → seq ≡ h.rob.retired + length older → message ≡ result_at (layout_of h.values) (behind (layout_of h.values) older (seen h)) e →
-      IsSoundAt values cycle state (with_start k seq cost message h)
+  start_kept : (k : Kind) (cost seq : ℕ) (message : Message) (older : List Entry) (e : Entry) (younger : List Entry) (h : Hardware) → IsSoundAt values cycle state h → h.rob.entries ≡ older ++ e ∷ younger → seq ≡ h.rob.retired + length older → message ≡ result_at (layout_of h.values) (behind (layout_of h.values) older (seen h)) e → IsSoundAt values cycle state (with_start k seq cost message h)
   start_kept k cost seq message older e younger h is entries at result =
       let issue : Issue = record { cycle = h.cycle; cost = cost } in
       with_other_program values cycle state h is (with_kind k (started_unit cost h.cycle (at_kind k h.units)) h.units) (changed (started issue message) seq h.rob) h.front
@@ -74,16 +75,14 @@ module _ (values : Values) (cycle : ℕ) (state : State) where
       (ap (λ (es : List Entry). (changed (started issue message) seq (record h.rob { entries = es })).entries) entries ∙ with_entry-at (started issue message) seq h.rob.retired older younger e at)
       result is.sound.program)
 
-  started_kept : (p : Path) (k : Kind) (cost seq : ℕ) (message : Message) (older : List Entry) (e : Entry) (younger : List Entry) (h : Hardware) → IsInRam h p → IsSoundAt values cycle state h →
-      h.rob.entries ≡ older ++ e ∷ younger → seq ≡ h.rob.retired + length older → message ≡ result_at (layout_of h.values) (behind (layout_of h.values) older (seen h)) e →
-      IsSoundAt values cycle state (with_start k seq cost message (with_access p h))
+  started_kept : (p : Path) (k : Kind) (cost seq : ℕ) (message : Message) (older : List Entry) (e : Entry) (younger : List Entry) (h : Hardware) → IsInRam h p → IsSoundAt values cycle state h → h.rob.entries ≡ older ++ e ∷ younger → seq ≡ h.rob.retired + length older → message ≡ result_at (layout_of h.values) (behind (layout_of h.values) older (seen h)) e → IsSoundAt values cycle state (with_start k seq cost message (with_access p h))
   started_kept Without k cost seq message older e younger h inside is entries at result = start_kept k cost seq message older e younger h is entries at result
   started_kept FromStores k cost seq message older e younger h inside is entries at result = start_kept k cost seq message older e younger h is entries at result
   started_kept (FromCache address) k cost seq message older e younger h inside is entries at result =
       start_kept k cost seq message older e younger (with_access (FromCache address) h) (access_kept (FromCache address) h inside is) entries at result
 
-  issued_kept : (k : Kind) (h : Hardware) (older younger : List Entry) (e : Entry) → IsSoundAt values cycle state h → h.rob.entries ≡ older ++ e ∷ younger →
-      is_ready h k older e ≡ true → IsSoundAt values cycle state (issued k h older e)
+  issued_kept : (k : Kind) (h : Hardware) (older younger : List Entry) (e : Entry) → IsSoundAt values cycle state h →
+      h.rob.entries ≡ older ++ e ∷ younger → is_ready h k older e ≡ true → IsSoundAt values cycle state (issued k h older e)
   issued_kept k h older younger e is entries passes =
       let all : AreInFlight (layout_of h.values) (seen h) (seen h) (older ++ e ∷ younger) =
       subst (AreInFlight (layout_of h.values) (seen h) (seen h)) entries is.sound.program.in_flight in

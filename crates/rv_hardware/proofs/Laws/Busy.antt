@@ -2,7 +2,7 @@
 use Rattle.rv_hardware.proofs.Words.{◌≡◌, ℕ, suc, ◌+◌, ◌-◌, ◌<◌, ◌≤◌, Bool, true, false, cond, not, ◌||◌, List, [], ◌∷◌, ◌++◌, map, length, ◌==◌, Some, None, sym, refl, ap, ◌∙◌, subst, append_assoc, append-nil, arith, ne_eqb, eqb-true, list_any, range_with_len, Arrival, Lines, Values, Each, Entry, Fetched, IsCycle, any_prediction, Dispatching, dispatch, dispatch_turn, Hardware, AreCounted, dispatch_cycles, Turn, Report, Cycles, Reachable, busy_of, cycled, ended, stalls_of, steps_of, is_dispatched_in, rows_of, Row, Step, Each-append, Each-left, Each-set, Each-place, Each-weaker, Each-all, Each-map, Each-unmap, count, count-count_by, count-le, Leads, kept_by_turns}
 use Rattle.rv_hardware.proofs.Headline.Reached.{cycles_counted}
 use Rattle.rv_hardware.proofs.Marks.Advance.{Advances, Kept, retires as a_retires, starts as a_starts, is_sent as a_is_sent, enters as a_enters}
-use Rattle.rv_hardware.proofs.Marks.History.{Anything, anything_is_kept, History, went_on, Passed, cycle_passes, dispatching, sent_all, history_is_legal, history_is_sound, reachable_has_history}
+use Rattle.rv_hardware.proofs.Marks.History.{Anything, History, went_on, Passed, cycle_passes, dispatching, sent_all, history_is_legal, history_is_sound, reachable_has_history, history_passes}
 use Rattle.rv_hardware.proofs.Turns.Dispatch.{DispatchTurn, buffer_empty, waits, dispatches, dispatch_turn_is}
 use Rattle.rv_hardware.proofs.Marks.List.{Mark, mark_of_row, mark_of_entry, mark_of_fetched, marks_in, rows_append}
 use Rattle.rv_hardware.proofs.Laws.OfCycles.{counts_of_runs}
@@ -69,7 +69,7 @@ module _ (now : ℕ) where
 
 module _ (v : Values) {earlier : List Step} {old new : Hardware} {lines : Lines} {report : Report} (before : History v earlier old) (is : IsCycle any_prediction lines old report new) (idle : report.dispatched ≡ 0) where
   passed : Passed v Anything earlier lines old report new
-  passed = cycle_passes v (history_is_legal v before) Anything earlier lines old new report (anything_is_kept v old.cycle) (history_is_sound v before) tt is
+  passed = history_passes v before is
 
   idle_marks : Each (IsElsewhere old.cycle) (marks_in (earlier ++ report.steps) new)
   idle_marks =

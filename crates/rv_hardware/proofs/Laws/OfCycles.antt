@@ -2,7 +2,7 @@
 use Rattle.rv_hardware.proofs.Words.{◌≡◌, ℕ, ◌+◌, List, [], ◌∷◌, ◌++◌, length, ◌==◌, Some, None, Option, sym, ap, ◌∙◌, subst, arith, Arrival, Lines, Values, due, interrupt_cause, Committing, commit_unless, IsCycle, any_prediction, with_lines, stall_of, Hardware, stall_cycles, Report, Cycles, Reachable, busy_of, cycled, ended, stalls_of, Step, Interrupt}
 use Rattle.std.specs.FinSet as set
 use Rattle.rv_hardware.proofs.Laws.Counts.{IsCounted, AllTell, dispatch_tells, busy_and_stalls}
-use Rattle.rv_hardware.proofs.Marks.History.{Anything, anything_is_kept, History, went_on, Passed, cycle_passes, history_is_legal, history_is_sound, reachable_has_history, sent_all, dispatching}
+use Rattle.rv_hardware.proofs.Marks.History.{Anything, History, went_on, Passed, history_is_legal, reachable_has_history, sent_all, dispatching, history_passes}
 
 interrupted_by : (o : Option ℕ) (h : Hardware) (code : ℕ) → o ≡ Some code → (commit_unless set.contains o h).steps ≡ Interrupt h.pc (interrupt_cause code) h.cycle ∷ []
 interrupted_by None h code is = absurd (cc)
@@ -17,7 +17,7 @@ due_interrupt_is_taken lines old new report code is at =
 module _ (v : Values) {steps : List Step} {old new : Hardware} {lines : Lines} {report : Report} (history : History v steps old) (is : IsCycle any_prediction lines old report new) where
   -- a cycle that goes on from a history passes through its phases
   pub passes_here : Passed v Anything steps lines old report new
-  passes_here = cycle_passes v (history_is_legal v history) Anything steps lines old new report (anything_is_kept v old.cycle) (history_is_sound v history) tt is
+  passes_here = history_passes v history is
 
   -- it dispatches something, or else stalls for one reason
   pub cycle_tells : IsCounted (report.dispatched == 0) report.stall

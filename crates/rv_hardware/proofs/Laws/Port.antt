@@ -2,12 +2,13 @@
 pub mod Loads
 pub mod Phases
 use Rattle.rv_hardware.proofs.Words.{◌≡◌, ℕ, ◌+◌, ◌<◌, ◌≤◌, Bool, true, false, cond, not, ◌⊎◌, List, [], ◌∷◌, ◌++◌, map, IfSome, nat_le, ◌==◌, Some, None, Option, AllPairs, sym, refl, ap, ◌∙◌, subst, inl, inr, true≢false, append_assoc, arith, le-leb, and_from, cases_lt, Instr, Values, Each, Entry, Stage, Finished, Running, Waiting, Fetched, Hardware, AreApartAtPort, EachBehind, instruction_of_row, is_load_row, passes, rows_of, uses_port, Execution, Row, Step, and_first, and_second, Each-left, Each-place, Each-weaker, Each-all, Each-both, Each-map, EveryPair, EveryBehind, AllPairs-EveryPair, EveryPair-append, EveryPair-map, Beginning-EveryBehind, EveryPair-EveryBehind, EveryBehind-EveryPair}
+use Rattle.rv_hardware.proofs.Marks.Keeps.{in_cycle}
 use Rattle.rv_hardware.proofs.Marks.Counted.{behind_law}
-use Rattle.rv_hardware.proofs.Marks.History.{Anything, anything_is_kept, History, began, went_on, cycle_passes, dispatching, history_is_legal, history_is_sound}
+use Rattle.rv_hardware.proofs.Marks.History.{History, began, went_on, dispatching, history_is_legal, history_is_sound, history_passes}
 use Rattle.rv_hardware.proofs.Marks.List.{Mark, Start, mark_of_row, mark_of_entry, mark_of_fetched, marks_in, as_of, as_of-cons, at_end, start_until, start_of_execution, start_of_stage}
 use Rattle.rv_hardware.proofs.Marks.Past.{rows_obey}
 use Rattle.rv_hardware.proofs.Laws.Port.Loads.{uses_cache, WhereUsed, OverBy, OneAtATime}
-use Rattle.rv_hardware.proofs.Laws.Port.Phases.{PortOk, Tied, port_in_cycle, new_pair}
+use Rattle.rv_hardware.proofs.Laws.Port.Phases.{PortOk, Tied, new_pair, port_kept}
 use Rattle.rv_hardware.proofs.Marks.Row.{SoundRow}
 use Rattle.rv_hardware.proofs.Marks.Sound.{SoundEntry, SoundStage}
 
@@ -31,9 +32,8 @@ fresh_pairs v now (e ∷ es) sound = (
 pub port_of_history : (v : Values) {steps : List Step} {h : Hardware} → History v steps h → PortOk v h.cycle h
 port_of_history v (began image start legal) = record { tie = tt; pairs = tt }
 port_of_history v (went_on {earlier} {old} {new} {lines} {report} before is) =
-    let legal = history_is_legal v before in
-    let passed = cycle_passes v legal Anything earlier lines old new report (anything_is_kept v old.cycle) (history_is_sound v before) tt is in
-    let ok = port_in_cycle v legal earlier lines old new report Anything passed (port_of_history v before) in
+    let passed = history_passes v before is in
+    let ok = in_cycle (port_kept v (history_is_legal v before) old.cycle) passed (port_of_history v before) in
     let d : Hardware = (dispatching lines old).hardware in
     record {
       tie = subst (λ (g : Hardware). Each (λ e. Tied v g.port_free (mark_of_entry e)) g.rob.entries) (sym passed.others_stay) ok.tie;
@@ -87,7 +87,7 @@ port_marks v history =
     let all : List Step = earlier ++ report.steps in
     let now : ℕ = old.cycle in
     let d : Hardware = (dispatching lines old).hardware in
-    let ok = port_in_cycle v (history_is_legal v before) earlier lines old new report _ passed (port_of_history v before) in
+    let ok = in_cycle (port_kept v (history_is_legal v before) old.cycle) passed (port_of_history v before) in
     let es = EveryPair-map (OneAtATime v now) mark_of_entry d.rob.entries ok.pairs in
     rw (passed.new_marks) (EveryBehind-EveryPair (OneAtATime v now) [] (marks_in all d ++ map mark_of_fetched passed.fetches.added) tt
     (words_last v now (marks_in all d) passed.fetches.added (rows_first v now (rows_of all) (map mark_of_entry d.rob.entries ++ map mark_of_fetched d.front.entries) passed.dispatches.basics.rows (words_last v now (map mark_of_entry d.rob.entries) d.front.entries es)))))

@@ -11,7 +11,7 @@ use Rattle.rv_hardware.proofs.Always.Stores.{store_count, instructions_of}
 use Rattle.rv_hardware.proofs.Headline.Stores.{serialising_is_no_store}
 use Rattle.rv_hardware.proofs.Turns.Commit.{CommitTurn, no_head, stale_head, unfinished, fence_waits, fence_writes, fence_retires, executes, serial_faults, traps, retires, retires_last, written_back, retired_with}
 use Rattle.rv_hardware.proofs.Marks.Counted.{count-as_of}
-use Rattle.rv_hardware.proofs.Marks.History.{Anything, anything_is_kept, Passed, History, began, went_on, begin, committing, drained, cycle_passes, history_is_legal, history_is_sound}
+use Rattle.rv_hardware.proofs.Marks.History.{Anything, anything_is_kept, Passed, History, began, went_on, begin, committing, drained, history_is_legal, history_is_sound, history_passes}
 use Rattle.rv_hardware.proofs.Marks.Keeps.{InCommit, commit_turns_keep}
 use Rattle.rv_hardware.proofs.Marks.List.{Mark, mark_of_row, mark_of_entry, mark_of_fetched, marks_in, at_end, as_of, was_fetched, until, Extends, rows_append, until_by}
 use Rattle.rv_hardware.proofs.Marks.Past.{rows_obey}
@@ -138,7 +138,7 @@ queue_in_cycle v R {earlier} {old} {new} {lines} {report} before passed ok =
 pub queue_of_history : (v : Values) {steps : List Step} {h : Hardware} → History v steps h → Queue v h.cycle steps h
 queue_of_history v (began image start legal) = record { gone = []; kept = []; split = refl; over = tt; by_now = tt; queued = tt }
 queue_of_history v (went_on {earlier} {old} {new} {lines} {report} before is) =
-    let passed = cycle_passes v (history_is_legal v before) Anything earlier lines old new report (anything_is_kept v old.cycle) (history_is_sound v before) tt is in
+    let passed = history_passes v before is in
     let next : new.cycle ≡ old.cycle + 1 = ap (λ (h : Hardware). h.cycle) passed.others_stay in
     queue_next v.cache.hit old.cycle (rows_of (earlier ++ report.steps)) new.port_free new.committed (queue_in_cycle v Anything before passed (queue_of_history v before)) new.cycle (omega (arith, next))
 

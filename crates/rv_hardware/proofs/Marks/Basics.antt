@@ -13,6 +13,7 @@ pub record Basics (v : Values) (now dispatch_bound issue_bound stage_bound fetch
   pub entries : Each (SoundEntry v dispatch_bound issue_bound stage_bound) h.rob.entries
   pub fetched : Each (SoundFetched fetch_bound) h.front.entries
 
+-- an instruction that waits is in the stage of waiting
 pub is_waiting_is : (st : Stage) → is_waiting st ≡ true → st ≡ Waiting
 is_waiting_is Waiting h = refl
 is_waiting_is (Running issue message) h = absurd (cc)

@@ -154,6 +154,12 @@ pub history_is_sound : (v : Values) {steps : List Step} {h : Hardware} → Histo
 history_is_sound v (began image start legal) = sound_at_reset v image start legal
 history_is_sound v (went_on {earlier} {old} {new} {lines} {report} before is) = (cycle_passes v (history_is_legal v before) Anything earlier lines old new report (anything_is_kept v old.cycle) (history_is_sound v before) tt is).ends
 
+-- each phase of a cycle after a history keeps what is basic
+pub history_passes : (v : Values) {earlier : List Step} {old new : Hardware} {lines : Lines} {report : Report} → History v earlier old →
+    IsCycle any_prediction lines old report new → Passed v Anything earlier lines old report new
+history_passes v {earlier} {old} {new} {lines} {report} before is =
+    cycle_passes v (history_is_legal v before) Anything earlier lines old new report (anything_is_kept v old.cycle) (history_is_sound v before) tt is
+
 -- the words that a cycle adds to some marks
 abbrev pub is_buffered_mark : Mark → Bool
 is_buffered_mark m = is_none m.dispatched
@@ -169,10 +175,12 @@ pub record NewWords (v : Values) (now : ℕ) (ms : List Mark) (fs : List Fetched
 pub record KeptMarks (v : Values) (R : ℕ → List Mark → Type 0) : Type 0 where
   pub at_reset : R 0 []
   pub kept : (now : ℕ) → Kept v now (R now)
-  pub more : (now : ℕ) (ms : List Mark) (fs : List Fetched) → NewWords v now ms fs → R now ms → R (now + 1) (ms ++ map mark_of_fetched fs)
+  pub more : (now : ℕ) (ms : List Mark) (fs : List Fetched) → NewWords v now ms fs → R now ms →
+      R (now + 1) (ms ++ map mark_of_fetched fs)
 
-pub fetched_before : (v : Values) (now : ℕ) (steps : List Step) (es : List Entry) (fs : List Fetched) → Each (SoundRow v (now + 1)) (rows_of steps) → Each (SoundEntry v (now + 1) (now + 1) (now + 1)) es → Each (SoundFetched now) fs →
-    Each (λ m. m.fetched < now) (marks steps es fs)
+pub fetched_before : (v : Values) (now : ℕ) (steps : List Step) (es : List Entry) (fs : List Fetched) →
+    Each (SoundRow v (now + 1)) (rows_of steps) → Each (SoundEntry v (now + 1) (now + 1) (now + 1)) es →
+    Each (SoundFetched now) fs → Each (λ m. m.fetched < now) (marks steps es fs)
 fetched_before v now steps es fs rows entries words =
     Each-append (λ m. m.fetched < now) (map mark_of_row (rows_of steps)) (map mark_of_entry es ++ map mark_of_fetched fs)
     (Each-map (λ m. m.fetched < now) mark_of_row (rows_of steps) (Each-weaker (SoundRow v (now + 1)) (λ row. row.fetched < now) (λ row w. omega (arith, w.stamps.dispatched_after_fetch, w.stamps.retired_after_dispatch, w.below)) (rows_of steps) rows))
@@ -193,7 +201,8 @@ words_are_buffered [] = refl
 words_are_buffered (f ∷ fs) = ap suc (words_are_buffered fs)
 
 -- the marks that wait for dispatch are as many as the fetch buffer's words
-pub buffered_words : (steps : List Step) (es : List Entry) (fs : List Fetched) → count is_buffered_mark (marks steps es fs) ≡ length fs
+pub buffered_words : (steps : List Step) (es : List Entry) (fs : List Fetched) →
+    count is_buffered_mark (marks steps es fs) ≡ length fs
 buffered_words steps es fs =
     let all = count-append is_buffered_mark (map mark_of_row (rows_of steps)) (map mark_of_entry es ++ map mark_of_fetched fs) in
     let rest = count-append is_buffered_mark (map mark_of_entry es) (map mark_of_fetched fs) in
@@ -203,8 +212,7 @@ buffered_words steps es fs =
     omega (arith, all, rest, a, b, c)
 
 -- the words that a cycle fetches are new ones after the marks so far
-pub new_words : (v : Values) (R : List Mark → Type 0) (earlier : List Step) (lines : Lines) (old new : Hardware) (report : Report) (passed : Passed v R earlier lines old report new) →
-    NewWords v old.cycle (marks_in (earlier ++ report.steps) (dispatching lines old).hardware) passed.fetches.added
+pub new_words : (v : Values) (R : List Mark → Type 0) (earlier : List Step) (lines : Lines) (old new : Hardware) (report : Report) (passed : Passed v R earlier lines old report new) → NewWords v old.cycle (marks_in (earlier ++ report.steps) (dispatching lines old).hardware) passed.fetches.added
 new_words v R earlier lines old new report passed =
     let d : Hardware = (dispatching lines old).hardware in
     let b = passed.dispatches.basics in
@@ -217,7 +225,8 @@ new_words v R earlier lines old new report passed =
     }
 
 -- a property of marks that is kept holds in every history
-pub marks_of_history : (v : Values) (R : ℕ → List Mark → Type 0) → KeptMarks v R → {steps : List Step} {h : Hardware} → History v steps h → R h.cycle (marks_in steps h)
+pub marks_of_history : (v : Values) (R : ℕ → List Mark → Type 0) → KeptMarks v R → {steps : List Step} {h : Hardware} →
+    History v steps h → R h.cycle (marks_in steps h)
 marks_of_history v R r (began image start legal) = r.at_reset
 marks_of_history v R r (went_on {earlier} {old} {new} {lines} {report} before is) =
     let passed = cycle_passes v (history_is_legal v before) (R old.cycle) earlier lines old new report (r.kept old.cycle) (history_is_sound v before) (marks_of_history v R r before) is in

@@ -44,14 +44,14 @@ pub record IsKeptInCycle (v : Values) (now : ℕ) (P : Hardware → Type 0) : Ty
   pub lines : (h : Hardware) (levels : Lines) → P h → P (with_lines levels h)
   pub commit : IsKeptByCommit P
   pub drain : IsKeptByDrain P
-  pub issue : (k : Kind) (h : Hardware) (older younger : List Entry) (e : Entry) → InCycle v now h → P h → h.rob.entries ≡ older ++ e ∷ younger →
-      is_ready h k older e ≡ true → is_free h.cycle (at_kind k h.units) ≡ true → P (issued k h older e)
+  pub issue : (k : Kind) (h : Hardware) (older younger : List Entry) (e : Entry) → InCycle v now h → P h →
+      h.rob.entries ≡ older ++ e ∷ younger → is_ready h k older e ≡ true → is_free h.cycle (at_kind k h.units) ≡ true →
+      P (issued k h older e)
   pub broadcast : IsKeptByBroadcast P
   pub dispatch : IsKeptByDispatch P
 
 -- so the phases of a cycle up to dispatch keep it
-pub in_cycle : {v : Values} {R : List Mark → Type 0} {earlier : List Step} {lines : Lines} {old new : Hardware} {report : Report} {P : Hardware → Type 0} →
-    IsKeptInCycle v old.cycle P → Passed v R earlier lines old report new → P old → P (dispatching lines old).hardware
+pub in_cycle : {v : Values} {R : List Mark → Type 0} {earlier : List Step} {lines : Lines} {old new : Hardware} {report : Report} {P : Hardware → Type 0} → IsKeptInCycle v old.cycle P → Passed v R earlier lines old report new → P old → P (dispatching lines old).hardware
 in_cycle {v} {R} {earlier} {lines} {old} {new} {report} {P} kept passed holds =
     let now : ℕ = old.cycle in
     let committed = commit-keeps kept.commit set.contains (with_lines lines old) (kept.lines old lines holds) in

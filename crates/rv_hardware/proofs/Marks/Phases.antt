@@ -25,8 +25,9 @@ pub record Goes (v : Values) (now dispatch_bound issue_bound stage_bound fetch_b
   pub marks : R (marks_in steps h)
 
 -- what goes on from marks to later ones
-marks_from : (R : List Mark → Type 0) (steps further : List Step) (g h : Hardware) (es : List Entry) (fs : List Fetched) → g.rob.entries ≡ es → g.front.entries ≡ fs →
-    R (marks_in steps h) → (R (marks_in steps h) → R (marks further es fs)) → R (marks_in further g)
+marks_from : (R : List Mark → Type 0) (steps further : List Step) (g h : Hardware) (es : List Entry) (fs : List Fetched) →
+    g.rob.entries ≡ es → g.front.entries ≡ fs → R (marks_in steps h) → (R (marks_in steps h) → R (marks further es fs)) →
+    R (marks_in further g)
 marks_from R steps further g h es fs at at' went goes = rw (at, at') (goes went)
 
 module _ (v : Values) (now : ℕ) (R : List Mark → Type 0) (kept : Kept v now R) (earlier : List Step) (is_stale : set.FinSet nat_cmp → ℕ → Bool) where
@@ -38,8 +39,9 @@ module _ (v : Values) (now : ℕ) (R : List Mark → Type 0) (kept : Kept v now 
   push c s = sym (append_assoc earlier c.steps (s ∷ []))
 
   -- everything is flushed after a step
-  flush : (c : Committing) (g : Hardware) (s : Step) → Commits c → IsSoundFor v g → g.cycle ≡ c.hardware.cycle → g.rob.entries ≡ [] → g.front.entries ≡ [] →
-      Each (SoundRow v (now + 1)) (rows_of (s ∷ [])) → (R (marks_in (earlier ++ c.steps) c.hardware) → R (marks ((earlier ++ c.steps) ++ s ∷ []) [] [])) →
+  flush : (c : Committing) (g : Hardware) (s : Step) → Commits c → IsSoundFor v g → g.cycle ≡ c.hardware.cycle →
+      g.rob.entries ≡ [] → g.front.entries ≡ [] → Each (SoundRow v (now + 1)) (rows_of (s ∷ [])) →
+      (R (marks_in (earlier ++ c.steps) c.hardware) → R (marks ((earlier ++ c.steps) ++ s ∷ []) [] [])) →
       Goes v now now now now now (now + 1) R (earlier ++ (c.steps ++ s ∷ [])) g
   flush c g s p always cycle none none' row goes =
       rw (push c s) (record {
@@ -53,15 +55,18 @@ module _ (v : Values) (now : ℕ) (R : List Mark → Type 0) (kept : Kept v now 
         marks = marks_from R (earlier ++ c.steps) ((earlier ++ c.steps) ++ s ∷ []) g c.hardware [] [] none none' p.marks goes;
       })
 
-  squash_marks : (steps : List Step) (older younger : List Entry) (fs : List Fetched) → R (marks steps (older ++ younger) fs) → R (marks steps older [])
+  squash_marks : (steps : List Step) (older younger : List Entry) (fs : List Fetched) → R (marks steps (older ++ younger) fs) →
+      R (marks steps older [])
   squash_marks steps older younger fs r =
       let left = marks_squashed steps older younger fs in kept.cut (marks steps older []) left.0 (subst R left.1 r)
 
-  flush_marks : (steps further : List Step) (es : List Entry) (fs : List Fetched) → rows_of further ≡ rows_of steps → R (marks steps es fs) → R (marks further [] [])
+  flush_marks : (steps further : List Step) (es : List Entry) (fs : List Fetched) → rows_of further ≡ rows_of steps →
+      R (marks steps es fs) → R (marks further [] [])
   flush_marks steps further es fs same r = rw same (squash_marks steps [] es fs r)
 
   -- a trap or an interrupt has no row
-  no_row : (c : Committing) (s : Step) → rows_of (s ∷ []) ≡ [] → R (marks_in (earlier ++ c.steps) c.hardware) → R (marks ((earlier ++ c.steps) ++ s ∷ []) [] [])
+  no_row : (c : Committing) (s : Step) → rows_of (s ∷ []) ≡ [] → R (marks_in (earlier ++ c.steps) c.hardware) →
+      R (marks ((earlier ++ c.steps) ++ s ∷ []) [] [])
   no_row c s none =
       flush_marks (earlier ++ c.steps) ((earlier ++ c.steps) ++ s ∷ []) c.hardware.rob.entries c.hardware.front.entries
       (rows_append (earlier ++ c.steps) (s ∷ []) ∙ ap (λ l. rows_of (earlier ++ c.steps) ++ l) none ∙ append-nil (rows_of (earlier ++ c.steps)))
@@ -74,17 +79,19 @@ module _ (v : Values) (now : ℕ) (R : List Mark → Type 0) (kept : Kept v now 
     row_sound = rw (p.basics.cycle) (row_is_sound v now e written head_sound may)
 
     -- the head's mark becomes that of its row
-    row_goes : R (marks_in (earlier ++ c.steps) c.hardware) → R (marks ((earlier ++ c.steps) ++ Retired (row_at e written c.hardware.cycle) ∷ []) es c.hardware.front.entries)
+    row_goes : R (marks_in (earlier ++ c.steps) c.hardware) →
+        R (marks ((earlier ++ c.steps) ++ Retired (row_at e written c.hardware.cycle) ∷ []) es c.hardware.front.entries)
     row_goes =
         rw (place, p.basics.cycle, marks_retired (earlier ++ c.steps) (row_at e written now) es c.hardware.front.entries)
         (kept.set (map mark_of_row (rows_of (earlier ++ c.steps))) (map mark_of_entry es ++ map mark_of_fetched c.hardware.front.entries) (mark_of_entry e) (mark_of_row (row_at e written now))
         (a_retires (row_advances v now e written head_sound may)))
 
-    row_flushes : R (marks_in (earlier ++ c.steps) c.hardware) → R (marks ((earlier ++ c.steps) ++ Retired (row_at e written c.hardware.cycle) ∷ []) [] [])
+    row_flushes : R (marks_in (earlier ++ c.steps) c.hardware) →
+        R (marks ((earlier ++ c.steps) ++ Retired (row_at e written c.hardware.cycle) ∷ []) [] [])
     row_flushes r = squash_marks ((earlier ++ c.steps) ++ Retired (row_at e written c.hardware.cycle) ∷ []) [] es c.hardware.front.entries (row_goes r)
 
-  turn_goes : (c : Committing) (t : Turn Committing) → CommitTurn is_stale c t → Commits c → Leaves (λ d. IsSoundFor v d.hardware) t →
-      Leads Commits Commits t
+  turn_goes : (c : Committing) (t : Turn Committing) → CommitTurn is_stale c t → Commits c →
+      Leaves (λ d. IsSoundFor v d.hardware) t → Leads Commits Commits t
   turn_goes c _ (no_head none) p always = p
   turn_goes c _ (stale_head e es at is) p always = p
   turn_goes c _ (unfinished e es head plain none) p always = p
@@ -140,7 +147,8 @@ module _ (v : Values) (now : ℕ) (R : List Mark → Type 0) (kept : Kept v now 
   pub commit_turn_keeps : (c : Committing) (t : Turn Committing) → CommitTurn is_stale c t → Commits c → Leads Commits Commits t
   commit_turn_keeps c t is p = turn_goes c t is p (commit_outcome-keeps (always-kept v).phases.commit is_stale c t is p.basics.always)
 
-  commit_by_due : (o : Option ℕ) (h : Hardware) → Goes v now now now now now (now + 1) R (earlier ++ []) h → Commits (commit_unless is_stale o h)
+  commit_by_due : (o : Option ℕ) (h : Hardware) → Goes v now now now now now (now + 1) R (earlier ++ []) h →
+      Commits (commit_unless is_stale o h)
   commit_by_due (Some code) h p =
       let c : Committing = record { hardware = h; steps = []; stop = None } in
       let g : Hardware = (commit_unless is_stale (Some code) h).hardware in
@@ -156,7 +164,8 @@ module _ (v : Values) (now : ℕ) (R : List Mark → Type 0) (kept : Kept v now 
 -- drain changes neither instructions nor words
 
 -- the drain phase keeps what is basic and the marks
-pub drain_keeps : (v : Values) (now d a b f r : ℕ) (R : List Mark → Type 0) (steps : List Step) (h : Hardware) → Goes v now d a b f r R steps h → Goes v now d a b f r R steps (drain h)
+pub drain_keeps : (v : Values) (now d a b f r : ℕ) (R : List Mark → Type 0) (steps : List Step) (h : Hardware) →
+    Goes v now d a b f r R steps h → Goes v now d a b f r R steps (drain h)
 drain_keeps v now d a b f r R steps h p =
     let same = drain-same h in
     record {
@@ -177,9 +186,11 @@ module _ (v : Values) (now bound : ℕ) (R : List Mark → Type 0) (kept : Kept 
   Executes h = Goes v now now (now + 1) bound now (now + 1) R steps h
 
   -- one instruction changes
-  change : (g h : Hardware) (older younger : List Entry) (e x : Entry) → h.rob.entries ≡ older ++ e ∷ younger → g.rob.entries ≡ older ++ x ∷ younger → g.front.entries ≡ h.front.entries →
-      g.cycle ≡ h.cycle → IsSoundFor v g → SoundEntry v now (now + 1) bound x →
-      Advances v now (map mark_of_row (rows_of steps) ++ map mark_of_entry older) (mark_of_entry e) (mark_of_entry x) → Executes h → Executes g
+  change : (g h : Hardware) (older younger : List Entry) (e x : Entry) → h.rob.entries ≡ older ++ e ∷ younger →
+      g.rob.entries ≡ older ++ x ∷ younger → g.front.entries ≡ h.front.entries → g.cycle ≡ h.cycle → IsSoundFor v g →
+      SoundEntry v now (now + 1) bound x →
+      Advances v now (map mark_of_row (rows_of steps) ++ map mark_of_entry older) (mark_of_entry e) (mark_of_entry x) →
+      Executes h → Executes g
   change g h older younger e x at at' front cycle always sound agree p = record {
     basics = record {
       cycle = cycle ∙ p.basics.cycle;
@@ -193,7 +204,8 @@ module _ (v : Values) (now bound : ℕ) (R : List Mark → Type 0) (kept : Kept 
         (kept.set (map mark_of_row (rows_of steps) ++ map mark_of_entry older) (map mark_of_entry younger ++ map mark_of_fetched h.front.entries) (mark_of_entry e) (mark_of_entry x) agree));
   }
 
-  entry_sound : (h : Hardware) (older younger : List Entry) (e : Entry) → h.rob.entries ≡ older ++ e ∷ younger → Executes h → SoundEntry v now (now + 1) bound e
+  entry_sound : (h : Hardware) (older younger : List Entry) (e : Entry) → h.rob.entries ≡ older ++ e ∷ younger → Executes h →
+      SoundEntry v now (now + 1) bound e
   entry_sound h older younger e at p = Each-place (SoundEntry v now (now + 1) bound) older younger e (subst (Each (SoundEntry v now (now + 1) bound)) at p.basics.entries)
 
 -- a load that leaves its station has all older stores known
@@ -202,7 +214,8 @@ load_waits_by true true d is h = refl
 load_waits_by true false d is h = absurd (cc)
 load_waits_by false c d is h = absurd (cc)
 
-load_waits : (h : Hardware) (older : List Entry) (e : Entry) → is_load e.instruction ≡ true → may_load h older e ≡ true → list_all is_known_store (stores_behind h older) ≡ true
+load_waits : (h : Hardware) (older : List Entry) (e : Entry) → is_load e.instruction ≡ true → may_load h older e ≡ true →
+    list_all is_known_store (stores_behind h older) ≡ true
 load_waits h older e load may = load_waits_by (is_load e.instruction) (list_all is_known_store (stores_behind h older)) (has_port h (path h older e)) load may
 
 -- issue: broadcasts lie in earlier cycles
@@ -275,8 +288,10 @@ module _ (v : Values) (now : ℕ) (R : List Mark → Type 0) (kept : Kept v now 
   Broadcasts h = Executes v now (now + 1) R kept steps h
 
   -- what is younger is squashed
-  squash : (r g : Hardware) (older younger : List Entry) (x y : Entry) → g.rob.entries ≡ older ++ x ∷ younger → r.rob.entries ≡ older ++ y ∷ [] → r.front.entries ≡ [] →
-      r.cycle ≡ g.cycle → IsSoundFor v r → (SoundEntry v now (now + 1) (now + 1) x → SoundEntry v now (now + 1) (now + 1) y) → mark_of_entry x ≡ mark_of_entry y → Broadcasts g → Broadcasts r
+  squash : (r g : Hardware) (older younger : List Entry) (x y : Entry) → g.rob.entries ≡ older ++ x ∷ younger →
+      r.rob.entries ≡ older ++ y ∷ [] → r.front.entries ≡ [] → r.cycle ≡ g.cycle → IsSoundFor v r →
+      (SoundEntry v now (now + 1) (now + 1) x → SoundEntry v now (now + 1) (now + 1) y) → mark_of_entry x ≡ mark_of_entry y →
+      Broadcasts g → Broadcasts r
   squash r g older younger x y at at' none cycle always sound same q =
       let entries = subst (Each (SoundEntry v now (now + 1) (now + 1))) at q.basics.entries in
       record {
@@ -294,7 +309,8 @@ module _ (v : Values) (now : ℕ) (R : List Mark → Type 0) (kept : Kept v now 
       }
 
   -- what a broadcast finds
-  pub send_is : (h : Hardware) (older younger : List Entry) (e : Entry) (issue : Issue) (message : Message) → Sends h older younger e issue message → Broadcasts h →
+  pub send_is : (h : Hardware) (older younger : List Entry) (e : Entry) (issue : Issue) (message : Message) →
+      Sends h older younger e issue message → Broadcasts h →
       IsSent now (map mark_of_row (rows_of steps) ++ map mark_of_entry older) (mark_of_entry e) (mark_of_entry (finished message h.cycle e))
   send_is h older younger e issue message sent p =
       let olders : Each (SoundEntry v now (now + 1) (now + 1)) older = Each-left (SoundEntry v now (now + 1) (now + 1)) older (e ∷ younger) (subst (Each (SoundEntry v now (now + 1) (now + 1))) sent.place p.basics.entries) in
@@ -309,8 +325,8 @@ module _ (v : Values) (now : ℕ) (R : List Mark → Type 0) (kept : Kept v now 
       }
 
   -- the oldest result is broadcast
-  send : (h : Hardware) (older younger : List Entry) (e : Entry) (issue : Issue) (message : Message) → Sends h older younger e issue message → Broadcasts h →
-      Broadcasts (with_broadcast (h.rob.retired + length older) message h)
+  send : (h : Hardware) (older younger : List Entry) (e : Entry) (issue : Issue) (message : Message) →
+      Sends h older younger e issue message → Broadcasts h → Broadcasts (with_broadcast (h.rob.retired + length older) message h)
   send h older younger e issue message sent p =
       let g : Hardware = with_broadcast (h.rob.retired + length older) message h in
       let x : Entry = finished message h.cycle e in
@@ -344,13 +360,15 @@ module _ (v : Values) (now : ℕ) (R : List Mark → Type 0) (kept : Kept v now 
   abbrev pub Dispatches : Dispatching → Type 0
   Dispatches d = Goes v now (now + 1) (now + 1) (now + 1) now (now + 1) R steps d.hardware
 
-  full_stations : (h : Hardware) (o : Option Kind) (k : Kind) → HasShape v h → has_full_stations h o ≡ false → is_of_kind k o ≡ true → length (filter (is_stationed k) h.rob.entries) < (at_kind k v.kinds).stations
+  full_stations : (h : Hardware) (o : Option Kind) (k : Kind) → HasShape v h → has_full_stations h o ≡ false →
+      is_of_kind k o ≡ true → length (filter (is_stationed k) h.rob.entries) < (at_kind k v.kinds).stations
   full_stations h o k shape free is =
       let at : o ≡ Some k = is_of_kind_is k o is in
       let room = leb-false (at_kind k h.values.kinds).stations (length (filter (is_stationed k) h.rob.entries)) (sym (ap (has_full_stations h) at) ∙ free) in
       omega (arith, room, ap (λ (w : Values). (at_kind k w.kinds).stations) shape.values)
 
-  pub dispatch_turn_keeps : (d : Dispatching) (t : Turn Dispatching) → DispatchTurn d t → Dispatches d → Leads Dispatches Dispatches t
+  pub dispatch_turn_keeps : (d : Dispatching) (t : Turn Dispatching) → DispatchTurn d t → Dispatches d →
+      Leads Dispatches Dispatches t
   dispatch_turn_keeps d _ (buffer_empty none) p = p
   dispatch_turn_keeps d _ (waits f fs reason at why) p = p
   dispatch_turn_keeps d _ (dispatches f fs at nothing) p =
@@ -388,8 +406,8 @@ module _ (v : Values) (now : ℕ) (R : List Mark → Type 0) (kept : Kept v now 
       kept_by_turns Dispatches dispatch_turn (λ d q. dispatch_turn_keeps d (dispatch_turn d) (dispatch_turn_is d) q) h.values.dispatch_width (record { hardware = h; dispatched = 0; waits_for = None }) p
 
 -- bounds that are further on
-pub goes_later : (v : Values) (now d a b f r d' a' b' r' : ℕ) (R : List Mark → Type 0) (steps : List Step) (h : Hardware) → d ≤ d' → a ≤ a' → b ≤ b' → r ≤ r' →
-    Goes v now d a b f r R steps h → Goes v now d' a' b' f r' R steps h
+pub goes_later : (v : Values) (now d a b f r d' a' b' r' : ℕ) (R : List Mark → Type 0) (steps : List Step) (h : Hardware) →
+    d ≤ d' → a ≤ a' → b ≤ b' → r ≤ r' → Goes v now d a b f r R steps h → Goes v now d' a' b' f r' R steps h
 goes_later v now d a b f r d' a' b' r' R steps h le le' le'' le''' p = record {
   basics = record {
     cycle = p.basics.cycle;
@@ -402,7 +420,8 @@ goes_later v now d a b f r d' a' b' r' R steps h le le' le'' le''' p = record {
 }
 
 -- the phases from drain to dispatch
-pub execute_keeps : (v : Values) → IsLegal v → (now : ℕ) (R : List Mark → Type 0) → Kept v now R → (steps : List Step) (h : Hardware) → Goes v now now now now now (now + 1) R steps h →
+pub execute_keeps : (v : Values) → IsLegal v → (now : ℕ) (R : List Mark → Type 0) → Kept v now R →
+    (steps : List Step) (h : Hardware) → Goes v now now now now now (now + 1) R steps h →
     Goes v now (now + 1) (now + 1) (now + 1) now (now + 1) R steps (dispatch (broadcast (issue (drain h)))).hardware
 execute_keeps v legal now R kept steps h p =
     let drains = drain_keeps v now now (now + 1) now now (now + 1) R steps h (goes_later v now now now now now (now + 1) now (now + 1) now (now + 1) R steps h (omega arith) (omega arith) (omega arith) (omega arith) p) in
@@ -411,5 +430,6 @@ execute_keeps v legal now R kept steps h p =
     dispatch_keeps v now R kept steps (broadcast (issue (drain h))) (goes_later v now now (now + 1) (now + 1) now (now + 1) (now + 1) (now + 1) (now + 1) (now + 1) R steps (broadcast (issue (drain h))) (omega arith) (omega arith) (omega arith) (omega arith) sends)
 
 -- the same of other marks
-pub with_marks : (v : Values) (now d a b f r : ℕ) (R S : List Mark → Type 0) (steps : List Step) (h : Hardware) → S (marks_in steps h) → Goes v now d a b f r R steps h → Goes v now d a b f r S steps h
+pub with_marks : (v : Values) (now d a b f r : ℕ) (R S : List Mark → Type 0) (steps : List Step) (h : Hardware) →
+    S (marks_in steps h) → Goes v now d a b f r R steps h → Goes v now d a b f r S steps h
 with_marks v now d a b f r R S steps h s p = record { basics = p.basics; marks = s }

@@ -44,13 +44,14 @@ pub data BroadcastTurn (h : Hardware) : Turn Hardware → Type 0 where
       (mends_early h.values.recovery && is_mispredicted e message) ≡ true →
       BroadcastTurn h (Ends (with_recovery (h.rob.retired + length older) message (with_broadcast (h.rob.retired + length older) message h)))
 
-entry_turn : (h : Hardware) (older younger : List Entry) (e : Entry) (issue : Issue) (message : Message) → Sends h older younger e issue message →
-    (b : Bool) → (mends_early h.values.recovery && is_mispredicted e message) ≡ b →
+entry_turn : (h : Hardware) (older younger : List Entry) (e : Entry) (issue : Issue) (message : Message) →
+    Sends h older younger e issue message → (b : Bool) → (mends_early h.values.recovery && is_mispredicted e message) ≡ b →
     BroadcastTurn h (cond b (Ends (with_recovery (h.rob.retired + length older) message (with_broadcast (h.rob.retired + length older) message h))) (GoesOn (with_broadcast (h.rob.retired + length older) message h)))
 entry_turn h older younger e issue message is true early = mends older younger e issue message is early
 entry_turn h older younger e issue message is false early = sends older younger e issue message is early
 
-found_turn : (h : Hardware) (found : Option (List Entry × Entry)) → Finds (has_result h.cycle) h.rob.entries found → BroadcastTurn h (broadcast_oldest h found)
+found_turn : (h : Hardware) (found : Option (List Entry × Entry)) → Finds (has_result h.cycle) h.rob.entries found →
+    BroadcastTurn h (broadcast_oldest h found)
 found_turn h None finds = none_ready finds
 found_turn h (Some found) finds =
     let held = result_cases h.cycle found.1.stage finds.2 in
@@ -63,14 +64,16 @@ pub broadcast_turn_is : (h : Hardware) → BroadcastTurn h (broadcast_turn h)
 broadcast_turn_is h = found_turn h (oldest (has_result h.cycle) h.rob.entries) (oldest_finds (has_result h.cycle) h.rob.entries)
 
 -- the entry that is broadcast is the one that changes
-pub sent_entries : (h : Hardware) (older younger : List Entry) (e : Entry) (message : Message) → h.rob.entries ≡ older ++ e ∷ younger →
+pub sent_entries : (h : Hardware) (older younger : List Entry) (e : Entry) (message : Message) →
+    h.rob.entries ≡ older ++ e ∷ younger →
     (with_broadcast (h.rob.retired + length older) message h).rob.entries ≡ older ++ finished message h.cycle e ∷ younger
 sent_entries h older younger e message at =
     ap (λ es. with_entry (finished message h.cycle) (h.rob.retired + length older) h.rob.retired es) at ∙
     with_entry-at (finished message h.cycle) (h.rob.retired + length older) h.rob.retired older younger e refl
 
 -- after a broadcast that early recovery mends, the entries end with the instruction that was broadcast
-pub mended_entries : (h : Hardware) (older younger : List Entry) (e : Entry) (message : Message) → h.rob.entries ≡ older ++ e ∷ younger →
+pub mended_entries : (h : Hardware) (older younger : List Entry) (e : Entry) (message : Message) →
+    h.rob.entries ≡ older ++ e ∷ younger →
     (with_recovery (h.rob.retired + length older) message (with_broadcast (h.rob.retired + length older) message h)).rob.entries ≡
     older ++ predicting message.next_pc (finished message h.cycle e) ∷ []
 mended_entries h older younger e message at =

@@ -47,31 +47,36 @@ module _ (is_stale : set.FinSet nat_cmp → ℕ → Bool) where
     no_head : c.hardware.rob.entries ≡ [] → CommitTurn c (Ends c)
     stale_head : (e : Entry) (es : List Entry) → c.hardware.rob.entries ≡ e ∷ es → is_stale c.hardware.stale (word_of e.pc) ≡ true →
         CommitTurn c (Ends (record c { stop = Some (stop.Stale e.pc) }))
-    unfinished : (e : Entry) (es : List Entry) → Head is_stale c e es → is_serialising e.instruction ≡ false → broadcast_of e.stage ≡ None →
-        CommitTurn c (Ends c)
-    fence_waits : (e : Entry) (es : List Entry) → Head is_stale c e es → e.instruction ≡ Some FenceI → is_drained c.hardware ≡ false →
-        CommitTurn c (Ends c)
-    fence_writes : (e : Entry) (es : List Entry) → Head is_stale c e es → e.instruction ≡ Some FenceI → is_drained c.hardware ≡ true →
-        (write_back_time c.hardware == 0) ≡ false → CommitTurn c (Ends (written_back c))
-    fence_retires : (e : Entry) (es : List Entry) (written : Option (ℕ × ℕ)) (next : State) → Head is_stale c e es → e.instruction ≡ Some FenceI → is_drained c.hardware ≡ true →
+    unfinished : (e : Entry) (es : List Entry) → Head is_stale c e es → is_serialising e.instruction ≡ false →
+        broadcast_of e.stage ≡ None → CommitTurn c (Ends c)
+    fence_waits : (e : Entry) (es : List Entry) → Head is_stale c e es → e.instruction ≡ Some FenceI →
+        is_drained c.hardware ≡ false → CommitTurn c (Ends c)
+    fence_writes : (e : Entry) (es : List Entry) → Head is_stale c e es → e.instruction ≡ Some FenceI →
+        is_drained c.hardware ≡ true → (write_back_time c.hardware == 0) ≡ false → CommitTurn c (Ends (written_back c))
+    fence_retires : (e : Entry) (es : List Entry) (written : Option (ℕ × ℕ)) (next : State) → Head is_stale c e es →
+        e.instruction ≡ Some FenceI → is_drained c.hardware ≡ true →
         CommitTurn c (Ends (executed e written next (written_back c)))
-    executes : (e : Entry) (es : List Entry) (written : Option (ℕ × ℕ)) (next : State) → Head is_stale c e es → is_serialising e.instruction ≡ true →
-        CommitTurn c (Ends (executed e written next c))
-    serial_faults : (e : Entry) (es : List Entry) (cause : Cause) (value : ℕ) → Head is_stale c e es → is_serialising e.instruction ≡ true →
-        CommitTurn c (Ends (with_fault e cause value c))
-    traps : (e : Entry) (es : List Entry) (issue : Option Issue) (cycle : ℕ) (message : Message) (fault : Fault) → Head is_stale c e es → is_serialising e.instruction ≡ false →
-        e.stage ≡ Finished issue cycle message → message.fault ≡ Some fault → CommitTurn c (Ends (with_fault e fault.cause fault.value c))
-    retires : (e : Entry) (es : List Entry) (issue : Option Issue) (cycle : ℕ) (message : Message) → Head is_stale c e es → is_serialising e.instruction ≡ false →
-        e.stage ≡ Finished issue cycle message → message.fault ≡ None → CommitTurn c (GoesOn (retired_with e message c))
-    retires_last : (e : Entry) (es : List Entry) (issue : Option Issue) (cycle : ℕ) (message : Message) → Head is_stale c e es → is_serialising e.instruction ≡ false →
-        e.stage ≡ Finished issue cycle message → message.fault ≡ None → CommitTurn c (Ends (retired_and_flushed e message c))
+    executes : (e : Entry) (es : List Entry) (written : Option (ℕ × ℕ)) (next : State) → Head is_stale c e es →
+        is_serialising e.instruction ≡ true → CommitTurn c (Ends (executed e written next c))
+    serial_faults : (e : Entry) (es : List Entry) (cause : Cause) (value : ℕ) → Head is_stale c e es →
+        is_serialising e.instruction ≡ true → CommitTurn c (Ends (with_fault e cause value c))
+    traps : (e : Entry) (es : List Entry) (issue : Option Issue) (cycle : ℕ) (message : Message) (fault : Fault) →
+        Head is_stale c e es → is_serialising e.instruction ≡ false → e.stage ≡ Finished issue cycle message →
+        message.fault ≡ Some fault → CommitTurn c (Ends (with_fault e fault.cause fault.value c))
+    retires : (e : Entry) (es : List Entry) (issue : Option Issue) (cycle : ℕ) (message : Message) → Head is_stale c e es →
+        is_serialising e.instruction ≡ false → e.stage ≡ Finished issue cycle message → message.fault ≡ None →
+        CommitTurn c (GoesOn (retired_with e message c))
+    retires_last : (e : Entry) (es : List Entry) (issue : Option Issue) (cycle : ℕ) (message : Message) → Head is_stale c e es →
+        is_serialising e.instruction ≡ false → e.stage ≡ Finished issue cycle message → message.fault ≡ None →
+        CommitTurn c (Ends (retired_and_flushed e message c))
 
   module _ (c : Committing) (e : Entry) (es : List Entry) (head : Head is_stale c e es) where
     by_effect : is_serialising e.instruction ≡ true → (result : Effect) → CommitTurn c (Ends (take_effect e result c))
     by_effect serial (Retires written next) = executes e es written next head serial
     by_effect serial (Faults cause value) = serial_faults e es cause value head serial
 
-    by_write_back : e.instruction ≡ Some FenceI → is_drained c.hardware ≡ true → (b : Bool) → (write_back_time c.hardware == 0) ≡ b →
+    by_write_back : e.instruction ≡ Some FenceI → is_drained c.hardware ≡ true → (b : Bool) →
+        (write_back_time c.hardware == 0) ≡ b →
         CommitTurn c (Ends (cond b (execute_head e FenceI (written_back c)) (written_back c)))
     by_write_back is drained true clean =
         let s : State = seen (with_write_back c.hardware) in
@@ -83,17 +88,20 @@ module _ (is_stale : set.FinSet nat_cmp → ℕ → Bool) where
     by_drained is true drained = by_write_back is drained (write_back_time c.hardware == 0) refl
     by_drained is false busy = fence_waits e es head is busy
 
-    by_prediction : (issue : Option Issue) (cycle : ℕ) (message : Message) → is_serialising e.instruction ≡ false → e.stage ≡ Finished issue cycle message → message.fault ≡ None →
-        (b : Bool) → CommitTurn c (cond b (GoesOn (retired_with e message c)) (Ends (retired_and_flushed e message c)))
+    by_prediction : (issue : Option Issue) (cycle : ℕ) (message : Message) → is_serialising e.instruction ≡ false →
+        e.stage ≡ Finished issue cycle message → message.fault ≡ None → (b : Bool) →
+        CommitTurn c (cond b (GoesOn (retired_with e message c)) (Ends (retired_and_flushed e message c)))
     by_prediction issue cycle message plain at none true = retires e es issue cycle message head plain at none
     by_prediction issue cycle message plain at none false = retires_last e es issue cycle message head plain at none
 
-    by_fault : (issue : Option Issue) (cycle : ℕ) (message : Message) → is_serialising e.instruction ≡ false → e.stage ≡ Finished issue cycle message →
-        (fault : Option Fault) → message.fault ≡ fault → CommitTurn c (finish_head e message fault c)
+    by_fault : (issue : Option Issue) (cycle : ℕ) (message : Message) → is_serialising e.instruction ≡ false →
+        e.stage ≡ Finished issue cycle message → (fault : Option Fault) → message.fault ≡ fault →
+        CommitTurn c (finish_head e message fault c)
     by_fault issue cycle message plain at None is = by_prediction issue cycle message plain at is (message.next_pc == e.predicted_next)
     by_fault issue cycle message plain at (Some fault) is = traps e es issue cycle message fault head plain at is
 
-    by_stage : is_serialising e.instruction ≡ false → (st : Stage) → e.stage ≡ st → CommitTurn c (finish_broadcast e (broadcast_of st) c)
+    by_stage : is_serialising e.instruction ≡ false → (st : Stage) → e.stage ≡ st →
+        CommitTurn c (finish_broadcast e (broadcast_of st) c)
     by_stage plain Waiting at = unfinished e es head plain (ap broadcast_of at)
     by_stage plain (Running issue message) at = unfinished e es head plain (ap broadcast_of at)
     by_stage plain (Finished issue cycle message) at = by_fault issue cycle message plain at message.fault refl

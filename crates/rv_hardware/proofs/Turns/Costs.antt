@@ -11,7 +11,8 @@ eviction_at_most : (values : CacheValues) (dropped : Option CacheLine) → evict
 eviction_at_most values None = omega arith
 eviction_at_most values (Some line) = dirty_at_most values line.dirty
 
-cost_at_most : (values : CacheValues) (hit : Bool) (dropped : Option CacheLine) → cost_of_access values hit dropped ≤ greatest_access values
+cost_at_most : (values : CacheValues) (hit : Bool) (dropped : Option CacheLine) →
+    cost_of_access values hit dropped ≤ greatest_access values
 cost_at_most values true dropped = omega arith
 cost_at_most values false dropped = omega (arith, eviction_at_most values dropped)
 

@@ -17,6 +17,7 @@ has_full_buffer h = nat_le h.rob.capacity (length h.rob.entries)
 abbrev pub has_full_queue : Hardware → Fetched → Bool
 has_full_queue h f = is_store f.instruction && nat_le h.values.store_queue (length (stores_behind h h.rob.entries))
 
+-- none of them holds a fetched word back
 pub record WaitsForNothing (h : Hardware) (f : Fetched) : Type 0 where
   pub serial : has_serial h ≡ false
   pub buffer : has_full_buffer h ≡ false
@@ -45,7 +46,8 @@ module _ (d : Dispatching) (f : Fetched) (fs : List Fetched) (at : d.hardware.fr
   by_queue true is s r k = waits f fs stall.Store at (for_queue is)
   by_queue false is s r k = dispatches f fs at (record { serial = s; buffer = r; stations = k; queue = is })
 
-  by_station : (b : Bool) → has_full_stations d.hardware (kind_of_word f.instruction) ≡ b → has_serial d.hardware ≡ false → has_full_buffer d.hardware ≡ false →
+  by_station : (b : Bool) → has_full_stations d.hardware (kind_of_word f.instruction) ≡ b → has_serial d.hardware ≡ false →
+      has_full_buffer d.hardware ≡ false →
       DispatchTurn d (dispatch_unless (cond b (Some stall.Station) (cond (has_full_queue d.hardware f) (Some stall.Store) None)) f fs d)
   by_station true is s r = waits f fs stall.Station at (for_station is)
   by_station false is s r = by_queue (has_full_queue d.hardware f) refl s r is

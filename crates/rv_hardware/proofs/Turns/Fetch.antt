@@ -8,7 +8,8 @@ pub record Adds (answers : Answers) (ram : Memory) (cycle : ℕ) (old new : Fetc
   pub is : new ≡ record old { entries = old.entries ++ added; next_pc = new.next_pc; halted = is_halted stop }
 
 module _ (answers : Answers) (ram : Memory) (cycle : ℕ) (old new : FetchBuffer) (stop : FetchStop) where
-  cases_by : (P : Type 0) (b : Bool) → old.halted ≡ b → (old.halted ≡ true → new ≡ old → P) → (old.halted ≡ false → Adds answers ram cycle old new stop → P) →
+  cases_by : (P : Type 0) (b : Bool) → old.halted ≡ b → (old.halted ≡ true → new ≡ old → P) →
+      (old.halted ≡ false → Adds answers ram cycle old new stop → P) →
       MatchBool b ((new ≡ old) × (stop ≡ Halted)) ((added : List Fetched) ×
       Fetches answers ram cycle old.width (old.capacity - length old.entries) old.next_pc added new.next_pc stop ×
       (new ≡ record old { entries = old.entries ++ added; next_pc = new.next_pc; halted = is_halted stop })) → P
@@ -16,7 +17,8 @@ module _ (answers : Answers) (ram : Memory) (cycle : ℕ) (old new : FetchBuffer
   cases_by P false is halted runs (added, words, becomes) = runs is (record { added = added; words = words; is = becomes })
 
   -- fetch is halted and nothing changes, or it adds words
-  pub fetch-cases : (P : Type 0) → (old.halted ≡ true → new ≡ old → P) → (old.halted ≡ false → Adds answers ram cycle old new stop → P) → FetchesInto answers ram cycle old new stop → P
+  pub fetch-cases : (P : Type 0) → (old.halted ≡ true → new ≡ old → P) →
+      (old.halted ≡ false → Adds answers ram cycle old new stop → P) → FetchesInto answers ram cycle old new stop → P
   fetch-cases P halted runs fetches = cases_by P old.halted refl halted runs fetches
 
 -- a word that a fetch adds
@@ -35,17 +37,17 @@ ends_with_none cycle zero room stop ends = record { are_new = tt; within_width =
 ends_with_none cycle (suc width) zero stop ends = record { are_new = tt; within_width = omega arith; within_room = omega arith; goes_on = λ e. inr refl }
 ends_with_none cycle (suc width) (suc room) stop ends = absurd ends
 
-one_more : (cycle width room : ℕ) (f : Fetched) (fs : List Fetched) → IsNew cycle f → Added cycle width room fs → Added cycle (suc width) (suc room) (f ∷ fs)
+one_more : (cycle width room : ℕ) (f : Fetched) (fs : List Fetched) → IsNew cycle f → Added cycle width room fs →
+    Added cycle (suc width) (suc room) (f ∷ fs)
 one_more cycle width room f fs new added =
     record { are_new = (new, added.are_new); within_width = omega (arith, added.within_width); within_room = omega (arith, added.within_room); goes_on = λ e. absurd (cc) }
 
-only_one : (cycle width room : ℕ) (f : Fetched) (fs : List Fetched) → IsNew cycle f → fs ≡ [] → Added cycle (suc width) (suc room) (f ∷ fs)
+only_one : (cycle width room : ℕ) (f : Fetched) (fs : List Fetched) → IsNew cycle f → fs ≡ [] →
+    Added cycle (suc width) (suc room) (f ∷ fs)
 only_one cycle width room f fs new none =
     record { are_new = (new, rw none tt); within_width = rw none (omega arith); within_room = rw none (omega arith); goes_on = λ e. absurd (cc) }
 
-by_stop : (cycle width room : ℕ) (f : Fetched) (fs : List Fetched) (stop : FetchStop) (next : ℕ) (o : Option FetchStop) (Rest : Type 0) → IsNew cycle f →
-    (Rest → Added cycle width room fs) →
-    MatchOption o Rest (λ reason. (fs ≡ []) × (next ≡ f.predicted) × (stop ≡ reason)) → Added cycle (suc width) (suc room) (f ∷ fs)
+by_stop : (cycle width room : ℕ) (f : Fetched) (fs : List Fetched) (stop : FetchStop) (next : ℕ) (o : Option FetchStop) (Rest : Type 0) → IsNew cycle f → (Rest → Added cycle width room fs) → MatchOption o Rest (λ reason. (fs ≡ []) × (next ≡ f.predicted) × (stop ≡ reason)) → Added cycle (suc width) (suc room) (f ∷ fs)
 by_stop cycle width room f fs stop next None Rest new rest h = one_more cycle width room f fs new (rest h)
 by_stop cycle width room f fs stop next (Some reason) Rest new rest h = only_one cycle width room f fs new h.0
 

@@ -46,8 +46,8 @@ abbrev pub message_at : Hardware → List Entry → Entry → Message
 message_at h older e = result_of_word (layout_of h.values) (seen_behind h older e.pc) h.lines e.word e.instruction
 
 -- the entry that starts is the one that changes
-pub started_entries : (kind : Kind) (h : Hardware) (older younger : List Entry) (e : Entry) → h.rob.entries ≡ older ++ e ∷ younger →
-    (issued kind h older e).rob.entries ≡
+pub started_entries : (kind : Kind) (h : Hardware) (older younger : List Entry) (e : Entry) →
+    h.rob.entries ≡ older ++ e ∷ younger → (issued kind h older e).rob.entries ≡
     older ++ started (record { cycle = h.cycle; cost = cost_of h kind (path h older e) }) (message_at h older e) e ∷ younger
 started_entries kind h older younger e at =
     let keep = access_keeps (path h older e) h in

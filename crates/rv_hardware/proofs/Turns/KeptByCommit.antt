@@ -20,7 +20,8 @@ module _ {P : Hardware → Type 0} (kept : IsKeptByCommit P) where
   left h [] next holds = kept.empties h next h.rob.retired holds
   left h (e ∷ es) next holds = kept.empties h next (h.rob.retired + 1) holds
 
-  took_effect : (e : Entry) (written : Option (ℕ × ℕ)) (next : State) (c : Committing) → Holds c → Holds (executed e written next c)
+  took_effect : (e : Entry) (written : Option (ℕ × ℕ)) (next : State) (c : Committing) → Holds c →
+      Holds (executed e written next c)
   took_effect e written next c holds = left c.hardware c.hardware.rob.entries next holds
 
   faulted : (e : Entry) (cause : Cause) (value : ℕ) (c : Committing) → Holds c → Holds (with_fault e cause value c)

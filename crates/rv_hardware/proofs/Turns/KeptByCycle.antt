@@ -27,8 +27,8 @@ module _ (P : Hardware → Type 0) where
     pub fetch : IsKeptByFetch
 
 -- what is kept and what is kept beside it are kept together
-pub kept-together : {P Q R : Hardware → Type 0} → ((h : Hardware) → P h → Q h → R h) → ((h : Hardware) → R h → P h) → ((h : Hardware) → R h → Q h) →
-    IsKept P → IsKept Q → IsKept R
+pub kept-together : {P Q R : Hardware → Type 0} → ((h : Hardware) → P h → Q h → R h) → ((h : Hardware) → R h → P h) →
+    ((h : Hardware) → R h → Q h) → IsKept P → IsKept Q → IsKept R
 kept-together both one other p q = record {
   phases = record {
     lines = λ h levels r. both _ (p.phases.lines h levels (one h r)) (q.phases.lines h levels (other h r));
@@ -118,7 +118,8 @@ same-kept values cache cycle = record {
 }
 
 -- a whole cycle keeps what its phases and its fetch keep
-pub cycle-keeps : {P : Hardware → Type 0} {lines : Lines} {old new : Hardware} {report : Report} → IsKept P → IsCycle any_prediction lines old report new → P old → P new
+pub cycle-keeps : {P : Hardware → Type 0} {lines : Lines} {old new : Hardware} {report : Report} → IsKept P →
+    IsCycle any_prediction lines old report new → P old → P new
 cycle-keeps {P} {lines} {old} {new} kept cycle holds =
     let after = phases-keep kept.phases cycle holds in
     let d : Hardware = cycle.dispatching.hardware in

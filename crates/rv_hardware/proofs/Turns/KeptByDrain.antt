@@ -5,12 +5,12 @@ module _ (P : Hardware → Type 0) where
   -- the end of a store's access and the start of another's keep the property
   pub record IsKeptByDrain : Type 0 where
     pub leaves : (h : Hardware) → P h → nat_le h.port_free h.cycle ≡ true → P (end_drain h)
-    pub drains : (h : Hardware) (access : StoreAccess) → P h → nat_le h.port_free h.cycle ≡ true → oldest_to_drain h.committed ≡ Some access →
-        P (with_drained access h)
+    pub drains : (h : Hardware) (access : StoreAccess) → P h → nat_le h.port_free h.cycle ≡ true →
+        oldest_to_drain h.committed ≡ Some access → P (with_drained access h)
 
 module _ {P : Hardware → Type 0} (kept : IsKeptByDrain P) where
-  pub start_drain-keeps : (h : Hardware) (access : Option StoreAccess) → P h → nat_le h.port_free h.cycle ≡ true → oldest_to_drain h.committed ≡ access →
-      P (start_drain access h)
+  pub start_drain-keeps : (h : Hardware) (access : Option StoreAccess) → P h → nat_le h.port_free h.cycle ≡ true →
+      oldest_to_drain h.committed ≡ access → P (start_drain access h)
   start_drain-keeps h None holds idle is = holds
   start_drain-keeps h (Some access) holds idle is = kept.drains h access holds idle is
 
@@ -30,6 +30,7 @@ pub record AreSame (h : Hardware) (given : Values) (lines : CacheValues) (entrie
   pub units : pools ≡ h.units
   pub cycle : number ≡ h.cycle
 
+-- one is as another was but for the port, the cache's lines, memory and the retired stores
 abbrev pub SameButPort : Hardware → Hardware → Type 0
 SameButPort h g = AreSame h g.values g.cache.values g.rob g.front g.units g.cycle
 

@@ -51,7 +51,8 @@ module _ {P : Hardware → Type 0} {k : Kind} (kept : IsKeptByIssue P k) where
       subst (λ es. P (with_entries es (with_unit k cost h))) (sym all) (kept.starts h older younger e cost message holds split waits of_kind result costs)
 
   begins_by : (h : Hardware) (older younger : List Entry) (e : Entry) (p : Path) → path h older e ≡ p → P h →
-      h.rob.entries ≡ older ++ e ∷ younger → is_ready h k older e ≡ true → is_waiting e.stage ≡ true → is_of_kind k (kind_of_word e.instruction) ≡ true →
+      h.rob.entries ≡ older ++ e ∷ younger → is_ready h k older e ≡ true → is_waiting e.stage ≡ true →
+      is_of_kind k (kind_of_word e.instruction) ≡ true →
       P (with_start k (h.rob.retired + length older) (cost_of h k p) (result_of_word (layout_of h.values) (seen_behind h older e.pc) h.lines e.word e.instruction) (with_access p h))
   begins_by h older younger e Without by holds split ready waits of_kind =
       begins h older younger e (cost_of h k Without) _ holds split waits of_kind

@@ -8,7 +8,7 @@ use Rattle.rv_hardware.proofs.Turns.KeptByDrain.{IsKeptByDrain, drain-keeps}
 use Rattle.rv_hardware.proofs.Always.Halted.{HaltsBehind, IsHalted, words_of, halted-kept}
 use Rattle.rv_hardware.proofs.Turns.KeptByIssue.{IsKeptByIssue, issue-keeps}
 use Rattle.rv_hardware.proofs.Turns.Commit.{CommitTurn, no_head, stale_head, unfinished, fence_waits, fence_writes, fence_retires, executes, serial_faults, traps, retires, retires_last, commit_turn_is}
-use Rattle.rv_hardware.proofs.Marks.History.{Anything, anything_is_kept, Passed, History, began, went_on, begin, committing, dispatching, sent_all, cycle_passes, history_is_legal, history_is_sound}
+use Rattle.rv_hardware.proofs.Marks.History.{Anything, anything_is_kept, Passed, History, began, went_on, begin, committing, dispatching, sent_all, history_is_legal, history_is_sound, history_passes}
 use Rattle.rv_hardware.proofs.Turns.Dispatch.{has_full_queue, WaitsFor, for_serial, for_buffer, for_station, for_queue}
 use Rattle.rv_hardware.proofs.Turns.Fetch.{IsNew}
 use Rattle.rv_hardware.proofs.Laws.HeadsDoNotWait.Follow.{last_stamp, last_stamp-push, has_step, has_step-push, Follows, AllFollow, Committed, commit_leads_by}
@@ -142,7 +142,7 @@ record NextPast (steps : List Step) (h : Hardware) : Type 0 where
 
 module _ (v : Values) {earlier : List Step} {old new : Hardware} {lines : Lines} {report : Report} (before : History v earlier old) (past : NextPast earlier old) (is : IsCycle any_prediction lines old report new) where
   passed : Passed v Anything earlier lines old report new
-  passed = cycle_passes v (history_is_legal v before) Anything earlier lines old new report (anything_is_kept v old.cycle) (history_is_sound v before) tt is
+  passed = history_passes v before is
 
   committed : Committed v old.cycle earlier (committing lines old)
   committed =

@@ -7,7 +7,7 @@ use Rattle.rv_hardware.proofs.Turns.KeptByDrain.{IsKeptByDrain, drain-keeps}
 use Rattle.rv_hardware.proofs.Turns.KeptByIssue.{IsKeptByIssue, issue-keeps}
 use Rattle.rv_hardware.proofs.Always.Halted.{HaltsBehind, words_of, runs-empty}
 use Rattle.rv_hardware.proofs.Turns.Commit.{CommitTurn, no_head, stale_head, unfinished, fence_waits, fence_writes, fence_retires, executes, serial_faults, traps, retires, retires_last, executed, written_back, retired_with, retired_and_flushed, head_retired_entries}
-use Rattle.rv_hardware.proofs.Marks.History.{Anything, anything_is_kept, Passed, History, began, went_on, begin, committing, dispatching, cycle_passes, history_is_legal, history_is_sound}
+use Rattle.rv_hardware.proofs.Marks.History.{Anything, anything_is_kept, Passed, History, began, went_on, begin, committing, dispatching, history_is_legal, history_is_sound, history_passes}
 use Rattle.rv_hardware.proofs.Marks.Keeps.{InCommit, commit_turns_keep}
 use Rattle.rv_hardware.proofs.Laws.NoIdleFetch.Links.{LastIs, last_at, last_of}
 use Rattle.rv_hardware.proofs.Laws.NoIdleFetch.Rows.{stays_halted}
@@ -188,7 +188,7 @@ module _ (v : Values) {earlier : List Step} {old new : Hardware} {lines : Lines}
 
   next_in_cycle : AreFetchedNext old.cycle earlier old → AreFetchedNext new.cycle (earlier ++ report.steps) new
   next_in_cycle p =
-      let passed = cycle_passes v (history_is_legal v before) Anything earlier lines old new report (anything_is_kept v old.cycle) (history_is_sound v before) tt is in
+      let passed = history_passes v before is in
       let first = begin v (history_is_legal v before) Anything earlier lines old new report (anything_is_kept v old.cycle) (history_is_sound v before) tt in
       let g : Hardware = with_lines lines old in
       let c : Hardware = (committing lines old).hardware in

@@ -10,7 +10,7 @@ use Rattle.rv_hardware.proofs.Turns.KeptByDrain.{drain-same}
 use Rattle.rv_hardware.proofs.Turns.KeptByIssue.{ready-parts, issue-by, issue_kind-keeps}
 use Rattle.rv_hardware.proofs.Marks.Keeps.{InCycle, starts_in_cycle}
 use Rattle.rv_hardware.proofs.Marks.Advance.{IsBefore, Starts}
-use Rattle.rv_hardware.proofs.Marks.History.{Anything, anything_is_kept, History, began, went_on, Passed, cycle_passes, history_is_legal, history_is_sound, committing, drained, issued_all, sent_all, dispatching}
+use Rattle.rv_hardware.proofs.Marks.History.{Anything, anything_is_kept, History, began, went_on, Passed, history_is_legal, committing, drained, issued_all, sent_all, dispatching, history_passes}
 use Rattle.rv_hardware.proofs.Laws.NoIdleUnit.Marks.{MayStart, BusyUnits, may_back, busy_units_are_kept, rows_do_not_start, words_do_not_start, entries_do_not_start}
 use Rattle.rv_hardware.proofs.Turns.Issue.{IssueTurn, no_unit, none_ready, starts, issue_turn_is, access_keeps, message_at, started_entries}
 use Rattle.rv_hardware.proofs.Marks.List.{Mark, mark_of_row, mark_of_entry, mark_of_fetched, marks, marks_in, marks_at_entry}
@@ -256,7 +256,7 @@ pub over_of_history : (v : Values) (k : Kind) → (at_kind k v.kinds).pipelined 
 over_of_history v k line (began image start legal) = over_at_reset v k
 over_of_history v k line (went_on {earlier} {old} {new} {lines} {report} before is) =
     let legal = history_is_legal v before in
-    let passed = cycle_passes v legal Anything earlier lines old new report (anything_is_kept v old.cycle) (history_is_sound v before) tt is in
+    let passed = history_passes v before is in
     let begins = subst (λ u. Over old.cycle (at_kind k u)) (sym (begin_units lines old)) (over_of_history v k line before) in
     let later = Each-weaker (λ s. s.cycle + s.cost ≤ old.cycle) (λ s. s.cycle + s.cost ≤ old.cycle + 1) (λ s le. omega (arith, le)) (at_kind k (drained lines old).units).starts begins in
     let issues = timely_issue v legal old.cycle (earlier ++ report.steps) k line (drained lines old) ((passed.drains.basics.always.sizes, passed.drains.basics.cycle), later) in

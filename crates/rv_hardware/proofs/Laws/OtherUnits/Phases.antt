@@ -1,5 +1,5 @@
 -- A unit executes one instruction at a time, or begins one a cycle where it is pipelined.
-use Rattle.rv_hardware.proofs.Words.{◌≡◌, ℕ, suc, ◌+◌, ◌≤◌, Bool, true, false, cond, ◌&&◌, List, [], ◌∷◌, ◌++◌, length, nat_lt, nat_le, Some, None, filter, Option, sym, refl, ap, ◌∙◌, subst, true≢false, arith, ltb-true, lt-ltb, le-leb, and_from, and_left, and_right, at_kind-for_each, with_kind-each, IsLegal, is_of_kind, kind_of_word, at_kind, for_each, with_kind, Issue, Lines, Kind, Values, Each, Pool, free_pool, held_for, holding, holds_unit, is_free, finished, predicting, started, Entry, entry_of_fetched, with_dispatched, Hardware, cost_of, issued, path, Report, Step, and_second, Each-append, Each-weaker, Each-filter, count, count-append, count-yes, count-length, count-set-same, count-set-more, count-set-less, count-push-no}
+use Rattle.rv_hardware.proofs.Words.{◌≡◌, ℕ, suc, ◌+◌, ◌≤◌, Bool, true, false, cond, ◌&&◌, List, [], ◌∷◌, ◌++◌, length, nat_lt, nat_le, Some, None, filter, Option, sym, refl, ap, ◌∙◌, subst, true≢false, arith, ltb-true, lt-ltb, le-leb, and_from, and_left, and_right, at_kind-for_each, with_kind-each, is_of_kind, kind_of_word, at_kind, for_each, with_kind, Issue, Kind, Values, Each, Pool, free_pool, held_for, holding, holds_unit, is_free, finished, predicting, started, Entry, entry_of_fetched, with_dispatched, Hardware, cost_of, issued, path, Step, and_second, Each-append, Each-weaker, Each-filter, count, count-append, count-yes, count-length, count-set-same, count-set-more, count-set-less, count-push-no}
 use Rattle.rv_units.specs.Pool.{started as started_unit}
 use Rattle.rv_hardware.proofs.Turns.Forms.{emptied, with_entries, without_head}
 use Rattle.rv_hardware.proofs.Turns.KeptByBroadcast.{IsKeptByBroadcast, with_mended}
@@ -8,7 +8,7 @@ use Rattle.rv_hardware.proofs.Turns.KeptByDispatch.{IsKeptByDispatch}
 use Rattle.rv_hardware.proofs.Turns.KeptByIssue.{IsReady, ready-parts}
 use Rattle.rv_hardware.proofs.Marks.Keeps.{InCycle, IsKeptInCycle, in_cycle}
 use Rattle.rv_hardware.proofs.Marks.Basics.{finished_mark, dispatched_mark, is_waiting_is}
-use Rattle.rv_hardware.proofs.Marks.History.{Anything, anything_is_kept, History, began, went_on, Passed, cycle_passes, history_is_legal, history_is_sound, dispatching}
+use Rattle.rv_hardware.proofs.Marks.History.{History, began, went_on, history_is_legal, dispatching, history_passes}
 use Rattle.rv_hardware.proofs.Turns.Issue.{access_keeps, message_at, started_entries}
 use Rattle.rv_hardware.proofs.Marks.Sound.{is_of_kind_is}
 use Rattle.rv_hardware.proofs.Marks.List.{Mark, Start, mark_of_entry, start_of_issue, start_of_stage}
@@ -34,7 +34,8 @@ holds_between now c s le begun h =
     let lt = ltb-true c (s.cycle + s.cost) (and_second (nat_le s.cycle c) (nat_lt c (s.cycle + s.cost)) h) in
     and_from (nat_le s.cycle now) (nat_lt now (s.cycle + s.cost)) (le-leb s.cycle now begun) (lt-ltb now (s.cycle + s.cost) (omega (arith, lt, le)))
 
-picks : {X : Type 0} (p q : X → Bool) (b : Bool) (x : X) (xs ys : List X) → (p x ≡ true → b ≡ true) → count p xs ≤ count p ys → count p (x ∷ xs) ≤ count p (cond b (x ∷ ys) ys)
+picks : {X : Type 0} (p q : X → Bool) (b : Bool) (x : X) (xs ys : List X) → (p x ≡ true → b ≡ true) → count p xs ≤ count p ys →
+    count p (x ∷ xs) ≤ count p (cond b (x ∷ ys) ys)
 picks p q true x xs ys f le = by_test (p x)
   where
     by_test : (t : Bool) → cond t (suc (count p xs)) (count p xs) ≤ cond t (suc (count p ys)) (count p ys)
@@ -46,13 +47,15 @@ picks p q false x xs ys f le = by_test (p x) refl
     by_test true is = absurd (true≢false (sym (f is)))
     by_test false is = le
 
-filter_holds : {X : Type 0} (p q : X → Bool) (xs : List X) → Each (λ x. p x ≡ true → q x ≡ true) xs → count p xs ≤ count p (filter q xs)
+filter_holds : {X : Type 0} (p q : X → Bool) (xs : List X) → Each (λ x. p x ≡ true → q x ≡ true) xs →
+    count p xs ≤ count p (filter q xs)
 filter_holds p q [] h = omega arith
 filter_holds p q (x ∷ xs) h = picks p q (q x) x xs (filter q xs) h.0 (filter_holds p q xs h.1)
 
 module _ (v : Values) (now : ℕ) (k : Kind) (pool : Pool) where
   -- fewer entries
-  pub held_fewer : (es fs : List Entry) → ((c : ℕ) → now ≤ c → count (λ e. holds_mark v k c (mark_of_entry e)) fs ≤ count (λ e. holds_mark v k c (mark_of_entry e)) es) → Held v now k pool es → Held v now k pool fs
+  pub held_fewer : (es fs : List Entry) →
+      ((c : ℕ) → now ≤ c → count (λ e. holds_mark v k c (mark_of_entry e)) fs ≤ count (λ e. holds_mark v k c (mark_of_entry e)) es) → Held v now k pool es → Held v now k pool fs
   held_fewer es fs less h = record {
     tied = λ c le. let few = less c le in let all = h.tied c le in omega (arith, few, all);
     within = h.within;
@@ -108,7 +111,8 @@ module _ (v : Values) (now : ℕ) (k : Kind) (pool : Pool) where
 abbrev pub AllHeld : Values → ℕ → Hardware → Type 0
 AllHeld v now h = (k : Kind) → Held v now k (at_kind k h.units) h.rob.entries
 
-pub all_fewer : (v : Values) (now : ℕ) (g h : Hardware) → g.units ≡ h.units → ((k : Kind) (c : ℕ) → now ≤ c → count (λ e. holds_mark v k c (mark_of_entry e)) g.rob.entries ≤ count (λ e. holds_mark v k c (mark_of_entry e)) h.rob.entries) → AllHeld v now h → AllHeld v now g
+pub all_fewer : (v : Values) (now : ℕ) (g h : Hardware) → g.units ≡ h.units →
+    ((k : Kind) (c : ℕ) → now ≤ c → count (λ e. holds_mark v k c (mark_of_entry e)) g.rob.entries ≤ count (λ e. holds_mark v k c (mark_of_entry e)) h.rob.entries) → AllHeld v now h → AllHeld v now g
 all_fewer v now g h units less held k = subst (λ u. Held v now k (at_kind k u) g.rob.entries) (sym units) (held_fewer v now k (at_kind k h.units) h.rob.entries g.rob.entries (less k) (held k))
 
 -- commit
@@ -127,7 +131,8 @@ units_commit v now = record {
 -- issue
 
 -- an instruction that starts takes a unit of its kind, and no other changes
-pub issued_units : (k : Kind) (h : Hardware) (older : List Entry) (e : Entry) → (issued k h older e).units ≡ with_kind k (started_unit (cost_of h k (path h older e)) h.cycle (at_kind k h.units)) h.units
+pub issued_units : (k : Kind) (h : Hardware) (older : List Entry) (e : Entry) →
+    (issued k h older e).units ≡ with_kind k (started_unit (cost_of h k (path h older e)) h.cycle (at_kind k h.units)) h.units
 issued_units k h older e =
     let keep = access_keeps (path h older e) h in
     λ i. with_kind k (started_unit (cost_of h k (path h older e)) (keep.cycle i) (at_kind k (keep.units i))) (keep.units i)
@@ -199,7 +204,7 @@ units_dispatch v now = record {
 -- a cycle
 
 -- each phase of a cycle keeps it that all units are held within their number
-units_kept : (v : Values) (now : ℕ) → IsKeptInCycle v now (AllHeld v now)
+pub units_kept : (v : Values) (now : ℕ) → IsKeptInCycle v now (AllHeld v now)
 units_kept v now = record {
   lines = λ h levels held. held;
   commit = units_commit v now;
@@ -209,11 +214,6 @@ units_kept v now = record {
   dispatch = units_dispatch v now;
 }
 
--- the phases of a cycle up to dispatch keep it that all units are held within their number
-pub units_in_cycle : (v : Values) (legal : IsLegal v) (earlier : List Step) (lines : Lines) (old new : Hardware) (report : Report) (R : List Mark → Type 0) →
-    Passed v R earlier lines old report new → AllHeld v old.cycle old → AllHeld v old.cycle (dispatching lines old).hardware
-units_in_cycle v legal earlier lines old new report R passed held = in_cycle (units_kept v old.cycle) passed held
-
 units_at_reset : (v : Values) (k : Kind) → Held v 0 k (at_kind k (for_each free_pool v.kinds)) []
 units_at_reset v k = rw (at_kind-for_each free_pool v.kinds k) (record { tied = λ c le. omega arith; within = λ c le. omega arith; begun = tt })
 
@@ -221,9 +221,8 @@ units_at_reset v k = rw (at_kind-for_each free_pool v.kinds k) (record { tied = 
 pub units_of_history : (v : Values) {steps : List Step} {h : Hardware} → History v steps h → AllHeld v h.cycle h
 units_of_history v (began image start legal) = units_at_reset v
 units_of_history v (went_on {earlier} {old} {new} {lines} {report} before is) = λ k.
-    let legal = history_is_legal v before in
-    let passed = cycle_passes v legal Anything earlier lines old new report (anything_is_kept v old.cycle) (history_is_sound v before) tt is in
-    let held = units_in_cycle v legal earlier lines old new report Anything passed (units_of_history v before) in
+    let passed = history_passes v before is in
+    let held = in_cycle (units_kept v old.cycle) passed (units_of_history v before) in
     let d : Hardware = (dispatching lines old).hardware in
     let next : new.cycle ≡ old.cycle + 1 = ap (λ (h : Hardware). h.cycle) passed.others_stay in
     subst (λ (g : Hardware). Held v new.cycle k (at_kind k g.units) g.rob.entries) (sym passed.others_stay)

@@ -1,10 +1,11 @@
 -- Of rows that hold a unit in a cycle there are at most as many as there are units.
 use Rattle.rv_hardware.proofs.Words.{◌≡◌, ℕ, ◌+◌, ◌<◌, ◌≤◌, Bool, true, false, ◌&&◌, List, ◌++◌, map, IfSome, ◌==◌, Some, None, count_by, Option, ap, ◌∙◌, arith, is_of_kind, kind_of_word, at_kind, Lines, Kind, Values, Fetched, Hardware, Report, rows_of, Execution, Row, Step, Each-weaker, Each-all, count, count-append, count-none, count-map, count-le}
+use Rattle.rv_hardware.proofs.Marks.Keeps.{in_cycle}
 use Rattle.rv_hardware.proofs.Marks.Counted.{Shows, counted_law}
-use Rattle.rv_hardware.proofs.Marks.History.{History, Passed, dispatching, history_is_legal}
+use Rattle.rv_hardware.proofs.Marks.History.{History, Passed, dispatching}
 use Rattle.rv_hardware.proofs.Marks.List.{Mark, Start, mark_of_row, mark_of_entry, mark_of_fetched, marks_in, Extends}
 use Rattle.rv_hardware.proofs.Marks.Row.{SoundRow}
-use Rattle.rv_hardware.proofs.Laws.OtherUnits.Phases.{holds_mark, units_in_cycle, units_of_history}
+use Rattle.rv_hardware.proofs.Laws.OtherUnits.Phases.{holds_mark, units_of_history, units_kept}
 use Rattle.rv_hardware.proofs.Marks.Widths.{count_marks}
 
 -- an execution lies between the dispatch and the retirement
@@ -26,7 +27,7 @@ module _ (v : Values) (k : Kind) (test : ℕ → Mark → Bool)
       let rows = count-none (λ row. p (mark_of_row row)) (rows_of (earlier ++ report.steps)) (Each-weaker (SoundRow v (old.cycle + 1)) (λ row. p (mark_of_row row) ≡ false) (gone old.cycle) (rows_of (earlier ++ report.steps)) passed.dispatches.basics.rows) in
       let words = count-none (λ f. p (mark_of_fetched f)) d.front.entries (Each-all (λ f. p (mark_of_fetched f) ≡ false) (no_word old.cycle) d.front.entries) in
       let added = count-map p mark_of_fetched passed.fetches.added ∙ count-none (λ f. p (mark_of_fetched f)) passed.fetches.added (Each-all (λ f. p (mark_of_fetched f) ≡ false) (no_word old.cycle) passed.fetches.added) in
-      let held = units_in_cycle v (history_is_legal v before) earlier lines old new report (Extends old.cycle (marks_in earlier old)) passed (units_of_history v before) k in
+      let held = in_cycle (units_kept v old.cycle) passed (units_of_history v before) k in
       let entries = count-le (λ e. p (mark_of_entry e)) (λ e. holds_mark v k old.cycle (mark_of_entry e)) d.rob.entries (Each-all (λ e. p (mark_of_entry e) ≡ true → holds_mark v k old.cycle (mark_of_entry e) ≡ true) (λ e. holds old.cycle (mark_of_entry e)) d.rob.entries) in
       let tied = held.tied old.cycle (omega arith) in
       let within = held.within old.cycle (omega arith) in

@@ -1,14 +1,13 @@
 -- Through every phase the port is busy until each load that uses the cache is over, and one begins when all others are.
-use Rattle.rv_hardware.proofs.Words.{◌≡◌, ℕ, ◌+◌, ◌<◌, ◌≤◌, Bool, true, false, not, ◌&&◌, ◌⊎◌, List, [], ◌∷◌, ◌++◌, IfSome, nat_le, ◌==◌, Some, None, Option, sym, refl, ap, ◌∙◌, subst, inl, inr, true≢false, append_assoc, arith, leb-true, IsLegal, is_load, Instr, Lines, Kind, Values, Each, finished, predicting, started, Entry, with_write_back, entry_of_fetched, with_drained, Hardware, cost_of, has_port, issued, path, with_access, Report, seen_behind, Step, and_first, and_second, Each-append, Each-left, Each-right, Each-set, Each-place, Each-weaker, Each-all, Each-both, EveryPair, EveryPair-append, EveryPair-left, EveryPair-right, EveryPair-across, EveryPair-set}
+use Rattle.rv_hardware.proofs.Words.{◌≡◌, ℕ, ◌+◌, ◌<◌, ◌≤◌, Bool, true, false, not, ◌&&◌, ◌⊎◌, List, [], ◌∷◌, ◌++◌, IfSome, nat_le, ◌==◌, Some, None, Option, sym, refl, ap, ◌∙◌, subst, inl, inr, true≢false, append_assoc, arith, leb-true, IsLegal, is_load, Instr, Kind, Values, Each, finished, predicting, started, Entry, with_write_back, entry_of_fetched, with_drained, Hardware, cost_of, has_port, issued, path, with_access, seen_behind, and_first, and_second, Each-append, Each-left, Each-right, Each-set, Each-place, Each-weaker, Each-all, Each-both, EveryPair, EveryPair-append, EveryPair-left, EveryPair-right, EveryPair-across, EveryPair-set}
 use Rattle.rv_hardware.proofs.Turns.Forms.{with_entries}
 use Rattle.rv_hardware.proofs.Turns.KeptByBroadcast.{IsKeptByBroadcast, with_mended}
 use Rattle.rv_hardware.proofs.Turns.KeptByCommit.{IsKeptByCommit}
 use Rattle.rv_hardware.proofs.Turns.KeptByDispatch.{IsKeptByDispatch}
 use Rattle.rv_hardware.proofs.Turns.KeptByDrain.{IsKeptByDrain}
 use Rattle.rv_hardware.proofs.Turns.KeptByIssue.{IsReady, ready-parts}
-use Rattle.rv_hardware.proofs.Marks.Keeps.{InCycle, IsKeptInCycle, in_cycle}
+use Rattle.rv_hardware.proofs.Marks.Keeps.{InCycle, IsKeptInCycle}
 use Rattle.rv_hardware.proofs.Marks.Basics.{finished_mark, dispatched_mark}
-use Rattle.rv_hardware.proofs.Marks.History.{Passed, dispatching}
 use Rattle.rv_hardware.proofs.Turns.Issue.{message_at, started_entries}
 use Rattle.rv_hardware.proofs.Marks.List.{Mark, Start, mark_of_entry, start_of_issue}
 use Rattle.rv_hardware.proofs.Laws.Port.Loads.{uses_cache, WhereUsed, OverBy, OneAtATime, path_of_user, has_its_port, port_grows}
@@ -35,7 +34,8 @@ tied_over v c d m le h = used_weaker v m.instruction m.start (λ s. (s.cycle + s
 
 -- the same entries, or fewer
 
-pub port_same : (v : Values) (now : ℕ) (g h : Hardware) → g.rob.entries ≡ h.rob.entries → h.port_free ≤ g.port_free → PortOk v now h → PortOk v now g
+pub port_same : (v : Values) (now : ℕ) (g h : Hardware) → g.rob.entries ≡ h.rob.entries → h.port_free ≤ g.port_free →
+    PortOk v now h → PortOk v now g
 port_same v now g h at le ok = record {
   tie = rw at (Each-weaker (λ e. Tied v h.port_free (mark_of_entry e)) (λ e. Tied v g.port_free (mark_of_entry e)) (λ e k. tied_later v h.port_free g.port_free (mark_of_entry e) le k) h.rob.entries ok.tie);
   pairs = rw at (ok.pairs);
@@ -109,7 +109,8 @@ module _ (v : Values) (legal : IsLegal v) (now : ℕ) where
     not_true false is = refl
 
     -- where it uses the cache, the port was idle and is busy with it
-    by_cache : uses_cache v e.instruction (new_start) ≡ true → (h.port_free ≤ h.cycle) × (h.cycle + cost_of h k (path h older e) ≤ new_port)
+    by_cache : uses_cache v e.instruction (new_start) ≡ true →
+        (h.port_free ≤ h.cycle) × (h.cycle + cost_of h k (path h older e) ≤ new_port)
     by_cache used =
         let rest = and_second (is_load e.instruction) (not (new_start).faults && not ((new_start).cost == v.forward)) used in
         let none = not_true (new_start).faults (and_first (not (new_start).faults) (not ((new_start).cost == v.forward)) rest) in
@@ -123,10 +124,12 @@ module _ (v : Values) (legal : IsLegal v) (now : ℕ) where
     grows : h.port_free ≤ new_port
     grows = port_grows h (path h older e) (has_its_port h older e ready.loads)
 
-    others : (xs : List Entry) → Each (λ z. Tied v h.port_free (mark_of_entry z)) xs → Each (λ z. OneAtATime v now (mark_of_entry z) (mark_of_entry new_entry)) xs
+    others : (xs : List Entry) → Each (λ z. Tied v h.port_free (mark_of_entry z)) xs →
+        Each (λ z. OneAtATime v now (mark_of_entry z) (mark_of_entry new_entry)) xs
     others xs tie = by_use (uses_cache v e.instruction (new_start)) refl
       where
-        by_use : (b : Bool) → uses_cache v e.instruction (new_start) ≡ b → Each (λ z. OneAtATime v now (mark_of_entry z) (mark_of_entry new_entry)) xs
+        by_use : (b : Bool) → uses_cache v e.instruction (new_start) ≡ b →
+            Each (λ z. OneAtATime v now (mark_of_entry z) (mark_of_entry new_entry)) xs
         by_use true used =
             Each-weaker (λ z. Tied v h.port_free (mark_of_entry z)) (λ z. OneAtATime v now (mark_of_entry z) (mark_of_entry new_entry))
             (λ z k. pair_with_new v now (mark_of_entry z) (mark_of_entry new_entry) (inl (tied_later v h.port_free now (mark_of_entry z) (let idle = (by_cache used).0 in omega (arith, idle, p.0.1)) k))) xs tie
@@ -158,10 +161,12 @@ module _ (v : Values) (legal : IsLegal v) (now : ℕ) where
 same_tied : (v : Values) (c : ℕ) (m n : Mark) → n.instruction ≡ m.instruction → n.start ≡ m.start → Tied v c m → Tied v c n
 same_tied v c m n instruction start h = rw (instruction, start) h
 
-same_first : (v : Values) (now : ℕ) (m n z : Mark) → n.instruction ≡ m.instruction → n.start ≡ m.start → OneAtATime v now m z → OneAtATime v now n z
+same_first : (v : Values) (now : ℕ) (m n z : Mark) → n.instruction ≡ m.instruction → n.start ≡ m.start → OneAtATime v now m z →
+    OneAtATime v now n z
 same_first v now m n z instruction start h = rw (instruction, start) h
 
-same_second : (v : Values) (now : ℕ) (m n z : Mark) → n.instruction ≡ m.instruction → n.start ≡ m.start → OneAtATime v now z m → OneAtATime v now z n
+same_second : (v : Values) (now : ℕ) (m n z : Mark) → n.instruction ≡ m.instruction → n.start ≡ m.start → OneAtATime v now z m →
+    OneAtATime v now z n
 same_second v now m n z instruction start h = turned v now n z (same_first v now m n z instruction start (turned v now z m h))
 
 module _ (v : Values) (now : ℕ) (g h : Hardware) (older younger : List Entry) (e x : Entry) (at : h.rob.entries ≡ older ++ e ∷ younger)
@@ -219,7 +224,7 @@ port_dispatch v now = record {
 }
 
 -- each phase of a cycle keeps it
-port_kept : (v : Values) → IsLegal v → (now : ℕ) → IsKeptInCycle v now (PortOk v now)
+pub port_kept : (v : Values) → IsLegal v → (now : ℕ) → IsKeptInCycle v now (PortOk v now)
 port_kept v legal now = record {
   lines = λ h levels ok. record { tie = ok.tie; pairs = ok.pairs };
   commit = port_commit v now;
@@ -228,8 +233,3 @@ port_kept v legal now = record {
   broadcast = port_broadcast v now;
   dispatch = port_dispatch v now;
 }
-
--- the phases of a cycle up to dispatch keep it
-pub port_in_cycle : (v : Values) (legal : IsLegal v) (earlier : List Step) (lines : Lines) (old new : Hardware) (report : Report) (R : List Mark → Type 0) →
-    Passed v R earlier lines old report new → PortOk v old.cycle old → PortOk v old.cycle (dispatching lines old).hardware
-port_in_cycle v legal earlier lines old new report R passed ok = in_cycle (port_kept v legal old.cycle) passed ok
