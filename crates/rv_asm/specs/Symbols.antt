@@ -1,13 +1,15 @@
 -- The symbols of the program, and its layout.
-use Rattle.std.specs.Prelude.{ℕ, ℤ, List, Option, Result, map}
+use Rattle.std.specs.Prelude.{ℕ, ℤ, ◌++◌, List, Option, Result, map}
 use Rattle.std.specs.{BTreeMap.get_by, Cmp.Lexicographic.slice_cmp, Ordering.nat_cmp}
-use Rattle.rv_asm.specs.Kept.{Kept, places}
+use Rattle.rv_asm.specs.Faults.{second_fault}
+use Rattle.rv_asm.specs.Kept.{Kept, first_with_fault, places}
 use Rattle.rv_asm.specs.Layout.{Layout}
-use Rattle.rv_asm.specs.Meaning.{Cell, cells_at, value_of}
+use Rattle.rv_asm.specs.Meaning.{Cell, behind_text, cells_at, contents, value_of}
 use Rattle.rv_asm.specs.Placed.{Placed, place_body}
 use Rattle.rv_asm.specs.Read.{operands_in}
 use Rattle.rv_asm.specs.Statement.{Statement, statement}
 use Rattle.rv_asm.specs.declared.{fault.AsmFault.AsmFault, record.Record.Record, program.Program.Program, reach.Reach.Reach, symbols.Definition.Definition, symbols.Symbols.Symbols}
+use Rattle.rv_asm.specs.declared.operation.Section.TheVariants.{Text, Data}
 use Rattle.rv_asm.specs.declared.layout.Layout as read
 
 -- what the program holds of a name
@@ -37,3 +39,14 @@ lines_in records = places (kept_in records)
 -- what a statement means in the program, after the lines that lead so far
 abbrev pub means : Program → Reach → Statement → Result (List Cell) AsmFault
 means program reach statement = cells_at program.base (layout_of program.layout.now) reach statement
+
+-- the first fault of the program in the second pass, with its line
+abbrev pub fault_in : Program → Option (AsmFault × ℕ)
+fault_in program = first_with_fault (second_fault program.base (layout_of program.layout.now)) (kept_in program.layout.now.records.items)
+
+-- the parts of the program's image: the text, and the data after it
+abbrev pub cells_in : Program → List Cell
+cells_in program =
+    let whole = layout_of program.layout.now in
+    let lines = lines_in program.layout.now.records.items in
+    contents program.base whole Text lines ++ behind_text whole.reach.text_size whole.reach.data_size (contents program.base whole Data lines)

@@ -3,6 +3,7 @@ ghost use Rattle.rv_asm.specs.Answer.{RefusedAt};
 ghost use Rattle.rv_asm.specs.Faults.{fault_of};
 ghost use Rattle.rv_asm.specs.Layout.{layout, lines_of};
 ghost use Rattle.rv_asm.specs.Meaning.{Cell, Spells, image_parts, round_up, start_address, behind_text};
+ghost use Rattle.rv_asm.specs.Symbols.{cells_in, fault_in, layout_of};
 
 use crate::directive::push_zeros;
 use crate::fault::{AsmError, AsmFault};
@@ -39,6 +40,29 @@ fn joined(text_size: usize, data_size: usize, sections: Sections) -> Result<Vec<
     Ok(text)
 }
 
+/// The image of a program, or its first fault in the second pass.
+pub fn image_of(alloc: Global, program: &Program<'_, '_>) -> Result<Image, AsmError>
+    ensures clean { IfOk result (λ _. fault_in program.now ≡ None) }
+    ensures base { IfOk result (λ image. image.base ≡ program.now.base) }
+    ensures bytes { IfOk result (λ image. Spells (cells_in program.now) image.bytes) }
+    ensures start { IfOk result (λ image.
+        image.start ≡ start_address program.now.base (layout_of program.now.layout.now)) }
+    ensures refused { RefusedAt (fault_in program.now) result }
+    ensures memory { IfErr result (λ error. error.fault ≡ AsmFault.Memory → error.line ≡ 0) }
+{
+    let sections = Sections::of_program(alloc, program)?;
+    let start = start_address(program);
+    let reach = program.layout.reach;
+    let Ok(bytes) = joined(reach.text_size, reach.data_size, sections) else {
+        return Err(AsmError::at(AsmFault::Memory, 0));
+    };
+    Ok(Image {
+        base: program.base,
+        bytes: Bytes::from_vec(bytes),
+        start,
+    })
+}
+
 /// The image of an assembly text whose text section begins at the base, or its first fault.
 ///
 /// The base is a multiple of 4096 from 0 to 0xff000000. Want of memory is answered only where a
@@ -56,14 +80,8 @@ pub fn assemble(alloc: Global, text: &[u8], base: u32) -> Result<Image, AsmError
         layout: &layout,
         base,
     };
-    let sections = Sections::of_program(alloc, &program)?;
-    let start = start_address(&program);
-    let Ok(bytes) = joined(layout.reach.text_size, layout.reach.data_size, sections) else {
-        return Err(AsmError::at(AsmFault::Memory, 0));
-    };
-    Ok(Image {
-        base,
-        bytes: Bytes::from_vec(bytes),
-        start,
-    })
+    match image_of(alloc, &program) {
+        Ok(image) => Ok(image),
+        Err(error) => Err(error),
+    }
 }

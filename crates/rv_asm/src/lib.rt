@@ -24,4 +24,4 @@ mod token;
 
 pub use assembler::assemble;
 pub use fault::{AsmError, AsmFault};
-pub use listing::list_text;
+pub use listing::{ListedImage, assemble_listed};

@@ -1,17 +1,20 @@
 ghost use Rattle.std.specs.Prelude.{◌≡◌, ◌-◌, ◌++◌, Some, None, IfOk, IfErr, replicate};
 ghost use Rattle.rv_asm.specs.Answer.{RefusedAt};
-ghost use Rattle.rv_asm.specs.Faults.{first_fault_of};
-ghost use Rattle.rv_asm.specs.Layout.{lines_of};
+ghost use Rattle.rv_asm.specs.Faults.{fault_of};
+ghost use Rattle.rv_asm.specs.Layout.{layout, lines_of};
 ghost use Rattle.rv_asm.specs.Listing.{lines_behind_text, listing_of, reach_before, shown, word_count};
 ghost use Rattle.rv_asm.specs.Listing.{words_between, words_in};
-ghost use Rattle.rv_asm.specs.Meaning.{round_up};
+ghost use Rattle.rv_asm.specs.Meaning.{Spells, image_parts, round_up, start_address};
 ghost use Rattle.rv_asm.specs.Symbols.{kept_in};
 
+use crate::assembler::image_of;
 use crate::fault::{AsmError, AsmFault};
 use crate::layout::{Layout, length_before};
 use crate::operation::Section;
+use crate::program::Program;
 use crate::reach::Reach;
 use crate::record::{Record, TextLine};
+use rv_isa::Image;
 use rv_source::{Listing, SourceLine};
 use std::alloc::{AllocError, Global};
 
@@ -114,18 +117,31 @@ fn listing_of(alloc: Global, layout: &Layout<'_>, base: u32) -> Result<Listing, 
     Ok(listing)
 }
 
-/// Which line of an assembly text each word of its image comes from, where the text section begins at
-/// the base; or the text's first fault in the first pass. What only the second pass refuses, such as
-/// a symbol that is not defined, has its words all the same.
-pub fn list_text(alloc: Global, text: &[u8], base: u32) -> Result<Listing, AsmError>
-    ensures clean { IfOk result (λ _. first_fault_of (lines_of text.now) ≡ None) }
-    ensures listing { IfOk result (λ listing. listing ≡ listing_of base text.now) }
-    ensures refused { RefusedAt (first_fault_of (lines_of text.now)) result }
+/// An image, and which line of its text each of its words comes from.
+#[derive(Drop)]
+pub struct ListedImage {
+    pub image: Image,
+    pub listing: Listing,
+}
+
+/// The image of an assembly text as `assemble` gives it, with the lines of its words; or the text's first fault.
+pub fn assemble_listed(alloc: Global, text: &[u8], base: u32) -> Result<ListedImage, AsmError>
+    ensures clean { IfOk result (λ _. fault_of base (lines_of text.now) ≡ None) }
+    ensures base { IfOk result (λ listed. listed.image.base ≡ base) }
+    ensures bytes { IfOk result (λ listed. Spells (image_parts base (lines_of text.now)) listed.image.bytes) }
+    ensures start { IfOk result (λ listed. listed.image.start ≡ start_address base (layout (lines_of text.now))) }
+    ensures listing { IfOk result (λ listed. listed.listing ≡ listing_of base text.now) }
+    ensures refused { RefusedAt (fault_of base (lines_of text.now)) result }
     ensures memory { IfErr result (λ error. error.fault ≡ AsmFault.Memory → error.line ≡ 0) }
 {
     let layout = Layout::of_text(alloc, text)?;
+    let program = Program {
+        layout: &layout,
+        base,
+    };
+    let image = image_of(alloc, &program)?;
     match listing_of(alloc, &layout, base) {
-        Ok(listing) => Ok(listing),
+        Ok(listing) => Ok(ListedImage { image, listing }),
         Err(_) => Err(AsmError::at(AsmFault::Memory, 0)),
     }
 }

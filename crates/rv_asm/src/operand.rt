@@ -122,11 +122,12 @@ pub fn read_operands<'a>(alloc: Global, tokens: &[Token<'a>]) -> Result<Vec<Oper
     ensures { Follows (λ v. operands_in v.items) result
         (ok_or (operands_of (tokens_in tokens.now)) AsmFault.BadOperands) }
 {
-    let mut operands = Vec::new(alloc);
     if tokens.is_empty() {
-        return Ok(operands);
+        return Ok(Vec::new(alloc));
     }
     let pieces = pieces(alloc, tokens)?;
+    // A growing list would take room for four operands at once, and the first pass keeps each line's.
+    let mut operands = Vec::with_capacity(alloc, pieces.len())?;
     for piece in &pieces {
         let Some(operand) = read_operand(piece) else {
             return Err(AsmFault::BadOperands);

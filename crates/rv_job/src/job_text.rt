@@ -1,9 +1,10 @@
-ghost use Rattle.std.specs.Prelude.{◌≡◌, ◌<◌, length, IfOk, IfErr, Ok};
+ghost use Rattle.std.specs.Prelude.{◌≡◌, ◌<◌, ℕ, List, length, IfOk, IfErr, Ok};
 ghost use Rattle.rv_describe.specs.ArrivalList.{listed_arrivals};
 ghost use Rattle.rv_describe.specs.Description.{description_of};
 ghost use Rattle.rv_job.specs.Input.{most_bytes};
 ghost use Rattle.rv_job.specs.JobRefusal.{RefusesJob};
-ghost use Rattle.rv_job.specs.JobText.{HasLegalLength, IsJobOf, RefusesArrivals, RefusesAssembly, RefusesDescription};
+ghost use Rattle.rv_job.specs.JobText.{Assembles, Describes, HasLegalLength, IsJobOf, Lists};
+ghost use Rattle.rv_job.specs.JobText.{RefusesArrivals, RefusesAssembly, RefusesDescription};
 ghost use Rattle.rv_job.specs.Parts.{parts_of};
 ghost use Rattle.rv_job.specs.ReadParts.{parts_in};
 ghost use Rattle.rv_job.specs.TextImage.{IsImageOf};
@@ -66,6 +67,57 @@ pub(crate) fn read_image(alloc: Global, base: u32, part: &[u8]) -> Result<Image,
     }
 }
 
+/// The machine and the arrivals of a job, and the part of its text that is assembly.
+#[derive(Drop)]
+pub(crate) struct Unassembled<'a> {
+    pub(crate) description: Description,
+    pub(crate) arrivals: Arrivals,
+    pub(crate) assembly: &'a [u8],
+}
+
+/// Reads a job up to its assembly. Fails by `TooLong`, `Description`, `Arrivals` and `Memory` as `read_job`.
+pub(crate) fn read_unassembled(alloc: Global, text: &[u8]) -> Result<Unassembled<'_>, SimError>
+    ensures length { IfOk result (λ _. HasLegalLength text.entry.now) }
+    ensures machine { IfOk result (λ read. Describes text.entry.now read.description) }
+    ensures arrivals { IfOk result (λ read. Lists text.entry.now read.arrivals) }
+    ensures assembly { IfOk result (λ read. read.assembly.now ≡ (parts_of text.entry.now).assembly) }
+    ensures refused { IfErr result (RefusesJob text.entry.now) }
+{
+    let parts = read_parts(text)?;
+    let description = read_machine(alloc, parts.description)?;
+    let arrivals = read_changes(alloc, parts.arrivals)?;
+    Ok(Unassembled {
+        description,
+        arrivals,
+        assembly: parts.assembly,
+    })
+}
+
+/// The job of an image, if it fits. Fails by `ImageDoesNotFit`.
+pub(crate) fn job_of(
+    description: Description,
+    arrivals: Arrivals,
+    image: Image,
+) -> Result<Job, SimError>
+    requires { image.base ≡ description.ram_base }
+    ensures job { (text : List ℕ) → HasLegalLength text → Describes text description → Lists text arrivals →
+        Assembles text description image → IfOk result (IsJobOf text) }
+    ensures description { IfOk result (λ job. job.description ≡ description) }
+    ensures refused { (text : List ℕ) → HasLegalLength text → Describes text description → Lists text arrivals →
+        Assembles text description image → IfErr result (RefusesJob text) }
+{
+    let values = description.values();
+    if image.bytes.len() <= values.ram_size as usize && image.start % 4 == 0 {
+        Ok(Job {
+            description,
+            arrivals,
+            image,
+        })
+    } else {
+        Err(SimError::ImageDoesNotFit)
+    }
+}
+
 /// Reads a job: assembly alone, or a description, a line `%%` and assembly, or a description, such a
 /// line, arrivals, such a line and assembly.
 ///
@@ -77,18 +129,8 @@ pub fn read_job(alloc: Global, text: &[u8]) -> Result<Job, SimError>
     ensures job { IfOk result (IsJobOf text.now) }
     ensures refused { IfErr result (RefusesJob text.now) }
 {
-    let parts = read_parts(text)?;
-    let description = read_machine(alloc, parts.description)?;
-    let arrivals = read_changes(alloc, parts.arrivals)?;
-    let values = description.values();
-    let image = read_image(alloc, values.ram_base, parts.assembly)?;
-    if image.bytes.len() <= values.ram_size as usize && image.start % 4 == 0 {
-        Ok(Job {
-            description,
-            arrivals,
-            image,
-        })
-    } else {
-        Err(SimError::ImageDoesNotFit)
-    }
+    let read = read_unassembled(alloc, text)?;
+    let values = read.description.values();
+    let image = read_image(alloc, values.ram_base, read.assembly)?;
+    job_of(read.description, read.arrivals, image)
 }

@@ -1,6 +1,6 @@
 use super::BASE;
 use crate::checks::check_lines;
-use rv_asm::{AsmFault, assemble, list_text};
+use rv_asm::{AsmFault, assemble_listed};
 use std::test::Fail;
 
 #[test]
@@ -19,17 +19,22 @@ fn a_word_has_the_line_whose_bytes_hold_its_first_byte(rt: HostRuntime) -> Resul
     ];
     let text =
         " .data\nd: .byte 1\n .text\n\tla x8,d \r\n\nnop # x\n.half 3\n.half 4\nebreak\n.data\n.byte 2,3,4,5";
-    let listing = list_text(rt.alloc(), text.as_bytes(), BASE)?;
-    check_lines(&rt, &listing, &ROWS);
+    let listed = assemble_listed(rt.alloc(), text.as_bytes(), BASE)?;
+    check_lines(&rt, &listed.listing, &ROWS);
     Ok(())
 }
 
 #[test]
-fn a_listing_is_refused_by_the_first_pass_alone(rt: HostRuntime) -> Result<(), Fail> {
-    let refused = list_text(rt.alloc(), b"nop\n\nfoo", BASE)
-        .err()
-        .ok_or("foo")?;
-    assert!(rt; refused.fault == AsmFault::UnknownMnemonic && refused.line == 3);
-    assert!(rt; list_text(rt.alloc(), b"j nowhere", BASE).is_ok());
+fn a_listed_image_is_refused_as_the_image_is(rt: HostRuntime) -> Result<(), Fail> {
+    const ROWS: [(&[u8], AsmFault, usize); 2] = [
+        (b"nop\n\nfoo", AsmFault::UnknownMnemonic, 3),
+        (b"nop\nj nowhere", AsmFault::UnknownSymbol, 2),
+    ];
+    for (text, fault, line) in ROWS {
+        let refused = assemble_listed(rt.alloc(), text, BASE)
+            .err()
+            .ok_or("a fault")?;
+        assert!(rt; refused.fault == fault && refused.line == line);
+    }
     Ok(())
 }

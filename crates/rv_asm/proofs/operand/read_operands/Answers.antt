@@ -11,7 +11,7 @@ use Rattle.rv_asm.proofs.operand.read_operands.Goals as goal
 pub loop-piece-init : goal.loop-piece-init
 loop-piece-init c =
     let some_tokens : 0 < length c.args.tokens.now = grind (arith, nat_tests, c.if-is_empty.ensures, c.if-is_empty.false, c.is_empty.ensures) in
-    rw c.new-operands.ensures.items (joined-nil operand_of _ ∙ ap operands_in (ap (map (λ piece. map token_of piece.now)) c.deref-piece-items.ensures.value ∙ c.in_ok-pieces.ensures) ∙ sym (operands_of-pieces c.args.tokens.now some_tokens))
+    rw c.in_ok-operands.ensures.items (joined-nil operand_of _ ∙ ap operands_in (ap (map (λ piece. map token_of piece.now)) c.deref-piece-items.ensures.value ∙ c.in_ok-pieces.ensures) ∙ sym (operands_of-pieces c.args.tokens.now some_tokens))
 
 pub loop-piece-preserved : goal.loop-piece-preserved
 loop-piece-preserved c =
