@@ -48,4 +48,5 @@ pub mod TiedReset
 pub mod TiedStations
 pub mod Turned
 pub mod TrueRun
+pub mod Shown
 pub mod Taught

@@ -18,7 +18,7 @@ use Rattle.rv_core.specs.declared.outcome.Progress.{Progress}
 
 -- ---- each count, with one more report at the end
 
-steps_of-push : (rs : List Report) (r : Report) → steps_of (rs ++ r ∷ []) ≡ steps_of rs ++ r.steps
+pub steps_of-push : (rs : List Report) (r : Report) → steps_of (rs ++ r ∷ []) ≡ steps_of rs ++ r.steps
 steps_of-push [] r = append-none r.steps where
   append-none : (xs : List Step) → xs ++ [] ≡ xs
   append-none [] = refl
@@ -66,7 +66,7 @@ busy_of-push rs r =
       last : (x : Report) → sum_by (λ (y : Report). cond (not (y.dispatched == 0)) 1 0) (x ∷ []) ≡ cond (not (x.dispatched == 0)) 1 0 + 0
       last x = omega arith
 
-progress_of-push : (rs : List Report) (r : Report) → progress_of (rs ++ r ∷ []) ≡ progress_after r (progress_of rs)
+pub progress_of-push : (rs : List Report) (r : Report) → progress_of (rs ++ r ∷ []) ≡ progress_after r (progress_of rs)
 progress_of-push rs r =
     let count : length (rs ++ r ∷ []) ≡ length rs + 1 = omega (arith, length-append rs (r ∷ [])) in
     λ j. record {
@@ -120,7 +120,7 @@ progress-bounded rs =
 
 -- ---- a run under way
 
-NoneStops-push : (rs : List Report) (r : Report) → NoneStops rs → r.stop ≡ None → NoneStops (rs ++ r ∷ [])
+pub NoneStops-push : (rs : List Report) (r : Report) → NoneStops rs → r.stop ≡ None → NoneStops (rs ++ r ∷ [])
 NoneStops-push [] r none is = (is, tt)
 NoneStops-push (x ∷ rs) r none is = (none.0, NoneStops-push rs r none.1 is)
 
@@ -138,7 +138,7 @@ module _ (arrivals : List Arrival) where
     pub listed : steps ≡ steps_of reports
 
   -- what is told of cycles whose counts these are
-  told_of : (old now : GuidedHardware) (reports : List Report) (progress : Progress) (steps : List Step) → GuidedCycles arrivals old reports now → progress ≡ progress_of reports → steps ≡ steps_of reports
+  pub told_of : (old now : GuidedHardware) (reports : List Report) (progress : Progress) (steps : List Step) → GuidedCycles arrivals old reports now → progress ≡ progress_of reports → steps ≡ steps_of reports
       → IsRun arrivals old now reports steps progress.stalls progress.busy progress.cycles progress.longest_gap
   told_of old now reports progress steps goes counted listed = record {
     cycled = goes;
@@ -151,6 +151,10 @@ module _ (arrivals : List Arrival) where
 
   pub begins : (h : GuidedHardware) (progress : Progress) (steps : List Step) → progress ≡ progress_of [] → steps ≡ [] → IsUnderWay h h progress steps
   begins h progress steps counts none = record { reports = []; goes = ended; none_stops = tt; counted = counts; listed = none }
+
+  -- what is told of no cycle
+  pub told_nothing : (h : GuidedHardware) (progress : Progress) (steps : List Step) → progress ≡ progress_of [] → steps ≡ [] → IsRun arrivals h h [] steps progress.stalls progress.busy progress.cycles progress.longest_gap
+  told_nothing h progress steps counts none = told_of h h [] progress steps ended counts none
 
   module _ (old now new : GuidedHardware) (progress : Progress) (steps : List Step) (report : Report) (way : IsUnderWay old now progress steps)
       (cycle : IsGuidedCycle (lines_at arrivals now.hardware.cycle) now report new) where

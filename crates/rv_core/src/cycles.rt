@@ -1,6 +1,7 @@
-ghost use Rattle.std.specs.Prelude.{◌≡◌, ◌+◌, ◌^◌, ◌<◌, ◌≤◌, [], vec_len, vec_capacity, Option, IfOk};
+ghost use Rattle.std.specs.Prelude.{◌≡◌, ◌+◌, ◌^◌, ◌<◌, ◌≤◌, [], vec_len, vec_capacity, List, Option, IfOk};
+ghost use Rattle.rv_isa.specs.declared.lines.Arrival.{Arrival};
 ghost use Rattle.rv_front.specs.declared.predictors.DescribedPredictor.{DescribedPredictor};
-ghost use Rattle.rv_hardware.specs.Guided.{guided};
+ghost use Rattle.rv_hardware.specs.Guided.{GuidedHardware, guided};
 ghost use Rattle.rv_hardware.specs.Headline.{IsTrueStop};
 ghost use Rattle.rv_hardware.specs.Seen.{layout_of, seen};
 ghost use Rattle.rv_core.specs.Progress.{IsBounded, IsNextCycle, progress_after, progress_of};
@@ -8,15 +9,18 @@ ghost use Rattle.rv_core.specs.RunDone.{IsDone, KeepsItsPromise};
 ghost use Rattle.rv_core.specs.Told.{report_with};
 ghost use Rattle.rv_hardware.specs.Report.{counted};
 
+use crate::collector::Collector;
 use crate::errors::OutOfMemory;
 use crate::machine::Core;
 use crate::outcome::{CycleEnd, Outcome, Progress};
 use crate::pipeline::Pipeline;
+use crate::watching::watch;
 use rv_arch::Stop;
 use rv_front::Predictor;
 use rv_hardware::{Stall, StallCounts, Step};
 use rv_isa::Arrivals;
 use std::alloc::Global;
+use std::io;
 
 /// Does cycles of a core, each with the lines of its number, up to a breakpoint, a stale word, exhaustion or `limit` cycles,
 /// in this order where they come together; the limit comes before exhaustion.
@@ -74,20 +78,51 @@ fn run_cycles(
 ) -> Result<Outcome, OutOfMemory>
     ensures { IsDone arrivals.now limit (guided pipeline.old (known predictor.old)) (guided pipeline.new (known predictor.new)) result }
 {
-    let mut steps = Vec::new(alloc);
-    let mut progress = Progress::new();
-    for _ in 0..limit {
-        if pipeline.is_exhausted() {
-            return Ok(progress.outcome(steps, Stop::Exhausted));
-        }
-        if steps.reserve(8).is_err() {
-            return Err(progress.out_of_memory(steps));
-        }
-        if let Some(stop) = progress.run_cycle(pipeline, predictor, arrivals, &mut steps) {
-            return Ok(progress.outcome(steps, stop));
-        }
+    let Ok(list) = Vec::with_capacity(alloc, 8) else {
+        return not_run(alloc, limit);
+    };
+    collect(alloc, pipeline, predictor, arrivals, limit, list)
+}
+
+// What a run comes to for whose first cycle there is no memory. One of no cycle needs none.
+fn not_run(alloc: Global, limit: u64) -> Result<Outcome, OutOfMemory>
+    ensures { (arrivals : List Arrival) (h : GuidedHardware) → IsDone arrivals limit h h result }
+{
+    let progress = Progress::new();
+    let steps = Vec::new(alloc);
+    if limit == 0 {
+        return Ok(progress.outcome(steps, Stop::Limit));
     }
-    Ok(progress.outcome(steps, Stop::Limit))
+    Err(progress.out_of_memory(steps))
+}
+
+// Runs a pipeline, and collects the steps of its cycles, each of which the list has room for.
+fn collect(
+    alloc: Global,
+    pipeline: &mut Pipeline,
+    predictor: &mut dyn Predictor,
+    arrivals: &Arrivals,
+    limit: u64,
+    list: Vec<Step>,
+) -> Result<Outcome, OutOfMemory>
+    requires room { 8 ≤ vec_capacity list }
+    ensures { IsDone arrivals.now limit (guided pipeline.old (known predictor.old)) (guided pipeline.new (known predictor.new)) result }
+{
+    let mut collector = Collector::new(alloc);
+    let ended = watch(
+        pipeline,
+        predictor,
+        arrivals,
+        limit,
+        list,
+        &mut collector,
+        &mut io::sink(),
+    );
+    let progress = ended.progress;
+    match ended.stop {
+        Ok(stop) => Ok(progress.outcome(collector.steps, stop)),
+        Err(_) => Err(progress.out_of_memory(collector.steps)),
+    }
 }
 
 // One more cycle that dispatched nothing.

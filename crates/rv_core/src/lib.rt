@@ -4,6 +4,7 @@
 #![tactic(auto)]
 
 mod broadcast;
+mod collector;
 mod commit;
 mod cycles;
 mod dispatch;
@@ -18,9 +19,13 @@ mod outcome;
 mod parts;
 mod pipeline;
 mod seen;
+mod watcher;
+mod watching;
 
 pub use cycles::{run, run_pipeline};
 pub use errors::{NewError, OutOfMemory};
 pub use machine::Core;
 pub use outcome::{CycleReport, Outcome, Progress};
 pub use pipeline::Pipeline;
+pub use watcher::Watcher;
+pub use watching::{Ended, watch};

@@ -17,6 +17,7 @@ pub mod Reset
 pub mod Run
 pub mod Lessons
 pub mod Guided
+pub mod History
 pub mod Headline
 pub mod Gap
 pub mod LongestGap

@@ -1,16 +1,23 @@
 -- The report of a run that is written as its cycles come.
-use Rattle.std.specs.Prelude.{◌≡◌, List, ℕ, Option, Result, Ok, Err}
+use Rattle.std.specs.Prelude.{◌≡◌, Bool, List, ℕ, Option, Result, Ok, Err}
 use Rattle.std.specs.Io.KnownBytes.{Appends}
 use Rattle.rv_isa.specs.declared.lines.Arrival.{Arrival}
 use Rattle.rv_arch.specs.declared.outcome.Stop.{Stop}
 use Rattle.rv_hardware.specs.Guided.{GuidedCycles, GuidedHardware}
+use Rattle.rv_hardware.specs.History.{Moment, reports_of}
 use Rattle.rv_hardware.specs.Report.{Report}
 use Rattle.rv_hardware.specs.Run.{IsStop, steps_of}
 use Rattle.rv_hardware.specs.Seen.{layout_of, seen}
 use Rattle.rv_report.specs.RunReport.{run_report, trace_of}
-use Rattle.rv_report.specs.Totals.{totals_at}
+use Rattle.rv_report.specs.Totals.{counts_of, totals_at}
 use Rattle.rv_text.specs.Written.{AppendsBeginning, IsWritten}
-use Rattle.rv_report.specs.declared.{options.Options.Options, totals.Totals.Totals}
+use Rattle.rv_report.specs.declared.{options.Options.Options, totals.StepCounts.StepCounts, totals.Totals.Totals}
+
+-- the steps of the cycles so far are counted, and their lines, where they are shown as they were at first, are written
+pub record HasTraced {T E : Type 0} (is_shown is_shown' : Bool) (counts : StepCounts) (written : Result T E) (moments : List Moment) (before now : Option (List ℕ)) : Type 0 where
+  pub same : is_shown' ≡ is_shown
+  pub counted : counts ≡ counts_of (steps_of (reports_of moments))
+  pub trace : IsWritten written before now (trace_of is_shown (steps_of (reports_of moments)))
 
 -- cycles that ended, with what they came to, and with their trace, where it is asked for, written
 pub record IsTraced {T E : Type 0} (arrivals : List Arrival) (options : Options) (old new : GuidedHardware) (totals : Totals) (written : Result T E) (before after : Option (List ℕ)) : Type 0 where

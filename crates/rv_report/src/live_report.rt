@@ -3,49 +3,72 @@ ghost use Rattle.rv_hardware.specs.Guided.{guided};
 ghost use Rattle.rv_report.specs.Comparison.{RunsTo};
 ghost use Rattle.rv_report.specs.LiveReport.{IsRunReport, IsTraced, Reports};
 ghost use Rattle.rv_report.specs.RunReport.{trace_of};
-ghost use Rattle.rv_report.specs.Totals.{HasRoom, both_counts, counts_of, totals_with};
+ghost use Rattle.rv_report.specs.Totals.{HasRoom, both_counts, counts_of};
 ghost use Rattle.rv_text.specs.Written.{IsWritten};
 
 use crate::options::Options;
 use crate::run_report::{write_totals, write_trace};
 use crate::totals::{StepCounts, Totals};
 use rv_arch::Stop;
-use rv_core::{Pipeline, Progress};
+use rv_core::{Pipeline, Watcher, watch};
 use rv_front::Predictor;
 use rv_hardware::Step;
 use rv_isa::Arrivals;
 use rv_text::ReportError;
+use std::convert::Infallible;
 use std::io;
 use std::io::Write;
 
-// The steps of a run so far: how many there were of each sort, and whether their lines were written.
+// The steps of a run so far: how many there were of each sort, and whether their lines, where they are shown, were written.
 #[derive(Clone, Copy, Debug)]
 struct Trace {
+    is_shown: bool,
     counts: StepCounts,
     written: Result<(), ReportError>,
 }
 
 impl Trace {
-    fn new() -> Trace
+    fn new(is_shown: bool) -> Trace
+        ensures shown { result.is_shown ≡ is_shown }
         ensures counts { result.counts ≡ counts_of [] }
         ensures written { result.written ≡ Ok tt }
     {
         Trace {
+            is_shown,
             counts: StepCounts::default(),
             written: Ok(()),
         }
     }
 
     // Counts more steps, and writes their lines where they are asked for, unless a write failed before.
-    fn add<W: Write>(&mut self, is_shown: bool, steps: &[Step], writer: &mut W)
+    fn add<W: Write>(&mut self, steps: &[Step], writer: &mut W)
         requires room { HasRoom self.old.counts (length steps.now) }
+        ensures same { self.new.is_shown ≡ self.old.is_shown }
         ensures counted { self.new.counts ≡ both_counts self.old.counts (counts_of steps.now) }
-        ensures written { (before : Option (List ℕ)) (text : List ℕ) → IsWritten self.old.written before (W.contents writer.old) text → IsWritten self.new.written before (W.contents writer.new) (text ++ trace_of is_shown steps.now) }
+        ensures written { (before : Option (List ℕ)) (text : List ℕ) → IsWritten self.old.written before (W.contents writer.old) text → IsWritten self.new.written before (W.contents writer.new) (text ++ trace_of self.old.is_shown steps.now) }
     {
         self.counts.count_all(steps);
         if self.written.is_ok() {
-            self.written = write_trace(writer, is_shown, steps);
+            self.written = write_trace(writer, self.is_shown, steps);
         }
+    }
+}
+
+impl Watcher for Trace {
+    ghost use Rattle.rv_report.specs.LiveReport.{HasTraced};
+
+    type Refusal = Infallible;
+
+    ghost has_seen = { λ start trace seen before now. HasTraced start.is_shown trace.is_shown trace.counts trace.written seen.moments before now };
+
+    ghost has_room = { λ _. Unit {0} };
+
+    fn make_room(&mut self) -> Result<(), Infallible> {
+        Ok(())
+    }
+
+    fn see<W: Write>(&mut self, _: u64, steps: &[Step], _: &Pipeline, output: &mut W) {
+        self.add(steps, output);
     }
 }
 
@@ -124,31 +147,21 @@ fn run_traced<W: Write>(
     ensures { IsTraced arrivals.now options.now (guided pipeline (known predictor.old)) (guided result.pipeline (known predictor.new)) result.totals result.written (W.contents writer.old) (W.contents writer.new) }
 {
     let mut pipeline = pipeline;
-    let mut steps = steps;
-    let mut progress = Progress::new();
-    let mut trace = Trace::new();
-    for _ in 0..options.limit {
-        if pipeline.is_exhausted() {
-            return finished(pipeline, &progress, &trace, Stop::Exhausted);
-        }
-        steps.clear();
-        let stop = progress.run_cycle(&mut pipeline, predictor, arrivals, &mut steps);
-        trace.add(options.trace, steps.as_slice(), writer);
-        if let Some(stop) = stop {
-            return finished(pipeline, &progress, &trace, stop);
-        }
-    }
-    finished(pipeline, &progress, &trace, Stop::Limit)
-}
-
-fn finished(pipeline: Pipeline, progress: &Progress, trace: &Trace, stop: Stop) -> Traced
-    ensures pipeline { result.pipeline ≡ pipeline }
-    ensures totals { result.totals ≡ totals_with progress.now trace.now.counts stop }
-    ensures written { result.written ≡ trace.now.written }
-{
-    Traced {
-        pipeline,
-        totals: Totals::new(progress, trace.counts, stop),
-        written: trace.written,
+    let mut trace = Trace::new(options.trace);
+    let ended = watch(
+        &mut pipeline,
+        predictor,
+        arrivals,
+        options.limit,
+        steps,
+        &mut trace,
+        writer,
+    );
+    match ended.stop {
+        Ok(stop) => Traced {
+            pipeline,
+            totals: Totals::new(&ended.progress, trace.counts, stop),
+            written: trace.written,
+        },
     }
 }

@@ -1,0 +1,10 @@
+use Rattle.std.proofs.Common.{◌++◌, sym, ◌∙◌, arith}
+use Rattle.rv_core.proofs.Shown.{shown_steps-push}
+use Rattle.rv_core.proofs.collector.CollectorWatcher.see.Goals as goal
+
+pub add-requires : goal.add-requires
+add-requires g c = let (start, seen, before, shown, collected) = c.requires.shown in record { room = omega (arith, shown.few, c.requires.room) }
+
+pub returns : goal.returns
+returns g c start seen before shown collected =
+    c.add.ensures ∙ (λ i. collected i ++ shown.steps_are i) ∙ sym (shown_steps-push seen.moments _)

@@ -1,0 +1,66 @@
+ghost use Rattle.std.specs.Prelude.{◌≡◌, ◌≤◌, ℕ, List, [], Option, vec_capacity};
+ghost use Rattle.rv_hardware.specs.Guided.{guided};
+ghost use Rattle.rv_core.specs.Watching.{IsWatchedRun, watched};
+
+use crate::outcome::Progress;
+use crate::pipeline::Pipeline;
+use crate::watcher::Watcher;
+use rv_arch::Stop;
+use rv_front::Predictor;
+use rv_hardware::Step;
+use rv_isa::Arrivals;
+use std::io::Write;
+
+/// What a run came to that was watched.
+#[derive(Clone, Copy, Debug)]
+pub struct Ended<R> {
+    /// The counts of its cycles.
+    pub progress: Progress,
+    /// Why it ended, or why its watcher refused to see more of it.
+    pub stop: Result<Stop, R>,
+}
+
+fn finished<R>(progress: Progress, stop: Result<Stop, R>) -> Ended<R>
+    ensures progress { result.progress ≡ progress }
+    ensures stop { result.stop ≡ stop }
+{
+    Ended { progress, stop }
+}
+
+/// Runs a pipeline that a predictor guides, each cycle with the lines of its number, up to a breakpoint, a stale word,
+/// exhaustion or `limit` cycles, in this order where they come together; the limit comes before exhaustion. Each cycle is
+/// shown to a watcher, which writes to the output what it tells of it. Asks for no memory but what the watcher asks for
+/// before a cycle; where it refuses, the pipeline stands at the end of its last whole cycle. `steps` is a list with room for
+/// the eight steps of a cycle.
+pub fn watch<T: Watcher, W: Write>(
+    pipeline: &mut Pipeline,
+    predictor: &mut dyn Predictor,
+    arrivals: &Arrivals,
+    limit: u64,
+    steps: Vec<Step>,
+    watcher: &mut T,
+    output: &mut W,
+) -> Ended<T::Refusal>
+    requires room { 8 ≤ vec_capacity steps }
+    requires ready { (before : Option (List ℕ)) × T.has_seen watcher.old watcher.old (watched arrivals.now (guided pipeline.old (known predictor.old)) [] (guided pipeline.old (known predictor.old))) before (W.contents output.old) }
+    ensures { IsWatchedRun T.has_seen arrivals.now limit (guided pipeline.old (known predictor.old)) (guided pipeline.new (known predictor.new)) result.progress result.stop watcher.old watcher.new (W.contents output.old) (W.contents output.new) }
+{
+    let mut steps = steps;
+    let mut progress = Progress::new();
+    for _ in 0..limit {
+        if pipeline.is_exhausted() {
+            return finished(progress, Ok(Stop::Exhausted));
+        }
+        if let Err(refusal) = watcher.make_room() {
+            return finished(progress, Err(refusal));
+        }
+        steps.clear();
+        let cycle = pipeline.cycles_done();
+        let stop = progress.run_cycle(pipeline, predictor, arrivals, &mut steps);
+        watcher.see(cycle, steps.as_slice(), pipeline, output);
+        if let Some(stop) = stop {
+            return finished(progress, Ok(stop));
+        }
+    }
+    finished(progress, Ok(Stop::Limit))
+}
