@@ -6,7 +6,7 @@ use Rattle.rv_source.specs.Listing.{Listed}
 use Rattle.rv_text.specs.Line.{word_text}
 use Rattle.rv_log.specs.Statement.{statement_text}
 use Rattle.rv_log.specs.declared.stage.Stage.{Stage}
-use Rattle.rv_log.specs.declared.stage.Stage.TheVariants.{Fetch, Dispatch, Issue, Broadcast, Retirement}
+use Rattle.rv_log.specs.declared.stage.Stage.TheVariants.{Fetch, Dispatch, Execution, BusWait, Broadcast, Retirement}
 
 -- an instruction appears (I), and its label (L) begins with its address
 unfoldable pub introduction_text : ℕ → ℕ → List ℕ
@@ -23,7 +23,8 @@ appearance_text listing passage =
 unfoldable pub letter_of : Stage → List ℕ
 letter_of Fetch = codes "F"
 letter_of Dispatch = codes "D"
-letter_of Issue = codes "I"
+letter_of Execution = codes "X"
+letter_of BusWait = codes "W"
 letter_of Broadcast = codes "B"
 letter_of Retirement = codes "C"
 

@@ -1,16 +1,29 @@
 -- What a log says of an instruction in a cycle.
-use Rattle.std.specs.Prelude.{ℕ, ◌==◌, if◌then◌else◌, List, [], ◌++◌, Option, Some, None}
+use Rattle.std.specs.Prelude.{ℕ, ◌==◌, ◌&&◌, Bool, false, if◌then◌else◌, List, [], ◌++◌, Option, Some, None}
 use Rattle.rv_passage.specs.declared.passage.{Ending.Ending, Passage.Passage}
 use Rattle.rv_passage.specs.declared.passage.Ending.TheVariants.{InFlight, Retired, Trapped, Squashed}
+use Rattle.rv_passage.specs.{Passage.is_in_flight, Result.issued_in, Result.ready_in, Result.waits_for_bus}
 use Rattle.rv_source.specs.Listing.{Listed}
 use Rattle.rv_log.specs.Command.{appearance_text, flush_line, retirement_line, stage_line}
 use Rattle.rv_log.specs.declared.stage.Stage.{Stage}
 use Rattle.rv_log.specs.declared.stage.Stage.TheVariants as stage
 
+-- a stamp is this cycle
+abbrev pub is_at : ℕ → Option ℕ → Bool
+is_at cycle None = false
+is_at cycle (Some stamp) = stamp == cycle
+
 -- a stage begins in the cycle of its stamp
 unfoldable pub stage_at : ℕ → ℕ → Stage → Option ℕ → List ℕ
-stage_at cycle number name None = []
-stage_at cycle number name (Some stamp) = if stamp == cycle then stage_line number name else []
+stage_at cycle number name stamp = if is_at cycle stamp then stage_line number name else []
+
+-- in this cycle a result begins to wait for the bus
+abbrev pub begins_to_wait : Passage → ℕ → Bool
+begins_to_wait passage cycle = is_in_flight passage && waits_for_bus passage cycle && is_at cycle (ready_in passage)
+
+-- that stage begins there
+unfoldable pub bus_wait_at : ℕ → Passage → List ℕ
+bus_wait_at cycle passage = if begins_to_wait passage cycle then stage_line passage.number stage.BusWait else []
 
 -- an instruction appears with its fetch
 unfoldable pub fetched_text : Listed → Passage → List ℕ
@@ -32,9 +45,10 @@ unfoldable pub events_at : Listed → ℕ → Passage → List ℕ
 events_at listing cycle passage =
     fetch_at listing cycle passage ++
     (stage_at cycle passage.number stage.Dispatch passage.dispatched ++
-    (stage_at cycle passage.number stage.Issue passage.issued ++
+    (stage_at cycle passage.number stage.Execution (issued_in passage) ++
+    (bus_wait_at cycle passage ++
     (stage_at cycle passage.number stage.Broadcast passage.broadcast ++
-    stage_at cycle passage.number stage.Retirement (retired_in passage.ending))))
+    stage_at cycle passage.number stage.Retirement (retired_in passage.ending)))))
 
 -- it retired in one cycle, so many before it
 unfoldable pub retirement_at : ℕ → ℕ → ℕ → ℕ → List ℕ

@@ -1,5 +1,6 @@
 ghost use Rattle.std.specs.Prelude.{◌≡◌};
-ghost use Rattle.rv_log.specs.Event.{stage_at, fetched_text, fetch_at, retired_in, retirement_at, flush_at, end_at, left_at, events_at};
+ghost use Rattle.rv_log.specs.Event.{is_at, stage_at, begins_to_wait, bus_wait_at, fetched_text, fetch_at, retired_in, retirement_at, flush_at, end_at, left_at, events_at};
+ghost use Rattle.rv_passage.specs.Result.{ready_in};
 ghost use Rattle.rv_text.specs.Written.{IsWritten};
 
 use crate::command::{write_appearance, write_flush, write_retirement, write_stage};
@@ -8,6 +9,31 @@ use rv_passage::{Ending, Passage};
 use rv_source::Listing;
 use rv_text::ReportError;
 use std::io::Write;
+
+fn is_at(stamp: Option<u64>, cycle: u64) -> bool
+    ensures { result ≡ is_at cycle stamp }
+{
+    match stamp {
+        Some(stamp) => stamp == cycle,
+        None => false,
+    }
+}
+
+// Whether the result of an instruction is ready from a cycle on.
+fn is_ready_from(row: &Passage, cycle: u64) -> bool
+    ensures { result ≡ is_at cycle (ready_in row.now) }
+{
+    match row.ready() {
+        Some(ready) => ready == u128::from(cycle),
+        None => false,
+    }
+}
+
+fn begins_to_wait(row: &Passage, cycle: u64) -> bool
+    ensures { result ≡ begins_to_wait row.now cycle }
+{
+    row.is_in_flight() && row.waits_for_bus(cycle) && is_ready_from(row, cycle)
+}
 
 // Writes that a stage begins, where its stamp is this cycle.
 #[tactic(auto, unfolding(crate::specs::Event::stage_at))]
@@ -20,15 +46,22 @@ fn write_stage_at<W: Write>(
 ) -> Result<(), ReportError>
     ensures { IsWritten result (W.contents writer.old) (W.contents writer.new) (stage_at cycle number stage stamp) }
 {
-    match stamp {
-        Some(stamp) => {
-            if stamp == cycle {
-                write_stage(writer, number, stage)
-            } else {
-                Ok(())
-            }
-        }
-        None => Ok(()),
+    if is_at(stamp, cycle) {
+        write_stage(writer, number, stage)
+    } else {
+        Ok(())
+    }
+}
+
+// Writes that an instruction begins to wait for the bus, where it does in this cycle.
+#[tactic(auto, unfolding(crate::specs::Event::bus_wait_at))]
+fn write_bus_wait_at<W: Write>(writer: &mut W, cycle: u64, row: &Passage) -> Result<(), ReportError>
+    ensures { IsWritten result (W.contents writer.old) (W.contents writer.new) (bus_wait_at cycle row.now) }
+{
+    if begins_to_wait(row, cycle) {
+        write_stage(writer, row.number, Stage::BusWait)
+    } else {
+        Ok(())
     }
 }
 
@@ -138,7 +171,8 @@ pub(crate) fn write_events<W: Write>(
 {
     write_fetch_at(writer, listing, cycle, row)?;
     write_stage_at(writer, cycle, row.number, Stage::Dispatch, row.dispatched)?;
-    write_stage_at(writer, cycle, row.number, Stage::Issue, row.issued)?;
+    write_stage_at(writer, cycle, row.number, Stage::Execution, row.issued())?;
+    write_bus_wait_at(writer, cycle, row)?;
     write_stage_at(writer, cycle, row.number, Stage::Broadcast, row.broadcast)?;
     write_stage_at(
         writer,

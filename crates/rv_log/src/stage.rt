@@ -6,7 +6,10 @@ ghost use Rattle.rv_log.specs.Command.{letter_of};
 pub(crate) enum Stage {
     Fetch,
     Dispatch,
-    Issue,
+    /// From the issue on.
+    Execution,
+    /// The result is ready and waits for the common data bus.
+    BusWait,
     Broadcast,
     Retirement,
 }
@@ -20,7 +23,8 @@ impl Stage {
         match self {
             Stage::Fetch => b"F",
             Stage::Dispatch => b"D",
-            Stage::Issue => b"I",
+            Stage::Execution => b"X",
+            Stage::BusWait => b"W",
             Stage::Broadcast => b"B",
             Stage::Retirement => b"C",
         }

@@ -22,10 +22,6 @@ is_running (ending.Squashed cycle) = false
 abbrev pub is_in_flight : Passage → Bool
 is_in_flight p = is_running p.ending
 
--- the cycle in which an execution began
-abbrev pub issued_of : Stage → Option ℕ
-issued_of stage = option_map (λ (issue : Issue). issue.cycle) (issue_of stage)
-
 -- the cycle in which a result was broadcast
 abbrev pub broadcast_of : Stage → Option ℕ
 broadcast_of stage = option_map (λ (execution : Execution). execution.broadcast) (execution_of stage)
@@ -38,7 +34,7 @@ of_entry e = record {
   word = e.word;
   fetched = e.fetched;
   dispatched = Some e.dispatched;
-  issued = issued_of e.stage;
+  issue = issue_of e.stage;
   broadcast = broadcast_of e.stage;
   ending = ending.InFlight;
 }
@@ -51,7 +47,7 @@ of_fetched f = record {
   word = f.word;
   fetched = f.cycle;
   dispatched = None;
-  issued = None;
+  issue = None;
   broadcast = None;
   ending = ending.InFlight;
 }
@@ -59,6 +55,10 @@ of_fetched f = record {
 -- all that is in flight, oldest first
 abbrev pub in_flight : Hardware → List Passage
 in_flight h = map of_entry h.rob.entries ++ map of_fetched h.front.entries
+
+-- the start of an execution
+abbrev pub start_of : Execution → Issue
+start_of execution = record { cycle = execution.issued; cost = execution.cost }
 
 -- it retired, so many before it, as its row reports
 abbrev pub retired_by : Row → ℕ → Passage → Passage
@@ -68,7 +68,7 @@ retired_by row order p = record {
   word = Some row.word;
   fetched = row.fetched;
   dispatched = Some row.dispatched;
-  issued = option_map (λ (execution : Execution). execution.issued) row.execution;
+  issue = option_map start_of row.execution;
   broadcast = option_map (λ (execution : Execution). execution.broadcast) row.execution;
   ending = ending.Retired order row.retired row.written;
 }

@@ -1,9 +1,9 @@
 ghost use Rattle.std.specs.Prelude.{◌≡◌};
-ghost use Rattle.rv_passage.specs.Passage.{broadcast_of};
+ghost use Rattle.rv_passage.specs.Passage.{broadcast_of, start_of};
 
 use rv_front::Fetched;
-use rv_hardware::Row;
-use rv_isa::{Cause, Reg};
+use rv_hardware::{Execution, Row};
+use rv_isa::{Cause, Issue, Reg};
 use rv_rob::{Entry, Stage};
 
 /// How an instruction left the hardware, or that it did not yet.
@@ -40,8 +40,8 @@ pub struct Passage {
     pub fetched: u64,
     /// The cycle of its dispatch.
     pub dispatched: Option<u64>,
-    /// The cycle in which its execution began; None, too, where it uses no unit.
-    pub issued: Option<u64>,
+    /// The start of its execution; None, too, where it uses no unit.
+    pub issue: Option<Issue>,
     /// The cycle of its broadcast; None, too, where it uses no unit.
     pub broadcast: Option<u64>,
     pub ending: Ending,
@@ -61,14 +61,60 @@ fn broadcast_of(stage: &Stage) -> Option<u64>
     }
 }
 
+// The start of an execution.
+fn start_of(execution: Execution) -> Issue
+    ensures { result ≡ start_of execution }
+{
+    Issue {
+        cycle: execution.issued,
+        cost: execution.cost,
+    }
+}
+
 impl Passage {
     ghost use Rattle.rv_passage.specs.Passage.{is_in_flight, of_entry, of_fetched, retired_by, trapped_by, squashed_in, standing_at};
+    ghost use Rattle.rv_passage.specs.Result.{has_come, issued_in, ready_in, waits_for_bus};
 
     /// Whether the instruction did not leave the hardware yet.
     pub fn is_in_flight(&self) -> bool
         ensures { result ≡ is_in_flight self.now }
     {
         matches!(self.ending, Ending::InFlight)
+    }
+
+    /// The cycle in which its execution began; None, too, where it uses no unit.
+    pub fn issued(&self) -> Option<u64>
+        ensures { result ≡ issued_in self.now }
+    {
+        self.issue.map(|issue| issue.cycle)
+    }
+
+    /// The first cycle in which its result can be broadcast; None where its execution did not begin, or it uses no unit.
+    pub fn ready(&self) -> Option<u128>
+        ensures { result ≡ ready_in self.now }
+    {
+        self.issue
+            .map(|issue| u128::from(issue.cycle) + u128::from(issue.cost))
+    }
+
+    // Whether its result can be broadcast in a cycle.
+    fn is_ready(&self, cycle: u64) -> bool
+        ensures { result ≡ has_come cycle (ready_in self.now) }
+    {
+        match self.ready() {
+            Some(ready) => ready <= u128::from(cycle),
+            None => false,
+        }
+    }
+
+    /// Whether it waits for the common data bus in a cycle: its result is ready, and was not broadcast yet.
+    pub fn waits_for_bus(&self, cycle: u64) -> bool
+        ensures { result ≡ waits_for_bus self.now cycle }
+    {
+        match self.broadcast {
+            Some(broadcast) if broadcast <= cycle => false,
+            _ => self.is_ready(cycle),
+        }
     }
 
     // An instruction in the reorder buffer.
@@ -81,7 +127,7 @@ impl Passage {
             word: entry.word,
             fetched: entry.fetched,
             dispatched: Some(entry.dispatched),
-            issued: entry.stage.issue().map(|issue| issue.cycle),
+            issue: entry.stage.issue(),
             broadcast: broadcast_of(&entry.stage),
             ending: Ending::InFlight,
         }
@@ -97,7 +143,7 @@ impl Passage {
             word: fetched.word,
             fetched: fetched.cycle,
             dispatched: None,
-            issued: None,
+            issue: None,
             broadcast: None,
             ending: Ending::InFlight,
         }
@@ -112,7 +158,7 @@ impl Passage {
             word: Some(row.word),
             fetched: row.fetched,
             dispatched: Some(row.dispatched),
-            issued: row.execution.map(|execution| execution.issued),
+            issue: row.execution.map(start_of),
             broadcast: row.execution.map(|execution| execution.broadcast),
             ending: Ending::Retired {
                 order,

@@ -2,6 +2,7 @@
 use Rattle.std.specs.Prelude.{ℕ, ◌+◌, ◌==◌, ◌&&◌, ◌||◌, Bool, false, not, if◌then◌else◌, nat_lt, List, codes, Option, Some, None}
 use Rattle.rv_passage.specs.declared.passage.{Ending.Ending, Passage.Passage}
 use Rattle.rv_passage.specs.declared.passage.Ending.TheVariants.{InFlight, Retired, Trapped, Squashed}
+use Rattle.rv_passage.specs.Result.{issued_in, waits_for_bus}
 use Rattle.rv_picture.specs.declared.{cell.Cell.Cell, window.Window.Window}
 use Rattle.rv_picture.specs.declared.cell.Cell.TheVariants as cell
 
@@ -29,14 +30,15 @@ mark_of (Trapped cycle cause) = cell.Trap
 mark_of (Squashed cycle) = cell.Squash
 mark_of InFlight = cell.Wait
 
--- what is shown in the cycles before: the last phase of the cycle, else whether it executes
+-- what is shown in the cycles before: the last phase of the cycle, else whether its result waits for the bus, or it executes
 unfoldable pub phase_of : Passage → ℕ → Cell
 phase_of passage cycle =
     if is_at cycle passage.broadcast then cell.Broadcast
-    else if is_at cycle passage.issued then cell.Issue
+    else if is_at cycle (issued_in passage) then cell.Issue
     else if is_at cycle passage.dispatched then cell.Dispatch
     else if passage.fetched == cycle then cell.Fetch
-    else if is_past cycle passage.issued && not (is_past cycle passage.broadcast) then cell.Execution
+    else if waits_for_bus passage cycle then cell.BusWait
+    else if is_past cycle (issued_in passage) && not (is_past cycle passage.broadcast) then cell.Execution
     else cell.Wait
 
 -- nothing before the fetch and after the end
@@ -57,6 +59,7 @@ letter_of cell.Fetch = codes "F"
 letter_of cell.Dispatch = codes "D"
 letter_of cell.Issue = codes "I"
 letter_of cell.Execution = codes "="
+letter_of cell.BusWait = codes "~"
 letter_of cell.Broadcast = codes "B"
 letter_of cell.Retirement = codes "C"
 letter_of cell.Trap = codes "T"
@@ -69,6 +72,7 @@ name_of cell.Fetch = codes "fetch"
 name_of cell.Dispatch = codes "dispatch"
 name_of cell.Issue = codes "issue"
 name_of cell.Execution = codes "execution"
+name_of cell.BusWait = codes "wait for the bus"
 name_of cell.Broadcast = codes "broadcast"
 name_of cell.Retirement = codes "retirement"
 name_of cell.Trap = codes "trap"
@@ -81,6 +85,7 @@ class_of cell.Fetch = codes "f"
 class_of cell.Dispatch = codes "d"
 class_of cell.Issue = codes "i"
 class_of cell.Execution = codes "e"
+class_of cell.BusWait = codes "r"
 class_of cell.Broadcast = codes "b"
 class_of cell.Retirement = codes "c"
 class_of cell.Trap = codes "t"

@@ -16,7 +16,7 @@ width_of columns = column_x columns + 152
 
 -- room for the legend below the rows
 abbrev pub height_of : ℕ → ℕ
-height_of rows = row_y rows + 72
+height_of rows = row_y rows + 94
 
 -- where the legend begins, from the top
 abbrev pub legend_y : ℕ → ℕ

@@ -30,6 +30,7 @@ svg_style =
     codes ".d rect{fill:#b5d3f5}\n" ++ (
     codes ".i rect{fill:#7fb2ea}\n" ++ (
     codes ".e rect{fill:#fbe3a3}\n" ++ (
+    codes ".r rect{fill:#fff;stroke:#b06a00}\n" ++ (
     codes ".b rect{fill:#f0a848}\n" ++ (
     codes ".c rect{fill:#1f7a3d}\n" ++ (
     codes ".t rect{fill:#8c1616}\n" ++ (
@@ -37,23 +38,24 @@ svg_style =
     codes ".w rect{fill:#f1f1f1}\n" ++ (
     codes ".c text,.t text,.x text{fill:#fff}\n" ++ (
     codes "</style>\n" ++ (
-    codes "<rect class='page' width='100%' height='100%'/>\n"))))))))))))))))))))))
+    codes "<rect class='page' width='100%' height='100%'/>\n")))))))))))))))))))))))
 
--- each letter with its meaning, in two lines of five
+-- each letter with its meaning, in lines of four
 unfoldable pub legend_entries : List ℕ
 legend_entries =
     codes "<g transform='translate(0 0)'><g class='p f'><rect width='14' height='18'/><text x='7' y='13'>F</text></g><text x='20' y='13'>fetch</text></g>\n" ++ (
-    codes "<g transform='translate(112 0)'><g class='p d'><rect width='14' height='18'/><text x='7' y='13'>D</text></g><text x='20' y='13'>dispatch</text></g>\n" ++ (
-    codes "<g transform='translate(224 0)'><g class='p i'><rect width='14' height='18'/><text x='7' y='13'>I</text></g><text x='20' y='13'>issue</text></g>\n" ++ (
-    codes "<g transform='translate(336 0)'><g class='p e'><rect width='14' height='18'/><text x='7' y='13'>=</text></g><text x='20' y='13'>execution</text></g>\n" ++ (
-    codes "<g transform='translate(448 0)'><g class='p b'><rect width='14' height='18'/><text x='7' y='13'>B</text></g><text x='20' y='13'>broadcast</text></g>\n" ++ (
-    codes "<g transform='translate(0 22)'><g class='p c'><rect width='14' height='18'/><text x='7' y='13'>C</text></g><text x='20' y='13'>retirement</text></g>\n" ++ (
-    codes "<g transform='translate(112 22)'><g class='p t'><rect width='14' height='18'/><text x='7' y='13'>T</text></g><text x='20' y='13'>trap</text></g>\n" ++ (
-    codes "<g transform='translate(224 22)'><g class='p x'><rect width='14' height='18'/><text x='7' y='13'>x</text></g><text x='20' y='13'>squash</text></g>\n" ++ (
-    codes "<g transform='translate(336 22)'><g class='p w'><rect width='14' height='18'/><text x='7' y='13'>.</text></g><text x='20' y='13'>wait</text></g>\n" ++ (
-    codes "<g transform='translate(448 22)'><g class='v'><text x='7' y='13'>!</text></g><text x='20' y='13'>interrupt</text></g>\n" ++ (
+    codes "<g transform='translate(150 0)'><g class='p d'><rect width='14' height='18'/><text x='7' y='13'>D</text></g><text x='20' y='13'>dispatch</text></g>\n" ++ (
+    codes "<g transform='translate(300 0)'><g class='p i'><rect width='14' height='18'/><text x='7' y='13'>I</text></g><text x='20' y='13'>issue</text></g>\n" ++ (
+    codes "<g transform='translate(450 0)'><g class='p e'><rect width='14' height='18'/><text x='7' y='13'>=</text></g><text x='20' y='13'>execution</text></g>\n" ++ (
+    codes "<g transform='translate(0 22)'><g class='p r'><rect width='14' height='18'/><text x='7' y='13'>~</text></g><text x='20' y='13'>wait for the bus</text></g>\n" ++ (
+    codes "<g transform='translate(150 22)'><g class='p b'><rect width='14' height='18'/><text x='7' y='13'>B</text></g><text x='20' y='13'>broadcast</text></g>\n" ++ (
+    codes "<g transform='translate(300 22)'><g class='p c'><rect width='14' height='18'/><text x='7' y='13'>C</text></g><text x='20' y='13'>retirement</text></g>\n" ++ (
+    codes "<g transform='translate(450 22)'><g class='p t'><rect width='14' height='18'/><text x='7' y='13'>T</text></g><text x='20' y='13'>trap</text></g>\n" ++ (
+    codes "<g transform='translate(0 44)'><g class='p x'><rect width='14' height='18'/><text x='7' y='13'>x</text></g><text x='20' y='13'>squash</text></g>\n" ++ (
+    codes "<g transform='translate(150 44)'><g class='p w'><rect width='14' height='18'/><text x='7' y='13'>.</text></g><text x='20' y='13'>wait</text></g>\n" ++ (
+    codes "<g transform='translate(300 44)'><g class='v'><text x='7' y='13'>!</text></g><text x='20' y='13'>interrupt</text></g>\n" ++ (
     codes "</g>\n" ++ (
-    codes "</svg>\n")))))))))))
+    codes "</svg>\n"))))))))))))
 
 -- the legend begins so far from the top
 unfoldable pub legend_begin : List ℕ → List ℕ

@@ -72,7 +72,7 @@ interrupt_line window interrupts = if length interrupts == 0 then [] else mark_l
 
 -- what the letters mean
 unfoldable pub legend_line : List ℕ
-legend_line = codes "F fetch  D dispatch  I issue  = execution  B broadcast  C retirement  T trap  x squash  . wait  ! interrupt\n"
+legend_line = codes "F fetch  D dispatch  I issue  = execution  ~ wait for the bus  B broadcast  C retirement  T trap  x squash  . wait  ! interrupt\n"
 
 -- the picture of some instructions and interrupts in a window
 unfoldable pub text_picture : List Passage → List ℕ → Listed → Window → List ℕ

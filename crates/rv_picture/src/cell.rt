@@ -10,8 +10,10 @@ pub(crate) enum Cell {
     Fetch,
     Dispatch,
     Issue,
-    /// Between issue and broadcast.
+    /// Between issue and the cycle in which the result is ready.
     Execution,
+    /// Between that and the broadcast.
+    BusWait,
     Broadcast,
     Retirement,
     Trap,
@@ -31,6 +33,7 @@ impl Cell {
             Cell::Dispatch => b"D",
             Cell::Issue => b"I",
             Cell::Execution => b"=",
+            Cell::BusWait => b"~",
             Cell::Broadcast => b"B",
             Cell::Retirement => b"C",
             Cell::Trap => b"T",
@@ -49,6 +52,7 @@ impl Cell {
             Cell::Dispatch => b"dispatch",
             Cell::Issue => b"issue",
             Cell::Execution => b"execution",
+            Cell::BusWait => b"wait for the bus",
             Cell::Broadcast => b"broadcast",
             Cell::Retirement => b"retirement",
             Cell::Trap => b"trap",
@@ -67,6 +71,7 @@ impl Cell {
             Cell::Dispatch => b"d",
             Cell::Issue => b"i",
             Cell::Execution => b"e",
+            Cell::BusWait => b"r",
             Cell::Broadcast => b"b",
             Cell::Retirement => b"c",
             Cell::Trap => b"t",
@@ -122,13 +127,15 @@ fn phase(row: &Passage, cycle: u64) -> Cell
 {
     if is_at(row.broadcast, cycle) {
         Cell::Broadcast
-    } else if is_at(row.issued, cycle) {
+    } else if is_at(row.issued(), cycle) {
         Cell::Issue
     } else if is_at(row.dispatched, cycle) {
         Cell::Dispatch
     } else if row.fetched == cycle {
         Cell::Fetch
-    } else if is_past(row.issued, cycle) && !is_past(row.broadcast, cycle) {
+    } else if row.waits_for_bus(cycle) {
+        Cell::BusWait
+    } else if is_past(row.issued(), cycle) && !is_past(row.broadcast, cycle) {
         Cell::Execution
     } else {
         Cell::Wait

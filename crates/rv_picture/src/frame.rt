@@ -58,6 +58,7 @@ text{font:12px monospace;fill:#111}
 .d rect{fill:#b5d3f5}
 .i rect{fill:#7fb2ea}
 .e rect{fill:#fbe3a3}
+.r rect{fill:#fff;stroke:#b06a00}
 .b rect{fill:#f0a848}
 .c rect{fill:#1f7a3d}
 .t rect{fill:#8c1616}
@@ -77,15 +78,16 @@ fn write_entries<W: Write>(writer: &mut W) -> Result<(), ReportError>
     put(
         writer,
         b"<g transform='translate(0 0)'><g class='p f'><rect width='14' height='18'/><text x='7' y='13'>F</text></g><text x='20' y='13'>fetch</text></g>
-<g transform='translate(112 0)'><g class='p d'><rect width='14' height='18'/><text x='7' y='13'>D</text></g><text x='20' y='13'>dispatch</text></g>
-<g transform='translate(224 0)'><g class='p i'><rect width='14' height='18'/><text x='7' y='13'>I</text></g><text x='20' y='13'>issue</text></g>
-<g transform='translate(336 0)'><g class='p e'><rect width='14' height='18'/><text x='7' y='13'>=</text></g><text x='20' y='13'>execution</text></g>
-<g transform='translate(448 0)'><g class='p b'><rect width='14' height='18'/><text x='7' y='13'>B</text></g><text x='20' y='13'>broadcast</text></g>
-<g transform='translate(0 22)'><g class='p c'><rect width='14' height='18'/><text x='7' y='13'>C</text></g><text x='20' y='13'>retirement</text></g>
-<g transform='translate(112 22)'><g class='p t'><rect width='14' height='18'/><text x='7' y='13'>T</text></g><text x='20' y='13'>trap</text></g>
-<g transform='translate(224 22)'><g class='p x'><rect width='14' height='18'/><text x='7' y='13'>x</text></g><text x='20' y='13'>squash</text></g>
-<g transform='translate(336 22)'><g class='p w'><rect width='14' height='18'/><text x='7' y='13'>.</text></g><text x='20' y='13'>wait</text></g>
-<g transform='translate(448 22)'><g class='v'><text x='7' y='13'>!</text></g><text x='20' y='13'>interrupt</text></g>
+<g transform='translate(150 0)'><g class='p d'><rect width='14' height='18'/><text x='7' y='13'>D</text></g><text x='20' y='13'>dispatch</text></g>
+<g transform='translate(300 0)'><g class='p i'><rect width='14' height='18'/><text x='7' y='13'>I</text></g><text x='20' y='13'>issue</text></g>
+<g transform='translate(450 0)'><g class='p e'><rect width='14' height='18'/><text x='7' y='13'>=</text></g><text x='20' y='13'>execution</text></g>
+<g transform='translate(0 22)'><g class='p r'><rect width='14' height='18'/><text x='7' y='13'>~</text></g><text x='20' y='13'>wait for the bus</text></g>
+<g transform='translate(150 22)'><g class='p b'><rect width='14' height='18'/><text x='7' y='13'>B</text></g><text x='20' y='13'>broadcast</text></g>
+<g transform='translate(300 22)'><g class='p c'><rect width='14' height='18'/><text x='7' y='13'>C</text></g><text x='20' y='13'>retirement</text></g>
+<g transform='translate(450 22)'><g class='p t'><rect width='14' height='18'/><text x='7' y='13'>T</text></g><text x='20' y='13'>trap</text></g>
+<g transform='translate(0 44)'><g class='p x'><rect width='14' height='18'/><text x='7' y='13'>x</text></g><text x='20' y='13'>squash</text></g>
+<g transform='translate(150 44)'><g class='p w'><rect width='14' height='18'/><text x='7' y='13'>.</text></g><text x='20' y='13'>wait</text></g>
+<g transform='translate(300 44)'><g class='v'><text x='7' y='13'>!</text></g><text x='20' y='13'>interrupt</text></g>
 </g>
 </svg>
 ",

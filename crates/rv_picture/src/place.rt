@@ -35,7 +35,7 @@ pub(crate) fn width(columns: u64) -> u128
 pub(crate) fn height(rows: usize) -> u128
     ensures { result ≡ height_of rows }
 {
-    row_y(rows) + 72
+    row_y(rows) + 94
 }
 
 /// Where the legend begins, below so many rows.

@@ -232,6 +232,6 @@ pub fn write_picture_text<W: Write>(
     write_interrupts(writer, window, interrupts)?;
     put(
         writer,
-        b"F fetch  D dispatch  I issue  = execution  B broadcast  C retirement  T trap  x squash  . wait  ! interrupt\n",
+        b"F fetch  D dispatch  I issue  = execution  ~ wait for the bus  B broadcast  C retirement  T trap  x squash  . wait  ! interrupt\n",
     )
 }

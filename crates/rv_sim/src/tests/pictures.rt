@@ -10,7 +10,7 @@ const THREE_CYCLES: &[u8] = b"\
 80000008 00000000                         -            FD.
 8000000c 00000000                         -             FD
 80000010 00000000                         -              F
-F fetch  D dispatch  I issue  = execution  B broadcast  C retirement  T trap  x squash  . wait  ! interrupt
+F fetch  D dispatch  I issue  = execution  ~ wait for the bus  B broadcast  C retirement  T trap  x squash  . wait  ! interrupt
 ";
 
 #[test]

@@ -20,7 +20,7 @@ I\t1\t1\t0
 L\t1\t0\t80000004: ebreak # a label has at most sixty-four bytes of a line of the s
 S\t1\t0\tF
 C\t1
-S\t0\t0\tI
+S\t0\t0\tX
 S\t1\t0\tD
 I\t2\t2\t0
 L\t2\t0\t80000008: 00000000

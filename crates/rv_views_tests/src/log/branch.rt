@@ -37,7 +37,7 @@ I\t5\t5\t0
 L\t5\t0\t8000000c: ebreak
 S\t5\t0\tF
 C\t1
-S\t4\t0\tI
+S\t4\t0\tX
 S\t5\t0\tD
 I\t6\t6\t0
 L\t6\t0\t80000010: 00000000

@@ -1,5 +1,5 @@
 use crate::machine::listing;
-use rv_isa::{Cause, Reg};
+use rv_isa::{Cause, Issue, Reg};
 use rv_passage::{Ending, Passage};
 use rv_picture::{Window, write_picture_svg, write_picture_text};
 use std::alloc::Global;
@@ -22,13 +22,13 @@ const LINES: [&str; 2] = [
 
 const TEXT: &str = "                                                       10        \n\
 7ffffff8 00000013                         -            x         \n\
-80000000 addi x1,x0,5                     x1=00000005  FDI==B.C  \n\
+80000000 addi x1,x0,5                     x1=00000005  FDI=~B.C  \n\
 80000004 ebreak # stops & \"waits\" <here>  -             FD.....T \n\
 80000008 0000006f                         -              F.x     \n\
-8000000c 00000013                         -               FDI====\n\
+8000000c 00000013                         -               FDI==~~\n\
 00000000 -                                -                     F\n\
 interrupts                                             !  !     !\n\
-F fetch  D dispatch  I issue  = execution  B broadcast  C retirement  T trap  x squash  . wait  ! interrupt\n";
+F fetch  D dispatch  I issue  = execution  ~ wait for the bus  B broadcast  C retirement  T trap  x squash  . wait  ! interrupt\n";
 
 fn fetched(number: u64, pc: u32, word: Option<u32>, cycle: u64) -> Passage {
     Passage {
@@ -37,7 +37,7 @@ fn fetched(number: u64, pc: u32, word: Option<u32>, cycle: u64) -> Passage {
         word,
         fetched: cycle,
         dispatched: None,
-        issued: None,
+        issue: None,
         broadcast: None,
         ending: Ending::InFlight,
     }
@@ -58,7 +58,7 @@ fn passages() -> [Passage; 8] {
         },
         Passage {
             dispatched: Some(11),
-            issued: Some(12),
+            issue: Some(Issue { cycle: 12, cost: 2 }),
             broadcast: Some(15),
             ending: Ending::Retired {
                 order: 0,
@@ -81,7 +81,7 @@ fn passages() -> [Passage; 8] {
         },
         Passage {
             dispatched: Some(14),
-            issued: Some(15),
+            issue: Some(Issue { cycle: 15, cost: 3 }),
             ..fetched(5, 0x8000_000c, Some(0x13), 13)
         },
         fetched(6, 0, None, 19),
@@ -100,11 +100,12 @@ fn each_ending_has_its_letter_and_each_phase_its_own(rt: HostRuntime) {
 }
 
 // A class, a column, a name, a cycle and a letter.
-const BOXES: [(&str, u32, &str, u32, &str); 9] = [
+const BOXES: [(&str, u32, &str, u32, &str); 10] = [
     ("f", 448, "fetch", 10, "F"),
     ("d", 462, "dispatch", 11, "D"),
     ("i", 476, "issue", 12, "I"),
     ("e", 490, "execution", 13, "="),
+    ("r", 504, "wait for the bus", 14, "~"),
     ("b", 518, "broadcast", 15, "B"),
     ("w", 532, "wait", 16, "."),
     ("c", 546, "retirement", 17, "C"),
@@ -114,7 +115,7 @@ const BOXES: [(&str, u32, &str, u32, &str); 9] = [
 
 // What stands around ten columns and six rows: the last row ends at 44 + 6 * 18 = 152.
 const FRAME: [&str; 9] = [
-    "<svg xmlns='http://www.w3.org/2000/svg' width='740' height='224' viewBox='0 0 740 224'>\n",
+    "<svg xmlns='http://www.w3.org/2000/svg' width='740' height='246' viewBox='0 0 740 246'>\n",
     "<g class='n' transform='translate(448 0)'><title>cycle 10</title><path d='M0 20V152'/><text x='3' y='16'>10</text></g>\n",
     "<g class='v' transform='translate(448 0)'><title>cycle 10, interrupt</title><path d='M0 38V152'/><text x='7' y='34'>!</text></g>\n",
     "<g class='v' transform='translate(490 0)'><title>cycle 13, interrupt</title><path d='M0 38V152'/><text x='7' y='34'>!</text></g>\n",

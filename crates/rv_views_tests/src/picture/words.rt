@@ -12,7 +12,7 @@ const EXPECTED: &str = "                                                       0
 80000008 00000000                         -              FDx\n\
 8000000c 00000000                         -               Fx\n\
 00000000 -                                -                F\n\
-F fetch  D dispatch  I issue  = execution  B broadcast  C retirement  T trap  x squash  . wait  ! interrupt\n";
+F fetch  D dispatch  I issue  = execution  ~ wait for the bus  B broadcast  C retirement  T trap  x squash  . wait  ! interrupt\n";
 
 // addi x1,x0,5 and ebreak.
 const PROGRAM: [u8; 8] = [0x93, 0x00, 0x50, 0x00, 0x73, 0x00, 0x10, 0x00];
@@ -24,10 +24,10 @@ const LAST_CYCLE: &str = "                                                      
 80000008 00000000                         -            x\n\
 8000000c 00000000                         -            x\n\
 00000000 -                                -            F\n\
-F fetch  D dispatch  I issue  = execution  B broadcast  C retirement  T trap  x squash  . wait  ! interrupt\n";
+F fetch  D dispatch  I issue  = execution  ~ wait for the bus  B broadcast  C retirement  T trap  x squash  . wait  ! interrupt\n";
 
 const NOTHING: &str = "                                                       \n\
-F fetch  D dispatch  I issue  = execution  B broadcast  C retirement  T trap  x squash  . wait  ! interrupt\n";
+F fetch  D dispatch  I issue  = execution  ~ wait for the bus  B broadcast  C retirement  T trap  x squash  . wait  ! interrupt\n";
 
 // The picture of at most sixty cycles from one on, and why the run ended.
 fn picture_from(rt: &impl Abort, alloc: Global, from: u64) -> (Stop, Vec<u8>) {
