@@ -2,9 +2,10 @@
 use Rattle.std.specs.Prelude.{ℕ, ◌==◌, ◌&&◌, Bool, false, if◌then◌else◌, List, [], ◌++◌, Option, Some, None}
 use Rattle.rv_passage.specs.declared.passage.{Ending.Ending, Passage.Passage}
 use Rattle.rv_passage.specs.declared.passage.Ending.TheVariants.{InFlight, Retired, Trapped, Squashed}
-use Rattle.rv_passage.specs.{Passage.is_in_flight, Result.issued_in, Result.ready_in, Result.waits_for_bus}
+use Rattle.rv_passage.specs.{Passage.is_in_flight, Passage.left_in, Result.issued_in, Result.ready_in, Result.waits_for_bus}
 use Rattle.rv_source.specs.Listing.{Listed}
 use Rattle.rv_log.specs.Command.{appearance_text, flush_line, retirement_line, stage_line}
+use Rattle.rv_log.specs.Details.{details_line}
 use Rattle.rv_log.specs.declared.stage.Stage.{Stage}
 use Rattle.rv_log.specs.declared.stage.Stage.TheVariants as stage
 
@@ -50,21 +51,17 @@ events_at listing cycle passage =
     (stage_at cycle passage.number stage.Broadcast passage.broadcast ++
     stage_at cycle passage.number stage.Retirement (retired_in passage.ending)))))
 
--- it retired in one cycle, so many before it
-unfoldable pub retirement_at : ℕ → ℕ → ℕ → ℕ → List ℕ
-retirement_at cycle number order retired = if retired == cycle then retirement_line number order else []
+-- how it ended: what trapped is flushed as what was squashed is
+unfoldable pub end_line : ℕ → Ending → List ℕ
+end_line number InFlight = []
+end_line number (Retired order cycle written) = retirement_line number order
+end_line number (Trapped cycle cause) = flush_line number
+end_line number (Squashed cycle) = flush_line number
 
--- it was flushed in one cycle
-unfoldable pub flush_at : ℕ → ℕ → ℕ → List ℕ
-flush_at cycle number flushed = if flushed == cycle then flush_line number else []
-
--- how it left the hardware in a cycle: what trapped is flushed as what was squashed is
-unfoldable pub end_at : ℕ → ℕ → Ending → List ℕ
-end_at cycle number InFlight = []
-end_at cycle number (Retired order retired written) = retirement_at cycle number order retired
-end_at cycle number (Trapped trapped cause) = flush_at cycle number trapped
-end_at cycle number (Squashed squashed) = flush_at cycle number squashed
+-- the details of what ended stand before that
+unfoldable pub ended_text : Passage → List ℕ
+ended_text passage = details_line passage ++ end_line passage.number passage.ending
 
 -- how an instruction left the hardware in a cycle
 unfoldable pub left_at : ℕ → Passage → List ℕ
-left_at cycle passage = end_at cycle passage.number passage.ending
+left_at cycle passage = if is_at cycle (left_in passage.ending) then ended_text passage else []

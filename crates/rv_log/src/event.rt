@@ -1,9 +1,10 @@
 ghost use Rattle.std.specs.Prelude.{◌≡◌};
-ghost use Rattle.rv_log.specs.Event.{is_at, stage_at, begins_to_wait, bus_wait_at, fetched_text, fetch_at, retired_in, retirement_at, flush_at, end_at, left_at, events_at};
+ghost use Rattle.rv_log.specs.Event.{is_at, stage_at, begins_to_wait, bus_wait_at, fetched_text, fetch_at, retired_in, end_line, ended_text, left_at, events_at};
 ghost use Rattle.rv_passage.specs.Result.{ready_in};
 ghost use Rattle.rv_text.specs.Written.{IsWritten};
 
 use crate::command::{write_appearance, write_flush, write_retirement, write_stage};
+use crate::details::write_details;
 use crate::stage::Stage;
 use rv_passage::{Ending, Passage};
 use rv_source::Listing;
@@ -103,61 +104,24 @@ fn retired(ending: Ending) -> Option<u64>
     }
 }
 
-// Writes the retirement of an instruction, where it came in this cycle.
-#[tactic(auto, unfolding(crate::specs::Event::retirement_at))]
-fn write_retirement_at<W: Write>(
-    writer: &mut W,
-    cycle: u64,
-    number: u64,
-    order: u64,
-    retired: u64,
-) -> Result<(), ReportError>
-    ensures { IsWritten result (W.contents writer.old) (W.contents writer.new) (retirement_at cycle number order retired) }
-{
-    if retired == cycle {
-        write_retirement(writer, number, order)
-    } else {
-        Ok(())
-    }
-}
-
-// Writes that an instruction is flushed, where that came in this cycle.
-#[tactic(auto, unfolding(crate::specs::Event::flush_at))]
-fn write_flush_at<W: Write>(
-    writer: &mut W,
-    cycle: u64,
-    number: u64,
-    flushed: u64,
-) -> Result<(), ReportError>
-    ensures { IsWritten result (W.contents writer.old) (W.contents writer.new) (flush_at cycle number flushed) }
-{
-    if flushed == cycle {
-        write_flush(writer, number)
-    } else {
-        Ok(())
-    }
-}
-
-// Writes how an instruction left the hardware, where it did in this cycle.
-#[tactic(auto, unfolding(crate::specs::Event::end_at))]
-fn write_end_at<W: Write>(
-    writer: &mut W,
-    cycle: u64,
-    number: u64,
-    ending: Ending,
-) -> Result<(), ReportError>
-    ensures { IsWritten result (W.contents writer.old) (W.contents writer.new) (end_at cycle number ending) }
+// Writes that an instruction retires, or is flushed.
+#[tactic(auto, unfolding(crate::specs::Event::end_line))]
+fn write_end<W: Write>(writer: &mut W, number: u64, ending: Ending) -> Result<(), ReportError>
+    ensures { IsWritten result (W.contents writer.old) (W.contents writer.new) (end_line number ending) }
 {
     match ending {
         Ending::InFlight => Ok(()),
-        Ending::Retired {
-            order,
-            cycle: retired,
-            ..
-        } => write_retirement_at(writer, cycle, number, order, retired),
-        Ending::Trapped { cycle: trapped, .. } => write_flush_at(writer, cycle, number, trapped),
-        Ending::Squashed { cycle: squashed } => write_flush_at(writer, cycle, number, squashed),
+        Ending::Retired { order, .. } => write_retirement(writer, number, order),
+        Ending::Trapped { .. } => write_flush(writer, number),
+        Ending::Squashed { .. } => write_flush(writer, number),
     }
+}
+
+fn write_ended<W: Write>(writer: &mut W, row: &Passage) -> Result<(), ReportError>
+    ensures { IsWritten result (W.contents writer.old) (W.contents writer.new) (ended_text row.now) }
+{
+    write_details(writer, row)?;
+    write_end(writer, row.number, row.ending)
 }
 
 /// Writes what became of an instruction in a cycle.
@@ -192,5 +156,9 @@ pub(crate) fn write_left<W: Write>(
 ) -> Result<(), ReportError>
     ensures { IsWritten result (W.contents writer.old) (W.contents writer.new) (left_at cycle row.now) }
 {
-    write_end_at(writer, cycle, row.number, row.ending)
+    if is_at(row.ending.left(), cycle) {
+        write_ended(writer, row)
+    } else {
+        Ok(())
+    }
 }

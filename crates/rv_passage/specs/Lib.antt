@@ -1,3 +1,4 @@
+pub mod Names
 pub mod Passage
 pub mod Result
 pub mod Table

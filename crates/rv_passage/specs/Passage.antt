@@ -18,6 +18,13 @@ is_running (ending.Retired order cycle written) = false
 is_running (ending.Trapped cycle cause) = false
 is_running (ending.Squashed cycle) = false
 
+-- the cycle in which it left the hardware, if it did
+abbrev pub left_in : Ending → Option ℕ
+left_in ending.InFlight = None
+left_in (ending.Retired order cycle written) = Some cycle
+left_in (ending.Trapped cycle cause) = Some cycle
+left_in (ending.Squashed cycle) = Some cycle
+
 -- it did not leave the hardware yet
 abbrev pub is_in_flight : Passage → Bool
 is_in_flight p = is_running p.ending

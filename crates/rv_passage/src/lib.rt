@@ -4,10 +4,12 @@
 #![tactic(auto)]
 
 mod in_flight;
+mod names;
 mod passage;
 mod rows;
 mod table;
 
 pub use in_flight::MOST_IN_FLIGHT;
+pub use names::register_name;
 pub use passage::{Ending, Passage};
 pub use table::Table;

@@ -28,6 +28,22 @@ pub enum Ending {
     },
 }
 
+impl Ending {
+    ghost use Rattle.rv_passage.specs.Passage.{left_in};
+
+    /// The cycle in which the instruction left the hardware, if it did.
+    pub fn left(self) -> Option<u64>
+        ensures { result ≡ left_in self }
+    {
+        match self {
+            Ending::InFlight => None,
+            Ending::Retired { cycle, .. }
+            | Ending::Trapped { cycle, .. }
+            | Ending::Squashed { cycle } => Some(cycle),
+        }
+    }
+}
+
 /// A fetched instruction, and when it passed through the hardware.
 #[derive(Clone, Copy, Debug, PartialEq, Eq)]
 pub struct Passage {

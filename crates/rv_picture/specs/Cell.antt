@@ -2,7 +2,7 @@
 use Rattle.std.specs.Prelude.{ℕ, ◌+◌, ◌==◌, ◌&&◌, ◌||◌, Bool, false, not, if◌then◌else◌, nat_lt, List, codes, Option, Some, None}
 use Rattle.rv_passage.specs.declared.passage.{Ending.Ending, Passage.Passage}
 use Rattle.rv_passage.specs.declared.passage.Ending.TheVariants.{InFlight, Retired, Trapped, Squashed}
-use Rattle.rv_passage.specs.Result.{issued_in, waits_for_bus}
+use Rattle.rv_passage.specs.{Passage.left_in, Result.issued_in, Result.waits_for_bus}
 use Rattle.rv_picture.specs.declared.{cell.Cell.Cell, window.Window.Window}
 use Rattle.rv_picture.specs.declared.cell.Cell.TheVariants as cell
 
@@ -16,19 +16,19 @@ abbrev pub is_past : ℕ → Option ℕ → Bool
 is_past cycle None = false
 is_past cycle (Some stamp) = nat_lt stamp cycle
 
--- the cycle in which an instruction left the hardware, if it did
-abbrev pub left_in : Ending → Option ℕ
-left_in InFlight = None
-left_in (Retired order cycle written) = Some cycle
-left_in (Trapped cycle cause) = Some cycle
-left_in (Squashed cycle) = Some cycle
-
 -- what is shown in that cycle
 abbrev pub mark_of : Ending → Cell
 mark_of (Retired order cycle written) = cell.Retirement
 mark_of (Trapped cycle cause) = cell.Trap
 mark_of (Squashed cycle) = cell.Squash
-mark_of InFlight = cell.Wait
+mark_of InFlight = cell.DispatchWait
+
+-- what an instruction waits for where nothing is done with it: its dispatch, its issue, or its end
+abbrev pub wait_of : Passage → ℕ → Cell
+wait_of passage cycle =
+    if is_past cycle passage.broadcast then cell.HeadWait
+    else if is_past cycle passage.dispatched then cell.IssueWait
+    else cell.DispatchWait
 
 -- what is shown in the cycles before: the last phase of the cycle, else whether its result waits for the bus, or it executes
 unfoldable pub phase_of : Passage → ℕ → Cell
@@ -39,7 +39,7 @@ phase_of passage cycle =
     else if passage.fetched == cycle then cell.Fetch
     else if waits_for_bus passage cycle then cell.BusWait
     else if is_past cycle (issued_in passage) && not (is_past cycle passage.broadcast) then cell.Execution
-    else cell.Wait
+    else wait_of passage cycle
 
 -- nothing before the fetch and after the end
 unfoldable pub cell_of : Passage → ℕ → Option Cell
@@ -64,7 +64,9 @@ letter_of cell.Broadcast = codes "B"
 letter_of cell.Retirement = codes "C"
 letter_of cell.Trap = codes "T"
 letter_of cell.Squash = codes "x"
-letter_of cell.Wait = codes "."
+letter_of cell.DispatchWait = codes "."
+letter_of cell.IssueWait = codes "."
+letter_of cell.HeadWait = codes "."
 
 -- what a cell is called
 unfoldable pub name_of : Cell → List ℕ
@@ -77,7 +79,9 @@ name_of cell.Broadcast = codes "broadcast"
 name_of cell.Retirement = codes "retirement"
 name_of cell.Trap = codes "trap"
 name_of cell.Squash = codes "squash"
-name_of cell.Wait = codes "wait"
+name_of cell.DispatchWait = codes "wait for dispatch"
+name_of cell.IssueWait = codes "wait for operands, a unit or the head"
+name_of cell.HeadWait = codes "wait for the head"
 
 -- the class of a cell in the style of an SVG
 unfoldable pub class_of : Cell → List ℕ
@@ -90,4 +94,6 @@ class_of cell.Broadcast = codes "b"
 class_of cell.Retirement = codes "c"
 class_of cell.Trap = codes "t"
 class_of cell.Squash = codes "x"
-class_of cell.Wait = codes "w"
+class_of cell.DispatchWait = codes "w"
+class_of cell.IssueWait = codes "w"
+class_of cell.HeadWait = codes "w"

@@ -1,6 +1,7 @@
 -- What stands at the left of a row: the instruction's address, its statement, and the register that it wrote.
 use Rattle.std.specs.Prelude.{ℕ, ◌-◌, ◌==◌, if◌then◌else◌, List, ◌++◌, length, take, codes, decimal, Option, Some, None}
 use Rattle.rv_passage.specs.declared.passage.{Ending.Ending, Passage.Passage}
+use Rattle.rv_passage.specs.Names.{register_name}
 use Rattle.rv_passage.specs.declared.passage.Ending.TheVariants.{InFlight, Retired, Trapped, Squashed}
 use Rattle.rv_source.specs.Listing.{Listed}
 use Rattle.rv_source.specs.Statement.{statement_at}
@@ -27,10 +28,11 @@ written_by InFlight = None
 written_by (Trapped cycle cause) = None
 written_by (Squashed cycle) = None
 
--- the register that was written, with its value, or a hyphen
+-- the register that was written, by its number and its name, with its value, or a hyphen
 unfoldable pub written_text : Option (ℕ × ℕ) → List ℕ
 written_text None = codes "-"
-written_text (Some written) = codes "x" ++ (decimal written.0 ++ (codes "=" ++ word_text written.1))
+written_text (Some written) =
+    codes "x" ++ (decimal written.0 ++ (codes "/" ++ (register_name written.0 ++ (codes "=" ++ word_text written.1))))
 
 -- so many blanks, at most 40
 unfoldable pub blanks : ℕ → List ℕ

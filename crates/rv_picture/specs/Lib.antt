@@ -2,6 +2,7 @@ pub mod Cell
 pub mod ColumnText
 pub mod Columns
 pub mod Label
+pub mod Over
 pub mod Picture
 pub mod Places
 pub mod Recording

@@ -1,6 +1,6 @@
--- A picture as an SVG: cycle numbers on top, a row for each instruction with a box for each cell, a line for each interrupt,
--- and a legend.
-use Rattle.std.specs.Prelude.{ℕ, ◌+◌, ◌-◌, ◌%◌, ◌==◌, ◌&&◌, if◌then◌else◌, nat_le, nat_lt, List, [], ◌∷◌, ◌++◌, codes, decimal, Option, Some, None, count_by}
+-- A picture as an SVG: a legend on top, cycle numbers, a row for each instruction with a box for each cell, and a line for each
+-- interrupt.
+use Rattle.std.specs.Prelude.{ℕ, ◌+◌, ◌-◌, ◌%◌, ◌==◌, ◌&&◌, not, if◌then◌else◌, nat_le, nat_lt, List, [], ◌∷◌, ◌++◌, codes, decimal, Option, Some, None, count_by}
 use Rattle.std.specs.List.{flat_map}
 use Rattle.rv_passage.specs.declared.passage.{Ending.Ending, Passage.Passage}
 use Rattle.rv_passage.specs.declared.passage.Ending.TheVariants.{InFlight, Retired, Trapped, Squashed}
@@ -9,7 +9,8 @@ use Rattle.rv_picture.specs.Cell.{cell_of, class_of, has_cell, letter_of, name_o
 use Rattle.rv_picture.specs.Columns.{columns}
 use Rattle.rv_picture.specs.Label.{markup_byte, statement_of, written_by, written_text}
 use Rattle.rv_picture.specs.Places.{column_x, row_y}
-use Rattle.rv_picture.specs.SvgFrame.{svg_begin, svg_style, svg_legend}
+use Rattle.rv_picture.specs.Over.{over_note}
+use Rattle.rv_picture.specs.SvgFrame.{svg_begin, svg_style, svg_legend, svg_end}
 use Rattle.rv_picture.specs.declared.{cell.Cell.Cell, window.Window.Window}
 use Rattle.rv_text.specs.Line.{word_text}
 
@@ -29,6 +30,23 @@ tenth_at window rows column =
     if (window.first + column) % 10 == 0
     then tenth_mark (decimal (column_x column)) (decimal (row_y rows)) (decimal (window.first + column))
     else []
+
+-- the same number in front of a later row
+unfoldable pub number_mark : List ℕ → List ℕ → List ℕ
+number_mark x cycle = codes "<text x='" ++ (x ++ (codes "'>" ++ (cycle ++ codes "</text>\n")))
+
+-- that of a column
+unfoldable pub number_at : Window → ℕ → List ℕ
+number_at window column =
+    if (window.first + column) % 10 == 0 then number_mark (decimal (column_x column)) (decimal (window.first + column)) else []
+
+-- the numbers of a window
+unfoldable pub numbers : Window → List ℕ
+numbers window = codes "<g class='n' transform='translate(3 -4)'>\n" ++ (columns window (number_at window) ++ codes "</g>\n")
+
+-- they stand again above every fortieth row
+unfoldable pub numbers_again : Window → ℕ → List ℕ
+numbers_again window place = if place % 40 == 0 && not (place == 0) then numbers window else []
 
 -- a line in front of the cycle of an interrupt
 unfoldable pub interrupt_mark : List ℕ → List ℕ → List ℕ → List ℕ
@@ -72,13 +90,23 @@ row_begin class y pc =
     codes "<g class='" ++ (class ++ (codes "' transform='translate(0 " ++ (y ++
     (codes ")'><text x='8' y='13'>" ++ (pc ++ codes "</text><text x='84' y='13'>")))))
 
+-- an address in front of a column
+unfoldable pub near_text : List ℕ → List ℕ → List ℕ
+near_text x pc = codes "<text class='a' dx='-4' y='13' x='" ++ (x ++ (codes "'>" ++ (pc ++ codes "</text>\n")))
+
+-- where the first cell is fifty columns or more from the left, the address again in front of it
+unfoldable pub near_address : Window → Passage → List ℕ
+near_address window passage =
+    if nat_le 50 (passage.fetched - window.first) then near_text (decimal (column_x (passage.fetched - window.first))) (word_text passage.pc) else []
+
 -- an instruction: its address, its statement, what it wrote, and its cells
 unfoldable pub svg_row : Listed → Window → ℕ → Passage → List ℕ
 svg_row listing window place passage =
     row_begin (row_class passage.ending) (decimal (row_y place)) (word_text passage.pc) ++
     (flat_map markup_byte (statement_of listing passage) ++
-    (codes "</text><text x='344' y='13'>" ++ (written_text (written_by passage.ending) ++
-    (codes "</text>\n" ++ (columns window (box_at window passage) ++ codes "</g>\n")))))
+    (codes "</text><text x='328' y='13'>" ++ (written_text (written_by passage.ending) ++
+    (codes "</text>\n" ++ (numbers_again window place ++ (columns window (box_at window passage) ++
+    (near_address window passage ++ codes "</g>\n")))))))
 
 -- one that has a cell in the window takes a row
 unfoldable pub placed_row : Listed → Window → ℕ → Passage → List ℕ
@@ -97,9 +125,10 @@ svg_rows listing window place (passage ∷ passages) =
 -- the picture of some instructions, which take so many rows, and interrupts in a window
 unfoldable pub svg_of : ℕ → List Passage → List ℕ → Listed → Window → List ℕ
 svg_of rows passages interrupts listing window =
-    svg_begin window.cycles rows ++ (svg_style ++
+    svg_begin window.cycles rows ++ (svg_style ++ (svg_legend ++
     (columns window (tenth_at window rows) ++ (svg_rows listing window 0 passages ++
-    (flat_map (interrupt_in window rows) interrupts ++ svg_legend rows))))
+    (flat_map (interrupt_in window rows) interrupts ++
+    (over_note (codes "<text x='8' y='34'>") (codes "</text>\n") window ++ svg_end))))))
 
 -- the picture of some instructions and interrupts in a window
 unfoldable pub svg_picture : List Passage → List ℕ → Listed → Window → List ℕ

@@ -1,9 +1,11 @@
 -- A picture for a terminal: a line of cycle numbers, a line for each instruction, one for the interrupts, and a legend.
 use Rattle.std.specs.Prelude.{ℕ, ◌+◌, ◌-◌, ◌%◌, ◌==◌, if◌then◌else◌, nat_lt, List, [], ◌++◌, length, codes, decimal, Option, Some, None}
 use Rattle.std.specs.List.{flat_map, list_any}
+use Rattle.rv_passage.specs.Names.{register_name}
 use Rattle.rv_passage.specs.declared.passage.Passage.{Passage}
 use Rattle.rv_source.specs.Listing.{Listed}
 use Rattle.rv_picture.specs.Columns.{columns}
+use Rattle.rv_picture.specs.Over.{over_note}
 use Rattle.rv_picture.specs.Cell.{cell_of, has_cell, letter_of}
 use Rattle.rv_picture.specs.Label.{blanks, padded, statement_of, written_by, written_text}
 use Rattle.rv_picture.specs.declared.{cell.Cell.Cell, window.Window.Window}
@@ -20,16 +22,16 @@ scale_at window column =
 -- the cycle numbers, above the cells
 unfoldable pub scale_line : Window → List ℕ
 scale_line window =
-    codes "                                                       " ++ (columns window (scale_at window) ++ codes "\n")
+    codes "                                                           " ++ (columns window (scale_at window) ++ codes "\n")
 
 -- a statement in 33 columns
 unfoldable pub statement_field : List ℕ → List ℕ
 statement_field statement = plain_text statement ++ blanks (33 - length statement)
 
--- what was written in 13 columns
+-- what was written in 17 columns
 unfoldable pub room_behind : Option (ℕ × ℕ) → List ℕ
-room_behind None = blanks 12
-room_behind (Some written) = blanks (3 - length (decimal written.0))
+room_behind None = blanks 16
+room_behind (Some written) = blanks (6 - (length (decimal written.0) + length (register_name written.0)))
 
 -- what was written, and blanks after it
 unfoldable pub written_field : Option (ℕ × ℕ) → List ℕ
@@ -64,7 +66,7 @@ interrupt_at window interrupts column =
 -- the line of the interrupts
 unfoldable pub mark_line : Window → List ℕ → List ℕ
 mark_line window interrupts =
-    codes "interrupts                                             " ++ (columns window (interrupt_at window interrupts) ++ codes "\n")
+    codes "interrupts                                                 " ++ (columns window (interrupt_at window interrupts) ++ codes "\n")
 
 -- no line where there are none
 unfoldable pub interrupt_line : Window → List ℕ → List ℕ
@@ -77,4 +79,5 @@ legend_line = codes "F fetch  D dispatch  I issue  = execution  ~ wait for the b
 -- the picture of some instructions and interrupts in a window
 unfoldable pub text_picture : List Passage → List ℕ → Listed → Window → List ℕ
 text_picture passages interrupts listing window =
-    scale_line window ++ (flat_map (shown_line listing window) passages ++ (interrupt_line window interrupts ++ legend_line))
+    scale_line window ++ (flat_map (shown_line listing window) passages ++ (interrupt_line window interrupts ++
+    (over_note [] (codes "\n") window ++ legend_line)))

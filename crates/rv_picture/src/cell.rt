@@ -1,5 +1,5 @@
 ghost use Rattle.std.specs.Prelude.{◌≡◌, ◌+◌, ◌<◌, ◌^◌};
-ghost use Rattle.rv_picture.specs.Cell.{is_at, is_past, left_in, mark_of, phase_of, cell_of, has_cell, letter_of, name_of, class_of};
+ghost use Rattle.rv_picture.specs.Cell.{is_at, is_past, mark_of, wait_of, phase_of, cell_of, has_cell, letter_of, name_of, class_of};
 
 use crate::window::Window;
 use rv_passage::{Ending, Passage};
@@ -18,8 +18,12 @@ pub(crate) enum Cell {
     Retirement,
     Trap,
     Squash,
-    /// Nothing.
-    Wait,
+    /// It waits in the fetch buffer.
+    DispatchWait,
+    /// It waits for operands or a unit, or, where it uses none, for the head.
+    IssueWait,
+    /// Its result was broadcast, and older instructions did not retire yet.
+    HeadWait,
 }
 
 impl Cell {
@@ -38,7 +42,7 @@ impl Cell {
             Cell::Retirement => b"C",
             Cell::Trap => b"T",
             Cell::Squash => b"x",
-            Cell::Wait => b".",
+            Cell::DispatchWait | Cell::IssueWait | Cell::HeadWait => b".",
         }
     }
 
@@ -57,7 +61,9 @@ impl Cell {
             Cell::Retirement => b"retirement",
             Cell::Trap => b"trap",
             Cell::Squash => b"squash",
-            Cell::Wait => b"wait",
+            Cell::DispatchWait => b"wait for dispatch",
+            Cell::IssueWait => b"wait for operands, a unit or the head",
+            Cell::HeadWait => b"wait for the head",
         }
     }
 
@@ -76,7 +82,7 @@ impl Cell {
             Cell::Retirement => b"c",
             Cell::Trap => b"t",
             Cell::Squash => b"x",
-            Cell::Wait => b"w",
+            Cell::DispatchWait | Cell::IssueWait | Cell::HeadWait => b"w",
         }
     }
 }
@@ -99,17 +105,6 @@ fn is_past(stamp: Option<u64>, cycle: u64) -> bool
     }
 }
 
-fn left(ending: Ending) -> Option<u64>
-    ensures { result ≡ left_in ending }
-{
-    match ending {
-        Ending::InFlight => None,
-        Ending::Retired { cycle, .. }
-        | Ending::Trapped { cycle, .. }
-        | Ending::Squashed { cycle } => Some(cycle),
-    }
-}
-
 fn mark(ending: Ending) -> Cell
     ensures { result ≡ mark_of ending }
 {
@@ -117,7 +112,20 @@ fn mark(ending: Ending) -> Cell
         Ending::Retired { .. } => Cell::Retirement,
         Ending::Trapped { .. } => Cell::Trap,
         Ending::Squashed { .. } => Cell::Squash,
-        Ending::InFlight => Cell::Wait,
+        Ending::InFlight => Cell::DispatchWait,
+    }
+}
+
+// What an instruction waits for.
+fn wait_of(row: &Passage, cycle: u64) -> Cell
+    ensures { result ≡ wait_of row.now cycle }
+{
+    if is_past(row.broadcast, cycle) {
+        Cell::HeadWait
+    } else if is_past(row.dispatched, cycle) {
+        Cell::IssueWait
+    } else {
+        Cell::DispatchWait
     }
 }
 
@@ -138,7 +146,7 @@ fn phase(row: &Passage, cycle: u64) -> Cell
     } else if is_past(row.issued(), cycle) && !is_past(row.broadcast, cycle) {
         Cell::Execution
     } else {
-        Cell::Wait
+        wait_of(row, cycle)
     }
 }
 
@@ -147,7 +155,7 @@ fn phase(row: &Passage, cycle: u64) -> Cell
 pub(crate) fn cell_in(row: &Passage, cycle: u64) -> Option<Cell>
     ensures { result ≡ cell_of row.now cycle }
 {
-    let left = left(row.ending);
+    let left = row.ending.left();
     if cycle < row.fetched || is_past(left, cycle) {
         None
     } else if is_at(left, cycle) {
@@ -165,5 +173,5 @@ pub(crate) fn has_cell(window: Window, row: &Passage) -> bool
 {
     0 < window.cycles
         && row.fetched < window.first + window.cycles
-        && !is_past(left(row.ending), window.first)
+        && !is_past(row.ending.left(), window.first)
 }

@@ -3,7 +3,7 @@ ghost use Rattle.rv_picture.specs.ColumnText.{column_text};
 ghost use Rattle.rv_picture.specs.Columns.{columns};
 ghost use Rattle.rv_text.specs.Written.{IsWritten};
 
-use crate::svg::{write_box_at, write_tenth};
+use crate::svg::{write_box_at, write_number, write_tenth};
 use crate::text::{write_cell, write_interrupt_column, write_scale_column};
 use crate::window::Window;
 use rv_passage::Passage;
@@ -21,6 +21,8 @@ pub(crate) enum Columns<'a> {
     Marks(&'a [u64]),
     /// The cycle numbers of an SVG with so many rows.
     Tenths { rows: usize },
+    /// The cycle numbers again, further down in an SVG.
+    Numbers,
     /// The boxes of an instruction.
     Boxes(&'a Passage),
 }
@@ -39,6 +41,7 @@ fn write_column<W: Write>(
         Columns::Letters(row) => write_cell(writer, window, row, column),
         Columns::Marks(interrupts) => write_interrupt_column(writer, window, interrupts, column),
         Columns::Tenths { rows } => write_tenth(writer, window, rows, column),
+        Columns::Numbers => write_number(writer, window, column),
         Columns::Boxes(row) => write_box_at(writer, window, row, column),
     }
 }

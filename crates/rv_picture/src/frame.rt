@@ -1,9 +1,7 @@
-ghost use Rattle.std.specs.Prelude.{decimal};
-ghost use Rattle.rv_picture.specs.Places.{legend_y};
-ghost use Rattle.rv_picture.specs.SvgFrame.{svg_begin, svg_style, legend_entries, legend_begin, svg_legend};
+ghost use Rattle.rv_picture.specs.SvgFrame.{svg_begin, svg_style, svg_legend, svg_end};
 ghost use Rattle.rv_text.specs.Written.{IsWritten};
 
-use crate::place::{digits, height, legend_y, width};
+use crate::place::{digits, height, width};
 use itoa::Buffer;
 use rv_text::{ReportError, put, put_all};
 use std::io::Write;
@@ -36,7 +34,7 @@ pub(crate) fn write_begin<W: Write>(
     )
 }
 
-/// Writes fonts, and a colour for each class of cells.
+/// Writes fonts, and a colour for each class of cells, on a white ground and on a dark one.
 #[tactic(auto, unfolding(crate::specs::SvgFrame::svg_style))]
 pub(crate) fn write_style<W: Write>(writer: &mut W) -> Result<(), ReportError>
     ensures { IsWritten result (W.contents writer.old) (W.contents writer.new) svg_style }
@@ -52,6 +50,7 @@ text{font:12px monospace;fill:#111}
 .trap text{fill:#a00}
 .v path{stroke:#c00;stroke-dasharray:4 3}
 .v text{font-size:11px;font-weight:bold;text-anchor:middle;fill:#c00}
+.a{text-anchor:end}
 .p rect{stroke:#fff}
 .p text{font-size:11px;text-anchor:middle;fill:#000}
 .f rect{fill:#e3eefc}
@@ -65,19 +64,39 @@ text{font:12px monospace;fill:#111}
 .x rect{fill:#777}
 .w rect{fill:#f1f1f1}
 .c text,.t text,.x text{fill:#fff}
+@media print{svg{width:100%;height:auto}}
+@media (prefers-color-scheme:dark){
+.page{fill:#16181c}
+text{fill:#e4e4e4}
+.n text{fill:#aaa}
+.n path{stroke:#484c54}
+.out text{fill:#8c8c8c}
+.trap text{fill:#ff8080}
+.v path{stroke:#ff6060}
+.v text{fill:#ff6060}
+.p rect{stroke:#16181c}
+.p text{fill:#000}
+.r rect{fill:#16181c;stroke:#f0a848}
+.r text{fill:#f0a848}
+.w rect{fill:#2c3038}
+.w text{fill:#bbb}
+.c text,.t text,.x text{fill:#fff}
+}
 </style>
 <rect class='page' width='100%' height='100%'/>
 ",
     )
 }
 
-#[tactic(auto, unfolding(crate::specs::SvgFrame::legend_entries))]
-fn write_entries<W: Write>(writer: &mut W) -> Result<(), ReportError>
-    ensures { IsWritten result (W.contents writer.old) (W.contents writer.new) legend_entries }
+/// Writes the legend, and the begin of what stands below it.
+#[tactic(auto, unfolding(crate::specs::SvgFrame::svg_legend))]
+pub(crate) fn write_legend<W: Write>(writer: &mut W) -> Result<(), ReportError>
+    ensures { IsWritten result (W.contents writer.old) (W.contents writer.new) svg_legend }
 {
     put(
         writer,
-        b"<g transform='translate(0 0)'><g class='p f'><rect width='14' height='18'/><text x='7' y='13'>F</text></g><text x='20' y='13'>fetch</text></g>
+        b"<g transform='translate(8 8)'>
+<g transform='translate(0 0)'><g class='p f'><rect width='14' height='18'/><text x='7' y='13'>F</text></g><text x='20' y='13'>fetch</text></g>
 <g transform='translate(150 0)'><g class='p d'><rect width='14' height='18'/><text x='7' y='13'>D</text></g><text x='20' y='13'>dispatch</text></g>
 <g transform='translate(300 0)'><g class='p i'><rect width='14' height='18'/><text x='7' y='13'>I</text></g><text x='20' y='13'>issue</text></g>
 <g transform='translate(450 0)'><g class='p e'><rect width='14' height='18'/><text x='7' y='13'>=</text></g><text x='20' y='13'>execution</text></g>
@@ -89,23 +108,15 @@ fn write_entries<W: Write>(writer: &mut W) -> Result<(), ReportError>
 <g transform='translate(150 44)'><g class='p w'><rect width='14' height='18'/><text x='7' y='13'>.</text></g><text x='20' y='13'>wait</text></g>
 <g transform='translate(300 44)'><g class='v'><text x='7' y='13'>!</text></g><text x='20' y='13'>interrupt</text></g>
 </g>
-</svg>
+<g transform='translate(0 76)'>
 ",
     )
 }
 
-fn write_legend_begin<W: Write>(writer: &mut W, rows: usize) -> Result<(), ReportError>
-    ensures { IsWritten result (W.contents writer.old) (W.contents writer.new) (legend_begin (decimal (legend_y rows))) }
+/// Writes the end of an SVG.
+#[tactic(auto, unfolding(crate::specs::SvgFrame::svg_end))]
+pub(crate) fn write_end<W: Write>(writer: &mut W) -> Result<(), ReportError>
+    ensures { IsWritten result (W.contents writer.old) (W.contents writer.new) svg_end }
 {
-    let mut buffer = Buffer::new();
-    let y = digits(&mut buffer, legend_y(rows));
-    put_all(writer, &[b"<g transform='translate(8 ", y, b")'>\n"])
-}
-
-/// Writes the legend below so many rows, and the end of the SVG.
-pub(crate) fn write_legend<W: Write>(writer: &mut W, rows: usize) -> Result<(), ReportError>
-    ensures { IsWritten result (W.contents writer.old) (W.contents writer.new) (svg_legend rows) }
-{
-    write_legend_begin(writer, rows)?;
-    write_entries(writer)
+    put(writer, b"</g>\n</svg>\n")
 }

@@ -5,7 +5,7 @@ ghost use Rattle.rv_text.specs.Written.{IsWritten};
 
 use itoa::Buffer;
 use rv_isa::Reg;
-use rv_passage::{Ending, Passage};
+use rv_passage::{Ending, Passage, register_name};
 use rv_source::Listing;
 use rv_text::{ReportError, front, hexadecimal, put, put_all, write_plain_byte};
 use std::io::Write;
@@ -99,8 +99,9 @@ pub(crate) fn write_written<W: Write>(writer: &mut W, row: &Passage) -> Result<(
         Some((register, word)) => {
             let mut buffer = Buffer::new();
             let number = buffer.format(register.number()).as_bytes();
+            let name = register_name(register);
             let value = hexadecimal(word);
-            put_all(writer, &[b"x", number, b"=", value.as_slice()])
+            put_all(writer, &[b"x", number, b"/", name, b"=", value.as_slice()])
         }
         None => put(writer, b"-"),
     }

@@ -6,6 +6,7 @@ mod cell;
 mod columns;
 mod frame;
 mod label;
+mod over;
 mod picture;
 mod place;
 mod recording;

@@ -1,5 +1,5 @@
 ghost use Rattle.std.specs.Prelude.{◌≡◌, decimal};
-ghost use Rattle.rv_picture.specs.Places.{column_x, row_y, width_of, height_of, legend_y};
+ghost use Rattle.rv_picture.specs.Places.{column_x, row_y, width_of, height_of};
 
 use itoa::Buffer;
 
@@ -14,14 +14,14 @@ pub(crate) fn digits(buffer: &mut Buffer, number: u128) -> &[u8]
 pub(crate) fn column_x(column: u64) -> u128
     ensures { result ≡ column_x column }
 {
-    448 + 14 * u128::from(column)
+    456 + 14 * u128::from(column)
 }
 
-/// Where a row begins.
+/// Where a row begins, below the legend. The cycle numbers stand again in front of every fortieth.
 pub(crate) fn row_y(place: usize) -> u128
     ensures { result ≡ row_y place }
 {
-    44 + 18 * place as u128
+    44 + 18 * (place as u128 + place as u128 / 40)
 }
 
 /// How wide a picture of so many columns is.
@@ -36,11 +36,4 @@ pub(crate) fn height(rows: usize) -> u128
     ensures { result ≡ height_of rows }
 {
     row_y(rows) + 94
-}
-
-/// Where the legend begins, below so many rows.
-pub(crate) fn legend_y(rows: usize) -> u128
-    ensures { result ≡ legend_y rows }
-{
-    row_y(rows) + 14
 }

@@ -3,14 +3,15 @@ ghost use Rattle.std.specs.List.{flat_map};
 ghost use Rattle.rv_picture.specs.Cell.{class_of, has_cell, letter_of, name_of};
 ghost use Rattle.rv_picture.specs.Label.{markup_byte, statement_of};
 ghost use Rattle.rv_picture.specs.Places.{column_x, row_y};
-ghost use Rattle.rv_picture.specs.SvgPicture.{line_down, tenth_mark, tenth_at, interrupt_mark, interrupt_in, cell_box, box_at, row_class, row_begin, svg_row, placed_row, rows_of, svg_rows, svg_of, svg_picture};
+ghost use Rattle.rv_picture.specs.SvgPicture.{line_down, tenth_mark, tenth_at, number_mark, number_at, numbers, numbers_again, interrupt_mark, interrupt_in, cell_box, box_at, row_class, row_begin, near_text, near_address, svg_row, placed_row, rows_of, svg_rows, svg_of, svg_picture};
 ghost use Rattle.rv_text.specs.Line.{word_text};
 ghost use Rattle.rv_text.specs.Written.{IsWritten};
 
 use crate::cell::{Cell, cell_in, has_cell};
 use crate::columns::{Columns, write_columns};
-use crate::frame::{write_begin, write_legend, write_style};
+use crate::frame::{write_begin, write_end, write_legend, write_style};
 use crate::label::{statement, write_markup, write_written};
+use crate::over::write_over;
 use crate::place::{column_x, digits, row_y};
 use crate::window::Window;
 use itoa::Buffer;
@@ -76,6 +77,59 @@ pub(crate) fn write_tenth<W: Write>(
     let cycle = window.first + column;
     if cycle % 10 == 0 {
         write_tenth_mark(writer, rows, column, cycle)
+    } else {
+        Ok(())
+    }
+}
+
+fn write_number_mark<W: Write>(writer: &mut W, column: u64, cycle: u64) -> Result<(), ReportError>
+    ensures { IsWritten result (W.contents writer.old) (W.contents writer.new) (number_mark (decimal (column_x column)) (decimal cycle)) }
+{
+    let mut at_column = Buffer::new();
+    let x = digits(&mut at_column, column_x(column));
+    let mut at_cycle = Buffer::new();
+    let cycle = digits(&mut at_cycle, u128::from(cycle));
+    put_all(writer, &[b"<text x='", x, b"'>", cycle, b"</text>\n"])
+}
+
+#[tactic(auto, unfolding(crate::specs::SvgPicture::number_at))]
+pub(crate) fn write_number<W: Write>(
+    writer: &mut W,
+    window: Window,
+    column: u64,
+) -> Result<(), ReportError>
+    requires { window.first + column < 2 ^ 64 }
+    ensures { IsWritten result (W.contents writer.old) (W.contents writer.new) (number_at window column) }
+{
+    let cycle = window.first + column;
+    if cycle % 10 == 0 {
+        write_number_mark(writer, column, cycle)
+    } else {
+        Ok(())
+    }
+}
+
+fn write_numbers<W: Write>(writer: &mut W, window: Window) -> Result<(), ReportError>
+    requires { window.first + window.cycles < 2 ^ 64 }
+    ensures { IsWritten result (W.contents writer.old) (W.contents writer.new) (numbers window) }
+{
+    put(writer, b"<g class='n' transform='translate(3 -4)'>\n")?;
+    write_columns(writer, window, Columns::Numbers)?;
+    put(writer, b"</g>\n")
+}
+
+// Writes the cycle numbers again above every fortieth row.
+#[tactic(auto, unfolding(crate::specs::SvgPicture::numbers_again))]
+fn write_numbers_again<W: Write>(
+    writer: &mut W,
+    window: Window,
+    place: usize,
+) -> Result<(), ReportError>
+    requires { window.first + window.cycles < 2 ^ 64 }
+    ensures { IsWritten result (W.contents writer.old) (W.contents writer.new) (numbers_again window place) }
+{
+    if place % 40 == 0 && place != 0 {
+        write_numbers(writer, window)
     } else {
         Ok(())
     }
@@ -226,6 +280,41 @@ fn write_statement<W: Write>(
     write_markup(writer, statement(&mut buffer, listing, row))
 }
 
+fn write_near_text<W: Write>(writer: &mut W, column: u64, pc: u32) -> Result<(), ReportError>
+    ensures { IsWritten result (W.contents writer.old) (W.contents writer.new) (near_text (decimal (column_x column)) (word_text pc)) }
+{
+    let mut at_column = Buffer::new();
+    let x = digits(&mut at_column, column_x(column));
+    let pc = hexadecimal(pc);
+    put_all(
+        writer,
+        &[
+            b"<text class='a' dx='-4' y='13' x='",
+            x,
+            b"'>",
+            pc.as_slice(),
+            b"</text>\n",
+        ],
+    )
+}
+
+// Writes the address again in front of the first cell, where that is far from the left.
+#[tactic(auto, unfolding(crate::specs::SvgPicture::near_address))]
+fn write_near_address<W: Write>(
+    writer: &mut W,
+    window: Window,
+    row: &Passage,
+) -> Result<(), ReportError>
+    ensures { IsWritten result (W.contents writer.old) (W.contents writer.new) (near_address window row.now) }
+{
+    let column = row.fetched.saturating_sub(window.first);
+    if 50 <= column {
+        write_near_text(writer, column, row.pc)
+    } else {
+        Ok(())
+    }
+}
+
 fn write_row<W: Write>(
     writer: &mut W,
     listing: &Listing,
@@ -238,10 +327,12 @@ fn write_row<W: Write>(
 {
     write_row_begin(writer, place, row)?;
     write_statement(writer, listing, row)?;
-    put(writer, b"</text><text x='344' y='13'>")?;
+    put(writer, b"</text><text x='328' y='13'>")?;
     write_written(writer, row)?;
     put(writer, b"</text>\n")?;
+    write_numbers_again(writer, window, place)?;
     write_columns(writer, window, Columns::Boxes(row))?;
+    write_near_address(writer, window, row)?;
     put(writer, b"</g>\n")
 }
 
@@ -316,14 +407,16 @@ fn write_shown<W: Write>(
 {
     write_begin(writer, window.cycles, shown)?;
     write_style(writer)?;
+    write_legend(writer)?;
     write_columns(writer, window, Columns::Tenths { rows: shown })?;
     write_rows(writer, listing, window, rows)?;
     write_interrupts(writer, window, shown, interrupts)?;
-    write_legend(writer, shown)
+    write_over(writer, b"<text x='8' y='34'>", window, b"</text>\n")?;
+    write_end(writer)
 }
 
-/// Writes a picture as an SVG: cycle numbers on top, a row for each instruction that shows something in the window, with a
-/// box for each cell, a line for each interrupt, and a legend. The window ends below cycle 2^64. Asks for no memory. Fails
+/// Writes a picture as an SVG: a legend on top, cycle numbers, a row for each instruction that shows something in the window,
+/// with a box for each cell, and a line for each interrupt. The window ends below cycle 2^64. Asks for no memory. Fails
 /// by `WriteFailed` alone, and what was written is then a beginning of the picture.
 #[tactic(auto, unfolding(crate::specs::SvgPicture::svg_picture))]
 pub fn write_picture_svg<W: Write>(

@@ -8,9 +8,10 @@ ghost use Rattle.rv_text.specs.Written.{IsWritten};
 use crate::cell::{Cell, cell_in, has_cell};
 use crate::columns::{Columns, write_columns};
 use crate::label::{statement, write_blanks, write_padded, write_written, written};
+use crate::over::write_over;
 use crate::window::Window;
 use itoa::Buffer;
-use rv_passage::Passage;
+use rv_passage::{Passage, register_name};
 use rv_source::Listing;
 use rv_text::{ReportError, hexadecimal, put, put_all, write_plain};
 use std::io::Write;
@@ -42,7 +43,7 @@ fn write_scale<W: Write>(writer: &mut W, window: Window) -> Result<(), ReportErr
 {
     put(
         writer,
-        b"                                                       ",
+        b"                                                           ",
     )?;
     write_columns(writer, window, Columns::Scale)?;
     put(writer, b"\n")
@@ -74,9 +75,10 @@ fn write_room_behind<W: Write>(writer: &mut W, row: &Passage) -> Result<(), Repo
     match written(row.ending) {
         Some((register, _)) => {
             let mut buffer = Buffer::new();
-            write_blanks(writer, 3, buffer.format(register.number()).len())
+            let number = buffer.format(register.number()).len();
+            write_blanks(writer, 6, number + register_name(register).len())
         }
-        None => write_blanks(writer, 12, 0),
+        None => write_blanks(writer, 16, 0),
     }
 }
 
@@ -192,7 +194,7 @@ fn write_mark_line<W: Write>(
 {
     put(
         writer,
-        b"interrupts                                             ",
+        b"interrupts                                                 ",
     )?;
     write_columns(writer, window, Columns::Marks(interrupts))?;
     put(writer, b"\n")
@@ -215,7 +217,8 @@ fn write_interrupts<W: Write>(
 }
 
 /// Writes a picture for a terminal: a line of cycle numbers, a line for each instruction that shows something in the
-/// window, one for the interrupts if there are any, and a legend. The window ends below cycle 2^64. Asks for no memory.
+/// window, one for the interrupts if there are any, one that says
+/// that the run ended before the window where it did, and a legend. The window ends below cycle 2^64. Asks for no memory.
 /// Fails by `WriteFailed` alone, and what was written is then a beginning of the picture.
 pub fn write_picture_text<W: Write>(
     rows: &[Passage],
@@ -230,6 +233,7 @@ pub fn write_picture_text<W: Write>(
     write_scale(writer, window)?;
     write_rows(writer, listing, window, rows)?;
     write_interrupts(writer, window, interrupts)?;
+    write_over(writer, b"", window, b"\n")?;
     put(
         writer,
         b"F fetch  D dispatch  I issue  = execution  ~ wait for the bus  B broadcast  C retirement  T trap  x squash  . wait  ! interrupt\n",

@@ -1,2 +1,3 @@
 mod addition;
 mod branch;
+mod bus;

@@ -4,12 +4,12 @@ use rv_command::Command;
 
 // The cycles 2 to 4: the addition is issued in 2, its result broadcast in 3, and it retires in 4.
 const THREE_CYCLES: &[u8] = b"\
-\x20                                                        \x20
-80000000 addi x1,x0,5                     x1=00000005  IBC
-80000004 ebreak                           -            D..
-80000008 00000000                         -            FD.
-8000000c 00000000                         -             FD
-80000010 00000000                         -              F
+\x20                                                            \x20
+80000000 addi x1,x0,5                     x1/ra=00000005   IBC
+80000004 ebreak                           -                D..
+80000008 00000000                         -                FD.
+8000000c 00000000                         -                 FD
+80000010 00000000                         -                  F
 F fetch  D dispatch  I issue  = execution  ~ wait for the bus  B broadcast  C retirement  T trap  x squash  . wait  ! interrupt
 ";
 

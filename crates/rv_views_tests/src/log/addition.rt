@@ -38,14 +38,19 @@ I\t4\t4\t0
 L\t4\t0\t80000010: 00000000
 S\t4\t0\tF
 C\t1
+L\t0\t1\tretired, x1 (ra) = 00000005, cost 1
 R\t0\t0\t0
 I\t5\t5\t0
 L\t5\t0\t00000000: -
 S\t5\t0\tF
 C\t1
+L\t1\t1\ttrapped, cause 3
 R\t1\t1\t1
+L\t2\t1\tsquashed
 R\t2\t2\t1
+L\t3\t1\tsquashed
 R\t3\t3\t1
+L\t4\t1\tsquashed
 R\t4\t4\t1
 ";
 

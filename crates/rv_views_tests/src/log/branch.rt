@@ -28,9 +28,13 @@ I\t4\t4\t0
 L\t4\t0\t80000008: addi x1,x0,5
 S\t4\t0\tF
 C\t1
+L\t0\t1\tretired, cost 1
 R\t0\t0\t0
+L\t1\t1\tsquashed, cost 1
 R\t1\t1\t1
+L\t2\t1\tsquashed
 R\t2\t2\t1
+L\t3\t1\tsquashed
 R\t3\t3\t1
 S\t4\t0\tD
 I\t5\t5\t0
@@ -55,6 +59,7 @@ I\t8\t8\t0
 L\t8\t0\t80000018: 00000000
 S\t8\t0\tF
 C\t1
+L\t4\t1\tretired, x1 (ra) = 00000005, cost 1
 R\t4\t1\t0
 ";
 

@@ -20,14 +20,14 @@ const LINES: [&str; 2] = [
     "ebreak # stops & \"waits\" <here> for good",
 ];
 
-const TEXT: &str = "                                                       10        \n\
-7ffffff8 00000013                         -            x         \n\
-80000000 addi x1,x0,5                     x1=00000005  FDI=~B.C  \n\
-80000004 ebreak # stops & \"waits\" <here>  -             FD.....T \n\
-80000008 0000006f                         -              F.x     \n\
-8000000c 00000013                         -               FDI==~~\n\
-00000000 -                                -                     F\n\
-interrupts                                             !  !     !\n\
+const TEXT: &str = "                                                           10        \n\
+7ffffff8 00000013                         -                x         \n\
+80000000 addi x1,x0,5                     x1/ra=00000005   FDI=~B.C  \n\
+80000004 ebreak # stops & \"waits\" <here>  -                 FD.....T \n\
+80000008 0000006f                         -                  F.x     \n\
+8000000c 00000013                         -                   FDI==~~\n\
+00000000 -                                -                         F\n\
+interrupts                                                 !  !     !\n\
 F fetch  D dispatch  I issue  = execution  ~ wait for the bus  B broadcast  C retirement  T trap  x squash  . wait  ! interrupt\n";
 
 fn fetched(number: u64, pc: u32, word: Option<u32>, cycle: u64) -> Passage {
@@ -101,27 +101,41 @@ fn each_ending_has_its_letter_and_each_phase_its_own(rt: HostRuntime) {
 
 // A class, a column, a name, a cycle and a letter.
 const BOXES: [(&str, u32, &str, u32, &str); 10] = [
-    ("f", 448, "fetch", 10, "F"),
-    ("d", 462, "dispatch", 11, "D"),
-    ("i", 476, "issue", 12, "I"),
-    ("e", 490, "execution", 13, "="),
-    ("r", 504, "wait for the bus", 14, "~"),
-    ("b", 518, "broadcast", 15, "B"),
-    ("w", 532, "wait", 16, "."),
-    ("c", 546, "retirement", 17, "C"),
-    ("t", 560, "trap", 18, "T"),
-    ("x", 504, "squash", 14, "x"),
+    ("f", 456, "fetch", 10, "F"),
+    ("d", 470, "dispatch", 11, "D"),
+    ("i", 484, "issue", 12, "I"),
+    ("e", 498, "execution", 13, "="),
+    ("r", 512, "wait for the bus", 14, "~"),
+    ("b", 526, "broadcast", 15, "B"),
+    ("w", 540, "wait for the head", 16, "."),
+    ("c", 554, "retirement", 17, "C"),
+    ("t", 568, "trap", 18, "T"),
+    ("x", 512, "squash", 14, "x"),
+];
+
+// A class, a letter, and what the legend says of them.
+const MEANINGS: [(&str, &str, &str); 10] = [
+    ("f", "F", "fetch"),
+    ("d", "D", "dispatch"),
+    ("i", "I", "issue"),
+    ("e", "=", "execution"),
+    ("r", "~", "wait for the bus"),
+    ("b", "B", "broadcast"),
+    ("w", ".", "wait"),
+    ("c", "C", "retirement"),
+    ("t", "T", "trap"),
+    ("x", "x", "squash"),
 ];
 
 // What stands around ten columns and six rows: the last row ends at 44 + 6 * 18 = 152.
 const FRAME: [&str; 9] = [
-    "<svg xmlns='http://www.w3.org/2000/svg' width='740' height='246' viewBox='0 0 740 246'>\n",
-    "<g class='n' transform='translate(448 0)'><title>cycle 10</title><path d='M0 20V152'/><text x='3' y='16'>10</text></g>\n",
-    "<g class='v' transform='translate(448 0)'><title>cycle 10, interrupt</title><path d='M0 38V152'/><text x='7' y='34'>!</text></g>\n",
-    "<g class='v' transform='translate(490 0)'><title>cycle 13, interrupt</title><path d='M0 38V152'/><text x='7' y='34'>!</text></g>\n",
-    "<g class='v' transform='translate(574 0)'><title>cycle 19, interrupt</title><path d='M0 38V152'/><text x='7' y='34'>!</text></g>\n<g transform='translate(8 166)'>\n",
-    "<text x='7' y='13'>!</text></g><text x='20' y='13'>interrupt</text></g>\n</g>\n</svg>\n",
-    "</text><text x='344' y='13'>x1=00000005</text>\n<g class='p f' transform='translate(448 0)'>",
+    "<svg xmlns='http://www.w3.org/2000/svg' width='748' height='246' viewBox='0 0 748 246'>\n",
+    "<g class='n' transform='translate(456 0)'><title>cycle 10</title><path d='M0 20V152'/><text x='3' y='16'>10</text></g>\n",
+    "<g class='v' transform='translate(456 0)'><title>cycle 10, interrupt</title><path d='M0 38V152'/><text x='7' y='34'>!</text></g>\n",
+    "<g class='v' transform='translate(498 0)'><title>cycle 13, interrupt</title><path d='M0 38V152'/><text x='7' y='34'>!</text></g>\n",
+    "<g class='v' transform='translate(582 0)'><title>cycle 19, interrupt</title><path d='M0 38V152'/><text x='7' y='34'>!</text></g>\n</g>\n</svg>\n",
+    "<text x='7' y='13'>!</text></g><text x='20' y='13'>interrupt</text></g>\n</g>\n<g transform='translate(0 76)'>\n",
+    "</text><text x='328' y='13'>x1/ra=00000005</text>\n<g class='p f' transform='translate(456 0)'>",
     "\n.out text{fill:#888}\n",
     "\n.trap text{fill:#a00}\n",
 ];
@@ -187,7 +201,7 @@ fn check_meaning(
     rt: &impl Abort,
     alloc: Global,
     svg: &str,
-    (class, _, name, _, letter): (&str, u32, &str, u32, &str),
+    (class, letter, name): (&str, &str, &str),
 ) -> Result<(), Fail> {
     let meaning = format!(in alloc;
         "<g class='p {class}'><rect width='14' height='18'/><text x='7' y='13'>{letter}</text></g><text x='20' y='13'>{name}</text></g>\n"
@@ -201,6 +215,8 @@ fn each_kind_of_cell_has_a_box_and_a_meaning(rt: HostRuntime) -> Result<(), Fail
     let svg = drawn(&rt, rt.alloc());
     for kind in &BOXES {
         check_box(&rt, rt.alloc(), svg.as_str(), *kind)?;
+    }
+    for kind in &MEANINGS {
         check_meaning(&rt, rt.alloc(), svg.as_str(), *kind)?;
     }
     Ok(())

@@ -6,27 +6,28 @@ use rv_picture::{Form, write_picture};
 use std::alloc::Global;
 use std::process::Abort;
 
-const EXPECTED: &str = "                                                       0         \n\
-80000000 00500093                         x1=00000005  FDIBC\n\
-80000004 00100073                         -             FD.T\n\
-80000008 00000000                         -              FDx\n\
-8000000c 00000000                         -               Fx\n\
-00000000 -                                -                F\n\
+const EXPECTED: &str = "                                                           0         \n\
+80000000 00500093                         x1/ra=00000005   FDIBC\n\
+80000004 00100073                         -                 FD.T\n\
+80000008 00000000                         -                  FDx\n\
+8000000c 00000000                         -                   Fx\n\
+00000000 -                                -                    F\n\
 F fetch  D dispatch  I issue  = execution  ~ wait for the bus  B broadcast  C retirement  T trap  x squash  . wait  ! interrupt\n";
 
 // addi x1,x0,5 and ebreak.
 const PROGRAM: [u8; 8] = [0x93, 0x00, 0x50, 0x00, 0x73, 0x00, 0x10, 0x00];
 
 // The last cycle, in which each instruction but the one that was fetched leaves the hardware.
-const LAST_CYCLE: &str = "                                                        \n\
-80000000 00500093                         x1=00000005  C\n\
-80000004 00100073                         -            T\n\
-80000008 00000000                         -            x\n\
-8000000c 00000000                         -            x\n\
-00000000 -                                -            F\n\
+const LAST_CYCLE: &str = "                                                            \n\
+80000000 00500093                         x1/ra=00000005   C\n\
+80000004 00100073                         -                T\n\
+80000008 00000000                         -                x\n\
+8000000c 00000000                         -                x\n\
+00000000 -                                -                F\n\
 F fetch  D dispatch  I issue  = execution  ~ wait for the bus  B broadcast  C retirement  T trap  x squash  . wait  ! interrupt\n";
 
-const NOTHING: &str = "                                                       \n\
+const NOTHING: &str = "                                                           \n\
+The run ended after 5 cycles, before those of this picture.\n\
 F fetch  D dispatch  I issue  = execution  ~ wait for the bus  B broadcast  C retirement  T trap  x squash  . wait  ! interrupt\n";
 
 // The picture of at most sixty cycles from one on, and why the run ended.

@@ -1,0 +1,36 @@
+-- What a viewer's pane of details shows of an instruction that left the hardware: how, what it wrote, and what its execution cost.
+use Rattle.std.specs.Prelude.{ℕ, List, [], ◌++◌, codes, decimal, Option, Some, None}
+use Rattle.rv_isa.specs.Cause.{code_of}
+use Rattle.rv_isa.specs.declared.{causes.Cause.Cause, issues.Issue.Issue}
+use Rattle.rv_passage.specs.Names.{register_name}
+use Rattle.rv_passage.specs.declared.passage.{Ending.Ending, Passage.Passage}
+use Rattle.rv_passage.specs.declared.passage.Ending.TheVariants.{InFlight, Retired, Trapped, Squashed}
+use Rattle.rv_text.specs.Line.{word_text}
+
+-- the register that was written, with its value
+unfoldable pub written_text : Option (ℕ × ℕ) → List ℕ
+written_text None = []
+written_text (Some written) =
+    codes ", x" ++ (decimal written.0 ++ (codes " (" ++ (register_name written.0 ++ (codes ") = " ++ word_text written.1))))
+
+-- the cause of its trap
+unfoldable pub cause_text : Cause → List ℕ
+cause_text cause = codes "trapped, cause " ++ decimal (code_of cause)
+
+-- how it ended
+unfoldable pub ending_text : Ending → List ℕ
+ending_text InFlight = []
+ending_text (Retired order cycle written) = codes "retired" ++ written_text written
+ending_text (Trapped cycle cause) = cause_text cause
+ending_text (Squashed cycle) = codes "squashed"
+
+-- what its execution cost, where it began
+unfoldable pub cost_text : Option Issue → List ℕ
+cost_text None = []
+cost_text (Some issue) = codes ", cost " ++ decimal issue.cost
+
+-- the label (L) of that pane
+unfoldable pub details_line : Passage → List ℕ
+details_line passage =
+    (codes "L\t" ++ (decimal passage.number ++ codes "\t1\t")) ++
+    (ending_text passage.ending ++ (cost_text passage.issue ++ codes "\n"))

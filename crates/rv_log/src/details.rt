@@ -1,0 +1,87 @@
+ghost use Rattle.std.specs.Prelude.{◌++◌, codes, decimal};
+ghost use Rattle.rv_log.specs.Details.{written_text, cause_text, ending_text, cost_text, details_line};
+ghost use Rattle.rv_text.specs.Written.{IsWritten};
+
+use itoa::Buffer;
+use rv_isa::{Cause, Issue, Reg};
+use rv_passage::{Ending, Passage, register_name};
+use rv_text::{ReportError, hexadecimal, put, put_all};
+use std::io::Write;
+
+#[tactic(auto, unfolding(crate::specs::Details::written_text))]
+fn write_written<W: Write>(writer: &mut W, written: Option<(Reg, u32)>) -> Result<(), ReportError>
+    ensures { IsWritten result (W.contents writer.old) (W.contents writer.new) (written_text written) }
+{
+    match written {
+        Some((register, word)) => {
+            let mut buffer = Buffer::new();
+            let number = buffer.format(register.number()).as_bytes();
+            let name = register_name(register);
+            let value = hexadecimal(word);
+            put_all(
+                writer,
+                &[b", x", number, b" (", name, b") = ", value.as_slice()],
+            )
+        }
+        None => Ok(()),
+    }
+}
+
+fn write_retired<W: Write>(writer: &mut W, written: Option<(Reg, u32)>) -> Result<(), ReportError>
+    ensures { IsWritten result (W.contents writer.old) (W.contents writer.new) (codes "retired" ++ written_text written) }
+{
+    put(writer, b"retired")?;
+    write_written(writer, written)
+}
+
+fn write_cause<W: Write>(writer: &mut W, cause: Cause) -> Result<(), ReportError>
+    ensures { IsWritten result (W.contents writer.old) (W.contents writer.new) (cause_text cause) }
+{
+    let mut buffer = Buffer::new();
+    let number = buffer.format(cause.code()).as_bytes();
+    put_all(writer, &[b"trapped, cause ", number])
+}
+
+#[tactic(auto, unfolding(crate::specs::Details::ending_text))]
+fn write_ending<W: Write>(writer: &mut W, ending: Ending) -> Result<(), ReportError>
+    ensures { IsWritten result (W.contents writer.old) (W.contents writer.new) (ending_text ending) }
+{
+    match ending {
+        Ending::InFlight => Ok(()),
+        Ending::Retired { written, .. } => write_retired(writer, written),
+        Ending::Trapped { cause, .. } => write_cause(writer, cause),
+        Ending::Squashed { .. } => put(writer, b"squashed"),
+    }
+}
+
+#[tactic(auto, unfolding(crate::specs::Details::cost_text))]
+fn write_cost<W: Write>(writer: &mut W, issue: Option<Issue>) -> Result<(), ReportError>
+    ensures { IsWritten result (W.contents writer.old) (W.contents writer.new) (cost_text issue) }
+{
+    match issue {
+        Some(issue) => {
+            let mut buffer = Buffer::new();
+            let cost = buffer.format(issue.cost).as_bytes();
+            put_all(writer, &[b", cost ", cost])
+        }
+        None => Ok(()),
+    }
+}
+
+fn write_begin<W: Write>(writer: &mut W, number: u64) -> Result<(), ReportError>
+    ensures { IsWritten result (W.contents writer.old) (W.contents writer.new) (codes "L\t" ++ (decimal number ++ codes "\t1\t")) }
+{
+    let mut buffer = Buffer::new();
+    let id = buffer.format(number).as_bytes();
+    put_all(writer, &[b"L\t", id, b"\t1\t"])
+}
+
+/// Writes the label of the pane of details of an instruction that left the hardware.
+pub(crate) fn write_details<W: Write>(writer: &mut W, row: &Passage) -> Result<(), ReportError>
+    ensures { IsWritten result (W.contents writer.old) (W.contents writer.new) (details_line row.now) }
+{
+    write_begin(writer, row.number)?;
+    write_ending(writer, row.ending)?;
+    write_cost(writer, row.issue)?;
+    put(writer, b"\n")
+}
