@@ -1,4 +1,4 @@
--- The laws, of all cycles since a reset: a file for each field of `Laws`, in the order of the record.
+-- The laws, of all cycles since a reset: a file for each field of `Laws`, in the order of the record, and then what they make of a run.
 pub mod Within
 pub mod StampsInOrder
 pub mod Costs

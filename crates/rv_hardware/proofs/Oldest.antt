@@ -12,16 +12,12 @@ one_behind : (P : List Entry → Entry → Type 0) (before : List Entry) (e : En
     EveryBehind P [] (before ++ e ∷ [])
 one_behind P before e h g = EveryBehind-append P [] before (e ∷ []) h (g, tt)
 
-finds_here : (test : List Entry → Entry → Bool) (b : Bool) (before es : List Entry) (e : Entry) (rest : Option (List Entry × Entry)) →
-    b ≡ test before e →
-    EveryBehind (λ older x. test older x ≡ false) [] before →
-    (b ≡ false → Finds test ((before ++ e ∷ []) ++ es) rest) →
-    Finds test (before ++ e ∷ es) (cond b (Some (before, e)) rest)
+finds_here : (test : List Entry → Entry → Bool) (b : Bool) (before es : List Entry) (e : Entry) (rest : Option (List Entry × Entry)) → b ≡ test before e → EveryBehind (λ older x. test older x ≡ false) [] before → (b ≡ false → Finds test ((before ++ e ∷ []) ++ es) rest) → Finds test (before ++ e ∷ es) (cond b (Some (before, e)) rest)
 finds_here test true before es e rest is none further = (es, refl, sym is, none)
 finds_here test false before es e rest is none further = rw (append_assoc before (e ∷ []) es) at (further refl)
 
-finds_from : (test : List Entry → Entry → Bool) (before es : List Entry) → EveryBehind (λ older x. test older x ≡ false) [] before →
-    Finds test (before ++ es) (oldest_from test before es)
+finds_from : (test : List Entry → Entry → Bool) (before es : List Entry) →
+    EveryBehind (λ older x. test older x ≡ false) [] before → Finds test (before ++ es) (oldest_from test before es)
 finds_from test before [] none = rw (append-nil before) none
 finds_from test before (e ∷ es) none =
     finds_here test (test before e) before es e (oldest_from test (before ++ e ∷ []) es) refl none

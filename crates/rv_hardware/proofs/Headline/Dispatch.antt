@@ -37,7 +37,8 @@ module _ (h : Hardware) (fetched : Fetched) where
   now = behind layout h.rob.entries s
 
   -- what is finished at once has its result
-  stage_result : (k : Option Kind) (serialising : Bool) → kind_of_word fetched.instruction ≡ k → is_serialising fetched.instruction ≡ serialising → fetched.pc ≡ now.pc →
+  stage_result : (k : Option Kind) (serialising : Bool) → kind_of_word fetched.instruction ≡ k →
+      is_serialising fetched.instruction ≡ serialising → fetched.pc ≡ now.pc →
       IsResult (result_of_word layout now no_lines fetched.word fetched.instruction)
       (stage_by k serialising (Finished None h.cycle (result_of_word layout (seen_behind h h.rob.entries fetched.pc) h.lines fetched.word fetched.instruction)))
   stage_result (Some k) serialising is_kind is_serial here = tt

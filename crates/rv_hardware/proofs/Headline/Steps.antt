@@ -12,7 +12,8 @@ AreRetirements cycle [] = Unit {0}
 AreRetirements cycle (x ∷ xs) = (is_retirement x ≡ true) × (stamp_of x ≡ cycle) × AreRetirements cycle xs
 
 -- one more retirement of the cycle
-pub retirements_push : (cycle : ℕ) (xs : List Step) (x : Step) → AreRetirements cycle xs → is_retirement x ≡ true → stamp_of x ≡ cycle → AreRetirements cycle (xs ++ x ∷ [])
+pub retirements_push : (cycle : ℕ) (xs : List Step) (x : Step) → AreRetirements cycle xs → is_retirement x ≡ true →
+    stamp_of x ≡ cycle → AreRetirements cycle (xs ++ x ∷ [])
 retirements_push cycle [] x all retires stamped = (retires, stamped, tt)
 retirements_push cycle (y ∷ xs) x all retires stamped = (all.0, all.1, retirements_push cycle xs x all.2 retires stamped)
 
@@ -38,7 +39,8 @@ true_cycle_breakpoint cycle [] all = refl
 true_cycle_breakpoint cycle (x ∷ xs) all = or_from (is_breakpoint x) (list_any is_breakpoint xs) (retirement_breaks_nothing x all.0) (true_cycle_breakpoint cycle xs all.2)
 
 -- the machine's steps so far, and one more
-pub true_cycle_leads : {layout : Layout} {lines : Lines} {s t u : State} {xs : List Step} → Lead layout lines s xs t → (x : Step) → MachineStep layout t lines (told x) u → Lead layout lines s (xs ++ x ∷ []) u
+pub true_cycle_leads : {layout : Layout} {lines : Lines} {s t u : State} {xs : List Step} → Lead layout lines s xs t →
+    (x : Step) → MachineStep layout t lines (told x) u → Lead layout lines s (xs ++ x ∷ []) u
 true_cycle_leads nowhere x takes = onwards takes nowhere
 true_cycle_leads (onwards first rest) x takes = onwards first (true_cycle_leads rest x takes)
 
@@ -48,7 +50,8 @@ or-none false = refl
 
 module _ (layout : Layout) (lines : Lines) (cycle : ℕ) (before s : State) (xs : List Step) (leads : Lead layout lines before xs s) (all : AreRetirements cycle xs) where
   -- a cycle that reports retirements alone
-  pub true_retirements : (ending : Option Stop) → (ending ≡ Some stop.Breakpoint → ⊥) → ((pc : ℕ) → ending ≡ Some (stop.Stale pc) → MachineStep layout s lines (machine.Stale pc) s) →
+  pub true_retirements : (ending : Option Stop) → (ending ≡ Some stop.Breakpoint → ⊥) →
+      ((pc : ℕ) → ending ≡ Some (stop.Stale pc) → MachineStep layout s lines (machine.Stale pc) s) →
       IsTrueCycle layout lines cycle before xs ending s
   true_retirements ending breaks stale = record {
     leads = leads;
@@ -60,7 +63,8 @@ module _ (layout : Layout) (lines : Lines) (cycle : ℕ) (before s : State) (xs 
 
   -- ... and one more step at its end
   pub true_push : (x : Step) (t : State) (ending : Option Stop) → MachineStep layout s lines (told x) t → stamp_of x ≡ cycle →
-      (ending ≡ Some stop.Breakpoint) ↔ (is_breakpoint x ≡ true) → ((pc : ℕ) → ending ≡ Some (stop.Stale pc) → ⊥) → IsTrueCycle layout lines cycle before (xs ++ x ∷ []) ending t
+      (ending ≡ Some stop.Breakpoint) ↔ (is_breakpoint x ≡ true) → ((pc : ℕ) → ending ≡ Some (stop.Stale pc) → ⊥) →
+      IsTrueCycle layout lines cycle before (xs ++ x ∷ []) ending t
   true_push x t ending takes stamped breaks stale =
       let any : list_any is_breakpoint (xs ++ x ∷ []) ≡ is_breakpoint x =
       list_any-append is_breakpoint xs (x ∷ []) ∙ ap (λ (b : Bool). b || (is_breakpoint x || false)) (true_cycle_breakpoint cycle xs all) ∙ or-none (is_breakpoint x) in

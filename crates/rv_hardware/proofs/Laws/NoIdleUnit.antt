@@ -14,13 +14,16 @@ use Rattle.rv_hardware.proofs.Marks.Past.{rows_obey}
 use Rattle.rv_hardware.proofs.Marks.Row.{SoundRow}
 use Rattle.rv_hardware.proofs.Laws.OtherUnits.Rows.{starts_at, begins_mark}
 
-busy_rows : (v : Values) (k : Kind) → (at_kind k v.kinds).pipelined ≡ true → {steps : List Step} {h : Hardware} → History v steps h → (c : ℕ) → c < h.cycle → EveryBehind (BusyUnits k (at_kind k v.kinds).units c) [] (as_of c (map mark_of_row (rows_of steps)))
+busy_rows : (v : Values) (k : Kind) → (at_kind k v.kinds).pipelined ≡ true → {steps : List Step} {h : Hardware} →
+    History v steps h → (c : ℕ) → c < h.cycle →
+    EveryBehind (BusyUnits k (at_kind k v.kinds).units c) [] (as_of c (map mark_of_row (rows_of steps)))
 busy_rows v k line history =
     rows_obey v (λ c ms. EveryBehind (BusyUnits k (at_kind k v.kinds).units c) [] ms) (λ c xs ys b h. Beginning-EveryBehind (BusyUnits k (at_kind k v.kinds).units c) xs ys b h)
     (λ earlier old new lines report before after passed. units_are_busy v k line earlier lines old new report _ before passed) history
 
 -- rows that were all fetched
-all_fetched : (c : ℕ) (rows : List Row) → Each (λ a. a.fetched ≤ c) rows → as_of c (map mark_of_row rows) ≡ map (λ a. at_end c (mark_of_row a)) rows
+all_fetched : (c : ℕ) (rows : List Row) → Each (λ a. a.fetched ≤ c) rows →
+    as_of c (map mark_of_row rows) ≡ map (λ a. at_end c (mark_of_row a)) rows
 all_fetched c [] h = refl
 all_fetched c (row ∷ rows) h =
     as_of-cons c (mark_of_row row) (map mark_of_row rows) ∙ ap (λ b. cond b (at_end c (mark_of_row row) ∷ as_of c (map mark_of_row rows)) (as_of c (map mark_of_row rows))) (le-leb row.fetched c h.0) ∙
@@ -30,26 +33,31 @@ module _ (c : ℕ) where
   abbrev ended_row : Row → Mark
   ended_row a = at_end c (mark_of_row a)
 
-  either : (b : Bool) (row : Row) (o : Option Row) → option_map ended_row (cond b (Some row) o) ≡ cond b (Some (ended_row row)) (option_map ended_row o)
+  either : (b : Bool) (row : Row) (o : Option Row) →
+      option_map ended_row (cond b (Some row) o) ≡ cond b (Some (ended_row row)) (option_map ended_row o)
   either true row o = refl
   either false row o = refl
 
-  last_of : (register : ℕ) (o : Option Row) (rows : List Row) → last_from (option_map ended_row o) (writes_mark register) (map ended_row rows) ≡ option_map ended_row (last_from o (writes_register register) rows)
+  last_of : (register : ℕ) (o : Option Row) (rows : List Row) →
+      last_from (option_map ended_row o) (writes_mark register) (map ended_row rows) ≡ option_map ended_row (last_from o (writes_register register) rows)
   last_of register o [] = refl
   last_of register o (row ∷ rows) =
       ap (λ q. last_from q (writes_mark register) (map ended_row rows)) (sym (either (writes_register register row) row o)) ∙
       last_of register (cond (writes_register register row) (Some row) o) rows
 
-  known_by : (x : Option Execution) (some : Bool) → is_some x ≡ some → IfSome x (λ y. y.broadcast < c) → some ≡ true → IsBefore c (until c (broadcast_of_execution x))
+  known_by : (x : Option Execution) (some : Bool) → is_some x ≡ some → IfSome x (λ y. y.broadcast < c) → some ≡ true →
+      IsBefore c (until c (broadcast_of_execution x))
   known_by None some same h is = absurd (cc)
   known_by (Some x) some same h is = rw (until_by c x.broadcast (omega (arith, h))) h
 
   module _ (v : Values) (bound : ℕ) (before : List Row) (row : Row) (older : Each (Older v bound row) before) where
-    found_known : (o : Option Row) → IfSome o (SoundRow v bound) → IfSome o (λ p. IfSome p.execution (λ y. y.broadcast < c)) → IfSome (option_map ended_row o) (IsKnownMark c)
+    found_known : (o : Option Row) → IfSome o (SoundRow v bound) → IfSome o (λ p. IfSome p.execution (λ y. y.broadcast < c)) →
+        IfSome (option_map ended_row o) (IsKnownMark c)
     found_known None s h = tt
     found_known (Some p) s h = λ some. known_by p.execution (is_some (kind_of_word (instruction_of_row p))) s.stamps.executed_by_a_unit h some
 
-    found_sound : (o : Option Row) (test : Row → Bool) (rows : List Row) → IfSome o (SoundRow v bound) → Each (SoundRow v bound) rows → IfSome (last_from o test rows) (SoundRow v bound)
+    found_sound : (o : Option Row) (test : Row → Bool) (rows : List Row) → IfSome o (SoundRow v bound) →
+        Each (SoundRow v bound) rows → IfSome (last_from o test rows) (SoundRow v bound)
     found_sound o test [] h sound = h
     found_sound o test (r ∷ rows) h sound = found_sound (cond (test r) (Some r) o) test rows (pick (test r) h) sound.1
       where
@@ -57,7 +65,9 @@ module _ (c : ℕ) where
         pick true k = sound.0
         pick false k = k
 
-    sources_known : (sources : List (Option ℕ)) → Each (λ source. IfSome (producer_among before source) (λ p. IfSome p.execution (λ y. y.broadcast < c))) sources → OperandsKnown c (map ended_row before) sources
+    sources_known : (sources : List (Option ℕ)) →
+        Each (λ source. IfSome (producer_among before source) (λ p. IfSome p.execution (λ y. y.broadcast < c))) sources →
+        OperandsKnown c (map ended_row before) sources
     sources_known [] h = tt
     sources_known (None ∷ sources) h = (tt, sources_known sources h.1)
     sources_known (Some register ∷ sources) h = (
@@ -65,7 +75,8 @@ module _ (c : ℕ) where
       sources_known sources h.1,
     )
 
-begun_at : (c : ℕ) (x : Option Execution) → starts_at c (start_until c (start_of_execution x)) ≡ true → passes (λ y. y.issued == c) x ≡ true
+begun_at : (c : ℕ) (x : Option Execution) → starts_at c (start_until c (start_of_execution x)) ≡ true →
+    passes (λ y. y.issued == c) x ≡ true
 begun_at c None h = absurd (cc)
 begun_at c (Some x) h = by_stamp (nat_le x.issued c) h
   where
@@ -74,7 +85,8 @@ begun_at c (Some x) h = by_stamp (nat_le x.issued c) h
     by_stamp false h' = absurd (cc)
 
 -- the field `no_idle_unit` of `Laws`, over every history
-pub law_of_no_idle_unit : (v : Values) {steps : List Step} {h : Hardware} → History v steps h → (k : Kind) → is_pipelined v k ≡ true → LeaveNoUnitIdle v k 0 (rows_of steps)
+pub law_of_no_idle_unit : (v : Values) {steps : List Step} {h : Hardware} → History v steps h → (k : Kind) →
+    is_pipelined v k ≡ true → LeaveNoUnitIdle v k 0 (rows_of steps)
 law_of_no_idle_unit v {steps} {h} history k line before after row at kind plain = by_execution row.execution refl
   where
     sound : SoundRow v h.cycle row
@@ -86,7 +98,8 @@ law_of_no_idle_unit v {steps} {h} history k line before after row at kind plain 
     in_order : Each (λ a. a.fetched ≤ row.fetched) before
     in_order = EachBehind-EveryBehind (λ b r. Each (λ a. a.fetched ≤ r.fetched) b) (rows_of steps) (EveryBehind-EveryPair (λ a b. a.fetched ≤ b.fetched) [] (rows_of steps) tt (row_pairs (λ m n. m.fetched ≤ n.fetched) (λ a b. a.fetched ≤ b.fetched) (λ a b le. le) steps h (history_is_orderly v history).fetched)) before after row at
 
-    by_execution : (o : Option Execution) → row.execution ≡ o → IfSome o (λ x. (c : ℕ) → 0 ≤ c → row.dispatched < c → c < x.issued → HasOperandsIn c before row → (at_kind k v.kinds).units ≤ count_by (is_issued_in k c) before)
+    by_execution : (o : Option Execution) → row.execution ≡ o →
+        IfSome o (λ x. (c : ℕ) → 0 ≤ c → row.dispatched < c → c < x.issued → HasOperandsIn c before row → (at_kind k v.kinds).units ≤ count_by (is_issued_in k c) before)
     by_execution None e = tt
     by_execution (Some x) e = λ c from dispatched later operands.
         let between = subst (λ o. IfSome o (λ x. (row.dispatched < x.issued) × (x.issued + x.cost ≤ x.broadcast) × (x.broadcast < row.retired))) e sound.stamps.executed_between in

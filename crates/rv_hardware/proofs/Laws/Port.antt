@@ -14,13 +14,15 @@ use Rattle.rv_hardware.proofs.Marks.Sound.{SoundEntry, SoundStage}
 
 -- at the start of a cycle nothing has begun in it
 
-not_begun_stage : (v : Values) (i : Option Instr) (D now : ℕ) (st : Stage) (P : Start → Type 0) → SoundStage v i D now now st → IfSome (start_of_stage st) (λ s. uses_cache v i s ≡ true → s.cycle ≡ now → P s)
+not_begun_stage : (v : Values) (i : Option Instr) (D now : ℕ) (st : Stage) (P : Start → Type 0) → SoundStage v i D now now st →
+    IfSome (start_of_stage st) (λ s. uses_cache v i s ≡ true → s.cycle ≡ now → P s)
 not_begun_stage v i D now Waiting P h = tt
 not_begun_stage v i D now (Running issue message) P h = λ used at. absurd (omega (arith, h.2, at))
 not_begun_stage v i D now (Finished None cycle message) P h = tt
 not_begun_stage v i D now (Finished (Some issue) cycle message) P h = λ used at. absurd (omega (arith, h.2, h.3, at))
 
-fresh_pairs : (v : Values) (now : ℕ) (es : List Entry) → Each (SoundEntry v now now now) es → EveryPair (λ a b. OneAtATime v now (mark_of_entry a) (mark_of_entry b)) es
+fresh_pairs : (v : Values) (now : ℕ) (es : List Entry) → Each (SoundEntry v now now now) es →
+    EveryPair (λ a b. OneAtATime v now (mark_of_entry a) (mark_of_entry b)) es
 fresh_pairs v now [] sound = tt
 fresh_pairs v now (e ∷ es) sound = (
   Each-weaker (SoundEntry v now now now) (λ b. OneAtATime v now (mark_of_entry e) (mark_of_entry b))
@@ -42,11 +44,15 @@ port_of_history v (went_on {earlier} {old} {new} {lines} {report} before is) =
 
 -- rows were over before the cycle
 
-row_over : (v : Values) (now D C : ℕ) (i : Option Instr) (x : Option Execution) → C ≤ now → IfSome x (λ x. (D < x.issued) × (x.issued + x.cost ≤ x.broadcast) × (x.broadcast < C)) → IfSome (start_of_execution x) (λ s. uses_cache v i s ≡ true → s.cycle + s.cost ≤ now)
+row_over : (v : Values) (now D C : ℕ) (i : Option Instr) (x : Option Execution) → C ≤ now →
+    IfSome x (λ x. (D < x.issued) × (x.issued + x.cost ≤ x.broadcast) × (x.broadcast < C)) →
+    IfSome (start_of_execution x) (λ s. uses_cache v i s ≡ true → s.cycle + s.cost ≤ now)
 row_over v now D C i None le h = tt
 row_over v now D C i (Some x) le h = λ used. omega (arith, le, h.1, h.2)
 
-row_not_begun : (v : Values) (now D C : ℕ) (i : Option Instr) (x : Option Execution) (P : Start → Type 0) → C ≤ now → IfSome x (λ x. (D < x.issued) × (x.issued + x.cost ≤ x.broadcast) × (x.broadcast < C)) → IfSome (start_of_execution x) (λ s. uses_cache v i s ≡ true → s.cycle ≡ now → P s)
+row_not_begun : (v : Values) (now D C : ℕ) (i : Option Instr) (x : Option Execution) (P : Start → Type 0) → C ≤ now →
+    IfSome x (λ x. (D < x.issued) × (x.issued + x.cost ≤ x.broadcast) × (x.broadcast < C)) →
+    IfSome (start_of_execution x) (λ s. uses_cache v i s ≡ true → s.cycle ≡ now → P s)
 row_not_begun v now D C i None P le h = tt
 row_not_begun v now D C i (Some x) P le h = λ used at. absurd (omega (arith, le, h.1, h.2, at))
 
@@ -63,12 +69,14 @@ row_pair v now row n sound = (
   over_whenever v now (mark_of_row row) n (row_over v now row.dispatched row.retired (instruction_of_row row) row.execution (omega (arith, sound.below)) sound.stamps.executed_between),
 )
 
-rows_first : (v : Values) (now : ℕ) (rows : List Row) (ms : List Mark) → Each (SoundRow v (now + 1)) rows → EveryPair (OneAtATime v now) ms → EveryPair (OneAtATime v now) (map mark_of_row rows ++ ms)
+rows_first : (v : Values) (now : ℕ) (rows : List Row) (ms : List Mark) → Each (SoundRow v (now + 1)) rows →
+    EveryPair (OneAtATime v now) ms → EveryPair (OneAtATime v now) (map mark_of_row rows ++ ms)
 rows_first v now [] ms sound h = h
 rows_first v now (row ∷ rows) ms sound h =
     (Each-all (λ n. OneAtATime v now (mark_of_row row) n) (λ n. row_pair v now row n sound.0) (map mark_of_row rows ++ ms), rows_first v now rows ms sound.1 h)
 
-words_last : (v : Values) (now : ℕ) (ms : List Mark) (fs : List Fetched) → EveryPair (OneAtATime v now) ms → EveryPair (OneAtATime v now) (ms ++ map mark_of_fetched fs)
+words_last : (v : Values) (now : ℕ) (ms : List Mark) (fs : List Fetched) → EveryPair (OneAtATime v now) ms →
+    EveryPair (OneAtATime v now) (ms ++ map mark_of_fetched fs)
 words_last v now ms fs h =
     EveryPair-append (OneAtATime v now) ms (map mark_of_fetched fs) h (among fs)
     (Each-all (λ m. Each (OneAtATime v now m) (map mark_of_fetched fs)) (λ m. Each-map (OneAtATime v now m) mark_of_fetched fs (Each-all (λ f. OneAtATime v now m (mark_of_fetched f)) (λ f. new_pair v now m (mark_of_fetched f) refl) fs)) ms)
@@ -80,7 +88,8 @@ words_last v now ms fs h =
 abbrev PortBehind : Values → ℕ → List Mark → Mark → Type 0
 PortBehind v c before m = Each (λ a. OneAtATime v c a m) before
 
-port_marks : (v : Values) {steps : List Step} {h : Hardware} → History v steps h → (c : ℕ) → c < h.cycle → EveryBehind (PortBehind v c) [] (as_of c (map mark_of_row (rows_of steps)))
+port_marks : (v : Values) {steps : List Step} {h : Hardware} → History v steps h → (c : ℕ) → c < h.cycle →
+    EveryBehind (PortBehind v c) [] (as_of c (map mark_of_row (rows_of steps)))
 port_marks v history =
     rows_obey v (λ c ms. EveryBehind (PortBehind v c) [] ms) (λ c xs ys b h. Beginning-EveryBehind (PortBehind v c) xs ys b h)
     (λ earlier old new lines report before after passed.
@@ -95,38 +104,46 @@ port_marks v history =
 
 -- so of two rows
 
-of_rows : (P : Mark → Type 0) (c : ℕ) (rows : List Row) → Each P (as_of c (map mark_of_row rows)) → Each (λ a. a.fetched ≤ c → P (at_end c (mark_of_row a))) rows
+of_rows : (P : Mark → Type 0) (c : ℕ) (rows : List Row) → Each P (as_of c (map mark_of_row rows)) →
+    Each (λ a. a.fetched ≤ c → P (at_end c (mark_of_row a))) rows
 of_rows P c [] h = tt
 of_rows P c (row ∷ rows) h = by_stamp (nat_le row.fetched c) refl (subst (Each P) (as_of-cons c (mark_of_row row) (map mark_of_row rows)) h) (λ k. of_rows P c rows k)
   where
-    by_stamp : (b : Bool) → nat_le row.fetched c ≡ b → Each P (cond b (at_end c (mark_of_row row) ∷ as_of c (map mark_of_row rows)) (as_of c (map mark_of_row rows))) →
-        (Each P (as_of c (map mark_of_row rows)) → Each (λ a. a.fetched ≤ c → P (at_end c (mark_of_row a))) rows) → Each (λ a. a.fetched ≤ c → P (at_end c (mark_of_row a))) (row ∷ rows)
+    by_stamp : (b : Bool) → nat_le row.fetched c ≡ b →
+        Each P (cond b (at_end c (mark_of_row row) ∷ as_of c (map mark_of_row rows)) (as_of c (map mark_of_row rows))) →
+        (Each P (as_of c (map mark_of_row rows)) → Each (λ a. a.fetched ≤ c → P (at_end c (mark_of_row a))) rows) →
+        Each (λ a. a.fetched ≤ c → P (at_end c (mark_of_row a))) (row ∷ rows)
     by_stamp true is k rest = ((λ le. k.0), rest k.1)
     by_stamp false is k rest = ((λ le. absurd (true≢false (sym (le-leb row.fetched c le) ∙ is))), rest k)
 
-every_swap : {X : Type 0} (Q : ℕ → Type 0) (S : ℕ → X → Type 0) (xs : List X) → ((c : ℕ) → Q c → Each (S c) xs) → Each (λ x. (c : ℕ) → Q c → S c x) xs
+every_swap : {X : Type 0} (Q : ℕ → Type 0) (S : ℕ → X → Type 0) (xs : List X) → ((c : ℕ) → Q c → Each (S c) xs) →
+    Each (λ x. (c : ℕ) → Q c → S c x) xs
 every_swap Q S [] h = tt
 every_swap Q S (x ∷ xs) h = ((λ c q. (h c q).0), every_swap Q S xs (λ c q. (h c q).1))
 
 abbrev start_of : Execution → Start
 start_of x = record { cycle = x.issued; cost = x.cost; faults = false }
 
-begun_by : (c : ℕ) (o : Option Execution) (x : Execution) → o ≡ Some x → x.issued ≤ c → start_until c (start_of_execution o) ≡ Some (start_of x)
+begun_by : (c : ℕ) (o : Option Execution) (x : Execution) → o ≡ Some x → x.issued ≤ c →
+    start_until c (start_of_execution o) ≡ Some (start_of x)
 begun_by c o x at le = ap (λ q. start_until c (start_of_execution q)) at ∙ here
   where
     here : start_until c (Some (start_of x)) ≡ Some (start_of x)
     here = rw (le-leb x.issued c le) refl
 
-row_uses : (v : Values) (a : Row) (x : Execution) → a.execution ≡ Some x → uses_port v.forward a ≡ true → uses_cache v (instruction_of_row a) (start_of x) ≡ true
+row_uses : (v : Values) (a : Row) (x : Execution) → a.execution ≡ Some x → uses_port v.forward a ≡ true →
+    uses_cache v (instruction_of_row a) (start_of x) ≡ true
 row_uses v a x at used =
     and_from (is_load_row a) (not (x.cost == v.forward)) (and_first (is_load_row a) (passes (λ y. not (y.cost == v.forward)) a.execution) used)
     (subst (λ o. passes (λ y. not (y.cost == v.forward)) o ≡ true) at (and_second (is_load_row a) (passes (λ y. not (y.cost == v.forward)) a.execution) used))
 
-over_row : (v : Values) (c : ℕ) (a : Row) (x : Execution) → a.execution ≡ Some x → x.issued ≤ c → uses_port v.forward a ≡ true → OverBy v c (at_end c (mark_of_row a)) → x.issued + x.cost ≤ c
+over_row : (v : Values) (c : ℕ) (a : Row) (x : Execution) → a.execution ≡ Some x → x.issued ≤ c → uses_port v.forward a ≡ true →
+    OverBy v c (at_end c (mark_of_row a)) → x.issued + x.cost ≤ c
 over_row v c a x at le used over =
     subst (λ o. IfSome o (λ s. uses_cache v (instruction_of_row a) s ≡ true → s.cycle + s.cost ≤ c)) (begun_by c a.execution x at le) over (row_uses v a x at used)
 
-when_row : (v : Values) (c : ℕ) (a : Row) (x : Execution) (P : Start → Type 0) → a.execution ≡ Some x → x.issued ≤ c → uses_port v.forward a ≡ true → WhereUsed v (at_end c (mark_of_row a)) P → P (start_of x)
+when_row : (v : Values) (c : ℕ) (a : Row) (x : Execution) (P : Start → Type 0) → a.execution ≡ Some x → x.issued ≤ c →
+    uses_port v.forward a ≡ true → WhereUsed v (at_end c (mark_of_row a)) P → P (start_of x)
 when_row v c a x P at le used h =
     subst (λ o. IfSome o (λ s. uses_cache v (instruction_of_row a) s ≡ true → P s)) (begun_by c a.execution x at le) h (row_uses v a x at used)
 
@@ -135,7 +152,8 @@ PortApart v a b = uses_port v.forward a ≡ true → uses_port v.forward b ≡ t
 
 module _ (v : Values) (bound : ℕ) (a b : Row) (sound_a : SoundRow v bound a) (sound_b : SoundRow v bound b)
     (pair : (c : ℕ) → (c < bound) × (b.fetched ≤ c) → a.fetched ≤ c → OneAtATime v c (at_end c (mark_of_row a)) (at_end c (mark_of_row b))) where
-  two_apart : (x y : Execution) → a.execution ≡ Some x → b.execution ≡ Some y → uses_port v.forward a ≡ true → uses_port v.forward b ≡ true → (x.issued + x.cost ≤ y.issued) ⊎ (y.issued + y.cost ≤ x.issued)
+  two_apart : (x y : Execution) → a.execution ≡ Some x → b.execution ≡ Some y → uses_port v.forward a ≡ true →
+      uses_port v.forward b ≡ true → (x.issued + x.cost ≤ y.issued) ⊎ (y.issued + y.cost ≤ x.issued)
   two_apart x y at at' used used' =
       let between_a = subst (λ o. IfSome o (λ x. (a.dispatched < x.issued) × (x.issued + x.cost ≤ x.broadcast) × (x.broadcast < a.retired))) at sound_a.stamps.executed_between in
       let between_b = subst (λ o. IfSome o (λ x. (b.dispatched < x.issued) × (x.issued + x.cost ≤ x.broadcast) × (x.broadcast < b.retired))) at' sound_b.stamps.executed_between in
@@ -150,12 +168,15 @@ module _ (v : Values) (bound : ℕ) (a b : Row) (sound_a : SoundRow v bound a) (
             inl (over_row v y.issued a x at (omega (arith, before)) used over)
       ]
 
-  by_executions : (o p : Option Execution) → a.execution ≡ o → b.execution ≡ p → uses_port v.forward a ≡ true → uses_port v.forward b ≡ true → IfSome o (λ x. IfSome p (λ y. (x.issued + x.cost ≤ y.issued) ⊎ (y.issued + y.cost ≤ x.issued)))
+  by_executions : (o p : Option Execution) → a.execution ≡ o → b.execution ≡ p → uses_port v.forward a ≡ true →
+      uses_port v.forward b ≡ true →
+      IfSome o (λ x. IfSome p (λ y. (x.issued + x.cost ≤ y.issued) ⊎ (y.issued + y.cost ≤ x.issued)))
   by_executions None p at at' used used' = tt
   by_executions (Some x) None at at' used used' = tt
   by_executions (Some x) (Some y) at at' used used' = two_apart x y at at' used used'
 
-rows_apart : (v : Values) {steps : List Step} {h : Hardware} → History v steps h → (before after : List Row) (b : Row) → rows_of steps ≡ before ++ b ∷ after → Each (λ a. PortApart v a b) before
+rows_apart : (v : Values) {steps : List Step} {h : Hardware} → History v steps h → (before after : List Row) (b : Row) →
+    rows_of steps ≡ before ++ b ∷ after → Each (λ a. PortApart v a b) before
 rows_apart v {steps} {h} history before after b at =
     let all = subst (Each (SoundRow v h.cycle)) at (history_is_sound v history).rows in
     let sound_b : SoundRow v h.cycle b = Each-place (SoundRow v h.cycle) before after b all in
@@ -166,12 +187,14 @@ rows_apart v {steps} {h} history before after b at =
     (λ c q. of_rows (λ m. OneAtATime v c m (at_end c (mark_of_row b))) c before (behind_law (PortBehind v c) c (rows_of steps) before after b (port_marks v history c q.0) at q.1)))
 
 -- from places to the recursion
-each_behind : {X : Type 0} (P : List X → X → Type 0) (before xs all : List X) → all ≡ before ++ xs → EachBehind P all → EveryBehind P before xs
+each_behind : {X : Type 0} (P : List X → X → Type 0) (before xs all : List X) → all ≡ before ++ xs → EachBehind P all →
+    EveryBehind P before xs
 each_behind P before [] all at h = tt
 each_behind P before (x ∷ xs) all at h = (h before xs x at, each_behind P (before ++ x ∷ []) xs all (at ∙ sym (append_assoc before (x ∷ []) xs)) h)
 
 -- the field `port` of `Laws`, over every history
-pub law_of_port : (v : Values) {steps : List Step} {h : Hardware} → History v steps h → AllPairs (AreApartAtPort v.forward) (rows_of steps)
+pub law_of_port : (v : Values) {steps : List Step} {h : Hardware} → History v steps h →
+    AllPairs (AreApartAtPort v.forward) (rows_of steps)
 law_of_port v {steps} history =
     AllPairs-EveryPair (PortApart v) (rows_of steps)
     (EveryPair-EveryBehind (PortApart v) [] (rows_of steps) (each_behind (λ before b. Each (λ a. PortApart v a b) before) [] (rows_of steps) (rows_of steps) refl (rows_apart v history)))

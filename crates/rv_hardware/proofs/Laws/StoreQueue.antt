@@ -32,11 +32,14 @@ module _ (v : Values) (now : ℕ) (earlier : List Step) (is_stale : set.FinSet n
   abbrev Queues : Committing → Type 0
   Queues c = Queue v now (earlier ++ c.steps) c.hardware
 
-  pushed : (c : Committing) (s : Step) → rows_of (earlier ++ (c.steps ++ s ∷ [])) ≡ rows_of (earlier ++ c.steps) ++ rows_of (s ∷ [])
+  pushed : (c : Committing) (s : Step) →
+      rows_of (earlier ++ (c.steps ++ s ∷ [])) ≡ rows_of (earlier ++ c.steps) ++ rows_of (s ∷ [])
   pushed c s = ap rows_of (sym (append_assoc earlier c.steps (s ∷ []))) ∙ rows_append (earlier ++ c.steps) (s ∷ [])
 
   -- a step without a row
-  no_row : (c : Committing) (s : Step) (h : Hardware) → rows_of (s ∷ []) ≡ [] → h.port_free ≡ c.hardware.port_free → h.committed ≡ c.hardware.committed → Queue v now (earlier ++ c.steps) c.hardware → Queue v now (earlier ++ (c.steps ++ s ∷ [])) h
+  no_row : (c : Committing) (s : Step) (h : Hardware) → rows_of (s ∷ []) ≡ [] → h.port_free ≡ c.hardware.port_free →
+      h.committed ≡ c.hardware.committed → Queue v now (earlier ++ c.steps) c.hardware →
+      Queue v now (earlier ++ (c.steps ++ s ∷ [])) h
   no_row c s h none port committed ok =
       rw (pushed c s ∙ ap (λ l. rows_of (earlier ++ c.steps) ++ l) none ∙ append-nil (rows_of (earlier ++ c.steps)), port, committed) ok
 
@@ -47,8 +50,10 @@ module _ (v : Values) (now : ℕ) (earlier : List Step) (is_stale : set.FinSet n
         ap is_store (row_decodes e sound.decoded (retiring_is_one v now e sound may))
 
   -- a serialising instruction
-  serial_row : (c : Committing) (e : Entry) (es : List Entry) (written : Option (ℕ × ℕ)) (port : ℕ) → c.hardware.rob.entries ≡ e ∷ es → is_serialising e.instruction ≡ true → c.hardware.port_free ≤ port → InCommit v now earlier is_stale c →
-      Queue v now (earlier ++ c.steps) c.hardware → QueueOk v.cache.hit now (rows_of (earlier ++ (c.steps ++ Retired (row_at e written c.hardware.cycle) ∷ []))) port c.hardware.committed
+  serial_row : (c : Committing) (e : Entry) (es : List Entry) (written : Option (ℕ × ℕ)) (port : ℕ) →
+      c.hardware.rob.entries ≡ e ∷ es → is_serialising e.instruction ≡ true → c.hardware.port_free ≤ port →
+      InCommit v now earlier is_stale c → Queue v now (earlier ++ c.steps) c.hardware →
+      QueueOk v.cache.hit now (rows_of (earlier ++ (c.steps ++ Retired (row_at e written c.hardware.cycle) ∷ []))) port c.hardware.committed
   serial_row c e es written port place serial le p ok =
       let row : Row = row_at e written c.hardware.cycle in
       let plain = row_is_store c e es written place (may_retire_serial e.instruction e.stage serial) p ∙ serialising_is_no_store e.instruction serial in
@@ -56,7 +61,9 @@ module _ (v : Values) (now : ℕ) (earlier : List Step) (is_stale : set.FinSet n
       rw (pushed c (Retired row)) (queue_later v.cache.hit now (rows_of (earlier ++ c.steps) ++ row ∷ []) c.hardware.port_free c.hardware.committed more port le)
 
   -- a result
-  result_row : (c : Committing) (e : Entry) (es : List Entry) (issue : Option Issue) (cycle : ℕ) (message : Message) → c.hardware.rob.entries ≡ e ∷ es → e.stage ≡ Finished issue cycle message → message.fault ≡ None → InCommit v now earlier is_stale c → Queues c →
+  result_row : (c : Committing) (e : Entry) (es : List Entry) (issue : Option Issue) (cycle : ℕ) (message : Message) →
+      c.hardware.rob.entries ≡ e ∷ es → e.stage ≡ Finished issue cycle message → message.fault ≡ None →
+      InCommit v now earlier is_stale c → Queues c →
       Queue v now (earlier ++ (c.steps ++ Retired (row_at e (written_of e message) c.hardware.cycle) ∷ [])) (retired_with e message c).hardware
   result_row c e es issue cycle message place at none p ok =
       let row : Row = row_at e (written_of e message) c.hardware.cycle in
@@ -66,7 +73,8 @@ module _ (v : Values) (now : ℕ) (earlier : List Step) (is_stale : set.FinSet n
       rw (pushed c (Retired row))
       (queue_retires v.cache.hit now (rows_of (earlier ++ c.steps)) c.hardware.port_free c.hardware.committed ok row c.hardware.rob.retired message.store (tells ∙ sym same) (omega (arith, p.basics.cycle)))
 
-  commit_queue : (c : Committing) (t : Turn Committing) → CommitTurn is_stale c t → InCommit v now earlier is_stale c → Queues c → Leads Queues Queues t
+  commit_queue : (c : Committing) (t : Turn Committing) → CommitTurn is_stale c t → InCommit v now earlier is_stale c → Queues c →
+      Leads Queues Queues t
   commit_queue c _ (no_head none) p ok = ok
   commit_queue c _ (stale_head e es at is) p ok = ok
   commit_queue c _ (unfinished e es head plain none) p ok = ok
@@ -156,15 +164,18 @@ module _ (hit now : ℕ) where
   abbrev is_late : Row → Bool
   is_late row = nat_lt now (row.retired + hit)
 
-  late_by : (b : Bool) (row : Row) (m : ℕ) (rows : List Row) → m ≡ count is_late rows → cond (b && is_late row) (suc m) m ≡ count is_late (cond b (row ∷ rows) rows)
+  late_by : (b : Bool) (row : Row) (m : ℕ) (rows : List Row) → m ≡ count is_late rows →
+      cond (b && is_late row) (suc m) m ≡ count is_late (cond b (row ∷ rows) rows)
   late_by true row m rows same = ap (λ n. cond (is_late row) (suc n) n) same
   late_by false row m rows same = same
 
-  late_rows : (rows : List Row) → count (λ row. is_queued_mark hit now (mark_of_row row)) rows ≡ count is_late (filter is_store_row rows)
+  late_rows : (rows : List Row) →
+      count (λ row. is_queued_mark hit now (mark_of_row row)) rows ≡ count is_late (filter is_store_row rows)
   late_rows [] = refl
   late_rows (row ∷ rows) = late_by (is_store_row row) row (count (λ r. is_queued_mark hit now (mark_of_row r)) rows) (filter is_store_row rows) (late_rows rows)
 
-  queued_rows : (rows : List Row) (port : ℕ) (committed : List Store) → QueueOk hit now rows port committed → count (λ row. is_queued_mark hit now (mark_of_row row)) rows ≤ length committed
+  queued_rows : (rows : List Row) (port : ℕ) (committed : List Store) → QueueOk hit now rows port committed →
+      count (λ row. is_queued_mark hit now (mark_of_row row)) rows ≤ length committed
   queued_rows rows port committed ok =
       let all = late_rows rows ∙ ap (count is_late) ok.split ∙ count-append is_late ok.gone ok.kept in
       let none = count-none is_late ok.gone (Each-weaker (λ row. row.retired + hit ≤ now) (λ row. is_late row ≡ false) (λ row by. le-ltb now (row.retired + hit) by) ok.gone ok.over) in
@@ -180,7 +191,8 @@ module _ (hit now : ℕ) where
       by_store true same = omega (arith, same)
       by_store false same = omega (arith, same)
 
-law_by_cycle : (v : Values) {steps : List Step} {h : Hardware} → History v steps h → (c : ℕ) → c < h.cycle → count (is_queued_mark v.cache.hit c) (as_of c (map mark_of_row (rows_of steps))) ≤ v.store_queue
+law_by_cycle : (v : Values) {steps : List Step} {h : Hardware} → History v steps h → (c : ℕ) → c < h.cycle →
+    count (is_queued_mark v.cache.hit c) (as_of c (map mark_of_row (rows_of steps))) ≤ v.store_queue
 law_by_cycle v history =
     rows_obey v (λ c ms. count (is_queued_mark v.cache.hit c) ms ≤ v.store_queue) (λ c xs ys b le. let less = Beginning-count (is_queued_mark v.cache.hit c) xs ys b in omega (arith, less, le))
     (λ earlier old new lines report before after passed.
@@ -200,7 +212,8 @@ law_by_cycle v history =
 
 -- so of rows
 
-row_is_queued : (v : Values) (c bound : ℕ) (row : Row) → SoundRow v bound row → is_queued_in v.cache.hit c row ≡ true → (was_fetched c (mark_of_row row) && is_queued_mark v.cache.hit c (at_end c (mark_of_row row))) ≡ true
+row_is_queued : (v : Values) (c bound : ℕ) (row : Row) → SoundRow v bound row → is_queued_in v.cache.hit c row ≡ true →
+    (was_fetched c (mark_of_row row) && is_queued_mark v.cache.hit c (at_end c (mark_of_row row))) ≡ true
 row_is_queued v c bound row sound h =
     let two = and_first (is_store_row row && nat_le row.dispatched c) (nat_lt c (row.retired + v.cache.hit)) h in
     let store = and_first (is_store_row row) (nat_le row.dispatched c) two in
@@ -210,12 +223,14 @@ row_is_queued v c bound row sound h =
     (and_from (is_store_row row) (is_some (until c (Some row.dispatched)) && stays v.cache.hit c (until c (Some row.retired))) store
     (rw (until_by c row.dispatched le) (by_retirement (nat_le row.retired c) late)))
   where
-    by_retirement : (b : Bool) → nat_lt c (row.retired + v.cache.hit) ≡ true → stays v.cache.hit c (cond b (Some row.retired) None) ≡ true
+    by_retirement : (b : Bool) → nat_lt c (row.retired + v.cache.hit) ≡ true →
+        stays v.cache.hit c (cond b (Some row.retired) None) ≡ true
     by_retirement true late = late
     by_retirement false late = refl
 
 -- after the last cycle no more rows are counted than in it
-still_queued : (v : Values) (c now : ℕ) (row : Row) → now ≤ c → SoundRow v (now + 1) row → is_queued_in v.cache.hit c row ≡ true → is_queued_in v.cache.hit now row ≡ true
+still_queued : (v : Values) (c now : ℕ) (row : Row) → now ≤ c → SoundRow v (now + 1) row → is_queued_in v.cache.hit c row ≡ true →
+    is_queued_in v.cache.hit now row ≡ true
 still_queued v c now row le sound h =
     let two = and_first (is_store_row row && nat_le row.dispatched c) (nat_lt c (row.retired + v.cache.hit)) h in
     let late = ltb-true c (row.retired + v.cache.hit) (and_second (is_store_row row && nat_le row.dispatched c) (nat_lt c (row.retired + v.cache.hit)) h) in

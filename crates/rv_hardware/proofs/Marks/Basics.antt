@@ -32,15 +32,17 @@ started_sound v now b k e cost message sound kind costs = record {
   stage = (some_kind k (kind_of_word e.instruction) kind, sound.by_now, omega arith, costs);
 }
 
-finished_stage : (v : Values) (i : Option Instr) (D now : ℕ) (st : Stage) (issue : Issue) (message : Message) → st ≡ Running issue message → issue.cycle + issue.cost ≤ now →
-    SoundStage v i D (now + 1) (now + 1) st → SoundStage v i D (now + 1) (now + 1) (Finished (issue_of st) now message)
+finished_stage : (v : Values) (i : Option Instr) (D now : ℕ) (st : Stage) (issue : Issue) (message : Message) →
+    st ≡ Running issue message → issue.cycle + issue.cost ≤ now → SoundStage v i D (now + 1) (now + 1) st →
+    SoundStage v i D (now + 1) (now + 1) (Finished (issue_of st) now message)
 finished_stage v i D now st issue message at over sound =
     let held = subst (SoundStage v i D (now + 1) (now + 1)) at sound in
     subst (λ o. SoundStage v i D (now + 1) (now + 1) (Finished o now message)) (sym (ap issue_of at)) (held.0, held.1, over, omega arith, held.3)
 
 -- an instruction whose result is broadcast stays sound
-pub finished_sound : (v : Values) (now : ℕ) (e : Entry) (issue : Issue) (message : Message) → SoundEntry v now (now + 1) (now + 1) e →
-    e.stage ≡ Running issue message → issue.cycle + issue.cost ≤ now → SoundEntry v now (now + 1) (now + 1) (finished message now e)
+pub finished_sound : (v : Values) (now : ℕ) (e : Entry) (issue : Issue) (message : Message) →
+    SoundEntry v now (now + 1) (now + 1) e → e.stage ≡ Running issue message → issue.cycle + issue.cost ≤ now →
+    SoundEntry v now (now + 1) (now + 1) (finished message now e)
 finished_sound v now e issue message sound at over = record {
   decoded = sound.decoded;
   after_fetch = sound.after_fetch;
@@ -66,19 +68,21 @@ finished_mark now e issue message at = λ i. record {
 
 -- an instruction that is dispatched
 
-no_word_faults : (layout : Layout) (s : State) (lines : Lines) (word : Option ℕ) (i : Option Instr) → i ≡ option_and_then instruction_of word → i ≡ None →
-    is_some (result_of_word layout s lines word i).fault ≡ true
+no_word_faults : (layout : Layout) (s : State) (lines : Lines) (word : Option ℕ) (i : Option Instr) →
+    i ≡ option_and_then instruction_of word → i ≡ None → is_some (result_of_word layout s lines word i).fault ≡ true
 no_word_faults layout s lines None i decoded none = refl
 no_word_faults layout s lines (Some word) i decoded none = rw none refl
 
-first_stage_sound : (v : Values) (D bound : ℕ) (i : Option Instr) (message : Message) (o : Option Kind) (serial : Bool) → kind_of_word i ≡ o → is_serialising i ≡ serial →
-    (i ≡ None → is_some message.fault ≡ true) → SoundStage v i D bound bound (stage_by o serial (Finished None D message))
+first_stage_sound : (v : Values) (D bound : ℕ) (i : Option Instr) (message : Message) (o : Option Kind) (serial : Bool) →
+    kind_of_word i ≡ o → is_serialising i ≡ serial → (i ≡ None → is_some message.fault ≡ true) →
+    SoundStage v i D bound bound (stage_by o serial (Finished None D message))
 first_stage_sound v D bound i message (Some k) serial kind is faults = inl (ap is_some kind)
 first_stage_sound v D bound i message None true kind is faults = inr is
 first_stage_sound v D bound i message None false kind is faults = (kind, is, refl, faults)
 
 -- an instruction that is dispatched is sound
-pub dispatched_sound : (v : Values) (now : ℕ) (h : Hardware) (f : Fetched) → h.cycle ≡ now → SoundFetched now f → SoundEntry v (now + 1) (now + 1) (now + 1) (entry_of_fetched h f)
+pub dispatched_sound : (v : Values) (now : ℕ) (h : Hardware) (f : Fetched) → h.cycle ≡ now → SoundFetched now f →
+    SoundEntry v (now + 1) (now + 1) (now + 1) (entry_of_fetched h f)
 dispatched_sound v now h f at sound = record {
   decoded = sound.1;
   after_fetch = omega (arith, at, sound.0);
@@ -87,12 +91,14 @@ dispatched_sound v now h f at sound = record {
       (no_word_faults (layout_of h.values) (seen_behind h h.rob.entries f.pc) h.lines f.word f.instruction sound.1);
 }
 
-first_start : (D : ℕ) (o : Option Kind) (serial : Bool) (message : Message) → start_of_stage (stage_by o serial (Finished None D message)) ≡ None
+first_start : (D : ℕ) (o : Option Kind) (serial : Bool) (message : Message) →
+    start_of_stage (stage_by o serial (Finished None D message)) ≡ None
 first_start D (Some k) serial message = refl
 first_start D None true message = refl
 first_start D None false message = refl
 
-first_broadcast : (D : ℕ) (o : Option Kind) (serial : Bool) (message : Message) → broadcast_of_stage (stage_by o serial (Finished None D message)) ≡ None
+first_broadcast : (D : ℕ) (o : Option Kind) (serial : Bool) (message : Message) →
+    broadcast_of_stage (stage_by o serial (Finished None D message)) ≡ None
 first_broadcast D (Some k) serial message = refl
 first_broadcast D None true message = refl
 first_broadcast D None false message = refl

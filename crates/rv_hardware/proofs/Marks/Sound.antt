@@ -29,14 +29,16 @@ pub record SoundEntry (v : Values) (dispatched_below issue_bound bound : ℕ) (e
 abbrev pub SoundFetched : ℕ → Fetched → Type 0
 SoundFetched bound f = (f.cycle < bound) × (f.instruction ≡ option_and_then instruction_of f.word)
 
-stage_later : (v : Values) (i : Option Instr) (D a b a' b' : ℕ) (st : Stage) → a ≤ a' → b ≤ b' → SoundStage v i D a b st → SoundStage v i D a' b' st
+stage_later : (v : Values) (i : Option Instr) (D a b a' b' : ℕ) (st : Stage) → a ≤ a' → b ≤ b' → SoundStage v i D a b st →
+    SoundStage v i D a' b' st
 stage_later v i D a b a' b' Waiting le le' h = h
 stage_later v i D a b a' b' (Running issue message) le le' h = (h.0, h.1, omega (arith, h.2), h.3)
 stage_later v i D a b a' b' (Finished (Some issue) cycle message) le le' h = (h.0, h.1, h.2, omega (arith, h.3), h.4)
 stage_later v i D a b a' b' (Finished None cycle message) le le' h = h
 
 -- an instruction that is sound below some bounds is so below later ones
-pub sound_later : (v : Values) (d a b d' a' b' : ℕ) → d ≤ d' → a ≤ a' → b ≤ b' → (e : Entry) → SoundEntry v d a b e → SoundEntry v d' a' b' e
+pub sound_later : (v : Values) (d a b d' a' b' : ℕ) → d ≤ d' → a ≤ a' → b ≤ b' → (e : Entry) → SoundEntry v d a b e →
+    SoundEntry v d' a' b' e
 sound_later v d a b d' a' b' le le' le'' e h = record {
   decoded = h.decoded;
   after_fetch = h.after_fetch;
@@ -70,17 +72,20 @@ pub some_kind : (k : Kind) (o : Option Kind) → is_of_kind k o ≡ true → is_
 some_kind k o is = ap is_some (is_of_kind_is k o is)
 
 -- the word of an instruction decodes to it
-decodes_by : (i : Option Instr) (word : Option ℕ) → i ≡ option_and_then instruction_of word → (i ≡ None → ⊥) → instruction_of (unwrap_or word 0) ≡ i
+decodes_by : (i : Option Instr) (word : Option ℕ) → i ≡ option_and_then instruction_of word → (i ≡ None → ⊥) →
+    instruction_of (unwrap_or word 0) ≡ i
 decodes_by i None is some = absurd (some is)
 decodes_by i (Some word) is some = sym is
 
 -- the word of the row decodes to the instruction
-pub row_decodes : (e : Entry) → e.instruction ≡ option_and_then instruction_of e.word → (e.instruction ≡ None → ⊥) → instruction_of (unwrap_or e.word 0) ≡ e.instruction
+pub row_decodes : (e : Entry) → e.instruction ≡ option_and_then instruction_of e.word → (e.instruction ≡ None → ⊥) →
+    instruction_of (unwrap_or e.word 0) ≡ e.instruction
 row_decodes e is some = decodes_by e.instruction e.word is some
 
 -- what an access costs is one of the costs of a load
 
-evicts : (c : CacheValues) (forward : ℕ) (dropped : Option CacheLine) → IsLoadCost forward c (c.hit + c.miss + eviction_cost c dropped)
+evicts : (c : CacheValues) (forward : ℕ) (dropped : Option CacheLine) →
+    IsLoadCost forward c (c.hit + c.miss + eviction_cost c dropped)
 evicts c forward None = inr (inr (inl (omega arith)))
 evicts c forward (Some line) = by_dirty line.dirty
   where
@@ -88,7 +93,8 @@ evicts c forward (Some line) = by_dirty line.dirty
     by_dirty true = inr (inr (inr refl))
     by_dirty false = inr (inr (inl (omega arith)))
 
-access_costs : (c : CacheValues) (forward : ℕ) (hit : Bool) (dropped : Option CacheLine) → IsLoadCost forward c (cost_of_access c hit dropped)
+access_costs : (c : CacheValues) (forward : ℕ) (hit : Bool) (dropped : Option CacheLine) →
+    IsLoadCost forward c (cost_of_access c hit dropped)
 access_costs c forward true dropped = inr (inl refl)
 access_costs c forward false dropped = evicts c forward dropped
 
@@ -97,7 +103,8 @@ module _ (v : Values) (h : Hardware) (shape : HasShape v h) (older : List Entry)
   abbrev Costs : Kind → Option Instr → Type 0
   Costs k i = (is_some (result_of_word (layout_of h.values) s h.lines word i).fault ≡ true) ⊎ IfSome (kind_of_word i) (λ j. IsCost v (is_load i) j (cost_of h k (path_of h older s i)))
 
-  latency_of_kind : (k : Kind) (o : Option Kind) → is_of_kind k o ≡ true → IfSome o (λ j. (at_kind k h.values.kinds).latency ≡ (at_kind j v.kinds).latency)
+  latency_of_kind : (k : Kind) (o : Option Kind) → is_of_kind k o ≡ true →
+      IfSome o (λ j. (at_kind k h.values.kinds).latency ≡ (at_kind j v.kinds).latency)
   latency_of_kind k o is = rw (is_of_kind_is k o is) (ap (λ (w : Values). (at_kind k w.kinds).latency) shape.values)
 
   module _ (k : Kind) (address count : ℕ) where
@@ -105,8 +112,10 @@ module _ (v : Values) (h : Hardware) (shape : HasShape v h) (older : List Entry)
     from_stores_or_cache true = inl (ap (λ (w : Values). w.forward) shape.values)
     from_stores_or_cache false = subst (λ c. IsLoadCost v.forward c (cost_of h k (FromCache address))) shape.cache (access_costs h.cache.values v.forward _ _)
 
-  load_faults : (form : LoadForm) (rd rs1 : ℕ) (offset : ℤ) (a b : Bool) (k : Kind) → is_aligned (sum (register_of s rs1) (modulo_word offset)) (bytes_of (width_of form)) ≡ a →
-      is_in_ram (layout_of h.values) (sum (register_of s rs1) (modulo_word offset)) (bytes_of (width_of form)) ≡ b → (w : Option ℕ) →
+  load_faults : (form : LoadForm) (rd rs1 : ℕ) (offset : ℤ) (a b : Bool) (k : Kind) →
+      is_aligned (sum (register_of s rs1) (modulo_word offset)) (bytes_of (width_of form)) ≡ a →
+      is_in_ram (layout_of h.values) (sum (register_of s rs1) (modulo_word offset)) (bytes_of (width_of form)) ≡ b →
+      (w : Option ℕ) →
       (is_some (result_of_word (layout_of h.values) s h.lines w (Some (Load form rd rs1 offset))).fault ≡ true) ⊎ IsLoadCost v.forward v.cache (cost_of h k (path_of h older s (Some (Load form rd rs1 offset))))
   load_faults form rd rs1 offset a b k aligned inside None = inl refl
   load_faults form rd rs1 offset false b k aligned inside (Some w) = inl (rw aligned refl)
@@ -129,7 +138,8 @@ issued_cost v h shape older e k is = costs_of v h shape older (seen_behind h old
 positive_latency : (v : Values) → IsLegal v → (k : Kind) → 0 < (at_kind k v.kinds).latency
 positive_latency v legal k = omega (arith, (legal.kinds k).latency)
 
-positive_access : (c : CacheValues) (forward : ℕ) (hit : Bool) (dropped : Option CacheLine) → 1 ≤ c.hit → 0 < cost_of_access c hit dropped
+positive_access : (c : CacheValues) (forward : ℕ) (hit : Bool) (dropped : Option CacheLine) → 1 ≤ c.hit →
+    0 < cost_of_access c hit dropped
 positive_access c forward true dropped le = le
 positive_access c forward false dropped le = omega (arith, le)
 

@@ -31,7 +31,8 @@ module _ (v : Values) (legal : IsLegal v) where
       omega (arith, held, empty, some, same)
 
   -- with no store that has retired, it does not either
-  queue_free : (store_waits : Bool) (h : Hardware) (f : Fetched) → HasShape v h → h.rob.entries ≡ [] → (store_waits ≡ false → h.committed ≡ []) → has_full_queue h f ≡ true → (store_waits && is_store f.instruction) ≡ true
+  queue_free : (store_waits : Bool) (h : Hardware) (f : Fetched) → HasShape v h → h.rob.entries ≡ [] →
+      (store_waits ≡ false → h.committed ≡ []) → has_full_queue h f ≡ true → (store_waits && is_store f.instruction) ≡ true
   queue_free true h f shape none unused is = and_first (is_store f.instruction) _ is
   queue_free false h f shape none unused is =
       let full = leb-true h.values.store_queue (length (stores_behind h h.rob.entries)) (and_second (is_store f.instruction) _ is) in
@@ -39,7 +40,8 @@ module _ (v : Values) (legal : IsLegal v) where
       let same = ap (λ (w : Values). w.store_queue) shape.values in
       absurd (omega (arith, full, empty, same, legal.pipeline.store_queue))
 
-  waits_as_store : (store_waits : Bool) (h : Hardware) (f : Fetched) → HasShape v h → h.rob.entries ≡ [] → (store_waits ≡ false → h.committed ≡ []) → WaitsFor h f → (store_waits && is_store f.instruction) ≡ true
+  waits_as_store : (store_waits : Bool) (h : Hardware) (f : Fetched) → HasShape v h → h.rob.entries ≡ [] →
+      (store_waits ≡ false → h.committed ≡ []) → WaitsFor h f → (store_waits && is_store f.instruction) ≡ true
   waits_as_store store_waits h f shape none unused (for_serial is) = absurd (true≢false (sym is ∙ ap (λ es. list_any (λ (e : Entry). is_serialising e.instruction) es) none))
   waits_as_store store_waits h f shape none unused (for_buffer is) =
       let full = leb-true h.rob.capacity (length h.rob.entries) is in
@@ -49,13 +51,16 @@ module _ (v : Values) (legal : IsLegal v) where
   waits_as_store store_waits h f shape none unused (for_queue is) = queue_free store_waits h f shape none unused is
 
   -- what dispatch leaves in the fetch buffer where nothing is in flight
-  only_store_left : (store_waits : Bool) (g : Hardware) (now : ℕ) (d : Dispatching) → d ≡ dispatch g → g.values ≡ v → g.cycle ≡ now → HasShape v d.hardware → (store_waits ≡ false → d.hardware.committed ≡ []) → (f : Fetched) (fs : List Fetched) → d.hardware.rob.entries ≡ [] → d.hardware.front.entries ≡ f ∷ fs →
+  only_store_left : (store_waits : Bool) (g : Hardware) (now : ℕ) (d : Dispatching) → d ≡ dispatch g → g.values ≡ v →
+      g.cycle ≡ now → HasShape v d.hardware → (store_waits ≡ false → d.hardware.committed ≡ []) →
+      (f : Fetched) (fs : List Fetched) → d.hardware.rob.entries ≡ [] → d.hardware.front.entries ≡ f ∷ fs →
       (store_waits && is_store f.instruction) ≡ true
   only_store_left store_waits g now d is values cycle shape unused f fs none first =
       by_left (subst (λ (x : Dispatching). (f : Fetched) (fs : List Fetched) → x.hardware.front.entries ≡ f ∷ fs → (v.dispatch_width ≤ count (λ (e : Entry). e.dispatched == now) x.hardware.rob.entries) ⊎ WaitsFor x.hardware f) (sym is)
       (dispatch_leaves v now g (ap (λ (w : Values). w.dispatch_width) values) cycle) f fs first)
     where
-      by_left : (v.dispatch_width ≤ count (λ (e : Entry). e.dispatched == now) d.hardware.rob.entries) ⊎ WaitsFor d.hardware f → (store_waits && is_store f.instruction) ≡ true
+      by_left : (v.dispatch_width ≤ count (λ (e : Entry). e.dispatched == now) d.hardware.rob.entries) ⊎ WaitsFor d.hardware f →
+          (store_waits && is_store f.instruction) ≡ true
       by_left (inl wide) = let empty = ap (λ es. count (λ (e : Entry). e.dispatched == now) es) none in absurd (omega (arith, wide, empty, legal.pipeline.dispatch_width))
       by_left (inr why) = waits_as_store store_waits d.hardware f shape none unused why
 
@@ -71,11 +76,13 @@ module _ (v : Values) (legal : IsLegal v) where
         by_cause (inr (inl narrow)) = omega (arith, narrow, width, legal.pipeline.fetch_width)
         by_cause (inr (inr full)) = omega (arith, full, room, empty, legal.pipeline.fetch_buffer)
 
-    next_added : (more : List Fetched) → Each (IsNew now) more → (more ≡ [] → ⊥) → now ≤ s → Next (now + 1) (now + 1) s store_waits stale [] more
+    next_added : (more : List Fetched) → Each (IsNew now) more → (more ≡ [] → ⊥) → now ≤ s →
+        Next (now + 1) (now + 1) s store_waits stale [] more
     next_added [] are none_of le = absurd (none_of refl)
     next_added (f ∷ fs) are none_of le = (omega (arith, are.0.0, le), λ plain. omega (arith, le))
 
-    next_fetched : (es : List Entry) (fs : List Fetched) → front.entries ≡ fs → HaltsBehind front.halted (words_of es fs) → ((f : Fetched) (gs : List Fetched) → es ≡ [] → fs ≡ f ∷ gs → (store_waits && is_store f.instruction) ≡ true) →
+    next_fetched : (es : List Entry) (fs : List Fetched) → front.entries ≡ fs → HaltsBehind front.halted (words_of es fs) →
+        ((f : Fetched) (gs : List Fetched) → es ≡ [] → fs ≡ f ∷ gs → (store_waits && is_store f.instruction) ≡ true) →
         Next (now + 1) now s store_waits stale es fs → Next (now + 1) (now + 1) s store_waits stale es (fs ++ added)
     next_fetched (e ∷ es) fs at behind stores next = next
     next_fetched [] (f ∷ fs) at behind stores next = (next.0, λ plain. absurd (true≢false (sym (stores f fs refl refl) ∙ plain)))

@@ -50,7 +50,8 @@ pub record Follows (c : ℕ) (store_waits : Bool) (b : Step) : Type 0 where
 abbrev pub AllFollow : List Step → Type 0
 AllFollow steps = EveryBehind (λ before b. Follows (last_stamp before) (has_step before) b) [] steps
 
-follow-push : (steps : List Step) (b : Step) → AllFollow steps → Follows (last_stamp steps) (has_step steps) b → AllFollow (steps ++ b ∷ [])
+follow-push : (steps : List Step) (b : Step) → AllFollow steps → Follows (last_stamp steps) (has_step steps) b →
+    AllFollow (steps ++ b ∷ [])
 follow-push steps b all one = EveryBehind-append (λ before s. Follows (last_stamp before) (has_step before) s) [] steps (b ∷ []) all (one, tt)
 
 -- ---- what the oldest leaves
@@ -84,19 +85,22 @@ known_is D None = refl
 known_is D (Some x) = refl
 
 module _ (v : Values) (now s : ℕ) (store_waits : Bool) (stale : set.FinSet nat_cmp) (e : Entry) (sound : SoundEntry v now now now e) (next : NextEntry now s store_waits stale e) (fresh : set.contains stale (word_of e.pc) ≡ false) where
-  known_by_stage : (i : Option Instr) (D : ℕ) (st : Stage) → SoundStage v i D now now st → MayRetire i st → IsKnownSince now i D st → now ≤ known_from D (execution_of st) + 1
+  known_by_stage : (i : Option Instr) (D : ℕ) (st : Stage) → SoundStage v i D now now st → MayRetire i st →
+      IsKnownSince now i D st → now ≤ known_from D (execution_of st) + 1
   known_by_stage i D Waiting held may since = since may
   known_by_stage i D (Running issue message) held may since = not_both may (kind_is_plain i held.0)
   known_by_stage i D (Finished None cycle message) held may since = since
   known_by_stage i D (Finished (Some issue) cycle message) held may since = since
 
-  retires_soon : MayRetire e.instruction e.stage → is_fence_i e.instruction ≡ false → HasReason now s stale e → now ≤ max s (known_from e.dispatched (execution_of e.stage)) + 1
+  retires_soon : MayRetire e.instruction e.stage → is_fence_i e.instruction ≡ false → HasReason now s stale e →
+      now ≤ max s (known_from e.dispatched (execution_of e.stage)) + 1
   retires_soon may plain (inl le) = omega (arith, le)
   retires_soon may plain (inr (inl is)) = not_both is fresh
   retires_soon may plain (inr (inr (inl is))) = not_both is plain
   retires_soon may plain (inr (inr (inr since))) = let le = known_by_stage e.instruction e.dispatched e.stage sound.stage may since in omega (arith, le)
 
-  row_follows : (written : Option (ℕ × ℕ)) → MayRetire e.instruction e.stage → Follows s store_waits (Retired (row_at e written now))
+  row_follows : (written : Option (ℕ × ℕ)) → MayRetire e.instruction e.stage →
+      Follows s store_waits (Retired (row_at e written now))
   row_follows written may =
       let decoded = row_decodes e sound.decoded (retiring_is_one v now e sound may) in
       record {
@@ -106,12 +110,12 @@ module _ (v : Values) (now s : ℕ) (store_waits : Bool) (stale : set.FinSet nat
       }
 
   -- a fault that needs no unit
-  trapped_by_stage : (word : Option ℕ) (i : Option Instr) (D : ℕ) (issue : Option Issue) (cycle : ℕ) (message : Message) (fault : Fault) → SoundStage v i D now now (Finished issue cycle message) → IsShaped word i (Finished issue cycle message) →
-      message.fault ≡ Some fault → needs_no_unit fault.cause ≡ true → ((store_waits && is_store i) ≡ false → D ≤ s + 1) → IsKnownSince now i D (Finished issue cycle message) → now ≤ s + 2
+  trapped_by_stage : (word : Option ℕ) (i : Option Instr) (D : ℕ) (issue : Option Issue) (cycle : ℕ) (message : Message) (fault : Fault) → SoundStage v i D now now (Finished issue cycle message) → IsShaped word i (Finished issue cycle message) → message.fault ≡ Some fault → needs_no_unit fault.cause ≡ true → ((store_waits && is_store i) ≡ false → D ≤ s + 1) → IsKnownSince now i D (Finished issue cycle message) → now ≤ s + 2
   trapped_by_stage word i D None cycle message fault held found is needs soon since = let le = soon (no_store store_waits i held.0) in omega (arith, le, since)
   trapped_by_stage word i D (Some issue) cycle message fault held found is needs soon since = not_both needs (subst IsUnitFault is found.1)
 
-  trap_follows : (issue : Option Issue) (cycle : ℕ) (message : Message) (fault : Fault) → is_serialising e.instruction ≡ false → e.stage ≡ Finished issue cycle message → message.fault ≡ Some fault → Shaped e →
+  trap_follows : (issue : Option Issue) (cycle : ℕ) (message : Message) (fault : Fault) → is_serialising e.instruction ≡ false →
+      e.stage ≡ Finished issue cycle message → message.fault ≡ Some fault → Shaped e →
       Follows s store_waits (Trap e.pc fault.cause fault.value now)
   trap_follows issue cycle message fault plain at is found = record { waits = tt; ahead = tt; soon = λ needs. by_reason needs next.reason }
     where
@@ -123,13 +127,15 @@ module _ (v : Values) (now s : ℕ) (store_waits : Bool) (stale : set.FinSet nat
           trapped_by_stage e.word e.instruction e.dispatched issue cycle message fault (subst (SoundStage v e.instruction e.dispatched now now) at sound.stage) (subst (IsShaped e.word e.instruction) at found) is needs next.dispatched
           (subst (IsKnownSince now e.instruction e.dispatched) at since)
 
-  serial_by_stage : (i : Option Instr) (D : ℕ) (st : Stage) → is_serialising i ≡ true → SoundStage v i D now now st → IsKnownSince now i D st → now ≤ D + 1
+  serial_by_stage : (i : Option Instr) (D : ℕ) (st : Stage) → is_serialising i ≡ true → SoundStage v i D now now st →
+      IsKnownSince now i D st → now ≤ D + 1
   serial_by_stage i D Waiting serial held since = since serial
   serial_by_stage i D (Running issue message) serial held since = not_both serial (kind_is_plain i held.0)
   serial_by_stage i D (Finished None cycle message) serial held since = since
   serial_by_stage i D (Finished (Some issue) cycle message) serial held since = not_both serial (kind_is_plain i held.0)
 
-  serial_follows : (cause : Cause) (value : ℕ) → is_serialising e.instruction ≡ true → (is_fence_i e.instruction ≡ true → ⊥) → Follows s store_waits (Trap e.pc cause value now)
+  serial_follows : (cause : Cause) (value : ℕ) → is_serialising e.instruction ≡ true → (is_fence_i e.instruction ≡ true → ⊥) →
+      Follows s store_waits (Trap e.pc cause value now)
   serial_follows cause value serial other = record { waits = tt; ahead = tt; soon = λ needs. by_reason next.reason }
     where
       by_reason : HasReason now s stale e → now ≤ s + 2
@@ -165,14 +171,16 @@ fence_leaves e c =
     (λ drained. by_test (λ (d : Committing). LeavesRow c.steps d.steps) (write_back_time c.hardware == 0) (execute_head e FenceI wrote) wrote (λ clean. inr (row_at e None c.hardware.cycle, refl)) (λ dirty. inl refl))
     (λ waits. inl refl)
 
-no_trap : (steps left : List Step) (pc : ℕ) (cause : Cause) (value cycle : ℕ) → LeavesRow steps left → steps ++ Trap pc cause value cycle ∷ [] ≡ left → ⊥
+no_trap : (steps left : List Step) (pc : ℕ) (cause : Cause) (value cycle : ℕ) → LeavesRow steps left →
+    steps ++ Trap pc cause value cycle ∷ [] ≡ left → ⊥
 no_trap steps left pc cause value cycle (inl same) is =
     let all = length-append steps (Trap pc cause value cycle ∷ []) in
     omega (arith, all, ap (λ (l : List Step). length l) is, ap (λ (l : List Step). length l) same)
 no_trap steps left pc cause value cycle (inr (row, same)) is =
     true≢false (ap is_trap (sym (last_from-append None (λ s. true) steps (Trap pc cause value cycle ∷ [])) ∙ ap (λ (l : List Step). last_that (λ s. true) l) (is ∙ same) ∙ last_from-append None (λ s. true) steps (Retired row ∷ [])))
 
-fence_does_not_trap : (c : Committing) (e : Entry) (es : List Entry) (cause : Cause) (value : ℕ) → Head set.contains c e es → is_fence_i e.instruction ≡ true → Ends (with_fault e cause value c) ≡ commit_turn set.contains c → ⊥
+fence_does_not_trap : (c : Committing) (e : Entry) (es : List Entry) (cause : Cause) (value : ℕ) → Head set.contains c e es →
+    is_fence_i e.instruction ≡ true → Ends (with_fault e cause value c) ≡ commit_turn set.contains c → ⊥
 fence_does_not_trap c e es cause value head fence is =
     let turn : commit_turn set.contains c ≡ Ends (fence_instructions e c) =
     ap (λ l. commit_turn_of set.contains l c) head.place
@@ -182,14 +190,16 @@ fence_does_not_trap c e es cause value head fence is =
 
 -- ---- the commit phase of cycle `now`, after the steps of earlier cycles
 
-next-raise : (n n' m s : ℕ) (store_waits : Bool) (stale : set.FinSet nat_cmp) (es : List Entry) (fs : List Fetched) → ((e : Entry) (rest : List Entry) → es ≡ e ∷ rest → NextEntry n s store_waits stale e → NextEntry n' s store_waits stale e) →
+next-raise : (n n' m s : ℕ) (store_waits : Bool) (stale : set.FinSet nat_cmp) (es : List Entry) (fs : List Fetched) →
+    ((e : Entry) (rest : List Entry) → es ≡ e ∷ rest → NextEntry n s store_waits stale e → NextEntry n' s store_waits stale e) →
     Next n m s store_waits stale es fs → Next n' m s store_waits stale es fs
 next-raise n n' m s store_waits stale [] [] goes next = next
 next-raise n n' m s store_waits stale [] (f ∷ fs) goes next = next
 next-raise n n' m s store_waits stale (e ∷ es) fs goes next = goes e es refl next
 
 -- after a step of the present cycle
-next-now : (v : Values) (n now : ℕ) (store_waits : Bool) (stale : set.FinSet nat_cmp) (es : List Entry) (fs : List Fetched) → n ≤ now + 1 → Each (SoundEntry v now now now) es → Each (SoundFetched now) fs → Next n now now store_waits stale es fs
+next-now : (v : Values) (n now : ℕ) (store_waits : Bool) (stale : set.FinSet nat_cmp) (es : List Entry) (fs : List Fetched) →
+    n ≤ now + 1 → Each (SoundEntry v now now now) es → Each (SoundFetched now) fs → Next n now now store_waits stale es fs
 next-now v n now store_waits stale [] [] le sound words = omega arith
 next-now v n now store_waits stale [] (f ∷ fs) le sound words = (omega (arith, words.0.0), λ plain. omega arith)
 next-now v n now store_waits stale (e ∷ es) fs le sound words =
@@ -221,7 +231,8 @@ module _ (v : Values) (now : ℕ) (earlier : List Step) where
   last_is : (c : Committing) (x : Step) → stamp_of x ≡ now → last_stamp (earlier ++ (c.steps ++ x ∷ [])) ≡ now
   last_is c x at = ap last_stamp (regroup c x) ∙ last_stamp-push (earlier ++ c.steps) x ∙ at
 
-  more_follow : (c : Committing) (x : Step) → AllFollow (earlier ++ c.steps) → Follows (last_stamp (earlier ++ c.steps)) (has_step (earlier ++ c.steps)) x → AllFollow (earlier ++ (c.steps ++ x ∷ []))
+  more_follow : (c : Committing) (x : Step) → AllFollow (earlier ++ c.steps) →
+      Follows (last_stamp (earlier ++ c.steps)) (has_step (earlier ++ c.steps)) x → AllFollow (earlier ++ (c.steps ++ x ∷ []))
   more_follow c x all one = subst AllFollow (sym (regroup c x)) (follow-push (earlier ++ c.steps) x all one)
 
   -- a step after which nothing is left
@@ -232,14 +243,16 @@ module _ (v : Values) (now : ℕ) (earlier : List Step) where
       record { follow = more_follow c x all one; next = rw (none, none') (omega (arith, last)) }
 
   -- the same steps, where the oldest has a reason not to have retired
-  standing : (k : ℕ) (c : Committing) (stop : Option Stop) → Going k c → ((e : Entry) (rest : List Entry) → c.hardware.rob.entries ≡ e ∷ rest → HasReason (now + 1) (last_stamp (earlier ++ c.steps)) c.hardware.stale e) → Committed c
+  standing : (k : ℕ) (c : Committing) (stop : Option Stop) → Going k c →
+      ((e : Entry) (rest : List Entry) → c.hardware.rob.entries ≡ e ∷ rest → HasReason (now + 1) (last_stamp (earlier ++ c.steps)) c.hardware.stale e) → Committed c
   standing k c stop p why = record {
     follow = p.follow;
     next = next-raise now (now + 1) now (last_stamp (earlier ++ c.steps)) (has_step (earlier ++ c.steps)) c.hardware.stale c.hardware.rob.entries c.hardware.front.entries
         (λ e rest at is. record { fetched = is.fetched; dispatched = is.dispatched; reason = why e rest at }) p.next;
   }
 
-  unfinished_since : (n D : ℕ) (i : Option Instr) (st : Stage) → is_serialising i ≡ false → broadcast_of st ≡ None → IsKnownSince n i D st
+  unfinished_since : (n D : ℕ) (i : Option Instr) (st : Stage) → is_serialising i ≡ false → broadcast_of st ≡ None →
+      IsKnownSince n i D st
   unfinished_since n D i Waiting plain none = λ serial. not_both serial plain
   unfinished_since n D i (Running issue message) plain none = tt
   unfinished_since n D i (Finished issue cycle message) plain none = absurd (cc)
@@ -257,15 +270,18 @@ module _ (v : Values) (now : ℕ) (earlier : List Step) where
     head_found : Shaped e
     head_found = (subst (Each Shaped) head.place q.basics.always.stores.0.0).0
 
-    retired_follows : (written : Option (ℕ × ℕ)) → MayRetire e.instruction e.stage → Follows (last_stamp (earlier ++ c.steps)) (has_step (earlier ++ c.steps)) (Retired (row_at e written c.hardware.cycle))
+    retired_follows : (written : Option (ℕ × ℕ)) → MayRetire e.instruction e.stage →
+        Follows (last_stamp (earlier ++ c.steps)) (has_step (earlier ++ c.steps)) (Retired (row_at e written c.hardware.cycle))
     retired_follows written may =
         subst (λ n. Follows (last_stamp (earlier ++ c.steps)) (has_step (earlier ++ c.steps)) (Retired (row_at e written n))) (sym q.basics.cycle)
         (row_follows v now (last_stamp (earlier ++ c.steps)) (has_step (earlier ++ c.steps)) c.hardware.stale e head_sound head_next head.fresh written may)
 
-    fence_stands : is_fence_i e.instruction ≡ true → (x : Entry) (rest : List Entry) → c.hardware.rob.entries ≡ x ∷ rest → HasReason (now + 1) (last_stamp (earlier ++ c.steps)) c.hardware.stale x
+    fence_stands : is_fence_i e.instruction ≡ true → (x : Entry) (rest : List Entry) → c.hardware.rob.entries ≡ x ∷ rest →
+        HasReason (now + 1) (last_stamp (earlier ++ c.steps)) c.hardware.stale x
     fence_stands fence x rest at = inr (inr (inl (subst (λ (y : Entry). is_fence_i y.instruction ≡ true) (same_head e x es rest c.hardware.rob.entries head.place at) fence)))
 
-  turn_leads : (total k : ℕ) (c : Committing) (t : Turn Committing) → t ≡ commit_turn set.contains c → CommitTurn set.contains c t → InCommit c → Going k c → Leads InCommit InCommit t → Leads (Going (suc k)) Committed t
+  turn_leads : (total k : ℕ) (c : Committing) (t : Turn Committing) → t ≡ commit_turn set.contains c →
+      CommitTurn set.contains c t → InCommit c → Going k c → Leads InCommit InCommit t → Leads (Going (suc k)) Committed t
   turn_leads total k c _ turn (no_head none) q p goes = standing k c c.stop p (λ x rest at. absurd (let no_more = sym none ∙ at in cc))
   turn_leads total k c _ turn (stale_head e es at is) q p goes =
       let same = standing k c c.stop p (λ x rest at'. inr (inl (subst (λ (y : Entry). set.contains c.hardware.stale (word_of y.pc) ≡ true) (same_head e x es rest c.hardware.rob.entries at at') is))) in
@@ -307,8 +323,10 @@ module _ (v : Values) (now : ℕ) (earlier : List Step) where
       (retired_follows k c e es head q p (written_of e message) (may_retire_finished e.instruction e.stage issue cycle message at none)) refl refl
 
   -- the commit phase takes steps that follow one another, and leaves the next instruction with its reason to wait
-  pub commit_leads_by : (total : ℕ) → 1 ≤ total → (o : Option ℕ) (h : Hardware) → h.values.commit_width ≡ total → Goes v now now now now now (now + 1) Anything (earlier ++ []) h → AllFollow (earlier ++ []) →
-      Next now now (last_stamp (earlier ++ [])) (has_step (earlier ++ [])) h.stale h.rob.entries h.front.entries → Committed (commit_unless set.contains o h)
+  pub commit_leads_by : (total : ℕ) → 1 ≤ total → (o : Option ℕ) (h : Hardware) → h.values.commit_width ≡ total →
+      Goes v now now now now now (now + 1) Anything (earlier ++ []) h → AllFollow (earlier ++ []) →
+      Next now now (last_stamp (earlier ++ [])) (has_step (earlier ++ [])) h.stale h.rob.entries h.front.entries →
+      Committed (commit_unless set.contains o h)
   commit_leads_by total le (Some code) h width goes follow next =
       let c : Committing = record { hardware = h; steps = []; stop = None } in
       flushing c (Interrupt h.pc (interrupt_cause code) h.cycle) (commit_unless set.contains (Some code) h).hardware None goes.basics.cycle follow (record { waits = tt; ahead = tt; soon = tt }) refl refl

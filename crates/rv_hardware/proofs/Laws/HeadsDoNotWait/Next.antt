@@ -33,13 +33,15 @@ Next n m s store_waits stale [] (f ∷ fs) = (f.cycle ≤ s) × ((store_waits &&
 Next n m s store_waits stale [] [] = m ≤ s
 
 module _ (n m s : ℕ) (store_waits : Bool) (stale : set.FinSet nat_cmp) where
-  next-change : (older younger others : List Entry) (old new : Entry) (fs gs : List Fetched) → (NextEntry n s store_waits stale old → NextEntry n s store_waits stale new) →
+  next-change : (older younger others : List Entry) (old new : Entry) (fs gs : List Fetched) →
+      (NextEntry n s store_waits stale old → NextEntry n s store_waits stale new) →
       Next n m s store_waits stale (older ++ old ∷ younger) fs → Next n m s store_waits stale (older ++ new ∷ others) gs
   next-change [] younger others old new fs gs goes next = goes next
   next-change (o ∷ older) younger others old new fs gs goes next = next
 
   next-push : (es : List Entry) (e : Entry) (f : Fetched) (rest : List Fetched) →
-      ((f.cycle ≤ s) × ((store_waits && is_store f.instruction) ≡ false → m ≤ s + 1) → NextEntry n s store_waits stale e) → Next n m s store_waits stale es (f ∷ rest) → Next n m s store_waits stale (es ++ e ∷ []) rest
+      ((f.cycle ≤ s) × ((store_waits && is_store f.instruction) ≡ false → m ≤ s + 1) → NextEntry n s store_waits stale e) →
+      Next n m s store_waits stale es (f ∷ rest) → Next n m s store_waits stale (es ++ e ∷ []) rest
   next-push [] e f rest goes next = goes next
   next-push (x ∷ es) e f rest goes next = next
 
@@ -53,7 +55,8 @@ module _ (now s : ℕ) (store_waits : Bool) where
       IsKnownSince (now + 1) i D (Finished (issue_of st) cycle message)
   known_now cycle D i message st at gives = rw (ap issue_of gives.runs) (omega (arith, at))
 
-  known_at_dispatch : (cycle : ℕ) (i : Option Instr) (message : Message) (kind : Option Kind) (serial : Bool) → cycle ≡ now → IsKnownSince (now + 1) i cycle (stage_by kind serial (Finished None cycle message))
+  known_at_dispatch : (cycle : ℕ) (i : Option Instr) (message : Message) (kind : Option Kind) (serial : Bool) → cycle ≡ now →
+      IsKnownSince (now + 1) i cycle (stage_by kind serial (Finished None cycle message))
   known_at_dispatch cycle i message (Some kind) serial at = λ is. omega (arith, at)
   known_at_dispatch cycle i message None true at = λ is. omega (arith, at)
   known_at_dispatch cycle i message None false at = omega (arith, at)

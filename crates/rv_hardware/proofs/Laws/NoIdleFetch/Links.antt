@@ -100,11 +100,13 @@ module _ (v : Values) (now : ℕ) (halted : Bool) where
   open_more held more m le (inr (inl over)) = inr (inl over)
   open_more held more m le (inr (inr full)) = inr (inr (filled_more held more m now (omega arith) le full))
 
-  joint_more : (held more : ℕ → ℕ) (m : Mark) (ms : List Mark) → AtLeast held more → Joint v now (IsOpen v halted now) held m ms → Joint v now (IsOpen v halted now) more m ms
+  joint_more : (held more : ℕ → ℕ) (m : Mark) (ms : List Mark) → AtLeast held more → Joint v now (IsOpen v halted now) held m ms →
+      Joint v now (IsOpen v halted now) more m ms
   joint_more held more m [] le h = open_more held more m le h
   joint_more held more m (n ∷ ns) le h = followed_more held more m n le h
 
-  linked_more : (held more : ℕ → ℕ) (ms : List Mark) → AtLeast held more → Linked v now (IsOpen v halted now) held ms → Linked v now (IsOpen v halted now) more ms
+  linked_more : (held more : ℕ → ℕ) (ms : List Mark) → AtLeast held more → Linked v now (IsOpen v halted now) held ms →
+      Linked v now (IsOpen v halted now) more ms
   linked_more held more [] le h = tt
   linked_more held more (m ∷ ms) le h = (joint_more held more m ms le h.0, linked_more (with_word held m) (with_word more m) ms (with_more held more m le) h.1)
 
@@ -138,7 +140,8 @@ module _ (v : Values) (now : ℕ) (halted : Bool) where
     retired_before : {P : Type 0} (t : ℕ) → IsBy m.retired t → P
     retired_before t by = absurd (subst (λ o. IsBy o t) g.not_retired by)
 
-    joint_goes : (held : ℕ → ℕ) (ms : List Mark) → Joint v now (IsOpen v halted now) held m ms → Joint v now (IsOpen v halted now) held n ms
+    joint_goes : (held : ℕ → ℕ) (ms : List Mark) → Joint v now (IsOpen v halted now) held m ms →
+        Joint v now (IsOpen v halted now) held n ms
     joint_goes held [] (inl is) = inl is
     joint_goes held [] (inr (inl over)) = retired_before now over
     joint_goes held [] (inr (inr full)) = inr (inr (filled_same held now (omega arith) full))
@@ -146,11 +149,13 @@ module _ (v : Values) (now : ℕ) (halted : Bool) where
     joint_goes held (z ∷ zs) (by, inr (inl early)) = (by, inr (inl (early.0, g.sent z.fetched early.1)))
     joint_goes held (z ∷ zs) (by, inr (inr full)) = (by, inr (inr (filled_same held z.fetched by full)))
 
-    joint_before : (held : ℕ → ℕ) (x : Mark) (xs zs : List Mark) → Joint v now (IsOpen v halted now) held x (xs ++ m ∷ zs) → Joint v now (IsOpen v halted now) held x (xs ++ n ∷ zs)
+    joint_before : (held : ℕ → ℕ) (x : Mark) (xs zs : List Mark) → Joint v now (IsOpen v halted now) held x (xs ++ m ∷ zs) →
+        Joint v now (IsOpen v halted now) held x (xs ++ n ∷ zs)
     joint_before held x [] zs h = subst (λ t. (t ≤ now) × (IsBy x.retired t ⊎ ((v.recovery ≡ Early) × (x.broadcast ≡ Some t)) ⊎ Filled v held x t)) g.fetched h
     joint_before held x (y ∷ ys) zs h = h
 
-    linked_goes : (held : ℕ → ℕ) (xs zs : List Mark) → Linked v now (IsOpen v halted now) held (xs ++ m ∷ zs) → Linked v now (IsOpen v halted now) held (xs ++ n ∷ zs)
+    linked_goes : (held : ℕ → ℕ) (xs zs : List Mark) → Linked v now (IsOpen v halted now) held (xs ++ m ∷ zs) →
+        Linked v now (IsOpen v halted now) held (xs ++ n ∷ zs)
     linked_goes held [] zs h = (joint_goes held zs h.0, linked_more (with_word held m) (with_word held n) zs (with_same held) h.1)
     linked_goes held (x ∷ xs) zs h = (joint_before held x xs zs h.0, linked_goes (with_word held x) xs zs h.1)
 
@@ -180,44 +185,55 @@ followed_later v now held m n h = (omega (arith, h.0), h.1)
 
 module _ (v : Values) (now : ℕ) (last next : (ℕ → ℕ) → Mark → Type 0) where
   -- where nothing is fetched, at least so many were held
-  joint_stays : (held : ℕ → ℕ) (m : Mark) (ms : List Mark) → ((h : ℕ → ℕ) (x : Mark) → with_word h x now ≡ held_behind (with_word held m) ms now → last h x → next h x) → Joint v now last held m ms → Joint v (now + 1) next held m ms
+  joint_stays : (held : ℕ → ℕ) (m : Mark) (ms : List Mark) →
+      ((h : ℕ → ℕ) (x : Mark) → with_word h x now ≡ held_behind (with_word held m) ms now → last h x → next h x) →
+      Joint v now last held m ms → Joint v (now + 1) next held m ms
   joint_stays held m [] f h = f held m refl h
   joint_stays held m (n ∷ ns) f h = followed_later v now held m n h
 
   -- where nothing is fetched, linked marks stay linked in the next cycle
-  pub linked_stays : (held : ℕ → ℕ) (ms : List Mark) → ((h : ℕ → ℕ) (x : Mark) → with_word h x now ≡ held_behind held ms now → last h x → next h x) → Linked v now last held ms → Linked v (now + 1) next held ms
+  pub linked_stays : (held : ℕ → ℕ) (ms : List Mark) →
+      ((h : ℕ → ℕ) (x : Mark) → with_word h x now ≡ held_behind held ms now → last h x → next h x) → Linked v now last held ms →
+      Linked v (now + 1) next held ms
   linked_stays held [] f h = tt
   linked_stays held (m ∷ ms) f h = (joint_stays held m ms f h.0, linked_stays (with_word held m) ms f h.1)
 
-  joint_on : (held : ℕ → ℕ) (m : Mark) (ms : List Mark) (f : Mark) (fs : List Mark) → ((h : ℕ → ℕ) (x : Mark) → last h x → Followed v (now + 1) h x f) → Joint v now last held m ms → Joint v (now + 1) next held m (ms ++ f ∷ fs)
+  joint_on : (held : ℕ → ℕ) (m : Mark) (ms : List Mark) (f : Mark) (fs : List Mark) →
+      ((h : ℕ → ℕ) (x : Mark) → last h x → Followed v (now + 1) h x f) → Joint v now last held m ms →
+      Joint v (now + 1) next held m (ms ++ f ∷ fs)
   joint_on held m [] f fs g h = g held m h
   joint_on held m (n ∷ ns) f fs g h = followed_later v now held m n h
 
   -- where something is
-  pub linked_on : (held : ℕ → ℕ) (ms : List Mark) (f : Mark) (fs : List Mark) → ((h : ℕ → ℕ) (x : Mark) → last h x → Followed v (now + 1) h x f) → Linked v now last held ms →
+  pub linked_on : (held : ℕ → ℕ) (ms : List Mark) (f : Mark) (fs : List Mark) →
+      ((h : ℕ → ℕ) (x : Mark) → last h x → Followed v (now + 1) h x f) → Linked v now last held ms →
       ((h : ℕ → ℕ) → Linked v (now + 1) next h (f ∷ fs)) → Linked v (now + 1) next held (ms ++ f ∷ fs)
   linked_on held [] f fs g h new = new held
   linked_on held (m ∷ ms) f fs g h new = (joint_on held m ms f fs g h.0, linked_on (with_word held m) ms f fs g h.1 new)
 
 -- where the last of some marks is known, what came after may be cut
 module _ (v : Values) (now : ℕ) (last : (ℕ → ℕ) → Mark → Type 0) (P : Mark → Type 0) where
-  joint_cut : (held : ℕ → ℕ) (m : Mark) (ms rest : List Mark) → LastIs P (m ∷ ms) → Joint v now last held m (ms ++ rest) → Joint v now (λ h x. P x) held m ms
+  joint_cut : (held : ℕ → ℕ) (m : Mark) (ms rest : List Mark) → LastIs P (m ∷ ms) → Joint v now last held m (ms ++ rest) →
+      Joint v now (λ h x. P x) held m ms
   joint_cut held m [] rest is h = is
   joint_cut held m (n ∷ ns) rest is h = h
 
   -- the first of linked marks are linked
-  pub linked_cut : (held : ℕ → ℕ) (ms rest : List Mark) → LastIs P ms → Linked v now last held (ms ++ rest) → Linked v now (λ h x. P x) held ms
+  pub linked_cut : (held : ℕ → ℕ) (ms rest : List Mark) → LastIs P ms → Linked v now last held (ms ++ rest) →
+      Linked v now (λ h x. P x) held ms
   linked_cut held [] rest is h = tt
   linked_cut held (m ∷ ms) rest is h = (joint_cut held m ms rest is h.0, linked_cut (with_word held m) ms rest (last_of P m ms is) h.1)
 
 -- words of the present cycle
 
 module _ (v : Values) (now : ℕ) (halted : Bool) where
-  joint_words : (held : ℕ → ℕ) (f : Mark) (fs : List Mark) → f.fetched ≡ now → Each (λ x. x.fetched ≡ now) fs → Joint v (now + 1) (IsOpen v halted (now + 1)) held f fs
+  joint_words : (held : ℕ → ℕ) (f : Mark) (fs : List Mark) → f.fetched ≡ now → Each (λ x. x.fetched ≡ now) fs →
+      Joint v (now + 1) (IsOpen v halted (now + 1)) held f fs
   joint_words held f [] at all = inr (inr (λ c after before. absurd (omega (arith, at, after, before))))
   joint_words held f (g ∷ gs) at all = (let same = all.0 in omega (arith, same), inr (inr (λ c after before. let same = all.0 in absurd (omega (arith, same, at, after, before)))))
 
   -- words of the present cycle are linked
-  pub linked_words : (held : ℕ → ℕ) (fs : List Mark) → Each (λ x. x.fetched ≡ now) fs → Linked v (now + 1) (IsOpen v halted (now + 1)) held fs
+  pub linked_words : (held : ℕ → ℕ) (fs : List Mark) → Each (λ x. x.fetched ≡ now) fs →
+      Linked v (now + 1) (IsOpen v halted (now + 1)) held fs
   linked_words held [] all = tt
   linked_words held (f ∷ fs) all = (joint_words held f fs all.0 all.1, linked_words (with_word held f) fs all.1)

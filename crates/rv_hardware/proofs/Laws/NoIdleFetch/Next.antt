@@ -57,15 +57,18 @@ coming now (e ∷ es) fs = e.fetched
 coming now [] (f ∷ fs) = f.cycle
 coming now [] [] = now
 
-coming_same : (now : ℕ) (older younger others : List Entry) (e x : Entry) (fs gs : List Fetched) → x.fetched ≡ e.fetched → coming now (older ++ x ∷ others) gs ≡ coming now (older ++ e ∷ younger) fs
+coming_same : (now : ℕ) (older younger others : List Entry) (e x : Entry) (fs gs : List Fetched) → x.fetched ≡ e.fetched →
+    coming now (older ++ x ∷ others) gs ≡ coming now (older ++ e ∷ younger) fs
 coming_same now [] younger others e x fs gs same = same
 coming_same now (o ∷ older) younger others e x fs gs same = refl
 
-coming_dispatched : (now : ℕ) (es : List Entry) (e : Entry) (f : Fetched) (fs : List Fetched) → e.fetched ≡ f.cycle → coming now (es ++ e ∷ []) fs ≡ coming now es (f ∷ fs)
+coming_dispatched : (now : ℕ) (es : List Entry) (e : Entry) (f : Fetched) (fs : List Fetched) → e.fetched ≡ f.cycle →
+    coming now (es ++ e ∷ []) fs ≡ coming now es (f ∷ fs)
 coming_dispatched now [] e f fs same = same
 coming_dispatched now (x ∷ xs) e f fs same = refl
 
-coming_by : (v : Values) (now : ℕ) (es : List Entry) (fs : List Fetched) → Each (SoundEntry v now now now) es → Each (SoundFetched now) fs → coming now es fs ≤ now
+coming_by : (v : Values) (now : ℕ) (es : List Entry) (fs : List Fetched) → Each (SoundEntry v now now now) es →
+    Each (SoundFetched now) fs → coming now es fs ≤ now
 coming_by v now (e ∷ es) fs entries words = let sound = entries.0 in omega (arith, sound.after_fetch, sound.by_now)
 coming_by v now [] (f ∷ fs) entries words = let sound = words.0 in omega (arith, sound.0)
 coming_by v now [] [] entries words = omega arith
@@ -80,20 +83,24 @@ module _ (v : Values) (now : ℕ) (earlier : List Step) (is_stale : set.FinSet n
   abbrev Following : Committing → Type 0
   Following c = AreFetchedNext now (earlier ++ c.steps) c.hardware
 
-  one_more : (c : Committing) (s : Step) (h : Hardware) → stamp_of s ≡ now → coming now h.rob.entries h.front.entries ≤ now → LastIs (λ a. IsFetchedNext a s) (earlier ++ c.steps) → Following c → AreFetchedNext now (earlier ++ (c.steps ++ s ∷ [])) h
+  one_more : (c : Committing) (s : Step) (h : Hardware) → stamp_of s ≡ now → coming now h.rob.entries h.front.entries ≤ now →
+      LastIs (λ a. IsFetchedNext a s) (earlier ++ c.steps) → Following c → AreFetchedNext now (earlier ++ (c.steps ++ s ∷ [])) h
   one_more c s h at by last p =
       rw (← append_assoc earlier c.steps (s ∷ [])) (
         EveryNext-push IsFetchedNext (earlier ++ c.steps) s last p.0,
         last_at (λ a. coming now h.rob.entries h.front.entries ≤ stamp_of a) (earlier ++ c.steps) s (omega (arith, at, by)),
       )
 
-  head_next : (c : Committing) (e : Entry) (es : List Entry) (written : Option (ℕ × ℕ)) → c.hardware.rob.entries ≡ e ∷ es → Following c → LastIs (λ a. IsFetchedNext a (Retired (row_at e written c.hardware.cycle))) (earlier ++ c.steps)
+  head_next : (c : Committing) (e : Entry) (es : List Entry) (written : Option (ℕ × ℕ)) → c.hardware.rob.entries ≡ e ∷ es →
+      Following c → LastIs (λ a. IsFetchedNext a (Retired (row_at e written c.hardware.cycle))) (earlier ++ c.steps)
   head_next c e es written place p = subst (λ l. LastIs (λ s. coming now l c.hardware.front.entries ≤ stamp_of s) (earlier ++ c.steps)) place p.1
 
-  no_row_next : (c : Committing) (s : Step) → ((a : Step) → IsFetchedNext a s) → Following c → LastIs (λ a. IsFetchedNext a s) (earlier ++ c.steps)
+  no_row_next : (c : Committing) (s : Step) → ((a : Step) → IsFetchedNext a s) → Following c →
+      LastIs (λ a. IsFetchedNext a s) (earlier ++ c.steps)
   no_row_next c s f p = last_weaker (λ a. coming now c.hardware.rob.entries c.hardware.front.entries ≤ stamp_of a) (λ a. IsFetchedNext a s) (λ a h. f a) (earlier ++ c.steps) p.1
 
-  commit_follows : (c : Committing) (t : Turn Committing) → CommitTurn is_stale c t → InCommit v now earlier is_stale c → Following c → Leads Following Following t
+  commit_follows : (c : Committing) (t : Turn Committing) → CommitTurn is_stale c t → InCommit v now earlier is_stale c →
+      Following c → Leads Following Following t
   commit_follows c _ (no_head none) q p = p
   commit_follows c _ (stale_head e es at is) q p = p
   commit_follows c _ (unfinished e es head plain none) q p = p
@@ -125,7 +132,8 @@ module _ (now t : ℕ) where
   drain_comes : IsKeptByDrain Comes
   drain_comes = record { leaves = λ h p idle. p; drains = λ h access p idle is. p }
 
-  other_entry : (h : Hardware) (older younger others : List Entry) (e x : Entry) (fs : List Fetched) → h.rob.entries ≡ older ++ e ∷ younger → x.fetched ≡ e.fetched → Comes h → coming now (older ++ x ∷ others) fs ≡ t
+  other_entry : (h : Hardware) (older younger others : List Entry) (e x : Entry) (fs : List Fetched) →
+      h.rob.entries ≡ older ++ e ∷ younger → x.fetched ≡ e.fetched → Comes h → coming now (older ++ x ∷ others) fs ≡ t
   other_entry h older younger others e x fs split same p =
       coming_same now older younger others e x h.front.entries fs same ∙ ap (λ es. coming now es h.front.entries) (sym split) ∙ p
 
@@ -152,7 +160,8 @@ module _ (now t : ℕ) where
 
 -- fetch leaves something in flight
 
-coming_fetched : (now : ℕ) (es : List Entry) (fs added : List Fetched) → Each (λ f. f.cycle ≡ now) added → (es ≡ [] → fs ++ added ≡ [] → ⊥) → coming (now + 1) es (fs ++ added) ≡ coming now es fs
+coming_fetched : (now : ℕ) (es : List Entry) (fs added : List Fetched) → Each (λ f. f.cycle ≡ now) added →
+    (es ≡ [] → fs ++ added ≡ [] → ⊥) → coming (now + 1) es (fs ++ added) ≡ coming now es fs
 coming_fetched now (e ∷ es) fs added new some = refl
 coming_fetched now [] (f ∷ fs) added new some = refl
 coming_fetched now [] [] (f ∷ fs) new some = new.0

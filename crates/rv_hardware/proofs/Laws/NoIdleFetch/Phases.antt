@@ -61,7 +61,8 @@ module _ (n : ℕ) (halted : Bool) where
     abbrev Committed : Committing → Type 0
     Committed c = WholeOrNone (earlier ++ c.steps) c.hardware
 
-    one_row : (c : Committing) (e : Entry) (written : Option (ℕ × ℕ)) → length (rows_of (earlier ++ (c.steps ++ Retired (row_at e written c.hardware.cycle) ∷ []))) ≡ length (rows_of (earlier ++ c.steps)) + 1
+    one_row : (c : Committing) (e : Entry) (written : Option (ℕ × ℕ)) →
+        length (rows_of (earlier ++ (c.steps ++ Retired (row_at e written c.hardware.cycle) ∷ []))) ≡ length (rows_of (earlier ++ c.steps)) + 1
     one_row c e written =
         let s : Step = Retired (row_at e written c.hardware.cycle) in
         ap (λ l. length (rows_of l)) (sym (append_assoc earlier c.steps (s ∷ []))) ∙ ap length (rows_append (earlier ++ c.steps) (s ∷ [])) ∙ length-append (rows_of (earlier ++ c.steps)) (rows_of (s ∷ []))
@@ -94,7 +95,8 @@ module _ (n : ℕ) (halted : Bool) where
     drain_goes : IsKeptByDrain (WholeOrNone steps)
     drain_goes = record { leaves = λ h p idle. p; drains = λ h access p idle is. p }
 
-    starts_goes : (h : Hardware) (older younger : List Entry) (e x : Entry) → h.rob.entries ≡ older ++ e ∷ younger → WholeOrNone steps h →
+    starts_goes : (h : Hardware) (older younger : List Entry) (e x : Entry) → h.rob.entries ≡ older ++ e ∷ younger →
+        WholeOrNone steps h →
         (length (rows_of steps) + (length (older ++ x ∷ younger) + length h.front.entries) ≡ n) × (h.front.halted ≡ halted)
     starts_goes h older younger e x split (inl p) = (omega (arith, p.0, ap length split, length-append older (e ∷ younger), length-append older (x ∷ younger)), p.1)
     starts_goes h older younger e x split (inr p) = not_empty_at older younger e (sym split ∙ p.0)
@@ -139,7 +141,8 @@ module _ (n : ℕ) (halted : Bool) where
     no_words : {P : Type 0} (h : Hardware) (f : Fetched) (fs : List Fetched) → h.front.entries ≡ f ∷ fs → h.front.entries ≡ [] → P
     no_words h f fs first none = not_empty f fs (sym first ∙ none)
 
-    dispatch_left : (h : Hardware) (f : Fetched) (fs : List Fetched) → h.front.entries ≡ f ∷ fs → Left h → (length (rows_of steps) + (length (h.rob.entries ++ entry_of_fetched h f ∷ []) + length fs) ≡ n) × (h.front.halted ≡ halted)
+    dispatch_left : (h : Hardware) (f : Fetched) (fs : List Fetched) → h.front.entries ≡ f ∷ fs → Left h →
+        (length (rows_of steps) + (length (h.rob.entries ++ entry_of_fetched h f ∷ []) + length fs) ≡ n) × (h.front.halted ≡ halted)
     dispatch_left h f fs first (inl (inl p)) = (omega (arith, p.0, ap length first, length-append h.rob.entries (entry_of_fetched h f ∷ [])), p.1)
     dispatch_left h f fs first (inl (inr p)) = no_words h f fs first p.1
     dispatch_left h f fs first (inr p) = no_words h f fs first p.words
@@ -152,5 +155,6 @@ module _ (n : ℕ) (halted : Bool) where
     drain_and_issue h p = issue-keeps (WholeOrNone steps) issue_goes (drain h) (drain-keeps drain_goes h p)
 
     -- the broadcast and the dispatch phase squash nothing but what early recovery does
-    pub broadcast_and_dispatch : (h : Hardware) → h.cycle ≡ now → h.values ≡ v → WholeOrNone steps h → Left (dispatch (broadcast h)).hardware
+    pub broadcast_and_dispatch : (h : Hardware) → h.cycle ≡ now → h.values ≡ v → WholeOrNone steps h →
+        Left (dispatch (broadcast h)).hardware
     broadcast_and_dispatch h cycle values p = dispatch-keeps dispatch_goes (broadcast h) (broadcast_goes h (cycle, values, p))

@@ -15,7 +15,8 @@ use Rattle.rv_hardware.proofs.Marks.Sound.{SoundFetched}
 abbrev Squashes : Values → ℕ → Mark → Type 0
 Squashes v now m = IsBy m.retired now ⊎ ((v.recovery ≡ Early) × (m.broadcast ≡ Some now))
 
-last_row : (v : Values) (now : ℕ) (rows : List Row) → Each (SoundRow v (now + 1)) rows → LastIs (Squashes v now) (map mark_of_row rows)
+last_row : (v : Values) (now : ℕ) (rows : List Row) → Each (SoundRow v (now + 1)) rows →
+    LastIs (Squashes v now) (map mark_of_row rows)
 last_row v now [] sound = tt
 last_row v now (row ∷ []) sound = inl (let below = sound.0 in omega (arith, below.below))
 last_row v now (row ∷ r ∷ rs) sound = last_row v now (r ∷ rs) sound.1
@@ -25,7 +26,8 @@ no_rest xs [] n all one = refl
 no_rest xs (y ∷ ys) n all one = absurd (let both = length-append xs (y ∷ ys) in omega (arith, both, all, one))
 
 -- a front that is halted stays
-pub stays_halted : {lines : Lines} {old new : Hardware} {report : Report} → IsCycle any_prediction lines old report new → (dispatching lines old).hardware.front.halted ≡ true → new.front ≡ (dispatching lines old).hardware.front
+pub stays_halted : {lines : Lines} {old new : Hardware} {report : Report} → IsCycle any_prediction lines old report new →
+    (dispatching lines old).hardware.front.halted ≡ true → new.front ≡ (dispatching lines old).hardware.front
 stays_halted {lines} {old} {new} {report} is =
     let same : is.dispatching ≡ dispatching lines old = is.executes ∙ ap (λ (c : Committing). execute c.hardware) is.commits in
     subst (λ (d : Dispatching). d.hardware.front.halted ≡ true → new.front ≡ d.hardware.front) same
@@ -78,11 +80,13 @@ module _ (v : Values) {earlier : List Step} {old new : Hardware} {lines : Lines}
   abbrev Behind : (ℕ → ℕ) → Mark → Type 0
   Behind h x = Squashes v old.cycle x
 
-  squash_followed : (f : Mark) → f.fetched ≡ old.cycle → (h : ℕ → ℕ) (x : Mark) → Squashes v old.cycle x → Followed v (old.cycle + 1) h x f
+  squash_followed : (f : Mark) → f.fetched ≡ old.cycle → (h : ℕ → ℕ) (x : Mark) → Squashes v old.cycle x →
+      Followed v (old.cycle + 1) h x f
   squash_followed f at h x (inl over) = (omega (arith, at), inl (rw at over))
   squash_followed f at h x (inr early) = (omega (arith, at), inr (inl (early.0, rw at (early.1))))
 
-  behind_squash : LastIs (Squashes v old.cycle) (marks_in all d) → d.front.entries ≡ [] → d.front.halted ≡ false → (fs : List Fetched) → passed.fetches.added ≡ fs → Next (marks_in all d ++ map mark_of_fetched fs)
+  behind_squash : LastIs (Squashes v old.cycle) (marks_in all d) → d.front.entries ≡ [] → d.front.halted ≡ false →
+      (fs : List Fetched) → passed.fetches.added ≡ fs → Next (marks_in all d ++ map mark_of_fetched fs)
   behind_squash last none runs [] at = absurd (by_reason (passed.fetches.goes_on at))
     where
       by_reason : (d.front.halted ≡ true) ⊎ ((d.front.width ≡ 0) ⊎ (d.front.capacity - length d.front.entries ≡ 0)) → ⊥
@@ -105,7 +109,8 @@ module _ (v : Values) {earlier : List Step} {old new : Hardware} {lines : Lines}
         let none = no_rest (marks_in all d) was.0 (length (marks_in earlier old)) was.2 (size_of_marks all d ∙ uncut.0) in
         subst (Linked v old.cycle (IsOpen v old.front.halted old.cycle) (λ c. 0)) (ap (λ l. marks_in all d ++ l) none ∙ append-nil (marks_in all d)) was.1
 
-    on_followed : (f : Fetched) (fs : List Fetched) → passed.fetches.added ≡ f ∷ fs → f.cycle ≡ old.cycle → (h : ℕ → ℕ) (x : Mark) → IsOpen v old.front.halted old.cycle h x → Followed v (old.cycle + 1) h x (mark_of_fetched f)
+    on_followed : (f : Fetched) (fs : List Fetched) → passed.fetches.added ≡ f ∷ fs → f.cycle ≡ old.cycle →
+        (h : ℕ → ℕ) (x : Mark) → IsOpen v old.front.halted old.cycle h x → Followed v (old.cycle + 1) h x (mark_of_fetched f)
     on_followed f fs at same h x (inl halted) = fetches_none f fs at (uncut.1 ∙ halted)
     on_followed f fs at same h x (inr (inl over)) = (omega (arith, same), inl (rw same over))
     on_followed f fs at same h x (inr (inr full)) = (omega (arith, same), inr (inr (rw same full)))
@@ -121,7 +126,8 @@ module _ (v : Values) {earlier : List Step} {old new : Hardware} {lines : Lines}
         let many = buffered_words all d.rob.entries d.front.entries in
         omega (arith, full, b.always.sizes.room, held, counts, settled, many)
 
-    stays_open : v.fetch_buffer ≤ held_behind (λ c. 0) (marks_in all d) old.cycle → (h : ℕ → ℕ) (x : Mark) → with_word h x old.cycle ≡ held_behind (λ c. 0) (marks_in all d) old.cycle → IsOpen v old.front.halted old.cycle h x →
+    stays_open : v.fetch_buffer ≤ held_behind (λ c. 0) (marks_in all d) old.cycle → (h : ℕ → ℕ) (x : Mark) →
+        with_word h x old.cycle ≡ held_behind (λ c. 0) (marks_in all d) old.cycle → IsOpen v old.front.halted old.cycle h x →
         IsOpen v new.front.halted (old.cycle + 1) h x
     stays_open full h x same (inl halted) = inl (ap (λ (r : FetchBuffer). r.halted) (stays_halted is (uncut.1 ∙ halted)) ∙ uncut.1 ∙ halted)
     stays_open full h x same (inr (inl over)) = inr (inl (by_later x.retired over))
@@ -131,14 +137,16 @@ module _ (v : Values) {earlier : List Step} {old new : Hardware} {lines : Lines}
         by_later (Some c) by = omega (arith, by)
     stays_open full h x same (inr (inr filled)) = inr (inr (λ c after earlier. by_cycle c after (cases_lt c old.cycle) earlier))
       where
-        by_cycle : (c : ℕ) → x.fetched < c → (c < old.cycle) ⊎ (old.cycle ≤ c) → c < old.cycle + 1 → v.fetch_buffer ≤ with_word h x c
+        by_cycle : (c : ℕ) → x.fetched < c → (c < old.cycle) ⊎ (old.cycle ≤ c) → c < old.cycle + 1 →
+            v.fetch_buffer ≤ with_word h x c
         by_cycle c after (inl lt) earlier = filled c after lt
         by_cycle c after (inr le) earlier = let at : c ≡ old.cycle = omega (arith, le, earlier) in rw at (omega (arith, full, same))
 
     goes_on : (fs : List Fetched) → passed.fetches.added ≡ fs → Next (marks_in all d ++ map mark_of_fetched fs)
     goes_on [] at = rw (append-nil (marks_in all d)) (by_reason (passed.fetches.goes_on at))
       where
-        by_reason : (d.front.halted ≡ true) ⊎ ((d.front.width ≡ 0) ⊎ (d.front.capacity - length d.front.entries ≡ 0)) → Next (marks_in all d)
+        by_reason : (d.front.halted ≡ true) ⊎ ((d.front.width ≡ 0) ⊎ (d.front.capacity - length d.front.entries ≡ 0)) →
+            Next (marks_in all d)
         by_reason (inl halted) =
             linked_stays v old.cycle (IsOpen v old.front.halted old.cycle) (IsOpen v new.front.halted (old.cycle + 1)) (λ c. 0) (marks_in all d)
             (λ h x same was. inl (ap (λ (r : FetchBuffer). r.halted) (stays_halted is halted) ∙ halted)) still
@@ -150,7 +158,8 @@ module _ (v : Values) {earlier : List Step} {old new : Hardware} {lines : Lines}
         linked_on v old.cycle (IsOpen v old.front.halted old.cycle) (IsOpen v new.front.halted (old.cycle + 1)) (λ c. 0) (marks_in all d) (mark_of_fetched f) (map mark_of_fetched fs) (on_followed f fs at these.0) still
         (λ h. linked_words v old.cycle new.front.halted h (map mark_of_fetched (f ∷ fs)) these)
 
-  by_squash : Left (length (marks_in earlier old)) old.front.halted v old.cycle all d → Next (marks_in all d ++ map mark_of_fetched passed.fetches.added)
+  by_squash : Left (length (marks_in earlier old)) old.front.halted v old.cycle all d →
+      Next (marks_in all d ++ map mark_of_fetched passed.fetches.added)
   by_squash (inl (inl uncut)) = goes_on uncut passed.fetches.added refl
   by_squash (inl (inr empty)) =
       behind_squash
@@ -168,6 +177,7 @@ module _ (v : Values) {earlier : List Step} {old new : Hardware} {lines : Lines}
       rw (next, passed.new_marks) (by_squash left)
 
 -- in every history each mark tells why the next one was not fetched earlier
-pub marks_are_linked : (v : Values) {steps : List Step} {h : Hardware} → History v steps h → Linked v h.cycle (IsOpen v h.front.halted h.cycle) (λ c. 0) (marks_in steps h)
+pub marks_are_linked : (v : Values) {steps : List Step} {h : Hardware} → History v steps h →
+    Linked v h.cycle (IsOpen v h.front.halted h.cycle) (λ c. 0) (marks_in steps h)
 marks_are_linked v (began image start legal) = tt
 marks_are_linked v (went_on before is) = linked_in_cycle v before is (marks_are_linked v before)

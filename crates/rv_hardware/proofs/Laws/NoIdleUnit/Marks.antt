@@ -26,19 +26,23 @@ BusyUnits k j c before m = MayStart k c before m → j ≤ count (begins_mark k 
 -- what is known after a mark that went on was known before
 
 module _ (c : ℕ) (m n : Mark) (instruction : n.instruction ≡ m.instruction) (known : IsKnownMark c n → IsKnownMark c m) where
-  either : (b : Bool) (z : Mark) (o p : Option Mark) → (IfSome o (IsKnownMark c) → IfSome p (IsKnownMark c)) → IfSome (cond b (Some z) o) (IsKnownMark c) → IfSome (cond b (Some z) p) (IsKnownMark c)
+  either : (b : Bool) (z : Mark) (o p : Option Mark) → (IfSome o (IsKnownMark c) → IfSome p (IsKnownMark c)) →
+      IfSome (cond b (Some z) o) (IsKnownMark c) → IfSome (cond b (Some z) p) (IsKnownMark c)
   either true z o p f h = h
   either false z o p f h = f h
 
-  last_more : (test : Mark → Bool) (mid : List Mark) (o p : Option Mark) → (IfSome o (IsKnownMark c) → IfSome p (IsKnownMark c)) → IfSome (last_from o test mid) (IsKnownMark c) → IfSome (last_from p test mid) (IsKnownMark c)
+  last_more : (test : Mark → Bool) (mid : List Mark) (o p : Option Mark) → (IfSome o (IsKnownMark c) → IfSome p (IsKnownMark c)) →
+      IfSome (last_from o test mid) (IsKnownMark c) → IfSome (last_from p test mid) (IsKnownMark c)
   last_more test [] o p f h = f h
   last_more test (z ∷ mid) o p f h = last_more test mid (cond (test z) (Some z) o) (cond (test z) (Some z) p) (either (test z) z o p f) h
 
-  here : (b : Bool) (found : Option Mark) → IfSome (cond b (Some n) found) (IsKnownMark c) → IfSome (cond b (Some m) found) (IsKnownMark c)
+  here : (b : Bool) (found : Option Mark) → IfSome (cond b (Some n) found) (IsKnownMark c) →
+      IfSome (cond b (Some m) found) (IsKnownMark c)
   here true found h = known h
   here false found h = h
 
-  last_back : (register : ℕ) (xs mid : List Mark) → IfSome (last_that (writes_mark register) (xs ++ n ∷ mid)) (IsKnownMark c) → IfSome (last_that (writes_mark register) (xs ++ m ∷ mid)) (IsKnownMark c)
+  last_back : (register : ℕ) (xs mid : List Mark) → IfSome (last_that (writes_mark register) (xs ++ n ∷ mid)) (IsKnownMark c) →
+      IfSome (last_that (writes_mark register) (xs ++ m ∷ mid)) (IsKnownMark c)
   last_back register xs mid h =
       let found : Option Mark = last_from None (writes_mark register) xs in
       let same : writes_mark register n ≡ writes_mark register m = ap (λ i. is_target register (target_of_word i)) instruction in
@@ -47,7 +51,8 @@ module _ (c : ℕ) (m n : Mark) (instruction : n.instruction ≡ m.instruction) 
       (λ k. here (writes_mark register m) found (subst (λ b. IfSome (cond b (Some n) found) (IsKnownMark c)) same k))
       (rw (last_from-append None (writes_mark register) xs (n ∷ mid)) at h))
 
-  operands_back : (xs mid : List Mark) (sources : List (Option ℕ)) → OperandsKnown c (xs ++ n ∷ mid) sources → OperandsKnown c (xs ++ m ∷ mid) sources
+  operands_back : (xs mid : List Mark) (sources : List (Option ℕ)) → OperandsKnown c (xs ++ n ∷ mid) sources →
+      OperandsKnown c (xs ++ m ∷ mid) sources
   operands_back xs mid [] h = tt
   operands_back xs mid (None ∷ sources) h = (tt, operands_back xs mid sources h.1)
   operands_back xs mid (Some register ∷ sources) h = (last_back register xs mid h.0, operands_back xs mid sources h.1)
@@ -74,7 +79,8 @@ not_now now o at h = absurd (too_early (subst (IsBefore now) at h))
     too_early : now < now → ⊥
     too_early lt = omega arith
 
-same_known : (now : ℕ) (m n : Mark) → n.instruction ≡ m.instruction → n.broadcast ≡ m.broadcast → IsKnownMark now n → IsKnownMark now m
+same_known : (now : ℕ) (m n : Mark) → n.instruction ≡ m.instruction → n.broadcast ≡ m.broadcast → IsKnownMark now n →
+    IsKnownMark now m
 same_known now m n instruction broadcast h some = subst (IsBefore now) broadcast (h (subst (λ i. is_some (kind_of_word i) ≡ true) (sym instruction) some))
 
 goes_back : (v : Values) (now : ℕ) (xs : List Mark) (m n : Mark) → Advances v now xs m n → Back now m n
@@ -100,7 +106,8 @@ goes_back v now xs m n (enters a) = record {
 some_not_none : {X P : Type 0} (o : Option X) (x : X) → o ≡ Some x → o ≡ None → P
 some_not_none o x some none = absurd (cc)
 
-itself : (k : Kind) (j : ℕ) (v : Values) (now : ℕ) (xs : List Mark) (m n : Mark) → Advances v now xs m n → BusyUnits k j now xs m → BusyUnits k j now xs n
+itself : (k : Kind) (j : ℕ) (v : Values) (now : ℕ) (xs : List Mark) (m n : Mark) → Advances v now xs m n →
+    BusyUnits k j now xs m → BusyUnits k j now xs n
 itself k j v now xs m n (retires a) h may = h (record {
   kind = subst (λ i. is_of_kind k (kind_of_word i) ≡ true) (ap (λ x. x.instruction) a.becomes) may.kind;
   plain = subst (λ i. is_load i ≡ false) (ap (λ x. x.instruction) a.becomes) may.plain;
@@ -112,7 +119,8 @@ itself k j v now xs m n (starts a) h may = some_not_none n.start a.start (ap (λ
 itself k j v now xs m n (is_sent a) h may = some_not_none n.start a.start (ap (λ x. x.start) a.becomes ∙ a.started) may.not_yet
 itself k j v now xs m n (enters a) h may = not_now now n.dispatched (ap (λ x. x.dispatched) a.becomes) may.dispatched
 
-still_begins : (k : Kind) (v : Values) (now : ℕ) (xs : List Mark) (m n : Mark) → Advances v now xs m n → begins_mark k now m ≡ true → begins_mark k now n ≡ true
+still_begins : (k : Kind) (v : Values) (now : ℕ) (xs : List Mark) (m n : Mark) → Advances v now xs m n →
+    begins_mark k now m ≡ true → begins_mark k now n ≡ true
 still_begins k v now xs m n (retires a) h = rw (a.becomes) h
 still_begins k v now xs m n (starts a) h = never_both (is_of_kind k (kind_of_word m.instruction)) (subst (λ o. (is_of_kind k (kind_of_word m.instruction) && starts_at now o) ≡ true) a.not_yet h)
 still_begins k v now xs m n (is_sent a) h = rw (a.becomes) h
@@ -133,39 +141,46 @@ busy_units_are_kept k j v now = record {
 -- an entry that may start is ready
 
 module _ (v : Values) (k : Kind) (now : ℕ) where
-  waiting_by : (i : Option Instr) (D a b : ℕ) (st : Stage) → SoundStage v i D a b st → is_of_kind k (kind_of_word i) ≡ true → start_of_stage st ≡ None → is_waiting st ≡ true
+  waiting_by : (i : Option Instr) (D a b : ℕ) (st : Stage) → SoundStage v i D a b st → is_of_kind k (kind_of_word i) ≡ true →
+      start_of_stage st ≡ None → is_waiting st ≡ true
   waiting_by i D a b Waiting sound kind none = refl
   waiting_by i D a b (Running issue message) sound kind none = absurd (cc)
   waiting_by i D a b (Finished (Some issue) cycle message) sound kind none = absurd (cc)
   waiting_by i D a b (Finished None cycle message) sound kind none = absurd (let is = is_of_kind_is k (kind_of_word i) kind in let no_kind = sound.0 in cc)
 
-  broadcast_by : (i : Option Instr) (D a b : ℕ) (st : Stage) → SoundStage v i D a b st → IsBefore now (broadcast_of_stage st) → is_some (broadcast_of st) ≡ true
+  broadcast_by : (i : Option Instr) (D a b : ℕ) (st : Stage) → SoundStage v i D a b st → IsBefore now (broadcast_of_stage st) →
+      is_some (broadcast_of st) ≡ true
   broadcast_by i D a b Waiting sound h = absurd h
   broadcast_by i D a b (Running issue message) sound h = absurd h
   broadcast_by i D a b (Finished (Some issue) cycle message) sound h = refl
   broadcast_by i D a b (Finished None cycle message) sound h = refl
 
   -- a writer that is known was broadcast
-  writer_known : (d a b : ℕ) (e : Entry) (register : ℕ) → SoundEntry v d a b e → is_serialising e.instruction ≡ false → writes e register ≡ true → IsKnownMark now (mark_of_entry e) → is_some (broadcast_of e.stage) ≡ true
+  writer_known : (d a b : ℕ) (e : Entry) (register : ℕ) → SoundEntry v d a b e → is_serialising e.instruction ≡ false →
+      writes e register ≡ true → IsKnownMark now (mark_of_entry e) → is_some (broadcast_of e.stage) ≡ true
   writer_known d a b e register sound plain writes_it known = by_kind (kind_of_word e.instruction) refl
     where
       by_kind : (o : Option Kind) → kind_of_word e.instruction ≡ o → is_some (broadcast_of e.stage) ≡ true
       by_kind None is = absurd (true≢false (sym (writer_serialises register e.instruction is writes_it) ∙ plain))
       by_kind (Some j) is = broadcast_by e.instruction e.dispatched a b e.stage sound.stage (known (ap is_some is))
 
-  known_either : (b : Bool) (d i j : ℕ) (e : Entry) (register : ℕ) (known : Bool) (found : Option Mark) → writes e register ≡ b → SoundEntry v d i j e → is_serialising e.instruction ≡ false → (IfSome found (IsKnownMark now) → known ≡ true) →
+  known_either : (b : Bool) (d i j : ℕ) (e : Entry) (register : ℕ) (known : Bool) (found : Option Mark) → writes e register ≡ b →
+      SoundEntry v d i j e → is_serialising e.instruction ≡ false → (IfSome found (IsKnownMark now) → known ≡ true) →
       IfSome (cond b (Some (mark_of_entry e)) found) (IsKnownMark now) → cond b (is_some (broadcast_of e.stage)) known ≡ true
   known_either true d i j e register known found is sound plain before h = writer_known d i j e register sound plain is h
   known_either false d i j e register known found is sound plain before h = before h
 
-  known_from : (d i j register : ℕ) (known : Bool) (found : Option Mark) (es : List Entry) → Each (SoundEntry v d i j) es → Each (λ e. is_serialising e.instruction ≡ false) es → (IfSome found (IsKnownMark now) → known ≡ true) →
-      IfSome (last_from found (writes_mark register) (map mark_of_entry es)) (IsKnownMark now) → is_known_from known es register ≡ true
+  known_from : (d i j register : ℕ) (known : Bool) (found : Option Mark) (es : List Entry) → Each (SoundEntry v d i j) es →
+      Each (λ e. is_serialising e.instruction ≡ false) es → (IfSome found (IsKnownMark now) → known ≡ true) →
+      IfSome (last_from found (writes_mark register) (map mark_of_entry es)) (IsKnownMark now) →
+      is_known_from known es register ≡ true
   known_from d i j register known found [] sound plain before h = before h
   known_from d i j register known found (e ∷ es) sound plain before h =
       known_from d i j register (cond (writes e register) (is_some (broadcast_of e.stage)) known) (cond (writes e register) (Some (mark_of_entry e)) found) es sound.1 plain.1
       (known_either (writes e register) d i j e register known found refl sound.0 plain.0 before) h
 
-  operands_by : (d i j : ℕ) (rows : List Row) (older : List Entry) (sources : List (Option ℕ)) → Each (SoundEntry v d i j) older → Each (λ e. is_serialising e.instruction ≡ false) older →
+  operands_by : (d i j : ℕ) (rows : List Row) (older : List Entry) (sources : List (Option ℕ)) → Each (SoundEntry v d i j) older →
+      Each (λ e. is_serialising e.instruction ≡ false) older →
       OperandsKnown now (map mark_of_row rows ++ map mark_of_entry older) sources → has_operands older sources ≡ true
   operands_by d i j rows older [] sound plain h = refl
   operands_by d i j rows older (None ∷ sources) sound plain h = operands_by d i j rows older sources sound plain h.1
@@ -179,7 +194,8 @@ module _ (v : Values) (k : Kind) (now : ℕ) where
   loads_by true c is = absurd (cc)
   loads_by false c is = refl
 
-  pub may_is_ready : (d i j : ℕ) (rows : List Row) (h : Hardware) (older : List Entry) (e : Entry) → Each (SoundEntry v d i j) older → Each (λ x. is_serialising x.instruction ≡ false) older → SoundEntry v d i j e →
+  pub may_is_ready : (d i j : ℕ) (rows : List Row) (h : Hardware) (older : List Entry) (e : Entry) →
+      Each (SoundEntry v d i j) older → Each (λ x. is_serialising x.instruction ≡ false) older → SoundEntry v d i j e →
       MayStart k now (map mark_of_row rows ++ map mark_of_entry older) (mark_of_entry e) → is_ready h k older e ≡ true
   may_is_ready d i j rows h older e sounds serial sound may =
       and_from (is_waiting e.stage && is_of_kind k (kind_of_word e.instruction) && has_operands older (sources_of_word e.instruction)) (may_load h older e)
@@ -189,24 +205,28 @@ module _ (v : Values) (k : Kind) (now : ℕ) where
       (loads_by (is_load e.instruction) _ may.plain)
 
   -- no row and no word may start
-  row_not_by : (x : Option Execution) (i : Option Instr) → is_some x ≡ is_some (kind_of_word i) → is_of_kind k (kind_of_word i) ≡ true → start_of_execution x ≡ None → ⊥
+  row_not_by : (x : Option Execution) (i : Option Instr) → is_some x ≡ is_some (kind_of_word i) →
+      is_of_kind k (kind_of_word i) ≡ true → start_of_execution x ≡ None → ⊥
   row_not_by None i same kind none = absurd (let is = is_of_kind_is k (kind_of_word i) kind in let some = same ∙ ap is_some is in cc)
   row_not_by (Some x) i same kind none = absurd (cc)
 
   -- rows do not start any more
-  pub rows_do_not_start : (bound : ℕ) (before : List Mark) (rows : List Row) → Each (SoundRow v bound) rows → EveryBehind (λ b m. MayStart k now b m → ⊥) before (map mark_of_row rows)
+  pub rows_do_not_start : (bound : ℕ) (before : List Mark) (rows : List Row) → Each (SoundRow v bound) rows →
+      EveryBehind (λ b m. MayStart k now b m → ⊥) before (map mark_of_row rows)
   rows_do_not_start bound before [] sound = tt
   rows_do_not_start bound before (row ∷ rows) sound =
       ((λ may. row_not_by row.execution (mark_of_row row).instruction sound.0.stamps.executed_by_a_unit may.kind may.not_yet), rows_do_not_start bound (before ++ mark_of_row row ∷ []) rows sound.1)
 
   -- fetched words cannot start yet
-  pub words_do_not_start : (before : List Mark) (fs : List Fetched) → EveryBehind (λ b m. MayStart k now b m → ⊥) before (map mark_of_fetched fs)
+  pub words_do_not_start : (before : List Mark) (fs : List Fetched) →
+      EveryBehind (λ b m. MayStart k now b m → ⊥) before (map mark_of_fetched fs)
   words_do_not_start before [] = tt
   words_do_not_start before (f ∷ fs) = ((λ may. may.dispatched), words_do_not_start (before ++ mark_of_fetched f ∷ []) fs)
 
   -- instructions that are not ready cannot start
-  pub entries_do_not_start : (d i j : ℕ) (rows : List Row) (h : Hardware) (before es : List Entry) → Each (SoundEntry v d i j) before →
-      Each (SoundEntry v d i j) es → AreSerialLast (instructions_of (before ++ es)) → EveryBehind (λ b e. is_ready h k b e ≡ false) before es →
+  pub entries_do_not_start : (d i j : ℕ) (rows : List Row) (h : Hardware) (before es : List Entry) →
+      Each (SoundEntry v d i j) before → Each (SoundEntry v d i j) es → AreSerialLast (instructions_of (before ++ es)) →
+      EveryBehind (λ b e. is_ready h k b e ≡ false) before es →
       EveryBehind (λ b m. MayStart k now b m → ⊥) (map mark_of_row rows ++ map mark_of_entry before) (map mark_of_entry es)
   entries_do_not_start d i j rows h before [] sounds sound last none = tt
   entries_do_not_start d i j rows h before (e ∷ es) sounds sound last none = (

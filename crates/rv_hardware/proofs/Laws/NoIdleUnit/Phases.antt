@@ -36,7 +36,8 @@ fewer_held now xs = filtered (holds_unit now) (holding now xs)
     picks true m n le = omega arith
     picks false m n le = omega arith
 
-    pick_length : {X : Type 0} (b : Bool) (x : X) (ys : List X) → length (cond b (x ∷ ys) ys) ≡ cond b (suc (length ys)) (length ys)
+    pick_length : {X : Type 0} (b : Bool) (x : X) (ys : List X) →
+        length (cond b (x ∷ ys) ys) ≡ cond b (suc (length ys)) (length ys)
     pick_length true x ys = refl
     pick_length false x ys = refl
 
@@ -44,7 +45,8 @@ fewer_held now xs = filtered (holds_unit now) (holding now xs)
     filtered p [] = omega arith
     filtered p (y ∷ ys) = let rest = filtered p ys in let here = pick_length (p y) y (filter p ys) in let less = picks (p y) (length (filter p ys)) (length ys) rest in omega (arith, here, less)
 
-filter-append_length : (now : ℕ) (xs : List Issue) (s : Issue) → length (holding now (xs ++ s ∷ [])) ≤ suc (length (holding now xs))
+filter-append_length : (now : ℕ) (xs : List Issue) (s : Issue) →
+    length (holding now (xs ++ s ∷ [])) ≤ suc (length (holding now xs))
 filter-append_length now [] s = one (holds_unit now s)
   where
     one : (b : Bool) → length (cond b (s ∷ []) []) ≤ 1
@@ -52,7 +54,8 @@ filter-append_length now [] s = one (holds_unit now s)
     one false = omega arith
 filter-append_length now (x ∷ xs) s = by_test (holds_unit now x) (filter-append_length now xs s)
   where
-    by_test : (b : Bool) → length (holding now (xs ++ s ∷ [])) ≤ suc (length (holding now xs)) → length (cond b (x ∷ holding now (xs ++ s ∷ [])) (holding now (xs ++ s ∷ []))) ≤ suc (length (cond b (x ∷ holding now xs) (holding now xs)))
+    by_test : (b : Bool) → length (holding now (xs ++ s ∷ [])) ≤ suc (length (holding now xs)) →
+        length (cond b (x ∷ holding now (xs ++ s ∷ [])) (holding now (xs ++ s ∷ []))) ≤ suc (length (cond b (x ∷ holding now xs) (holding now xs)))
     by_test true le = omega arith
     by_test false le = le
 
@@ -63,10 +66,12 @@ module _ (v : Values) (legal : IsLegal v) (now : ℕ) (steps : List Step) (k : K
   abbrev Busy : ℕ → Hardware → Type 0
   Busy j h = Issues v legal now Anything (anything_is_kept v now) steps h × EveryBehind (BusyUnits k j now) [] (marks_in steps h) × (length (holding now (at_kind k h.units).starts) ≤ j)
 
-  never_busy : (j : ℕ) (before xs : List Mark) → EveryBehind (λ b m. MayStart k now b m → ⊥) before xs → EveryBehind (BusyUnits k j now) before xs
+  never_busy : (j : ℕ) (before xs : List Mark) → EveryBehind (λ b m. MayStart k now b m → ⊥) before xs →
+      EveryBehind (BusyUnits k j now) before xs
   never_busy j before xs h = EveryBehind-weaker (λ b m. MayStart k now b m → ⊥) (BusyUnits k j now) (λ b m never may. absurd (never may)) before xs h
 
-  none_started : (j : ℕ) (h : Hardware) → Issues v legal now Anything (anything_is_kept v now) steps h → EveryBehind (λ b e. is_ready h k b e ≡ false) [] h.rob.entries → EveryBehind (BusyUnits k j now) [] (marks_in steps h)
+  none_started : (j : ℕ) (h : Hardware) → Issues v legal now Anything (anything_is_kept v now) steps h →
+      EveryBehind (λ b e. is_ready h k b e ≡ false) [] h.rob.entries → EveryBehind (BusyUnits k j now) [] (marks_in steps h)
   none_started j h p none =
       let rows : List Mark = map mark_of_row (rows_of steps) in
       let es : List Mark = map mark_of_entry h.rob.entries in
@@ -114,7 +119,9 @@ module _ (v : Values) (legal : IsLegal v) (now : ℕ) (steps : List Step) (k : K
         has_begun : (mark_of_entry begun).start ≡ None → ⊥
         has_begun none' = absurd (cc)
 
-  held_after : (j : ℕ) (h : Hardware) (older : List Entry) (e : Entry) → h.cycle ≡ now → length (holding now (at_kind k h.units).starts) ≤ j → length (holding now (at_kind k (issued k h older e).units).starts) ≤ suc j
+  held_after : (j : ℕ) (h : Hardware) (older : List Entry) (e : Entry) → h.cycle ≡ now →
+      length (holding now (at_kind k h.units).starts) ≤ j →
+      length (holding now (at_kind k (issued k h older e).units).starts) ≤ suc j
   held_after j h older e cycle le =
       let cost : ℕ = cost_of h k (path h older e) in
       let pool : Pool = at_kind k h.units in
@@ -124,18 +131,20 @@ module _ (v : Values) (legal : IsLegal v) (now : ℕ) (steps : List Step) (k : K
       let all = ap (λ (q : Pool). length (holding now q.starts)) same in
       omega (arith, all, more, fewer, le)
 
-  busy_leads : (j : ℕ) (h : Hardware) (t : Turn Hardware) → j < units_here → IssueTurn k h t → Busy j h → Leads (Issues v legal now Anything (anything_is_kept v now) steps) (Issues v legal now Anything (anything_is_kept v now) steps) t →
-      Leads (Busy (suc j)) (λ g. EveryBehind (BusyUnits k units_here now) [] (marks_in steps g)) t
+  busy_leads : (j : ℕ) (h : Hardware) (t : Turn Hardware) → j < units_here → IssueTurn k h t → Busy j h →
+      Leads (Issues v legal now Anything (anything_is_kept v now) steps) (Issues v legal now Anything (anything_is_kept v now) steps) t → Leads (Busy (suc j)) (λ g. EveryBehind (BusyUnits k units_here now) [] (marks_in steps g)) t
   busy_leads j h _ lt (no_unit held) p goes =
       let full = ltb-false (length (holding now (at_kind k h.units).starts)) (at_kind k h.units).units (subst (λ n. is_free n (at_kind k h.units) ≡ false) p.0.basics.cycle held) in
       absurd (too_many full (p.0.basics.always.sizes.units k) p.2)
     where
-      too_many : (at_kind k h.units).units ≤ length (holding now (at_kind k h.units).starts) → (at_kind k h.units).units ≡ units_here → length (holding now (at_kind k h.units).starts) ≤ j → ⊥
+      too_many : (at_kind k h.units).units ≤ length (holding now (at_kind k h.units).starts) →
+          (at_kind k h.units).units ≡ units_here → length (holding now (at_kind k h.units).starts) ≤ j → ⊥
       too_many full same le = omega (arith, full, same, le, lt)
   busy_leads j h _ lt (none_ready none) p goes = none_started units_here h p.0 none
   busy_leads j h _ lt (starts older younger e at is none free) p goes = (goes, after_start j h older younger e at is none p, held_after j h older e p.0.basics.cycle p.2)
 
-  pub kind_is_busy : (h : Hardware) → Issues v legal now Anything (anything_is_kept v now) steps h → Over now (at_kind k h.units) → EveryBehind (BusyUnits k units_here now) [] (marks_in steps (issue_kind k h))
+  pub kind_is_busy : (h : Hardware) → Issues v legal now Anything (anything_is_kept v now) steps h →
+      Over now (at_kind k h.units) → EveryBehind (BusyUnits k units_here now) [] (marks_in steps (issue_kind k h))
   kind_is_busy h p over =
       let none = ap (λ l. length l) (none_holds now (at_kind k h.units).starts over) in
       turns_within units_here Busy (λ g. EveryBehind (BusyUnits k units_here now) [] (marks_in steps g)) (issue_turn k)
@@ -173,7 +182,8 @@ module _ (v : Values) (legal : IsLegal v) (now : ℕ) (steps : List Step) (k : K
   Timely h = InCycle v now h × Over (now + 1) (at_kind k h.units)
 
   -- of a start of some kind
-  over_by : (j : Kind) (cost : ℕ) (u : PerKind Pool) → (at_kind k u).is_pipelined ≡ true → Over (now + 1) (at_kind k u) → Over (now + 1) (at_kind k (with_kind j (started_unit cost now (at_kind j u)) u))
+  over_by : (j : Kind) (cost : ℕ) (u : PerKind Pool) → (at_kind k u).is_pipelined ≡ true → Over (now + 1) (at_kind k u) →
+      Over (now + 1) (at_kind k (with_kind j (started_unit cost now (at_kind j u)) u))
   over_by j cost u = with_kind-each j (started_unit cost now (at_kind j u)) u (λ i pool. (at_kind i u).is_pipelined ≡ true → Over (now + 1) (at_kind i u) → Over (now + 1) pool)
       (λ line over.
       Each-append (λ s. s.cycle + s.cost ≤ now + 1) (holding now (at_kind j u).starts) (record { cycle = now; cost = held_for (at_kind j u).is_pipelined cost } ∷ [])
@@ -197,7 +207,8 @@ module _ (v : Values) (legal : IsLegal v) (now : ℕ) (steps : List Step) (k : K
   abbrev Apart : Pool → Hardware → Type 0
   Apart pool h = at_kind k h.units ≡ pool
 
-  apart_kind : (pool : Pool) (j : Kind) (h : Hardware) → is_of_kind k (Some j) ≡ false → Apart pool h → Apart pool (issue_kind j h)
+  apart_kind : (pool : Pool) (j : Kind) (h : Hardware) → is_of_kind k (Some j) ≡ false → Apart pool h →
+      Apart pool (issue_kind j h)
   apart_kind pool j h other p =
       issue_kind-keeps {P = Apart pool} j (λ h older younger e p at is free.
       ap (at_kind k) (issued_units j h older e) ∙ with_kind-other j (started_unit (cost_of h j (path h older e)) h.cycle (at_kind j h.units)) h.units k other ∙ p) h p
@@ -209,18 +220,21 @@ module _ (v : Values) (legal : IsLegal v) (now : ℕ) (steps : List Step) (k : K
   abbrev KeepsBusy : Hardware → Type 0
   KeepsBusy h = Issues v legal now BusyNow (busy_units_are_kept k (at_kind k v.kinds).units v now) steps h
 
-  plain : (h : Hardware) → Issues v legal now Anything (anything_is_kept v now) steps h → (j : Kind) → Issues v legal now Anything (anything_is_kept v now) steps (issue_kind j h)
+  plain : (h : Hardware) → Issues v legal now Anything (anything_is_kept v now) steps h → (j : Kind) →
+      Issues v legal now Anything (anything_is_kept v now) steps (issue_kind j h)
   plain h p j = issue_kind_keeps v legal now Anything (anything_is_kept v now) steps j h p
 
   on : (h : Hardware) → KeepsBusy h → (j : Kind) → KeepsBusy (issue_kind j h)
   on h p j = issue_kind_keeps v legal now BusyNow (busy_units_are_kept k (at_kind k v.kinds).units v now) steps j h p
 
-  here : (h : Hardware) → Issues v legal now Anything (anything_is_kept v now) steps h → Over now (at_kind k h.units) → KeepsBusy (issue_kind k h)
+  here : (h : Hardware) → Issues v legal now Anything (anything_is_kept v now) steps h → Over now (at_kind k h.units) →
+      KeepsBusy (issue_kind k h)
   here h p over = with_marks v now now (now + 1) now now (now + 1) Anything BusyNow steps (issue_kind k h) (kind_is_busy v legal now steps k h p over) (plain h p k)
 
 -- the issue phase of all kinds
 module _ (v : Values) (legal : IsLegal v) (now : ℕ) (steps : List Step) (h : Hardware) (p : Issues v legal now Anything (anything_is_kept v now) steps h) where
-  pub issue_is_busy : (k : Kind) → (at_kind k v.kinds).pipelined ≡ true → Over now (at_kind k h.units) → EveryBehind (BusyUnits k (at_kind k v.kinds).units now) [] (marks_in steps (issue h))
+  pub issue_is_busy : (k : Kind) → (at_kind k v.kinds).pipelined ≡ true → Over now (at_kind k h.units) →
+      EveryBehind (BusyUnits k (at_kind k v.kinds).units now) [] (marks_in steps (issue h))
   issue_is_busy kind.Alu line over =
       let a = issue_kind kind.Alu h in
       let m = issue_kind kind.Mul a in
@@ -252,7 +266,8 @@ module _ (v : Values) (legal : IsLegal v) (now : ℕ) (steps : List Step) (h : H
 over_at_reset : (v : Values) (k : Kind) → Over 0 (at_kind k (for_each free_pool v.kinds))
 over_at_reset v k = rw (at_kind-for_each free_pool v.kinds k) tt
 
-pub over_of_history : (v : Values) (k : Kind) → (at_kind k v.kinds).pipelined ≡ true → {steps : List Step} {h : Hardware} → History v steps h → Over h.cycle (at_kind k h.units)
+pub over_of_history : (v : Values) (k : Kind) → (at_kind k v.kinds).pipelined ≡ true → {steps : List Step} {h : Hardware} →
+    History v steps h → Over h.cycle (at_kind k h.units)
 over_of_history v k line (began image start legal) = over_at_reset v k
 over_of_history v k line (went_on {earlier} {old} {new} {lines} {report} before is) =
     let legal = history_is_legal v before in
@@ -265,7 +280,9 @@ over_of_history v k line (went_on {earlier} {old} {new} {lines} {report} before 
     rw next (subst (λ u. Over (old.cycle + 1) (at_kind k u)) (sym units) issues.1)
 
 -- at the end of a cycle
-pub units_are_busy : (v : Values) (k : Kind) → (at_kind k v.kinds).pipelined ≡ true → (earlier : List Step) (lines : Lines) (old new : Hardware) (report : Report) (R : List Mark → Type 0) → History v earlier old → Passed v R earlier lines old report new →
+pub units_are_busy : (v : Values) (k : Kind) → (at_kind k v.kinds).pipelined ≡ true →
+    (earlier : List Step) (lines : Lines) (old new : Hardware) (report : Report) (R : List Mark → Type 0) →
+    History v earlier old → Passed v R earlier lines old report new →
     EveryBehind (BusyUnits k (at_kind k v.kinds).units old.cycle) [] (marks_in (earlier ++ report.steps) new)
 units_are_busy v k line earlier lines old new report R before passed =
     let legal = history_is_legal v before in

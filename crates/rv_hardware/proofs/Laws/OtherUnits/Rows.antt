@@ -17,8 +17,9 @@ module _ (v : Values) (k : Kind) (test : ℕ → Mark → Bool)
     (holds : (c : ℕ) (m : Mark) → test c m ≡ true → holds_mark v k c m ≡ true)
     (gone : (now : ℕ) (row : Row) → SoundRow v (now + 1) row → test now (mark_of_row row) ≡ false)
     (no_word : (now : ℕ) (f : Fetched) → test now (mark_of_fetched f) ≡ false) where
-  held_at_end : (earlier : List Step) (old new : Hardware) (lines : Lines) (report : Report) → History v earlier old → History v (earlier ++ report.steps) new →
-      Passed v (Extends old.cycle (marks_in earlier old)) earlier lines old report new → count (test old.cycle) (marks_in (earlier ++ report.steps) new) ≤ (at_kind k v.kinds).units
+  held_at_end : (earlier : List Step) (old new : Hardware) (lines : Lines) (report : Report) → History v earlier old →
+      History v (earlier ++ report.steps) new → Passed v (Extends old.cycle (marks_in earlier old)) earlier lines old report new →
+      count (test old.cycle) (marks_in (earlier ++ report.steps) new) ≤ (at_kind k v.kinds).units
   held_at_end earlier old new lines report before after passed =
       let p : Mark → Bool = test old.cycle in
       let d : Hardware = (dispatching lines old).hardware in
@@ -35,7 +36,8 @@ module _ (v : Values) (k : Kind) (test : ℕ → Mark → Bool)
 
   module _ (row_test : ℕ → Row → Bool) (shows : Shows v row_test test) where
     -- in no cycle do more rows pass a test of holding a unit than there are units
-    pub units_law : {steps : List Step} {h : Hardware} → History v steps h → (c : ℕ) → count_by (row_test c) (rows_of steps) ≤ (at_kind k v.kinds).units
+    pub units_law : {steps : List Step} {h : Hardware} → History v steps h → (c : ℕ) →
+        count_by (row_test c) (rows_of steps) ≤ (at_kind k v.kinds).units
     units_law history = counted_law v row_test test shows (at_kind k v.kinds).units held_at_end history
 
 -- a start in a cycle

@@ -25,14 +25,17 @@ module _ (v : Values) (h : Hardware) (shape : HasShape v h) (older : List Entry)
   abbrev pub Goes_to_cache : Option Instr → Type 0
   Goes_to_cache i = (address : ℕ) × (path_of h older s i ≡ FromCache address)
 
-  from_cache : (b : Bool) (address : ℕ) → ((cost_of h k (cond b FromStores (FromCache address)) == v.forward) ≡ false) → (a : ℕ) × (cond b FromStores (FromCache address) ≡ FromCache a)
+  from_cache : (b : Bool) (address : ℕ) → ((cost_of h k (cond b FromStores (FromCache address)) == v.forward) ≡ false) →
+      (a : ℕ) × (cond b FromStores (FromCache address) ≡ FromCache a)
   from_cache true address other = absurd (true≢false (sym (eq-eqb h.values.forward v.forward (ap (λ (w : Values). w.forward) shape.values)) ∙ other))
   from_cache false address other = (address, refl)
 
-  load_path : (form : LoadForm) (rd rs1 : ℕ) (offset : ℤ) (a b : Bool) → is_aligned (sum (register_of s rs1) (modulo_word offset)) (bytes_of (width_of form)) ≡ a →
-      is_in_ram (layout_of h.values) (sum (register_of s rs1) (modulo_word offset)) (bytes_of (width_of form)) ≡ b → (w : Option ℕ) →
-      is_some (result_of_word (layout_of h.values) s h.lines w (Some (Load form rd rs1 offset))).fault ≡ false →
-      ((cost_of h k (path_of h older s (Some (Load form rd rs1 offset))) == v.forward) ≡ false) → Goes_to_cache (Some (Load form rd rs1 offset))
+  load_path : (form : LoadForm) (rd rs1 : ℕ) (offset : ℤ) (a b : Bool) →
+      is_aligned (sum (register_of s rs1) (modulo_word offset)) (bytes_of (width_of form)) ≡ a →
+      is_in_ram (layout_of h.values) (sum (register_of s rs1) (modulo_word offset)) (bytes_of (width_of form)) ≡ b →
+      (w : Option ℕ) → is_some (result_of_word (layout_of h.values) s h.lines w (Some (Load form rd rs1 offset))).fault ≡ false →
+      ((cost_of h k (path_of h older s (Some (Load form rd rs1 offset))) == v.forward) ≡ false) →
+      Goes_to_cache (Some (Load form rd rs1 offset))
   load_path form rd rs1 offset a b aligned inside None none other = absurd (cc)
   load_path form rd rs1 offset false b aligned inside (Some w) none other = absurd (true≢false (rw aligned at none))
   load_path form rd rs1 offset true false aligned inside (Some w) none other = absurd (true≢false (rw (aligned, inside) at none))
@@ -40,13 +43,16 @@ module _ (v : Values) (h : Hardware) (shape : HasShape v h) (older : List Entry)
       rw (aligned, inside) (from_cache (list_all is_some (take (bytes_of (width_of form)) (forwarded (stores_behind h older) (sum (register_of s rs1) (modulo_word offset)) (bytes_of (width_of form))))) (sum (register_of s rs1) (modulo_word offset)) (rw (aligned, inside) at other))
 
   -- a load without a fault that costs another time than a forwarded one goes to the cache
-  pub path_of_user : (i : Option Instr) (w : Option ℕ) → is_load i ≡ true → is_some (result_of_word (layout_of h.values) s h.lines w i).fault ≡ false → ((cost_of h k (path_of h older s i) == v.forward) ≡ false) → Goes_to_cache i
+  pub path_of_user : (i : Option Instr) (w : Option ℕ) → is_load i ≡ true →
+      is_some (result_of_word (layout_of h.values) s h.lines w i).fault ≡ false →
+      ((cost_of h k (path_of h older s i) == v.forward) ≡ false) → Goes_to_cache i
   path_of_user None w load none other = absurd (cc)
   path_of_user (Some (Load form rd rs1 offset)) w load none other = load_path form rd rs1 offset _ _ refl refl w none other
   path_of_user i w load none other = absurd (cc)
 
 -- an instruction that may leave has the port that it needs
-path_without : (h : Hardware) (older : List Entry) (s : State) (i : Option Instr) → is_load i ≡ false → has_port h (path_of h older s i) ≡ true
+path_without : (h : Hardware) (older : List Entry) (s : State) (i : Option Instr) → is_load i ≡ false →
+    has_port h (path_of h older s i) ≡ true
 path_without h older s None plain = refl
 path_without h older s (Some (Load form rd rs1 offset)) plain = absurd (cc)
 path_without h older s i plain = refl
@@ -57,7 +63,8 @@ port_by true false d f h = absurd (cc)
 port_by false c d f h = f refl
 
 -- an instruction that may leave its station has the port that its path needs
-pub has_its_port : (h : Hardware) (older : List Entry) (e : Entry) → may_load h older e ≡ true → has_port h (path h older e) ≡ true
+pub has_its_port : (h : Hardware) (older : List Entry) (e : Entry) → may_load h older e ≡ true →
+    has_port h (path h older e) ≡ true
 has_its_port h older e may = port_by (is_load e.instruction) (list_all is_known_store (stores_behind h older)) (has_port h (path h older e)) (λ plain. path_without h older (seen_behind h older e.pc) e.instruction plain) may
 
 -- the port is not free earlier

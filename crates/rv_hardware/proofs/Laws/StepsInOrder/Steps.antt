@@ -72,7 +72,8 @@ module _ (v : Values) (now : ℕ) (earlier : List Step) (before : Each (λ s. st
         Steps v now earlier (suc k) (record { hardware = g; steps = c.steps ++ s ∷ []; stop = stop })
     flushing g stop goes none none' = record { goes = goes; pairs = more_pairs; of_now = more_of_now; within = more_within; entries = rw none tt; words = rw none' tt }
 
-    not_before : (cycle : ℕ) → flushes s ≡ false → NotBefore (earlier ++ c.steps) cycle → NotBefore (earlier ++ (c.steps ++ s ∷ [])) cycle
+    not_before : (cycle : ℕ) → flushes s ≡ false → NotBefore (earlier ++ c.steps) cycle →
+        NotBefore (earlier ++ (c.steps ++ s ∷ [])) cycle
     not_before cycle plain h =
         rw regroup (Each-append (λ a. flushes a ≡ true → stamp_of a ≤ cycle) (earlier ++ c.steps) (s ∷ []) h ((λ i. absurd (true≢false (sym i ∙ plain))), tt))
 
@@ -93,7 +94,9 @@ module _ (v : Values) (now : ℕ) (earlier : List Step) (before : Each (λ s. st
   steps_up_to k n c le h = record { goes = h.goes; pairs = h.pairs; of_now = h.of_now; within = omega (arith, h.within, le); entries = h.entries; words = h.words }
 
   -- the same steps
-  standing : (k n : ℕ) (c d : Committing) → k ≤ n → d.steps ≡ c.steps → d.hardware.rob.entries ≡ c.hardware.rob.entries → d.hardware.front.entries ≡ c.hardware.front.entries → Commits v now Anything (anything_is_kept v now) earlier is_stale d → Steps v now earlier k c → Steps v now earlier n d
+  standing : (k n : ℕ) (c d : Committing) → k ≤ n → d.steps ≡ c.steps → d.hardware.rob.entries ≡ c.hardware.rob.entries →
+      d.hardware.front.entries ≡ c.hardware.front.entries → Commits v now Anything (anything_is_kept v now) earlier is_stale d →
+      Steps v now earlier k c → Steps v now earlier n d
   standing k n c d le same entries words goes h = record {
     goes = goes;
     pairs = rw same (h.pairs);
@@ -103,20 +106,25 @@ module _ (v : Values) (now : ℕ) (earlier : List Step) (before : Each (λ s. st
     words = rw (same, words) (h.words);
   }
 
-  no_row_since : (s : Step) (steps : List Step) → ((a : Step) → IsFetchedSince a s) → Each (λ a. flushes a ≡ true → IsFetchedSince a s) steps
+  no_row_since : (s : Step) (steps : List Step) → ((a : Step) → IsFetchedSince a s) →
+      Each (λ a. flushes a ≡ true → IsFetchedSince a s) steps
   no_row_since s steps f = Each-all (λ a. flushes a ≡ true → IsFetchedSince a s) (λ a h. f a) steps
 
-  row_since : (c : Committing) (e : Entry) (es : List Entry) (written : Option (ℕ × ℕ)) → c.hardware.rob.entries ≡ e ∷ es → Each (λ x. NotBefore (earlier ++ c.steps) x.fetched) c.hardware.rob.entries →
+  row_since : (c : Committing) (e : Entry) (es : List Entry) (written : Option (ℕ × ℕ)) → c.hardware.rob.entries ≡ e ∷ es →
+      Each (λ x. NotBefore (earlier ++ c.steps) x.fetched) c.hardware.rob.entries →
       Each (λ a. flushes a ≡ true → IsFetchedSince a (Retired (row_at e written c.hardware.cycle))) (earlier ++ c.steps)
   row_since c e es written place h = (subst (Each (λ x. NotBefore (earlier ++ c.steps) x.fetched)) place h).0
 
-  plain_row : (c : Committing) (e : Entry) (es : List Entry) (issue : Option Issue) (cycle : ℕ) (message : Message) → c.hardware.rob.entries ≡ e ∷ es → is_serialising e.instruction ≡ false → e.stage ≡ Finished issue cycle message → message.fault ≡ None →
-      Goes v now now now now now (now + 1) Anything (earlier ++ c.steps) c.hardware → is_serialising (instruction_of (unwrap_or e.word 0)) ≡ false
+  plain_row : (c : Committing) (e : Entry) (es : List Entry) (issue : Option Issue) (cycle : ℕ) (message : Message) →
+      c.hardware.rob.entries ≡ e ∷ es → is_serialising e.instruction ≡ false → e.stage ≡ Finished issue cycle message →
+      message.fault ≡ None → Goes v now now now now now (now + 1) Anything (earlier ++ c.steps) c.hardware →
+      is_serialising (instruction_of (unwrap_or e.word 0)) ≡ false
   plain_row c e es issue cycle message place plain at none goes =
       let sound : SoundEntry v now now now e = (subst (Each (SoundEntry v now now now)) place goes.basics.entries).0 in
       ap is_serialising (row_decodes e sound.decoded (retiring_is_one v now e sound (may_retire_finished e.instruction e.stage issue cycle message at none))) ∙ plain
 
-  turn_leads : (total k : ℕ) (c : Committing) (t : Turn Committing) → k < total → CommitTurn is_stale c t → Commits v now Anything (anything_is_kept v now) earlier is_stale c → Going k c →
+  turn_leads : (total k : ℕ) (c : Committing) (t : Turn Committing) → k < total → CommitTurn is_stale c t →
+      Commits v now Anything (anything_is_kept v now) earlier is_stale c → Going k c →
       Leads (Commits v now Anything (anything_is_kept v now) earlier is_stale) (Commits v now Anything (anything_is_kept v now) earlier is_stale) t → Leads (Going (suc k)) (Steps v now earlier total) t
   turn_leads total k c _ lt (no_head none) q p goes = steps_up_to k total c (omega (arith, lt)) p.steps
   turn_leads total k c _ lt (stale_head e es at is) q p goes = standing k total c _ (omega (arith, lt)) refl refl refl goes p.steps
@@ -141,8 +149,11 @@ module _ (v : Values) (now : ℕ) (earlier : List Step) (before : Each (λ s. st
   turn_leads total k c _ lt (retires_last e es issue cycle message head plain at none) q p goes =
       steps_up_to (suc k) total _ lt (flushing k c (Retired (row_at e (written_of e message) c.hardware.cycle)) p q.basics.cycle refl (row_since c e es (written_of e message) head.place p.steps.entries) (retired_and_flushed e message c).hardware c.stop goes refl refl)
 
-  commit_leads_by : (total : ℕ) → 1 ≤ total → (o : Option ℕ) (h : Hardware) → h.values.commit_width ≡ total → Goes v now now now now now (now + 1) Anything (earlier ++ []) h → EveryPair InOrder (earlier ++ []) →
-      Each (λ e. NotBefore (earlier ++ []) e.fetched) h.rob.entries → Each (λ f. NotBefore (earlier ++ []) f.cycle) h.front.entries → Commits v now Anything (anything_is_kept v now) earlier is_stale (commit_unless is_stale o h) →
+  commit_leads_by : (total : ℕ) → 1 ≤ total → (o : Option ℕ) (h : Hardware) → h.values.commit_width ≡ total →
+      Goes v now now now now now (now + 1) Anything (earlier ++ []) h → EveryPair InOrder (earlier ++ []) →
+      Each (λ e. NotBefore (earlier ++ []) e.fetched) h.rob.entries →
+      Each (λ f. NotBefore (earlier ++ []) f.cycle) h.front.entries →
+      Commits v now Anything (anything_is_kept v now) earlier is_stale (commit_unless is_stale o h) →
       Steps v now earlier total (commit_unless is_stale o h)
   commit_leads_by total le (Some code) h width goes pairs entries words after =
       let s : Step = Interrupt h.pc (interrupt_cause code) h.cycle in
@@ -176,7 +187,8 @@ FetchedAnew steps m = m.retired ≡ None → NotBefore steps m.fetched
 some_is_none : {P : Type 0} (n : ℕ) → Some n ≡ None → P
 some_is_none n e = absurd (cc)
 
-anew_goes_on : (steps : List Step) (v : Values) (now : ℕ) (xs : List Mark) (m n : Mark) → Advances v now xs m n → FetchedAnew steps m → FetchedAnew steps n
+anew_goes_on : (steps : List Step) (v : Values) (now : ℕ) (xs : List Mark) (m n : Mark) → Advances v now xs m n →
+    FetchedAnew steps m → FetchedAnew steps n
 anew_goes_on steps v now xs m n (a_retires a) h none = some_is_none now (sym (ap (λ x. x.retired) a.becomes) ∙ none)
 anew_goes_on steps v now xs m n (a_starts a) h none = rw (ap (λ x. x.fetched) a.becomes) (h a.not_retired)
 anew_goes_on steps v now xs m n (a_is_sent a) h none = rw (ap (λ x. x.fetched) a.becomes) (h a.not_retired)
