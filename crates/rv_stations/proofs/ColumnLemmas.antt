@@ -1,21 +1,25 @@
--- The operands of tags and values that were written for a producer.
-use Rattle.std.proofs.Common.{◌≡◌, sym, ℕ, zero, suc, ◌+◌, ◌<◌, ◌≤◌, ◌^◌, ◌%◌, inl, inr, Bool, true, false, cond, ◌==◌, List, [], ◌∷◌, ◌++◌, length, filter, get_or, remove, map, arith, eqb, refl, ap, ap₂, ◌∙◌, mod-eq_of_lt}
-use Rattle.std.specs.List.{list_any}
-use Rattle.std.specs.Simd.Lanes.{zip2}
-use Rattle.std.proofs.lemmas.Bool.{cases_Bool, true≢false, eqb-true, eq-eqb, ne_eqb}
-use Rattle.std.proofs.lemmas.List.Sums.{length-filter, count_by-le-length}
-use Rattle.std.proofs.lemmas.Simd.{length-zip2}
+-- The operands of tags and values that were written for a producer, and the mask of those that wait.
+use Rattle.std.proofs.Common.{◌≡◌, sym, ℕ, zero, suc, ◌+◌, ◌-◌, ◌*◌, ◌<◌, ◌≤◌, ◌^◌, ◌%◌, ◌/◌, not, inl, inr, Bool, true, false, cond, ◌==◌, List, [], ◌∷◌, ◌++◌, length, get_or, take, drop, map, replicate, slice_set, bit_and, bit_or, min, max, ◌&&◌, arith, eqb, refl, ap, ap₂, ◌∙◌, mod-eq_of_lt, length-take-le, w64}
+use Rattle.std.specs.Int.{bit_at}
+use Rattle.std.specs.Simd.Lanes.{zip2, mask_l}
+use Rattle.std.proofs.lemmas.Bool.{cases_Bool, cases_eq, cases_lt, true≢false, eqb-true, eq-eqb, ne_eqb}
+use Rattle.std.proofs.lemmas.List.{get_or-take, get_or-drop, get_or-map, get_or-set_same, get_or-set_other, get_or_append_left, get_or-append_right, length-map, length-set, length-append, length-drop, take-append-drop}
+use Rattle.std.proofs.lemmas.Nat.{pow_pos, shl_whole, shr-shr}
+use Rattle.std.proofs.lemmas.Nat.Bits.{bit_at-zero, bit_at-lt, bit_at_above, bit_at_and, bit_at_or, shr_and_one, bit_at_not, bit_at_cat_low, bit_at_cat_high}
+use Rattle.std.proofs.lemmas.Simd.{length-zip2, bit_mask_l, mask_l-lt, chunk-drop, get_or-zip2}
+use Rattle.rv_stations.specs.declared.waiting.Operand.{Operand}
 use Rattle.rv_stations.specs.declared.waiting.Operand.TheVariants.{Value, Tag}
-use Rattle.rv_stations.specs.Waiting.{woken_operand}
-use Rattle.rv_stations.specs.Column.{Column, operand_of, is_producer, producers, woken_tag, woken_value}
-use Rattle.rv_stations.specs.ColumnFields.{column, IsSoundColumn}
+use Rattle.rv_stations.specs.Waiting.{has_value, woken_operand}
+use Rattle.rv_stations.specs.Column.{IsWaitMask, OtherBitsStay, in_eight, operand_of, is_producer, woken_tag, woken_value}
+use Rattle.rv_stations.specs.ColumnFields.{operands, IsSoundColumn}
 use Rattle.rv_stations.specs.declared.column.OperandColumn.TheInside.{Inside}
+use Rattle.rv_stations.proofs.ZipLemmas.{zip2-append, zip2-take, zip2-drop, zip2-set}
 
 -- there are as many operands as tags
-pub length-column : (p : Inside) → IsSoundColumn p → length (zip2 operand_of p.tags.items p.values.items) ≡ length p.tags.items
+pub length-column : (p : Inside) → IsSoundColumn p → length (operands p) ≡ length p.tags.items
 length-column p sound = length-zip2 operand_of p.tags.items p.values.items (omega (arith, sound.as_many))
 
-pub place_within : (p : Inside) → IsSoundColumn p → (seen : Column) → column p ≡ seen → (at : ℕ) → at < length seen.operands → at < length p.tags.items
+pub place_within : (p : Inside) → IsSoundColumn p → (seen : List Operand) → operands p ≡ seen → (at : ℕ) → at < length seen → at < length p.tags.items
 place_within p sound seen is at within = omega (arith, rw (← is) at within, length-column p sound)
 
 -- the number of no producer says that the value is there
@@ -50,53 +54,6 @@ operands-woken seq value (t ∷ ts) [] some small = refl
 operands-woken seq value (t ∷ ts) (v ∷ vs) some small =
     ap₂ ◌∷◌ (operand_of-woken seq value t v some small) (operands-woken seq value ts vs some small)
 
--- where no tag is a producer's, no operand waits
-pub operands-idle : (seq value : ℕ) (tags values : List ℕ) → producers tags ≡ 0 → map (woken_operand seq value) (zip2 operand_of tags values) ≡ zip2 operand_of tags values
-operands-idle seq value [] values none = refl
-operands-idle seq value (t ∷ ts) [] none = refl
-operands-idle seq value (t ∷ ts) (v ∷ vs) none = elim (cases_Bool (eqb t 18446744073709551615)) [
-  | inl has ↦ ap₂ ◌∷◌ (rw has refl) (operands-idle seq value ts vs (rw has at none))
-  | inr waits ↦ let some : suc (producers ts) ≡ 0 = rw waits at none in absurd (omega arith)
-]
-
--- where no tag is the number, no operand is woken
-pub operands-unheld : (seq value : ℕ) (tags values : List ℕ) → list_any (λ tag. tag == seq) tags ≡ false → map (woken_operand seq value) (zip2 operand_of tags values) ≡ zip2 operand_of tags values
-operands-unheld seq value [] values none = refl
-operands-unheld seq value (t ∷ ts) [] none = refl
-operands-unheld seq value (t ∷ ts) (v ∷ vs) none = elim (cases_Bool (eqb t seq)) [
-  | inl same ↦ absurd (true≢false (rw same at none))
-  | inr other ↦ ap₂ ◌∷◌ (unwoken seq value t v other) (operands-unheld seq value ts vs (rw other at none))
-]
-
--- a tag counts once at most
-pub at_most_one : (b : Bool) → cond b 1 0 ≤ 1
-at_most_one true = omega arith
-at_most_one false = omega arith
-
-pub producers-le : (tags : List ℕ) → producers tags ≤ length tags
-producers-le tags = omega (arith, length-filter is_producer tags, count_by-le-length is_producer tags)
-
--- one more tag in the count of producers
-pub producers-push : (tags : List ℕ) (tag : ℕ) → producers (tags ++ tag ∷ []) ≡ producers tags + cond (is_producer tag) 1 0
-producers-push [] tag = elim (is_producer tag) as (λ b. length (cond b (tag ∷ []) []) ≡ 0 + cond b 1 0) [ true ↦ omega arith | false ↦ omega arith ]
-producers-push (t ∷ ts) tag =
-    let rest = producers-push ts tag in
-    elim (is_producer t) as (λ b. length (cond b (t ∷ filter is_producer (ts ++ tag ∷ [])) (filter is_producer (ts ++ tag ∷ []))) ≡ length (cond b (t ∷ filter is_producer ts) (filter is_producer ts)) + cond (is_producer tag) 1 0) [
-      | true ↦ omega (arith, rest)
-      | false ↦ rest
-    ]
-
--- and one less
-pub producers-remove : (tags : List ℕ) (i d : ℕ) → i < length tags → producers tags ≡ producers (remove tags i) + cond (is_producer (get_or tags i d)) 1 0
-producers-remove [] i d within = absurd (omega arith)
-producers-remove (t ∷ ts) zero d within = elim (is_producer t) as (λ b. length (cond b (t ∷ filter is_producer ts) (filter is_producer ts)) ≡ producers ts + cond b 1 0) [ true ↦ omega arith | false ↦ omega arith ]
-producers-remove (t ∷ ts) (suc i) d within =
-    let rest = producers-remove ts i d (omega arith) in
-    elim (is_producer t) as (λ b. length (cond b (t ∷ filter is_producer ts) (filter is_producer ts)) ≡ length (cond b (t ∷ filter is_producer (remove ts i)) (filter is_producer (remove ts i))) + cond (is_producer (get_or ts i d)) 1 0) [
-      | true ↦ omega (arith, rest)
-      | false ↦ rest
-    ]
-
 -- an operand that waits has another tag than that of no producer
 woken_by_none : (value tag held : ℕ) → woken_operand 18446744073709551615 value (operand_of tag held) ≡ operand_of tag held
 woken_by_none value tag held = elim (cases_Bool (eqb tag 18446744073709551615)) [
@@ -108,3 +65,241 @@ pub operands-unwoken : (value : ℕ) (tags values : List ℕ) → map (woken_ope
 operands-unwoken value [] values = refl
 operands-unwoken value (t ∷ ts) [] = refl
 operands-unwoken value (t ∷ ts) (v ∷ vs) = ap₂ ◌∷◌ (woken_by_none value t v) (operands-unwoken value ts vs)
+
+-- operands that all have their values are not woken
+unwoken_all : (seq value : ℕ) (os : List Operand) → ((at : ℕ) → at < length os → has_value (get_or os at (Value 0)) ≡ true) → map (woken_operand seq value) os ≡ os
+unwoken_all seq value [] have = refl
+unwoken_all seq value (Value held ∷ os) have = ap (λ l. Value held ∷ l) (unwoken_all seq value os (λ at lt. have (suc at) (omega arith)))
+unwoken_all seq value (Tag tag ∷ os) have = absurd (true≢false (sym (have 0 (omega arith))))
+
+set_bit : (b : Bool) → ◌≡◌ {A = ℕ} (cond b 0 1) 0 → b ≡ true
+set_bit true zero_bit = refl
+set_bit false zero_bit = absurd (omega (arith, zero_bit))
+
+-- where no bit is set, no operand waits
+pub operands-idle : (seq value : ℕ) (os : List Operand) → IsWaitMask os 0 → map (woken_operand seq value) os ≡ os
+operands-idle seq value os marked = unwoken_all seq value os (λ at lt. set_bit (has_value (get_or os at (Value 0))) (sym (marked at lt) ∙ bit_at-zero at))
+
+-- a tag tells whether there is a value
+pub has_value-operand_of : (tag held : ℕ) → has_value (operand_of tag held) ≡ eqb tag 18446744073709551615
+has_value-operand_of tag held = elim (cases_Bool (eqb tag 18446744073709551615)) [
+  | inl has ↦ rw has refl
+  | inr waits ↦ rw waits refl
+]
+
+-- the mask after one operand is written
+pub IsWaitMask-set : (os : List Operand) (place tag held before after : ℕ) → length os ≤ 64 → place < length os → IsWaitMask os before → bit_at after place ≡ cond (is_producer tag) 1 0 → OtherBitsStay place before after → IsWaitMask (slice_set os place (operand_of tag held)) after
+IsWaitMask-set os place tag held before after few within marked bit others at lt = elim (cases_eq at place) [
+  | inl same ↦
+      ap (bit_at after) same
+      ∙ bit
+      ∙ one_or_none (eqb tag 18446744073709551615)
+      ∙ ap (λ b. cond b 0 1) (sym (has_value-operand_of tag held))
+      ∙ ap (λ o. cond (has_value o) 0 1) (sym (ap (λ i. get_or (slice_set os place (operand_of tag held)) i (Value 0)) same ∙ get_or-set_same os place (operand_of tag held) (Value 0) within))
+  | inr other ↦
+      let long = length-set os place (operand_of tag held) in
+      others at (omega (arith, long, lt)) other
+      ∙ marked at (omega (arith, long, lt))
+      ∙ ap (λ o. cond (has_value o) 0 1) (sym (get_or-set_other os place at (operand_of tag held) (Value 0) other))
+]
+  where
+    one_or_none : (b : Bool) → ◌≡◌ {A = ℕ} (cond (not b) 1 0) (cond b 0 1)
+    one_or_none true = refl
+    one_or_none false = refl
+
+-- the items of a list in which eight are changed
+module _ {X : Type 0} (f : X → X) (start : ℕ) (xs : List X) (room : start + 8 ≤ length xs) (d : X) where
+  front : length (take start xs) ≡ start
+  front = length-take-le start xs (omega arith)
+
+  eight : length (map f (take 8 (drop start xs))) ≡ 8
+  eight =
+      length-map (take 8 (drop start xs)) f ∙ length-take-le 8 (drop start xs) (omega (arith, length-drop start xs))
+
+  pub in_eight-below : (i : ℕ) → i < start → get_or (in_eight start (map f) xs) i d ≡ get_or xs i d
+  in_eight-below i lt = get_or_append_left (take start xs) _ d i (omega (arith, front)) ∙ get_or-take start xs i d lt
+
+  pub in_eight-above : (i : ℕ) → start + 8 ≤ i → get_or (in_eight start (map f) xs) i d ≡ get_or xs i d
+  in_eight-above i le =
+      let back : start + 8 + (i - start - 8) ≡ i = omega arith in
+      get_or-append_right (take start xs) _ start i d front (omega arith)
+      ∙ get_or-append_right (map f (take 8 (drop start xs))) _ 8 (i - start) d eight (omega arith)
+      ∙ get_or-drop (start + 8) xs (i - start - 8) d
+      ∙ ap (λ n. get_or xs n d) back
+
+  pub in_eight-inside : (i : ℕ) → start ≤ i → i < start + 8 → get_or (in_eight start (map f) xs) i d ≡ f (get_or xs i d)
+  in_eight-inside i le lt =
+      let back : start + (i - start) ≡ i = omega arith in
+      get_or-append_right (take start xs) _ start i d front le
+      ∙ get_or_append_left (map f (take 8 (drop start xs))) _ d (i - start) (omega (arith, eight))
+      ∙ get_or-map f (take 8 (drop start xs)) (i - start) d d (omega (arith, eight, length-map (take 8 (drop start xs)) f))
+      ∙ ap f (get_or-take 8 (drop start xs) (i - start) d (omega arith) ∙ get_or-drop start xs (i - start) d ∙ ap (λ n. get_or xs n d) back)
+
+  pub length-in_eight : length (in_eight start (map f) xs) ≡ length xs
+  length-in_eight =
+      length-append (take start xs) _
+      ∙ omega (arith, front, length-append (map f (take 8 (drop start xs))) (drop (start + 8) xs), eight, length-drop (start + 8) xs)
+
+-- a change that changes nothing
+pub in_eight-same : {X : Type 0} (start : ℕ) (change : List X → List X) (xs : List X) → change (take 8 (drop start xs)) ≡ take 8 (drop start xs) → in_eight start change xs ≡ xs
+in_eight-same start change xs same =
+    ap (λ l. take start xs ++ (l ++ drop (start + 8) xs)) same
+    ∙ ap (λ l. take start xs ++ l) (sym (chunk-drop start 8 xs))
+    ∙ take-append-drop start xs
+
+-- the mask of eight lanes, moved to their place, and cleared from another mask
+module _ (ms : List Bool) (start : ℕ) (eight : length ms ≡ 8) (room : start + 8 ≤ 64) where
+  in_byte : mask_l ms < 2 ^ 8
+  in_byte = rw eight at (mask_l-lt ms)
+
+  moved_whole : mask_l ms * 2 ^ start % 18446744073709551616 ≡ mask_l ms * 2 ^ start
+  moved_whole = shl_whole (mask_l ms) 8 start 64 in_byte (omega arith)
+
+  moved_fits : mask_l ms * 2 ^ start < 18446744073709551616
+  moved_fits = omega (arith, moved_whole)
+
+  plain : mask_l ms * 2 ^ start + 0 ≡ mask_l ms * 2 ^ start
+  plain = omega arith
+
+  moved_below : (i : ℕ) → i < start → bit_at (mask_l ms * 2 ^ start) i ≡ 0
+  moved_below i lt = ap (λ n. bit_at n i) (sym plain) ∙ bit_at_cat_low (mask_l ms) start 0 i lt ∙ bit_at-zero i
+
+  moved_from : (i : ℕ) → start ≤ i → bit_at (mask_l ms * 2 ^ start) i ≡ bit_at (mask_l ms) (i - start)
+  moved_from i le = ap (λ n. bit_at n i) (sym plain) ∙ bit_at_cat_high (mask_l ms) start 0 i (pow_pos start) le
+
+  moved_inside : (i : ℕ) → start ≤ i → bit_at (mask_l ms * 2 ^ start) i ≡ cond (get_or ms (i - start) false) 1 0
+  moved_inside i le = moved_from i le ∙ bit_mask_l ms (i - start)
+
+  moved_above : (i : ℕ) → start + 8 ≤ i → bit_at (mask_l ms * 2 ^ start) i ≡ 0
+  moved_above i le = moved_from i (omega arith) ∙ bit_at_above (mask_l ms) 8 (i - start) in_byte (omega arith)
+
+  bit_at-cleared : (mask i : ℕ) → i < 64 → bit_at (bit_and mask (18446744073709551615 - mask_l ms * 2 ^ start % 18446744073709551616)) i ≡ min (bit_at mask i) (1 - bit_at (mask_l ms * 2 ^ start) i)
+  bit_at-cleared mask i lt = rw moved_whole (bit_at_and mask _ i ∙ ap (min (bit_at mask i)) (bit_at_not w64 (mask_l ms * 2 ^ start) i moved_fits lt))
+
+  not_cleared : (mask i : ℕ) → i < 64 → bit_at (mask_l ms * 2 ^ start) i ≡ 0 → bit_at (bit_and mask (18446744073709551615 - mask_l ms * 2 ^ start % 18446744073709551616)) i ≡ bit_at mask i
+  not_cleared mask i lt none = bit_at-cleared mask i lt ∙ omega (arith, none, bit_at-lt mask i)
+
+-- an operand whose tag is the number has its value then
+has_value-woken : (seq value tag held : ℕ) → eqb seq 18446744073709551615 ≡ false → value < 2 ^ 32 → eqb tag seq ≡ true → has_value (woken_operand seq value (operand_of tag held)) ≡ true
+has_value-woken seq value tag held some small same =
+    let gone : woken_tag seq tag ≡ 18446744073709551615 = rw same refl in
+    ap has_value (sym (operand_of-woken seq value tag held some small))
+    ∙ has_value-operand_of (woken_tag seq tag) (woken_value seq value tag held)
+    ∙ eq-eqb (woken_tag seq tag) 18446744073709551615 gone
+
+-- the mask after eight operands are woken
+module _ (seq value start waiting : ℕ) (tags values : List ℕ) (some : eqb seq 18446744073709551615 ≡ false) (small : value < 2 ^ 32) (as_many : length tags ≡ length values) (few : length tags ≤ 64) (room : start + 8 ≤ length tags) where
+  abbrev told : List Operand
+  told = zip2 operand_of tags values
+
+  abbrev equals : List Bool
+  equals = map (λ t. eqb t seq) (take 8 (drop start tags))
+
+  abbrev after : ℕ
+  after = bit_and waiting (18446744073709551615 - mask_l equals * 2 ^ start % 18446744073709551616)
+
+  long : length told ≡ length tags
+  long = length-zip2 operand_of tags values as_many
+
+  eights : length (take 8 (drop start tags)) ≡ 8
+  eights = length-take-le 8 (drop start tags) (omega (arith, length-drop start tags))
+
+  eight_lanes : length equals ≡ 8
+  eight_lanes = length-map (take 8 (drop start tags)) (λ t. eqb t seq) ∙ eights
+
+  lane : (at : ℕ) → start ≤ at → at < start + 8 → get_or equals (at - start) false ≡ eqb (get_or tags at 0) seq
+  lane at le lt =
+      let back : start + (at - start) ≡ at = omega arith in
+      get_or-map (λ t. eqb t seq) (take 8 (drop start tags)) (at - start) 0 false (omega (arith, eights))
+      ∙ ap (λ t. eqb t seq) (get_or-take 8 (drop start tags) (at - start) 0 (omega arith) ∙ get_or-drop start tags (at - start) 0 ∙ ap (λ n. get_or tags n 0) back)
+
+  operand_at : (at : ℕ) → at < length tags → get_or told at (Value 0) ≡ operand_of (get_or tags at 0) (get_or values at 0)
+  operand_at at lt = get_or-zip2 operand_of tags values at 0 0 (Value 0) lt (omega (arith, as_many))
+
+  outside : (at : ℕ) → at < length tags → IsWaitMask told waiting → bit_at (mask_l equals * 2 ^ start) at ≡ 0 → get_or (in_eight start (map (woken_operand seq value)) told) at (Value 0) ≡ get_or told at (Value 0) → bit_at after at ≡ cond (has_value (get_or (in_eight start (map (woken_operand seq value)) told) at (Value 0))) 0 1
+  outside at lt marked none same =
+      not_cleared equals start eight_lanes (omega arith) waiting at (omega arith) none
+      ∙ marked at (omega (arith, long))
+      ∙ ap (λ o. cond (has_value o) 0 1) (sym same)
+
+  inside : (at : ℕ) → at < length tags → start ≤ at → at < start + 8 → IsWaitMask told waiting → bit_at after at ≡ cond (has_value (get_or (in_eight start (map (woken_operand seq value)) told) at (Value 0))) 0 1
+  inside at lt le le8 marked = elim (cases_Bool (eqb (get_or tags at 0) seq)) [
+    | inl same ↦
+        let set : bit_at (mask_l equals * 2 ^ start) at ≡ 1 = moved_inside equals start eight_lanes (omega arith) at le ∙ ap (λ b. cond b 1 0) (lane at le le8 ∙ same) in
+        let gone : bit_at after at ≡ 0 = bit_at-cleared equals start eight_lanes (omega arith) waiting at (omega arith) ∙ omega (arith, set) in
+        let has = has_value-woken seq value (get_or tags at 0) (get_or values at 0) some small same in
+        gone ∙ ap (λ b. cond b 0 1) (sym (ap has_value (changed ∙ ap (woken_operand seq value) (operand_at at lt)) ∙ has))
+    | inr other ↦
+        let clear : bit_at (mask_l equals * 2 ^ start) at ≡ 0 = moved_inside equals start eight_lanes (omega arith) at le ∙ ap (λ b. cond b 1 0) (lane at le le8 ∙ other) in
+        outside at lt marked clear (changed ∙ ap (woken_operand seq value) (operand_at at lt) ∙ unwoken seq value (get_or tags at 0) (get_or values at 0) other ∙ sym (operand_at at lt))
+  ]
+    where
+      changed : get_or (in_eight start (map (woken_operand seq value)) told) at (Value 0) ≡ woken_operand seq value (get_or told at (Value 0))
+      changed = in_eight-inside (woken_operand seq value) start told (omega (arith, long)) (Value 0) at le le8
+
+  pub IsWaitMask-woken : IsWaitMask told waiting → IsWaitMask (in_eight start (map (woken_operand seq value)) told) after
+  IsWaitMask-woken marked at within =
+      let within' : at < length tags = omega (arith, within, long, length-in_eight (woken_operand seq value) start told (omega (arith, long)) (Value 0)) in
+      elim (cases_lt at start) [
+        | inl below ↦ outside at within' marked (moved_below equals start eight_lanes (omega arith) at below) (in_eight-below (woken_operand seq value) start told (omega (arith, long)) (Value 0) at below)
+        | inr from ↦ elim (cases_lt at (start + 8)) [
+          | inl in_them ↦ inside at within' from in_them marked
+          | inr above ↦ outside at within' marked (moved_above equals start eight_lanes (omega arith) at above) (in_eight-above (woken_operand seq value) start told (omega (arith, long)) (Value 0) at above)
+        ]
+      ]
+
+  -- the operands of what is written
+  pub operands-in_eight : zip2 operand_of (in_eight start (map (woken_tag seq)) tags) (in_eight start (zip2 (woken_value seq value) (take 8 (drop start tags))) values) ≡ in_eight start (map (woken_operand seq value)) told
+  operands-in_eight =
+      let front : length (take start tags) ≡ length (take start values) = length-take-le start tags (omega arith) ∙ sym (length-take-le start values (omega (arith, as_many))) in
+      let middle : length (map (woken_tag seq) (take 8 (drop start tags))) ≡ length (zip2 (woken_value seq value) (take 8 (drop start tags)) (take 8 (drop start values))) =
+      length-map (take 8 (drop start tags)) (woken_tag seq)
+      ∙ sym (length-zip2 (woken_value seq value) (take 8 (drop start tags)) (take 8 (drop start values)) (eights ∙ sym (length-take-le 8 (drop start values) (omega (arith, length-drop start values, as_many))))) in
+      zip2-append operand_of (take start tags) _ (take start values) _ front
+      ∙ ap₂ ◌++◌
+      (zip2-take operand_of start tags values)
+      (zip2-append operand_of _ (drop (start + 8) tags) _ (drop (start + 8) values) middle
+      ∙ ap₂ ◌++◌
+      (operands-woken seq value (take 8 (drop start tags)) (take 8 (drop start values)) some small
+      ∙ ap (map (woken_operand seq value)) (zip2-take operand_of 8 (drop start tags) (drop start values) ∙ ap (take 8) (zip2-drop operand_of start tags values as_many)))
+      (zip2-drop operand_of (start + 8) tags values as_many))
+
+-- eight operands of which none waits
+pub in_eight-idle : (seq value start waiting : ℕ) (os : List Operand) → IsWaitMask os waiting → start + 8 ≤ length os → waiting / 2 ^ start % 256 ≡ 0 → in_eight start (map (woken_operand seq value)) os ≡ os
+in_eight-idle seq value start waiting os marked room none =
+    in_eight-same start (map (woken_operand seq value)) os (unwoken_all seq value (take 8 (drop start os)) all)
+  where
+    eight : length (take 8 (drop start os)) ≡ 8
+    eight = length-take-le 8 (drop start os) (omega (arith, length-drop start os))
+
+    bit : (at : ℕ) → at < 8 → bit_at waiting (start + at) ≡ 0
+    bit at lt =
+        let high = waiting / 2 ^ start / 256 in
+        let split : waiting / 2 ^ start ≡ high * 2 ^ 8 + 0 = omega (arith, none) in
+        ap (λ n. n % 2) (sym (shr-shr waiting start at)) ∙ ap (λ n. bit_at n at) split ∙ bit_at_cat_low high 8 0 at lt ∙ bit_at-zero at
+
+    all : (at : ℕ) → at < length (take 8 (drop start os)) → has_value (get_or (take 8 (drop start os)) at (Value 0)) ≡ true
+    all at lt =
+        let low : at < 8 = omega (arith, lt, eight) in
+        ap has_value (get_or-take 8 (drop start os) at (Value 0) low ∙ get_or-drop start os at (Value 0))
+        ∙ set_bit (has_value (get_or os (start + at) (Value 0))) (sym (marked (start + at) (omega arith)) ∙ bit at low)
+
+-- groups of eight are woken one after another
+pub in_eight-next : {X : Type 0} (f : X → X) (n : ℕ) (xs : List X) → n ≤ length xs → in_eight n (map f) (map f (take n xs) ++ drop n xs) ≡ map f (take (n + 8) xs) ++ drop (n + 8) xs
+in_eight-next f zero xs within = refl
+in_eight-next f (suc n) [] within = absurd (omega arith)
+in_eight-next f (suc n) (x ∷ xs) within =
+    let next : suc n + 8 ≡ suc (n + 8) = omega arith in
+    rw next (ap (λ ys. f x ∷ ys) (in_eight-next f n xs (omega arith)))
+
+-- of two masks no bit is set in a place where both operands have their values
+pub both_ready : (first second place : ℕ) (a b : Bool) → bit_at first place ≡ cond a 0 1 → bit_at second place ≡ cond b 0 1 → (a && b) ≡ eqb (bit_and (bit_or first second / 2 ^ place) 1) 0
+both_ready first second place a b of_first of_second =
+    let bit : bit_and (bit_or first second / 2 ^ place) 1 ≡ max (cond a 0 1) (cond b 0 1) = shr_and_one (bit_or first second) place ∙ bit_at_or first second place ∙ ap₂ max of_first of_second in
+    rw bit (told_by a b)
+  where
+    told_by : (a b : Bool) → (a && b) ≡ eqb (max (cond a 0 1) (cond b 0 1)) 0
+    told_by true true = refl
+    told_by true false = refl
+    told_by false true = refl
+    told_by false false = refl

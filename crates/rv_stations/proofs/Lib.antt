@@ -1,6 +1,6 @@
 pub mod ColumnLemmas
 pub mod LaneLemmas
-pub mod MovedLemmas
+pub mod PlaceLemmas
 pub mod PoolLemmas
 pub mod SearchLemmas
 pub mod ZipLemmas

@@ -1,21 +1,23 @@
--- The waiting instructions that four lists of one length tell, as an edit of all four leaves them.
-use Rattle.std.proofs.Common.{◌≡◌, ◌&&◌, Bool, ℕ, zero, suc, ◌-◌, ◌<◌, List, [], ◌∷◌, ◌++◌, length, get_or, take, map, remove, slice_get, Some, refl, ap, ap₂, sym, ◌∙◌, inl, inr, vec_len, arith}
+-- The instructions in the places of a kind's stations, of which four lists hold the parts.
+use Rattle.std.proofs.Common.{◌≡◌, ◌&&◌, Bool, ℕ, zero, suc, ◌+◌, ◌<◌, ◌≤◌, List, [], ◌∷◌, ◌++◌, All, length, get_or, take, map, remove, replicate, slice_get, slice_set, Some, refl, ap, ap₂, sym, ◌∙◌, inl, inr, vec_len, arith}
 use Rattle.std.specs.Option.{option_map}
-use Rattle.std.proofs.lemmas.Option.{slice_get-get_or}
-use Rattle.std.specs.List.Sorted.{IsNonDecreasingBy}
+use Rattle.std.specs.List.{AllPairs}
 use Rattle.std.specs.Simd.Lanes.{zip2}
 use Rattle.std.proofs.lemmas.Bool.{cases_lt}
+use Rattle.std.proofs.lemmas.List.{get_or-take, get_or-map, get_or-set_same, get_or-set_other, length-map, length-set, length-take-le, map-append}
+use Rattle.std.proofs.lemmas.List.Elements.{All-head, All-tail, All-take}
+use Rattle.std.proofs.lemmas.Option.{slice_get-get_or, get_or_from_slice_get, slice_get_within}
 use Rattle.std.proofs.lemmas.Simd.{length-zip2}
-use Rattle.rv_isa.specs.Numbered.{AreBelow, IsInOrder}
 use Rattle.rv_isa.specs.declared.instructions.Instr.TheVariants.{Fence}
 use Rattle.rv_stations.specs.declared.waiting.Operand.{Operand}
 use Rattle.rv_stations.specs.declared.waiting.Operand.TheVariants.{Value}
 use Rattle.rv_stations.specs.declared.waiting.Waiting.{Waiting}
 use Rattle.rv_stations.specs.declared.pool.Dispatched.{Dispatched}
 use Rattle.rv_stations.specs.Waiting.{seq_of, has_value, is_ready, woken, woken_operand}
-use Rattle.rv_stations.specs.PoolFields.{with_dispatched, both_operands, instruction_of, joined, IsSoundPool}
+use Rattle.rv_stations.specs.PoolFields.{with_dispatched, both_operands, instruction_of, joined, some_waiting, in_places, in_all, pool, IsSoundPool}
 use Rattle.rv_stations.specs.declared.pool.StationPool.TheInside.{Inside}
-use Rattle.rv_stations.proofs.ZipLemmas.{zip2-append, zip2-take, zip2-remove, slice_get-zip2}
+use Rattle.rv_stations.proofs.SearchLemmas.{take_at_get}
+use Rattle.rv_stations.proofs.ZipLemmas.{zip2-set, slice_get-zip2}
 
 -- the lists are of one length
 pub record SameLengths (ns : List ℕ) (fs : List Dispatched) (xs ys : List Operand) : Type 0 where
@@ -33,56 +35,65 @@ module _ (ns : List ℕ) (fs : List Dispatched) (xs ys : List Operand) (same : S
   pub length-joined : length (joined ns fs xs ys) ≡ length ns
   length-joined = length-zip2 instruction_of _ _ (left ∙ sym right) ∙ left
 
-  pub joined-push : (n : ℕ) (f : Dispatched) (x y : Operand) → joined (ns ++ n ∷ []) (fs ++ f ∷ []) (xs ++ x ∷ []) (ys ++ y ∷ []) ≡ joined ns fs xs ys ++ instruction_of (n, f) (x, y) ∷ []
-  joined-push n f x y =
-      ap₂ (zip2 instruction_of) (zip2-append with_dispatched ns (n ∷ []) fs (f ∷ []) (sym same.dispatched)) (zip2-append both_operands xs (x ∷ []) ys (y ∷ []) (same.first ∙ sym same.second))
-      ∙ zip2-append instruction_of _ _ _ _ (left ∙ sym right)
-
-  pub joined-take : (k : ℕ) → joined (take k ns) (take k fs) (take k xs) (take k ys) ≡ take k (joined ns fs xs ys)
-  joined-take k =
-      ap₂ (zip2 instruction_of) (zip2-take with_dispatched k ns fs) (zip2-take both_operands k xs ys)
-      ∙ zip2-take instruction_of k _ _
-
-  pub joined-remove : (i : ℕ) → i < length ns → joined (remove ns i) (remove fs i) (remove xs i) (remove ys i) ≡ remove (joined ns fs xs ys) i
-  joined-remove i within =
-      let in_left : i < length (zip2 with_dispatched ns fs) = omega (arith, left) in
-      let in_right : i < length (zip2 both_operands xs ys) = omega (arith, right) in
+  pub joined-set : (i : ℕ) (n : ℕ) (f : Dispatched) (x y : Operand) → i < length ns → joined (slice_set ns i n) (slice_set fs i f) (slice_set xs i x) (slice_set ys i y) ≡ slice_set (joined ns fs xs ys) i (instruction_of (n, f) (x, y))
+  joined-set i n f x y within =
       ap₂ (zip2 instruction_of)
-      (zip2-remove with_dispatched i ns fs within (omega (arith, same.dispatched)))
-      (zip2-remove both_operands i xs ys (omega (arith, same.first)) (omega (arith, same.second)))
-      ∙ zip2-remove instruction_of i _ _ in_left in_right
+      (zip2-set with_dispatched i ns fs n f within (omega (arith, same.dispatched)))
+      (zip2-set both_operands i xs ys x y (omega (arith, same.first)) (omega (arith, same.second)))
+      ∙ zip2-set instruction_of i _ _ (n, f) (x, y) (omega (arith, left)) (omega (arith, right))
 
 -- the lists of a pool's fields are of one length
-pub same_lengths : (p : Inside) → IsSoundPool p → SameLengths p.seqs.items p.dispatched.items p.first.operands p.second.operands
+pub same_lengths : (p : Inside) → IsSoundPool p → SameLengths p.seqs.items p.dispatched.items p.first p.second
 same_lengths p sound = record {
   dispatched = omega (arith, sound.dispatched);
   first = omega (arith, sound.first);
   second = omega (arith, sound.second);
 }
 
-pub length-pool : (p : Inside) → IsSoundPool p → length (joined p.seqs.items p.dispatched.items p.first.operands p.second.operands) ≡ vec_len p.seqs
-length-pool p sound = omega (arith, length-joined _ _ _ _ (same_lengths p sound))
+-- as many instructions wait as are counted
+pub length-pool : (p : Inside) → IsSoundPool p → length (in_places (in_all p) (take p.count p.places.items)) ≡ p.count
+length-pool p sound =
+    length-map (take p.count p.places.items) (λ place. get_or (in_all p) place some_waiting)
+    ∙ length-take-le p.count p.places.items (omega (arith, sound.within))
 
 -- a list without an element is the empty one
 pub none_waits : (ws : List Waiting) → length ws ≡ 0 → ws ≡ []
 none_waits [] none = refl
 none_waits (w ∷ ws) none = absurd (omega arith)
 
+-- a place is there
+pub place_there : (p : Inside) → IsSoundPool p → (at place : ℕ) → slice_get p.places.items at ≡ Some place → place < vec_len p.seqs
+place_there p sound at place is =
+    let within : at < length p.places.items = slice_get_within p.places.items at place is in
+    omega (arith, sound.there at 0 within, get_or_from_slice_get p.places.items at place 0 is)
+
 -- the parts in a place make the instruction in it
-pub slice_get-joined : (ns : List ℕ) (fs : List Dispatched) (xs ys : List Operand) (i n : ℕ) (f : Dispatched) (x y : Operand) → slice_get ns i ≡ Some n → slice_get fs i ≡ Some f → slice_get xs i ≡ Some x → slice_get ys i ≡ Some y → slice_get (joined ns fs xs ys) i ≡ Some (instruction_of (n, f) (x, y))
+slice_get-joined : (ns : List ℕ) (fs : List Dispatched) (xs ys : List Operand) (i n : ℕ) (f : Dispatched) (x y : Operand) → slice_get ns i ≡ Some n → slice_get fs i ≡ Some f → slice_get xs i ≡ Some x → slice_get ys i ≡ Some y → slice_get (joined ns fs xs ys) i ≡ Some (instruction_of (n, f) (x, y))
 slice_get-joined ns fs xs ys i n f x y at_n at_f at_x at_y =
     slice_get-zip2 instruction_of i _ _ (n, f) (x, y) (slice_get-zip2 with_dispatched i ns fs n f at_n at_f) (slice_get-zip2 both_operands i xs ys x y at_x at_y)
 
--- an instruction is ready where both columns hold values
-pub ready-joined : (ns : List ℕ) (fs : List Dispatched) (xs ys : List Operand) → SameLengths ns fs xs ys → (i : ℕ) (x y : Operand) → i < length ns → slice_get xs i ≡ Some x → slice_get ys i ≡ Some y → option_map is_ready (slice_get (joined ns fs xs ys) i) ≡ Some (has_value x && has_value y)
-ready-joined ns fs xs ys same i x y within at_x at_y =
-    let none : Dispatched = record { pc = 0; instruction = Fence } in
-    ap (option_map is_ready) (slice_get-joined ns fs xs ys i (get_or ns i 0) (get_or fs i none) x y (slice_get-get_or ns i 0 within) (slice_get-get_or fs i none (omega (arith, same.dispatched))) at_x at_y)
+-- the instruction in a place that stands in a list of places
+slice_get-in_places : (ws : List Waiting) (n : ℕ) (places : List ℕ) (at place : ℕ) (w : Waiting) → at < n → slice_get places at ≡ Some place → slice_get ws place ≡ Some w → slice_get (in_places ws (take n places)) at ≡ Some w
+slice_get-in_places ws zero places at place w low is there = absurd (omega arith)
+slice_get-in_places ws (suc n) [] at place w low is there = cc
+slice_get-in_places ws (suc n) (k ∷ ks) zero place w low is there =
+    let same : k ≡ place = cc in
+    ap Some (get_or_from_slice_get ws k w some_waiting (rw same there))
+slice_get-in_places ws (suc n) (k ∷ ks) (suc at) place w low is there = slice_get-in_places ws n ks at place w (omega arith) is there
+
+-- the parts of an instruction that waits
+pub slice_get-pool : (p : Inside) (at place n : ℕ) (f : Dispatched) (x y : Operand) → at < p.count → slice_get p.places.items at ≡ Some place → slice_get p.seqs.items place ≡ Some n → slice_get p.dispatched.items place ≡ Some f → slice_get p.first place ≡ Some x → slice_get p.second place ≡ Some y → slice_get (pool p).waiting at ≡ Some (instruction_of (n, f) (x, y))
+slice_get-pool p at place n f x y low is at_n at_f at_x at_y =
+    slice_get-in_places (in_all p) p.count p.places.items at place (instruction_of (n, f) (x, y)) low is (slice_get-joined p.seqs.items p.dispatched.items p.first p.second place n f x y at_n at_f at_x at_y)
 
 -- what is known of the instruction in a place
 pub is_ready-in_place : (ws : List Waiting) (i : ℕ) (w : Waiting) (ready : Bool) → slice_get ws i ≡ Some w → option_map is_ready (slice_get ws i) ≡ Some ready → is_ready w ≡ ready
 is_ready-in_place ws i w ready is told =
     let same : Some (is_ready w) ≡ Some ready = sym (ap (option_map is_ready) is) ∙ told in cc same
+
+pub seq-in_place : (ws : List Waiting) (i : ℕ) (d : Waiting) (seq : ℕ) → option_map seq_of (slice_get ws i) ≡ Some seq → i < length ws → (get_or ws i d).seq ≡ seq
+seq-in_place ws i d seq told within =
+    let same : Some (get_or ws i d).seq ≡ Some seq = sym (ap (option_map seq_of) (slice_get-get_or ws i d within)) ∙ told in cc same
 
 -- both columns are woken
 pub joined-woken : (seq value : ℕ) (ns : List ℕ) (fs : List Dispatched) (xs ys : List Operand) → joined ns fs (map (woken_operand seq value) xs) (map (woken_operand seq value) ys) ≡ map (woken seq value) (joined ns fs xs ys)
@@ -92,37 +103,36 @@ joined-woken seq value (n ∷ ns) (f ∷ fs) [] ys = refl
 joined-woken seq value (n ∷ ns) (f ∷ fs) (x ∷ xs) [] = refl
 joined-woken seq value (n ∷ ns) (f ∷ fs) (x ∷ xs) (y ∷ ys) = ap (λ ws. woken seq value (instruction_of (n, f) (x, y)) ∷ ws) (joined-woken seq value ns fs xs ys)
 
--- the number in a place
-pub seq-joined : (ns : List ℕ) (fs : List Dispatched) (xs ys : List Operand) → SameLengths ns fs xs ys → (i : ℕ) (d : Waiting) (e : ℕ) → i < length ns → (get_or (joined ns fs xs ys) i d).seq ≡ get_or ns i e
-seq-joined [] fs xs ys same i d e within = absurd (omega arith)
-seq-joined (n ∷ ns) [] xs ys same i d e within = absurd (omega (arith, same.dispatched))
-seq-joined (n ∷ ns) (f ∷ fs) [] ys same i d e within = absurd (omega (arith, same.first))
-seq-joined (n ∷ ns) (f ∷ fs) (x ∷ xs) [] same i d e within = absurd (omega (arith, same.second))
-seq-joined (n ∷ ns) (f ∷ fs) (x ∷ xs) (y ∷ ys) same zero d e within = refl
-seq-joined (n ∷ ns) (f ∷ fs) (x ∷ xs) (y ∷ ys) same (suc i) d e within =
-    seq-joined ns fs xs ys (record { dispatched = omega (arith, same.dispatched); first = omega (arith, same.first); second = omega (arith, same.second) }) i d e (omega arith)
+pub in_places-map : (f : Waiting → Waiting) (ws : List Waiting) (ks : List ℕ) → All (λ k. k < length ws) ks → in_places (map f ws) ks ≡ map f (in_places ws ks)
+in_places-map f ws [] there = refl
+in_places-map f ws (k ∷ ks) there =
+    ap₂ ◌∷◌ (get_or-map f ws k some_waiting some_waiting (All-head (λ j. j < length ws) k ks there)) (in_places-map f ws ks (All-tail (λ j. j < length ws) k ks there))
 
--- an instruction, to stand for what a list does not hold
-pub some_waiting : Waiting
-some_waiting = record { seq = 0; pc = 0; instruction = Fence; first = Value 0; second = Value 0 }
+-- what is written to another place is not seen
+in_places-unset : (ws : List Waiting) (ks : List ℕ) (place : ℕ) (w : Waiting) → All (λ k. k ≡ place → ⊥) ks → in_places (slice_set ws place w) ks ≡ in_places ws ks
+in_places-unset ws [] place w apart = refl
+in_places-unset ws (k ∷ ks) place w apart =
+    ap₂ ◌∷◌ (get_or-set_other ws place k w some_waiting (All-head (λ j. j ≡ place → ⊥) k ks apart)) (in_places-unset ws ks place w (All-tail (λ j. j ≡ place → ⊥) k ks apart))
 
--- the numbers themselves rise
-pub seqs_rise : (ns : List ℕ) (fs : List Dispatched) (xs ys : List Operand) → SameLengths ns fs xs ys → IsInOrder seq_of (joined ns fs xs ys) → IsNonDecreasingBy (λ (n : ℕ). n) ns
-seqs_rise ns fs xs ys same in_order i j d le within = elim (cases_lt i j) [
-  | inl before ↦ omega (arith, seq-joined ns fs xs ys same i some_waiting d (omega arith), seq-joined ns fs xs ys same j some_waiting d within, in_order i j some_waiting before (omega (arith, length-joined ns fs xs ys same)))
-  | inr equal ↦ let is : i ≡ j = omega arith in rw is (omega arith)
-]
+-- the instruction in the next place is the youngest
+pub in_places-next : (ws : List Waiting) (ks : List ℕ) (n place : ℕ) (w : Waiting) → AllPairs (λ a b. a ≡ b → ⊥) ks → slice_get ks n ≡ Some place → place < length ws → in_places (slice_set ws place w) (take (n + 1) ks) ≡ in_places ws (take n ks) ++ w ∷ []
+in_places-next ws ks n place w apart is there =
+    let within : n < length ks = slice_get_within ks n place is in
+    let before : All (λ k. k ≡ place → ⊥) (take n ks) =
+    λ i d lt equal.
+    let low : i < n = omega (arith, lt, length-take-le n ks (omega arith)) in
+    apart i n d low within (sym (get_or-take n ks i d low) ∙ equal ∙ sym (get_or_from_slice_get ks n place d is)) in
+    rw (take_at_get ks n place is)
+    (map-append (λ k. get_or (slice_set ws place w) k some_waiting) (take n ks) (place ∷ [])
+    ∙ ap₂ ◌++◌ (in_places-unset ws (take n ks) place w before) (ap (λ v. v ∷ []) (get_or-set_same ws place w some_waiting there)))
 
--- the last number is the greatest
-pub youngest_from_last : (ns : List ℕ) (fs : List Dispatched) (xs ys : List Operand) → SameLengths ns fs xs ys → IsInOrder seq_of (joined ns fs xs ys) → (seq : ℕ) → 0 < length ns → get_or ns (length ns - 1) 0 < seq → AreBelow seq_of seq (joined ns fs xs ys)
-youngest_from_last ns fs xs ys same in_order seq some below k d within =
-    let long = length-joined ns fs xs ys same in
-    let last = seq-joined ns fs xs ys same (length ns - 1) d 0 (omega arith) in
-    elim (cases_lt k (length ns - 1)) [
-      | inl before ↦ omega (arith, in_order k (length ns - 1) d before (omega arith), last)
-      | inr at_end ↦ let is : k ≡ length ns - 1 = omega arith in rw is (omega (arith, last))
-    ]
+pub in_places-remove : (ws : List Waiting) (ks : List ℕ) (at : ℕ) → at < length ks → in_places ws (remove ks at) ≡ remove (in_places ws ks) at
+in_places-remove ws [] at within = absurd (omega arith)
+in_places-remove ws (k ∷ ks) zero within = refl
+in_places-remove ws (k ∷ ks) (suc at) within = ap (λ vs. get_or ws k some_waiting ∷ vs) (in_places-remove ws ks at (omega arith))
 
-pub last_from_youngest : (ns : List ℕ) (fs : List Dispatched) (xs ys : List Operand) → SameLengths ns fs xs ys → (seq : ℕ) → 0 < length ns → AreBelow seq_of seq (joined ns fs xs ys) → get_or ns (length ns - 1) 0 < seq
-last_from_youngest ns fs xs ys same seq some youngest =
-    omega (arith, youngest (length ns - 1) some_waiting (omega (arith, length-joined ns fs xs ys same)), seq-joined ns fs xs ys same (length ns - 1) some_waiting 0 (omega arith))
+pub in_places-take : (ws : List Waiting) (ks : List ℕ) (n m : ℕ) → n ≤ m → in_places ws (take n ks) ≡ take n (in_places ws (take m ks))
+in_places-take ws ks zero m order = refl
+in_places-take ws ks (suc n) zero order = absurd (omega arith)
+in_places-take ws [] (suc n) (suc m) order = refl
+in_places-take ws (k ∷ ks) (suc n) (suc m) order = ap (λ vs. get_or ws k some_waiting ∷ vs) (in_places-take ws ks n m (omega arith))

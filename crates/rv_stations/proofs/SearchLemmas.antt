@@ -9,19 +9,20 @@ pub record Searching (test : Waiting → Bool) (ws : List Waiting) (at : ℕ) : 
   pub same_oldest : oldest_ready test (drop at ws) ≡ oldest_ready test ws
   pub same_others : take at ws ++ without_oldest_ready test (drop at ws) ≡ without_oldest_ready test ws
 
--- the list from a place on
-pub drop_at_get : (ws : List Waiting) (at : ℕ) (w : Waiting) → slice_get ws at ≡ Some w → drop at ws ≡ w ∷ drop (at + 1) ws
-drop_at_get [] at w is = cc
-drop_at_get (v ∷ vs) zero w is = cc
-drop_at_get (v ∷ vs) (suc at) w is =
-    let next : suc at + 1 ≡ suc (at + 1) = omega arith in rw next (drop_at_get vs at w is)
+module _ {X : Type 0} where
+  -- the list from a place on
+  pub drop_at_get : (xs : List X) (at : ℕ) (x : X) → slice_get xs at ≡ Some x → drop at xs ≡ x ∷ drop (at + 1) xs
+  drop_at_get [] at x is = cc
+  drop_at_get (y ∷ ys) zero x is = cc
+  drop_at_get (y ∷ ys) (suc at) x is =
+      let next : suc at + 1 ≡ suc (at + 1) = omega arith in rw next (drop_at_get ys at x is)
 
--- and up to the place after
-pub take_at_get : (ws : List Waiting) (at : ℕ) (w : Waiting) → slice_get ws at ≡ Some w → take (at + 1) ws ≡ take at ws ++ w ∷ []
-take_at_get [] at w is = cc
-take_at_get (v ∷ vs) zero w is = cc
-take_at_get (v ∷ vs) (suc at) w is =
-    let next : suc at + 1 ≡ suc (at + 1) = omega arith in rw next (ap (λ us. v ∷ us) (take_at_get vs at w is))
+  -- and up to the place after
+  pub take_at_get : (xs : List X) (at : ℕ) (x : X) → slice_get xs at ≡ Some x → take (at + 1) xs ≡ take at xs ++ x ∷ []
+  take_at_get [] at x is = cc
+  take_at_get (y ∷ ys) zero x is = cc
+  take_at_get (y ∷ ys) (suc at) x is =
+      let next : suc at + 1 ≡ suc (at + 1) = omega arith in rw next (ap (λ zs. y ∷ zs) (take_at_get ys at x is))
 
 pub Searching-pass : (test : Waiting → Bool) (ws : List Waiting) (at : ℕ) (w : Waiting) → slice_get ws at ≡ Some w → (is_ready w && test w) ≡ false → Searching test ws at → Searching test ws (at + 1)
 Searching-pass test ws at w is fails s =

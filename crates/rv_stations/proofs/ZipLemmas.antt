@@ -1,5 +1,5 @@
 -- Lists joined element by element, as an edit of both leaves them.
-use Rattle.std.proofs.Common.{◌≡◌, ℕ, zero, suc, ◌<◌, List, [], ◌∷◌, ◌++◌, length, take, remove, slice_get, Some, refl, ap, arith}
+use Rattle.std.proofs.Common.{◌≡◌, ℕ, zero, suc, ◌<◌, List, [], ◌∷◌, ◌++◌, length, take, drop, replicate, slice_get, slice_set, Some, refl, ap, arith}
 use Rattle.std.specs.Simd.Lanes.{zip2}
 
 module _ {X Y Z : Type 0} (f : X → Y → Z) where
@@ -16,11 +16,21 @@ module _ {X Y Z : Type 0} (f : X → Y → Z) where
   zip2-take (suc n) (x ∷ xs) [] = refl
   zip2-take (suc n) (x ∷ xs) (y ∷ ys) = ap (λ zs. f x y ∷ zs) (zip2-take n xs ys)
 
-  pub zip2-remove : (i : ℕ) (xs : List X) (ys : List Y) → i < length xs → i < length ys → zip2 f (remove xs i) (remove ys i) ≡ remove (zip2 f xs ys) i
-  zip2-remove i [] ys within_xs within_ys = absurd (omega arith)
-  zip2-remove i (x ∷ xs) [] within_xs within_ys = absurd (omega arith)
-  zip2-remove zero (x ∷ xs) (y ∷ ys) within_xs within_ys = refl
-  zip2-remove (suc i) (x ∷ xs) (y ∷ ys) within_xs within_ys = ap (λ zs. f x y ∷ zs) (zip2-remove i xs ys (omega arith) (omega arith))
+  pub zip2-drop : (n : ℕ) (xs : List X) (ys : List Y) → length xs ≡ length ys → zip2 f (drop n xs) (drop n ys) ≡ drop n (zip2 f xs ys)
+  zip2-drop zero xs ys long = refl
+  zip2-drop (suc n) [] ys long = refl
+  zip2-drop (suc n) (x ∷ xs) [] long = absurd (omega arith)
+  zip2-drop (suc n) (x ∷ xs) (y ∷ ys) long = zip2-drop n xs ys (omega arith)
+
+  pub zip2-set : (i : ℕ) (xs : List X) (ys : List Y) (x : X) (y : Y) → i < length xs → i < length ys → zip2 f (slice_set xs i x) (slice_set ys i y) ≡ slice_set (zip2 f xs ys) i (f x y)
+  zip2-set i [] ys x y within_xs within_ys = absurd (omega arith)
+  zip2-set i (a ∷ as') [] x y within_xs within_ys = absurd (omega arith)
+  zip2-set zero (a ∷ as') (b ∷ bs) x y within_xs within_ys = refl
+  zip2-set (suc i) (a ∷ as') (b ∷ bs) x y within_xs within_ys = ap (λ zs. f a b ∷ zs) (zip2-set i as' bs x y (omega arith) (omega arith))
+
+  pub zip2-replicate : (n : ℕ) (x : X) (y : Y) → zip2 f (replicate n x) (replicate n y) ≡ replicate n (f x y)
+  zip2-replicate zero x y = refl
+  zip2-replicate (suc n) x y = ap (λ zs. f x y ∷ zs) (zip2-replicate n x y)
 
   pub slice_get-zip2 : (i : ℕ) (xs : List X) (ys : List Y) (x : X) (y : Y) → slice_get xs i ≡ Some x → slice_get ys i ≡ Some y → slice_get (zip2 f xs ys) i ≡ Some (f x y)
   slice_get-zip2 i [] ys x y at_x at_y = cc

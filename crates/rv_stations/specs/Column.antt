@@ -1,16 +1,9 @@
 -- The operands in a column, and how the lists of tags and of values change when a producer is broadcast.
-use Rattle.std.specs.Prelude.{ℕ, ◌%◌, Bool, not, length, filter, List, [], ◌∷◌, ◌++◌, ◌==◌, if◌then◌else◌}
+use Rattle.std.specs.Prelude.{◌≡◌, ℕ, ◌+◌, ◌<◌, ◌%◌, Bool, not, length, get_or, take, drop, List, ◌++◌, ◌==◌, if◌then◌else◌}
+use Rattle.std.specs.Int.{bit_at}
 use Rattle.rv_stations.specs.declared.{lanes.TheConstants.NO_PRODUCER, waiting.Operand.Operand}
 use Rattle.rv_stations.specs.declared.waiting.Operand.TheVariants.{Value, Tag}
-
--- the operands in order of their instructions' numbers, and how many there may be
-pub record Column : Type 0 where
-  pub operands : List Operand
-  pub capacity : ℕ
-
--- one more operand
-abbrev pub with_operand : Operand → Column → Column
-with_operand operand column = record column { operands = column.operands ++ operand ∷ [] }
+use Rattle.rv_stations.specs.Waiting.{has_value}
 
 -- an operand is known by its tag
 abbrev pub operand_of : ℕ → ℕ → Operand
@@ -20,9 +13,13 @@ operand_of tag value = if tag == NO_PRODUCER then Value (value % 0x1_0000_0000) 
 abbrev pub is_producer : ℕ → Bool
 is_producer tag = not (tag == NO_PRODUCER)
 
--- how many of the tags are
-abbrev pub producers : List ℕ → ℕ
-producers tags = length (filter is_producer tags)
+-- a bit for each operand in order, 0 where the value is there and 1 where it is waited for
+abbrev pub IsWaitMask : List Operand → ℕ → Type 0
+IsWaitMask operands mask = (place : ℕ) → place < length operands → bit_at mask place ≡ if has_value (get_or operands place (Value 0)) then 0 else 1
+
+-- the bits of two masks are the same but for that of one place
+abbrev pub OtherBitsStay : ℕ → ℕ → ℕ → Type 0
+OtherBitsStay place before after = (other : ℕ) → other < 64 → (other ≡ place → ⊥) → bit_at after other ≡ bit_at before other
 
 -- a tag that is the number goes
 abbrev pub woken_tag : ℕ → ℕ → ℕ
@@ -31,3 +28,7 @@ woken_tag seq tag = if tag == seq then NO_PRODUCER else tag
 -- and the value comes
 abbrev pub woken_value : ℕ → ℕ → ℕ → ℕ → ℕ
 woken_value seq value tag held = if tag == seq then value else held
+
+-- a list in which eight items from a place on are changed
+abbrev pub in_eight : {X : Type 0} → ℕ → (List X → List X) → List X → List X
+in_eight start change items = take start items ++ (change (take 8 (drop start items)) ++ drop (start + 8) items)

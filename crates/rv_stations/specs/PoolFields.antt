@@ -1,7 +1,10 @@
 -- The fields of the stations of a kind: what they stand for, and what is true of them.
-use Rattle.std.specs.Prelude.{◌≡◌, ℕ, ◌≤◌, List, length, vec_len, vec_capacity}
+use Rattle.std.specs.Prelude.{◌≡◌, ℕ, ◌<◌, ◌≤◌, List, length, get_or, map, take, vec_len}
+use Rattle.std.specs.List.{All, AllPairs}
 use Rattle.std.specs.Simd.Lanes.{zip2}
+use Rattle.rv_isa.specs.declared.instructions.Instr.TheVariants.{Fence}
 use Rattle.rv_stations.specs.declared.{waiting.Operand.Operand, waiting.Waiting.Waiting, pool.Dispatched.Dispatched, pool.StationPool.TheInside.Inside}
+use Rattle.rv_stations.specs.declared.waiting.Operand.TheVariants.{Value}
 use Rattle.rv_isa.specs.Numbered.{IsInOrder}
 use Rattle.rv_stations.specs.Waiting.{seq_of}
 use Rattle.rv_stations.specs.Pool.{Pool}
@@ -23,18 +26,29 @@ abbrev pub joined : List ℕ → List Dispatched → List Operand → List Opera
 joined seqs dispatched first second =
     zip2 instruction_of (zip2 with_dispatched seqs dispatched) (zip2 both_operands first second)
 
--- the waiting instructions that the lists hold
-abbrev pub pool : Inside → Pool
-pool p = record { waiting = joined p.seqs.items p.dispatched.items p.first.operands p.second.operands; capacity = p.capacity }
+-- an instruction, to stand for what a list does not hold
+abbrev pub some_waiting : Waiting
+some_waiting = record { seq = 0; pc = 0; instruction = Fence; first = Value 0; second = Value 0 }
 
--- the lists are of one length, their room is reserved, and the numbers rise
+-- the instructions in some places
+abbrev pub in_places : List Waiting → List ℕ → List Waiting
+in_places instructions places = map (λ place. get_or instructions place some_waiting) places
+
+-- what stands in the places of all stations
+abbrev pub in_all : Inside → List Waiting
+in_all p = joined p.seqs.items p.dispatched.items p.first p.second
+
+-- the waiting instructions
+abbrev pub pool : Inside → Pool
+pool p = record { waiting = in_places (in_all p) (take p.count p.places.items); capacity = vec_len p.places }
+
+-- the lists are of one length, each place is there and no two are the same, and the numbers rise
 pub record IsSoundPool (p : Inside) : Type 0 where
-  pub within : vec_len p.seqs ≤ p.capacity
+  pub within : p.count ≤ vec_len p.places
+  pub few : vec_len p.seqs ≤ 64
   pub dispatched : vec_len p.dispatched ≡ vec_len p.seqs
-  pub first : length p.first.operands ≡ vec_len p.seqs
-  pub second : length p.second.operands ≡ vec_len p.seqs
-  pub seqs_reserved : p.capacity ≤ vec_capacity p.seqs
-  pub dispatched_reserved : p.capacity ≤ vec_capacity p.dispatched
-  pub first_reserved : p.first.capacity ≡ p.capacity
-  pub second_reserved : p.second.capacity ≡ p.capacity
-  pub in_order : IsInOrder seq_of (joined p.seqs.items p.dispatched.items p.first.operands p.second.operands)
+  pub first : length p.first ≡ vec_len p.seqs
+  pub second : length p.second ≡ vec_len p.seqs
+  pub there : All (λ place. place < vec_len p.seqs) p.places.items
+  pub apart : AllPairs (λ a b. a ≡ b → ⊥) p.places.items
+  pub in_order : IsInOrder seq_of (in_places (in_all p) (take p.count p.places.items))

@@ -1,133 +1,143 @@
-ghost use Rattle.std.specs.Prelude.{◌≡◌, ◌<◌, [], Some, length, map, remove, take, slice_get, IfOk, if◌then◌else◌};
+ghost use Rattle.std.specs.Prelude.{◌≡◌, ◌<◌, ◌≤◌, ◌+◌, ◌%◌, Some, length, map, replicate, slice_get, slice_set, IfOk};
+ghost use Rattle.rv_stations.specs.declared.lanes.TheConstants.{NO_PRODUCER as NO_PRODUCER_TAG};
+ghost use Rattle.rv_stations.specs.declared.waiting.Operand.TheVariants.{Value as HeldValue};
 ghost use Rattle.rv_stations.specs.Waiting.{IsOperand, woken_operand};
-ghost use Rattle.rv_stations.specs.Column.{operand_of, is_producer, with_operand};
+ghost use Rattle.rv_stations.specs.Column.{IsWaitMask, in_eight, operand_of};
 
 use crate::lanes::{self, NO_PRODUCER};
-use crate::take_out::take_out;
+use crate::marks::marked;
 use crate::waiting::Operand;
 use std::alloc::{AllocError, Global};
 use std::marker::Model;
 
-/// An operand of each waiting instruction of a kind, the tags and the values in lists of their own.
+/// An operand of each place of a kind's stations, the tags and the values in lists of their own.
 #[derive(Debug, Drop)]
 pub struct OperandColumn {
     tags: Vec<u64>,
     values: Vec<u64>,
-    capacity: usize,
-    /// How many operands wait for their producers.
-    waiting: usize,
+    /// A bit for each operand, set where it waits for its producer.
+    waiting: u64,
 }
 
 impl Model for OperandColumn {
-    ghost use Rattle.rv_stations.specs.Column.{Column};
+    ghost use Rattle.std.specs.Prelude.{List};
+    ghost use Rattle.rv_stations.specs.declared.waiting.Operand.{Operand as AnOperand};
 
-    ghost Value = { Column };
+    ghost Value = { List AnOperand };
 
-    ghost use Rattle.rv_stations.specs.ColumnFields.{column, IsSoundColumn};
+    ghost use Rattle.rv_stations.specs.ColumnFields.{operands, IsSoundColumn};
 
-    ghost view = { column };
+    ghost view = { operands };
 
     ghost invariant = { IsSoundColumn };
 }
 
-/// How many operands of a tag wait: one, or none where it has its value.
-fn waits(tag: u64) -> usize
-    ensures { result ≡ if is_producer tag then 1 else 0 }
-{
-    if lanes::is_producer(tag) { 1 } else { 0 }
-}
-
 impl OperandColumn {
-    /// No operands, with room for some.
-    pub fn new(alloc: Global, capacity: usize) -> Result<Self, AllocError>
-        ensures { IfOk result (λ column. column ≡ record { operands = []; capacity = capacity }) }
+    /// Operands that all have the value 0.
+    pub fn new(alloc: Global, len: usize) -> Result<Self, AllocError>
+        requires few { len ≤ 64 }
+        requires eights { len % 8 ≡ 0 }
+        ensures { IfOk result (λ column. column ≡ replicate len (HeldValue 0)) }
     {
         Ok(OperandColumn {
-            tags: Vec::with_capacity(alloc, capacity)?,
-            values: Vec::with_capacity(alloc, capacity)?,
-            capacity,
+            tags: vec![in alloc; NO_PRODUCER; len]?,
+            values: vec![in alloc; 0; len]?,
             waiting: 0,
         })
     }
 
-    /// Adds an operand at the end.
-    pub fn push(&mut self, operand: Operand)
-        requires room { length self.old.operands < self.old.capacity }
+    /// Writes the operand of a place.
+    #[inline(always)]
+    pub fn put(&mut self, place: usize, operand: Operand)
+        requires within { place < length self.old }
         requires in_range { IsOperand operand }
-        ensures { self.new ≡ with_operand operand self.old }
+        ensures { self.new ≡ slice_set self.old place operand }
     {
         match operand {
-            Operand::Value(value) => self.push_parts(NO_PRODUCER, u64::from(value)),
-            Operand::Tag(tag) => self.push_parts(tag, 0),
+            Operand::Value(value) => self.put_parts(place, NO_PRODUCER, u64::from(value)),
+            Operand::Tag(tag) => self.put_parts(place, tag, 0),
         }
     }
 
-    fn push_parts(&mut self, tag: u64, value: u64)
-        requires { length self.old.operands < self.old.capacity }
-        ensures { self.new ≡ with_operand (operand_of tag value) self.old }
+    #[inline(always)]
+    fn put_parts(&mut self, place: usize, tag: u64, value: u64)
+        requires { place < length self.old }
+        ensures { self.new ≡ slice_set self.old place (operand_of tag value) }
     {
-        self.tags.push_reserved(tag);
-        self.values.push_reserved(value);
-        self.waiting += waits(tag);
+        self.tags[place] = tag;
+        self.values[place] = value;
+        self.waiting = marked(self.waiting, place, lanes::is_producer(tag));
     }
 
-    /// The operand at a place.
-    pub fn get(&self, at: usize) -> Operand
-        requires { at < length self.now.operands }
-        ensures { slice_get self.now.operands at ≡ Some result }
+    /// The operand of a place.
+    pub fn get(&self, place: usize) -> Operand
+        requires { place < length self.now }
+        ensures { slice_get self.now place ≡ Some result }
     {
-        let tag = self.tags[at];
+        let tag = self.tags[place];
         if tag == NO_PRODUCER {
-            Operand::Value((self.values[at] % 0x1_0000_0000) as u32)
+            Operand::Value((self.values[place] % 0x1_0000_0000) as u32)
         } else {
             Operand::Tag(tag)
         }
     }
 
+    /// A bit for each operand, set where it waits.
+    #[inline(always)]
+    pub fn waiting(&self) -> u64
+        ensures { IsWaitMask self.now result }
+    {
+        self.waiting
+    }
+
     /// Gives each operand whose tag is a sequence number the value of its producer.
     #[inline(always)]
     pub fn wake(&mut self, seq: u64, value: u32)
-        ensures { self.new ≡ record self.old { operands = map (woken_operand seq value) self.old.operands } }
+        ensures { self.new ≡ map (woken_operand seq value) self.old }
     {
         if self.waiting == 0 {
-            return;
-        }
-        self.wake_held(seq, value);
-    }
-
-    // Most broadcasts are of a producer for which no operand of the column waits.
-    #[inline(never)]
-    fn wake_held(&mut self, seq: u64, value: u32)
-        ensures { self.new ≡ record self.old { operands = map (woken_operand seq value) self.old.operands } }
-    {
-        if !lanes::holds(self.tags.as_slice(), seq) {
             return;
         }
         if seq == NO_PRODUCER {
             return;
         }
-        let tags = self.tags.as_mut_slice();
-        let values = self.values.as_mut_slice();
-        lanes::wake_all(tags, values, seq, u64::from(value));
-        self.waiting = lanes::producers(self.tags.as_slice());
+        self.wake_waiting(seq, value);
     }
 
-    /// Takes out the operand at a place.
-    pub fn remove(&mut self, at: usize)
-        requires { at < length self.old.operands }
-        ensures { self.new ≡ record self.old { operands = remove self.old.operands at } }
+    #[inline(never)]
+    fn wake_waiting(&mut self, seq: u64, value: u32)
+        requires { seq ≡ NO_PRODUCER_TAG → ⊥ }
+        ensures { self.new ≡ map (woken_operand seq value) self.old }
     {
-        let tag = self.tags[at];
-        take_out(&mut self.tags, &mut self.values, at);
-        self.waiting -= waits(tag);
+        for group in 0..self.len() / 8 {
+            self.wake_eight(8 * group, seq, value);
+        }
     }
 
-    /// Keeps a number of operands at the front.
-    pub fn truncate(&mut self, len: usize)
-        ensures { self.new ≡ record self.old { operands = take len self.old.operands } }
+    fn len(&self) -> usize
+        ensures len { result ≡ length self.now }
+        ensures few { result ≤ 64 }
+        ensures eights { result % 8 ≡ 0 }
     {
-        self.tags.truncate(len);
-        self.values.truncate(len);
-        self.waiting = lanes::producers(self.tags.as_slice());
+        self.tags.len()
+    }
+
+    #[inline(always)]
+    fn wake_eight(&mut self, start: usize, seq: u64, value: u32)
+        requires within { start + 8 ≤ length self.old }
+        requires producer { seq ≡ NO_PRODUCER_TAG → ⊥ }
+        ensures { self.new ≡ in_eight start (map (woken_operand seq value)) self.old }
+    {
+        if (self.waiting >> start) & 0xff == 0 {
+            return;
+        }
+        let woken = lanes::wake_from(
+            start,
+            self.tags.as_mut_slice(),
+            self.values.as_mut_slice(),
+            seq,
+            u64::from(value),
+        );
+        self.waiting = self.waiting & !(woken << start);
     }
 }

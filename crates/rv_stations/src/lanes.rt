@@ -1,7 +1,6 @@
-ghost use Rattle.std.specs.Prelude.{◌≡◌, ◌==◌, length, map};
-ghost use Rattle.std.specs.List.{list_any};
-ghost use Rattle.std.specs.Simd.Lanes.{zip2};
-ghost use Rattle.rv_stations.specs.Column.{is_producer, producers, woken_tag, woken_value};
+ghost use Rattle.std.specs.Prelude.{◌≡◌, ◌==◌, ◌+◌, ◌≤◌, drop, length, map, take};
+ghost use Rattle.std.specs.Simd.Lanes.{zip2, mask_l};
+ghost use Rattle.rv_stations.specs.Column.{in_eight, is_producer, woken_tag, woken_value};
 
 use std::simd::prelude::*;
 
@@ -15,35 +14,38 @@ pub fn is_producer(tag: u64) -> bool
     tag != NO_PRODUCER
 }
 
-/// Whether a tag is this sequence number.
-pub fn holds(tags: &[u64], seq: u64) -> bool
-    ensures { result ≡ list_any (λ tag. tag == seq) tags.now }
+/// Gives those of eight operands from a place on whose producer has a sequence number its value, and tells
+/// which these are, a bit each.
+#[inline(always)]
+pub fn wake_from(start: usize, tags: &mut [u64], values: &mut [u64], seq: u64, value: u64) -> u64
+    requires within { start + 8 ≤ length tags.old }
+    requires as_many { length values.old ≡ length tags.old }
+    ensures woken { result ≡ mask_l (map (λ tag. tag == seq) (take 8 (drop start tags.old))) }
+    ensures tags { tags.new ≡ in_eight start (map (woken_tag seq)) tags.old }
+    ensures values { values.new ≡ in_eight start (zip2 (woken_value seq value) (take 8 (drop start tags.old))) values.old }
 {
-    tags.iter().any(|tag| *tag == seq)
-}
-
-/// How many of the tags are sequence numbers of producers.
-pub fn producers(tags: &[u64]) -> usize
-    ensures { result ≡ producers tags.now }
-{
-    tags.iter().filter(|tag| is_producer(**tag)).count()
-}
-
-/// Gives the operands whose producer has a sequence number its value: their tags and values are
-/// written, eight at a time and the rest one by one.
-pub fn wake_all(tags: &mut [u64], values: &mut [u64], seq: u64, value: u64)
-    requires { length tags.old ≡ length values.old }
-    ensures tags { tags.new ≡ map (woken_tag seq) tags.old }
-    ensures values { values.new ≡ zip2 (woken_value seq value) tags.old values.old }
-{
-    if tags.len() < 8 {
-        wake_one_by_one(tags, values, seq, value);
-        return;
+    let woken = equal_lanes(&tags[start..start + 8], seq);
+    // Most broadcasts are of a producer for which none of the eight waits.
+    if woken != 0 {
+        wake_eight(
+            &mut tags[start..start + 8],
+            &mut values[start..start + 8],
+            seq,
+            value,
+        );
     }
-    let (eight_tags, other_tags) = tags.split_at_mut(8);
-    let (eight_values, other_values) = values.split_at_mut(8);
-    wake_eight(eight_tags, eight_values, seq, value);
-    wake_all(other_tags, other_values, seq, value);
+    woken
+}
+
+// Which of eight tags are a sequence number, a bit each.
+#[inline(always)]
+fn equal_lanes(tags: &[u64], seq: u64) -> u64
+    requires { length tags.now ≡ 8 }
+    ensures { result ≡ mask_l (map (λ tag. tag == seq) tags.now) }
+{
+    u64x8::from_slice(tags)
+        .simd_eq(u64x8::splat(seq))
+        .to_bitmask()
 }
 
 fn wake_eight(tags: &mut [u64], values: &mut [u64], seq: u64, value: u64)
@@ -60,22 +62,4 @@ fn wake_eight(tags: &mut [u64], values: &mut [u64], seq: u64, value: u64)
     woken
         .select(u64x8::splat(NO_PRODUCER), waiting)
         .copy_to_slice(tags);
-}
-
-fn wake_one_by_one(tags: &mut [u64], values: &mut [u64], seq: u64, value: u64)
-    requires { length tags.old ≡ length values.old }
-    ensures tags { tags.new ≡ map (woken_tag seq) tags.old }
-    ensures values { values.new ≡ zip2 (woken_value seq value) tags.old values.old }
-{
-    let Some((tag, other_tags)) = tags.split_first_mut() else {
-        return;
-    };
-    let Some((held, other_values)) = values.split_first_mut() else {
-        return;
-    };
-    if *tag == seq {
-        *tag = NO_PRODUCER;
-        *held = value;
-    }
-    wake_one_by_one(other_tags, other_values, seq, value);
 }

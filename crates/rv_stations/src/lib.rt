@@ -5,9 +5,10 @@
 
 mod column;
 mod lanes;
+mod marks;
+mod places;
 mod pool;
 mod stations;
-mod take_out;
 mod waiting;
 
 pub use stations::Stations;

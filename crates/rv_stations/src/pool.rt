@@ -1,10 +1,11 @@
-ghost use Rattle.std.specs.Prelude.{◌≡◌, ◌<◌, ◌≤◌, ◌↔◌, Bool, [], Some, length, nat_le, slice_get, IsTrue, IfOk, IfSome, option_and_then};
-ghost use Rattle.rv_isa.specs.Numbered.{AreBelow, IsInOrder};
+ghost use Rattle.std.specs.Prelude.{◌≡◌, ◌<◌, ◌≤◌, ◌↔◌, Bool, [], Some, length, take, nat_le, slice_get, IsTrue, IfOk, IfSome, option_and_then};
+ghost use Rattle.rv_isa.specs.Description.{Within};
+ghost use Rattle.rv_isa.specs.Numbered.{AreBelow, IsInOrder, below};
 ghost use Rattle.rv_stations.specs.Waiting.{seq_of, IsOperand, is_ready, ready_of, oldest_ready};
 ghost use Rattle.std.specs.Option.{option_map};
 
 use crate::column::OperandColumn;
-use crate::take_out::take_out;
+use crate::places::{first_places, move_back};
 use crate::waiting::{Ready, Waiting};
 use rv_isa::{Instr, KindValues};
 use std::alloc::{AllocError, Global};
@@ -17,14 +18,18 @@ pub struct Dispatched {
     pub instruction: Instr,
 }
 
-/// The reservation stations of one kind: sequence numbers, instructions and operands in lists of their own.
+/// The reservation stations of one kind. An instruction lies still in its place; sequence numbers,
+/// instructions and operands stand in lists of their own.
 #[derive(Debug, Drop)]
 pub struct StationPool {
+    /// The places, first those whose instructions wait, oldest first, then the free ones.
+    places: Vec<u8>,
+    /// How many instructions wait.
+    count: usize,
     seqs: Vec<u64>,
     dispatched: Vec<Dispatched>,
     first: OperandColumn,
     second: OperandColumn,
-    capacity: usize,
 }
 
 impl Model for StationPool {
@@ -39,20 +44,29 @@ impl Model for StationPool {
     ghost invariant = { IsSoundPool };
 }
 
+// What stands in a place that no instruction has had.
+const NOTHING: Dispatched = Dispatched {
+    pc: 0,
+    instruction: Instr::Fence,
+};
+
 impl StationPool {
     ghost use Rattle.rv_stations.specs.Pool.{Answers, empty_pool, with_waiting, woken_pool, issued, squashed, without_place};
 
     /// The stations that a description gives a kind, with nothing in them.
     pub fn new(alloc: Global, kind: KindValues) -> Result<Self, AllocError>
+        requires { Within 1 64 kind.stations }
         ensures { IfOk result (λ pool. pool ≡ empty_pool kind) }
     {
-        let capacity = kind.stations as usize;
+        // The tags are compared eight at a time.
+        let len = (kind.stations as usize + 7) / 8 * 8;
         Ok(StationPool {
-            seqs: Vec::with_capacity(alloc, capacity)?,
-            dispatched: Vec::with_capacity(alloc, capacity)?,
-            first: OperandColumn::new(alloc, capacity)?,
-            second: OperandColumn::new(alloc, capacity)?,
-            capacity,
+            places: first_places(alloc, kind.stations)?,
+            count: 0,
+            seqs: vec![in alloc; 0; len]?,
+            dispatched: vec![in alloc; NOTHING; len]?,
+            first: OperandColumn::new(alloc, len)?,
+            second: OperandColumn::new(alloc, len)?,
         })
     }
 
@@ -61,24 +75,22 @@ impl StationPool {
         ensures full { result ≡ nat_le self.now.capacity (length self.now.waiting) }
         ensures within { length self.now.waiting ≤ self.now.capacity }
     {
-        self.seqs.len() >= self.capacity
+        self.count >= self.places.len()
     }
 
     /// Whether no instruction waits.
     pub fn is_empty(&self) -> bool
         ensures { IsTrue result ↔ (self.now.waiting ≡ []) }
     {
-        self.seqs.is_empty()
+        self.count == 0
     }
 
     /// Whether a sequence number is above all that wait.
     pub fn is_youngest(&self, seq: u64) -> bool
         ensures { IsTrue result ↔ AreBelow seq_of seq self.now.waiting }
     {
-        match self.seqs.last() {
-            None => true,
-            Some(last) => *last < seq,
-        }
+        let count = self.len();
+        count == 0 || self.seq_at(count - 1) < seq
     }
 
     /// How many instructions wait.
@@ -86,7 +98,7 @@ impl StationPool {
         ensures len { result ≡ length self.now.waiting }
         ensures in_order { IsInOrder seq_of self.now.waiting }
     {
-        self.seqs.len()
+        self.count
     }
 
     /// Takes in an instruction that is younger than all that wait.
@@ -97,13 +109,15 @@ impl StationPool {
         requires second { IsOperand waiting.second }
         ensures { self.new ≡ with_waiting waiting self.old }
     {
-        self.seqs.push_reserved(waiting.seq);
-        self.dispatched.push_reserved(Dispatched {
+        let place = usize::from(self.places[self.count]);
+        self.seqs[place] = waiting.seq;
+        self.dispatched[place] = Dispatched {
             pc: waiting.pc,
             instruction: waiting.instruction,
-        });
-        self.first.push(waiting.first);
-        self.second.push(waiting.second);
+        };
+        self.first.put(place, waiting.first);
+        self.second.put(place, waiting.second);
+        self.count += 1;
     }
 
     /// Gives each operand whose tag is a sequence number the value of its producer.
@@ -115,15 +129,24 @@ impl StationPool {
         self.second.wake(seq, value);
     }
 
-    /// The instruction in a place.
+    /// The number of an instruction, counted from the oldest.
+    fn seq_at(&self, at: usize) -> u64
+        requires { at < length self.now.waiting }
+        ensures { option_map seq_of (slice_get self.now.waiting at) ≡ Some result }
+    {
+        self.seqs[usize::from(self.places[at])]
+    }
+
+    /// An instruction, counted from the oldest.
     fn instruction_at(&self, at: usize) -> Waiting
         requires { at < length self.now.waiting }
         ensures { slice_get self.now.waiting at ≡ Some result }
     {
-        let seq = self.seqs[at];
-        let dispatched = self.dispatched[at];
-        let first = self.first.get(at);
-        let second = self.second.get(at);
+        let place = usize::from(self.places[at]);
+        let seq = self.seqs[place];
+        let dispatched = self.dispatched[place];
+        let first = self.first.get(place);
+        let second = self.second.get(place);
         Waiting {
             seq,
             pc: dispatched.pc,
@@ -133,15 +156,19 @@ impl StationPool {
         }
     }
 
-    /// Whether both operands of the instruction in a place have their values.
+    /// Whether both operands of an instruction, counted from the oldest, have their values.
+    #[inline(always)]
     fn is_ready_at(&self, at: usize) -> bool
         requires { at < length self.now.waiting }
         ensures { option_map is_ready (slice_get self.now.waiting at) ≡ Some result }
     {
-        self.first.get(at).has_value() && self.second.get(at).has_value()
+        let place = usize::from(self.places[at]);
+        let waiting = self.first.waiting() | self.second.waiting();
+        (waiting >> place) & 1 == 0
     }
 
-    /// The place of the oldest instruction that is ready and passes a filter.
+    /// Where the oldest instruction stands that is ready and passes a filter.
+    #[inline(always)]
     fn place_of_oldest_ready<F: Fn(&Waiting) -> bool>(&self, filter: &F) -> Option<usize>
         requires { F.IsAlwaysCallable filter.now }
         ensures within { IfSome result (λ at. at < length self.now.waiting) }
@@ -157,7 +184,7 @@ impl StationPool {
         None
     }
 
-    /// Takes out the instruction in a place.
+    /// Takes out an instruction, counted from the oldest.
     #[inline(always)]
     fn take(&mut self, at: usize) -> Waiting
         requires { at < length self.old.waiting }
@@ -165,9 +192,8 @@ impl StationPool {
         ensures others { self.new ≡ without_place (Some at) self.old }
     {
         let taken = self.instruction_at(at);
-        take_out(&mut self.seqs, &mut self.dispatched, at);
-        self.first.remove(at);
-        self.second.remove(at);
+        move_back(&mut self.places, at, self.count);
+        self.count -= 1;
         taken
     }
 
@@ -188,10 +214,20 @@ impl StationPool {
     pub fn squash(&mut self, from: u64)
         ensures { self.new ≡ squashed from self.old }
     {
-        let kept = self.seqs.partition_point(|seq| *seq < from);
-        self.seqs.truncate(kept);
-        self.dispatched.truncate(kept);
-        self.first.truncate(kept);
-        self.second.truncate(kept);
+        self.count = self.count_below(from);
+    }
+
+    /// How many instructions have numbers below one.
+    fn count_below(&self, from: u64) -> usize
+        ensures within { result ≤ length self.now.waiting }
+        ensures below { below seq_of from self.now.waiting ≡ take result self.now.waiting }
+    {
+        let count = self.len();
+        for at in 0..count {
+            if self.seq_at(at) >= from {
+                return at;
+            }
+        }
+        count
     }
 }

@@ -1,12 +1,11 @@
--- Where no operand waits, none is woken.
-use Rattle.std.proofs.Common.{◌≡◌, List, ap, sym, ◌∙◌}
-use Rattle.rv_stations.specs.declared.waiting.Operand.{Operand}
-use Rattle.rv_stations.specs.Column.{Column, producers}
-use Rattle.rv_stations.proofs.ColumnLemmas.{operands-idle}
+-- Where no operand waits, or for the number of no producer, none is woken.
+use Rattle.std.proofs.Common.{sym}
+use Rattle.rv_stations.specs.ColumnFields.{operands}
+use Rattle.rv_stations.proofs.ColumnLemmas.{operands-idle, operands-unwoken}
 use Rattle.rv_stations.proofs.column.OperandColumn.wake.Goals as goal
 
 pub returns-then-self-eq0 : goal.returns-then-self-eq0
-returns-then-self-eq0 c =
-    let column : List Operand → Column = λ os. record { operands = os; capacity = c.self.inside.capacity } in
-    let idle : producers c.self.inside.tags.items ≡ 0 = sym c.self.invariant.counted ∙ c.if-self-eq0.true in
-    rw (← c.self.view_is) (ap column (sym (operands-idle c.args.seq c.args.value c.self.inside.tags.items c.self.inside.values.items idle)))
+returns-then-self-eq0 c = rw (← c.self.view_is) (sym (operands-idle c.args.seq c.args.value (operands c.self.inside) (rw c.if-self-eq0.true at c.self.invariant.marked)))
+
+pub returns-then-seq-eq-NO_PRODUCER : goal.returns-then-seq-eq-NO_PRODUCER
+returns-then-seq-eq-NO_PRODUCER c = rw (← c.self.view_is) (sym (rw c.if-seq-eq-NO_PRODUCER.true (operands-unwoken c.args.value _ _)))

@@ -1,24 +1,16 @@
 -- The parts in the place make the instruction.
-use Rattle.std.proofs.Common.{◌<◌, length, refl, arith}
-use Rattle.rv_stations.proofs.PoolLemmas.{length-pool, slice_get-joined}
+use Rattle.std.proofs.Common.{◌≡◌, ◌<◌, ◌∙◌, Some, length, refl, sym, ap, slice_get, arith}
 use Rattle.std.proofs.lemmas.Option.{slice_get_read}
+use Rattle.rv_stations.proofs.PoolLemmas.{length-pool, place_there, slice_get-pool}
 use Rattle.rv_stations.proofs.pool.StationPool.instruction_at.Goals as goal
-
-pub index-seq-requires : goal.index-seq-requires
-index-seq-requires c = omega (arith, rw (← c.self.view_is) at c.requires, length-pool c.self.inside c.self.invariant)
-
-pub index-dispatched-requires : goal.index-dispatched-requires
-index-dispatched-requires c = omega (arith, rw (← c.self.view_is) at c.requires, length-pool c.self.inside c.self.invariant, c.self.invariant.dispatched)
-
-pub get-first-requires : goal.get-first-requires
-get-first-requires c = omega (arith, rw (← c.self.view_is) at c.requires, length-pool c.self.inside c.self.invariant, c.self.invariant.first)
-
-pub get-second-requires : goal.get-second-requires
-get-second-requires c = omega (arith, rw (← c.self.view_is) at c.requires, length-pool c.self.inside c.self.invariant, c.self.invariant.second)
 
 pub returns : goal.returns
 returns c =
-    let within : c.args.at < length c.self.inside.seqs.items = omega (arith, rw (← c.self.view_is) at c.requires, length-pool c.self.inside c.self.invariant) in
-    let seq = slice_get_read c.self.inside.seqs.items _ c.args.at c.index-seq.result.now refl within c.index-seq.ensures in
-    let dispatched = slice_get_read c.self.inside.dispatched.items _ c.args.at c.index-dispatched.result.now refl (omega (arith, c.self.invariant.dispatched)) c.index-dispatched.ensures in
-    rw (← c.self.view_is) (slice_get-joined _ _ _ _ c.args.at _ _ _ _ seq dispatched c.get-first.ensures c.get-second.ensures)
+    let p = c.self.inside in
+    let low : c.args.at < p.count = omega (arith, rw (← c.self.view_is) at c.requires, length-pool p c.self.invariant) in
+    let is : slice_get p.places.items c.args.at ≡ Some c.from-place.result =
+    slice_get_read p.places.items _ c.args.at c.index.result.now refl (omega (arith, low, c.self.invariant.within)) c.index.ensures ∙ ap Some (sym c.from-place.ensures) in
+    let there = place_there p c.self.invariant c.args.at c.from-place.result is in
+    let seq = slice_get_read p.seqs.items _ c.from-place.result c.index-seq.result.now refl (omega (arith, there)) c.index-seq.ensures in
+    let dispatched = slice_get_read p.dispatched.items _ c.from-place.result c.index-dispatched.result.now refl (omega (arith, there, c.self.invariant.dispatched)) c.index-dispatched.ensures in
+    rw (← c.self.view_is) (slice_get-pool p c.args.at c.from-place.result _ _ _ _ low is seq dispatched c.get-first.ensures c.get-second.ensures)

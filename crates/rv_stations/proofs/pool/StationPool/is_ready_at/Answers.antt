@@ -1,30 +1,30 @@
--- Both columns hold an operand in the place.
-use Rattle.std.proofs.Common.{◌<◌, ◌&&◌, Some, length, get_or, sym, ap, ◌∙◌, arith}
-use Rattle.std.proofs.lemmas.Option.{slice_get-get_or}
+-- The bit of the place tells whether an operand waits.
+use Rattle.std.proofs.Common.{◌≡◌, ◌<◌, ◌∙◌, Some, length, get_or, refl, sym, ap, slice_get, arith}
+use Rattle.std.specs.Option.{option_map}
+use Rattle.std.proofs.lemmas.Option.{slice_get_read, slice_get-get_or}
+use Rattle.rv_isa.specs.declared.instructions.Instr.TheVariants.{Fence}
 use Rattle.rv_stations.specs.declared.waiting.Operand.TheVariants.{Value}
-use Rattle.rv_stations.specs.Waiting.{has_value}
-use Rattle.rv_stations.proofs.PoolLemmas.{length-pool, same_lengths, ready-joined}
+use Rattle.rv_stations.specs.declared.pool.Dispatched.{Dispatched}
+use Rattle.rv_stations.specs.Waiting.{has_value, is_ready}
+use Rattle.rv_stations.proofs.ColumnLemmas.{both_ready}
+use Rattle.rv_stations.proofs.PoolLemmas.{length-pool, place_there, slice_get-pool}
 use Rattle.rv_stations.proofs.pool.StationPool.is_ready_at.Goals as goal
 
-pub get-requires : goal.get-requires
-get-requires c = omega (arith, rw (← c.self.view_is) at c.requires, length-pool c.self.inside c.self.invariant, c.self.invariant.first)
-
-pub get-requires-then-has_value : goal.get-requires-then-has_value
-get-requires-then-has_value c = omega (arith, rw (← c.self.view_is) at c.requires, length-pool c.self.inside c.self.invariant, c.self.invariant.second)
-
-pub returns-then-has_value : goal.returns-then-has_value
-returns-then-has_value c =
-    let within : c.args.at < length c.self.inside.seqs.items = omega (arith, rw (← c.self.view_is) at c.requires, length-pool c.self.inside c.self.invariant) in
+pub returns : goal.returns
+returns c =
+    let p = c.self.inside in
+    let place = c.from-place.result in
+    let low : c.args.at < p.count = omega (arith, rw (← c.self.view_is) at c.requires, length-pool p c.self.invariant) in
+    let is : slice_get p.places.items c.args.at ≡ Some place =
+    slice_get_read p.places.items _ c.args.at c.index.result.now refl (omega (arith, low, c.self.invariant.within)) c.index.ensures ∙ ap Some (sym c.from-place.ensures) in
+    let there = place_there p c.self.invariant c.args.at place is in
+    let in_first : place < length p.first = omega (arith, there, c.self.invariant.first) in
+    let in_second : place < length p.second = omega (arith, there, c.self.invariant.second) in
+    let none : Dispatched = record { pc = 0; instruction = Fence } in
     rw (← c.self.view_is)
-    (ready-joined _ _ _ _ (same_lengths c.self.inside c.self.invariant) c.args.at c.get.result c.get-then-has_value.result within c.get.ensures c.get-then-has_value.ensures
-    ∙ ap (λ known. Some (known && has_value c.get-then-has_value.result)) (sym c.has_value.ensures ∙ c.if-has_value.true)
-    ∙ ap Some (sym c.has_value-then-has_value.ensures))
-
-pub returns-else-has_value : goal.returns-else-has_value
-returns-else-has_value c =
-    let within : c.args.at < length c.self.inside.seqs.items = omega (arith, rw (← c.self.view_is) at c.requires, length-pool c.self.inside c.self.invariant) in
-    let second = get_or c.self.inside.second.operands c.args.at (Value 0) in
-    rw (← c.self.view_is)
-    (ready-joined _ _ _ _ (same_lengths c.self.inside c.self.invariant) c.args.at c.get.result second within c.get.ensures (slice_get-get_or c.self.inside.second.operands c.args.at (Value 0) (omega (arith, c.self.invariant.second)))
-    ∙ ap (λ known. Some (known && has_value second)) (sym c.has_value.ensures ∙ c.if-has_value.false)
-    ∙ ap Some (sym c.if-has_value.false))
+    (ap (option_map is_ready) (slice_get-pool p c.args.at place _ _ _ _ low is
+    (slice_get-get_or p.seqs.items place 0 (omega (arith, there)))
+    (slice_get-get_or p.dispatched.items place none (omega (arith, there, c.self.invariant.dispatched)))
+    (slice_get-get_or p.first place (Value 0) in_first)
+    (slice_get-get_or p.second place (Value 0) in_second))
+    ∙ ap Some (both_ready c.waiting.result c.waiting-2.result place (has_value (get_or p.first place (Value 0))) (has_value (get_or p.second place (Value 0))) (c.waiting.ensures place in_first) (c.waiting-2.ensures place in_second)))

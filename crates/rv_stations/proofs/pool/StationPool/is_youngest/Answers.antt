@@ -1,15 +1,22 @@
--- The numbers rise, so the last one is the greatest.
-use Rattle.std.proofs.Common.{◌≡◌, ◌-◌, ◌<◌, length, get_or, arith}
-use Rattle.std.proofs.lemmas.Bool.{ltb-true, lt-ltb}
-use Rattle.rv_stations.proofs.PoolLemmas.{same_lengths, youngest_from_last, last_from_youngest}
+-- The last number is the greatest.
+use Rattle.std.proofs.Common.{◌≡◌, ◌-◌, ◌+◌, ◌<◌, ◌≤◌, get_or, length, arith}
+use Rattle.std.proofs.lemmas.Bool.{lt-ltb, ltb-true}
+use Rattle.std.proofs.lemmas.Option.{slice_get-get_or}
+use Rattle.rv_isa.proofs.Numbered.{AreBelow-last}
+use Rattle.rv_stations.specs.PoolFields.{some_waiting}
+use Rattle.rv_stations.specs.Waiting.{seq_of}
+use Rattle.rv_stations.proofs.PoolLemmas.{seq-in_place}
 use Rattle.rv_stations.proofs.pool.StationPool.is_youngest.Goals as goal
 
-pub returns-in-Some : goal.returns-in-Some
-returns-in-Some c =
-    let same = same_lengths c.self.inside c.self.invariant in
-    let some : 0 < length c.self.inside.seqs.items = rw c.deref.ensures.value at c.in-Some.ensures.item.3.0 in
-    let last : c.in-Some.last.now ≡ get_or c.self.inside.seqs.items (length c.self.inside.seqs.items - 1) 0 = rw c.deref.ensures.value at (c.in-Some.ensures.item.4 (omega arith) 0) in
-    rw (← c.self.view_is) (
-      (λ below. youngest_from_last _ _ _ _ same c.self.invariant.in_order c.args.seq some (omega (arith, ltb-true _ _ below, last))),
-      (λ youngest. lt-ltb _ _ (omega (arith, last_from_youngest _ _ _ _ same c.args.seq some youngest, last))),
+pub returns-else-count-eq0 : goal.returns-else-count-eq0
+returns-else-count-eq0 c =
+    let ws = c.args.self.now.waiting in
+    let last = c.len-count.result - 1 in
+    let within : last < length ws = omega (arith, c.len-count.ensures.len, c.if-count-eq0.false) in
+    let is : (get_or ws last some_waiting).seq ≡ c.seq_at.result = seq-in_place ws last some_waiting c.seq_at.result c.seq_at.ensures within in (
+      (λ low.
+          let end : length ws ≤ last + 1 = omega (arith, c.len-count.ensures.len) in
+          let below : seq_of (get_or ws last some_waiting) < c.args.seq = omega (arith, is, ltb-true _ _ low) in
+          AreBelow-last seq_of c.args.seq last ws _ c.len-count.ensures.in_order end (slice_get-get_or ws last some_waiting within) below),
+      (λ youngest. lt-ltb _ _ (omega (arith, is, youngest last some_waiting within))),
     )

@@ -5,7 +5,8 @@ use Rattle.std.proofs.lemmas.Bool.{and_from, and_left, and_right}
 use Rattle.std.proofs.lemmas.Option.{slice_get-get_or}
 use Rattle.rv_stations.specs.declared.waiting.Waiting.{Waiting}
 use Rattle.rv_stations.specs.Pool.{Pool}
-use Rattle.rv_stations.proofs.PoolLemmas.{is_ready-in_place, some_waiting}
+use Rattle.rv_stations.proofs.PoolLemmas.{is_ready-in_place}
+use Rattle.rv_stations.specs.PoolFields.{some_waiting}
 use Rattle.rv_stations.proofs.SearchLemmas.{Searching-pass, Searching-found}
 use Rattle.rv_stations.proofs.pool.StationPool.place_of_oldest_ready.Goals as goal
 use Rattle.rv_stations.proofs.pool.StationPool.place_of_oldest_ready.Goals.{else-is_ready_at-via-then-is_ready_at+else-filter, else-is_ready_at-via-else-is_ready_at}

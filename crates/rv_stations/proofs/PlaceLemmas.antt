@@ -1,0 +1,110 @@
+-- Lists of places, in which one is moved back.
+use Rattle.std.proofs.Common.{◌≡◌, ℕ, zero, suc, ◌+◌, ◌<◌, ◌≤◌, List, [], ◌∷◌, ◌++◌, length, get_or, take, map, remove, slice_index_or, slice_set, All, refl, ap, ◌∙◌, arith}
+use Rattle.std.specs.List.{AllPairs, insert, range_with_len}
+use Rattle.std.proofs.lemmas.List.Elements.{All-cons, All-head, All-tail}
+use Rattle.std.proofs.lemmas.List.Kept.{AllPairs-cons}
+
+module _ {A : Type 0} where
+  -- the places from one on up to another have taken what stands after them
+  abbrev pub moved : ℕ → ℕ → List A → List A
+  moved zero zero xs = xs
+  moved zero (suc to) [] = []
+  moved zero (suc to) (x ∷ []) = x ∷ []
+  moved zero (suc to) (x ∷ y ∷ ys) = y ∷ moved zero to (y ∷ ys)
+  moved (suc at) zero xs = xs
+  moved (suc at) (suc to) [] = []
+  moved (suc at) (suc to) (x ∷ xs) = x ∷ moved at to xs
+
+  pub moved-none : (at : ℕ) (xs : List A) → moved at at xs ≡ xs
+  moved-none zero xs = refl
+  moved-none (suc at) [] = refl
+  moved-none (suc at) (x ∷ xs) = ap (λ ys. x ∷ ys) (moved-none at xs)
+
+  -- what stands after them is as it was
+  behind-moved : (at to i : ℕ) (xs : List A) (d : A) → to < i → slice_index_or (moved at to xs) i d ≡ slice_index_or xs i d
+  behind-moved zero zero i xs d behind = refl
+  behind-moved zero (suc to) i [] d behind = refl
+  behind-moved zero (suc to) i (x ∷ []) d behind = refl
+  behind-moved zero (suc to) zero (x ∷ y ∷ ys) d behind = absurd (omega arith)
+  behind-moved zero (suc to) (suc i) (x ∷ y ∷ ys) d behind = behind-moved zero to i (y ∷ ys) d (omega arith)
+  behind-moved (suc at) zero i xs d behind = refl
+  behind-moved (suc at) (suc to) i [] d behind = refl
+  behind-moved (suc at) (suc to) zero (x ∷ xs) d behind = absurd (omega arith)
+  behind-moved (suc at) (suc to) (suc i) (x ∷ xs) d behind = behind-moved at to i xs d (omega arith)
+
+  moved-set : (at to : ℕ) (xs : List A) (x : A) → at ≤ to → suc to < length xs → x ≡ slice_index_or xs (suc to) x → slice_set (moved at to xs) to x ≡ moved at (suc to) xs
+  moved-set at to [] x order within is = absurd (omega arith)
+  moved-set at to (a ∷ []) x order within is = absurd (omega arith)
+  moved-set zero zero (a ∷ b ∷ xs) x order within is = ap (λ y. y ∷ b ∷ xs) is
+  moved-set zero (suc to) (a ∷ b ∷ xs) x order within is = ap (λ ys. b ∷ ys) (moved-set zero to (b ∷ xs) x (omega arith) (omega arith) is)
+  moved-set (suc at) zero (a ∷ b ∷ xs) x order within is = absurd (omega arith)
+  moved-set (suc at) (suc to) (a ∷ b ∷ xs) x order within is = ap (λ ys. a ∷ ys) (moved-set at to (b ∷ xs) x (omega arith) (omega arith) is)
+
+  -- one more place
+  pub moved-next : (at to : ℕ) (xs ys : List A) (x : A) → at ≤ to → to + 1 < length xs → ys ≡ moved at to xs → x ≡ slice_index_or ys (to + 1) x → slice_set ys to x ≡ moved at (to + 1) xs
+  moved-next at to xs ys x order within is read =
+      let next : to + 1 ≡ suc to = omega arith in
+      let behind : x ≡ slice_index_or xs (to + 1) x = read ∙ ap (λ zs. slice_index_or zs (to + 1) x) is ∙ behind-moved at to (to + 1) xs x (omega arith) in
+      ap (λ zs. slice_set zs to x) is ∙ rw next (moved-set at to xs x order (omega arith) (rw next at behind))
+
+  -- all places, and one written to the last
+  pub moved-back : (at last : ℕ) (xs : List A) (x : A) → at ≤ last → last < length xs → slice_set (moved at last xs) last x ≡ insert (remove xs at) last x
+  moved-back at last [] x order within = absurd (omega arith)
+  moved-back zero zero (a ∷ xs) x order within = refl
+  moved-back zero (suc last) (a ∷ []) x order within = absurd (omega arith)
+  moved-back zero (suc last) (a ∷ b ∷ xs) x order within = ap (λ ys. b ∷ ys) (moved-back zero last (b ∷ xs) x (omega arith) (omega arith))
+  moved-back (suc at) zero (a ∷ xs) x order within = absurd (omega arith)
+  moved-back (suc at) (suc last) (a ∷ xs) x order within = ap (λ ys. a ∷ ys) (moved-back at last xs x (omega arith) (omega arith))
+
+  pub take-insert : (n : ℕ) (xs : List A) (x : A) → n ≤ length xs → take n (insert xs n x) ≡ take n xs
+  take-insert zero xs x within = refl
+  take-insert (suc n) [] x within = absurd (omega arith)
+  take-insert (suc n) (a ∷ xs) x within = ap (λ ys. a ∷ ys) (take-insert n xs x (omega arith))
+
+  pub take-remove : (at n : ℕ) (xs : List A) → at ≤ n → at < length xs → take n (remove xs at) ≡ remove (take (suc n) xs) at
+  take-remove at n [] order within = absurd (omega arith)
+  take-remove zero n (a ∷ xs) order within = refl
+  take-remove (suc at) zero (a ∷ xs) order within = absurd (omega arith)
+  take-remove (suc at) (suc n) (a ∷ xs) order within = ap (λ ys. a ∷ ys) (take-remove at n xs (omega arith) (omega arith))
+
+  module _ (P : A → Type 0) where
+    pub All-insert : (n : ℕ) (xs : List A) (x : A) → All P xs → P x → All P (insert xs n x)
+    All-insert zero xs x all holds = All-cons P x xs holds all
+    All-insert (suc n) [] x all holds = All-cons P x [] holds all
+    All-insert (suc n) (a ∷ xs) x all holds = All-cons P a (insert xs n x) (All-head P a xs all) (All-insert n xs x (All-tail P a xs all) holds)
+
+    pub All-remove : (at : ℕ) (xs : List A) → at < length xs → All P xs → All P (remove xs at)
+    All-remove at [] within all = absurd (omega arith)
+    All-remove zero (a ∷ xs) within all = All-tail P a xs all
+    All-remove (suc at) (a ∷ xs) within all = All-cons P a (remove xs at) (All-head P a xs all) (All-remove at xs (omega arith) (All-tail P a xs all))
+
+  module _ (R : A → A → Type 0) (flip : (x y : A) → R x y → R y x) where
+    first : (x : A) (xs : List A) → AllPairs R (x ∷ xs) → All (R x) xs
+    first x xs pairs = λ k d lt. pairs 0 (suc k) d (omega arith) (omega arith)
+
+    others : (x : A) (xs : List A) → AllPairs R (x ∷ xs) → AllPairs R xs
+    others x xs pairs = λ i j d lt within. pairs (suc i) (suc j) d (omega arith) (omega arith)
+
+    -- what is taken out of a list is related to all that stay
+    pub All-others : (at : ℕ) (xs : List A) (d : A) → at < length xs → AllPairs R xs → All (R (get_or xs at d)) (remove xs at)
+    All-others at [] d within pairs = absurd (omega arith)
+    All-others zero (x ∷ xs) d within pairs = first x xs pairs
+    All-others (suc at) (x ∷ xs) d within pairs =
+        All-cons (R (get_or xs at d)) x (remove xs at) (flip x (get_or xs at d) (pairs 0 (suc at) d (omega arith) (omega arith))) (All-others at xs d (omega arith) (others x xs pairs))
+
+    pub AllPairs-insert : (n : ℕ) (xs : List A) (x : A) → All (R x) xs → AllPairs R xs → AllPairs R (insert xs n x)
+    AllPairs-insert zero xs x all pairs = AllPairs-cons R x xs all pairs
+    AllPairs-insert (suc n) [] x all pairs = AllPairs-cons R x [] all pairs
+    AllPairs-insert (suc n) (y ∷ ys) x all pairs =
+        AllPairs-cons R y (insert ys n x) (All-insert (R y) n ys x (first y ys pairs) (flip x y (All-head (R x) y ys all))) (AllPairs-insert n ys x (All-tail (R x) y ys all) (others y ys pairs))
+
+-- one more number in a row
+range_with_len-next : (a n : ℕ) → range_with_len a n ++ (a + n) ∷ [] ≡ range_with_len a (n + 1)
+range_with_len-next a zero = let same : a + 0 ≡ a = omega arith in rw same refl
+range_with_len-next a (suc n) =
+    let next : suc n + 1 ≡ suc (n + 1) = omega arith in
+    let same : a + suc n ≡ a + 1 + n = omega arith in
+    rw (next, same) (ap (λ ns. a ∷ ns) (range_with_len-next (a + 1) n))
+
+pub range-next : (n : ℕ) → range_with_len 0 n ++ n ∷ [] ≡ range_with_len 0 (n + 1)
+range-next n = let same : 0 + n ≡ n = omega arith in rw same at (range_with_len-next 0 n)

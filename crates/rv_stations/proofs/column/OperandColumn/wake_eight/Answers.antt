@@ -1,0 +1,71 @@
+-- Eight tags and values are written, and the bits of those that are woken are cleared.
+use Rattle.std.proofs.Common.{◌≡◌, ◌≤◌, ◌+◌, ◌∙◌, sym, ap, ap₂, map, take, drop, length, List, ℕ, eqb, arith}
+use Rattle.std.specs.Simd.Lanes.{zip2, mask_l}
+use Rattle.std.specs.Vec.{with_items}
+use Rattle.std.proofs.lemmas.Bool.{ne_eqb}
+use Rattle.std.proofs.lemmas.Nat.{and_mask}
+use Rattle.std.proofs.lemmas.List.{with_items_is}
+use Rattle.rv_stations.specs.declared.waiting.Operand.{Operand}
+use Rattle.rv_stations.specs.Waiting.{woken_operand}
+use Rattle.rv_stations.specs.Column.{in_eight, operand_of, woken_tag, woken_value}
+use Rattle.rv_stations.specs.ColumnFields.{operands}
+use Rattle.rv_stations.proofs.ColumnLemmas.{length-column, in_eight-idle, operands-in_eight, IsWaitMask-woken}
+use Rattle.rv_stations.proofs.column.OperandColumn.wake_eight.Goals as goal
+
+pub overflow_shr-self-inside : goal.overflow_shr-self-inside
+overflow_shr-self-inside c = omega (arith, rw (← c.self.view_is) at c.requires.within, length-column c.self.inside c.self.invariant, c.self.invariant.few)
+
+pub returns-then-self-start-eq0 : goal.returns-then-self-start-eq0
+returns-then-self-start-eq0 c =
+    rw (← c.self.view_is)
+    (sym (in_eight-idle c.args.seq c.args.value c.args.start c.self.inside.waiting (operands c.self.inside) c.self.invariant.marked (rw (← c.self.view_is) at c.requires.within) (sym (and_mask _ 8) ∙ c.if-self-start-eq0.true)))
+
+pub wake_from-woken-requires-clause-within : goal.wake_from-woken-requires-clause-within
+wake_from-woken-requires-clause-within c =
+    rw c.as_mut_slice.ensures.value (omega (arith, rw (← c.self.view_is) at c.requires.within, length-column c.self.inside c.self.invariant))
+
+pub overflow_shl-self : goal.overflow_shl-self
+overflow_shl-self c = omega (arith, rw (← c.self.view_is) at c.requires.within, length-column c.self.inside c.self.invariant, c.self.invariant.few)
+
+room : (c : goal.After-self-3-1) → c.args.start + 8 ≤ length c.self.inside.tags.items
+room c = omega (arith, rw (← c.self.view_is) at c.requires.within, length-column c.self.inside c.self.invariant)
+
+tags_are : (c : goal.After-self-3-1) → (with_items c.self.inside.tags c.wake_from-woken.new.tags).items ≡ in_eight c.args.start (map (woken_tag c.args.seq)) c.self.inside.tags.items
+tags_are c =
+    with_items_is c.self.inside.tags c.wake_from-woken.new.tags (omega (arith, c.wake_from-woken.auto.tags, c.as_mut_slice.ensures.len))
+    ∙ c.wake_from-woken.ensures.tags
+    ∙ ap (in_eight c.args.start (map (woken_tag c.args.seq))) c.as_mut_slice.ensures.value
+
+values_are : (c : goal.After-self-3-1) → (with_items c.self.inside.values c.wake_from-woken.new.values).items ≡ in_eight c.args.start (zip2 (woken_value c.args.seq c.args.value) (take 8 (drop c.args.start c.self.inside.tags.items))) c.self.inside.values.items
+values_are c =
+    with_items_is c.self.inside.values c.wake_from-woken.new.values (omega (arith, c.wake_from-woken.auto.values, c.as_mut_slice-2.ensures.len))
+    ∙ rw c.from.ensures at c.wake_from-woken.ensures.values
+    ∙ ap₂ (λ (ts vs : List ℕ). in_eight c.args.start (zip2 (woken_value c.args.seq c.args.value) (take 8 (drop c.args.start ts))) vs) c.as_mut_slice.ensures.value c.as_mut_slice-2.ensures.value
+
+woken_are : (c : goal.After-self-3-1) → c.wake_from-woken.result ≡ mask_l (map (λ t. eqb t c.args.seq) (take 8 (drop c.args.start c.self.inside.tags.items)))
+woken_are c = c.wake_from-woken.ensures.woken ∙ ap (λ ts. mask_l (map (λ t. eqb t c.args.seq) (take 8 (drop c.args.start ts)))) c.as_mut_slice.ensures.value
+
+told : (c : goal.After-self-3-1) → zip2 operand_of (with_items c.self.inside.tags c.wake_from-woken.new.tags).items (with_items c.self.inside.values c.wake_from-woken.new.values).items ≡ in_eight c.args.start (map (woken_operand c.args.seq c.args.value)) (operands c.self.inside)
+told c =
+    let p = c.self.inside in
+    let as_many : length p.tags.items ≡ length p.values.items = omega (arith, c.self.invariant.as_many) in
+    let few : length p.tags.items ≤ 64 = omega (arith, c.self.invariant.few) in
+    ap₂ (zip2 operand_of) (tags_are c) (values_are c)
+    ∙ operands-in_eight c.args.seq c.args.value c.args.start p.waiting p.tags.items p.values.items (ne_eqb _ _ c.requires.producer) c.ranges.value.fits as_many few (room c)
+
+pub returns : goal.returns
+returns c = rw (← c.self.view_is) (told c)
+
+pub invariant_of-self : goal.invariant_of-self
+invariant_of-self c =
+    let p = c.self.inside in
+    let as_many : length p.tags.items ≡ length p.values.items = omega (arith, c.self.invariant.as_many) in
+    let few : length p.tags.items ≤ 64 = omega (arith, c.self.invariant.few) in
+    record {
+      as_many = c.self.invariant.as_many;
+      few = c.self.invariant.few;
+      eights = c.self.invariant.eights;
+      marked =
+          rw (told c, woken_are c)
+          (IsWaitMask-woken c.args.seq c.args.value c.args.start p.waiting p.tags.items p.values.items (ne_eqb _ _ c.requires.producer) c.ranges.value.fits as_many few (room c) c.self.invariant.marked);
+    }
