@@ -1,9 +1,11 @@
 -- The cycles of a run that a picture shows.
-use Rattle.std.specs.Prelude.{◌≡◌, ℕ, Bool, true, false, List, length}
+use Rattle.std.specs.Prelude.{◌≡◌, ℕ, ◌+◌, ◌*◌, ◌≤◌, Bool, true, false, List, length}
 use Rattle.rv_isa.specs.declared.lines.Arrival.{Arrival}
 use Rattle.rv_arch.specs.declared.outcome.Stop.{Stop}
 use Rattle.rv_arch.specs.declared.outcome.Stop.TheVariants as stop
 use Rattle.rv_hardware.specs.Guided.{GuidedCycles, GuidedHardware}
+use Rattle.rv_core.specs.Watching.{Watched}
+use Rattle.rv_hardware.specs.History.{reports_of}
 use Rattle.rv_hardware.specs.Report.{Report}
 use Rattle.rv_hardware.specs.Run.{IsStop}
 use Rattle.rv_passage.specs.Follows.{Follows}
@@ -13,6 +15,12 @@ use Rattle.rv_picture.specs.declared.window.Window.{Window}
 -- some cycles that a predictor guides, each with the lines of its number, and nothing else
 abbrev pub HasRun : List Arrival → GuidedHardware → GuidedHardware → Type 0
 HasRun arrivals old new = (reports : List Report) × GuidedCycles arrivals old reports new
+
+-- what became of the instructions in the cycles that were seen, so many of which were fetched and retired at most
+pub record HasFollowed (table : Passages) (seen : Watched) : Type 0 where
+  pub follows : Follows seen.arrivals seen.first (reports_of seen.moments) seen.now table
+  pub fetched : table.fetched ≤ 288 * (seen.now.hardware.cycle + 1)
+  pub retired : table.retired ≤ 8 * seen.now.hardware.cycle
 
 -- cycles from some hardware on until they end for a reason, at most so many, and what became of the instructions in them
 pub record IsFollowed (arrivals : List Arrival) (limit : ℕ) (old new : GuidedHardware) (table : Passages) (window : Window) (stop : Stop) : Type 0 where

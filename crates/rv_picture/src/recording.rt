@@ -1,4 +1,4 @@
-ghost use Rattle.std.specs.Prelude.{◌≡◌, List, Option, IfOk, OnErr};
+ghost use Rattle.std.specs.Prelude.{◌≡◌, ◌≤◌, List, Option, IfOk, OnErr, vec_capacity};
 ghost use Rattle.rv_front.specs.declared.predictors.DescribedPredictor.{DescribedPredictor};
 ghost use Rattle.rv_hardware.specs.Guided.{GuidedCycles, guided};
 ghost use Rattle.rv_hardware.specs.Report.{Report};
@@ -8,11 +8,15 @@ ghost use Rattle.rv_picture.specs.Recording.{HasRun, IsFollowed, IsOver, IsRecor
 
 use crate::window::Window;
 use rv_arch::Stop;
-use rv_core::{Pipeline, Progress};
+use rv_core::{Pipeline, Watcher, watch};
 use rv_front::Predictor;
+use rv_hardware::Step;
 use rv_isa::Arrivals;
 use rv_passage::Table;
 use std::alloc::{AllocError, Global};
+use std::convert::Infallible;
+use std::io;
+use std::io::Write;
 
 /// What became of the instructions in some cycles of a run.
 #[derive(Debug, Drop)]
@@ -25,29 +29,72 @@ pub(crate) struct Recording {
     pub(crate) stop: Stop,
 }
 
+// The watcher of the cycles that no picture shows.
+#[derive(Clone, Copy, Debug)]
+struct Nobody;
+
+impl Watcher for Nobody {
+    type Refusal = Infallible;
+
+    ghost has_seen = { λ _ _ _ _ _. Unit {0} };
+
+    ghost has_room = { λ _. Unit {0} };
+
+    fn make_room(&mut self) -> Result<(), Infallible> {
+        Ok(())
+    }
+
+    fn see<W: Write>(&mut self, _: u64, _: &[Step], _: &Pipeline, _: &mut W) {}
+}
+
+// The watcher that follows the instructions.
+#[derive(Debug, Drop)]
+struct Follower {
+    table: Table,
+}
+
+impl Watcher for Follower {
+    ghost use Rattle.rv_passage.specs.Table.{HasRoom, passages_of};
+    ghost use Rattle.rv_picture.specs.Recording.{HasFollowed};
+
+    type Refusal = AllocError;
+
+    ghost has_seen = { λ _ follower seen _ _. HasFollowed (passages_of follower.table) seen };
+
+    ghost has_room = { λ follower. HasRoom follower.table };
+
+    fn make_room(&mut self) -> Result<(), AllocError> {
+        self.table.make_room()
+    }
+
+    fn see<W: Write>(&mut self, cycle: u64, steps: &[Step], pipeline: &Pipeline, _: &mut W) {
+        self.table.follow(cycle, steps, pipeline);
+    }
+}
+
 // Runs a pipeline that a predictor guides up to so many cycles. Answers why the run ended.
 fn run_on(
-    alloc: Global,
     pipeline: &mut Pipeline,
     predictor: &mut dyn Predictor,
     arrivals: &Arrivals,
     limit: u64,
-) -> Result<Stop, AllocError>
-    ensures stop { IfOk result (λ stop. (reports : List Report) × GuidedCycles arrivals.now (guided pipeline.old (known predictor.old)) reports (guided pipeline.new (known predictor.new)) × IsStop limit reports pipeline.new stop) }
-    ensures run { OnErr result (HasRun arrivals.now (guided pipeline.old (known predictor.old)) (guided pipeline.new (known predictor.new))) }
+    steps: Vec<Step>,
+) -> Stop
+    requires { 8 ≤ vec_capacity steps }
+    ensures { (reports : List Report) × GuidedCycles arrivals.now (guided pipeline.old (known predictor.old)) reports (guided pipeline.new (known predictor.new)) × IsStop limit reports pipeline.new result }
 {
-    let mut steps = Vec::with_capacity(alloc, 8)?;
-    let mut progress = Progress::new();
-    for _ in 0..limit {
-        if pipeline.is_exhausted() {
-            return Ok(Stop::Exhausted);
-        }
-        steps.clear();
-        if let Some(stop) = progress.run_cycle(pipeline, predictor, arrivals, &mut steps) {
-            return Ok(stop);
-        }
+    let ended = watch(
+        pipeline,
+        predictor,
+        arrivals,
+        limit,
+        steps,
+        &mut Nobody,
+        &mut io::sink(),
+    );
+    match ended.stop {
+        Ok(stop) => stop,
     }
-    Ok(Stop::Limit)
 }
 
 // Runs a pipeline that a predictor guides up to so many cycles, and follows its instructions through them.
@@ -62,23 +109,21 @@ fn follow(
     ensures run { OnErr result (HasRun arrivals.now (guided pipeline.old (known predictor.old)) (guided pipeline.new (known predictor.new))) }
 {
     let first = pipeline.cycles_done();
-    let mut table = Table::begin(alloc, pipeline)?;
-    let mut steps = Vec::with_capacity(alloc, 8)?;
-    let mut progress = Progress::new();
-    for _ in 0..limit {
-        if pipeline.is_exhausted() {
-            return Ok(recorded(table, first, progress.cycles, Stop::Exhausted));
-        }
-        table.make_room()?;
-        steps.clear();
-        let cycle = pipeline.cycles_done();
-        let stop = progress.run_cycle(pipeline, predictor, arrivals, &mut steps);
-        table.follow(cycle, steps.as_slice(), pipeline);
-        if let Some(stop) = stop {
-            return Ok(recorded(table, first, progress.cycles, stop));
-        }
-    }
-    Ok(recorded(table, first, progress.cycles, Stop::Limit))
+    let mut follower = Follower {
+        table: Table::begin(alloc, pipeline)?,
+    };
+    let steps = Vec::with_capacity(alloc, 8)?;
+    let ended = watch(
+        pipeline,
+        predictor,
+        arrivals,
+        limit,
+        steps,
+        &mut follower,
+        &mut io::sink(),
+    );
+    let stop = ended.stop?;
+    Ok(recorded(follower.table, first, ended.progress.cycles, stop))
 }
 
 fn recorded(table: Table, first: u64, cycles: u64, stop: Stop) -> Recording
@@ -121,7 +166,8 @@ pub(crate) fn record_window(
     ensures recording { IfOk result (λ recording. IsRecording arrivals.now from limit (guided pipeline.old (known predictor.old)) (guided pipeline.new (known predictor.new)) (passages_of recording.table) recording.window recording.stop) }
     ensures run { OnErr result (HasRun arrivals.now (guided pipeline.old (known predictor.old)) (guided pipeline.new (known predictor.new))) }
 {
-    let stop = run_on(alloc, pipeline, predictor, arrivals, from)?;
+    let steps = Vec::with_capacity(alloc, 8)?;
+    let stop = run_on(pipeline, predictor, arrivals, from, steps);
     if is_limit(stop) {
         follow(alloc, pipeline, predictor, arrivals, limit)
     } else {
