@@ -7,7 +7,7 @@ use Rattle.rv_hardware.specs.Guided.{GuidedHardware}
 use Rattle.rv_hardware.specs.Hardware.{Hardware}
 use Rattle.rv_explain.specs.Access.{both}
 use Rattle.rv_explain.specs.Drain.{drain_in, drains_by, drains_of}
-use Rattle.rv_explain.specs.History.{History, Moment, ended, cycled}
+use Rattle.rv_hardware.specs.History.{History, Moment, ended, cycled}
 
 -- the drains of one cycle more
 pub drains_of-push : {arrivals : List Arrival} {old now : GuidedHardware} {moments : List Moment} (moment : Moment) → History arrivals old moments now

@@ -7,7 +7,7 @@ use Rattle.std.specs.List.{range_with_len}
 use Rattle.rv_isa.specs.declared.values.Values.{Values}
 use Rattle.rv_memory.specs.Memory.{word_of}
 use Rattle.rv_explain.specs.Head.{head_cycles, head_word, is_word}
-use Rattle.rv_explain.specs.History.{Moment}
+use Rattle.rv_hardware.specs.History.{Moment}
 use Rattle.rv_explain.specs.Hotspot.{counts_of}
 use Rattle.rv_explain.specs.WordNotes.{notes_of}
 use Rattle.rv_explain.specs.declared.word_note.WordNote.{WordNote}

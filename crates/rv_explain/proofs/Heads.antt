@@ -3,7 +3,7 @@ use Rattle.std.proofs.Common.{◌≡◌, ◌∙◌, ℕ, ◌+◌, ◌≤◌, Lis
 use Rattle.std.proofs.lemmas.List.Sums.{count_by-le-length, sum_by-append}
 use Rattle.rv_isa.specs.declared.values.Values.{Values}
 use Rattle.rv_explain.specs.Head.{head_cycles, head_word, is_word, with_head}
-use Rattle.rv_explain.specs.History.{Moment}
+use Rattle.rv_hardware.specs.History.{Moment}
 use Rattle.rv_explain.specs.WordNotes.{notes_of, once_more_at_head}
 use Rattle.rv_explain.specs.declared.word_note.WordNote.{WordNote}
 use Rattle.rv_explain.proofs.WordTable.{change_one}

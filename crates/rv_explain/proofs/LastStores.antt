@@ -5,7 +5,7 @@ use Rattle.rv_isa.specs.declared.lines.Arrival.{Arrival}
 use Rattle.rv_isa.specs.declared.values.Values.{Values}
 use Rattle.rv_memory.specs.Memory.{word_of}
 use Rattle.rv_hardware.specs.Guided.{GuidedHardware}
-use Rattle.rv_explain.specs.History.{History, Moment, ended, cycled}
+use Rattle.rv_hardware.specs.History.{History, Moment, ended, cycled}
 use Rattle.rv_explain.specs.LastStore.{last_store_to, store_to, stores_in, stores_of, with_stores}
 use Rattle.rv_explain.specs.WordNotes.{notes_of, stored_by}
 use Rattle.rv_explain.specs.declared.stored.Stored.{Stored}

@@ -1,10 +1,11 @@
 -- What is kept of a run, with one cycle more.
-use Rattle.std.proofs.Common.{◌≡◌, ◌∙◌, ℕ, ◌+◌, ◌*◌, ◌^◌, ◌<◌, ◌≤◌, ◌==◌, List, [], ◌∷◌, ◌++◌, length, count_by, cond, sym, ap, arith, append-nil, append_assoc}
+use Rattle.std.proofs.Common.{◌≡◌, ◌∙◌, ℕ, ◌+◌, ◌*◌, ◌^◌, ◌<◌, ◌≤◌, ◌==◌, List, [], ◌∷◌, ◌++◌, length, count_by, cond, sym, ap, arith}
 use Rattle.std.specs.Prelude.{is_some}
 use Rattle.std.specs.Option.{option_or, option_to_list}
 use Rattle.std.proofs.lemmas.List.Sums.{count_by-le-length, sum_by-append}
 use Rattle.rv_isa.specs.declared.lines.Arrival.{Arrival}
 use Rattle.rv_isa.specs.declared.values.Values.{Values}
+use Rattle.rv_core.proofs.Shown.{shown_steps-push}
 use Rattle.rv_hardware.specs.Guided.{GuidedHardware}
 use Rattle.rv_hardware.specs.Hardware.{Hardware}
 use Rattle.rv_hardware.specs.Run.{steps_of}
@@ -14,7 +15,7 @@ use Rattle.rv_explain.specs.Access.{both}
 use Rattle.rv_explain.specs.Drain.{drain_in, drains_by, drains_of}
 use Rattle.rv_explain.specs.Exception.{exception_in, first_exception}
 use Rattle.rv_explain.specs.Head.{head_cycles}
-use Rattle.rv_explain.specs.History.{History, Moment, reports_of}
+use Rattle.rv_hardware.specs.History.{History, Moment, reports_of}
 use Rattle.rv_explain.specs.LastStore.{last_store_to, stores_in, stores_of, with_stores}
 use Rattle.rv_explain.specs.Load.{costs_of, is_quick, load_cost, loads_of}
 use Rattle.rv_explain.specs.Tale.{HasRoom, tale_after, tale_of}
@@ -31,10 +32,6 @@ first_exception-push [] moment = option_or-none _
 first_exception-push (first ∷ moments) moment =
     ap (option_or (exception_in first.after first.report.steps)) (first_exception-push moments moment) ∙ option_or-assoc (exception_in first.after first.report.steps) (first_exception moments) _
 
-pub steps-push : (moments : List Moment) (moment : Moment) → steps_of (reports_of (moments ++ moment ∷ [])) ≡ steps_of (reports_of moments) ++ moment.report.steps
-steps-push [] moment = append-nil _
-steps-push (first ∷ moments) moment = ap (λ steps. first.report.steps ++ steps) (steps-push moments moment) ∙ sym (append_assoc first.report.steps _ _)
-
 loads_of-append : (costs : Costs) (some more : List Step) → loads_of costs (some ++ more) ≡ both (loads_of costs some) (loads_of costs more)
 loads_of-append costs some more = λ i. record {
   all = sum_by-append (λ (step : Step). cond (is_some (load_cost step)) 1 0) some more i;
@@ -46,7 +43,7 @@ module _ (values : Values) where
   pub tale-push : {arrivals : List Arrival} {old now : GuidedHardware} {moments : List Moment} (moment : Moment) → History arrivals old moments now
       → tale_after now.hardware.registers moment.report.steps (drain_in arrivals now.hardware) moment.after (tale_of values arrivals old.hardware moments) ≡ tale_of values arrivals old.hardware (moments ++ moment ∷ [])
   tale-push {arrivals = arrivals} {old = old} {now = now} {moments = moments} moment passes =
-      let steps = steps-push moments moment in
+      let steps = shown_steps-push moments moment in
       let exception = sym (first_exception-push moments moment) in
       let heads = ap (with_stores (stores_in now.hardware.registers moment.report.steps)) (with_head_of values (last_store_to (stores_of old.hardware moments)) moments moment) in
       let stores = with_stores_of values (head_cycles (moments ++ moment ∷ [])) (stores_in now.hardware.registers moment.report.steps) (stores_of old.hardware moments) in

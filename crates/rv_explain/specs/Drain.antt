@@ -8,7 +8,7 @@ use Rattle.rv_hardware.specs.Cycle.{commit_with}
 use Rattle.rv_hardware.specs.Drain.{drain_cost}
 use Rattle.rv_hardware.specs.Hardware.{Hardware}
 use Rattle.rv_explain.specs.Access.{access_text}
-use Rattle.rv_explain.specs.History.{Moment}
+use Rattle.rv_hardware.specs.History.{Moment}
 use Rattle.rv_explain.specs.declared.accesses.Accesses.{Accesses}
 
 -- what the access costs that the drain phase of a cycle begins, which comes after the commit phase, if it begins one

@@ -9,7 +9,7 @@ use Rattle.rv_hardware.specs.declared.step.Step.{Step}
 use Rattle.rv_hardware.specs.declared.step.Step.TheVariants.{Retired, Trap, Interrupt}
 use Rattle.rv_source.specs.Listing.{Listed}
 use Rattle.rv_text.specs.Line.{word_text}
-use Rattle.rv_explain.specs.History.{Moment}
+use Rattle.rv_hardware.specs.History.{Moment}
 use Rattle.rv_explain.specs.Place.{place_text}
 use Rattle.rv_explain.specs.declared.exception.Exception.{Exception}
 

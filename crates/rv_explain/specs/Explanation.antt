@@ -12,7 +12,7 @@ use Rattle.rv_text.specs.Line.{line_of, ratio_text}
 use Rattle.rv_explain.specs.Drain.{drain_text}
 use Rattle.rv_explain.specs.Ending.{ending_text}
 use Rattle.rv_explain.specs.Exception.{exception_text}
-use Rattle.rv_explain.specs.History.{History, Moment, reports_of}
+use Rattle.rv_hardware.specs.History.{History, Moment, reports_of}
 use Rattle.rv_explain.specs.Hotspot.{hotspots_text}
 use Rattle.rv_explain.specs.Load.{load_text}
 use Rattle.rv_explain.specs.Stack.{count_text, stall_text}

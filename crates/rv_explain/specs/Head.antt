@@ -4,7 +4,7 @@ use Rattle.std.specs.{List.slice_get, Option.option_map}
 use Rattle.rv_memory.specs.Memory.{word_of}
 use Rattle.rv_rob.specs.declared.entry.Entry.{Entry}
 use Rattle.rv_hardware.specs.Hardware.{Hardware}
-use Rattle.rv_explain.specs.History.{Moment}
+use Rattle.rv_hardware.specs.History.{Moment}
 use Rattle.rv_explain.specs.WordNotes.{Notes, once_more_at_head, with_change}
 
 -- the word of the instruction at the head, if there is one

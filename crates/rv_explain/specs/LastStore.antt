@@ -10,7 +10,7 @@ use Rattle.rv_arch.specs.State.{with_register}
 use Rattle.rv_hardware.specs.Hardware.{Hardware}
 use Rattle.rv_hardware.specs.declared.step.Step.{Step}
 use Rattle.rv_hardware.specs.declared.step.Step.TheVariants.{Retired, Trap, Interrupt}
-use Rattle.rv_explain.specs.History.{Moment}
+use Rattle.rv_hardware.specs.History.{Moment}
 use Rattle.rv_explain.specs.WordNotes.{Notes, stored_by, with_change}
 use Rattle.rv_explain.specs.declared.stored.Stored.{Stored}
 

@@ -1,4 +1,3 @@
-pub mod History
 pub mod Place
 pub mod WordNotes
 pub mod LastStore

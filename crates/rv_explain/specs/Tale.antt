@@ -1,7 +1,9 @@
 -- What is kept of a run, cycle by cycle.
-use Rattle.std.specs.Prelude.{ℕ, ◌+◌, ◌^◌, ◌<◌, List, count_by, Option, IfSome}
+use Rattle.std.specs.Prelude.{◌≡◌, ℕ, ◌+◌, ◌^◌, ◌<◌, List, [], count_by, Option, IfSome}
 use Rattle.std.specs.Option.{option_or, option_to_list}
 use Rattle.rv_isa.specs.declared.{lines.Arrival.Arrival, values.Values.Values}
+use Rattle.rv_core.specs.Watching.{Watched}
+use Rattle.rv_hardware.specs.Drain.{drain_end}
 use Rattle.rv_hardware.specs.Hardware.{Hardware}
 use Rattle.rv_hardware.specs.Run.{steps_of}
 use Rattle.rv_hardware.specs.Step.{is_retirement}
@@ -10,7 +12,7 @@ use Rattle.rv_explain.specs.Access.{both}
 use Rattle.rv_explain.specs.Drain.{drains_by, drains_of}
 use Rattle.rv_explain.specs.Exception.{exception_in, first_exception}
 use Rattle.rv_explain.specs.Head.{head_cycles, head_word, with_head}
-use Rattle.rv_explain.specs.History.{Moment, reports_of}
+use Rattle.rv_hardware.specs.History.{Moment, reports_of}
 use Rattle.rv_explain.specs.LastStore.{last_store_to, stores_in, stores_of, with_stores}
 use Rattle.rv_explain.specs.Load.{costs_of, loads_of}
 use Rattle.rv_explain.specs.WordNotes.{note_at, notes_of}
@@ -38,6 +40,15 @@ tale_after registers steps drain after tale = record {
   drains = both tale.drains (drains_by tale.costs.hit (option_to_list drain));
   words = with_stores (stores_in registers steps) (with_head (head_word after) tale.words);
 }
+
+-- what is kept of the cycles that were seen, of those values by which nothing was kept at first; with the registers and the
+-- end of the drain under way after them
+pub record IsTelling (first tale : Tale) (registers : List ℕ) (end : Option ℕ) (seen : Watched) : Type 0 where
+  pub values : Values
+  pub untold : first ≡ tale_of values seen.arrivals seen.first.hardware []
+  pub told : (by : Values) → first ≡ tale_of by seen.arrivals seen.first.hardware [] → tale ≡ tale_of by seen.arrivals seen.first.hardware seen.moments
+  pub registers_are : registers ≡ seen.now.hardware.registers
+  pub end_is : end ≡ drain_end seen.now.hardware
 
 -- no count of a cycle with so many steps more comes to 2^64
 pub record HasRoom (tale : Tale) (more : ℕ) : Type 0 where
