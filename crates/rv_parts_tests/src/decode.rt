@@ -191,6 +191,10 @@ fn operations_on_registers(rt: HostRuntime) {
             },
         );
     }
+    // Each of the five bits of a register's number counts.
+    let rs2 = x(&rt, 23);
+    let op = AluOp::Add;
+    same(&rt, 0x0173_02b3, Instr::Op { op, rd, rs1, rs2 });
 }
 
 #[test]
@@ -241,10 +245,11 @@ fn check_illegal(rt: &impl Abort, word: u32) {
 
 #[test]
 fn words_in_no_row_are_illegal(rt: HostRuntime) {
-    const ILLEGAL: [u32; 29] = [
+    const ILLEGAL: [u32; 32] = [
         0x0000_0000, // all zeros
         0xffff_ffff, // all ones
         0x0000_0001, // c.nop
+        0x0001_0001, // c.nop twice
         0x0000_1067, // jalr with funct3 1
         0x0000_2063, // a branch with funct3 2
         0x0000_3063, // a branch with funct3 3
@@ -259,6 +264,8 @@ fn words_in_no_row_are_illegal(rt: HostRuntime) {
         0x0000_001b, // addiw
         0x4073_12b3, // sll with sub's funct7
         0x4073_22b3, // slt with sub's funct7
+        0x4073_72b3, // and with sub's funct7
+        0x0a73_42b3, // min
         0x2073_02b3, // sh1add's funct7 with funct3 0
         0x0473_02b3, // add with funct7 2
         0x0000_003b, // addw

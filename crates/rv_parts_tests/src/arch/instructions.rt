@@ -67,7 +67,7 @@ const OPERATIONS: [u32; 17] = [
     0x0262_8833, // mul x16,x5,x6
     0x2053_28b3, // sh1add x17,x6,x5
     0xfff2_c913, // xori x18,x5,-1
-    0x7003_6993, // ori x19,x6,0x700
+    0x7013_6993, // ori x19,x6,0x701
     0x0013_0013, // addi x0,x6,1
     0x0010_0073, // ebreak
 ];
@@ -98,8 +98,8 @@ const CSR_INSTRUCTIONS: [u32; 15] = [
     0x3404_24f3, // csrrs x9,mscratch,x8
     0x3402_b573, // csrrc x10,mscratch,x5
     0x3409_d5f3, // csrrwi x11,mscratch,19
-    0x3406_6673, // csrrsi x12,mscratch,12
-    0x3401_f6f3, // csrrci x13,mscratch,3
+    0x3404_e673, // csrrsi x12,mscratch,9
+    0x3403_f6f3, // csrrci x13,mscratch,7
     0x3400_2773, // csrrs x14,mscratch,x0
     0x3400_1073, // csrrw x0,mscratch,x0
     0x3400_27f3, // csrrs x15,mscratch,x0
@@ -195,8 +195,8 @@ fn csr_instructions_answer_the_old_value(rt: HostRuntime) {
             (10, 0x7b),
             (11, 0x21),
             (12, 19),
-            (13, 31),
-            (14, 28),
+            (13, 27),
+            (14, 24),
             (15, 0),
             (16, 0),
             (17, 0),

@@ -54,7 +54,7 @@ fn each_operation_has_its_own_values(rt: HostRuntime) {
 // Unprivileged ISA 20191213, table 7.1, and the products of the least number.
 #[test]
 fn products_and_quotients_at_the_ends_of_the_range(rt: HostRuntime) {
-    const CASES: [(AluOp, u32, u32, u32); 20] = [
+    const CASES: [(AluOp, u32, u32, u32); 21] = [
         (AluOp::Div, LEAST, MINUS_ONE, LEAST),
         (AluOp::Rem, LEAST, MINUS_ONE, 0),
         (AluOp::Divu, LEAST, MINUS_ONE, 0),
@@ -69,7 +69,8 @@ fn products_and_quotients_at_the_ends_of_the_range(rt: HostRuntime) {
         (AluOp::Mulhsu, MINUS_ONE, MINUS_ONE, MINUS_ONE),
         (AluOp::Sra, LEAST, 33, 0xc000_0000),
         (AluOp::Sh3add, 0x8000_0001, 0x10, 0x18),
-        // Each of the five bits of an amount counts, and each bit of a sum.
+        // Each of the five bits of an amount counts, and each bit of a sum and of a conjunction.
+        (AluOp::And, LEAST, MINUS_ONE, LEAST),
         (AluOp::Sll, 0x8000_0001, 17, 0x0002_0000),
         (AluOp::Srl, 0x8000_0010, 17, 0x0000_4000),
         (AluOp::Sra, 0x8000_0010, 17, 0xffff_c000),

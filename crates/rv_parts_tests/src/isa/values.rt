@@ -20,3 +20,8 @@ fn each_kind_has_its_own_values(rt: HostRuntime) {
         );
     }
 }
+
+#[test]
+fn the_standard_predictor_has_sixty_four_places(rt: HostRuntime) {
+    check_equal(&rt, Values::standard().predictor.entries, 64);
+}

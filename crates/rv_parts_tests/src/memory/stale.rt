@@ -14,6 +14,10 @@ fn stored_word_is_stale_until_cleared(rt: HostRuntime) -> Result<(), Fail> {
     check_true(&rt, !stale.is_stale(0x8000_0ff8));
     check_true(&rt, !stale.is_stale(0x8000_1000));
     check_true(&rt, !stale.is_stale(0x7fff_fffc));
+    stale.mark(0x8000_0010);
+    check_true(&rt, stale.is_stale(0x8000_0010));
+    check_true(&rt, !stale.is_stale(0x8000_000c));
+    check_true(&rt, !stale.is_stale(0x8000_0014));
     stale.clear();
     check_true(&rt, !stale.is_stale(0x8000_0ffc));
     Ok(())

@@ -37,7 +37,7 @@ fn tokens_stand_with_or_without_blanks_and_a_comment_is_left_out(
 
 #[test]
 fn what_is_no_token_is_refused(rt: HostRuntime) {
-    const LINES: [&[u8]; 18] = [
+    const LINES: [&[u8]; 20] = [
         b"4294967296",
         b"0x100000000",
         b"0x",
@@ -49,8 +49,10 @@ fn what_is_no_token_is_refused(rt: HostRuntime) {
         b"1_0",
         b"5.",
         b"7$",
+        b"a@b: nop",
         b"\"abc",
         b"\"a\\q\"",
+        b"\"a\\r\"",
         b"\"\\",
         b"a ; b",
         b"'a'",

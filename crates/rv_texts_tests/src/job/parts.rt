@@ -67,12 +67,13 @@ fn a_fault_of_the_arrivals_is_told_with_its_entry(rt: HostRuntime) -> Result<(),
 
 #[test]
 fn only_the_first_two_separators_separate(rt: HostRuntime) -> Result<(), Fail> {
-    const CASES: [(&[u8], &str); 7] = [
+    const CASES: [(&[u8], &str); 8] = [
         (b"%%\n%%\n%%\n", "error: assembly line 1: BadToken\n"),
         (b"%%\n%%\nnop\n%%\n", "error: assembly line 2: BadToken\n"),
-        // Two carriage returns, a blank before the line and a third sign make another line of it.
+        // Two carriage returns, a blank before or behind and a third sign make another line of it.
         (b"%%\r\r\n", "error: assembly line 1: BadToken\n"),
         (b"nop\n %%\n", "error: assembly line 2: BadToken\n"),
+        (b"nop\n%% \n", "error: assembly line 2: BadToken\n"),
         (b"%%%\n", "error: assembly line 1: BadToken\n"),
         // Lines are counted from the part's first.
         (
