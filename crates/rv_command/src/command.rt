@@ -124,6 +124,7 @@ pub fn parse_words(alloc: Global, words: &[String]) -> Result<Command, Error>
     let matches = parser.try_get_matches_from_mut(words)?;
     match command_given(&matches) {
         Some(command) => Ok(command),
+        // `clap` has refused such words before; see DECISIONS.
         None => Err(parser.error(ErrorKind::ValueValidation, "N is no number in its range")?),
     }
 }
