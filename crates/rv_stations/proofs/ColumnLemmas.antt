@@ -1,5 +1,5 @@
 -- The operands of tags and values that were written for a producer, and the mask of those that wait.
-use Rattle.std.proofs.Common.{◌≡◌, sym, ℕ, zero, suc, ◌+◌, ◌-◌, ◌*◌, ◌<◌, ◌≤◌, ◌^◌, ◌%◌, ◌/◌, not, inl, inr, Bool, true, false, cond, ◌==◌, List, [], ◌∷◌, ◌++◌, length, get_or, take, drop, map, replicate, slice_set, bit_and, bit_or, min, max, ◌&&◌, arith, eqb, refl, ap, ap₂, ◌∙◌, mod-eq_of_lt, length-take-le, w64}
+use Rattle.std.proofs.Common.{◌≡◌, sym, ℕ, zero, suc, ◌+◌, ◌-◌, ◌*◌, ◌<◌, ◌≤◌, ◌^◌, ◌%◌, ◌/◌, not, inl, inr, Bool, true, false, cond, List, [], ◌∷◌, ◌++◌, length, get_or, take, drop, map, slice_set, bit_and, bit_or, min, max, ◌&&◌, arith, eqb, refl, ap, ap₂, ◌∙◌, mod-eq_of_lt, length-take-le, w64}
 use Rattle.std.specs.Int.{bit_at}
 use Rattle.std.specs.Simd.Lanes.{zip2, mask_l}
 use Rattle.std.proofs.lemmas.Bool.{cases_Bool, cases_eq, cases_lt, true≢false, eqb-true, eq-eqb, ne_eqb}
@@ -13,7 +13,7 @@ use Rattle.rv_stations.specs.Waiting.{has_value, woken_operand}
 use Rattle.rv_stations.specs.Column.{IsWaitMask, OtherBitsStay, in_eight, operand_of, is_producer, woken_tag, woken_value}
 use Rattle.rv_stations.specs.ColumnFields.{operands, IsSoundColumn}
 use Rattle.rv_stations.specs.declared.column.OperandColumn.TheInside.{Inside}
-use Rattle.rv_stations.proofs.ZipLemmas.{zip2-append, zip2-take, zip2-drop, zip2-set}
+use Rattle.rv_stations.proofs.ZipLemmas.{zip2-append, zip2-take, zip2-drop}
 
 -- there are as many operands as tags
 pub length-column : (p : Inside) → IsSoundColumn p → length (operands p) ≡ length p.tags.items

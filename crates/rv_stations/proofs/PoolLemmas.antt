@@ -1,19 +1,16 @@
 -- The instructions in the places of a kind's stations, of which four lists hold the parts.
-use Rattle.std.proofs.Common.{◌≡◌, ◌&&◌, Bool, ℕ, zero, suc, ◌+◌, ◌<◌, ◌≤◌, List, [], ◌∷◌, ◌++◌, All, length, get_or, take, map, remove, replicate, slice_get, slice_set, Some, refl, ap, ap₂, sym, ◌∙◌, inl, inr, vec_len, arith}
+use Rattle.std.proofs.Common.{◌≡◌, Bool, ℕ, zero, suc, ◌+◌, ◌<◌, ◌≤◌, List, [], ◌∷◌, ◌++◌, All, length, get_or, take, map, remove, slice_get, slice_set, Some, refl, ap, ap₂, sym, ◌∙◌, vec_len, arith}
 use Rattle.std.specs.Option.{option_map}
 use Rattle.std.specs.List.{AllPairs}
 use Rattle.std.specs.Simd.Lanes.{zip2}
-use Rattle.std.proofs.lemmas.Bool.{cases_lt}
-use Rattle.std.proofs.lemmas.List.{get_or-take, get_or-map, get_or-set_same, get_or-set_other, length-map, length-set, length-take-le, map-append}
-use Rattle.std.proofs.lemmas.List.Elements.{All-head, All-tail, All-take}
+use Rattle.std.proofs.lemmas.List.{get_or-take, get_or-map, get_or-set_same, get_or-set_other, length-map, length-take-le, map-append}
+use Rattle.std.proofs.lemmas.List.Elements.{All-head, All-tail}
 use Rattle.std.proofs.lemmas.Option.{slice_get-get_or, get_or_from_slice_get, slice_get_within}
 use Rattle.std.proofs.lemmas.Simd.{length-zip2}
-use Rattle.rv_isa.specs.declared.instructions.Instr.TheVariants.{Fence}
 use Rattle.rv_stations.specs.declared.waiting.Operand.{Operand}
-use Rattle.rv_stations.specs.declared.waiting.Operand.TheVariants.{Value}
 use Rattle.rv_stations.specs.declared.waiting.Waiting.{Waiting}
 use Rattle.rv_stations.specs.declared.pool.Dispatched.{Dispatched}
-use Rattle.rv_stations.specs.Waiting.{seq_of, has_value, is_ready, woken, woken_operand}
+use Rattle.rv_stations.specs.Waiting.{seq_of, is_ready, woken, woken_operand}
 use Rattle.rv_stations.specs.PoolFields.{with_dispatched, both_operands, instruction_of, joined, some_waiting, in_places, in_all, pool, IsSoundPool}
 use Rattle.rv_stations.specs.declared.pool.StationPool.TheInside.{Inside}
 use Rattle.rv_stations.proofs.SearchLemmas.{take_at_get}

@@ -1,5 +1,5 @@
 -- What stands behind the place moves up, and the place stands last.
-use Rattle.std.proofs.Common.{◌≡◌, ◌<◌, ◌-◌, ◌∙◌, length, refl, sym, ap, slice_set, remove, List, ℕ, arith}
+use Rattle.std.proofs.Common.{◌≡◌, ◌<◌, ◌-◌, ◌∙◌, length, refl, sym, ap, slice_set, remove, arith}
 use Rattle.std.specs.List.{insert}
 use Rattle.std.proofs.lemmas.List.{get_or_read}
 use Rattle.rv_stations.proofs.PlaceLemmas.{moved, moved-none, moved-next, moved-back}

@@ -1,7 +1,7 @@
 -- One tag and one value written tell one operand, and the bit tells whether it waits.
-use Rattle.std.proofs.Common.{◌∙◌, sym, ap, length, arith}
+use Rattle.std.proofs.Common.{arith}
 use Rattle.std.proofs.lemmas.List.{length-set}
-use Rattle.rv_stations.specs.Column.{operand_of, IsWaitMask}
+use Rattle.rv_stations.specs.Column.{operand_of}
 use Rattle.rv_stations.specs.ColumnFields.{operands}
 use Rattle.rv_stations.proofs.ColumnLemmas.{IsWaitMask-set, place_within, length-column}
 use Rattle.rv_stations.proofs.ZipLemmas.{zip2-set}

@@ -5,7 +5,6 @@ use Rattle.std.specs.Vec.{with_items}
 use Rattle.std.proofs.lemmas.Bool.{ne_eqb}
 use Rattle.std.proofs.lemmas.Nat.{and_mask}
 use Rattle.std.proofs.lemmas.List.{with_items_is}
-use Rattle.rv_stations.specs.declared.waiting.Operand.{Operand}
 use Rattle.rv_stations.specs.Waiting.{woken_operand}
 use Rattle.rv_stations.specs.Column.{in_eight, operand_of, woken_tag, woken_value}
 use Rattle.rv_stations.specs.ColumnFields.{operands}

@@ -1,5 +1,5 @@
 -- The numbers rise, so those below one stand in front of the first that is not.
-use Rattle.std.proofs.Common.{◌≡◌, ◌<◌, ◌≤◌, ◌+◌, ℕ, length, get_or, inl, inr, arith}
+use Rattle.std.proofs.Common.{◌≡◌, ◌<◌, length, inl, inr, arith}
 use Rattle.std.proofs.lemmas.Bool.{cases_lt}
 use Rattle.rv_isa.proofs.Numbered.{below-prefix}
 use Rattle.rv_stations.specs.Waiting.{seq_of}

@@ -1,5 +1,5 @@
 -- The parts are written to the first free place, which stands next.
-use Rattle.std.proofs.Common.{◌≡◌, ◌<◌, ◌+◌, ◌∙◌, ◌++◌, ◌∷◌, [], List, ℕ, Some, length, take, slice_get, slice_set, refl, sym, ap, vec_len, arith}
+use Rattle.std.proofs.Common.{◌≡◌, ◌<◌, ◌+◌, ◌∙◌, ◌++◌, ◌∷◌, [], List, Some, length, take, slice_get, slice_set, refl, sym, ap, vec_len, arith}
 use Rattle.std.proofs.lemmas.List.{length-set}
 use Rattle.std.proofs.lemmas.Option.{slice_get_read}
 use Rattle.rv_isa.proofs.Numbered.{IsInOrder-push}

@@ -1,5 +1,5 @@
 -- The parts in the place make the instruction.
-use Rattle.std.proofs.Common.{◌≡◌, ◌<◌, ◌∙◌, Some, length, refl, sym, ap, slice_get, arith}
+use Rattle.std.proofs.Common.{◌≡◌, ◌<◌, ◌∙◌, Some, refl, sym, ap, slice_get, arith}
 use Rattle.std.proofs.lemmas.Option.{slice_get_read}
 use Rattle.rv_stations.proofs.PoolLemmas.{length-pool, place_there, slice_get-pool}
 use Rattle.rv_stations.proofs.pool.StationPool.instruction_at.Goals as goal

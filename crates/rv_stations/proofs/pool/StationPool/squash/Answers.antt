@@ -1,5 +1,5 @@
 -- The places of the older instructions stand in front.
-use Rattle.std.proofs.Common.{◌≡◌, ◌≤◌, ◌∙◌, List, length, take, sym, ap, vec_len, arith}
+use Rattle.std.proofs.Common.{◌≡◌, ◌≤◌, ◌∙◌, List, take, sym, ap, vec_len, arith}
 use Rattle.rv_isa.specs.Numbered.{below}
 use Rattle.rv_isa.proofs.Numbered.{IsInOrder-below}
 use Rattle.rv_stations.specs.declared.waiting.Waiting.{Waiting}

@@ -1,5 +1,5 @@
 -- The place moves behind those whose instructions wait.
-use Rattle.std.proofs.Common.{◌≡◌, ◌<◌, ◌≤◌, ◌-◌, ◌∙◌, ℕ, suc, List, get_or, length, take, remove, sym, ap, ap₂, vec_len, arith, length-take-le}
+use Rattle.std.proofs.Common.{◌≡◌, ◌<◌, ◌-◌, ◌∙◌, ℕ, suc, List, get_or, length, take, remove, sym, ap, ap₂, vec_len, arith, length-take-le}
 use Rattle.std.proofs.lemmas.List.Edits.{length-remove}
 use Rattle.std.proofs.lemmas.List.Quantifiers.{all_pairs_remove}
 use Rattle.rv_isa.proofs.Numbered.{IsInOrder-remove}
