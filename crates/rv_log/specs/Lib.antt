@@ -3,3 +3,4 @@ pub mod Details
 pub mod Event
 pub mod Log
 pub mod Statement
+pub mod Logging

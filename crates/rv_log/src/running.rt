@@ -6,26 +6,49 @@ ghost use Rattle.rv_text.specs.Written.{IsWritten};
 
 use crate::cycle::{write_begin, write_cycle};
 use rv_arch::Stop;
-use rv_core::{Pipeline, Progress};
+use rv_core::{Pipeline, Watcher, watch};
 use rv_front::Predictor;
 use rv_hardware::Step;
 use rv_isa::Arrivals;
 use rv_passage::{Passage, Table};
 use rv_source::Listing;
 use rv_text::ReportError;
+use std::convert::Infallible;
 use std::io::Write;
 
 /// Why a run ended, and whether its log was written.
 #[derive(Clone, Copy, Debug)]
-pub(crate) struct Ended {
+pub(crate) struct Logged {
     pub(crate) stop: Stop,
     pub(crate) written: Result<(), ReportError>,
 }
 
-fn finished(stop: Stop, written: Result<(), ReportError>) -> Ended
-    ensures { result ≡ record { stop = stop; written = written } }
-{
-    Ended { stop, written }
+// The watcher that writes a log: what became of the instructions that may still go on, and whether all was written so far.
+#[derive(Drop)]
+struct Logger<'a> {
+    listing: &'a Listing,
+    table: Table,
+    written: Result<(), ReportError>,
+}
+
+impl Watcher for Logger<'_> {
+    ghost use Rattle.rv_log.specs.Logging.{IsLogging};
+
+    type Refusal = Infallible;
+
+    ghost has_seen = { λ start logger seen before now. IsLogging start.listing.now logger.listing.now logger.table logger.written seen before now };
+
+    ghost has_room = { λ _. Unit {0} };
+
+    fn make_room(&mut self) -> Result<(), Infallible> {
+        Ok(())
+    }
+
+    fn see<W: Write>(&mut self, cycle: u64, steps: &[Step], pipeline: &Pipeline, output: &mut W) {
+        self.table.follow(cycle, steps, pipeline);
+        self.written = write_next(self.written, output, self.listing, cycle, self.table.rows());
+        self.table.drop_ended();
+    }
 }
 
 // Writes what a cycle did after what was written before, unless a write failed there.
@@ -55,7 +78,7 @@ pub(crate) fn run_logged<W: Write>(
     table: Table,
     steps: Vec<Step>,
     writer: &mut W,
-) -> Ended
+) -> Logged
     requires begun { passages_of table ≡ table_at pipeline.old }
     requires room { HasRoom table }
     requires rows { 576 ≤ vec_capacity table.rows }
@@ -64,23 +87,25 @@ pub(crate) fn run_logged<W: Write>(
     requires steps { 8 ≤ vec_capacity steps }
     ensures { WritesLog arrivals.now limit listing.now (guided pipeline.old (known predictor.old)) (guided pipeline.new (known predictor.new)) result.stop result.written (W.contents writer.old) (W.contents writer.new) }
 {
-    let mut table = table;
-    let mut steps = steps;
-    let mut progress = Progress::new();
-    let mut written = write_begin(writer, listing, pipeline.cycles_done(), table.rows());
-    for _ in 0..limit {
-        if pipeline.is_exhausted() {
-            return finished(Stop::Exhausted, written);
-        }
-        steps.clear();
-        let cycle = pipeline.cycles_done();
-        let stop = progress.run_cycle(pipeline, predictor, arrivals, &mut steps);
-        table.follow(cycle, steps.as_slice(), pipeline);
-        written = write_next(written, writer, listing, cycle, table.rows());
-        table.drop_ended();
-        if let Some(stop) = stop {
-            return finished(stop, written);
-        }
+    let written = write_begin(writer, listing, pipeline.cycles_done(), table.rows());
+    let mut logger = Logger {
+        listing,
+        table,
+        written,
+    };
+    let ended = watch(
+        pipeline,
+        predictor,
+        arrivals,
+        limit,
+        steps,
+        &mut logger,
+        writer,
+    );
+    match ended.stop {
+        Ok(stop) => Logged {
+            stop,
+            written: logger.written,
+        },
     }
-    finished(Stop::Limit, written)
 }

@@ -43,11 +43,11 @@ pub fn write_log<W: Write>(
     let Ok(steps) = Vec::with_capacity(alloc, 8) else {
         return Err(TextError::Memory);
     };
-    let ended = run_logged(
+    let logged = run_logged(
         pipeline, predictor, arrivals, limit, listing, table, steps, writer,
     );
-    match ended.written {
-        Ok(()) => Ok(ended.stop),
+    match logged.written {
+        Ok(()) => Ok(logged.stop),
         Err(ReportError::WriteFailed) => Err(TextError::WriteFailed),
     }
 }

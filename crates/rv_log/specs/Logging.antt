@@ -1,0 +1,25 @@
+-- What a log keeps while it is written.
+use Rattle.std.specs.Prelude.{◌≡◌, ℕ, ◌+◌, ◌*◌, ◌≤◌, List, Option, Result, vec_capacity}
+use Rattle.rv_hardware.specs.History.{reports_of}
+use Rattle.rv_core.specs.Watching.{Watched}
+use Rattle.rv_log.specs.Log.{Moment, Passes, log_text}
+use Rattle.rv_passage.specs.Table.{HasRoom, passages_of}
+use Rattle.rv_passage.specs.declared.table.Table.{Table}
+use Rattle.rv_source.specs.Listing.{Listed}
+use Rattle.rv_text.specs.Written.{IsWritten}
+
+-- a table that keeps room for a cycle, since it forgets what left the hardware
+pub record IsRoomy (table : Table) : Type 0 where
+  pub room : HasRoom table
+  pub rows : 576 ≤ vec_capacity table.rows
+  pub interrupts : 8 ≤ vec_capacity table.interrupts
+
+-- the cycles so far, with what became of the instructions in them, and their log written, by the listing that there was at first
+pub record IsLogging {T E : Type 0} (listing listing' : Listed) (table : Table) (written : Result T E) (seen : Watched) (before now : Option (List ℕ)) : Type 0 where
+  pub same : listing' ≡ listing
+  pub moments : List Moment
+  pub passes : Passes seen.arrivals seen.first (reports_of seen.moments) moments seen.now (passages_of table)
+  pub room : IsRoomy table
+  pub fetched : table.fetched ≤ 288 * (seen.now.hardware.cycle + 1)
+  pub retired : table.retired ≤ 8 * seen.now.hardware.cycle
+  pub wrote : IsWritten written before now (log_text listing seen.first.hardware moments)
