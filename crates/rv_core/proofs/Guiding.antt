@@ -1,5 +1,5 @@
 -- A guided cycle or run of a value that stands for the same hardware.
-use Rattle.std.proofs.Common.{◌≡◌, Option, ap, subst}
+use Rattle.std.proofs.Common.{◌≡◌, Option, subst}
 use Rattle.rv_isa.specs.declared.lines.Lines.{Lines}
 use Rattle.rv_front.specs.declared.predictors.DescribedPredictor.{DescribedPredictor}
 use Rattle.rv_hardware.specs.Guided.{GuidedHardware, IsGuidedCycle, guided}

@@ -1,11 +1,10 @@
--- A run under way, and one more cycle of it.
+-- The counts of cycles with one more, and what is told of them.
 use Rattle.std.proofs.Common.{◌≡◌, ℕ, suc, ◌+◌, ◌≤◌, max, ◌==◌, Bool, true, false, not, cond, List, [], ◌∷◌, ◌++◌, length, Option, Some, None, refl, sym, ap, ◌∙◌, arith, append_assoc, length-append}
 use Rattle.std.specs.List.{sum_by}
 use Rattle.std.proofs.lemmas.List.Sums.{count_by-le-length, sum_by-append}
 use Rattle.std.proofs.Math.Nat.{le-max_left, le-max_right, max-eq_right, max-le}
-use Rattle.rv_isa.specs.Arrivals.{lines_at}
 use Rattle.rv_isa.specs.declared.lines.Arrival.{Arrival}
-use Rattle.rv_hardware.specs.Guided.{GuidedCycles, GuidedHardware, IsGuidedCycle, cycled, ended}
+use Rattle.rv_hardware.specs.Guided.{GuidedCycles, GuidedHardware, ended}
 use Rattle.rv_hardware.specs.Report.{Report}
 use Rattle.rv_hardware.specs.Run.{NoneStops, busy_of, counted_stall, is_silent, longest_gap_from, stalls_from, stalls_of, steps_of}
 use Rattle.rv_hardware.specs.declared.report.Stall.{Stall}
@@ -118,25 +117,13 @@ progress-bounded rs =
       store = omega (arith, stalls.4);
     }
 
--- ---- a run under way
+-- ---- what is told of cycles
 
 pub NoneStops-push : (rs : List Report) (r : Report) → NoneStops rs → r.stop ≡ None → NoneStops (rs ++ r ∷ [])
 NoneStops-push [] r none is = (is, tt)
 NoneStops-push (x ∷ rs) r none is = (none.0, NoneStops-push rs r none.1 is)
 
 module _ (arrivals : List Arrival) where
-  Cycles-push : {old now new : GuidedHardware} {rs : List Report} {r : Report} → GuidedCycles arrivals old rs now → IsGuidedCycle (lines_at arrivals now.hardware.cycle) now r new → GuidedCycles arrivals old (rs ++ r ∷ []) new
-  Cycles-push ended last = cycled last ended
-  Cycles-push (cycled first rest) last = cycled first (Cycles-push rest last)
-
-  -- the cycles so far, none of which stopped the run, and what was told of them
-  pub record IsUnderWay (old now : GuidedHardware) (progress : Progress) (steps : List Step) : Type 0 where
-    pub reports : List Report
-    pub goes : GuidedCycles arrivals old reports now
-    pub none_stops : NoneStops reports
-    pub counted : progress ≡ progress_of reports
-    pub listed : steps ≡ steps_of reports
-
   -- what is told of cycles whose counts these are
   pub told_of : (old now : GuidedHardware) (reports : List Report) (progress : Progress) (steps : List Step) → GuidedCycles arrivals old reports now → progress ≡ progress_of reports → steps ≡ steps_of reports
       → IsRun arrivals old now reports steps progress.stalls progress.busy progress.cycles progress.longest_gap
@@ -149,46 +136,6 @@ module _ (arrivals : List Arrival) where
     longest_gap_is = ap (λ (p : Progress). p.longest_gap) counted;
   }
 
-  pub begins : (h : GuidedHardware) (progress : Progress) (steps : List Step) → progress ≡ progress_of [] → steps ≡ [] → IsUnderWay h h progress steps
-  begins h progress steps counts none = record { reports = []; goes = ended; none_stops = tt; counted = counts; listed = none }
-
   -- what is told of no cycle
   pub told_nothing : (h : GuidedHardware) (progress : Progress) (steps : List Step) → progress ≡ progress_of [] → steps ≡ [] → IsRun arrivals h h [] steps progress.stalls progress.busy progress.cycles progress.longest_gap
   told_nothing h progress steps counts none = told_of h h [] progress steps ended counts none
-
-  module _ (old now new : GuidedHardware) (progress : Progress) (steps : List Step) (report : Report) (way : IsUnderWay old now progress steps)
-      (cycle : IsGuidedCycle (lines_at arrivals now.hardware.cycle) now report new) where
-    abbrev pub reports_now : List Report
-    reports_now = way.reports ++ report ∷ []
-
-    pub goes_now : GuidedCycles arrivals old reports_now new
-    goes_now = Cycles-push way.goes cycle
-
-    pub counted_now : progress_after report progress ≡ progress_of reports_now
-    counted_now = ap (progress_after report) way.counted ∙ sym (progress_of-push way.reports report)
-
-    pub listed_now : steps ++ report.steps ≡ steps_of reports_now
-    listed_now = ap (λ l. l ++ report.steps) way.listed ∙ sym (steps_of-push way.reports report)
-
-    pub goes_on : report.stop ≡ None → IsUnderWay old new (progress_after report progress) (steps ++ report.steps)
-    goes_on none = record {
-      reports = reports_now;
-      goes = goes_now;
-      none_stops = NoneStops-push way.reports report way.none_stops none;
-      counted = counted_now;
-      listed = listed_now;
-    }
-
-    -- what is told of a run that this cycle ends
-    pub told_now : (progress' : Progress) (steps' : List Step) → progress' ≡ progress_after report progress → steps' ≡ steps ++ report.steps
-        → IsRun arrivals old new reports_now steps' progress'.stalls progress'.busy progress'.cycles progress'.longest_gap
-    told_now progress' steps' counted more = told_of old new reports_now progress' steps' goes_now (counted ∙ counted_now) (more ∙ listed_now)
-
-  module _ (old now : GuidedHardware) (progress : Progress) (steps : List Step) (way : IsUnderWay old now progress steps) where
-    -- what is told of a run under way
-    pub told : IsRun arrivals old now way.reports steps progress.stalls progress.busy progress.cycles progress.longest_gap
-    told = told_of old now way.reports progress steps way.goes way.counted way.listed
-
-    -- its reports are as many as its cycles
-    pub so_many : (n : ℕ) → progress.cycles ≡ n → length way.reports ≡ n
-    so_many n is = sym (ap (λ (p : Progress). p.cycles) way.counted) ∙ is

@@ -145,7 +145,7 @@ fn count_stall(stalls: &mut StallCounts, stall: Stall)
 
 impl Progress {
     /// The counts of no cycle.
-    pub fn new() -> Progress
+    pub(crate) fn new() -> Progress
         ensures { result ≡ progress_of [] }
     {
         Progress {
@@ -165,7 +165,7 @@ impl Progress {
 
     /// Does one more cycle of a run, with the lines of its number and guided by a predictor, appends its steps to a list that has room for eight, and
     /// counts it. Takes no memory. Tells why the run stops with this cycle, if it does.
-    pub fn run_cycle(
+    pub(crate) fn run_cycle(
         &mut self,
         pipeline: &mut Pipeline,
         predictor: &mut dyn Predictor,

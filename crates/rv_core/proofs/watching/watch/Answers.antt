@@ -1,4 +1,4 @@
-use Rattle.std.proofs.Common.{Ok, Err, refl, sym, ap, ◌∙◌, ◌+◌, arith}
+use Rattle.std.proofs.Common.{Ok, Err, sym, ap, ◌∙◌, ◌+◌, arith}
 use Rattle.std.proofs.lemmas.Bool.{leb-true, leb-false}
 use Rattle.rv_arch.specs.declared.outcome.Stop.TheVariants.{Exhausted, Limit}
 use Rattle.rv_core.specs.declared.outcome.Progress.{Progress}
