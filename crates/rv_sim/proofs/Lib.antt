@@ -1,8 +1,8 @@
 mod Answered
 mod Compared
 mod Ending
-mod Flushed
 mod LinesAfter
+mod PassedOn
 mod Referred
 mod Simulated
 pub mod OneReport

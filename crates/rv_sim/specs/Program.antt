@@ -1,12 +1,16 @@
 -- What the program does with a command, from the bytes of its input to those of its output.
-use Rattle.std.specs.Prelude.{◌≡◌, ◌⊎◌, ℕ, List, Option, Result}
+use Rattle.std.specs.Prelude.{◌≡◌, ◌⊎◌, ℕ, List, [], Option, None, Some, Result, Ok, Err}
+use Rattle.std.specs.Io.KnownBytes.{Appends}
+use Rattle.rv_front.specs.declared.predictors.DescribedPredictor.{DescribedPredictor}
 use Rattle.rv_job.specs.Fault.{exit_status, fault_line, fault_status, input_fault_line, input_fault_status}
-use Rattle.rv_job.specs.FaultStream.{FaultStream, Tells, TellsOf, TellsWantOfMemory}
+use Rattle.rv_job.specs.FaultStream.{FaultStream, Tells, TellsError, TellsOf}
 use Rattle.rv_job.specs.Input.{IsInputOf}
 use Rattle.rv_sim.specs.CoreReport.{untaught_of}
-use Rattle.rv_sim.specs.Task.{Asks, Ends, Refuses, predictor_of}
+use Rattle.rv_sim.specs.Output.{HoldsBeginning}
+use Rattle.rv_sim.specs.Task.{Asks, AsksForMemory, Refuses, Shows, predictor_of}
 use Rattle.rv_command.specs.declared.command.Command.{Command}
 use Rattle.rv_job.specs.declared.{errors.SimError.SimError, input.InputError.InputError}
+use Rattle.rv_job.specs.declared.errors.SimError.TheVariants.{Memory, WriteFailed}
 use Rattle.rv_sim.specs.declared.task.Task.{Task}
 
 -- the input could not be read, which is told
@@ -18,22 +22,37 @@ abbrev pub IsRefused : Command → List ℕ → FaultStream → FaultStream → 
 IsRefused command input old new status =
     (error : SimError) × Refuses command input error × Tells old new (fault_line error) × (status ≡ fault_status error)
 
--- a task was done with the predictor of its machine, or failed, which is told; memory for the predictor of its machine may be refused before
-abbrev pub EndsWithin : Task → Option (List ℕ) → Option (List ℕ) → FaultStream → FaultStream → ℕ → Type 0
-EndsWithin task old-output new-output old new status =
-    TellsWantOfMemory old-output new-output old new status
-    ⊎ ((outcome : Result ℕ SimError) × Ends task (untaught_of (predictor_of task)) old-output new-output outcome × TellsOf old new outcome × (status ≡ exit_status outcome))
+-- A task ended so, with a predictor, and its output was handed back by the buffer before it. The output has got the text whole. Where a
+-- write failed it holds a beginning of what it held and of the text; when out of memory, of what it held.
+abbrev pub EndsBehind : Task → Option DescribedPredictor → Option (List ℕ) → Option (List ℕ) → Result ℕ SimError → Type 0
+EndsBehind task predictor old new (Ok status) = (text : List ℕ) × Shows task predictor text status × Appends old new text
+EndsBehind task predictor old new (Err WriteFailed) = (text : List ℕ) × (status : ℕ) × Shows task predictor text status × HoldsBeginning old new text
+EndsBehind task predictor old new (Err Memory) = AsksForMemory task × HoldsBeginning old new []
+EndsBehind task predictor old new (Err _) = ⊥
+
+-- memory for a box or a buffer was refused, which is told: the output was handed back as it was given, or let go with the buffer
+abbrev pub IsUnbegun : {W : Type 0} → W → Option W → FaultStream → FaultStream → ℕ → Type 0
+IsUnbegun given handed old new status = ((handed ≡ Some given) ⊎ (handed ≡ None)) × TellsError Memory old new status
+
+-- A task was done with the predictor of its machine, or failed, which is told, and its output was handed back, whose known bytes are its
+-- contents; or memory was refused before it.
+abbrev pub EndsWithin : {W : Type 0} → (W → Option (List ℕ)) → Task → W → Option W → FaultStream → FaultStream → ℕ → Type 0
+EndsWithin {W} contents task given handed old new status =
+    IsUnbegun given handed old new status
+    ⊎ ((output : W) × (handed ≡ Some output) × (outcome : Result ℕ SimError)
+    × EndsBehind task (untaught_of (predictor_of task)) (contents given) (contents output) outcome
+    × TellsOf old new outcome × (status ≡ exit_status outcome))
 
 -- what the command asks of the input was done, or failed
-abbrev pub IsEnded : Command → List ℕ → Option (List ℕ) → Option (List ℕ) → FaultStream → FaultStream → ℕ → Type 0
-IsEnded command input old-output new-output old new status =
-    (task : Task) × Asks command input task × EndsWithin task old-output new-output old new status
+abbrev pub IsEnded : {W : Type 0} → (W → Option (List ℕ)) → Command → List ℕ → W → Option W → FaultStream → FaultStream → ℕ → Type 0
+IsEnded contents command input given handed old new status =
+    (task : Task) × Asks command input task × EndsWithin contents task given handed old new status
 
--- the program with a command and the bytes that remain of its input: how the known bytes of its output and its fault lines change, and
--- the exit status
-abbrev pub Runs : Command → Option (List ℕ) → Option (List ℕ) → Option (List ℕ) → FaultStream → FaultStream → ℕ → Type 0
-Runs command remaining old-output new-output old new status =
-    ((new-output ≡ old-output) × IsUnread old new status)
+-- the program with a command, the bytes that remain of its input, and its output, whose known bytes are its contents: which output is handed
+-- back, how the fault lines change, and the exit status
+abbrev pub Runs : {W : Type 0} → (W → Option (List ℕ)) → Command → Option (List ℕ) → W → Option W → FaultStream → FaultStream → ℕ → Type 0
+Runs contents command remaining given handed old new status =
+    ((handed ≡ Some given) × IsUnread old new status)
     ⊎ ((input : List ℕ) × IsInputOf remaining input
-    × (((new-output ≡ old-output) × IsRefused command input old new status)
-    ⊎ IsEnded command input old-output new-output old new status))
+    × (((handed ≡ Some given) × IsRefused command input old new status)
+    ⊎ IsEnded contents command input given handed old new status))

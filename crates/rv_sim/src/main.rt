@@ -7,6 +7,7 @@ mod boxed_predictor;
 mod compare;
 mod explain;
 mod log;
+mod output;
 mod picture;
 mod program;
 mod reference;
@@ -16,9 +17,9 @@ mod task;
 mod tests;
 
 use program::run;
-use rv_command::{Command, parse_words, show_usage};
+use rv_command::{parse_words, show_usage};
 use rv_job::{FaultLines, SimError};
-use std::io::{BufWriter, Eprint, Write};
+use std::io::Eprint;
 use std::process::ExitCode;
 use std::{env, io};
 
@@ -28,17 +29,6 @@ fn words(rt: &HostRuntime) -> io::Result<Vec<String>> {
         words.push(word)?;
     }
     Ok(words)
-}
-
-// Does what a command asks, with the output written in blocks, and answers the exit status.
-fn run_command<E: Write>(rt: &HostRuntime, command: &Command, errors: &mut FaultLines<E>) -> u8 {
-    let Ok(mut output) = BufWriter::new(rt.alloc(), rt.stdout()) else {
-        return errors.tell(SimError::Memory);
-    };
-    let status = run(rt.alloc(), command, &mut rt.reader(), &mut output, errors);
-    // What a failed write left there is not to follow after the line that tells it.
-    let _ = output.into_parts();
-    status
 }
 
 // What the program does, and its exit status.
@@ -55,7 +45,10 @@ fn status(rt: &HostRuntime) -> u8 {
         }
     };
     match parse_words(rt.alloc(), words.as_slice()) {
-        Ok(command) => run_command(rt, &command, &mut errors),
+        Ok(command) => {
+            let alloc = rt.alloc();
+            run(alloc, &command, &mut rt.reader(), rt.stdout(), &mut errors).status
+        }
         Err(error) => show_usage(rt.alloc(), &error, &mut rt.stdout(), &mut errors),
     }
 }

@@ -1,6 +1,6 @@
 ghost use Rattle.std.specs.Prelude.{◌≡◌, IfOk, OnOk, IfErr};
-ghost use Rattle.rv_job.specs.Fault.{input_fault_line, input_fault_status};
-ghost use Rattle.rv_job.specs.FaultStream.{Tells};
+ghost use Rattle.rv_job.specs.Fault.{exit_status, input_fault_line, input_fault_status};
+ghost use Rattle.rv_job.specs.FaultStream.{Tells, TellsOf};
 ghost use Rattle.rv_job.specs.Input.{IsInputOf};
 ghost use Rattle.rv_sim.specs.CoreReport.{untaught_of};
 ghost use Rattle.rv_sim.specs.Program.{EndsWithin, Runs};
@@ -8,12 +8,22 @@ ghost use Rattle.rv_sim.specs.Task.{predictor_of};
 ghost use Rattle.rv_job.specs.declared.input.InputError.{InputError as OneError};
 
 use crate::boxed_predictor::{BoxedPredictor, boxed};
+use crate::output::pass_on;
 use crate::task::{Task, begin, finish};
 use rv_command::Command;
 use rv_isa::PredictorValues;
 use rv_job::{FaultLines, SimError, read_input};
 use std::alloc::Global;
-use std::io::{Read, Write};
+use std::io::{BufWriter, Read, Write};
+
+/// How the program ends: its exit status, and its output. That was let go where memory for its buffer was refused.
+#[derive(Drop)]
+pub struct Exit<W> {
+    /// The exit status.
+    pub status: u8,
+    /// The output.
+    pub output: Option<W>,
+}
 
 fn take_input<R: Read, E: Write>(
     alloc: Global,
@@ -32,30 +42,50 @@ fn take_input<R: Read, E: Write>(
     }
 }
 
+// The exit status of what ended so; an error is told.
+fn status_of<E: Write>(ended: Result<u8, SimError>, errors: &mut FaultLines<E>) -> u8
+    ensures told { TellsOf errors.old errors.new ended }
+    ensures status { result ≡ exit_status ended }
+{
+    match ended {
+        Ok(status) => status,
+        Err(error) => errors.tell(error),
+    }
+}
+
 // Does a task with a predictor that is the one of its machine.
-fn finish_guided<W: Write, E: Write>(
+fn finish_guided<W: Write + Drop, E: Write>(
     alloc: Global,
     task: &Task,
     values: PredictorValues,
     predictor: BoxedPredictor,
-    output: &mut W,
+    output: W,
     errors: &mut FaultLines<E>,
-) -> u8
+) -> Exit<W>
     requires described { known predictor.predictor ≡ untaught_of values }
     requires own { values ≡ predictor_of task.now }
-    ensures { EndsWithin task.now (W.contents output.old) (W.contents output.new) errors.old errors.new result }
+    ensures { EndsWithin W.contents task.now output result.output errors.old errors.new result.status }
 {
-    finish(alloc, task, predictor, output, errors)
+    let Ok(mut buffer) = BufWriter::new(alloc, output) else {
+        let status = errors.tell(SimError::Memory);
+        let output = None;
+        return Exit { status, output };
+    };
+    let ended = finish(alloc, task, predictor, &mut buffer);
+    let (ended, output) = pass_on(ended, buffer);
+    let status = status_of(ended, errors);
+    let output = Some(output);
+    Exit { status, output }
 }
 
 // Does a task with the predictor of its machine.
-fn finish_task<W: Write, E: Write>(
+fn finish_task<W: Write + Drop, E: Write>(
     alloc: Global,
     task: &Task,
-    output: &mut W,
+    output: W,
     errors: &mut FaultLines<E>,
-) -> u8
-    ensures { EndsWithin task.now (W.contents output.old) (W.contents output.new) errors.old errors.new result }
+) -> Exit<W>
+    ensures { EndsWithin W.contents task.now output result.output errors.old errors.new result.status }
 {
     let values = task.predictor();
     match boxed(alloc, values) {
@@ -63,35 +93,44 @@ fn finish_task<W: Write, E: Write>(
             let predictor = BoxedPredictor { predictor };
             finish_guided(alloc, task, values, predictor, output, errors)
         }
-        Err(_) => errors.tell(SimError::Memory),
+        Err(_) => {
+            let status = errors.tell(SimError::Memory);
+            let output = Some(output);
+            Exit { status, output }
+        }
     }
 }
 
-/// Does what a command asks of an input: reads it from `reader`, and writes the report, picture, log,
-/// sentences or table, or the line that says which image it makes, to `output`. A fault is told on
-/// `errors`. The answer is the exit status: 0 for what was done, 1 for a refused job, 3 for a run
-/// that a stale word ended, 4 where input or output failed, 5 when out of memory.
-pub fn run<R: Read, W: Write, E: Write>(
+/// Does what a command asks of an input: reads it from `reader`, and writes the report, picture, log, sentences or table, or
+/// the line that says which image it makes, to `output`, in blocks, and flushes it. A fault is told on `errors`. The exit
+/// status is 0 for what was done, 1 for a refused job, 3 for a run that a stale word ended, 4 where input or output failed, 5
+/// when out of memory.
+pub fn run<R: Read, W: Write + Drop, E: Write>(
     alloc: Global,
     command: &Command,
     reader: &mut R,
-    output: &mut W,
+    output: W,
     errors: &mut FaultLines<E>,
-) -> u8
-    ensures { Runs command.now (R.remaining reader.old) (W.contents output.old)
-        (W.contents output.new) errors.old errors.new result }
+) -> Exit<W>
+    ensures { Runs W.contents command.now (R.remaining reader.old) output result.output errors.old errors.new result.status }
 {
     let input = match take_input(alloc, reader, errors) {
         Ok(input) => input,
-        Err(status) => return status,
+        Err(status) => {
+            let output = Some(output);
+            return Exit { status, output };
+        }
     };
     match begin(alloc, command, input.as_slice(), errors) {
         Ok(task) => {
-            let status = finish_task(alloc, &task, output, errors);
+            let exit = finish_task(alloc, &task, output, errors);
             // By one call: at the end of its scope each kind of task is dropped field by field.
             drop(task);
-            status
+            exit
         }
-        Err(status) => status,
+        Err(status) => {
+            let output = Some(output);
+            Exit { status, output }
+        }
     }
 }

@@ -1,7 +1,7 @@
-ghost use Rattle.std.specs.Prelude.{◌≡◌, ℕ, IfOk, IfErr, OnOk, Result};
+ghost use Rattle.std.specs.Prelude.{◌≡◌, IfOk, IfErr, OnOk};
 ghost use Rattle.rv_isa.specs.Description.{IsLegalPredictor};
-ghost use Rattle.rv_job.specs.Fault.{fault_line, fault_status, exit_status};
-ghost use Rattle.rv_job.specs.FaultStream.{Tells, TellsOf};
+ghost use Rattle.rv_job.specs.Fault.{fault_line, fault_status};
+ghost use Rattle.rv_job.specs.FaultStream.{Tells};
 ghost use Rattle.rv_sim.specs.Task.{Asks, Refuses, Ends, asked, form_of, predictor_of, stop_status};
 ghost use Rattle.rv_job.specs.declared.errors.SimError.{SimError as OneError};
 
@@ -160,7 +160,11 @@ fn stop_status(stop: Stop) -> u8
     }
 }
 
-fn perform<W: Write>(
+/// Does the task: writes its report, picture, log, sentences or table, or the line that says which image
+/// the job makes, to `output`, and answers the exit status. Only a run of one job on the core asks the predictor.
+///
+/// Fails by `Memory`, and has written nothing then, or by `WriteFailed`, and has written a beginning of the text.
+pub fn finish<W: Write>(
     alloc: Global,
     task: &Task,
     predictor: BoxedPredictor,
@@ -197,42 +201,5 @@ fn perform<W: Write>(
             compare(alloc, comparison, *limit, output)?;
             Ok(0)
         }
-    }
-}
-
-// Does the task, and then has the output pass on what it still holds back.
-fn complete<W: Write>(
-    alloc: Global,
-    task: &Task,
-    predictor: BoxedPredictor,
-    output: &mut W,
-) -> Result<u8, SimError>
-    ensures { Ends task.now (known predictor.predictor) (W.contents output.old) (W.contents output.new) result }
-{
-    let status = perform(alloc, task, predictor, output)?;
-    match output.flush() {
-        Ok(()) => Ok(status),
-        Err(_) => Err(SimError::WriteFailed),
-    }
-}
-
-/// Does the task: writes its report, picture, log, sentences or table, or the line that says which image
-/// the job makes, to `output`, which is flushed then, and answers the exit status. A fault is told on
-/// `errors`. Only a run of one job on the core asks the predictor.
-pub fn finish<W: Write, E: Write>(
-    alloc: Global,
-    task: &Task,
-    predictor: BoxedPredictor,
-    output: &mut W,
-    errors: &mut FaultLines<E>,
-) -> u8
-    ensures { (outcome : Result ℕ OneError)
-        × Ends task.now (known predictor.predictor) (W.contents output.old) (W.contents output.new) outcome
-        × TellsOf errors.old errors.new outcome
-        × (result ≡ exit_status outcome) }
-{
-    match complete(alloc, task, predictor, output) {
-        Ok(status) => status,
-        Err(error) => errors.tell(error),
     }
 }

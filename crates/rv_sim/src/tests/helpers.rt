@@ -3,7 +3,7 @@ use rv_command::Command;
 use rv_job::FaultLines;
 use std::alloc::Global;
 use std::io;
-use std::io::Write;
+use std::io::{Read, Write};
 
 /// A run of the reference as long as it is by default.
 pub(crate) const WHOLE: Command = Command::Reference { limit: 100_000 };
@@ -24,13 +24,17 @@ pub(crate) struct Ended {
 
 /// How the program ends on a command and an input.
 pub(crate) fn run_text(alloc: Global, command: Command, input: &[u8]) -> Ended {
-    let mut output = Vec::new(alloc);
-    let mut errors = FaultLines::new(Vec::new(alloc));
     let mut reader = input;
-    let status = run(alloc, &command, &mut reader, &mut output, &mut errors);
+    run_read(alloc, command, &mut reader)
+}
+
+/// How the program ends on a command and what a reader gives.
+pub(crate) fn run_read<R: Read>(alloc: Global, command: Command, reader: &mut R) -> Ended {
+    let mut errors = FaultLines::new(Vec::new(alloc));
+    let exit = run(alloc, &command, reader, Vec::new(alloc), &mut errors);
     Ended {
-        status,
-        output,
+        status: exit.status,
+        output: exit.output.unwrap_or(Vec::new(alloc)),
         errors: errors.into_writer(),
     }
 }
@@ -71,6 +75,31 @@ impl Write for Narrow {
     }
 
     fn flush(&mut self) -> io::Result<()> {
+        Ok(())
+    }
+}
+
+/// A writer that shows what it has taken once it is flushed, where it can be: so many bytes of it.
+#[derive(Drop)]
+pub(crate) struct HeldBack {
+    pub(crate) can_flush: bool,
+    pub(crate) shown: usize,
+    pub(crate) taken: Vec<u8>,
+}
+
+impl Write for HeldBack {
+    fn write(&mut self, buf: &[u8]) -> io::Result<usize> {
+        match self.taken.extend_from_slice(buf) {
+            Ok(()) => Ok(buf.len()),
+            Err(_) => Err(io::Error::from(io::ErrorKind::OutOfMemory)),
+        }
+    }
+
+    fn flush(&mut self) -> io::Result<()> {
+        if !self.can_flush {
+            return Err(io::Error::from(io::ErrorKind::BrokenPipe));
+        }
+        self.shown = self.taken.len();
         Ok(())
     }
 }

@@ -1,8 +1,6 @@
-use crate::program::run;
-use crate::tests::helpers::{Ended, WHOLE};
+use crate::tests::helpers::{WHOLE, run_read};
 use rv_command::Command;
-use rv_job::{FaultLines, read_input};
-use std::alloc::Global;
+use rv_job::read_input;
 use std::io;
 use std::io::Read;
 use std::test::Fail;
@@ -24,22 +22,10 @@ fn an_input_without_end_is_cut(rt: HostRuntime) -> Result<(), Fail> {
     Ok(())
 }
 
-// How the program ends on an input without end.
-fn run_endless(alloc: Global, command: Command) -> Ended {
-    let mut output = Vec::new(alloc);
-    let mut errors = FaultLines::new(Vec::new(alloc));
-    let status = run(alloc, &command, &mut Endless, &mut output, &mut errors);
-    Ended {
-        status,
-        output,
-        errors: errors.into_writer(),
-    }
-}
-
 #[test]
 fn what_is_cut_is_too_long(rt: HostRuntime) {
     for command in [WHOLE, Command::Check] {
-        let ended = run_endless(rt.alloc(), command);
+        let ended = run_read(rt.alloc(), command, &mut Endless);
         assert_eq!(rt; ended.status, 1);
         assert!(rt; ended.output.is_empty());
         assert!(rt; ended.errors.as_slice() == b"error: job too long\n".as_slice());

@@ -1,6 +1,4 @@
-use crate::program::run;
-use crate::tests::helpers::WHOLE;
-use rv_job::FaultLines;
+use crate::tests::helpers::{WHOLE, run_read};
 use std::io;
 use std::io::Read;
 
@@ -23,15 +21,8 @@ impl Read for Broken {
 
 #[test]
 fn an_input_that_cannot_be_read_gives_status_4(rt: HostRuntime) {
-    let alloc = rt.alloc();
-    let mut output = Vec::new(alloc);
-    let mut errors = FaultLines::new(Vec::new(alloc));
-    let mut reader = Broken { zeros: 5 };
-    let status = run(alloc, &WHOLE, &mut reader, &mut output, &mut errors);
-    assert_eq!(rt; status, 4);
-    assert!(rt; output.is_empty());
-    assert_eq!(rt;
-        errors.into_writer().as_slice(),
-        b"error: input\n".as_slice()
-    );
+    let ended = run_read(rt.alloc(), WHOLE, &mut Broken { zeros: 5 });
+    assert_eq!(rt; ended.status, 4);
+    assert!(rt; ended.output.is_empty());
+    assert!(rt; ended.errors.as_slice() == b"error: input\n".as_slice());
 }

@@ -10,7 +10,7 @@ returns-in-Ok-begin g c =
     let silent = c.in-Ok.ensures.nothing_told in
     let asked = rw same at c.in-Ok-begin.ensures.task in
     let begun = c.in-Ok-begin.ensures.nothing_told in
-    let ended = rw (begun, silent) at c.finish_task-status.ensures in
+    let ended = rw (begun, silent) at c.finish_task-exit.ensures in
     inr (c.in-Ok.input.items, c.in-Ok.ensures.input, inr (c.in-Ok-begin.task, asked, ended))
 
 pub returns : goal.returns

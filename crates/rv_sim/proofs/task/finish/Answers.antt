@@ -9,7 +9,7 @@ use Rattle.rv_sim.specs.ReferenceReport.{IsReferenceReport}
 use Rattle.rv_sim.specs.Task.{stop_status}
 use Rattle.rv_sim.specs.declared.task.Task.TheVariants.{Run, Reference, Picture, Log, Explain, Compare}
 use Rattle.rv_sim.proofs.Ending.{Ends-by_error}
-use Rattle.rv_sim.proofs.task.perform.Goals as goal
+use Rattle.rv_sim.proofs.task.finish.Goals as goal
 
 pub returns-in_err-stop-in-Run : goal.returns-in_err-stop-in-Run
 returns-in_err-stop-in-Run g c =
