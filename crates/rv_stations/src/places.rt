@@ -15,7 +15,7 @@ pub fn first_places(alloc: Global, count: u32) -> Result<Vec<u8>, AllocError>
     Ok(places)
 }
 
-/// Moves a place behind the others of the first so many.
+/// Makes a place the last of the first so many; those after it move up by one.
 #[inline(always)]
 pub fn move_back(places: &mut Vec<u8>, at: usize, count: usize)
     requires within { at < count }

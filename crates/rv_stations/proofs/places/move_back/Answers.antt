@@ -1,4 +1,4 @@
--- What stands behind the place moves up, and the place stands last.
+-- What stands after the place moves up, and the place stands last.
 use Rattle.std.proofs.Common.{◌≡◌, ◌<◌, ◌-◌, ◌∙◌, length, refl, sym, ap, slice_set, remove, arith}
 use Rattle.std.specs.List.{insert}
 use Rattle.std.proofs.lemmas.List.{get_or_read}

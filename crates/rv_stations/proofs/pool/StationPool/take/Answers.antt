@@ -1,4 +1,4 @@
--- The place moves behind those whose instructions wait.
+-- The place moves after those whose instructions wait.
 use Rattle.std.proofs.Common.{◌≡◌, ◌<◌, ◌-◌, ◌∙◌, ℕ, suc, List, get_or, length, take, remove, sym, ap, ap₂, vec_len, arith, length-take-le}
 use Rattle.std.proofs.lemmas.List.Edits.{length-remove}
 use Rattle.std.proofs.lemmas.List.Quantifiers.{all_pairs_remove}
