@@ -1,0 +1,275 @@
+// The run: what the lines of `./rv_sim states` say, and what follows from them.
+// A place is a state of the window: place 0 is the hardware before its first cycle, place n the hardware after its nth cycle.
+
+// Values that change at some places only: for each key its values, each with the place from which on it holds.
+class History {
+  constructor() { this.all = new Map(); }
+
+  put(key, place, value) {
+    let changes = this.all.get(key);
+    if (!changes) this.all.set(key, changes = []);
+    changes.push({ place, value });
+  }
+
+  // The last change of a key up to a place, or undefined.
+  at(key, place) {
+    const changes = this.all.get(key) || [];
+    let low = 0, high = changes.length;
+    while (low < high) {
+      const middle = (low + high) >> 1;
+      if (changes[middle].place <= place) low = middle + 1; else high = middle;
+    }
+    return changes[low - 1];
+  }
+
+  last(key) { const changes = this.all.get(key); return changes && changes[changes.length - 1].value; }
+
+  keys() { return [...this.all.keys()].sort((a, b) => a - b); }
+}
+
+class Run {
+  constructor(text) {
+    this.texts = text.trim().split("\n");
+    const header = JSON.parse(this.texts[0]);
+    this.machine = header.machine;
+    this.first = header.first;
+    this.listing = [];           // the words that come from source lines, by address
+    this.statements = new Map(); // their texts, by address
+    this.words = new History();  // memory as programs see it, by address
+    this.stale = new History();  // places at which a store made a word stale
+    this.cleaned = [];           // places at which FENCE.I retired
+    this.sets = new History();   // the lines of each cache set
+    this.table = [];             // each instruction by its number
+    this.places = [];            // what happened in the cycle before each place, and where its line stands
+    this.stop = null;
+    this.kept = new Map();       // states that were read lately
+    this.numbers = new Map();    // the number of each retired instruction, by its sequence number
+    let before = null;
+    this.texts.forEach((line, index) => {
+      if (index === 0 || line === "") return;
+      const value = readLine(line);
+      if (value.state) { this.readPlace(value, before, index); before = value; }
+      else this.readOther(value);
+    });
+    this.last = this.first + this.places.length - 2;
+    this.firstNumber = Math.max(0, this.table.findIndex((each) => each !== undefined));
+    this.countSteps();
+    this.memoryRows = [...new Set(this.words.keys().map((address) => address - address % 16))];
+    this.lineOf = new Map(this.listing.map((each, k) => [each.address, k]));
+    this.usedSets = this.sets.keys();
+  }
+
+  readOther(value) {
+    if (value.text !== undefined) {
+      this.listing.push(value);
+      this.statements.set(value.address, value.text.trim());
+    } else if (value.memory !== undefined) {
+      value.words.forEach((word, k) => this.words.put(value.memory + 4 * k, 0, word));
+      value.stale.forEach((address) => this.stale.put(address, 0, true));
+    } else if (value.set !== undefined) this.sets.put(value.set, 0, value.lines);
+    else if (value.stop) this.stop = value;
+  }
+
+  // A cycle's line, or that of the start.
+  readPlace(value, before, index) {
+    const place = this.places.length, { cycle, state } = value;
+    this.readInstructions(value, place);
+    value.ended.forEach((ended) => this.readEnd(ended, cycle, before));
+    const here = {
+      index, cycle, lines: value.lines || {}, ended: value.ended, interrupts: (value.steps || []).filter((step) => step.step === "interrupt"),
+      stall: value.stall, phases: this.phasesIn(value), stored: before ? storedIn(state, before.state) : [], fetchedBefore: this.table.length,
+      changedSets: (value.sets || []).map((each) => each.set), head: state.reorder_buffer.length ? state.reorder_buffer[0].sequence : undefined,
+    };
+    this.places.push(here);
+    here.wrong = wronglyPredicted(here, value, before);
+    if (here.wrong !== undefined) this.table[here.wrong].wrong = cycle;
+    for (const store of here.stored) this.readStore(store, place);
+    if (here.ended.some((each) => each.end === "retired" && isFenceI(each.word))) this.cleaned.push(place);
+    for (const each of value.sets || []) this.sets.put(each.set, place, each.lines);
+    here.access = accessIn(this, here, value, before, place);
+  }
+
+  // Which instructions did a phase in a line's cycle, in order of fetch.
+  phasesIn(value) {
+    const numbers = value.instructions.map((each) => each.number);
+    const did = (stamp) => numbers.filter((number) => value.cycle !== undefined && this.table[number][stamp] === value.cycle);
+    return { fetch: did("fetched"), dispatch: did("dispatched"), issue: did("issued"), broadcast: did("broadcast") };
+  }
+
+  // How many instructions have retired up to each place, and how many traps and interrupts came in the window. Sequence numbers count
+  // retired instructions, so the head's tells how many retired before the window.
+  countSteps() {
+    let retired = 0, traps = 0, interrupts = 0;
+    for (const here of this.places) {
+      retired += here.ended.filter((each) => each.end === "retired").length;
+      traps += here.ended.filter((each) => each.end === "trapped").length;
+      interrupts += here.interrupts.length;
+      Object.assign(here, { retired, traps, interrupted: interrupts });
+    }
+    const known = this.places.find((here) => here.head !== undefined);
+    const before = known ? known.head - known.retired : 0;
+    for (const here of this.places) here.retired += before;
+  }
+
+  readInstructions(value, place) {
+    const buffer = value.state.reorder_buffer, all = buffer.concat(value.state.fetch_buffer);
+    value.in_flight.forEach((number, k) => {
+      const entry = all[k];
+      const known = this.table[number] ||
+        (this.table[number] = { number, pc: entry.pc, word: entry.word, fetched: entry.fetched, predicted: entry.predicted, producers: [], consumers: [] });
+      if (k >= buffer.length) return;
+      if (known.dispatched === undefined) {
+        known.dispatched = entry.dispatched;
+        known.kind = entry.kind;
+        known.target = entry.target;
+        for (const operand of entry.operands) this.connect(known, operand.register, value.in_flight, buffer, k);
+      }
+      for (const member of ["issued", "cost", "broadcast", "value", "fault"]) if (entry[member] !== undefined) known[member] = entry[member];
+    });
+  }
+
+  // The producer of an operand is the youngest older instruction in flight that writes the register.
+  connect(consumer, register, numbers, buffer, place) {
+    for (let k = place - 1; k >= 0 && register !== 0; k -= 1) {
+      if (buffer[k].target !== register) continue;
+      const producer = this.table[numbers[k]];
+      if (consumer.producers.some((each) => each.number === producer.number)) return;
+      consumer.producers.push({ register, number: producer.number });
+      producer.consumers.push(consumer.number);
+      return;
+    }
+  }
+
+  readEnd(ended, cycle, before) {
+    const known = this.table[ended.number] || (this.table[ended.number] = { producers: [], consumers: [] });
+    Object.assign(known, ended, { left: cycle });
+    const k = before && ended.end === "retired" ? before.in_flight.indexOf(ended.number) : -1;
+    if (k >= 0) this.numbers.set(before.state.reorder_buffer[k].sequence, ended.number);
+  }
+
+  readStore(store, place) {
+    store.bytes.forEach((byte, k) => {
+      const address = store.address + k, word = address - address % 4, shift = 8 * (address % 4);
+      const old = this.words.last(word) || 0;
+      this.words.put(word, place, ((old & ~(255 << shift)) | (byte << shift)) >>> 0);
+      this.stale.put(word, place, true);
+    });
+  }
+
+  // The line of a place, whole.
+  at(place) {
+    let value = this.kept.get(place);
+    if (!value) {
+      if (this.kept.size > 200) this.kept.clear();
+      this.kept.set(place, value = readLine(this.texts[this.places[place].index]));
+    }
+    return value;
+  }
+
+  cycleOf(place) { return this.first - 1 + place; }
+
+  statement(instruction) {
+    const text = this.statements.get(instruction.pc);
+    if (text !== undefined) return text;
+    return instruction.word === undefined ? "-" : hex(instruction.word);
+  }
+
+  wordAt(address, place) { const change = this.words.at(address, place); return change ? change.value : 0; }
+
+  isStale(address, place) {
+    const stored = this.stale.at(address, place);
+    return Boolean(stored) && !this.cleaned.some((clean) => clean >= stored.place && clean <= place);
+  }
+
+  isStored(address, place) {
+    return this.places[place].stored.some((store) => store.address < address + 4 && address < store.address + store.bytes.length);
+  }
+
+  // The number of the instruction with a sequence number in the state of a place.
+  numberOf(sequence, line) {
+    const head = line.state.reorder_buffer[0];
+    const k = head ? sequence - head.sequence : -1;
+    return k >= 0 && k < line.state.reorder_buffer.length ? line.in_flight[k] : this.numbers.get(sequence);
+  }
+}
+
+const isFenceI = (word) => word !== undefined && (word & 0x707f) === 0x100f;
+const isLoad = (word) => word !== undefined && (word & 0x7f) === 0x03;
+const isStore = (word) => word !== undefined && (word & 0x7f) === 0x23;
+const isRetired = (store) => store.state === "committed" || store.state === "draining";
+
+// A line, where it is of a place with its instructions apart: those in flight and those that ended.
+function readLine(text) {
+  const value = JSON.parse(text);
+  if (!value.state) return value;
+  value.in_flight = value.instructions.filter((each) => each.end === undefined).map((each) => each.number);
+  value.ended = value.instructions.filter((each) => each.end !== undefined);
+  for (const entry of value.state.reorder_buffer) entry.operands = [entry.first, entry.second].filter((operand) => operand !== undefined);
+  return value;
+}
+
+// The stores that retired between two states: programs see their bytes from now on.
+function storedIn(state, before) {
+  const old = before.store_queue.filter(isRetired).map((store) => store.sequence);
+  return state.store_queue.filter((store) => isRetired(store) && !old.includes(store.sequence));
+}
+
+// The instruction whose wrong prediction was mended in a cycle: a retired jump or branch that went on elsewhere than predicted, or, with
+// early recovery, one whose prediction changed at its broadcast.
+function wronglyPredicted(here, value, before) {
+  if (!before) return undefined;
+  const entryIn = (line, number) => line.state.reorder_buffer[line.in_flight.indexOf(number)];
+  const early = here.phases.broadcast.find((number) => {
+    const old = entryIn(before, number), now = entryIn(value, number);
+    return old && now && old.predicted !== now.predicted;
+  });
+  if (early !== undefined) return early;
+  const retired = here.ended.filter((ended) => ended.end === "retired").pop();
+  const entry = retired && entryIn(before, retired.number);
+  const traps = here.interrupts.length > 0 || here.ended.some((ended) => ended.end === "trapped");
+  return entry && entry.kind === "alu" && !traps && entry.predicted !== value.state.pc ? retired.number : undefined;
+}
+
+// The access of the cache that began in a cycle: a store's drain, or a load that did not get all its bytes from stores.
+function accessIn(run, here, value, before, place) {
+  const port = value.state.port_free;
+  if (!before || port <= value.cycle || port === before.state.port_free) return undefined;
+  const line = run.machine.cache.line, lineOf = (address) => (address - address % line) / line;
+  const oldest = value.state.store_queue[0], was = before.state.store_queue.find((store) => oldest && store.sequence === oldest.sequence);
+  if (oldest && oldest.state === "draining" && !(was && was.state === "draining")) {
+    return { number: run.numberOf(oldest.sequence, value), address: oldest.address, line: lineOf(oldest.address), what: "drain" };
+  }
+  const loads = here.phases.issue.map((number) => run.table[number])
+    .filter((each) => isLoad(each.word) && each.issued + each.cost === port)
+    .map((each) => ({ number: each.number, address: addressOf(each, before), what: "load" }))
+    .filter((each) => each.address !== undefined)
+    .map((each) => ({ ...each, line: lineOf(each.address) }));
+  const used = loads.find((each) => {
+    const set = run.sets.at(each.line % run.machine.cache.sets, place);
+    return set && set.value.length > 0 && set.value[0].line === each.line;
+  });
+  return used || loads[0];
+}
+
+// The address of a load or store whose operands are known in a line: its base register and the offset in its word.
+function addressOf(instruction, line) {
+  const entry = line.state.reorder_buffer[line.in_flight.indexOf(instruction.number)];
+  const word = instruction.word, base = (word >>> 15) & 31;
+  const offset = isLoad(word) ? word >> 20 : ((word >> 25) << 5) | ((word >>> 7) & 31);
+  const operand = entry && entry.operands.find((each) => each.register === base);
+  if (base === 0) return offset >>> 0;
+  return operand && operand.value !== undefined ? (operand.value + offset) >>> 0 : undefined;
+}
+
+// The letter of an instruction in a cycle, as in pictures: nothing before its fetch and after its end.
+function letterOf(instruction, cycle) {
+  const { fetched, dispatched, issued, cost, broadcast, left, end } = instruction;
+  if (cycle < fetched || cycle > left) return "";
+  if (cycle === left) return { retired: "C", trapped: "T", squashed: "x" }[end];
+  if (cycle === broadcast) return "B";
+  if (cycle === issued) return "I";
+  if (cycle === dispatched) return "D";
+  if (cycle === fetched) return "F";
+  if (issued < cycle && !(broadcast < cycle)) return issued + cost <= cycle ? "~" : "=";
+  return ".";
+}

@@ -1,0 +1,133 @@
+// Words, names, and the sentences on a cycle and on an instruction.
+
+const abiNames = ("zero ra sp gp tp t0 t1 t2 s0 s1 a0 a1 a2 a3 a4 a5 a6 a7 s2 s3 s4 s5 s6 s7 s8 s9 s10 s11 t3 t4 t5 t6").split(" ");
+const kinds = ["alu", "mul", "div", "mem"];
+const stallWords = {
+  fetch: "the fetch buffer is empty", serial: "a serialising instruction is in flight", rob: "the reorder buffer is full",
+  station: "the stations of its kind are full", store: "the store queue is full",
+};
+const letterWords = {
+  F: "fetch", D: "dispatch", I: "issue", "=": "execution", "~": "wait for the bus", B: "broadcast", ".": "wait", C: "retirement",
+  T: "trap", x: "squash",
+};
+const causeWords = {
+  0: "instruction address misaligned", 1: "instruction access fault", 2: "illegal instruction", 3: "breakpoint", 4: "load address misaligned",
+  5: "load access fault", 6: "store address misaligned", 7: "store access fault", 11: "environment call",
+  0x80000003: "software interrupt", 0x80000007: "timer interrupt", 0x8000000b: "external interrupt",
+};
+
+function hex(word) { return word.toString(16).padStart(8, "0"); }
+function registerName(register) { return settings.abi ? abiNames[register] : "x" + register; }
+function causeName(cause) { return causeWords[cause] || "cause " + hex(cause); }
+function listed(words) { return words.length < 2 ? words.join("") : words.slice(0, -1).join(", ") + " and " + words[words.length - 1]; }
+function counted(number, word) { return number + " " + word + (number === 1 ? "" : "s"); }
+
+// An instruction by its number and statement.
+function called(run, number) {
+  const instruction = run.table[number];
+  return instruction ? "#" + number + " " + run.statement(instruction).replace(/\s+/g, " ").slice(0, 32) : "#" + number;
+}
+
+function writtenBy(written) { return written ? " (" + registerName(written.register) + "=" + hex(written.value) + ")" : ""; }
+
+// What happened in the cycle before a place.
+function cycleSentence(run, place) {
+  const here = run.places[place];
+  if (place === 0) return run.first === 0 ? "The hardware before the first cycle." : "The hardware before cycle " + run.first + ".";
+  const tags = (numbers) => listed(numbers.map((number) => "#" + number));
+  const parts = [];
+  for (const interrupt of here.interrupts) {
+    parts.push("the " + causeName(interrupt.cause) + " is taken before " + hex(interrupt.pc) + ": everything in flight is squashed");
+  }
+  const ends = (end) => here.ended.filter((each) => each.end === end);
+  const retired = ends("retired"), squashed = ends("squashed");
+  if (retired.length) parts.push(listed(retired.map((each) => "#" + each.number + writtenBy(each.written))) + (retired.length > 1 ? " retire" : " retires"));
+  for (const each of ends("trapped")) parts.push(called(run, each.number) + " traps: " + causeName(each.cause));
+  if (here.wrong !== undefined) parts.push("the prediction after " + called(run, here.wrong) + " was wrong");
+  if (squashed.length) parts.push(counted(squashed.length, "instruction") + (squashed.length > 1 ? " are" : " is") + " squashed");
+  if (here.access) parts.push("the " + here.access.what + " of #" + here.access.number + " accesses the cache at " + hex(here.access.address));
+  const phases = here.phases;
+  if (phases.issue.length) parts.push(tags(phases.issue) + (phases.issue.length > 1 ? " issue" : " issues"));
+  if (phases.broadcast.length) parts.push("broadcast of " + tags(phases.broadcast));
+  if (phases.dispatch.length) parts.push("dispatch of " + tags(phases.dispatch));
+  else if (here.stall) parts.push("nothing is dispatched, since " + stallWords[here.stall]);
+  if (phases.fetch.length) parts.push("fetch of " + tags(phases.fetch));
+  const text = parts.length ? parts.join("; ") + "." : "nothing happens.";
+  const over = run.stop && place === run.places.length - 1 ? " The run ends: " + run.stop.stop + "." : "";
+  return "Cycle " + here.cycle + ": " + text + over;
+}
+
+// What an instruction is doing after the cycle before a place, and what it waits for.
+function instructionSentence(run, number, place) {
+  const instruction = run.table[number], cycle = run.cycleOf(place);
+  const name = called(run, number) + " ";
+  if (instruction.fetched > cycle) return name + "will be fetched in cycle " + instruction.fetched + ".";
+  if (instruction.left <= cycle) return name + endSentence(instruction);
+  const line = run.at(place), k = line.in_flight.indexOf(number), buffer = line.state.reorder_buffer;
+  if (k < 0) return name + "left the hardware.";
+  if (k >= buffer.length) return name + fetchedSentence(run, line, place, k - buffer.length);
+  const entry = buffer[k];
+  if (entry.issued === undefined && entry.kind) return name + stationSentence(run, line, place, entry, k);
+  if (entry.issued !== undefined && entry.broadcast === undefined) return name + executionSentence(run, entry, cycle);
+  return name + headSentence(run, line, entry, k);
+}
+
+function endSentence(instruction) {
+  const cycle = " in cycle " + instruction.left;
+  if (instruction.end === "retired") return "retired" + cycle + writtenBy(instruction.written) + ".";
+  if (instruction.end === "trapped") return "trapped" + cycle + ": " + causeName(instruction.cause) + ".";
+  return "was squashed" + cycle + ": it never takes effect.";
+}
+
+function fetchedSentence(run, line, place, older) {
+  const here = run.places[place];
+  if (older > 0) return "waits in the fetch buffer for the dispatch of " + counted(older, "older word") + ".";
+  return here.stall && here.stall !== "fetch" ? "waits for its dispatch, since " + stallWords[here.stall] + "."
+    : "can be dispatched in cycle " + (run.cycleOf(place) + 1) + ".";
+}
+
+function stationSentence(run, line, place, entry, k) {
+  const buffer = line.state.reorder_buffer, cycle = run.cycleOf(place);
+  const missing = entry.operands.filter((operand) => operand.producer !== undefined);
+  if (missing.length) {
+    return "waits in a station for " + listed(missing.map((operand) => {
+      const producer = run.numberOf(operand.producer, line);
+      return registerName(operand.register) + " of " + called(run, producer) + ", which " + doing(run, producer, line, cycle);
+    })) + ".";
+  }
+  const store = isLoad(entry.word) && buffer.findIndex((each, j) => j < k && isStore(each.word) && each.broadcast === undefined);
+  if (store !== false && store >= 0) return "has its operands, and waits for the older store " + called(run, line.in_flight[store]) + ", whose address is not known.";
+  if (isLoad(entry.word) && line.state.port_free > cycle + 1) {
+    return "has its operands, and may wait for the port of the cache, which is busy until cycle " + line.state.port_free + ".";
+  }
+  const busy = line.state.units[entry.kind].filter((unit) => unit.since + unit.cycles > cycle + 1);
+  if (busy.length >= run.machine[entry.kind].units) {
+    return "has its operands, and waits for a unit: one is free in cycle " + Math.min(...busy.map((unit) => unit.since + unit.cycles)) + ".";
+  }
+  const older = buffer.filter((each, j) => j < k && each.kind === entry.kind && each.operands && each.operands.every((operand) => operand.value !== undefined));
+  return "has its operands, and can issue in cycle " + (cycle + 1) +
+    (older.length ? " where a unit is left after " + counted(older.length, "older one") + " of its kind." : ".");
+}
+
+// What a producer is doing, in a word.
+function doing(run, number, line, cycle) {
+  const entry = line.state.reorder_buffer[line.in_flight.indexOf(number)];
+  if (!entry || entry.issued === undefined) return "waits itself";
+  return entry.issued + entry.cost <= cycle ? "waits for the bus" : "executes until cycle " + (entry.issued + entry.cost);
+}
+
+function executionSentence(run, entry, cycle) {
+  const end = entry.issued + entry.cost;
+  if (end <= cycle) return "waits for the common data bus since cycle " + end + ": older results went first.";
+  return "executes since cycle " + entry.issued + "; its result can be broadcast in cycle " + end + ".";
+}
+
+function headSentence(run, line, entry, k) {
+  const finished = entry.kind === undefined && entry.issued === undefined ? "" : "is done, and ";
+  const what = entry.fault ? "will trap (" + causeName(entry.fault.cause) + ") " : "";
+  if (k === 0) {
+    if (isFenceI(entry.word) && (line.state.port_free > line.cycle + 1 || line.state.store_queue.length)) return "is the head, and waits until the retired stores are in the cache and it is written back.";
+    return finished + (what || "can retire ") + "in cycle " + (entry.dispatched > line.cycle ? entry.dispatched + 1 : line.cycle + 1) + " as the head of the reorder buffer.";
+  }
+  return finished + what + (what ? "when it is the head" : "waits to be the head") + ": " + counted(k, "older instruction") + " in front of it, first " + called(run, line.in_flight[0]) + ".";
+}
