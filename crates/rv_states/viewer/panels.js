@@ -190,13 +190,13 @@ function showRegisters(view) {
 }
 
 function showCsrs(view) {
-  const { run, line, before, place } = view, levels = run.places[place].lines;
+  const { line, before } = view;
   const rows = Object.entries(line.state.csrs).filter(([name, value]) => value !== 0 || (before && before.state.csrs[name] !== 0)).map(([name, value]) => {
     const changed = before && before.state.csrs[name] !== value;
     return row({ "data-csr": name }, element("th", { scope: "row" }, name), element("td", { class: changed ? "changed" : "", "data-value": hex(value) }, hex(value)),
       element("td", { class: "wide" }, name === "mcause" && line.state.csrs.mcause ? causeName(value) : ""));
   });
-  note("csrs-note", ["software", "timer", "external"].filter((name) => levels[name]).map((name) => name + " line high").join(", "));
+  note("csrs-note", ["software", "timer", "external"].filter((name) => line.state[name]).map((name) => name + " line high").join(", "));
   fill("csrs", rows, 8, 3);
 }
 
@@ -214,7 +214,7 @@ function showCache(view) {
     }
     rows.push(element("tr", { class: changed.includes(set) ? "changed" : "", "data-set": set }, element("th", { scope: "row" }, set), ...cells));
   }
-  note("cache-note", counted(sets, "set") + ", " + counted(ways, "way") + ", " + line + " bytes; * dirty");
+  note("cache-note", run.tellsSets ? counted(sets, "set") + ", " + counted(ways, "way") + ", " + line + " bytes; * dirty" : "as it was before cycle " + run.first);
   fill("cache", rows, Math.min(sets, 16), 3);
 }
 
@@ -233,7 +233,7 @@ function showMemory(view) {
 
 function showCounts(view) {
   const { run, line, place } = view, counts = line.counts, here = run.places[place];
-  const parts = [["busy", counts.busy], ...Object.entries(counts.stalls)];
+  const parts = ["busy", ...Object.keys(stallWords)].map((name) => [name, counts[name]]);
   const cpi = here.retired ? (Math.floor(1000 * counts.cycles / here.retired) / 1000).toFixed(3) : "-";
   note("counts-note", "CPI " + cpi);
   const numbers = { cycles: counts.cycles, retired: here.retired, traps: here.traps, interrupts: here.interrupted };

@@ -56,6 +56,7 @@ class Run {
     this.countSteps();
     this.memoryRows = [...new Set(this.words.keys().map((address) => address - address % 16))];
     this.lineOf = new Map(this.listing.map((each, k) => [each.address, k]));
+    this.tellsSets = this.places.some((here) => here.changedSets.length > 0) || !this.places.some((here) => here.access);
     this.usedSets = this.sets.keys();
   }
 
@@ -64,8 +65,8 @@ class Run {
       this.listing.push(value);
       this.statements.set(value.address, value.text.trim());
     } else if (value.memory !== undefined) {
-      value.words.forEach((word, k) => this.words.put(value.memory + 4 * k, 0, word));
-      value.stale.forEach((address) => this.stale.put(address, 0, true));
+      this.words.put(value.memory, 0, value.word);
+      if (value.stale) this.stale.put(value.memory, 0, true);
     } else if (value.set !== undefined) this.sets.put(value.set, 0, value.lines);
     else if (value.stop) this.stop = value;
   }
@@ -76,7 +77,7 @@ class Run {
     this.readInstructions(value, place);
     value.ended.forEach((ended) => this.readEnd(ended, cycle, before));
     const here = {
-      index, cycle, lines: value.lines || {}, ended: value.ended, interrupts: (value.steps || []).filter((step) => step.step === "interrupt"),
+      index, cycle, ended: value.ended, interrupts: (value.steps || []).filter((step) => step.step === "interrupt"),
       stall: value.stall, phases: this.phasesIn(value), stored: before ? storedIn(state, before.state) : [], fetchedBefore: this.table.length,
       changedSets: (value.sets || []).map((each) => each.set), head: state.reorder_buffer.length ? state.reorder_buffer[0].sequence : undefined,
     };
@@ -198,13 +199,19 @@ const isLoad = (word) => word !== undefined && (word & 0x7f) === 0x03;
 const isStore = (word) => word !== undefined && (word & 0x7f) === 0x23;
 const isRetired = (store) => store.state === "committed" || store.state === "draining";
 
-// A line, where it is of a place with its instructions apart: those in flight and those that ended.
+// A line. That of a place gets in_flight and ended, its instructions apart, and what an instruction of the reorder buffer waits for and
+// has come to: operands, broadcast, fault.
 function readLine(text) {
   const value = JSON.parse(text);
   if (!value.state) return value;
   value.in_flight = value.instructions.filter((each) => each.end === undefined).map((each) => each.number);
   value.ended = value.instructions.filter((each) => each.end !== undefined);
-  for (const entry of value.state.reorder_buffer) entry.operands = [entry.first, entry.second].filter((operand) => operand !== undefined);
+  for (const entry of value.state.reorder_buffer) {
+    entry.operands = [entry.first, entry.second].filter((operand) => operand !== undefined);
+    if (entry.issued !== undefined) entry.broadcast = entry.finished;
+    if (entry.cause !== undefined) entry.fault = { cause: entry.cause, value: entry.mtval };
+  }
+  for (const each of value.ended) if (each.register !== undefined) each.written = { register: each.register, value: each.value };
   return value;
 }
 
@@ -226,8 +233,7 @@ function wronglyPredicted(here, value, before) {
   if (early !== undefined) return early;
   const retired = here.ended.filter((ended) => ended.end === "retired").pop();
   const entry = retired && entryIn(before, retired.number);
-  const traps = here.interrupts.length > 0 || here.ended.some((ended) => ended.end === "trapped");
-  return entry && entry.kind === "alu" && !traps && entry.predicted !== value.state.pc ? retired.number : undefined;
+  return entry && entry.next_pc !== undefined && entry.next_pc !== entry.predicted ? retired.number : undefined;
 }
 
 // The access of the cache that began in a cycle: a store's drain, or a load that did not get all its bytes from stores.

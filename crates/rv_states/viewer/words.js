@@ -123,11 +123,13 @@ function executionSentence(run, entry, cycle) {
 }
 
 function headSentence(run, line, entry, k) {
-  const finished = entry.kind === undefined && entry.issued === undefined ? "" : "is done, and ";
-  const what = entry.fault ? "will trap (" + causeName(entry.fault.cause) + ") " : "";
-  if (k === 0) {
-    if (isFenceI(entry.word) && (line.state.port_free > line.cycle + 1 || line.state.store_queue.length)) return "is the head, and waits until the retired stores are in the cache and it is written back.";
-    return finished + (what || "can retire ") + "in cycle " + (entry.dispatched > line.cycle ? entry.dispatched + 1 : line.cycle + 1) + " as the head of the reorder buffer.";
+  const head = "the head of the reorder buffer", next = line.cycle + 1;
+  const older = k + " older " + (k === 1 ? "instruction is" : "instructions are") + " in front of it, first " + called(run, line.in_flight[0]);
+  if (entry.finished === undefined) {
+    if (k > 0) return "is executed at its commit, when it is " + head + ": " + older + ".";
+    const writes = isFenceI(entry.word) && (line.state.port_free > next || line.state.store_queue.length > 0);
+    return writes ? "is " + head + ", and waits until the retired stores are in the cache and it is written back." : "is " + head + ", and can be executed in cycle " + next + ".";
   }
-  return finished + what + (what ? "when it is the head" : "waits to be the head") + ": " + counted(k, "older instruction") + " in front of it, first " + called(run, line.in_flight[0]) + ".";
+  const end = entry.fault ? "trap (" + causeName(entry.fault.cause) + ")" : "retire";
+  return k > 0 ? "is done, and can " + end + " when it is " + head + ": " + older + "." : "is done, and can " + end + " in cycle " + next + ".";
 }
