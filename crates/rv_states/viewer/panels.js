@@ -204,7 +204,7 @@ function showCache(view) {
   const { run, place } = view, { sets, ways, line } = run.machine.cache, touched = run.places[place].access, changed = run.places[place].changedSets;
   const shown = sets <= 16 ? [...Array(sets).keys()] : run.usedSets, rows = [];
   for (const set of shown) {
-    const lines = (run.sets.at(set, place) || { value: [] }).value;
+    const lines = run.replayFits ? (run.sets.at(set, place) || { value: [] }).value : [];
     if (sets > 16 && lines.length === 0) continue;
     const cells = [];
     for (let way = 0; way < Math.min(ways, Math.max(lines.length, 2)); way += 1) {
@@ -214,7 +214,7 @@ function showCache(view) {
     }
     rows.push(element("tr", { class: changed.includes(set) ? "changed" : "", "data-set": set }, element("th", { scope: "row" }, set), ...cells));
   }
-  note("cache-note", run.tellsSets ? counted(sets, "set") + ", " + counted(ways, "way") + ", " + line + " bytes; * dirty" : "as it was before cycle " + run.first);
+  note("cache-note", run.replayFits ? counted(sets, "set") + ", " + counted(ways, "way") + ", " + line + " bytes; * dirty" : "not known: the costs do not fit");
   fill("cache", rows, Math.min(sets, 16), 3);
 }
 

@@ -45,6 +45,8 @@ function drawPicture(view) {
   byId("picture-heads").replaceChildren(...heads);
   byId("picture-cursor").style.left = at(view.place - 1);
   byId("picture-cursor").hidden = view.place === 0;
+  byId("picture-space").style.setProperty("--along", left / measures.rem);
+  byId("picture-space").style.setProperty("--down", top / measures.rem);
   markFollowed(view, byId("picture"));
 }
 

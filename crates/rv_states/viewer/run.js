@@ -42,6 +42,7 @@ class Run {
     this.table = [];             // each instruction by its number
     this.places = [];            // what happened in the cycle before each place, and where its line stands
     this.stop = null;
+    this.replayFits = true;      // whether what accesses cost fits the sets, where the lines do not tell these
     this.kept = new Map();       // states that were read lately
     this.numbers = new Map();    // the number of each retired instruction, by its sequence number
     let before = null;
@@ -56,7 +57,6 @@ class Run {
     this.countSteps();
     this.memoryRows = [...new Set(this.words.keys().map((address) => address - address % 16))];
     this.lineOf = new Map(this.listing.map((each, k) => [each.address, k]));
-    this.tellsSets = this.places.some((here) => here.changedSets.length > 0) || !this.places.some((here) => here.access);
     this.usedSets = this.sets.keys();
   }
 
@@ -86,8 +86,9 @@ class Run {
     if (here.wrong !== undefined) this.table[here.wrong].wrong = cycle;
     for (const store of here.stored) this.readStore(store, place);
     if (here.ended.some((each) => each.end === "retired" && isFenceI(each.word))) this.cleaned.push(place);
-    for (const each of value.sets || []) this.sets.put(each.set, place, each.lines);
-    here.access = accessIn(this, here, value, before, place);
+    here.access = accessIn(this, here, value, before);
+    if (value.sets) for (const each of value.sets) this.sets.put(each.set, place, each.lines);
+    else replay(this, here, value, before, place);
   }
 
   // Which instructions did a phase in a line's cycle, in order of fetch.
@@ -234,37 +235,6 @@ function wronglyPredicted(here, value, before) {
   const retired = here.ended.filter((ended) => ended.end === "retired").pop();
   const entry = retired && entryIn(before, retired.number);
   return entry && entry.next_pc !== undefined && entry.next_pc !== entry.predicted ? retired.number : undefined;
-}
-
-// The access of the cache that began in a cycle: a store's drain, or a load that did not get all its bytes from stores.
-function accessIn(run, here, value, before, place) {
-  const port = value.state.port_free;
-  if (!before || port <= value.cycle || port === before.state.port_free) return undefined;
-  const line = run.machine.cache.line, lineOf = (address) => (address - address % line) / line;
-  const oldest = value.state.store_queue[0], was = before.state.store_queue.find((store) => oldest && store.sequence === oldest.sequence);
-  if (oldest && oldest.state === "draining" && !(was && was.state === "draining")) {
-    return { number: run.numberOf(oldest.sequence, value), address: oldest.address, line: lineOf(oldest.address), what: "drain" };
-  }
-  const loads = here.phases.issue.map((number) => run.table[number])
-    .filter((each) => isLoad(each.word) && each.issued + each.cost === port)
-    .map((each) => ({ number: each.number, address: addressOf(each, before), what: "load" }))
-    .filter((each) => each.address !== undefined)
-    .map((each) => ({ ...each, line: lineOf(each.address) }));
-  const used = loads.find((each) => {
-    const set = run.sets.at(each.line % run.machine.cache.sets, place);
-    return set && set.value.length > 0 && set.value[0].line === each.line;
-  });
-  return used || loads[0];
-}
-
-// The address of a load or store whose operands are known in a line: its base register and the offset in its word.
-function addressOf(instruction, line) {
-  const entry = line.state.reorder_buffer[line.in_flight.indexOf(instruction.number)];
-  const word = instruction.word, base = (word >>> 15) & 31;
-  const offset = isLoad(word) ? word >> 20 : ((word >> 25) << 5) | ((word >>> 7) & 31);
-  const operand = entry && entry.operands.find((each) => each.register === base);
-  if (base === 0) return offset >>> 0;
-  return operand && operand.value !== undefined ? (operand.value + offset) >>> 0 : undefined;
 }
 
 // The letter of an instruction in a cycle, as in pictures: nothing before its fetch and after its end.

@@ -1,0 +1,51 @@
+// The data cache: which line a cycle touched, and which lines each set holds.
+
+// The access of the cache that began in a cycle: a store's drain, or a load that did not get all its bytes from stores.
+function accessIn(run, here, value, before) {
+  const port = value.state.port_free;
+  if (!before || port <= value.cycle || port === before.state.port_free) return undefined;
+  const made = (number, address, what) => ({ number, address, what, line: (address - address % run.machine.cache.line) / run.machine.cache.line, cost: port - value.cycle });
+  const oldest = value.state.store_queue[0], was = oldest && before.state.store_queue.find((store) => store.sequence === oldest.sequence);
+  if (oldest && oldest.state === "draining" && !(was && was.state === "draining")) return made(run.numberOf(oldest.sequence, value), oldest.address, "drain");
+  for (const number of here.phases.issue) {
+    const load = run.table[number];
+    if (!isLoad(load.word) || load.issued + load.cost !== port) continue;
+    const address = addressOf(load, before);
+    if (address !== undefined && !isForwarded(load, address, value)) return made(number, address, "load");
+  }
+  return undefined;
+}
+
+// The address of a load whose operands are known in a line: its base register and the offset in its word.
+function addressOf(load, line) {
+  const entry = line.state.reorder_buffer[line.in_flight.indexOf(load.number)], offset = load.word >> 20;
+  const base = entry && entry.operands.find((operand) => operand.value !== undefined);
+  return base && (base.value + offset) >>> 0;
+}
+
+// All bytes of a load come from older stores.
+function isForwarded(load, address, line) {
+  const k = line.in_flight.indexOf(load.number), width = 1 << ((load.word >>> 12) & 3);
+  const sequence = line.state.reorder_buffer[k].sequence;
+  const older = line.state.store_queue.filter((store) => store.sequence < sequence && store.bytes);
+  for (let at = address; at < address + width; at += 1) {
+    if (!older.some((store) => store.address <= at && at < store.address + store.bytes.length)) return false;
+  }
+  return true;
+}
+
+// Where the lines do not say how the sets change, an access does: its line comes to the front of its set, a set that is full drops its last
+// line, and a write-back leaves all lines clean. What the access cost says whether that is right; where it does not fit, nothing is shown.
+function replay(run, here, value, before, place) {
+  const { sets, ways, hit, miss, write_back } = run.machine.cache;
+  if (here.access) {
+    const { line, what, cost } = here.access, set = line % sets, old = run.sets.last(set) || [];
+    const held = old.find((each) => each.line === line), dropped = !held && old.length >= ways ? old[old.length - 1] : undefined;
+    const rest = old.filter((each) => each !== held && each !== dropped);
+    if (cost !== hit + (held ? 0 : miss) + (dropped && dropped.dirty ? write_back : 0)) run.replayFits = false;
+    run.sets.put(set, place, [{ line, dirty: what === "drain" || Boolean(held && held.dirty) }, ...rest]);
+    here.changedSets = [set];
+  } else if (before && isFenceI((before.state.reorder_buffer[0] || {}).word) && value.state.port_free !== before.state.port_free) {
+    for (const set of run.sets.keys()) run.sets.put(set, place, run.sets.last(set).map((each) => ({ line: each.line, dirty: false })));
+  }
+}
