@@ -1,11 +1,15 @@
+mod Cases
 mod DrainBegins
 mod DrainCounts
 mod Explained
 mod HeadSum
 mod Heads
 mod LastStores
+mod InterruptsGrow
 mod Joined
+mod KindsGrow
 mod Options
+mod SeriesGrows
 mod Spots
 mod Tales
 mod Telling

@@ -1,7 +1,9 @@
 -- What is kept of a run, with one cycle more.
-use Rattle.std.proofs.Common.{◌≡◌, ◌∙◌, ℕ, ◌+◌, ◌*◌, ◌^◌, ◌<◌, ◌≤◌, ◌==◌, List, [], ◌∷◌, ◌++◌, length, count_by, cond, sym, ap, arith}
+use Rattle.std.proofs.Common.{◌≡◌, ◌∙◌, ℕ, ◌+◌, ◌*◌, ◌^◌, ◌<◌, ◌≤◌, ◌==◌, List, [], ◌∷◌, ◌++◌, length, count_by, Option, Some, None, cond, sym, ap, arith, append-nil}
 use Rattle.std.specs.Prelude.{is_some}
-use Rattle.std.specs.Option.{option_or, option_to_list}
+use Rattle.std.specs.List.{cons_option, filter_map}
+use Rattle.std.specs.Option.{option_to_list}
+use Rattle.std.proofs.lemmas.List.Elements.{filter_map-append}
 use Rattle.std.proofs.lemmas.List.Sums.{count_by-le-length, sum_by-append}
 use Rattle.rv_isa.specs.declared.lines.Arrival.{Arrival}
 use Rattle.rv_isa.specs.declared.values.Values.{Values}
@@ -13,24 +15,47 @@ use Rattle.rv_hardware.specs.Step.{is_retirement}
 use Rattle.rv_hardware.specs.declared.step.Step.{Step}
 use Rattle.rv_explain.specs.Access.{both}
 use Rattle.rv_explain.specs.Drain.{drain_in, drains_by, drains_of}
-use Rattle.rv_explain.specs.Exception.{exception_in, first_exception}
+use Rattle.rv_explain.specs.Exception.{exception_of_cycle, exceptions_of}
 use Rattle.rv_explain.specs.Head.{head_cycles}
 use Rattle.rv_hardware.specs.History.{History, Moment, reports_of}
+use Rattle.rv_explain.specs.Interrupt.{by_line, interruption_of_cycle, interruptions_of, interrupts_after}
+use Rattle.rv_explain.specs.Kinds.{kept_after, kept_of}
 use Rattle.rv_explain.specs.LastStore.{last_store_to, stores_in, stores_of, with_stores}
 use Rattle.rv_explain.specs.Load.{costs_of, is_quick, load_cost, loads_of}
 use Rattle.rv_explain.specs.Tale.{HasRoom, tale_after, tale_of}
 use Rattle.rv_explain.specs.WordNotes.{notes_of}
-use Rattle.rv_explain.specs.declared.loads.Costs.{Costs}
+use Rattle.rv_explain.specs.declared.{exception.Exception.Exception, interruption.Interruption.Interruption, loads.Costs.Costs}
 use Rattle.rv_explain.proofs.DrainCounts.{drains_by-append, drains_of-le, drains_of-push}
 use Rattle.rv_explain.proofs.Heads.{head_cycles-le, with_head_of}
 use Rattle.rv_explain.proofs.LastStores.{stores_of-push, with_stores_of}
-use Rattle.rv_explain.proofs.Options.{option_or-assoc, option_or-none}
+use Rattle.rv_explain.proofs.InterruptsGrow.{by_line-push, lines_counted}
+use Rattle.rv_explain.proofs.KindsGrow.{kept-push, kept_counted}
 use Rattle.rv_explain.proofs.WordTable.{note_of}
 
-first_exception-push : (moments : List Moment) (moment : Moment) → first_exception (moments ++ moment ∷ []) ≡ option_or (first_exception moments) (exception_in moment.after moment.report.steps)
-first_exception-push [] moment = option_or-none _
-first_exception-push (first ∷ moments) moment =
-    ap (option_or (exception_in first.after first.report.steps)) (first_exception-push moments moment) ∙ option_or-assoc (exception_in first.after first.report.steps) (first_exception moments) _
+kept_after-push : (es : List Exception) (o : Option Exception) → kept_after o (kept_of es) ≡ kept_of (es ++ cons_option o [])
+kept_after-push es None = sym (ap kept_of (append-nil es))
+kept_after-push es (Some e) = kept-push e es
+
+exceptions-push : (moments : List Moment) (moment : Moment) → kept_after (exception_of_cycle moment) (kept_of (exceptions_of moments)) ≡ kept_of (exceptions_of (moments ++ moment ∷ []))
+exceptions-push moments moment =
+    kept_after-push (exceptions_of moments) (exception_of_cycle moment) ∙ sym (ap kept_of (filter_map-append exception_of_cycle moments (moment ∷ [])))
+
+interrupts_after-push : (is : List Interruption) (o : Option Interruption) → interrupts_after o (by_line is) ≡ by_line (is ++ cons_option o [])
+interrupts_after-push is None = sym (ap by_line (append-nil is))
+interrupts_after-push is (Some i) = sym (by_line-push is i)
+
+interrupts-push : (moments : List Moment) (moment : Moment) → interrupts_after (interruption_of_cycle moment) (by_line (interruptions_of moments)) ≡ by_line (interruptions_of (moments ++ moment ∷ []))
+interrupts-push moments moment =
+    interrupts_after-push (interruptions_of moments) (interruption_of_cycle moment) ∙ sym (ap by_line (filter_map-append interruption_of_cycle moments (moment ∷ [])))
+
+cons_option-le : {Y : Type 0} (o : Option Y) (ys : List Y) → length (cons_option o ys) ≤ length ys + 1
+cons_option-le None ys = omega arith
+cons_option-le (Some y) ys = omega arith
+
+-- a cycle gives one at most
+length-filter_map : {X Y : Type 0} (h : X → Option Y) (xs : List X) → length (filter_map h xs) ≤ length xs
+length-filter_map h [] = omega arith
+length-filter_map h (x ∷ xs) = omega (arith, cons_option-le (h x) (filter_map h xs), length-filter_map h xs)
 
 loads_of-append : (costs : Costs) (some more : List Step) → loads_of costs (some ++ more) ≡ both (loads_of costs some) (loads_of costs more)
 loads_of-append costs some more = λ i. record {
@@ -44,7 +69,8 @@ module _ (values : Values) where
       → tale_after now.hardware.registers moment.report.steps (drain_in arrivals now.hardware) moment.after (tale_of values arrivals old.hardware moments) ≡ tale_of values arrivals old.hardware (moments ++ moment ∷ [])
   tale-push {arrivals = arrivals} {old = old} {now = now} {moments = moments} moment passes =
       let steps = shown_steps-push moments moment in
-      let exception = sym (first_exception-push moments moment) in
+      let exceptions = exceptions-push moments moment in
+      let interrupts = interrupts-push moments moment in
       let heads = ap (with_stores (stores_in now.hardware.registers moment.report.steps)) (with_head_of values (last_store_to (stores_of old.hardware moments)) moments moment) in
       let stores = with_stores_of values (head_cycles (moments ++ moment ∷ [])) (stores_in now.hardware.registers moment.report.steps) (stores_of old.hardware moments) in
       let stored = sym (stores_of-push moment passes) in
@@ -54,7 +80,8 @@ module _ (values : Values) where
       let words = heads ∙ stores ∙ (λ i. notes_of values (λ word. record { last_store = last_store_to (stored i) word; head_cycles = head_cycles (moments ++ moment ∷ []) word })) in
       λ i. record {
         retired = retired i;
-        exception = exception i;
+        exceptions = exceptions i;
+        interrupts = interrupts i;
         costs = costs_of values;
         loads = loads i;
         drains = drains i;
@@ -65,6 +92,8 @@ module _ (values : Values) where
   pub has_room : (arrivals : List Arrival) (h : Hardware) (moments : List Moment) (more : ℕ) → length (steps_of (reports_of moments)) ≤ 8 * 2 ^ 40 → length moments ≤ 2 ^ 40 → more ≤ 8 → HasRoom (tale_of values arrivals h moments) more
   has_room arrivals h moments more few within little = record {
     retired = omega (arith, count_by-le-length is_retirement (steps_of (reports_of moments)), few, little);
+    exceptions = kept_counted (exceptions_of moments) (omega (arith, length-filter_map exception_of_cycle moments, within));
+    interrupts = lines_counted (interruptions_of moments) (omega (arith, length-filter_map interruption_of_cycle moments, within));
     loads = omega (arith, count_by-le-length (λ step. is_some (load_cost step)) (steps_of (reports_of moments)), few, little);
     quick = omega (arith, count_by-le-length (λ step. is_quick (costs_of values) (load_cost step)) (steps_of (reports_of moments)), few, little);
     drains = omega (arith, drains_of-le arrivals h moments, within);

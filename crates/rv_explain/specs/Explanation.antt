@@ -11,9 +11,10 @@ use Rattle.rv_source.specs.Listing.{Listed}
 use Rattle.rv_text.specs.Line.{line_of, ratio_text}
 use Rattle.rv_explain.specs.Drain.{drain_text}
 use Rattle.rv_explain.specs.Ending.{ending_text}
-use Rattle.rv_explain.specs.Exception.{exception_text}
+use Rattle.rv_explain.specs.Exception.{exceptions_text}
 use Rattle.rv_hardware.specs.History.{History, Moment, reports_of}
 use Rattle.rv_explain.specs.Hotspot.{hotspots_text}
+use Rattle.rv_explain.specs.Interrupt.{interrupts_text}
 use Rattle.rv_explain.specs.Load.{load_text}
 use Rattle.rv_explain.specs.Stack.{count_text, stall_text}
 use Rattle.rv_explain.specs.Tale.{tale_of}
@@ -41,7 +42,8 @@ cost_text listing progress tale =
 -- the sentences
 unfoldable pub explanation : Listed → Stop → Hardware → Progress → Tale → List ℕ
 explanation listing stop h progress tale =
-    ending_text listing stop h tale.words ++ (exception_text listing tale.exception ++ cost_text listing progress tale)
+    ending_text listing stop h tale.words ++ (exceptions_text listing tale.exceptions.all tale.exceptions.kinds ++
+    (interrupts_text listing tale.interrupts ++ cost_text listing progress tale))
 
 -- A text explains a run that ended for a reason.
 pub record IsExplanation (arrivals : List Arrival) (limit : ℕ) (values : Values) (listing : Listed) (old new : GuidedHardware) (stop : Stop) (text : List ℕ) : Type 0 where

@@ -8,6 +8,9 @@ pub mod Drain
 pub mod Stack
 pub mod Hotspot
 pub mod Ending
+pub mod Series
+pub mod Kinds
 pub mod Exception
+pub mod Interrupt
 pub mod Tale
 pub mod Explanation

@@ -1,6 +1,6 @@
 -- What is kept of a run, cycle by cycle.
 use Rattle.std.specs.Prelude.{◌≡◌, ℕ, ◌+◌, ◌^◌, ◌<◌, List, [], count_by, Option, IfSome}
-use Rattle.std.specs.Option.{option_or, option_to_list}
+use Rattle.std.specs.Option.{option_to_list}
 use Rattle.rv_isa.specs.declared.{lines.Arrival.Arrival, values.Values.Values}
 use Rattle.rv_core.specs.Watching.{Watched}
 use Rattle.rv_hardware.specs.Drain.{drain_end}
@@ -10,9 +10,11 @@ use Rattle.rv_hardware.specs.Step.{is_retirement}
 use Rattle.rv_hardware.specs.declared.step.Step.{Step}
 use Rattle.rv_explain.specs.Access.{both}
 use Rattle.rv_explain.specs.Drain.{drains_by, drains_of}
-use Rattle.rv_explain.specs.Exception.{exception_in, first_exception}
+use Rattle.rv_explain.specs.Exception.{exception_in, exceptions_of}
 use Rattle.rv_explain.specs.Head.{head_cycles, head_word, with_head}
 use Rattle.rv_hardware.specs.History.{Moment, reports_of}
+use Rattle.rv_explain.specs.Interrupt.{AreCountable, by_line, interruption_in, interruptions_of, interrupts_after}
+use Rattle.rv_explain.specs.Kinds.{IsCountable, kept_after, kept_of}
 use Rattle.rv_explain.specs.LastStore.{last_store_to, stores_in, stores_of, with_stores}
 use Rattle.rv_explain.specs.Load.{costs_of, loads_of}
 use Rattle.rv_explain.specs.WordNotes.{note_at, notes_of}
@@ -22,7 +24,8 @@ use Rattle.rv_explain.specs.declared.tale.Tale.{Tale}
 abbrev pub tale_of : Values → List Arrival → Hardware → List Moment → Tale
 tale_of values arrivals h moments = record {
   retired = count_by is_retirement (steps_of (reports_of moments));
-  exception = first_exception moments;
+  exceptions = kept_of (exceptions_of moments);
+  interrupts = by_line (interruptions_of moments);
   costs = costs_of values;
   loads = loads_of (costs_of values) (steps_of (reports_of moments));
   drains = drains_by values.cache.hit (drains_of arrivals h moments);
@@ -34,7 +37,8 @@ tale_of values arrivals h moments = record {
 abbrev pub tale_after : List ℕ → List Step → Option ℕ → Hardware → Tale → Tale
 tale_after registers steps drain after tale = record {
   retired = tale.retired + count_by is_retirement steps;
-  exception = option_or tale.exception (exception_in after steps);
+  exceptions = kept_after (exception_in after steps) tale.exceptions;
+  interrupts = interrupts_after (interruption_in steps) tale.interrupts;
   costs = tale.costs;
   loads = both tale.loads (loads_of tale.costs steps);
   drains = both tale.drains (drains_by tale.costs.hit (option_to_list drain));
@@ -53,6 +57,8 @@ pub record IsTelling (first tale : Tale) (registers : List ℕ) (end : Option �
 -- no count of a cycle with so many steps more comes to 2^64
 pub record HasRoom (tale : Tale) (more : ℕ) : Type 0 where
   pub retired : tale.retired + more < 2 ^ 64
+  pub exceptions : IsCountable tale.exceptions
+  pub interrupts : AreCountable tale.interrupts
   pub loads : tale.loads.all + more < 2 ^ 64
   pub quick : tale.loads.quick + more < 2 ^ 64
   pub drains : tale.drains.all + 1 < 2 ^ 64

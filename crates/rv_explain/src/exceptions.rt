@@ -1,5 +1,5 @@
 ghost use Rattle.std.specs.Prelude.{◌≡◌};
-ghost use Rattle.rv_explain.specs.Exception.{exception_of, exception_in, cause_name, cause_text, went_on, handler_text, taken_text, exception_text};
+ghost use Rattle.rv_explain.specs.Exception.{exception_of, exception_in, cause_name, cause_text, went_on, handler_text, taken_text};
 ghost use Rattle.rv_text.specs.Written.{IsWritten};
 
 use crate::ending::csr;
@@ -50,8 +50,9 @@ pub(crate) fn exception_in(steps: &[Step], pipeline: &Pipeline) -> Option<Except
     }
 }
 
+/// The name of a cause.
 #[tactic(auto, unfolding(crate::specs::Exception::cause_name))]
-fn cause_name(cause: Cause) -> &'static [u8]
+pub(crate) fn cause_name(cause: Cause) -> &'static [u8]
     ensures { result.now ≡ cause_name cause }
 {
     match cause {
@@ -75,18 +76,7 @@ fn write_cause<W: Write>(writer: &mut W, exception: &Exception) -> Result<(), Re
     let cycle = buffer.format(exception.cycle).as_bytes();
     let name = cause_name(exception.cause);
     let value = hexadecimal(exception.value);
-    put_all(
-        writer,
-        &[
-            b"The first exception came in cycle ",
-            cycle,
-            b": ",
-            name,
-            b", mtval ",
-            &value,
-            b", at ",
-        ],
-    )
+    put_all(writer, &[cycle, b": ", name, b", mtval ", &value, b", at "])
 }
 
 // How the program went on after a trap.
@@ -110,29 +100,17 @@ fn write_handler<W: Write>(writer: &mut W, exception: &Exception) -> Result<(), 
     put_all(writer, &[how, &next_pc, b"\n"])
 }
 
-fn write_taken<W: Write>(
+/// Writes what an exception was, and where the program went on after it. The text before it says which one it is.
+pub(crate) fn write_taken<W: Write>(
     writer: &mut W,
+    which: &[u8],
     listing: &Listing,
     exception: &Exception,
 ) -> Result<(), ReportError>
-    ensures { IsWritten result (W.contents writer.old) (W.contents writer.new) (taken_text listing.now exception.now) }
+    ensures { IsWritten result (W.contents writer.old) (W.contents writer.new) (taken_text which.now listing.now exception.now) }
 {
+    put(writer, which)?;
     write_cause(writer, exception)?;
     write_place(writer, listing, exception.pc)?;
     write_handler(writer, exception)
-}
-
-/// Writes what the first trap was that is no breakpoint, and where the program went on after it.
-#[tactic(auto, unfolding(crate::specs::Exception::exception_text))]
-pub(crate) fn write_exception<W: Write>(
-    writer: &mut W,
-    listing: &Listing,
-    exception: &Option<Exception>,
-) -> Result<(), ReportError>
-    ensures { IsWritten result (W.contents writer.old) (W.contents writer.new) (exception_text listing.now exception.now) }
-{
-    match exception {
-        Some(exception) => write_taken(writer, listing, exception),
-        None => put(writer, b"No exception came before that.\n"),
-    }
 }

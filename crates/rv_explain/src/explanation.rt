@@ -10,8 +10,9 @@ ghost use Rattle.rv_text.specs.Written.{IsWritten};
 
 use crate::drains::write_drains;
 use crate::ending::write_ending;
-use crate::exceptions::write_exception;
 use crate::hotspots::write_hotspots;
+use crate::interrupt_lines::write_interrupts;
+use crate::kind_lines::write_exceptions;
 use crate::loads::write_loads;
 use crate::running::run_told;
 use crate::stack::{write_counts, write_stalls};
@@ -94,14 +95,15 @@ fn write_told<W: Write>(
     ensures { IsWritten result (W.contents writer.old) (W.contents writer.new) (explanation listing.now stop pipeline.now progress.now tale.old) }
 {
     write_ending(writer, listing, stop, pipeline, &tale.words)?;
-    write_exception(writer, listing, &tale.exception)?;
+    write_exceptions(writer, listing, &tale.exceptions)?;
+    write_interrupts(writer, listing, &tale.interrupts)?;
     write_costs(writer, listing, progress, tale)
 }
 
 /// Runs a pipeline that a predictor guides, each cycle with the lines of its number, up to a breakpoint, a stale word,
 /// exhaustion or so many cycles, and then writes what the run came to, in plain sentences: how it ended, where and why,
-/// and for a stale word the last store to it; the first trap that is no breakpoint; where the cycles went; what its loads
-/// and the drains of its stores cost; and the five lines that most cycles left at the head of the reorder buffer. The
+/// and for a stale word the last store to it; its exceptions and interrupts; where the cycles went; what its loads and the
+/// drains of its stores cost; and the five lines that most cycles left at the head of the reorder buffer. The
 /// description tells where RAM lies, whose words are counted, and what loads and drains cost. The listing is that of the
 /// program, whose lines are shown. Answers why the run ended.
 ///

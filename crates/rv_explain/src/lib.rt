@@ -1,4 +1,4 @@
-//! What a run of the core came to, in plain sentences: how it ended and why, the first trap, where its cycles went, what its
+//! What a run of the core came to, in plain sentences: how it ended and why, its exceptions and interrupts, where its cycles went, what its
 //! loads and the drains of its stores cost, and the lines that stood longest at the head of the reorder buffer. The text is a
 //! function of the run and of the listing of its program.
 #![tactic(auto)]
@@ -11,10 +11,16 @@ mod exceptions;
 mod explanation;
 mod hotspot;
 mod hotspots;
+mod interrupt_lines;
+mod interruption;
+mod interrupts;
+mod kind_lines;
+mod kinds;
 mod lines;
 mod loads;
 mod place;
 mod running;
+mod series;
 mod stack;
 mod stored;
 mod stores;

@@ -19,8 +19,8 @@ fn parts_of(parts: u32, count: u64, all: u64) -> u128
     }
 }
 
-// What of a text is after so many bytes.
-fn behind(text: &[u8], count: usize) -> &[u8]
+/// What of a text is after so many bytes.
+pub(crate) fn behind(text: &[u8], count: usize) -> &[u8]
     ensures { result.now ≡ drop count text.now }
 {
     if count < text.len() {

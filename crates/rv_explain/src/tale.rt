@@ -6,9 +6,10 @@ ghost use Rattle.rv_explain.specs.Tale.{HasRoom, tale_after, tale_of};
 
 use crate::accesses::Accesses;
 use crate::drains::add_drain;
-use crate::exception::Exception;
 use crate::exceptions::exception_in;
 use crate::hotspots::note_head;
+use crate::interrupts::{Interrupts, interruption_in};
+use crate::kinds::Exceptions;
 use crate::loads::{Costs, add_loads};
 use crate::stores::note_stores;
 use crate::word_notes::WordNotes;
@@ -21,7 +22,8 @@ use std::alloc::{AllocError, Global};
 #[derive(Debug, Drop)]
 pub(crate) struct Tale {
     pub(crate) retired: u64,
-    pub(crate) exception: Option<Exception>,
+    pub(crate) exceptions: Exceptions,
+    pub(crate) interrupts: Interrupts,
     pub(crate) costs: Costs,
     pub(crate) loads: Accesses,
     pub(crate) drains: Accesses,
@@ -44,7 +46,8 @@ impl Tale {
     {
         Ok(Tale {
             retired: 0,
-            exception: None,
+            exceptions: Exceptions::new(alloc)?,
+            interrupts: Interrupts::new(),
             costs: Costs::new(&description.values()),
             loads: Accesses { all: 0, quick: 0 },
             drains: Accesses { all: 0, quick: 0 },
@@ -65,7 +68,8 @@ impl Tale {
         ensures { self.new ≡ tale_after registers.old steps.now drain pipeline.now self.old }
     {
         self.retired += count_retired(steps) as u64;
-        self.exception = self.exception.or(exception_in(steps, pipeline));
+        self.exceptions.note(exception_in(steps, pipeline));
+        self.interrupts.note(interruption_in(steps));
         add_loads(&mut self.loads, &self.costs, steps);
         add_drain(&mut self.drains, self.costs.hit, drain);
         note_head(&mut self.words, pipeline);

@@ -12,6 +12,11 @@ const SENTENCES: &[u8] = b"\
 The run was cut off at its limit of cycles, and the program stood at 00000000, which no line of the program fills
 The first exception came in cycle 4: Environment call from M-mode, mtval 00000000, at 80000004, line 2: ecall
 No handler was set (the address in mtvec was 0), and the program went on at 00000000
+The last exception came in cycle 18: Instruction access fault, mtval 00000000, at 00000000, which no line of the program fills
+No handler was set (the address in mtvec was 0), and the program went on at 00000000
+Exceptions by cause and place:
+      1 in cycle 4: Environment call from M-mode, at 80000004, line 2: ecall
+      7 in cycles 6 to 18: Instruction access fault, at 00000000, which no line of the program fills
 cycles 20, retired instructions 1
 cycles per instruction 20.000
 busy           11   55.0%  ############################

@@ -150,18 +150,96 @@ mret
 ";
 
 #[test]
-fn the_first_of_two_exceptions_is_told(rt: HostRuntime) {
-    let taken =
-        "The first exception came in cycle 10: Load address misaligned, mtval 00000001, at 8000000c, line 3: lw x1,1(x0)";
-    let handler = "The program went on at its handler, at 80000018";
-    check_run(
-        &rt,
-        rt.alloc(),
-        EXPLAIN,
-        TWO_EXCEPTIONS,
-        0,
-        &[taken, handler],
-    );
+fn each_of_two_exceptions_is_told(rt: HostRuntime) {
+    let lines = [
+        "The first exception came in cycle 10: Load address misaligned, mtval 00000001, at 8000000c, line 3: lw x1,1(x0)",
+        "The program went on at its handler, at 80000018",
+        "The last exception came in cycle 20: Environment call from M-mode, mtval 00000000, at 80000010, line 4: ecall",
+        "Exceptions by cause and place:",
+        "      1 in cycle 10: Load address misaligned, at 8000000c, line 3: lw x1,1(x0)",
+        "      1 in cycle 20: Environment call from M-mode, at 80000010, line 4: ecall",
+    ];
+    check_run(&rt, rt.alloc(), EXPLAIN, TWO_EXCEPTIONS, 0, &lines);
+}
+
+// Nine calls, each twice, one every ten cycles but where the loop goes back.
+const NINE_CALLS: &str = "la x31,h
+csrw mtvec,x31
+li x6,2
+l: ecall
+ecall
+ecall
+ecall
+ecall
+ecall
+ecall
+ecall
+ecall
+addi x6,x6,-1
+bnez x6,l
+ebreak
+h: csrr x5,mepc
+addi x5,x5,4
+csrw mepc,x5
+mret
+";
+
+#[test]
+fn eight_kinds_of_exceptions_are_told_apart(rt: HostRuntime) {
+    let command = Command::Explain { limit: 400 };
+    let others = "      2 of other causes or at other places";
+    check_run(&rt, rt.alloc(), command, NINE_CALLS, 0, &[others]);
+}
+
+// Each line rises for one cycle, the timer's twice, while the program goes round at line 6.
+const INTERRUPTS: &str = "%%
+[[arrival]]
+cycle = 30
+line = \"software\"
+[[arrival]]
+cycle = 31
+line = \"software\"
+level = false
+[[arrival]]
+cycle = 50
+line = \"timer\"
+[[arrival]]
+cycle = 51
+line = \"timer\"
+level = false
+[[arrival]]
+cycle = 70
+line = \"timer\"
+[[arrival]]
+cycle = 71
+line = \"timer\"
+level = false
+[[arrival]]
+cycle = 90
+line = \"external\"
+[[arrival]]
+cycle = 91
+line = \"external\"
+level = false
+%%
+la x31,h
+csrw mtvec,x31
+li x5,0x888
+csrw mie,x5
+csrsi mstatus,8
+l: j l
+h: mret
+";
+
+#[test]
+fn the_interrupts_of_each_line_are_told(rt: HostRuntime) {
+    let lines = [
+        "Software interrupts: 1, the first in cycle 30, before 8000001c, line 6: l: j l",
+        "Timer interrupts: 2, the first in cycle 50, before 8000001c, line 6: l: j l",
+        "The last came in cycle 70, before 8000001c, line 6: l: j l",
+        "External interrupts: 1, the first in cycle 90, before 8000001c, line 6: l: j l",
+    ];
+    check_run(&rt, rt.alloc(), EXPLAIN, INTERRUPTS, 0, &lines);
 }
 
 // Two stores to the word that is fetched then, and one to the word after it.

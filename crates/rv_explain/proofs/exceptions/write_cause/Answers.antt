@@ -7,5 +7,5 @@ pub returns : goal.returns
 unfolding cause_text
 returns g c =
     let cycle = c.as_bytes-cycle.ensures.value ∙ c.format.ensures.text in
-    written_same _ _ _ _ _ (λ i. codes "The first exception came in cycle " ++ (cycle i ++ (codes ": " ++ (c.cause_name-name.ensures i ++
-    (codes ", mtval " ++ (c.hexadecimal-value.ensures i ++ codes ", at ")))))) c.put_all.ensures
+    written_same _ _ _ _ _ (λ i. cycle i ++ (codes ": " ++ (c.cause_name-name.ensures i ++
+    (codes ", mtval " ++ (c.hexadecimal-value.ensures i ++ codes ", at "))))) c.put_all.ensures

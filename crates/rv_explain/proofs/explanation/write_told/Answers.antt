@@ -7,13 +7,16 @@ unfolding explanation
 returns-in_err-write_ending g c =
     handed_on _ _ _ _ _ c.from_residual.ensures.1 (beginning-longer _ _ _ _ c.in_err-write_ending.ensures)
 
-pub returns-in_err-write_exception : goal.returns-in_err-write_exception
+pub returns-in_err-write_exceptions : goal.returns-in_err-write_exceptions
 unfolding explanation
-returns-in_err-write_exception g c =
-    handed_on _ _ _ _ _ c.from_residual-in_err-write_exception.ensures.1
-    (beginning-both _ _ _ _ _ c.in_ok-write_ending.ensures (beginning-longer _ _ _ _ c.in_err-write_exception.ensures))
+returns-in_err-write_exceptions g c =
+    handed_on _ _ _ _ _ c.from_residual-in_err-write_exceptions.ensures.1 (beginning-both _ _ _ _ _ c.in_ok-write_ending.ensures (beginning-longer _ _ _ _ c.in_err-write_exceptions.ensures))
+
+pub returns-in_err-write_interrupts : goal.returns-in_err-write_interrupts
+unfolding explanation
+returns-in_err-write_interrupts g c =
+    handed_on _ _ _ _ _ c.from_residual-in_err-write_interrupts.ensures.1 (beginning-both _ _ _ _ _ c.in_ok-write_ending.ensures (beginning-both _ _ _ _ _ c.in_ok-write_exceptions.ensures (beginning-longer _ _ _ _ c.in_err-write_interrupts.ensures)))
 
 pub returns : goal.returns
 unfolding explanation
-returns g c =
-    written_behind _ _ _ _ _ _ c.in_ok-write_ending.ensures (written_behind _ _ _ _ _ _ c.in_ok-write_exception.ensures c.write_costs.ensures)
+returns g c = written_behind _ _ _ _ _ _ c.in_ok-write_ending.ensures (written_behind _ _ _ _ _ _ c.in_ok-write_exceptions.ensures (written_behind _ _ _ _ _ _ c.in_ok-write_interrupts.ensures c.write_costs.ensures))
