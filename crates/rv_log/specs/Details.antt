@@ -20,7 +20,7 @@ cause_text cause = codes "trapped, cause " ++ decimal (code_of cause)
 -- how it ended
 unfoldable pub ending_text : Ending → List ℕ
 ending_text InFlight = []
-ending_text (Retired order cycle written) = codes "retired" ++ written_text written
+ending_text (Retired order cycle written next) = codes "retired" ++ written_text written
 ending_text (Trapped cycle cause) = cause_text cause
 ending_text (Squashed cycle) = codes "squashed"
 

@@ -36,7 +36,7 @@ fetch_at listing cycle passage = if passage.fetched == cycle then fetched_text l
 
 -- the cycle of its retirement
 abbrev pub retired_in : Ending → Option ℕ
-retired_in (Retired order cycle written) = Some cycle
+retired_in (Retired order cycle written next) = Some cycle
 retired_in InFlight = None
 retired_in (Trapped cycle cause) = None
 retired_in (Squashed cycle) = None
@@ -54,7 +54,7 @@ events_at listing cycle passage =
 -- how it ended: what trapped is flushed as what was squashed is
 unfoldable pub end_line : ℕ → Ending → List ℕ
 end_line number InFlight = []
-end_line number (Retired order cycle written) = retirement_line number order
+end_line number (Retired order cycle written next) = retirement_line number order
 end_line number (Trapped cycle cause) = flush_line number
 end_line number (Squashed cycle) = flush_line number
 

@@ -45,7 +45,12 @@ impl Watcher for Logger<'_> {
     }
 
     fn see<W: Write>(&mut self, cycle: u64, steps: &[Step], pipeline: &Pipeline, output: &mut W) {
-        self.table.follow(cycle, steps, pipeline);
+        // Of hardware that a reset and cycles lead to, the buffers are as long as described.
+        let _ = pipeline.cycles_done();
+        let buffer = pipeline.reorder_buffer();
+        let pc = pipeline.observe().pc;
+        self.table
+            .follow(cycle, steps, buffer, pipeline.front(), pc);
         self.written = write_next(self.written, output, self.listing, cycle, self.table.rows());
         self.table.drop_ended();
     }

@@ -37,7 +37,9 @@ pub fn write_log<W: Write>(
     ensures written { IsText (IsLog arrivals.now limit listing.now (guided pipeline.old (known predictor.old)) (guided pipeline.new (known predictor.new))) result (W.contents writer.old) (W.contents writer.new) }
     ensures not_run { result ≡ Err TextError.Memory → (pipeline.new ≡ pipeline.old) × (known predictor.new ≡ known predictor.old) }
 {
-    let Ok(table) = Table::begin(alloc, pipeline) else {
+    // Of hardware that a reset and cycles lead to, the buffers are as long as described.
+    let _ = pipeline.cycles_done();
+    let Ok(table) = Table::begin(alloc, pipeline.reorder_buffer(), pipeline.front()) else {
         return Err(TextError::Memory);
     };
     let Ok(steps) = Vec::with_capacity(alloc, 8) else {

@@ -11,21 +11,21 @@ use Rattle.rv_rob.proofs.Places.{entry_of-place}
 use Rattle.rv_hardware.specs.Hardware.{Hardware}
 use Rattle.rv_hardware.specs.Run.{Reachable}
 use Rattle.rv_hardware.proofs.Always.Sound.{sound}
-use Rattle.rv_passage.specs.Passage.{in_flight, of_entry, of_fetched}
+use Rattle.rv_passage.specs.Passage.{in_buffers, of_entry, of_fetched}
+use Rattle.rv_passage.specs.Table.{AreShort}
 
-pub few_entries : {h : Hardware} → Reachable h → h.rob.capacity ≤ 256
-few_entries reached =
+-- of hardware that a reset and cycles lead to, the buffers are as long as described
+pub short_buffers : {h : Hardware} {rob : ReorderBuffer} {front : FetchBuffer} → Reachable h → rob ≡ h.rob → front ≡ h.front → AreShort rob front
+short_buffers reached rob_is front_is =
     let sizes = (sound reached).sizes in
-    omega (arith, sizes.buffer, sizes.legal.pipeline.rob.1)
+    record {
+      entries = omega (arith, sizes.buffer, sizes.legal.pipeline.rob.1, ap (λ (r : ReorderBuffer). r.capacity) rob_is);
+      words = omega (arith, sizes.room, sizes.legal.pipeline.fetch_buffer.1, ap (λ (f : FetchBuffer). f.capacity) front_is);
+    }
 
-pub few_words : {h : Hardware} → Reachable h → h.front.capacity ≤ 32
-few_words reached =
-    let sizes = (sound reached).sizes in
-    omega (arith, sizes.room, sizes.legal.pipeline.fetch_buffer.1)
-
-pub length-in_flight : (h : Hardware) → length (in_flight h) ≡ length h.rob.entries + length h.front.entries
-length-in_flight h =
-    length-append (map of_entry h.rob.entries) (map of_fetched h.front.entries) ∙ (λ i. length-map h.rob.entries of_entry i + length-map h.front.entries of_fetched i)
+pub length-in_buffers : (rob : ReorderBuffer) (front : FetchBuffer) → length (in_buffers rob front) ≡ length rob.entries + length front.entries
+length-in_buffers rob front =
+    length-append (map of_entry rob.entries) (map of_fetched front.entries) ∙ (λ i. length-map rob.entries of_entry i + length-map front.entries of_fetched i)
 
 get-front : {X : Type 0} (xs ys : List X) (i : ℕ) → i < length xs → slice_get (xs ++ ys) i ≡ slice_get xs i
 get-front [] ys i within = absurd (omega arith)
@@ -43,21 +43,18 @@ entry_of-at number oldest place es is =
     entry_of-place place number oldest es (rw later (omega arith))
 
 -- the entry that is so far from the youngest
-pub entry_here : (h : Hardware) (rob : ReorderBuffer) (number place : ℕ) (found : Option Entry) → rob ≡ h.rob → number ≡ next_number rob - (length rob.entries - place) → place < length rob.entries →
-    found ≡ entry_of number rob.retired rob.entries → option_map of_entry found ≡ slice_get (in_flight h) place
-entry_here h rob number place found same is within held =
-    let there : length rob.entries ≡ length h.rob.entries = ap (λ (r : ReorderBuffer). length r.entries) same in
+pub entry_here : (rob : ReorderBuffer) (front : FetchBuffer) (number place : ℕ) (found : Option Entry) → number ≡ next_number rob - (length rob.entries - place) → place < length rob.entries →
+    found ≡ entry_of number rob.retired rob.entries → option_map of_entry found ≡ slice_get (in_buffers rob front) place
+entry_here rob front number place found is within held =
     ap (option_map of_entry) (held ∙ entry_of-at number rob.retired place rob.entries (omega (arith, is, within)))
     ∙ sym (slice_get-map of_entry rob.entries place)
-    ∙ ap (λ (r : ReorderBuffer). slice_get (map of_entry r.entries) place) same
-    ∙ sym (get-front (map of_entry h.rob.entries) (map of_fetched h.front.entries) place (omega (arith, within, there, length-map h.rob.entries of_entry)))
+    ∙ sym (get-front (map of_entry rob.entries) (map of_fetched front.entries) place (omega (arith, within, length-map rob.entries of_entry)))
 
-pub word_here : (h : Hardware) (rob : ReorderBuffer) (front : FetchBuffer) (place : ℕ) (found : Option Fetched) → rob ≡ h.rob → front ≡ h.front → length rob.entries ≤ place →
-    found ≡ slice_get front.entries (place - length rob.entries) → option_map of_fetched found ≡ slice_get (in_flight h) place
-word_here h rob front place found same same_front past held =
-    let there : length rob.entries ≡ length h.rob.entries = ap (λ (r : ReorderBuffer). length r.entries) same in
+-- the word that is so far from the youngest entry
+pub word_here : (rob : ReorderBuffer) (front : FetchBuffer) (place : ℕ) (found : Option Fetched) → length rob.entries ≤ place →
+    found ≡ slice_get front.entries (place - length rob.entries) → option_map of_fetched found ≡ slice_get (in_buffers rob front) place
+word_here rob front place found past held =
     let k = place - length rob.entries in
     ap (option_map of_fetched) held
     ∙ sym (slice_get-map of_fetched front.entries k)
-    ∙ ap (λ (f : FetchBuffer). slice_get (map of_fetched f.entries) k) same_front
-    ∙ sym (get-behind (map of_entry h.rob.entries) (map of_fetched h.front.entries) place k (omega (arith, past, there, length-map h.rob.entries of_entry)))
+    ∙ sym (get-behind (map of_entry rob.entries) (map of_fetched front.entries) place k (omega (arith, past, length-map rob.entries of_entry)))

@@ -1,2 +1,2 @@
-mod InFlight
+pub mod InFlight
 mod Moving

@@ -7,8 +7,11 @@ use Rattle.std.proofs.lemmas.List.Quantifiers.{position-Some}
 use Rattle.std.proofs.lemmas.Option.{slice_get_within, get_or_from_slice_get, none-some}
 use Rattle.rv_hardware.specs.declared.step.Step.{Step}
 use Rattle.rv_hardware.specs.declared.step.Step.TheVariants as step
-use Rattle.rv_passage.specs.Passage.{is_in_flight, numbered, retired_by, squashed_in, standing_at, trapped_by}
-use Rattle.rv_passage.specs.Table.{Passages, at_the_end, moved_on, numbered_from, with_oldest, with_step, with_steps}
+use Rattle.rv_hardware.specs.Lessons.{first_pc}
+use Rattle.rv_hardware.specs.Step.{pc_of}
+use Rattle.rv_passage.specs.Passage.{is_in_flight, numbered, retired_by, squashed_in, trapped_by}
+use Rattle.rv_passage.specs.Producers.{standing_at}
+use Rattle.rv_passage.specs.Table.{Passages, at_the_end, left_after, moved, moved_on, numbered_from, with_oldest, with_step, with_steps}
 use Rattle.rv_passage.specs.declared.passage.Passage.{Passage}
 
 -- the oldest in flight is the first
@@ -49,73 +52,85 @@ drop-none [] (suc i) none = refl
 drop-none (x ∷ xs) zero none = absurd (none-some x (sym none))
 drop-none (x ∷ xs) (suc i) none = drop-none xs i none
 
-module _ (cycle number : ℕ) where
-  moved_on-ended : (p : Passage) (ps now : List Passage) → is_in_flight p ≡ false → moved_on cycle number (p ∷ ps) now ≡ p ∷ moved_on cycle number ps now
-  moved_on-ended p ps [] is = rw is refl
-  moved_on-ended p ps (n ∷ now) is = rw is refl
+-- what becomes of a passage, and what is left of those in flight after it
+module _ (cycle : ℕ) (older : List Passage) (p : Passage) where
+  pub stays-moved : (now : List Passage) → is_in_flight p ≡ false → moved cycle older now p ≡ p
+  stays-moved now ended = rw ended refl
 
-  moved_on-standing : (p : Passage) (ps : List Passage) (n : Passage) (now : List Passage) → is_in_flight p ≡ true → nat_lt n.fetched cycle ≡ true → moved_on cycle number (p ∷ ps) (n ∷ now) ≡ standing_at n p ∷ moved_on cycle number ps now
-  moved_on-standing p ps n now is before = rw (is, before) refl
+  pub stays-left : (now : List Passage) → is_in_flight p ≡ false → left_after cycle now p ≡ now
+  stays-left now ended = rw ended refl
 
-  moved_on-none : (p : Passage) (ps : List Passage) → is_in_flight p ≡ true → moved_on cycle number (p ∷ ps) [] ≡ squashed_in cycle p ∷ moved_on cycle number ps []
-  moved_on-none p ps is = rw is refl
+  pub stands-moved : (n : Passage) (now : List Passage) → is_in_flight p ≡ true → nat_lt n.fetched cycle ≡ true → moved cycle older (n ∷ now) p ≡ standing_at older n p
+  stands-moved n now flies before = rw (flies, before) refl
 
-  moved_on-squashed : (p : Passage) (ps : List Passage) (n : Passage) (now : List Passage) → is_in_flight p ≡ true → nat_lt n.fetched cycle ≡ false → moved_on cycle number (p ∷ ps) (n ∷ now) ≡ squashed_in cycle p ∷ moved_on cycle number ps (n ∷ now)
-  moved_on-squashed p ps n now is now_fetched = rw (is, now_fetched) refl
+  pub stands-left : (n : Passage) (now : List Passage) → is_in_flight p ≡ true → nat_lt n.fetched cycle ≡ true → left_after cycle (n ∷ now) p ≡ now
+  stands-left n now flies before = rw (flies, before) refl
+
+  pub squashed-moved : (n : Passage) (now : List Passage) → is_in_flight p ≡ true → nat_lt n.fetched cycle ≡ false → moved cycle older (n ∷ now) p ≡ squashed_in cycle p
+  squashed-moved n now flies later = rw (flies, later) refl
+
+  pub squashed-left : (n : Passage) (now : List Passage) → is_in_flight p ≡ true → nat_lt n.fetched cycle ≡ false → left_after cycle (n ∷ now) p ≡ n ∷ now
+  squashed-left n now flies later = rw (flies, later) refl
+
+  pub gone-moved : is_in_flight p ≡ true → moved cycle older [] p ≡ squashed_in cycle p
+  gone-moved flies = rw flies refl
+
+  pub gone-left : is_in_flight p ≡ true → left_after cycle [] p ≡ []
+  gone-left flies = rw flies refl
 
 -- one more passage is moved on, where those before it are
 module _ (cycle : ℕ) (old now rows rows' : List Passage) (place next next' : ℕ) (p : Passage) (within : place < length rows) (read : p ≡ get_or rows place p)
-    (moved : (number : ℕ) → moved_on cycle number old now ≡ take place rows ++ moved_on cycle number (drop place rows) (drop next now)) where
+    (goes : (number : ℕ) → moved_on cycle number [] old now ≡ take place rows ++ moved_on cycle number (take place rows) (drop place rows) (drop next now)) where
   abbrev rest : List Passage
   rest = drop (place + 1) rows
 
   abbrev Moved : Type 0
-  Moved = (number : ℕ) → moved_on cycle number old now ≡ take (place + 1) rows' ++ moved_on cycle number (drop (place + 1) rows') (drop next' now)
+  Moved = (number : ℕ) → moved_on cycle number [] old now ≡ take (place + 1) rows' ++ moved_on cycle number (take (place + 1) rows') (drop (place + 1) rows') (drop next' now)
 
   here : drop place rows ≡ p ∷ rest
   here = drop_more rows place p within ∙ ap (λ q. q ∷ rest) (sym read)
 
   moved-to : (q : Passage) → take (place + 1) rows' ≡ take place rows ++ q ∷ [] → drop (place + 1) rows' ≡ rest
-      → ((number : ℕ) → moved_on cycle number (p ∷ rest) (drop next now) ≡ q ∷ moved_on cycle number rest (drop next' now)) → Moved
-  moved-to q front behind goes number =
-      moved number
-      ∙ ap (λ ps. take place rows ++ moved_on cycle number ps (drop next now)) here
-      ∙ ap (λ ps. take place rows ++ ps) (goes number)
-      ∙ sym (append_assoc (take place rows) (q ∷ []) (moved_on cycle number rest (drop next' now)))
-      ∙ (λ i. sym front i ++ moved_on cycle number (sym behind i) (drop next' now))
+      → moved cycle (take place rows) (drop next now) p ≡ q → left_after cycle (drop next now) p ≡ drop next' now → Moved
+  moved-to q front behind becomes left number =
+      goes number
+      ∙ ap (λ ps. take place rows ++ moved_on cycle number (take place rows) ps (drop next now)) here
+      ∙ (λ i. take place rows ++ becomes i ∷ moved_on cycle number (take place rows ++ becomes i ∷ []) rest (left i))
+      ∙ sym (append_assoc (take place rows) (q ∷ []) (moved_on cycle number (take place rows ++ q ∷ []) rest (drop next' now)))
+      ∙ (λ i. sym front i ++ moved_on cycle number (sym front i) (sym behind i) (drop next' now))
 
   moved-set : (q : Passage) → rows' ≡ set rows place q
-      → ((number : ℕ) → moved_on cycle number (p ∷ rest) (drop next now) ≡ q ∷ moved_on cycle number rest (drop next' now)) → Moved
-  moved-set q is goes =
-      moved-to q (ap (take (place + 1)) is ∙ take_more_set rows place q within) (ap (drop (place + 1)) is ∙ drop-set-lt (place + 1) rows place q (omega arith)) goes
+      → moved cycle (take place rows) (drop next now) p ≡ q → left_after cycle (drop next now) p ≡ drop next' now → Moved
+  moved-set q is becomes left =
+      moved-to q (ap (take (place + 1)) is ∙ take_more_set rows place q within) (ap (drop (place + 1)) is ∙ drop-set-lt (place + 1) rows place q (omega arith)) becomes left
 
   pub moved-ended : is_in_flight p ≡ false → rows' ≡ rows → next' ≡ next → Moved
   moved-ended ended same stays =
       moved-to p (ap (take (place + 1)) same ∙ take_more rows place p within ∙ ap (λ q. take place rows ++ q ∷ []) (sym read)) (ap (drop (place + 1)) same)
-      (λ number. moved_on-ended cycle number p rest (drop next now) ended ∙ ap (λ k. p ∷ moved_on cycle number rest (drop k now)) (sym stays))
+      (stays-moved cycle (take place rows) p (drop next now) ended) (stays-left cycle (take place rows) p (drop next now) ended ∙ ap (λ k. drop k now) (sym stays))
 
-  pub moved-standing : (n q : Passage) → is_in_flight p ≡ true → slice_get now next ≡ Some n → n.fetched < cycle → q ≡ standing_at n p → rows' ≡ set rows place q → next' ≡ next + 1 → Moved
-  moved-standing n q flies there before is set_is goes =
-      moved-set q set_is (λ number.
-      ap (moved_on cycle number (p ∷ rest)) (drop-at now next n there)
-      ∙ moved_on-standing cycle number p rest n (drop (next + 1) now) flies (lt-ltb n.fetched cycle before)
-      ∙ (λ i. sym is i ∷ moved_on cycle number rest (drop (sym goes i) now)))
+  pub moved-standing : (n q : Passage) → is_in_flight p ≡ true → slice_get now next ≡ Some n → n.fetched < cycle → q ≡ standing_at (take place rows) n p → rows' ≡ set rows place q → next' ≡ next + 1 → Moved
+  moved-standing n q flies there before is set_is one_on =
+      let first = drop-at now next n there in
+      let earlier = lt-ltb n.fetched cycle before in
+      moved-set q set_is
+      (ap (λ l. moved cycle (take place rows) l p) first ∙ stands-moved cycle (take place rows) p n (drop (next + 1) now) flies earlier ∙ sym is)
+      (ap (λ l. left_after cycle l p) first ∙ stands-left cycle (take place rows) p n (drop (next + 1) now) flies earlier ∙ ap (λ k. drop k now) (sym one_on))
 
   pub moved-squashed : (n q : Passage) → is_in_flight p ≡ true → slice_get now next ≡ Some n → cycle ≤ n.fetched → q ≡ squashed_in cycle p → rows' ≡ set rows place q → next' ≡ next → Moved
   moved-squashed n q flies there later is set_is stays =
-      moved-set q set_is (λ number.
-      ap (moved_on cycle number (p ∷ rest)) (drop-at now next n there)
-      ∙ moved_on-squashed cycle number p rest n (drop (next + 1) now) flies (le-ltb n.fetched cycle later)
-      ∙ ap (λ l. squashed_in cycle p ∷ moved_on cycle number rest l) (sym (drop-at now next n there))
-      ∙ (λ i. sym is i ∷ moved_on cycle number rest (drop (sym stays i) now)))
+      let first = drop-at now next n there in
+      let not_before = le-ltb n.fetched cycle later in
+      moved-set q set_is
+      (ap (λ l. moved cycle (take place rows) l p) first ∙ squashed-moved cycle (take place rows) p n (drop (next + 1) now) flies not_before ∙ sym is)
+      (ap (λ l. left_after cycle l p) first ∙ squashed-left cycle (take place rows) p n (drop (next + 1) now) flies not_before ∙ sym first ∙ ap (λ k. drop k now) (sym stays))
 
   pub moved-gone : (q : Passage) → is_in_flight p ≡ true → slice_get now next ≡ None → q ≡ squashed_in cycle p → rows' ≡ set rows place q → next' ≡ next → Moved
   moved-gone q flies none is set_is stays =
-      moved-set q set_is (λ number.
-      ap (moved_on cycle number (p ∷ rest)) (drop-none now next none)
-      ∙ moved_on-none cycle number p rest flies
-      ∙ ap (λ l. squashed_in cycle p ∷ moved_on cycle number rest l) (sym (drop-none now next none))
-      ∙ (λ i. sym is i ∷ moved_on cycle number rest (drop (sym stays i) now)))
+      let nothing = drop-none now next none in
+      moved-set q set_is
+      (ap (λ l. moved cycle (take place rows) l p) nothing ∙ gone-moved cycle (take place rows) p flies ∙ sym is)
+      (ap (λ l. left_after cycle l p) nothing ∙ gone-left cycle (take place rows) p flies ∙ sym nothing ∙ ap (λ k. drop k now) (sym stays))
 
 -- one more instruction is numbered and appended
 pub numbered-more : (now rows rows' : List Passage) (place fetched fetched' : ℕ) (n q : Passage) → slice_get now place ≡ Some n → q ≡ numbered fetched n → rows' ≡ rows ++ q ∷ [] → fetched' ≡ fetched + 1
@@ -140,31 +155,32 @@ pub record IsWithin (count : ℕ) (old new : Passages) : Type 0 where
   pub fetched : new.fetched ≡ old.fetched
   pub retired : new.retired ≤ old.retired + count
 
-step-within : (s : Step) (t : Passages) → IsWithin 1 t (with_step s t)
-step-within (step.Retired row) t = record {
-  rows = length-with_oldest (retired_by row t.retired) t.rows;
+-- what one step changes at most
+pub step-within : (s : Step) (next : ℕ) (t : Passages) → IsWithin 1 t (with_step s next t)
+step-within (step.Retired row) next t = record {
+  rows = length-with_oldest (retired_by row t.retired next) t.rows;
   interrupts = omega arith;
   fetched = refl;
   retired = omega arith;
 }
-step-within (step.Trap pc cause value cycle) t = record {
+step-within (step.Trap pc cause value cycle) next t = record {
   rows = length-with_oldest (trapped_by cause cycle) t.rows;
   interrupts = omega arith;
   fetched = refl;
   retired = omega arith;
 }
-step-within (step.Interrupt pc cause cycle) t = record {
+step-within (step.Interrupt pc cause cycle) next t = record {
   rows = refl;
   interrupts = omega (arith, length-append t.interrupts (cycle ∷ []));
   fetched = refl;
   retired = omega arith;
 }
 
-pub steps-within : (steps : List Step) (t : Passages) → IsWithin (length steps) t (with_steps steps t)
-steps-within [] t = record { rows = refl; interrupts = omega arith; fetched = refl; retired = omega arith }
-steps-within (s ∷ ss) t =
-    let first = step-within s t in
-    let rest = steps-within ss (with_step s t) in
+pub steps-within : (steps : List Step) (next : ℕ) (t : Passages) → IsWithin (length steps) t (with_steps steps next t)
+steps-within [] next t = record { rows = refl; interrupts = omega arith; fetched = refl; retired = omega arith }
+steps-within (s ∷ ss) next t =
+    let first = step-within s (first_pc ss next) t in
+    let rest = steps-within ss next (with_step s (first_pc ss next) t) in
     record {
       rows = rest.rows ∙ first.rows;
       interrupts = omega (arith, first.interrupts, rest.interrupts);
@@ -172,28 +188,30 @@ steps-within (s ∷ ss) t =
       retired = omega (arith, first.retired, rest.retired);
     }
 
--- one more step is taken
-with_steps-push : (steps : List Step) (s : Step) (t : Passages) → with_steps (steps ++ s ∷ []) t ≡ with_step s (with_steps steps t)
-with_steps-push [] s t = refl
-with_steps-push (x ∷ steps) s t = with_steps-push steps s (with_step x t)
+-- the step at a place comes first of those that are left
+pub with_steps-next : (steps : List Step) (place next : ℕ) (s : Step) (t : Passages) → place < length steps → s ≡ get_or steps place s
+    → with_steps (drop place steps) next t ≡ with_steps (drop (place + 1) steps) next (with_step s (first_pc (drop (place + 1) steps) next) t)
+with_steps-next steps place next s t within read =
+    ap (λ l. with_steps l next t) (drop_more steps place s within ∙ ap (λ x. x ∷ drop (place + 1) steps) (sym read))
 
-pub with_steps-more : (steps : List Step) (place : ℕ) (s : Step) (t : Passages) → place < length steps → s ≡ get_or steps place s → with_step s (with_steps (take place steps) t) ≡ with_steps (take (place + 1) steps) t
-with_steps-more steps place s t within read =
-    sym (with_steps-push (take place steps) s t)
-    ∙ ap (λ x. with_steps (take place steps ++ x ∷ []) t) read
-    ∙ ap (λ l. with_steps l t) (sym (take_more steps place s within))
+-- where the program goes on before the steps from a place on
+pub first_pc-at : (steps : List Step) (place next : ℕ) (s : Step) → slice_get steps place ≡ Some s → first_pc (drop place steps) next ≡ pc_of s
+first_pc-at steps place next s is = ap (λ l. first_pc l next) (drop-at steps place s is)
+
+pub first_pc-none : (steps : List Step) (place next : ℕ) → slice_get steps place ≡ None → first_pc (drop place steps) next ≡ next
+first_pc-none steps place next none = ap (λ l. first_pc l next) (drop-none steps place none)
 
 pub length-numbered_from : (number : ℕ) (ps : List Passage) → length (numbered_from number ps) ≡ length ps
 length-numbered_from number [] = refl
 length-numbered_from number (p ∷ ps) = ap suc (length-numbered_from (number + 1) ps)
 
 -- The end of a cycle, where the rows are moved on and those that were fetched in it stand after.
-pub ended-with : (cycle : ℕ) (now : List Passage) (middle after : Passages) (kept added : List Passage) → ((number : ℕ) → moved_on cycle number middle.rows now ≡ kept ++ numbered_from number added) → length kept ≡ length middle.rows
+pub ended-with : (cycle : ℕ) (now : List Passage) (middle after : Passages) (kept added : List Passage) → ((number : ℕ) → moved_on cycle number [] middle.rows now ≡ kept ++ numbered_from number added) → length kept ≡ length middle.rows
     → after.rows ≡ kept ++ numbered_from middle.fetched added → after.interrupts ≡ middle.interrupts → after.fetched ≡ middle.fetched + length added → after.retired ≡ middle.retired → after ≡ at_the_end cycle now middle
-ended-with cycle now middle after kept added moved same rows interrupts fetched retired =
-    let rows_are : after.rows ≡ moved_on cycle middle.fetched middle.rows now = rows ∙ sym (moved middle.fetched) in
-    let more = ap length (moved middle.fetched) in
-    let count : length (moved_on cycle middle.fetched middle.rows now) - length middle.rows ≡ length added =
+ended-with cycle now middle after kept added goes same rows interrupts fetched retired =
+    let rows_are : after.rows ≡ moved_on cycle middle.fetched [] middle.rows now = rows ∙ sym (goes middle.fetched) in
+    let more = ap length (goes middle.fetched) in
+    let count : length (moved_on cycle middle.fetched [] middle.rows now) - length middle.rows ≡ length added =
     omega (arith, more, same, length-append kept (numbered_from middle.fetched added), length-numbered_from middle.fetched added) in
     λ i. record {
       rows = rows_are i;
@@ -220,19 +238,36 @@ open-numbered number (p ∷ ps) =
 open_same : (ps qs : List Passage) (count : ℕ) → ps ≡ qs → length (filter is_in_flight qs) ≤ count → length (filter is_in_flight ps) ≤ count
 open_same ps qs count same few = subst (λ (l : List Passage). length (filter is_in_flight l) ≤ count) (sym same) few
 
-pub open-moved : (cycle number : ℕ) (ps now : List Passage) → length (filter is_in_flight (moved_on cycle number ps now)) ≤ length now
-open-moved cycle number [] now = open-numbered number now
-open-moved cycle number (p ∷ ps) [] =
-    let rest = open-moved cycle number ps [] in
+open_behind : (cycle number : ℕ) (older now : List Passage) (p q : Passage) (ps left : List Passage) (count : ℕ) → moved cycle older now p ≡ q → left_after cycle now p ≡ left
+    → length (filter is_in_flight (q ∷ moved_on cycle number (older ++ q ∷ []) ps left)) ≤ count → length (filter is_in_flight (moved_on cycle number older (p ∷ ps) now)) ≤ count
+open_behind cycle number older now p q ps left count becomes leaves few =
+    open_same _ _ count (λ i. becomes i ∷ moved_on cycle number (older ++ becomes i ∷ []) ps (leaves i)) few
+
+pub open-moved : (cycle number : ℕ) (older ps now : List Passage) → length (filter is_in_flight (moved_on cycle number older ps now)) ≤ length now
+open-moved cycle number older [] now = open-numbered number now
+open-moved cycle number older (p ∷ ps) [] =
     elim (cases_Bool (is_in_flight p)) [
-      | inl flies ↦ open_same _ _ 0 (moved_on-none cycle number p ps flies) (open_past (squashed_in cycle p) (moved_on cycle number ps []) 0 refl rest)
-      | inr ended ↦ open_same _ _ 0 (moved_on-ended cycle number p ps [] ended) (open_past p (moved_on cycle number ps []) 0 ended rest)
+      | inl flies ↦
+          let q = squashed_in cycle p in
+          open_behind cycle number older [] p q ps [] 0 (gone-moved cycle older p flies) (gone-left cycle older p flies)
+          (open_past q (moved_on cycle number (older ++ q ∷ []) ps []) 0 refl (open-moved cycle number (older ++ q ∷ []) ps []))
+      | inr ended ↦
+          open_behind cycle number older [] p p ps [] 0 (stays-moved cycle older p [] ended) (stays-left cycle older p [] ended)
+          (open_past p (moved_on cycle number (older ++ p ∷ []) ps []) 0 ended (open-moved cycle number (older ++ p ∷ []) ps []))
     ]
-open-moved cycle number (p ∷ ps) (n ∷ now) =
+open-moved cycle number older (p ∷ ps) (n ∷ now) =
     elim (cases_Bool (is_in_flight p)) [
       | inl flies ↦ elim (cases_Bool (nat_lt n.fetched cycle)) [
-        | inl before ↦ open_same _ _ _ (moved_on-standing cycle number p ps n now flies before) (omega (arith, open_here (standing_at n p) (moved_on cycle number ps now), open-moved cycle number ps now))
-        | inr later ↦ open_same _ _ _ (moved_on-squashed cycle number p ps n now flies later) (open_past (squashed_in cycle p) (moved_on cycle number ps (n ∷ now)) (length (n ∷ now)) refl (open-moved cycle number ps (n ∷ now)))
+        | inl before ↦
+            let q = standing_at older n p in
+            open_behind cycle number older (n ∷ now) p q ps now _ (stands-moved cycle older p n now flies before) (stands-left cycle older p n now flies before)
+            (omega (arith, open_here q (moved_on cycle number (older ++ q ∷ []) ps now), open-moved cycle number (older ++ q ∷ []) ps now))
+        | inr later ↦
+            let q = squashed_in cycle p in
+            open_behind cycle number older (n ∷ now) p q ps (n ∷ now) _ (squashed-moved cycle older p n now flies later) (squashed-left cycle older p n now flies later)
+            (open_past q (moved_on cycle number (older ++ q ∷ []) ps (n ∷ now)) (length (n ∷ now)) refl (open-moved cycle number (older ++ q ∷ []) ps (n ∷ now)))
       ]
-      | inr ended ↦ open_same _ _ _ (moved_on-ended cycle number p ps (n ∷ now) ended) (open_past p (moved_on cycle number ps (n ∷ now)) (length (n ∷ now)) ended (open-moved cycle number ps (n ∷ now)))
+      | inr ended ↦
+          open_behind cycle number older (n ∷ now) p p ps (n ∷ now) _ (stays-moved cycle older p (n ∷ now) ended) (stays-left cycle older p (n ∷ now) ended)
+          (open_past p (moved_on cycle number (older ++ p ∷ []) ps (n ∷ now)) (length (n ∷ now)) ended (open-moved cycle number (older ++ p ∷ []) ps (n ∷ now)))
     ]

@@ -2,26 +2,28 @@
 use Rattle.std.specs.Prelude.{ℕ, Bool, true, false, List, ◌++◌, map, Option, Some, None}
 use Rattle.std.specs.Option.{option_map}
 use Rattle.rv_isa.specs.declared.{causes.Cause.Cause, issues.Issue.Issue}
+use Rattle.rv_front.specs.FetchBuffer.{FetchBuffer}
 use Rattle.rv_front.specs.declared.fetched.Fetched.{Fetched}
 use Rattle.rv_rob.specs.Entry.{issue_of}
+use Rattle.rv_rob.specs.ReorderBuffer.{ReorderBuffer}
 use Rattle.rv_rob.specs.declared.entry.{Entry.Entry, Stage.Stage}
 use Rattle.rv_hardware.specs.Hardware.{Hardware}
 use Rattle.rv_hardware.specs.Retirement.{execution_of}
 use Rattle.rv_hardware.specs.declared.step.{Execution.Execution, Row.Row}
-use Rattle.rv_passage.specs.declared.passage.{Ending.Ending, Passage.Passage}
+use Rattle.rv_passage.specs.declared.{passage.Ending.Ending, passage.Passage.Passage, producers.Producers.Producers}
 use Rattle.rv_passage.specs.declared.passage.Ending.TheVariants as ending
 
 -- the instruction is in flight
 abbrev pub is_running : Ending → Bool
 is_running ending.InFlight = true
-is_running (ending.Retired order cycle written) = false
+is_running (ending.Retired order cycle written next) = false
 is_running (ending.Trapped cycle cause) = false
 is_running (ending.Squashed cycle) = false
 
 -- the cycle in which it left the hardware, if it did
 abbrev pub left_in : Ending → Option ℕ
 left_in ending.InFlight = None
-left_in (ending.Retired order cycle written) = Some cycle
+left_in (ending.Retired order cycle written next) = Some cycle
 left_in (ending.Trapped cycle cause) = Some cycle
 left_in (ending.Squashed cycle) = Some cycle
 
@@ -33,14 +35,25 @@ is_in_flight p = is_running p.ending
 abbrev pub broadcast_of : Stage → Option ℕ
 broadcast_of stage = option_map (λ (execution : Execution). execution.broadcast) (execution_of stage)
 
--- an instruction in the reorder buffer; a table gives it its number
+-- no result is waited for
+abbrev pub nothing_awaited : Producers
+nothing_awaited = record { first = None; second = None }
+
+-- the pc that was predicted after a word; where there is no word, nothing was
+abbrev pub prediction_after : Option ℕ → ℕ → Option ℕ
+prediction_after word next = option_map (λ (_ : ℕ). next) word
+
+-- an instruction in the reorder buffer; a table gives it its number, its first prediction and its producers
 abbrev pub of_entry : Entry → Passage
 of_entry e = record {
   number = 0;
   pc = e.pc;
   word = e.word;
+  instruction = e.instruction;
+  predicted = prediction_after e.word e.predicted_next;
   fetched = e.fetched;
   dispatched = Some e.dispatched;
+  producers = nothing_awaited;
   issue = issue_of e.stage;
   broadcast = broadcast_of e.stage;
   ending = ending.InFlight;
@@ -52,32 +65,42 @@ of_fetched f = record {
   number = 0;
   pc = f.pc;
   word = f.word;
+  instruction = f.instruction;
+  predicted = prediction_after f.word f.predicted;
   fetched = f.cycle;
   dispatched = None;
+  producers = nothing_awaited;
   issue = None;
   broadcast = None;
   ending = ending.InFlight;
 }
 
 -- all that is in flight, oldest first
+abbrev pub in_buffers : ReorderBuffer → FetchBuffer → List Passage
+in_buffers rob front = map of_entry rob.entries ++ map of_fetched front.entries
+
+-- that of the hardware
 abbrev pub in_flight : Hardware → List Passage
-in_flight h = map of_entry h.rob.entries ++ map of_fetched h.front.entries
+in_flight h = in_buffers h.rob h.front
 
 -- the start of an execution
 abbrev pub start_of : Execution → Issue
 start_of execution = record { cycle = execution.issued; cost = execution.cost }
 
--- it retired, so many before it, as its row reports
-abbrev pub retired_by : Row → ℕ → Passage → Passage
-retired_by row order p = record {
+-- it retired, so many before it, as its row reports, and the program went on at `next`
+abbrev pub retired_by : Row → ℕ → ℕ → Passage → Passage
+retired_by row order next p = record {
   number = p.number;
   pc = row.pc;
   word = Some row.word;
+  instruction = p.instruction;
+  predicted = p.predicted;
   fetched = row.fetched;
   dispatched = Some row.dispatched;
+  producers = p.producers;
   issue = option_map start_of row.execution;
   broadcast = option_map (λ (execution : Execution). execution.broadcast) row.execution;
-  ending = ending.Retired order row.retired row.written;
+  ending = ending.Retired order row.retired row.written next;
 }
 
 -- it trapped in a cycle
@@ -91,7 +114,3 @@ squashed_in cycle p = record p { ending = ending.Squashed cycle }
 -- the same passage under a number
 abbrev pub numbered : ℕ → Passage → Passage
 numbered number p = record p { number = number }
-
--- it goes on as it stands now, under its number
-abbrev pub standing_at : Passage → Passage → Passage
-standing_at now p = numbered p.number now

@@ -1,45 +1,45 @@
 ghost use Rattle.std.specs.Prelude.{◌≡◌, ◌≤◌, ◌<◌, Some, length, slice_get};
-ghost use Rattle.rv_passage.specs.Passage.{in_flight};
+ghost use Rattle.rv_passage.specs.Passage.{in_buffers};
+ghost use Rattle.rv_passage.specs.Table.{AreShort};
 
 use crate::passage::Passage;
-use rv_core::Pipeline;
+use rv_front::Front;
+use rv_rob::Rob;
 
 /// The most instructions that can be in flight: the longest reorder buffer's and the longest fetch buffer's.
 pub const MOST_IN_FLIGHT: usize = 288;
 
 // How many instructions are in flight.
-pub(crate) fn count_in_flight(pipeline: &Pipeline) -> usize
-    ensures count { result ≡ length (in_flight pipeline.now) }
+pub(crate) fn count_in_flight(rob: &Rob, front: &Front) -> usize
+    requires { AreShort rob.now front.now }
+    ensures count { result ≡ length (in_buffers rob.now front.now) }
     ensures few { result ≤ 288 }
 {
-    // Of hardware that a reset and cycles lead to, the buffers are as long as described.
-    let _ = pipeline.cycles_done();
-    pipeline.reorder_buffer().len() + pipeline.front().len()
+    rob.len() + front.len()
 }
 
 // The instruction at a place among those in flight, the oldest at place 0. A table gives it its number.
-pub(crate) fn passage_at(pipeline: &Pipeline, place: usize) -> Option<Passage>
-    ensures { result ≡ slice_get (in_flight pipeline.now) place }
+pub(crate) fn passage_at(rob: &Rob, front: &Front, place: usize) -> Option<Passage>
+    ensures { result ≡ slice_get (in_buffers rob.now front.now) place }
 {
-    let buffer = pipeline.reorder_buffer();
-    let dispatched = buffer.len();
+    let dispatched = rob.len();
     if place < dispatched {
         let behind = dispatched - place;
-        let number = buffer.next_number() - behind as u64;
-        let entry = buffer.get(number)?;
+        let number = rob.next_number() - behind as u64;
+        let entry = rob.get(number)?;
         Some(Passage::of_entry(entry))
     } else {
-        let word = pipeline.front().get(place - dispatched)?;
+        let word = front.get(place - dispatched)?;
         Some(Passage::of_fetched(word))
     }
 }
 
 // The instruction at a place that there is.
-pub(crate) fn present_at(pipeline: &Pipeline, place: usize) -> Passage
-    requires { place < length (in_flight pipeline.now) }
-    ensures { slice_get (in_flight pipeline.now) place ≡ Some result }
+pub(crate) fn present_at(rob: &Rob, front: &Front, place: usize) -> Passage
+    requires { place < length (in_buffers rob.now front.now) }
+    ensures { slice_get (in_buffers rob.now front.now) place ≡ Some result }
 {
-    match passage_at(pipeline, place) {
+    match passage_at(rob, front, place) {
         Some(passage) => passage,
         None => unreachable!(),
     }

@@ -6,10 +6,12 @@
 mod in_flight;
 mod names;
 mod passage;
+mod producers;
 mod rows;
 mod table;
 
 pub use in_flight::MOST_IN_FLIGHT;
 pub use names::register_name;
 pub use passage::{Ending, Passage};
+pub use producers::{Producer, Producers};
 pub use table::Table;

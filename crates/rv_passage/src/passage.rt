@@ -1,9 +1,10 @@
 ghost use Rattle.std.specs.Prelude.{◌≡◌};
-ghost use Rattle.rv_passage.specs.Passage.{broadcast_of, start_of};
+ghost use Rattle.rv_passage.specs.Passage.{broadcast_of, prediction_after, start_of};
 
+use crate::producers::Producers;
 use rv_front::Fetched;
 use rv_hardware::{Execution, Row};
-use rv_isa::{Cause, Issue, Reg};
+use rv_isa::{Cause, Instr, Issue, Reg};
 use rv_rob::{Entry, Stage};
 
 /// How an instruction left the hardware, or that it did not yet.
@@ -16,6 +17,8 @@ pub enum Ending {
         order: u64,
         cycle: u64,
         written: Option<(Reg, u32)>,
+        /// Where the program went on.
+        next: u32,
     },
     /// It, or its fetch, trapped.
     Trapped {
@@ -30,6 +33,7 @@ pub enum Ending {
 
 impl Ending {
     ghost use Rattle.rv_passage.specs.Passage.{left_in};
+    ghost use Rattle.rv_passage.specs.Prediction.{next_of};
 
     /// The cycle in which the instruction left the hardware, if it did.
     pub fn left(self) -> Option<u64>
@@ -42,6 +46,16 @@ impl Ending {
             | Ending::Squashed { cycle } => Some(cycle),
         }
     }
+
+    /// Where the program went on after the instruction, if it retired.
+    pub fn next(self) -> Option<u32>
+        ensures { result ≡ next_of self }
+    {
+        match self {
+            Ending::Retired { next, .. } => Some(next),
+            Ending::InFlight | Ending::Trapped { .. } | Ending::Squashed { .. } => None,
+        }
+    }
 }
 
 /// A fetched instruction, and when it passed through the hardware.
@@ -52,10 +66,17 @@ pub struct Passage {
     pub pc: u32,
     /// What RAM held at the pc, None outside RAM.
     pub word: Option<u32>,
+    /// The instruction that the word is, None where there is no word or it is illegal.
+    pub instruction: Option<Instr>,
+    /// The pc that was predicted at its fetch to come next, None where there was no word. Of what was dispatched before the
+    /// table began, the one that held then.
+    pub predicted: Option<u32>,
     /// The cycle of its fetch.
     pub fetched: u64,
     /// The cycle of its dispatch.
     pub dispatched: Option<u64>,
+    /// Whose results it waits for; none where it was dispatched before the table began.
+    pub producers: Producers,
     /// The start of its execution; None, too, where it uses no unit.
     pub issue: Option<Issue>,
     /// The cycle of its broadcast; None, too, where it uses no unit.
@@ -77,6 +98,13 @@ fn broadcast_of(stage: &Stage) -> Option<u64>
     }
 }
 
+// The pc that was predicted after a word.
+fn prediction_after(word: Option<u32>, next: u32) -> Option<u32>
+    ensures { result ≡ prediction_after word next }
+{
+    word.map(|_| next)
+}
+
 // The start of an execution.
 fn start_of(execution: Execution) -> Issue
     ensures { result ≡ start_of execution }
@@ -88,7 +116,8 @@ fn start_of(execution: Execution) -> Issue
 }
 
 impl Passage {
-    ghost use Rattle.rv_passage.specs.Passage.{is_in_flight, of_entry, of_fetched, retired_by, trapped_by, squashed_in, standing_at};
+    ghost use Rattle.rv_passage.specs.Passage.{is_in_flight, of_entry, of_fetched, retired_by, trapped_by, squashed_in};
+    ghost use Rattle.rv_passage.specs.Prediction.{is_mispredicted};
     ghost use Rattle.rv_passage.specs.Result.{has_come, issued_in, ready_in, waits_for_bus};
 
     /// Whether the instruction did not leave the hardware yet.
@@ -111,6 +140,16 @@ impl Passage {
     {
         self.issue
             .map(|issue| u128::from(issue.cycle) + u128::from(issue.cost))
+    }
+
+    /// Whether it retired, and the program did not go on where that was predicted at its fetch.
+    pub fn is_mispredicted(&self) -> bool
+        ensures { result ≡ is_mispredicted self.now }
+    {
+        match (self.predicted, self.ending.next()) {
+            (Some(predicted), Some(next)) => next != predicted,
+            _ => false,
+        }
     }
 
     // Whether its result can be broadcast in a cycle.
@@ -141,8 +180,11 @@ impl Passage {
             number: 0,
             pc: entry.pc,
             word: entry.word,
+            instruction: entry.instruction,
+            predicted: prediction_after(entry.word, entry.predicted_next),
             fetched: entry.fetched,
             dispatched: Some(entry.dispatched),
+            producers: Producers::NONE,
             issue: entry.stage.issue(),
             broadcast: broadcast_of(&entry.stage),
             ending: Ending::InFlight,
@@ -157,19 +199,21 @@ impl Passage {
             number: 0,
             pc: fetched.pc,
             word: fetched.word,
+            instruction: fetched.instruction,
+            predicted: prediction_after(fetched.word, fetched.predicted),
             fetched: fetched.cycle,
             dispatched: None,
+            producers: Producers::NONE,
             issue: None,
             broadcast: None,
             ending: Ending::InFlight,
         }
     }
 
-    pub(crate) fn retired_by(self, row: &Row, order: u64) -> Passage
-        ensures { result ≡ retired_by row.now order self }
+    pub(crate) fn retired_by(self, row: &Row, order: u64, next: u32) -> Passage
+        ensures { result ≡ retired_by row.now order next self }
     {
         Passage {
-            number: self.number,
             pc: row.pc,
             word: Some(row.word),
             fetched: row.fetched,
@@ -180,7 +224,9 @@ impl Passage {
                 order,
                 cycle: row.retired,
                 written: row.written,
+                next,
             },
+            ..self
         }
     }
 
@@ -199,16 +245,6 @@ impl Passage {
         Passage {
             ending: Ending::Squashed { cycle },
             ..self
-        }
-    }
-
-    // The instruction as it stands at the end of a cycle.
-    pub(crate) fn standing_at(self, now: Passage) -> Passage
-        ensures { result ≡ standing_at now self }
-    {
-        Passage {
-            number: self.number,
-            ..now
         }
     }
 }

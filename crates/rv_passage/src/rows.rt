@@ -1,13 +1,14 @@
-ghost use Rattle.std.specs.Prelude.{◌≡◌, ◌++◌, ℕ, drop};
+ghost use Rattle.std.specs.Prelude.{◌≡◌, ◌++◌, ℕ, [], drop};
 ghost use Rattle.std.specs.List.{position};
-ghost use Rattle.rv_passage.specs.Passage.{in_flight, is_in_flight, retired_by, trapped_by};
+ghost use Rattle.rv_passage.specs.Passage.{in_buffers, is_in_flight, retired_by, trapped_by};
 ghost use Rattle.rv_passage.specs.Table.{moved_on, numbered_from, with_oldest};
 
 use crate::in_flight::passage_at;
 use crate::passage::Passage;
-use rv_core::Pipeline;
+use rv_front::Front;
 use rv_hardware::Row;
 use rv_isa::Cause;
+use rv_rob::Rob;
 
 // The place of the oldest instruction in flight.
 fn oldest_in_flight(rows: &[Passage]) -> Option<usize>
@@ -16,12 +17,12 @@ fn oldest_in_flight(rows: &[Passage]) -> Option<usize>
     rows.iter().position(|row| row.is_in_flight())
 }
 
-// The oldest in flight, if one is, retires as its row reports, so many before it.
-pub(crate) fn retire_oldest(rows: &mut [Passage], row: &Row, order: u64)
-    ensures { rows.new ≡ with_oldest (retired_by row.now order) rows.old }
+// The oldest in flight, if one is, retires as its row reports, so many before it, and the program goes on at `next`.
+pub(crate) fn retire_oldest(rows: &mut [Passage], row: &Row, order: u64, next: u32)
+    ensures { rows.new ≡ with_oldest (retired_by row.now order next) rows.old }
 {
     if let Some(place) = oldest_in_flight(rows) {
-        rows[place] = rows[place].retired_by(row, order);
+        rows[place] = rows[place].retired_by(row, order, next);
     }
 }
 
@@ -36,16 +37,16 @@ pub(crate) fn trap_oldest(rows: &mut [Passage], cause: Cause, cycle: u64)
 
 // What was in flight before a cycle goes on as it stands at the cycle's end, or was squashed in it. Answers the place of the
 // first that was fetched in the cycle, among those in flight.
-pub(crate) fn move_on(rows: &mut [Passage], cycle: u64, pipeline: &Pipeline) -> usize
-    ensures { (number : ℕ) → moved_on cycle number rows.old (in_flight pipeline.now) ≡ rows.new ++ numbered_from number (drop result (in_flight pipeline.now)) }
+pub(crate) fn move_on(rows: &mut [Passage], cycle: u64, rob: &Rob, front: &Front) -> usize
+    ensures { (number : ℕ) → moved_on cycle number [] rows.old (in_buffers rob.now front.now) ≡ rows.new ++ numbered_from number (drop result (in_buffers rob.now front.now)) }
 {
     let mut next = 0;
     for place in 0..rows.len() {
         let row = rows[place];
         if row.is_in_flight() {
-            match passage_at(pipeline, next) {
+            match passage_at(rob, front, next) {
                 Some(now) if now.fetched < cycle => {
-                    rows[place] = row.standing_at(now);
+                    rows[place] = row.standing_at(&rows[..place], now);
                     next += 1;
                 }
                 _ => rows[place] = row.squashed_in(cycle),

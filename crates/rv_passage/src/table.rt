@@ -1,13 +1,35 @@
 ghost use Rattle.std.specs.Prelude.{◌≡◌, ℕ, ◌+◌, ◌≤◌, ◌<◌, ◌^◌, ◌++◌, [], ◌∷◌, drop, length, vec_capacity, IfOk};
-ghost use Rattle.rv_passage.specs.Passage.{in_flight, numbered};
-ghost use Rattle.rv_passage.specs.Table.{CanCount, HasRoom, after_cycle, moved_on, numbered_from, passages_of, still_open, table_at, with_step, with_steps};
+ghost use Rattle.rv_hardware.specs.Lessons.{first_pc};
+ghost use Rattle.rv_hardware.specs.Step.{pc_of};
+ghost use Rattle.rv_passage.specs.Passage.{in_buffers, numbered};
+ghost use Rattle.rv_passage.specs.Table.{AreShort, CanCount, HasRoom, after_steps, moved_on, numbered_from, passages_of, still_open, table_from, with_step, with_steps};
 
 use crate::in_flight::{MOST_IN_FLIGHT, count_in_flight, present_at};
 use crate::passage::Passage;
 use crate::rows::{move_on, retire_oldest, trap_oldest};
-use rv_core::Pipeline;
+use rv_front::Front;
 use rv_hardware::Step;
+use rv_rob::Rob;
 use std::alloc::{AllocError, Global};
+
+// Where the program goes on before the steps from a place on, after the last of which it goes on at `next`.
+fn first_pc(steps: &[Step], place: usize, next: u32) -> u32
+    ensures { result ≡ first_pc (drop place steps.now) next }
+{
+    match steps.get(place) {
+        Some(step) => pc_of(step),
+        None => next,
+    }
+}
+
+fn pc_of(step: &Step) -> u32
+    ensures { result ≡ pc_of step.now }
+{
+    match *step {
+        Step::Retired(row) => row.pc,
+        Step::Trap { pc, .. } | Step::Interrupt { pc, .. } => pc,
+    }
+}
 
 /// The passages of instructions in order of fetch, and the cycles of the interrupts.
 #[derive(Debug, Drop)]
@@ -20,9 +42,10 @@ pub struct Table {
 }
 
 impl Table {
-    /// A table that begins with what is in flight in a pipeline, numbered from 0. It has room for two cycles.
-    pub fn begin(alloc: Global, pipeline: &Pipeline) -> Result<Table, AllocError>
-        ensures table { IfOk result (λ table. passages_of table ≡ table_at pipeline.now) }
+    /// A table that begins with what is in flight in two buffers, numbered from 0. It has room for two cycles.
+    pub fn begin(alloc: Global, rob: &Rob, front: &Front) -> Result<Table, AllocError>
+        requires { AreShort rob.now front.now }
+        ensures table { IfOk result (λ table. passages_of table ≡ table_from (in_buffers rob.now front.now)) }
         ensures room { IfOk result HasRoom }
         ensures rows { IfOk result (λ table. 576 ≤ vec_capacity table.rows) }
         ensures interrupts { IfOk result (λ table. 8 ≤ vec_capacity table.interrupts) }
@@ -34,7 +57,7 @@ impl Table {
             fetched: 0,
             retired: 0,
         };
-        table.append_fetched(0, pipeline);
+        table.append_fetched(0, rob, front);
         Ok(table)
     }
 
@@ -61,58 +84,60 @@ impl Table {
         self.interrupts.reserve(8)
     }
 
-    /// Notes what a cycle did that had these steps and led to the hardware of a pipeline. Asks for no memory.
-    pub fn follow(&mut self, cycle: u64, steps: &[Step], pipeline: &Pipeline)
+    /// Notes what a cycle did that had these steps, and led to these buffers and to a pc, that of the oldest instruction that
+    /// is still to retire. Asks for no memory.
+    pub fn follow(&mut self, cycle: u64, steps: &[Step], rob: &Rob, front: &Front, pc: u32)
+        requires short { AreShort rob.now front.now }
         requires room { HasRoom self.old }
         requires countable { CanCount (passages_of self.old) }
         requires few { length steps.now ≤ 8 }
-        ensures followed { passages_of self.new ≡ after_cycle cycle steps.now pipeline.now (passages_of self.old) }
+        ensures followed { passages_of self.new ≡ after_steps cycle steps.now rob.now front.now pc (passages_of self.old) }
         ensures rows { vec_capacity self.old.rows ≤ vec_capacity self.new.rows }
         ensures interrupts { vec_capacity self.old.interrupts ≤ vec_capacity self.new.interrupts }
         ensures fetched { self.new.fetched ≤ self.old.fetched + 288 }
         ensures retired { self.new.retired ≤ self.old.retired + 8 }
         ensures open { length (still_open (passages_of self.new)).rows ≤ 288 }
     {
-        self.take_steps(steps);
-        let fetched = self.move_rows_on(cycle, pipeline);
-        self.append_fetched(fetched, pipeline);
+        self.take_steps(steps, pc);
+        let fetched = self.move_rows_on(cycle, rob, front);
+        self.append_fetched(fetched, rob, front);
     }
 
-    // Ends an instruction for each step, or notes an interrupt.
-    fn take_steps(&mut self, steps: &[Step])
+    // Ends an instruction for each step, or notes an interrupt. After the last the program goes on at `next`.
+    fn take_steps(&mut self, steps: &[Step], next: u32)
         requires countable { self.old.retired + 8 < 2 ^ 64 }
         requires room { length self.old.interrupts.items + 8 ≤ vec_capacity self.old.interrupts }
         requires few { length steps.now ≤ 8 }
-        ensures taken { passages_of self.new ≡ with_steps steps.now (passages_of self.old) }
+        ensures taken { passages_of self.new ≡ with_steps steps.now next (passages_of self.old) }
         ensures rows { vec_capacity self.old.rows ≤ vec_capacity self.new.rows }
         ensures interrupts { vec_capacity self.old.interrupts ≤ vec_capacity self.new.interrupts }
     {
-        for step in steps {
-            self.take_step(step);
+        for place in 0..steps.len() {
+            self.take_step(&steps[place], first_pc(steps, place + 1, next));
         }
     }
 
     // What was in flight before a cycle goes on, or was squashed in it.
-    fn move_rows_on(&mut self, cycle: u64, pipeline: &Pipeline) -> usize
-        ensures rows { (number : ℕ) → moved_on cycle number self.old.rows.items (in_flight pipeline.now) ≡ self.new.rows.items ++ numbered_from number (drop result (in_flight pipeline.now)) }
+    fn move_rows_on(&mut self, cycle: u64, rob: &Rob, front: &Front) -> usize
+        ensures rows { (number : ℕ) → moved_on cycle number [] self.old.rows.items (in_buffers rob.now front.now) ≡ self.new.rows.items ++ numbered_from number (drop result (in_buffers rob.now front.now)) }
         ensures len { length self.new.rows.items ≡ length self.old.rows.items }
         ensures others { (self.new.interrupts ≡ self.old.interrupts) × (self.new.fetched ≡ self.old.fetched) × (self.new.retired ≡ self.old.retired) }
         ensures capacity { vec_capacity self.new.rows ≡ vec_capacity self.old.rows }
     {
-        move_on(self.rows.as_mut_slice(), cycle, pipeline)
+        move_on(self.rows.as_mut_slice(), cycle, rob, front)
     }
 
-    // Ends the oldest instruction in flight by a step, or notes an interrupt.
-    fn take_step(&mut self, step: &Step)
+    // Ends the oldest instruction in flight by a step, after which the program goes on at `next`, or notes an interrupt.
+    fn take_step(&mut self, step: &Step, next: u32)
         requires countable { self.old.retired + 1 < 2 ^ 64 }
         requires room { length self.old.interrupts.items < vec_capacity self.old.interrupts }
-        ensures taken { passages_of self.new ≡ with_step step.now (passages_of self.old) }
+        ensures taken { passages_of self.new ≡ with_step step.now next (passages_of self.old) }
         ensures rows { vec_capacity self.old.rows ≤ vec_capacity self.new.rows }
         ensures interrupts { vec_capacity self.old.interrupts ≤ vec_capacity self.new.interrupts }
     {
         match *step {
             Step::Retired(row) => {
-                retire_oldest(self.rows.as_mut_slice(), &row, self.retired);
+                retire_oldest(self.rows.as_mut_slice(), &row, self.retired, next);
                 self.retired += 1;
             }
             Step::Trap { cause, cycle, .. } => {
@@ -123,17 +148,18 @@ impl Table {
     }
 
     // Numbers the instructions in flight from a place on, and appends them.
-    fn append_fetched(&mut self, from: usize, pipeline: &Pipeline)
+    fn append_fetched(&mut self, from: usize, rob: &Rob, front: &Front)
+        requires short { AreShort rob.now front.now }
         requires room { length self.old.rows.items + 288 ≤ vec_capacity self.old.rows }
         requires countable { self.old.fetched + 288 < 2 ^ 64 }
-        ensures rows { self.new.rows.items ≡ self.old.rows.items ++ numbered_from self.old.fetched (drop from (in_flight pipeline.now)) }
-        ensures fetched { self.new.fetched ≡ self.old.fetched + length (drop from (in_flight pipeline.now)) }
+        ensures rows { self.new.rows.items ≡ self.old.rows.items ++ numbered_from self.old.fetched (drop from (in_buffers rob.now front.now)) }
+        ensures fetched { self.new.fetched ≡ self.old.fetched + length (drop from (in_buffers rob.now front.now)) }
         ensures others { (self.new.interrupts ≡ self.old.interrupts) × (self.new.retired ≡ self.old.retired) }
         ensures capacity { vec_capacity self.old.rows ≤ vec_capacity self.new.rows }
-        ensures few { length (in_flight pipeline.now) ≤ 288 }
+        ensures few { length (in_buffers rob.now front.now) ≤ 288 }
     {
-        for place in from..count_in_flight(pipeline) {
-            self.append(present_at(pipeline, place));
+        for place in from..count_in_flight(rob, front) {
+            self.append(present_at(rob, front, place));
         }
     }
 

@@ -18,7 +18,7 @@ is_past cycle (Some stamp) = nat_lt stamp cycle
 
 -- what is shown in that cycle
 abbrev pub mark_of : Ending → Cell
-mark_of (Retired order cycle written) = cell.Retirement
+mark_of (Retired order cycle written next) = cell.Retirement
 mark_of (Trapped cycle cause) = cell.Trap
 mark_of (Squashed cycle) = cell.Squash
 mark_of InFlight = cell.DispatchWait

@@ -23,7 +23,7 @@ statement_of listing passage = take 32 (statement_at listing passage.pc passage.
 
 -- what an instruction wrote, if it retired
 abbrev pub written_by : Ending → Option (ℕ × ℕ)
-written_by (Retired order cycle written) = written
+written_by (Retired order cycle written next) = written
 written_by InFlight = None
 written_by (Trapped cycle cause) = None
 written_by (Squashed cycle) = None

@@ -80,7 +80,7 @@ box_at window passage column = box_of (cell_of passage (window.first + column)) 
 -- the class of a row says how its instruction ended
 unfoldable pub row_class : Ending → List ℕ
 row_class InFlight = codes "open"
-row_class (Retired order cycle written) = codes "done"
+row_class (Retired order cycle written next) = codes "done"
 row_class (Trapped cycle cause) = codes "trap"
 row_class (Squashed cycle) = codes "out"
 

@@ -1,9 +1,9 @@
-ghost use Rattle.std.specs.Prelude.{◌≡◌, ◌≤◌, List, Option, IfOk, OnErr, vec_capacity};
+ghost use Rattle.std.specs.Prelude.{◌≡◌, ◌≤◌, List, Option, IfOk, OnErr, length, vec_capacity};
 ghost use Rattle.rv_front.specs.declared.predictors.DescribedPredictor.{DescribedPredictor};
 ghost use Rattle.rv_hardware.specs.Guided.{GuidedCycles, guided};
 ghost use Rattle.rv_hardware.specs.Report.{Report};
 ghost use Rattle.rv_hardware.specs.Run.{IsStop};
-ghost use Rattle.rv_passage.specs.Table.{passages_of};
+ghost use Rattle.rv_passage.specs.Table.{passages_of, table_at};
 ghost use Rattle.rv_picture.specs.Recording.{HasRun, IsFollowed, IsOver, IsRecording, is_limit};
 
 use crate::window::Window;
@@ -68,7 +68,12 @@ impl Watcher for Follower {
     }
 
     fn see<W: Write>(&mut self, cycle: u64, steps: &[Step], pipeline: &Pipeline, _: &mut W) {
-        self.table.follow(cycle, steps, pipeline);
+        // Of hardware that a reset and cycles lead to, the buffers are as long as described.
+        let _ = pipeline.cycles_done();
+        let buffer = pipeline.reorder_buffer();
+        let pc = pipeline.observe().pc;
+        self.table
+            .follow(cycle, steps, buffer, pipeline.front(), pc);
     }
 }
 
@@ -97,6 +102,16 @@ fn run_on(
     }
 }
 
+// A table that begins with what is in flight in a pipeline.
+fn begin(alloc: Global, pipeline: &Pipeline) -> Result<Table, AllocError>
+    ensures table { IfOk result (λ table. passages_of table ≡ table_at pipeline.now) }
+    ensures few { IfOk result (λ table. length (passages_of table).rows ≤ 288) }
+{
+    // Of hardware that a reset and cycles lead to, the buffers are as long as described.
+    let _ = pipeline.cycles_done();
+    Table::begin(alloc, pipeline.reorder_buffer(), pipeline.front())
+}
+
 // Runs a pipeline that a predictor guides up to so many cycles, and follows its instructions through them.
 fn follow(
     alloc: Global,
@@ -110,7 +125,7 @@ fn follow(
 {
     let first = pipeline.cycles_done();
     let mut follower = Follower {
-        table: Table::begin(alloc, pipeline)?,
+        table: begin(alloc, pipeline)?,
     };
     let steps = Vec::with_capacity(alloc, 8)?;
     let ended = watch(
@@ -146,7 +161,7 @@ fn is_limit(stop: Stop) -> bool
 fn nothing_shown(alloc: Global, pipeline: &Pipeline, stop: Stop) -> Result<Recording, AllocError>
     ensures { IfOk result (λ recording. (predictor : Option DescribedPredictor) → IsOver stop (guided pipeline.now predictor) (guided pipeline.now predictor) (passages_of recording.table) recording.window recording.stop) }
 {
-    let table = Table::begin(alloc, pipeline)?;
+    let table = begin(alloc, pipeline)?;
     Ok(recorded(table, pipeline.cycles_done(), 0, stop))
 }
 

@@ -1,6 +1,6 @@
 use crate::machine::listing;
 use rv_isa::{Cause, Issue, Reg};
-use rv_passage::{Ending, Passage};
+use rv_passage::{Ending, Passage, Producers};
 use rv_picture::{Window, write_picture_svg, write_picture_text};
 use std::alloc::Global;
 use std::process::Abort;
@@ -35,8 +35,11 @@ fn fetched(number: u64, pc: u32, word: Option<u32>, cycle: u64) -> Passage {
         number,
         pc,
         word,
+        instruction: None,
+        predicted: None,
         fetched: cycle,
         dispatched: None,
+        producers: Producers::NONE,
         issue: None,
         broadcast: None,
         ending: Ending::InFlight,
@@ -64,6 +67,7 @@ fn passages() -> [Passage; 8] {
                 order: 0,
                 cycle: 17,
                 written: register.map(|register| (register, 5)),
+                next: 0x8000_0004,
             },
             ..fetched(2, 0x8000_0000, Some(0x0050_0093), 10)
         },

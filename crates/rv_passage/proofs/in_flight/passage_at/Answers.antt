@@ -5,26 +5,22 @@ use Rattle.rv_passage.proofs.in_flight.passage_at.Goals as goal
 
 pub returns-in_err-entry : goal.returns-in_err-entry
 returns-in_err-entry c =
-    let buffer = c.reorder_buffer-buffer.result.now in
     let held = sym (ap option_copied c.in_err-entry.was) ∙ c.get.ensures in
-    c.from_residual.ensures ∙ entry_here c.args.pipeline.now buffer _ c.args.place None c.reorder_buffer-buffer.ensures (omega (arith, c.next_number.ensures, c.len-dispatched.ensures.count)) (omega (arith, c.len-dispatched.ensures.count)) held
+    c.from_residual.ensures ∙ entry_here c.args.rob.now c.args.front.now _ c.args.place None (omega (arith, c.next_number.ensures, c.len-dispatched.ensures.count)) (omega (arith, c.len-dispatched.ensures.count)) held
 
 pub returns-in_ok-entry : goal.returns-in_ok-entry
 returns-in_ok-entry c =
-    let buffer = c.reorder_buffer-buffer.result.now in
     let held = sym (ap option_copied c.in_ok-entry.was) ∙ c.get.ensures in
-    ap Some c.of_entry.ensures ∙ entry_here c.args.pipeline.now buffer _ c.args.place (Some c.in_ok-entry.entry.now) c.reorder_buffer-buffer.ensures (omega (arith, c.next_number.ensures, c.len-dispatched.ensures.count)) (omega (arith, c.len-dispatched.ensures.count)) held
+    ap Some c.of_entry.ensures ∙ entry_here c.args.rob.now c.args.front.now _ c.args.place (Some c.in_ok-entry.entry.now) (omega (arith, c.next_number.ensures, c.len-dispatched.ensures.count)) (omega (arith, c.len-dispatched.ensures.count)) held
 
 pub returns-in_err-word : goal.returns-in_err-word
 returns-in_err-word c =
-    let buffer = c.reorder_buffer-buffer.result.now in
-    let behind = ap (λ k. slice_get c.front.result.now.entries (c.args.place - k)) c.len-dispatched.ensures.count in
+    let behind = ap (λ k. slice_get c.args.front.now.entries (c.args.place - k)) c.len-dispatched.ensures.count in
     let held = sym (ap option_copied c.in_err-word.was) ∙ c.get-else-place-dispatched.ensures ∙ behind in
-    c.from_residual-in_err-word.ensures ∙ word_here c.args.pipeline.now buffer c.front.result.now c.args.place None c.reorder_buffer-buffer.ensures c.front.ensures (omega (arith, c.len-dispatched.ensures.count)) held
+    c.from_residual-in_err-word.ensures ∙ word_here c.args.rob.now c.args.front.now c.args.place None (omega (arith, c.len-dispatched.ensures.count)) held
 
 pub returns-in_ok-word : goal.returns-in_ok-word
 returns-in_ok-word c =
-    let buffer = c.reorder_buffer-buffer.result.now in
-    let behind = ap (λ k. slice_get c.front.result.now.entries (c.args.place - k)) c.len-dispatched.ensures.count in
+    let behind = ap (λ k. slice_get c.args.front.now.entries (c.args.place - k)) c.len-dispatched.ensures.count in
     let held = sym (ap option_copied c.in_ok-word.was) ∙ c.get-else-place-dispatched.ensures ∙ behind in
-    ap Some c.of_fetched.ensures ∙ word_here c.args.pipeline.now buffer c.front.result.now c.args.place (Some c.in_ok-word.word.now) c.reorder_buffer-buffer.ensures c.front.ensures (omega (arith, c.len-dispatched.ensures.count)) held
+    ap Some c.of_fetched.ensures ∙ word_here c.args.rob.now c.args.front.now c.args.place (Some c.in_ok-word.word.now) (omega (arith, c.len-dispatched.ensures.count)) held

@@ -1,12 +1,12 @@
 use Rattle.std.proofs.Common.{◌∙◌, ◌<◌, length, sym, arith}
-use Rattle.rv_passage.specs.Passage.{in_flight}
+use Rattle.rv_passage.specs.Passage.{in_buffers}
 use Rattle.rv_passage.proofs.Moving.{moved-ended, moved-gone, moved-squashed, moved-standing}
 use Rattle.rv_passage.proofs.rows.move_on.Goals as goal
 use Rattle.rv_passage.proofs.rows.move_on.Goals.{then-is_in_flight+in-Some, then-is_in_flight+in_default, in_default-via-in-Some+else-now-cycle, in_default-via-in_default, else-is_in_flight}
 
 pub loop-place-preserved : goal.loop-place-preserved
 loop-place-preserved c =
-    let now = in_flight c.args.pipeline.now in
+    let now = in_buffers c.args.rob.now c.args.front.now in
     let within : c.loop-place.place < length c.loop-place.rows = omega (arith, c.loop-place.auto.rows) in
     let moved = c.loop-place.invariant.moved in
     elim c.if-is_in_flight.branch [

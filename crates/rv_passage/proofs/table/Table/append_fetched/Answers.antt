@@ -1,11 +1,11 @@
 use Rattle.std.proofs.Common.{◌∙◌, ◌∷◌, [], ap, length, arith, length-append}
-use Rattle.rv_passage.specs.Passage.{in_flight, numbered}
+use Rattle.rv_passage.specs.Passage.{in_buffers, numbered}
 use Rattle.rv_passage.proofs.Moving.{drop-at, numbered-more}
 use Rattle.rv_passage.proofs.table.Table.append_fetched.Goals as goal
 
 pub loop-place-preserved : goal.loop-place-preserved
 loop-place-preserved c =
-    let now = in_flight c.args.pipeline.now in
+    let now = in_buffers c.args.rob.now c.args.front.now in
     let left = ap length (drop-at now c.loop-place.place c.present_at.result c.present_at.ensures) in
     let more = ap length c.append.ensures.rows in
     let one = length-append c.loop-place.self.rows.items (numbered c.loop-place.self.fetched c.present_at.result ∷ []) in

@@ -1,11 +1,13 @@
-use Rattle.std.proofs.Common.{◌≡◌, ◌≤◌, take, vec_capacity}
+use Rattle.std.proofs.Common.{◌≡◌, ◌+◌, ◌≤◌, drop, length, vec_capacity}
 use Rattle.rv_passage.specs.Table.{passages_of, with_steps}
 use Rattle.rv_passage.proofs.table.Table.take_steps.Given as goal
 
--- the steps so far are taken
-abbrev pub invariant-loop-step : goal.invariant-loop-step
-invariant-loop-step l = record {
-  taken : passages_of l.self ≡ with_steps (take l.step-index l.steps) (passages_of l.fn.self);
+-- the steps from here on are left, and those so far noted no more than one thing each
+abbrev pub invariant-loop-place : goal.invariant-loop-place
+invariant-loop-place l = record {
+  left : with_steps (drop l.place l.steps) l.next (passages_of l.self) ≡ with_steps l.steps l.next (passages_of l.fn.self);
+  retired : l.self.retired ≤ l.fn.self.retired + l.place;
+  noted : length l.self.interrupts.items ≤ length l.fn.self.interrupts.items + l.place;
   rows : vec_capacity l.fn.self.rows ≤ vec_capacity l.self.rows;
   interrupts : vec_capacity l.fn.self.interrupts ≤ vec_capacity l.self.interrupts;
 }

@@ -1,0 +1,21 @@
+-- Whether an instruction's prediction was wrong.
+use Rattle.std.specs.Prelude.{ℕ, ◌==◌, Bool, false, not, Option, Some, None}
+use Rattle.rv_passage.specs.declared.passage.{Ending.Ending, Passage.Passage}
+use Rattle.rv_passage.specs.declared.passage.Ending.TheVariants.{InFlight, Retired, Trapped, Squashed}
+
+-- where the program went on after it, if it retired
+abbrev pub next_of : Ending → Option ℕ
+next_of (Retired order cycle written next) = Some next
+next_of InFlight = None
+next_of (Trapped cycle cause) = None
+next_of (Squashed cycle) = None
+
+-- two pcs that are not the same, where both are there
+abbrev pub differ : Option ℕ → Option ℕ → Bool
+differ None next = false
+differ (Some predicted) None = false
+differ (Some predicted) (Some next) = not (next == predicted)
+
+-- it retired, and the program did not go on where that was predicted at its fetch
+abbrev pub is_mispredicted : Passage → Bool
+is_mispredicted p = differ p.predicted (next_of p.ending)

@@ -1,0 +1,206 @@
+ghost use Rattle.std.specs.Prelude.{◌≡◌, ◌==◌, option_and_then, reverse};
+ghost use Rattle.std.specs.List.{find};
+ghost use Rattle.std.specs.Option.{option_copied};
+ghost use Rattle.rv_isa.specs.Instruction.{kind_of_word, target_of_word};
+ghost use Rattle.rv_isa.specs.Operands.{sources_of};
+ghost use Rattle.rv_passage.specs.Producers.{broadcast_among, is_to_come, is_writer, other_than, producer_among, producer_by, producers_among, producers_for};
+
+use crate::passage::Passage;
+use rv_isa::{Instr, Kind, Reg, kind, sources, target};
+
+/// An instruction whose result another one waits for.
+#[derive(Clone, Copy, Debug, PartialEq, Eq)]
+pub struct Producer {
+    /// The register that it writes.
+    pub register: Reg,
+    /// Its number in the table.
+    pub number: u64,
+    pub pc: u32,
+    /// The cycle of its broadcast, if that came.
+    pub broadcast: Option<u64>,
+}
+
+/// Whose results an instruction waits for from its dispatch on, each until its broadcast: for each of the two registers that
+/// it reads the youngest older instruction in flight that writes it, where that was not broadcast before. One that both
+/// registers come from stands here once.
+#[derive(Clone, Copy, Debug, PartialEq, Eq)]
+pub struct Producers {
+    pub first: Option<Producer>,
+    pub second: Option<Producer>,
+}
+
+impl Producer {
+    ghost use Rattle.rv_passage.specs.Producers.{followed_in};
+
+    // The producer as it stands among the older instructions at the end of a later cycle.
+    fn followed_in(self, older: &[Passage]) -> Producer
+        ensures { result ≡ followed_in older.now self }
+    {
+        let broadcast = match self.broadcast {
+            Some(cycle) => Some(cycle),
+            None => broadcast_among(older, self.number),
+        };
+        Producer { broadcast, ..self }
+    }
+}
+
+impl Producers {
+    ghost use Rattle.rv_passage.specs.Passage.{nothing_awaited};
+    ghost use Rattle.rv_passage.specs.Producers.{all_followed_in};
+
+    /// No result is waited for.
+    pub const NONE: Producers = Producers {
+        first: None,
+        second: None,
+    };
+
+    // All of them as they stand among the older instructions at the end of a later cycle.
+    pub(crate) fn followed_in(self, older: &[Passage]) -> Producers
+        ensures { result ≡ all_followed_in older.now self }
+    {
+        Producers {
+            first: self.first.map(|producer| producer.followed_in(older)),
+            second: self.second.map(|producer| producer.followed_in(older)),
+        }
+    }
+}
+
+fn kind_of(instruction: &Option<Instr>) -> Option<Kind>
+    ensures { result ≡ kind_of_word instruction.now }
+{
+    kind(instruction.as_ref()?)
+}
+
+fn target_of(instruction: &Option<Instr>) -> Option<Reg>
+    ensures { result ≡ target_of_word instruction.now }
+{
+    target(instruction.as_ref()?)
+}
+
+// Whether an instruction is in flight, and writes a register.
+fn is_writer(row: &Passage, register: Reg) -> bool
+    ensures { result ≡ is_writer register row.now }
+{
+    row.is_in_flight() && target_of(&row.instruction) == Some(register)
+}
+
+// Whether the result of an instruction is still to come.
+fn is_to_come(row: &Passage) -> bool
+    ensures { result ≡ is_to_come row.now }
+{
+    kind_of(&row.instruction).is_some() && row.broadcast.is_none()
+}
+
+fn youngest_writer(older: &[Passage], register: Reg) -> Option<&Passage>
+    ensures { option_copied result ≡ find (is_writer register) (reverse older.now) }
+{
+    older.iter().rev().find(|row| is_writer(row, register))
+}
+
+fn with_number(older: &[Passage], number: u64) -> Option<&Passage>
+    ensures { option_copied result ≡ find (λ row. row.number == number) (reverse older.now) }
+{
+    older.iter().rev().find(|row| row.number == number)
+}
+
+fn broadcast_among(older: &[Passage], number: u64) -> Option<u64>
+    ensures { result ≡ broadcast_among older.now number }
+{
+    match with_number(older, number) {
+        Some(row) => row.broadcast,
+        None => None,
+    }
+}
+
+fn producer_by(row: &Passage, register: Reg) -> Option<Producer>
+    ensures { result ≡ producer_by register row.now }
+{
+    if is_to_come(row) {
+        Some(Producer {
+            register,
+            number: row.number,
+            pc: row.pc,
+            broadcast: None,
+        })
+    } else {
+        None
+    }
+}
+
+fn producer_among(older: &[Passage], source: Option<Reg>) -> Option<Producer>
+    ensures { result ≡ producer_among older.now source }
+{
+    let Some(register) = source else {
+        return None;
+    };
+    match youngest_writer(older, register) {
+        Some(row) => producer_by(row, register),
+        None => None,
+    }
+}
+
+fn other_than(first: &Option<Producer>, producer: Producer) -> Option<Producer>
+    ensures { result ≡ other_than first.now producer }
+{
+    match first {
+        Some(first) if first.number == producer.number => None,
+        _ => Some(producer),
+    }
+}
+
+fn second_after(first: &Option<Producer>, second: Option<Producer>) -> Option<Producer>
+    ensures { result ≡ option_and_then (other_than first.now) second }
+{
+    match second {
+        Some(producer) => other_than(first, producer),
+        None => None,
+    }
+}
+
+fn producers_for(older: &[Passage], instruction: &Instr) -> Producers
+    ensures { result ≡ producers_for older.now (sources_of instruction.now) }
+{
+    let [first, second] = sources(instruction);
+    let first = producer_among(older, first);
+    let second = second_after(&first, producer_among(older, second));
+    Producers { first, second }
+}
+
+// Those of an instruction that is dispatched after the older ones.
+fn producers_among(older: &[Passage], instruction: &Option<Instr>) -> Producers
+    ensures { result ≡ producers_among older.now instruction.now }
+{
+    match instruction {
+        Some(instruction) if kind(instruction).is_some() => producers_for(older, instruction),
+        _ => Producers::NONE,
+    }
+}
+
+impl Passage {
+    ghost use Rattle.rv_passage.specs.Producers.{producers_now, standing_at};
+
+    // Its producers at the end of a cycle, where it stands so now.
+    fn producers_now(&self, older: &[Passage], now: &Passage) -> Producers
+        ensures { result ≡ producers_now older.now now.now self.now }
+    {
+        if self.dispatched.is_some() {
+            self.producers.followed_in(older)
+        } else if now.dispatched.is_some() {
+            producers_among(older, &now.instruction)
+        } else {
+            Producers::NONE
+        }
+    }
+
+    /// The instruction as it stands at the end of a cycle, after the older ones.
+    pub(crate) fn standing_at(self, older: &[Passage], now: Passage) -> Passage
+        ensures { result ≡ standing_at older.now now self }
+    {
+        Passage {
+            number: self.number,
+            predicted: self.predicted,
+            producers: self.producers_now(older, &now),
+            ..now
+        }
+    }
+}
