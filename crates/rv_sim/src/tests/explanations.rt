@@ -199,28 +199,28 @@ line = \"software\"
 [[arrival]]
 cycle = 31
 line = \"software\"
-level = false
+level = 0
 [[arrival]]
 cycle = 50
 line = \"timer\"
 [[arrival]]
 cycle = 51
 line = \"timer\"
-level = false
+level = 0
 [[arrival]]
 cycle = 70
 line = \"timer\"
 [[arrival]]
 cycle = 71
 line = \"timer\"
-level = false
+level = 0
 [[arrival]]
 cycle = 90
 line = \"external\"
 [[arrival]]
 cycle = 91
 line = \"external\"
-level = false
+level = 0
 %%
 la x31,h
 csrw mtvec,x31
