@@ -125,46 +125,55 @@ for (const [key, what] of Object.entries({ r: "retirement", w: "wrong", t: "trap
   keys[key.toUpperCase()] = () => jump(what, -1);
 }
 
-document.addEventListener("keydown", (event) => {
-  const tag = event.target.tagName, typing = (tag === "INPUT" && event.target.type !== "checkbox") || tag === "SELECT";
-  if (event.ctrlKey || event.altKey || event.metaKey || (typing && event.key !== "Escape") || (event.key === " " && (tag === "BUTTON" || tag === "INPUT"))) return;
-  if (typing) event.target.blur();
-  const act = keys[event.key];
-  if (!act) return;
-  event.preventDefault();
-  act();
-});
-
-document.addEventListener("click", (event) => {
-  const step = event.target.closest("[data-step]"), head = event.target.closest("[data-go]"), instruction = event.target.closest("[data-number]");
-  if (step) steps[step.dataset.step]();
-  else if (head) go(Number(head.dataset.go) - run.first + 1);
-  else if (instruction) follow(Number(instruction.dataset.number));
-});
-
-byId("slider").addEventListener("input", (event) => go(Number(event.target.value) - run.first + 1));
-byId("cycle").addEventListener("change", (event) => { if (event.target.value !== "") go(Number(event.target.value) - run.first + 1); });
-byId("address").addEventListener("change", (event) => goToAddress(event.target.value.trim()));
-byId("abi").addEventListener("change", (event) => setAbi(event.target.checked));
-byId("play").addEventListener("click", () => play(!playing));
-byId("help").addEventListener("click", showKeys);
-for (const id of scrolled) {
-  byId(id).addEventListener("scroll", () => requestAnimationFrame(() => {
-    Object.assign(measures[id], { top: byId(id).scrollTop, left: byId(id).scrollLeft });
-    if (id === "picture") drawPicture(view); else { drawList(id); markFollowed(view, byId(id)); }
-  }));
+// Where the run ended before the window, there is nothing to step through.
+function showNothing() {
+  byId("happened").textContent = "The run ended after " + counted(run.stop.cycles, "cycle") + " (" + run.stop.stop + "), before cycle " + run.first + ".";
 }
-window.addEventListener("hashchange", readAddress);
-window.addEventListener("resize", () => { measure(); show(); });
 
-for (const id of ["slider", "cycle"]) { byId(id).min = run.first - 1; byId(id).max = run.last; }
-byId("range").textContent = "of " + run.first + " to " + run.last;
-showLegend();
-sizePicture(run);
-sizeList("source", run.listing.length);
-sizeList("memory", run.memoryRows.length);
-measure();
-document.documentElement.dataset.first = run.first;
-document.documentElement.dataset.last = run.last;
-readAddress();
-document.documentElement.dataset.opened = performance.now().toFixed(0);
+function start() {
+  document.addEventListener("keydown", (event) => {
+    const tag = event.target.tagName, typing = (tag === "INPUT" && event.target.type !== "checkbox") || tag === "SELECT";
+    if (event.ctrlKey || event.altKey || event.metaKey || (typing && event.key !== "Escape") || (event.key === " " && (tag === "BUTTON" || tag === "INPUT"))) return;
+    if (typing) event.target.blur();
+    const act = keys[event.key];
+    if (!act) return;
+    event.preventDefault();
+    act();
+  });
+
+  document.addEventListener("click", (event) => {
+    const step = event.target.closest("[data-step]"), head = event.target.closest("[data-go]"), instruction = event.target.closest("[data-number]");
+    if (step) steps[step.dataset.step]();
+    else if (head) go(Number(head.dataset.go) - run.first + 1);
+    else if (instruction) follow(Number(instruction.dataset.number));
+  });
+
+  byId("slider").addEventListener("input", (event) => go(Number(event.target.value) - run.first + 1));
+  byId("cycle").addEventListener("change", (event) => { if (event.target.value !== "") go(Number(event.target.value) - run.first + 1); });
+  byId("address").addEventListener("change", (event) => goToAddress(event.target.value.trim()));
+  byId("abi").addEventListener("change", (event) => setAbi(event.target.checked));
+  byId("play").addEventListener("click", () => play(!playing));
+  byId("help").addEventListener("click", showKeys);
+  for (const id of scrolled) {
+    byId(id).addEventListener("scroll", () => requestAnimationFrame(() => {
+      Object.assign(measures[id], { top: byId(id).scrollTop, left: byId(id).scrollLeft });
+      if (id === "picture") drawPicture(view); else { drawList(id); markFollowed(view, byId(id)); }
+    }));
+  }
+  window.addEventListener("hashchange", readAddress);
+  window.addEventListener("resize", () => { measure(); show(); });
+
+  for (const id of ["slider", "cycle"]) { byId(id).min = run.first - 1; byId(id).max = run.last; }
+  byId("range").textContent = "of " + run.first + " to " + run.last;
+  showLegend();
+  sizePicture(run);
+  sizeList("source", run.listing.length);
+  sizeList("memory", run.memoryRows.length);
+  measure();
+  document.documentElement.dataset.first = run.first;
+  document.documentElement.dataset.last = run.last;
+  readAddress();
+  document.documentElement.dataset.opened = performance.now().toFixed(0);
+}
+
+if (run.places.length === 0) showNothing(); else start();

@@ -34,7 +34,7 @@ function measure() {
     measures[id] = { width: box.clientWidth, height: box.clientHeight, top: box.scrollTop, left: box.scrollLeft };
   }
 }
-function scrollTo(id, top, left) {
+function scrollBox(id, top, left) {
   const box = byId(id);
   if (top !== measures[id].top) box.scrollTop = top;
   if (left !== measures[id].left) box.scrollLeft = left;
@@ -45,7 +45,7 @@ function scrollTo(id, top, left) {
 const lists = {};
 function scrollList(id, wanted) {
   const height = 1.25 * measures.rem, { top, height: high } = measures[id];
-  if (wanted >= 0 && (wanted * height < top || (wanted + 2) * height > top + high)) scrollTo(id, Math.max(0, wanted * height - high / 3), 0);
+  if (wanted >= 0 && (wanted * height < top || (wanted + 2) * height > top + high)) scrollBox(id, Math.max(0, wanted * height - high / 3), 0);
 }
 function drawList(id) {
   const { count, rowAt } = lists[id], { top, height: high } = measures[id], height = 1.25 * measures.rem, rows = [];

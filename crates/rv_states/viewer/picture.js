@@ -21,7 +21,7 @@ function scrollPicture(view) {
   const oldest = line.in_flight.length ? line.in_flight[0] - run.firstNumber - 1 : rows - 3;
   if (end > top + high) top = end - high;
   if (oldest * height < top) top = Math.max(0, oldest * height);
-  scrollTo("picture", top, left);
+  scrollBox("picture", top, left);
 }
 
 function drawPicture(view) {

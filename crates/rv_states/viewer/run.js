@@ -2,7 +2,7 @@
 // A place is a state of the window: place 0 is the hardware before its first cycle, place n the hardware after its nth cycle.
 
 // Values that change at some places only: for each key its values, each with the place from which on it holds.
-class History {
+class Changes {
   constructor() { this.all = new Map(); }
 
   put(key, place, value) {
@@ -35,10 +35,10 @@ class Run {
     this.first = header.first;
     this.listing = [];           // the words that come from source lines, by address
     this.statements = new Map(); // their texts, by address
-    this.words = new History();  // memory as programs see it, by address
-    this.stale = new History();  // places at which a store made a word stale
+    this.words = new Changes();  // memory as programs see it, by address
+    this.stale = new Changes();  // places at which a store made a word stale
     this.cleaned = [];           // places at which FENCE.I retired
-    this.sets = new History();   // the lines of each cache set
+    this.sets = new Changes();   // the lines of each cache set
     this.table = [];             // each instruction by its number
     this.places = [];            // what happened in the cycle before each place, and where its line stands
     this.stop = null;

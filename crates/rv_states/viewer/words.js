@@ -53,7 +53,7 @@ function cycleSentence(run, place) {
   else if (here.stall) parts.push("nothing is dispatched, since " + stallWords[here.stall]);
   if (phases.fetch.length) parts.push("fetch of " + tags(phases.fetch));
   const text = parts.length ? parts.join("; ") + "." : "nothing happens.";
-  const over = run.stop && place === run.places.length - 1 ? " The run ends: " + run.stop.stop + "." : "";
+  const over = run.stop && place === run.places.length - 1 ? (run.stop.stop === "limit" ? " The page ends here." : " The run ends: " + run.stop.stop + ".") : "";
   return "Cycle " + here.cycle + ": " + text + over;
 }
 
