@@ -3,6 +3,7 @@ mod DrainBegins
 mod DrainCounts
 mod Explained
 mod HeadSum
+mod Growing
 mod Heads
 mod LastStores
 mod InterruptsGrow

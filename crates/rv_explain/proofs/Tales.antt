@@ -1,19 +1,22 @@
 -- What is kept of a run, with one cycle more.
-use Rattle.std.proofs.Common.{◌≡◌, ◌∙◌, ℕ, ◌+◌, ◌*◌, ◌^◌, ◌<◌, ◌≤◌, ◌==◌, List, [], ◌∷◌, ◌++◌, length, count_by, Option, Some, None, cond, sym, ap, arith, append-nil}
+use Rattle.std.proofs.Common.{◌≡◌, ◌∙◌, ℕ, ◌+◌, ◌*◌, ◌^◌, ◌<◌, ◌≤◌, ◌==◌, List, [], ◌∷◌, ◌++◌, length, count_by, Option, Some, None, cond, Bool, true, false, refl, sym, ap, arith, append-nil}
 use Rattle.std.specs.Prelude.{is_some}
 use Rattle.std.specs.List.{cons_option, filter_map}
 use Rattle.std.specs.Option.{option_to_list}
 use Rattle.std.proofs.lemmas.List.Elements.{filter_map-append}
 use Rattle.std.proofs.lemmas.List.Sums.{count_by-le-length, sum_by-append}
 use Rattle.rv_isa.specs.declared.lines.Arrival.{Arrival}
-use Rattle.rv_isa.specs.declared.values.Values.{Values}
+use Rattle.rv_isa.specs.PerKind.{by_kind}
+use Rattle.rv_isa.specs.declared.{per_kind.PerKind.PerKind, values.Values.Values}
 use Rattle.rv_core.proofs.Shown.{shown_steps-push}
 use Rattle.rv_hardware.specs.Guided.{GuidedHardware}
 use Rattle.rv_hardware.specs.Hardware.{Hardware}
 use Rattle.rv_hardware.specs.Run.{steps_of}
 use Rattle.rv_hardware.specs.Step.{is_retirement}
 use Rattle.rv_hardware.specs.declared.step.Step.{Step}
+use Rattle.rv_hardware.specs.declared.step.Step.TheVariants.{Retired, Trap, Interrupt}
 use Rattle.rv_explain.specs.Access.{both}
+use Rattle.rv_explain.specs.Dispatch.{dispatched_after, dispatched_with, is_last, none_dispatched, with_cycle}
 use Rattle.rv_explain.specs.Drain.{drain_in, drains_by, drains_of}
 use Rattle.rv_explain.specs.Exception.{exception_of_cycle, exceptions_of}
 use Rattle.rv_explain.specs.Head.{head_cycles}
@@ -23,8 +26,10 @@ use Rattle.rv_explain.specs.Kinds.{kept_after, kept_of}
 use Rattle.rv_explain.specs.LastStore.{last_store_to, stores_in, stores_of, with_stores}
 use Rattle.rv_explain.specs.Load.{costs_of, is_quick, load_cost, loads_of}
 use Rattle.rv_explain.specs.Tale.{HasRoom, tale_after, tale_of}
+use Rattle.rv_explain.specs.Unit.{arrivals_after, arrivals_by, none_came, unit_wait_in, unit_waits}
+use Rattle.rv_explain.specs.Wait.{CanGrow, both_waits, bus_wait, bus_waits}
 use Rattle.rv_explain.specs.WordNotes.{notes_of}
-use Rattle.rv_explain.specs.declared.{exception.Exception.Exception, interruption.Interruption.Interruption, loads.Costs.Costs}
+use Rattle.rv_explain.specs.declared.{dispatches.Dispatches.Dispatches, exception.Exception.Exception, interruption.Interruption.Interruption, loads.Costs.Costs}
 use Rattle.rv_explain.proofs.DrainCounts.{drains_by-append, drains_of-le, drains_of-push}
 use Rattle.rv_explain.proofs.Heads.{head_cycles-le, with_head_of}
 use Rattle.rv_explain.proofs.LastStores.{stores_of-push, with_stores_of}
@@ -57,6 +62,55 @@ length-filter_map : {X Y : Type 0} (h : X → Option Y) (xs : List X) → length
 length-filter_map h [] = omega arith
 length-filter_map h (x ∷ xs) = omega (arith, cons_option-le (h x) (filter_map h xs), length-filter_map h xs)
 
+dispatched_after-append : (some more : List Step) (d : Dispatches) → dispatched_after (some ++ more) d ≡ dispatched_after more (dispatched_after some d)
+dispatched_after-append [] more d = refl
+dispatched_after-append (step ∷ some) more d = dispatched_after-append some more (dispatched_with step d)
+
+-- a step brings one cycle at most
+with_cycle-le : (cycle : ℕ) (d : Dispatches) → (with_cycle cycle d).cycles ≤ d.cycles + 1
+with_cycle-le cycle d = by_last (is_last d.last cycle) where
+  by_last : (last : Bool) → (cond last d (record { cycles = d.cycles + 1; last = Some cycle })).cycles ≤ d.cycles + 1
+  by_last true = omega arith
+  by_last false = omega arith
+
+dispatched_with-le : (step : Step) (d : Dispatches) → (dispatched_with step d).cycles ≤ d.cycles + 1
+dispatched_with-le (Retired row) d = with_cycle-le row.dispatched d
+dispatched_with-le (Trap pc cause value cycle) d = omega arith
+dispatched_with-le (Interrupt pc cause cycle) d = omega arith
+
+dispatched_after-le : (steps : List Step) (d : Dispatches) → (dispatched_after steps d).cycles ≤ d.cycles + length steps
+dispatched_after-le [] d = omega arith
+dispatched_after-le (step ∷ steps) d = omega (arith, dispatched_with-le step d, dispatched_after-le steps (dispatched_with step d))
+
+bus_waits-append : (some more : List Step) → bus_waits (some ++ more) ≡ both_waits (bus_waits some) (bus_waits more)
+bus_waits-append some more = λ i. by_kind (λ kind. sum_by-append (bus_wait kind) some more i)
+
+none_and : (waits : PerKind ℕ) → waits ≡ both_waits (by_kind (λ kind. 0)) waits
+none_and waits =
+    let alu : waits.alu ≡ 0 + waits.alu = omega arith in
+    let mul : waits.mul ≡ 0 + waits.mul = omega arith in
+    let div : waits.div ≡ 0 + waits.div = omega arith in
+    let mem : waits.mem ≡ 0 + waits.mem = omega arith in
+    λ i. record { alu = alu i; mul = mul i; div = div i; mem = mem i }
+
+both_waits-assoc : (some others more : PerKind ℕ) → both_waits some (both_waits others more) ≡ both_waits (both_waits some others) more
+both_waits-assoc some others more =
+    let alu : some.alu + (others.alu + more.alu) ≡ (some.alu + others.alu) + more.alu = omega arith in
+    let mul : some.mul + (others.mul + more.mul) ≡ (some.mul + others.mul) + more.mul = omega arith in
+    let div : some.div + (others.div + more.div) ≡ (some.div + others.div) + more.div = omega arith in
+    let mem : some.mem + (others.mem + more.mem) ≡ (some.mem + others.mem) + more.mem = omega arith in
+    λ i. record { alu = alu i; mul = mul i; div = div i; mem = mem i }
+
+arrivals_after-append : (came : List ℕ) (some more : List Step) → arrivals_after came (some ++ more) ≡ arrivals_after (arrivals_after came some) more
+arrivals_after-append came [] more = refl
+arrivals_after-append came (step ∷ some) more = arrivals_after-append (arrivals_by came step) some more
+
+unit_waits-append : (came : List ℕ) (some more : List Step) → unit_waits came (some ++ more) ≡ both_waits (unit_waits came some) (unit_waits (arrivals_after came some) more)
+unit_waits-append came [] more = none_and (unit_waits came more)
+unit_waits-append came (step ∷ some) more =
+    ap (both_waits (unit_wait_in came step)) (unit_waits-append (arrivals_by came step) some more) ∙
+    both_waits-assoc (unit_wait_in came step) (unit_waits (arrivals_by came step) some) (unit_waits (arrivals_after (arrivals_by came step) some) more)
+
 loads_of-append : (costs : Costs) (some more : List Step) → loads_of costs (some ++ more) ≡ both (loads_of costs some) (loads_of costs more)
 loads_of-append costs some more = λ i. record {
   all = sum_by-append (λ (step : Step). cond (is_some (load_cost step)) 1 0) some more i;
@@ -75,6 +129,10 @@ module _ (values : Values) where
       let stores = with_stores_of values (head_cycles (moments ++ moment ∷ [])) (stores_in now.hardware.registers moment.report.steps) (stores_of old.hardware moments) in
       let stored = sym (stores_of-push moment passes) in
       let retired = sym (ap (count_by is_retirement) steps ∙ sum_by-append (λ (step : Step). cond (is_retirement step) 1 0) (steps_of (reports_of moments)) moment.report.steps) in
+      let dispatches = sym (ap (λ (all : List Step). dispatched_after all none_dispatched) steps ∙ dispatched_after-append (steps_of (reports_of moments)) moment.report.steps none_dispatched) in
+      let bus = sym (ap bus_waits steps ∙ bus_waits-append (steps_of (reports_of moments)) moment.report.steps) in
+      let units = sym (ap (unit_waits none_came) steps ∙ unit_waits-append none_came (steps_of (reports_of moments)) moment.report.steps) in
+      let came = sym (ap (arrivals_after none_came) steps ∙ arrivals_after-append none_came (steps_of (reports_of moments)) moment.report.steps) in
       let loads = sym (ap (loads_of (costs_of values)) steps ∙ loads_of-append (costs_of values) (steps_of (reports_of moments)) moment.report.steps) in
       let drains = sym (ap (drains_by values.cache.hit) (drains_of-push moment passes) ∙ drains_by-append values.cache.hit (drains_of arrivals old.hardware moments) (option_to_list (drain_in arrivals now.hardware))) in
       let words = heads ∙ stores ∙ (λ i. notes_of values (λ word. record { last_store = last_store_to (stored i) word; head_cycles = head_cycles (moments ++ moment ∷ []) word })) in
@@ -82,6 +140,10 @@ module _ (values : Values) where
         retired = retired i;
         exceptions = exceptions i;
         interrupts = interrupts i;
+        dispatches = dispatches i;
+        bus = bus i;
+        units = units i;
+        came = came i;
         costs = costs_of values;
         loads = loads i;
         drains = drains i;
@@ -89,8 +151,11 @@ module _ (values : Values) where
       }
 
   -- the steps of one more cycle can be counted
-  pub has_room : (arrivals : List Arrival) (h : Hardware) (moments : List Moment) (more : ℕ) → length (steps_of (reports_of moments)) ≤ 8 * 2 ^ 40 → length moments ≤ 2 ^ 40 → more ≤ 8 → HasRoom (tale_of values arrivals h moments) more
-  has_room arrivals h moments more few within little = record {
+  pub has_room : (arrivals : List Arrival) (h : Hardware) (moments : List Moment) (more : ℕ) → length (steps_of (reports_of moments)) ≤ 8 * 2 ^ 40 → length moments ≤ 2 ^ 40 → more ≤ 8 → CanGrow (bus_waits (steps_of (reports_of moments))) more → CanGrow (unit_waits none_came (steps_of (reports_of moments))) more → HasRoom (tale_of values arrivals h moments) more
+  has_room arrivals h moments more few within little bus_grows units_grow = record {
+    dispatches = omega (arith, dispatched_after-le (steps_of (reports_of moments)) none_dispatched, few, little);
+    bus = bus_grows;
+    units = units_grow;
     retired = omega (arith, count_by-le-length is_retirement (steps_of (reports_of moments)), few, little);
     exceptions = kept_counted (exceptions_of moments) (omega (arith, length-filter_map exception_of_cycle moments, within));
     interrupts = lines_counted (interruptions_of moments) (omega (arith, length-filter_map interruption_of_cycle moments, within));

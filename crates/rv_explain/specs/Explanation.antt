@@ -9,6 +9,7 @@ use Rattle.rv_hardware.specs.Hardware.{Hardware}
 use Rattle.rv_hardware.specs.Run.{IsStop}
 use Rattle.rv_source.specs.Listing.{Listed}
 use Rattle.rv_text.specs.Line.{line_of, ratio_text}
+use Rattle.rv_explain.specs.Dispatch.{dispatches_text}
 use Rattle.rv_explain.specs.Drain.{drain_text}
 use Rattle.rv_explain.specs.Ending.{ending_text}
 use Rattle.rv_explain.specs.Exception.{exceptions_text}
@@ -18,6 +19,7 @@ use Rattle.rv_explain.specs.Interrupt.{interrupts_text}
 use Rattle.rv_explain.specs.Load.{load_text}
 use Rattle.rv_explain.specs.Stack.{count_text, stall_text}
 use Rattle.rv_explain.specs.Tale.{tale_of}
+use Rattle.rv_explain.specs.Wait.{waits_text}
 use Rattle.rv_explain.specs.declared.tale.Tale.{Tale}
 
 -- cycles, with the hardware that each left, up to the end of a run, and what was kept of them
@@ -37,7 +39,9 @@ cycle_text progress retired =
 -- where the cycles went
 unfoldable pub cost_text : Listed → Progress → Tale → List ℕ
 cost_text listing progress tale =
-    cycle_text progress tale.retired ++ (load_text tale.loads ++ (drain_text tale.drains ++ hotspots_text listing progress.cycles tale.words))
+    cycle_text progress tale.retired ++ (dispatches_text progress.busy tale.dispatches.cycles ++
+    (waits_text (codes "cycles that results waited for the bus") tale.bus ++ (waits_text (codes "cycles that instructions waited for a unit") tale.units ++
+    (load_text tale.loads ++ (drain_text tale.drains ++ hotspots_text listing progress.cycles tale.words)))))
 
 -- the sentences
 unfoldable pub explanation : Listed → Stop → Hardware → Progress → Tale → List ℕ

@@ -12,5 +12,8 @@ pub mod Series
 pub mod Kinds
 pub mod Exception
 pub mod Interrupt
+pub mod Dispatch
+pub mod Wait
+pub mod Unit
 pub mod Tale
 pub mod Explanation

@@ -1,5 +1,5 @@
 -- What is kept of a run, cycle by cycle.
-use Rattle.std.specs.Prelude.{◌≡◌, ℕ, ◌+◌, ◌^◌, ◌<◌, List, [], count_by, Option, IfSome}
+use Rattle.std.specs.Prelude.{◌≡◌, ℕ, ◌+◌, ◌^◌, ◌<◌, ◌≤◌, List, [], count_by, length, Option, IfSome}
 use Rattle.std.specs.Option.{option_to_list}
 use Rattle.rv_isa.specs.declared.{lines.Arrival.Arrival, values.Values.Values}
 use Rattle.rv_core.specs.Watching.{Watched}
@@ -9,6 +9,7 @@ use Rattle.rv_hardware.specs.Run.{steps_of}
 use Rattle.rv_hardware.specs.Step.{is_retirement}
 use Rattle.rv_hardware.specs.declared.step.Step.{Step}
 use Rattle.rv_explain.specs.Access.{both}
+use Rattle.rv_explain.specs.Dispatch.{dispatched_after, none_dispatched}
 use Rattle.rv_explain.specs.Drain.{drains_by, drains_of}
 use Rattle.rv_explain.specs.Exception.{exception_in, exceptions_of}
 use Rattle.rv_explain.specs.Head.{head_cycles, head_word, with_head}
@@ -17,6 +18,8 @@ use Rattle.rv_explain.specs.Interrupt.{AreCountable, by_line, interruption_in, i
 use Rattle.rv_explain.specs.Kinds.{IsCountable, kept_after, kept_of}
 use Rattle.rv_explain.specs.LastStore.{last_store_to, stores_in, stores_of, with_stores}
 use Rattle.rv_explain.specs.Load.{costs_of, loads_of}
+use Rattle.rv_explain.specs.Unit.{arrivals_after, none_came, unit_waits}
+use Rattle.rv_explain.specs.Wait.{CanGrow, both_waits, bus_waits}
 use Rattle.rv_explain.specs.WordNotes.{note_at, notes_of}
 use Rattle.rv_explain.specs.declared.tale.Tale.{Tale}
 
@@ -26,6 +29,10 @@ tale_of values arrivals h moments = record {
   retired = count_by is_retirement (steps_of (reports_of moments));
   exceptions = kept_of (exceptions_of moments);
   interrupts = by_line (interruptions_of moments);
+  dispatches = dispatched_after (steps_of (reports_of moments)) none_dispatched;
+  bus = bus_waits (steps_of (reports_of moments));
+  units = unit_waits none_came (steps_of (reports_of moments));
+  came = arrivals_after none_came (steps_of (reports_of moments));
   costs = costs_of values;
   loads = loads_of (costs_of values) (steps_of (reports_of moments));
   drains = drains_by values.cache.hit (drains_of arrivals h moments);
@@ -39,6 +46,10 @@ tale_after registers steps drain after tale = record {
   retired = tale.retired + count_by is_retirement steps;
   exceptions = kept_after (exception_in after steps) tale.exceptions;
   interrupts = interrupts_after (interruption_in steps) tale.interrupts;
+  dispatches = dispatched_after steps tale.dispatches;
+  bus = both_waits tale.bus (bus_waits steps);
+  units = both_waits tale.units (unit_waits tale.came steps);
+  came = arrivals_after tale.came steps;
   costs = tale.costs;
   loads = both tale.loads (loads_of tale.costs steps);
   drains = both tale.drains (drains_by tale.costs.hit (option_to_list drain));
@@ -51,12 +62,17 @@ pub record IsTelling (first tale : Tale) (registers : List ℕ) (end : Option �
   pub values : Values
   pub untold : first ≡ tale_of values seen.arrivals seen.first.hardware []
   pub told : (by : Values) → first ≡ tale_of by seen.arrivals seen.first.hardware [] → tale ≡ tale_of by seen.arrivals seen.first.hardware seen.moments
+  pub bus_grows : (more : ℕ) → length (steps_of (reports_of seen.moments)) + more ≤ 2 ^ 44 → CanGrow tale.bus more
+  pub units_grow : (more : ℕ) → length (steps_of (reports_of seen.moments)) + more ≤ 2 ^ 44 → CanGrow tale.units more
   pub registers_are : registers ≡ seen.now.hardware.registers
   pub end_is : end ≡ drain_end seen.now.hardware
 
 -- no count of a cycle with so many steps more comes to 2^64
 pub record HasRoom (tale : Tale) (more : ℕ) : Type 0 where
   pub retired : tale.retired + more < 2 ^ 64
+  pub dispatches : tale.dispatches.cycles + more < 2 ^ 64
+  pub bus : CanGrow tale.bus more
+  pub units : CanGrow tale.units more
   pub exceptions : IsCountable tale.exceptions
   pub interrupts : AreCountable tale.interrupts
   pub loads : tale.loads.all + more < 2 ^ 64

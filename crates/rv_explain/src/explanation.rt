@@ -8,6 +8,7 @@ ghost use Rattle.rv_explain.specs.Tale.{tale_of};
 ghost use Rattle.rv_text.specs.IsText.{IsText};
 ghost use Rattle.rv_text.specs.Written.{IsWritten};
 
+use crate::dispatches::write_dispatches;
 use crate::drains::write_drains;
 use crate::ending::write_ending;
 use crate::hotspots::write_hotspots;
@@ -17,6 +18,7 @@ use crate::loads::write_loads;
 use crate::running::run_told;
 use crate::stack::{write_counts, write_stalls};
 use crate::tale::Tale;
+use crate::waits::write_waits;
 use rv_arch::Stop;
 use rv_core::{Pipeline, Progress};
 use rv_front::Predictor;
@@ -77,6 +79,13 @@ fn write_costs<W: Write>(
     ensures { IsWritten result (W.contents writer.old) (W.contents writer.new) (cost_text listing.now progress.now tale.old) }
 {
     write_cycles(writer, progress, tale.retired)?;
+    write_dispatches(writer, progress.busy, &tale.dispatches)?;
+    write_waits(writer, b"cycles that results waited for the bus", &tale.bus)?;
+    write_waits(
+        writer,
+        b"cycles that instructions waited for a unit",
+        &tale.units,
+    )?;
     write_loads(writer, &tale.loads)?;
     write_drains(writer, &tale.drains)?;
     write_hotspots(writer, listing, progress.cycles, &mut tale.words)
@@ -102,8 +111,9 @@ fn write_told<W: Write>(
 
 /// Runs a pipeline that a predictor guides, each cycle with the lines of its number, up to a breakpoint, a stale word,
 /// exhaustion or so many cycles, and then writes what the run came to, in plain sentences: how it ended, where and why,
-/// and for a stale word the last store to it; its exceptions and interrupts; where the cycles went; what its loads and the
-/// drains of its stores cost; and the five lines that most cycles left at the head of the reorder buffer. The
+/// and for a stale word the last store to it; its exceptions and interrupts; where the cycles went; how many dispatched only
+/// what did not retire; what results waited for the bus, and
+/// instructions for a unit; what its loads and the drains of its stores cost; and the five lines that most cycles left at the head of the reorder buffer. The
 /// description tells where RAM lies, whose words are counted, and what loads and drains cost. The listing is that of the
 /// program, whose lines are shown. Answers why the run ended.
 ///

@@ -4,6 +4,7 @@
 #![tactic(auto)]
 
 mod accesses;
+mod dispatches;
 mod drains;
 mod ending;
 mod exception;
@@ -25,6 +26,8 @@ mod stack;
 mod stored;
 mod stores;
 mod tale;
+mod unit_waits;
+mod waits;
 mod word_note;
 mod word_notes;
 

@@ -1,10 +1,12 @@
-ghost use Rattle.std.specs.Prelude.{◌≡◌, List, [], count_by, length, IfOk};
+ghost use Rattle.std.specs.Prelude.{◌≡◌, ◌+◌, ℕ, List, [], count_by, length, IfOk};
 ghost use Rattle.rv_hardware.specs.Hardware.{Hardware};
 ghost use Rattle.rv_hardware.specs.Step.{is_retirement};
 ghost use Rattle.rv_isa.specs.declared.lines.Arrival.{Arrival};
 ghost use Rattle.rv_explain.specs.Tale.{HasRoom, tale_after, tale_of};
+ghost use Rattle.rv_explain.specs.Wait.{CanGrow};
 
 use crate::accesses::Accesses;
+use crate::dispatches::Dispatches;
 use crate::drains::add_drain;
 use crate::exceptions::exception_in;
 use crate::hotspots::note_head;
@@ -12,10 +14,12 @@ use crate::interrupts::{Interrupts, interruption_in};
 use crate::kinds::Exceptions;
 use crate::loads::{Costs, add_loads};
 use crate::stores::note_stores;
+use crate::unit_waits::add_unit_waits;
+use crate::waits::{add_waits, no_waits};
 use crate::word_notes::WordNotes;
 use rv_core::Pipeline;
 use rv_hardware::Step;
-use rv_isa::Description;
+use rv_isa::{Description, PerKind};
 use std::alloc::{AllocError, Global};
 
 /// What is kept of a run so far.
@@ -24,6 +28,13 @@ pub(crate) struct Tale {
     pub(crate) retired: u64,
     pub(crate) exceptions: Exceptions,
     pub(crate) interrupts: Interrupts,
+    pub(crate) dispatches: Dispatches,
+    /// What results waited for the bus.
+    pub(crate) bus: PerKind<u128>,
+    /// What instructions with their operands waited for a unit.
+    pub(crate) units: PerKind<u128>,
+    /// The cycle in which the value of each register came.
+    pub(crate) came: [u64; 32],
     pub(crate) costs: Costs,
     pub(crate) loads: Accesses,
     pub(crate) drains: Accesses,
@@ -48,6 +59,10 @@ impl Tale {
             retired: 0,
             exceptions: Exceptions::new(alloc)?,
             interrupts: Interrupts::new(),
+            dispatches: Dispatches::NONE,
+            bus: no_waits(),
+            units: no_waits(),
+            came: [0; 32],
             costs: Costs::new(&description.values()),
             loads: Accesses { all: 0, quick: 0 },
             drains: Accesses { all: 0, quick: 0 },
@@ -65,11 +80,16 @@ impl Tale {
         pipeline: &Pipeline,
     )
         requires room { HasRoom self.old (length steps.now) }
-        ensures { self.new ≡ tale_after registers.old steps.now drain pipeline.now self.old }
+        ensures kept { self.new ≡ tale_after registers.old steps.now drain pipeline.now self.old }
+        ensures bus_grows { (more : ℕ) → CanGrow self.old.bus (more + length steps.now) → CanGrow self.new.bus more }
+        ensures units_grow { (more : ℕ) → CanGrow self.old.units (more + length steps.now) → CanGrow self.new.units more }
     {
         self.retired += count_retired(steps) as u64;
         self.exceptions.note(exception_in(steps, pipeline));
         self.interrupts.note(interruption_in(steps));
+        self.dispatches.add(steps);
+        add_waits(&mut self.bus, steps);
+        add_unit_waits(&mut self.units, &mut self.came, steps);
         add_loads(&mut self.loads, &self.costs, steps);
         add_drain(&mut self.drains, self.costs.hit, drain);
         note_head(&mut self.words, pipeline);

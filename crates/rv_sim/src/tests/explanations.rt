@@ -23,6 +23,9 @@ serial          0    0.0% \x20
 rob             0    0.0% \x20
 station         0    0.0% \x20
 store           0    0.0% \x20
+of the busy cycles 1 dispatched something that retired, 2 only what did not
+cycles that results waited for the bus: alu 0, mul 0, div 0, mem 0
+cycles that instructions waited for a unit: alu 0, mul 0, div 0, mem 0
 loads: 0, of them 0 at the cost of a hit or of forwarding, 0 at that of a miss
 drains: 0, of them 0 at the cost of a hit, 0 at that of a miss
 The lines that stood longest at the head of the reorder buffer, in cycles:
@@ -306,6 +309,55 @@ fn each_reason_to_wait_has_its_cycles(rt: HostRuntime) {
     for told in WAITS {
         check_run(&rt, rt.alloc(), EXPLAIN, told.program, 0, &[told.line]);
     }
+}
+
+// Four results that are ready in cycle 3, of which the bus takes one a cycle, the oldest first.
+const FOUR_RESULTS: &str = "ram_base = 0
+bus_width = 1
+fetch_width = 4
+dispatch_width = 4
+mul.latency = 1
+div.latency = 1
+%%
+mul x1,x0,x0
+addi x2,x0,1
+div x3,x0,x0
+sw x0,1024(x0)
+ebreak
+";
+
+#[test]
+fn what_results_wait_for_the_bus_is_told(rt: HostRuntime) {
+    let line = "cycles that results waited for the bus: alu 1, mul 0, div 2, mem 3";
+    check_run(&rt, rt.alloc(), EXPLAIN, FOUR_RESULTS, 0, &[line]);
+}
+
+// Eight instructions that are dispatched in cycle 1 and three in 2, with one unit of each kind; a division takes 4 cycles.
+const ONE_UNIT: &str = "ram_base = 0
+bus_width = 8
+fetch_width = 8
+dispatch_width = 8
+alu.units = 1
+div.latency = 4
+%%
+addi x1,x0,1
+addi x2,x0,1
+addi x3,x0,1
+addi x4,x0,1
+mul x5,x0,x0
+mul x6,x0,x0
+div x7,x0,x0
+div x8,x0,x0
+sw x0,1024(x0)
+sw x0,1028(x0)
+sw x0,1032(x0)
+ebreak
+";
+
+#[test]
+fn what_instructions_wait_for_a_unit_is_told(rt: HostRuntime) {
+    let line = "cycles that instructions waited for a unit: alu 6, mul 1, div 4, mem 3";
+    check_run(&rt, rt.alloc(), EXPLAIN, ONE_UNIT, 0, &[line]);
 }
 
 // A load that misses, one that hits, and one whose bytes come from the store before it. The last one is squashed.
