@@ -41,7 +41,7 @@ pub(crate) fn thousandths(count: u64, each: u64) -> u32
 
 /// A number below 1000 in three digits.
 #[tactic(auto, unfolding(crate::specs::Line::three_digits))]
-pub(crate) fn three_digits(number: u32) -> [u8; 3]
+pub fn three_digits(number: u32) -> [u8; 3]
     requires { number < 1000 }
     ensures { result ≡ three_digits number }
 {

@@ -7,7 +7,7 @@ mod fields;
 mod output;
 mod plain;
 
-pub use digits::hexadecimal;
+pub use digits::{hexadecimal, three_digits};
 pub use fields::{Field, Value, write_cells, write_fields};
 pub use output::{ReportError, TextError, put, put_all};
 pub use plain::{front, write_plain, write_plain_byte};

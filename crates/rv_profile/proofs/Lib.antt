@@ -1,0 +1,5 @@
+mod CountsMore
+mod Places
+mod Changes
+mod Profiles
+mod Rooms

@@ -1,0 +1,51 @@
+-- The table of a profile: a line for each address, its cells with a tab between two.
+use Rattle.std.specs.Prelude.{ℕ, ◌==◌, if◌then◌else◌, List, [], ◌∷◌, ◌++◌, codes, decimal, Option, Some, None}
+use Rattle.std.specs.List.{flat_map}
+use Rattle.rv_source.specs.Listing.{Line, Listed, line_at}
+use Rattle.rv_text.specs.Line.{ratio_text, word_text}
+use Rattle.rv_text.specs.Plain.{plain_text}
+use Rattle.rv_text.specs.ReadField.{cell_text}
+use Rattle.rv_text.specs.declared.fields.Value.TheVariants.{Count}
+use Rattle.rv_profile.specs.Wait.{Waited}
+use Rattle.rv_profile.specs.declared.counts.WordCounts.{WordCounts}
+
+-- the names of the columns
+unfoldable pub table_head : List ℕ
+table_head =
+    codes "address\tline\tstatement\tfetched\tretired\tsquashed\tdispatch_mean\tdispatch_most\tissue_mean\tissue_most\t" ++
+    codes "broadcast_mean\tbroadcast_most\tretire_mean\tretire_most\thits\tmisses\tmispredicted\thead\n"
+
+-- the number and the statement of a line; nothing of a word that no line fills
+unfoldable pub line_cells : Option Line → List ℕ
+line_cells (Some line) = decimal line.number ++ (codes "\t" ++ (plain_text line.text ++ codes "\t"))
+line_cells None = codes "\t\t"
+
+-- where the instruction stands
+unfoldable pub place_cells : Listed → ℕ → List ℕ
+place_cells listing address = (word_text address ++ codes "\t") ++ line_cells (line_at listing address)
+
+-- the mean of waits, rounded down to three digits after the point, and the greatest; hyphens of none
+unfoldable pub wait_cells : Waited → List ℕ
+wait_cells wait =
+    if wait.count == 0 then codes "-\t-\t" else ratio_text wait.total wait.count ++ (codes "\t" ++ (decimal wait.most ++ codes "\t"))
+
+-- the waits between the stages
+unfoldable pub waits_cells : WordCounts → List ℕ
+waits_cells word =
+    wait_cells word.dispatch ++ (wait_cells word.issue ++ (wait_cells word.broadcast ++ wait_cells word.retirement))
+
+-- how many there were, by how they ended
+unfoldable pub ended_cells : WordCounts → List ℕ
+ended_cells word = flat_map cell_text (Count word.fetched ∷ Count word.retired ∷ Count word.squashed ∷ [])
+
+-- how the loads and the predictions fared, and at the end of the line the cycles at the head
+unfoldable pub last_cells : WordCounts → List ℕ
+last_cells word = flat_map cell_text (Count word.hits ∷ Count word.misses ∷ Count word.mispredicted ∷ []) ++ (decimal word.head_cycles ++ codes "\n")
+
+-- the line of an address
+unfoldable pub word_line : Listed → WordCounts → List ℕ
+word_line listing word = place_cells listing word.address ++ (ended_cells word ++ (waits_cells word ++ last_cells word))
+
+-- the table
+unfoldable pub table_text : Listed → List WordCounts → List ℕ
+table_text listing words = table_head ++ flat_map (word_line listing) words
