@@ -1,9 +1,10 @@
-ghost use Rattle.std.specs.Prelude.{◌≡◌, ◌+◌, ◌-◌, ◌%◌, ◌^◌, ◌≤◌, ◌++◌, ◌↔◌, IsTrue, true, false, [], length, map, replicate, slice_index, IfOk};
+ghost use Rattle.std.specs.Prelude.{◌≡◌, ◌+◌, ◌-◌, ◌%◌, ◌^◌, ◌≤◌, ◌++◌, ◌↔◌, IsTrue, true, false, [], get_or, length, map, replicate, slice_index, IfOk};
 ghost use Rattle.rv_isa.specs.Description.{IsLegalCost, IsRamBase};
 ghost use Rattle.rv_memory.specs.Bytes.{overwritten};
 ghost use Rattle.rv_cache.specs.Line.{cleaned, dirty_total};
 ghost use Rattle.rv_cache.specs.Cache.{IsAccess, IsAligned, IsCached, IsInMemory, IsUpdated, IsUpdatedElsewhere, access_cost, accessed_sets, cost_of_access, memory_after, memory_written_back, seen, seen_after};
 
+use crate::CacheLine;
 use crate::set::{Access, Set};
 use crate::write_back::{write_back_sets, write_back_victim};
 use rv_isa::{CacheValues, Description};
@@ -163,6 +164,16 @@ impl<M: Backing> Cache<M> {
         ensures { result ≡ slice_index self.now.bytes (address - self.now.base) }
     {
         self.bytes[(address - self.base) as usize]
+    }
+
+    /// The lines of a set by its number, most recently used first; none where there is no such set.
+    pub fn lines(&self, set: usize) -> &[CacheLine]
+        ensures { result.now ≡ get_or self.now.sets set [] }
+    {
+        match self.sets.get(set) {
+            Some(set) => set.lines(),
+            None => &[],
+        }
     }
 
     /// The backing, which lacks what dirty lines hold.

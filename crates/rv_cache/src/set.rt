@@ -44,6 +44,13 @@ impl Set {
         }
     }
 
+    /// The lines, most recently used first.
+    pub fn lines(&self) -> &[CacheLine]
+        ensures { result.now ≡ self.now }
+    {
+        self.lines.as_slice()
+    }
+
     /// Uses a line of a set that holds at most `ways`.
     pub fn access(&mut self, ways: usize, number: u32, writes: bool) -> Access
         requires ways { 1 ≤ ways × ways ≤ 16 }

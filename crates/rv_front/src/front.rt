@@ -106,6 +106,20 @@ impl Front {
         self.ring.get(place)
     }
 
+    /// The pc to fetch next.
+    pub fn next_pc(&self) -> u32
+        ensures { result ≡ self.now.next_pc }
+    {
+        self.next_pc
+    }
+
+    /// Whether it fetches nothing until it is redirected.
+    pub fn is_halted(&self) -> bool
+        ensures { result ≡ self.now.halted }
+    {
+        self.halted
+    }
+
     /// Takes the oldest word out of the buffer.
     pub fn take(&mut self) -> Fetched
         requires { 0 < length self.old.entries }

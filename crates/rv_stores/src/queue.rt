@@ -1,4 +1,4 @@
-ghost use Rattle.std.specs.Prelude.{◌≡◌, ◌≤◌, ◌↔◌, ◌++◌, ◌∷◌, [], Some, length, map, filter, nat_lt, nat_le, IsTrue, IsSome, IfOk, false};
+ghost use Rattle.std.specs.Prelude.{◌≡◌, ◌≤◌, ◌↔◌, ◌++◌, ◌∷◌, [], Some, length, map, filter, nat_lt, nat_le, option_copied, slice_get, IsTrue, IsSome, IfOk, false};
 ghost use Rattle.std.specs.List.{prefix_len};
 ghost use Rattle.rv_isa.specs.Numbered.{AreBelow};
 ghost use Rattle.rv_stores.specs.Queue.{CanEnter, first_unknown, forwarded, is_oldest_draining, older_than, oldest_to_drain, with_oldest_draining, with_oldest_retired, without_drained, youngest_byte};
@@ -57,6 +57,20 @@ impl StoreQueue {
         ensures { IsTrue result ↔ (self.now.stores ≡ []) }
     {
         self.ring.is_empty()
+    }
+
+    /// How many stores the queue holds.
+    pub fn len(&self) -> usize
+        ensures { result ≡ length self.now.stores }
+    {
+        self.ring.len()
+    }
+
+    /// The store at a place of the queue, the oldest at place 0.
+    pub fn get(&self, place: usize) -> Option<&Store>
+        ensures { option_copied result ≡ slice_get self.now.stores place }
+    {
+        self.ring.get(place)
     }
 
     /// Whether there is room for a store, and the number is above each one that the queue holds.

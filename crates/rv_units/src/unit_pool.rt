@@ -1,4 +1,4 @@
-ghost use Rattle.std.specs.Prelude.{◌≡◌, length, IsTrue, IfOk};
+ghost use Rattle.std.specs.Prelude.{◌≡◌, length, slice_get, IsTrue, IfOk};
 ghost use Rattle.rv_units.specs.Pool.{free_pool, holds_unit, holding, is_free, started};
 
 use rv_isa::{Issue, KindValues};
@@ -70,6 +70,33 @@ impl UnitPool {
         ensures { result ≡ is_free cycle self.now }
     {
         self.held(cycle) < self.units
+    }
+
+    /// How many starts are remembered: those that hold a unit, and maybe some that hold none any more.
+    pub fn start_count(&self) -> usize
+        ensures { result ≡ length self.now.starts }
+    {
+        if self.is_pipelined {
+            self.count
+        } else {
+            self.starts.len()
+        }
+    }
+
+    /// The start at a place among those that are remembered, the oldest at place 0.
+    pub fn start_at(&self, place: usize) -> Option<Issue>
+        ensures { result ≡ slice_get self.now.starts place }
+    {
+        if !self.is_pipelined {
+            return self.starts.get(place).copied();
+        }
+        if place < self.count {
+            return Some(Issue {
+                cycle: self.latest,
+                cost: 1,
+            });
+        }
+        None
     }
 
     /// Starts an execution in a cycle, and forgets those that hold no unit in it.

@@ -1,9 +1,9 @@
-ghost use Rattle.std.specs.Prelude.{◌≡◌, IsTrue, IfOk};
+ghost use Rattle.std.specs.Prelude.{◌≡◌, length, slice_get, IsTrue, IfOk};
 ghost use Rattle.rv_isa.specs.PerKind.{for_each, at_kind, with_kind};
 ghost use Rattle.rv_units.specs.Pool.{free_pool, is_free, started};
 
 use crate::unit_pool::UnitPool;
-use rv_isa::{Description, Kind, PerKind};
+use rv_isa::{Description, Issue, Kind, PerKind};
 use std::alloc::{AllocError, Global};
 use std::marker::Model;
 
@@ -43,6 +43,20 @@ impl Units {
         ensures { result ≡ is_free cycle (at_kind kind self.now) }
     {
         self.pools.get(kind).free(cycle)
+    }
+
+    /// How many starts of a kind are remembered: those that hold a unit, and maybe some that hold none any more.
+    pub fn start_count(&self, kind: Kind) -> usize
+        ensures { result ≡ length (at_kind kind self.now).starts }
+    {
+        self.pools.get(kind).start_count()
+    }
+
+    /// The start at a place among those of a kind, the oldest at place 0: its cycle, and for how many cycles it holds its unit.
+    pub fn start_at(&self, kind: Kind, place: usize) -> Option<Issue>
+        ensures { result ≡ slice_get (at_kind kind self.now).starts place }
+    {
+        self.pools.get(kind).start_at(place)
     }
 
     /// Starts an execution of a cost on a unit of a kind that is free in a cycle. The cycles handed in
