@@ -11,7 +11,7 @@ use Rattle.rv_hardware.specs.declared.report.Stall.{Stall}
 use Rattle.rv_hardware.specs.declared.report.Stall.TheVariants as stall
 use Rattle.rv_hardware.specs.declared.report.StallCounts.{StallCounts}
 use Rattle.rv_hardware.specs.declared.step.Step.{Step}
-use Rattle.rv_core.specs.Progress.{IsBounded, progress_after, progress_of, silence_after, silence_from}
+use Rattle.rv_core.specs.Progress.{IsBounded, progress_after, last_stall_of, progress_of, silence_after, silence_from}
 use Rattle.rv_core.specs.RunDone.{IsRun}
 use Rattle.rv_core.specs.declared.outcome.Progress.{Progress}
 
@@ -65,6 +65,11 @@ busy_of-push rs r =
       last : (x : Report) → sum_by (λ (y : Report). cond (not (y.dispatched == 0)) 1 0) (x ∷ []) ≡ cond (not (x.dispatched == 0)) 1 0 + 0
       last x = omega arith
 
+last_stall_of-push : (rs : List Report) (r : Report) → last_stall_of (rs ++ r ∷ []) ≡ r.stall
+last_stall_of-push [] r = refl
+last_stall_of-push (x ∷ []) r = refl
+last_stall_of-push (x ∷ y ∷ rs) r = last_stall_of-push (y ∷ rs) r
+
 pub progress_of-push : (rs : List Report) (r : Report) → progress_of (rs ++ r ∷ []) ≡ progress_after r (progress_of rs)
 progress_of-push rs r =
     let count : length (rs ++ r ∷ []) ≡ length rs + 1 = omega (arith, length-append rs (r ∷ [])) in
@@ -72,6 +77,7 @@ progress_of-push rs r =
       stalls = stalls_from-push (stalls_of []) rs r j;
       busy = busy_of-push rs r j;
       cycles = count j;
+      stall = last_stall_of-push rs r j;
       silent = silence_from-push 0 rs r j;
       longest_gap = longest_gap_from-push 0 rs r j;
     }

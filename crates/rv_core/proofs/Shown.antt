@@ -114,7 +114,7 @@ module _ {T : Type 0} (has_seen : Sight T) (arrivals : List Arrival) (old : Guid
       pub steps_are : steps ≡ next.report.steps
       steps_are = listed ∙ next.steps_are ∙ ap (λ l. l ++ next.report.steps) none
 
-      abbrev pub shown_now : IsShown (watched arrivals old watching.moments now) cycle steps after
+      abbrev pub shown_now : IsShown (watched arrivals old watching.moments now) cycle steps after progress'
       shown_now = record {
         report = next.report;
         predictor = predictor;
@@ -126,6 +126,7 @@ module _ {T : Type 0} (has_seen : Sight T) (arrivals : List Arrival) (old : Guid
         counted = within;
         steps_are = steps_are;
         few = omega (arith, next.few, ap length steps_are);
+        progress_is = next.counted ∙ ap (progress_after next.report) watching.counted ∙ sym (progress_of-push (reports_of watching.moments) next.report);
       }
 
       abbrev moment : Moment
@@ -138,7 +139,7 @@ module _ {T : Type 0} (has_seen : Sight T) (arrivals : List Arrival) (old : Guid
       new = guided after predictor
 
       counted_now : progress' ≡ progress_of (reports_of moments_now)
-      counted_now = next.counted ∙ ap (progress_after next.report) watching.counted ∙ sym (ap progress_of (reports_of-push watching.moments moment) ∙ progress_of-push (reports_of watching.moments) next.report)
+      counted_now = shown_now.progress_is ∙ sym (ap progress_of (reports_of-push watching.moments moment))
 
       module _ {watcher'' : T} {output'' : Option (List ℕ)}
           (sees : (before : Option (List ℕ)) → has_seen watcher watcher' (watched arrivals old watching.moments now) before output' → has_seen watcher watcher'' (watched arrivals old moments_now new) before output'') where

@@ -1,12 +1,12 @@
 -- The counts of a run after some cycles.
-use Rattle.std.specs.Prelude.{◌≡◌, ℕ, ◌+◌, ◌≤◌, max, ◌==◌, Bool, if◌then◌else◌, List, [], ◌∷◌, ◌++◌, length, Option}
+use Rattle.std.specs.Prelude.{◌≡◌, ℕ, ◌+◌, ◌≤◌, max, ◌==◌, Bool, if◌then◌else◌, List, [], ◌∷◌, ◌++◌, length, Option, None}
 use Rattle.rv_isa.specs.Arrivals.{lines_at}
 use Rattle.rv_isa.specs.declared.lines.Arrival.{Arrival}
 use Rattle.rv_arch.specs.declared.outcome.Stop.{Stop}
 use Rattle.rv_hardware.specs.Guided.{GuidedHardware, IsGuidedCycle}
 use Rattle.rv_hardware.specs.Report.{Report}
 use Rattle.rv_hardware.specs.Run.{busy_of, counted_stall, is_silent, longest_gap_of, stalls_of}
-use Rattle.rv_hardware.specs.declared.step.Step.{Step}
+use Rattle.rv_hardware.specs.declared.{report.Stall.Stall, step.Step.Step}
 use Rattle.rv_core.specs.Told.{IsCommitStop}
 use Rattle.rv_core.specs.declared.outcome.Progress.{Progress}
 
@@ -19,12 +19,19 @@ abbrev pub silence_from : ℕ → List Report → ℕ
 silence_from silence [] = silence
 silence_from silence (report ∷ reports) = silence_from (silence_after (is_silent report.steps) silence) reports
 
+-- what the last of some cycles waited for, where it dispatched nothing
+abbrev pub last_stall_of : List Report → Option Stall
+last_stall_of [] = None
+last_stall_of (report ∷ []) = report.stall
+last_stall_of (report ∷ next ∷ reports) = last_stall_of (next ∷ reports)
+
 -- the counts of some cycles
 abbrev pub progress_of : List Report → Progress
 progress_of reports = record {
   stalls = stalls_of reports;
   busy = busy_of reports;
   cycles = length reports;
+  stall = last_stall_of reports;
   silent = silence_from 0 reports;
   longest_gap = longest_gap_of reports;
 }
@@ -35,6 +42,7 @@ progress_after report progress = record {
   stalls = counted_stall report.stall progress.stalls;
   busy = if report.dispatched == 0 then progress.busy else progress.busy + 1;
   cycles = progress.cycles + 1;
+  stall = report.stall;
   silent = silence_after (is_silent report.steps) progress.silent;
   longest_gap = max progress.longest_gap (silence_after (is_silent report.steps) progress.silent);
 }

@@ -28,8 +28,8 @@ watched arrivals first moments now = record { arrivals = arrivals; first = first
 abbrev pub HaveFewSteps : List Moment → Type 0
 HaveFewSteps moments = length (steps_of (reports_of moments)) ≤ 8 * length (reports_of moments)
 
--- the next cycle is shown: its number, its steps, and the hardware that it left
-pub record IsShown (seen : Watched) (cycle : ℕ) (steps : List Step) (after : Hardware) : Type 0 where
+-- the next cycle is shown: its number, its steps, the hardware that it left, and the counts of the cycles so far with it
+pub record IsShown (seen : Watched) (cycle : ℕ) (steps : List Step) (after : Hardware) (progress : Progress) : Type 0 where
   pub report : Report
   pub predictor : Option DescribedPredictor
   pub passes : History seen.arrivals seen.first seen.moments seen.now
@@ -40,9 +40,10 @@ pub record IsShown (seen : Watched) (cycle : ℕ) (steps : List Step) (after : H
   pub counted : cycle < 2 ^ 40
   pub steps_are : steps ≡ report.steps
   pub few : length steps ≤ 8
+  pub progress_is : progress ≡ progress_of (reports_of seen.moments ++ report ∷ [])
 
 -- what there was to see, with the next cycle
-abbrev pub with_shown : {cycle : ℕ} {steps : List Step} {after : Hardware} (seen : Watched) → IsShown seen cycle steps after → Watched
+abbrev pub with_shown : {cycle : ℕ} {steps : List Step} {after : Hardware} {progress : Progress} (seen : Watched) → IsShown seen cycle steps after progress → Watched
 with_shown {after = after} seen shown =
     watched seen.arrivals seen.first (seen.moments ++ record { report = shown.report; after = after } ∷ []) (guided after shown.predictor)
 

@@ -1,5 +1,6 @@
 ghost use Rattle.std.specs.Prelude.{◌≡◌, ◌+◌, ◌≤◌, [], ◌++◌, length, vec_capacity, vec_len};
 
+use crate::outcome::Progress;
 use crate::pipeline::Pipeline;
 use crate::watcher::Watcher;
 use rv_hardware::Step;
@@ -45,7 +46,7 @@ impl Watcher for Collector {
         self.steps.reserve(8)
     }
 
-    fn see<W: Write>(&mut self, _: u64, steps: &[Step], _: &Pipeline, _: &mut W) {
+    fn see<W: Write>(&mut self, _: u64, steps: &[Step], _: &Pipeline, _: &Progress, _: &mut W) {
         self.add(steps);
     }
 }

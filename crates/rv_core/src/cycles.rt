@@ -145,7 +145,7 @@ fn count_stall(stalls: &mut StallCounts, stall: Stall)
 
 impl Progress {
     /// The counts of no cycle.
-    pub(crate) fn new() -> Progress
+    pub fn new() -> Progress
         ensures { result ≡ progress_of [] }
     {
         Progress {
@@ -158,6 +158,7 @@ impl Progress {
             },
             busy: 0,
             cycles: 0,
+            stall: None,
             silent: 0,
             longest_gap: 0,
         }
@@ -198,6 +199,7 @@ impl Progress {
         if let Some(stall) = end.stall {
             count_stall(&mut self.stalls, stall);
         }
+        self.stall = end.stall;
         self.silent = if steps.is_empty() { self.silent + 1 } else { 0 };
         self.longest_gap = self.longest_gap.max(self.silent);
     }

@@ -49,6 +49,8 @@ pub struct Progress {
     pub busy: u64,
     /// The cycles done.
     pub cycles: u64,
+    /// What the last cycle waited for, where it dispatched nothing.
+    pub stall: Option<Stall>,
     /// The cycles since the last step.
     pub silent: u64,
     /// The greatest number of consecutive cycles without a step.

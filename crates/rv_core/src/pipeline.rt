@@ -9,6 +9,7 @@ ghost use Rattle.rv_hardware.specs.Run.{Reachable};
 ghost use Rattle.rv_hardware.specs.Reset.{IsLoadable, reset_hardware};
 ghost use Rattle.rv_hardware.specs.Seen.{layout_of, seen};
 ghost use Rattle.rv_hardware.specs.declared.step.Step.{Step as StepOf};
+ghost use Rattle.rv_core.specs.Ties.{queue_of};
 ghost use Rattle.rv_core.specs.Told.{IsCommitStop, TakesDue, exhausted_report, report_of_cycle, report_with};
 ghost use Rattle.rv_core.specs.declared.errors.NewError.TheVariants as refusal;
 
@@ -17,11 +18,14 @@ use crate::outcome::{CycleEnd, CycleReport};
 use crate::parts::Parts;
 use arrayvec::ArrayVec;
 use rv_arch::{Observed, Stop};
+use rv_cache::Cache;
 use rv_front::{Front, Predictor};
 use rv_hardware::Step;
-use rv_isa::{Description, Image, Lines};
-use rv_memory::Backing;
+use rv_isa::{Description, Image, Lines, Values};
+use rv_memory::{Backing, Ram};
 use rv_rob::Rob;
+use rv_stores::StoreQueue;
+use rv_units::Units;
 use std::alloc::Global;
 use std::marker::Model;
 
@@ -174,6 +178,41 @@ impl Pipeline {
         ensures { result.now ≡ self.now.front }
     {
         &self.parts.front
+    }
+
+    /// What the machine description says.
+    pub fn values(&self) -> &Values
+        ensures { result.now ≡ self.now.values }
+    {
+        &self.parts.values
+    }
+
+    /// The data cache over RAM.
+    pub fn cache(&self) -> &Cache<Ram>
+        ensures { result.now ≡ self.now.cache }
+    {
+        &self.parts.cache
+    }
+
+    /// The functional units, with the executions that hold one.
+    pub fn units(&self) -> &Units
+        ensures { result.now ≡ self.now.units }
+    {
+        &self.parts.units
+    }
+
+    /// The store queue: the retired stores that the cache does not hold yet, and after them those in flight.
+    pub fn store_queue(&self) -> &StoreQueue
+        ensures { result.now ≡ queue_of self.now }
+    {
+        &self.parts.stores
+    }
+
+    /// The first cycle in which the cache's port is idle.
+    pub fn port_free(&self) -> u64
+        ensures { result ≡ self.now.port_free }
+    {
+        self.parts.port_free
     }
 
     /// The first cycle in which the access of a retired store to the cache is over that is under way now, or `None` where

@@ -1,3 +1,4 @@
+use crate::outcome::Progress;
 use crate::pipeline::Pipeline;
 use rv_hardware::Step;
 use std::io::Write;
@@ -21,9 +22,17 @@ pub trait Watcher: Drop {
         ensures kept { (start : Self) (seen : Watched) (before now : Option (List ℕ)) → has_seen start self.old seen before now → has_seen start self.new seen before now }
         ensures room { IfOk result (λ done. has_room self.new) };
 
-    /// Is shown the next cycle, by its number, its steps and the pipeline after it. Asks for no memory.
-    fn see<W: Write>(&mut self, cycle: u64, steps: &[Step], pipeline: &Pipeline, output: &mut W)
+    /// Is shown the next cycle, by its number, its steps, the pipeline after it, and the counts of the cycles so far with it.
+    /// Asks for no memory.
+    fn see<W: Write>(
+        &mut self,
+        cycle: u64,
+        steps: &[Step],
+        pipeline: &Pipeline,
+        progress: &Progress,
+        output: &mut W,
+    )
         requires room { has_room self.old }
-        requires shown { (start : Self) × (seen : Watched) × (before : Option (List ℕ)) × IsShown seen cycle steps.now pipeline.now × has_seen start self.old seen before (W.contents output.old) }
-        ensures { (start : Self) (seen : Watched) (before : Option (List ℕ)) (shown : IsShown seen cycle steps.now pipeline.now) → has_seen start self.old seen before (W.contents output.old) → has_seen start self.new (with_shown seen shown) before (W.contents output.new) };
+        requires shown { (start : Self) × (seen : Watched) × (before : Option (List ℕ)) × IsShown seen cycle steps.now pipeline.now progress.now × has_seen start self.old seen before (W.contents output.old) }
+        ensures { (start : Self) (seen : Watched) (before : Option (List ℕ)) (shown : IsShown seen cycle steps.now pipeline.now progress.now) → has_seen start self.old seen before (W.contents output.old) → has_seen start self.new (with_shown seen shown) before (W.contents output.new) };
 }

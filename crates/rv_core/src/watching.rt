@@ -57,7 +57,7 @@ pub fn watch<T: Watcher, W: Write>(
         steps.clear();
         let cycle = pipeline.cycles_done();
         let stop = progress.run_cycle(pipeline, predictor, arrivals, &mut steps);
-        watcher.see(cycle, steps.as_slice(), pipeline, output);
+        watcher.see(cycle, steps.as_slice(), pipeline, &progress, output);
         if let Some(stop) = stop {
             return finished(progress, Ok(stop));
         }

@@ -37,7 +37,7 @@ pub telling_nothing : (values : Values) (arrivals : List Arrival) (h : GuidedHar
 telling_nothing values arrivals h tale registers end untold registers_are end_is =
     record { values = values; untold = untold; told = λ by is. is; bus_grows = λ more few. subst (λ (t : Tale). CanGrow t.bus more) (sym untold) (nothing_grows more few); units_grow = λ more few. subst (λ (t : Tale). CanGrow t.units more) (sym untold) (nothing_grows more few); registers_are = registers_are; end_is = end_is }
 
-module _ {seen : Watched} {cycle : ℕ} {steps : List Step} {after : Hardware} (shown : IsShown seen cycle steps after)
+module _ {seen : Watched} {cycle : ℕ} {steps : List Step} {after : Hardware} {progress : Progress} (shown : IsShown seen cycle steps after progress)
     {first tale : Tale} {registers : List ℕ} {end : Option ℕ} (telling : IsTelling first tale registers end seen) where
   -- the steps of one more cycle can be counted
   pub room : HasRoom tale (length steps)

@@ -43,7 +43,14 @@ impl Watcher for Teller {
         Ok(())
     }
 
-    fn see<W: Write>(&mut self, cycle: u64, steps: &[Step], pipeline: &Pipeline, _: &mut W) {
+    fn see<W: Write>(
+        &mut self,
+        cycle: u64,
+        steps: &[Step],
+        pipeline: &Pipeline,
+        _: &Progress,
+        _: &mut W,
+    ) {
         let drain_end = pipeline.drain_end();
         let drain = begun(cycle, self.drain_end, drain_end);
         self.tale.add(&mut self.registers, steps, drain, pipeline);

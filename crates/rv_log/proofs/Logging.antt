@@ -5,6 +5,7 @@ use Rattle.std.specs.List.{flat_map}
 use Rattle.std.proofs.lemmas.Grind.{flat_map-append}
 use Rattle.rv_isa.specs.declared.lines.Arrival.{Arrival}
 use Rattle.rv_arch.specs.declared.outcome.Stop.{Stop}
+use Rattle.rv_core.specs.declared.outcome.Progress.{Progress}
 use Rattle.rv_core.specs.Watching.{IsShown, Watched, watched, with_shown}
 use Rattle.rv_core.proofs.Shown.{cycle_counts, cycles_shown, reports_of-push}
 use Rattle.rv_hardware.specs.Guided.{GuidedHardware, guided}
@@ -67,7 +68,7 @@ logging_nothing arrivals h listing table written before now cycle rows is roomy 
       wrote = written_same written before now (begin_text listing cycle rows) (log_text listing h.hardware []) ((λ i. begin_text listing (cycle_is i) (all_rows i)) ∙ log-none listing h.hardware) wrote;
     }
 
-module _ {T E : Type 0} {seen : Watched} {cycle : ℕ} {steps : List Step} {after : Hardware} (shown : IsShown seen cycle steps after)
+module _ {T E : Type 0} {seen : Watched} {cycle : ℕ} {steps : List Step} {after : Hardware} {progress : Progress} (shown : IsShown seen cycle steps after progress)
     {listing listing' : Listed} {table : Table} {written : Result T E} {before mid : Option (List ℕ)} (logging : IsLogging listing listing' table written seen before mid) where
   -- the counts of the table can go on
   pub can_count : CanCount (passages_of table)

@@ -6,7 +6,7 @@ ghost use Rattle.rv_text.specs.Written.{IsWritten};
 
 use crate::cycle::{write_begin, write_cycle};
 use rv_arch::Stop;
-use rv_core::{Pipeline, Watcher, watch};
+use rv_core::{Pipeline, Progress, Watcher, watch};
 use rv_front::Predictor;
 use rv_hardware::Step;
 use rv_isa::Arrivals;
@@ -44,7 +44,14 @@ impl Watcher for Logger<'_> {
         Ok(())
     }
 
-    fn see<W: Write>(&mut self, cycle: u64, steps: &[Step], pipeline: &Pipeline, output: &mut W) {
+    fn see<W: Write>(
+        &mut self,
+        cycle: u64,
+        steps: &[Step],
+        pipeline: &Pipeline,
+        _: &Progress,
+        output: &mut W,
+    ) {
         // Of hardware that a reset and cycles lead to, the buffers are as long as described.
         let _ = pipeline.cycles_done();
         let buffer = pipeline.reorder_buffer();

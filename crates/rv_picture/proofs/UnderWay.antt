@@ -3,6 +3,7 @@ use Rattle.std.proofs.Common.{◌≡◌, ◌∙◌, ℕ, ◌+◌, ◌≤◌, Boo
 use Rattle.std.specs.Prelude.{IfOk, OnErr, Result, Ok, Err}
 use Rattle.rv_isa.specs.declared.lines.Arrival.{Arrival}
 use Rattle.rv_arch.specs.declared.outcome.Stop.{Stop}
+use Rattle.rv_core.specs.declared.outcome.Progress.{Progress}
 use Rattle.rv_core.specs.Watching.{IsShown, Watched, watched, with_shown}
 use Rattle.rv_core.proofs.Shown.{cycle_counts, cycles_shown, reports_of-push}
 use Rattle.rv_hardware.specs.Guided.{GuidedCycles, GuidedHardware, cycled, ended}
@@ -62,7 +63,7 @@ followed_nothing arrivals h table is few =
       retired = omega (arith, ap (λ (t : Passages). t.retired) is);
     }
 
-module _ {seen : Watched} {cycle : ℕ} {steps : List Step} {after : Hardware} (shown : IsShown seen cycle steps after) {table : Passages} (so_far : HasFollowed table seen) where
+module _ {seen : Watched} {cycle : ℕ} {steps : List Step} {after : Hardware} {progress : Progress} (shown : IsShown seen cycle steps after progress) {table : Passages} (so_far : HasFollowed table seen) where
   -- the counts of the table can go on
   pub can_count : CanCount table
   can_count = record { fetched = omega (arith, so_far.fetched, shown.number, shown.counted); retired = omega (arith, so_far.retired, shown.number, shown.counted) }

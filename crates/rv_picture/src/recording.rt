@@ -8,7 +8,7 @@ ghost use Rattle.rv_picture.specs.Recording.{HasRun, IsFollowed, IsOver, IsRecor
 
 use crate::window::Window;
 use rv_arch::Stop;
-use rv_core::{Pipeline, Watcher, watch};
+use rv_core::{Pipeline, Progress, Watcher, watch};
 use rv_front::Predictor;
 use rv_hardware::Step;
 use rv_isa::Arrivals;
@@ -44,7 +44,7 @@ impl Watcher for Nobody {
         Ok(())
     }
 
-    fn see<W: Write>(&mut self, _: u64, _: &[Step], _: &Pipeline, _: &mut W) {}
+    fn see<W: Write>(&mut self, _: u64, _: &[Step], _: &Pipeline, _: &Progress, _: &mut W) {}
 }
 
 // The watcher that follows the instructions.
@@ -67,7 +67,14 @@ impl Watcher for Follower {
         self.table.make_room()
     }
 
-    fn see<W: Write>(&mut self, cycle: u64, steps: &[Step], pipeline: &Pipeline, _: &mut W) {
+    fn see<W: Write>(
+        &mut self,
+        cycle: u64,
+        steps: &[Step],
+        pipeline: &Pipeline,
+        _: &Progress,
+        _: &mut W,
+    ) {
         // Of hardware that a reset and cycles lead to, the buffers are as long as described.
         let _ = pipeline.cycles_done();
         let buffer = pipeline.reorder_buffer();

@@ -97,7 +97,7 @@ traced_nothing is_shown counts written done output none unwritten = record {
   trace = subst (λ r. IsWritten r output output (trace_of is_shown [])) (sym unwritten) (Appends-same output output _ _ (sym (trace_of-none is_shown)) (Appends-nothing output));
 }
 
-module _ {T E : Type 0} {seen : Watched} {cycle : ℕ} {steps : List Step} {after : Hardware} (shown : IsShown seen cycle steps after)
+module _ {T E : Type 0} {seen : Watched} {cycle : ℕ} {steps : List Step} {after : Hardware} {progress : Progress} (shown : IsShown seen cycle steps after progress)
     {is_shown is_shown' : Bool} {counts : StepCounts} {written : Result T E} {before mid : Option (List ℕ)} (traced : HasTraced is_shown is_shown' counts written seen.moments before mid) where
   -- the steps of one more cycle can be counted
   pub room_for_more : HasRoom counts (length steps)

@@ -10,7 +10,7 @@ use crate::options::Options;
 use crate::run_report::{write_totals, write_trace};
 use crate::totals::{StepCounts, Totals};
 use rv_arch::Stop;
-use rv_core::{Pipeline, Watcher, watch};
+use rv_core::{Pipeline, Progress, Watcher, watch};
 use rv_front::Predictor;
 use rv_hardware::Step;
 use rv_isa::Arrivals;
@@ -67,7 +67,14 @@ impl Watcher for Trace {
         Ok(())
     }
 
-    fn see<W: Write>(&mut self, _: u64, steps: &[Step], _: &Pipeline, output: &mut W) {
+    fn see<W: Write>(
+        &mut self,
+        _: u64,
+        steps: &[Step],
+        _: &Pipeline,
+        _: &Progress,
+        output: &mut W,
+    ) {
         self.add(steps, output);
     }
 }
