@@ -3,3 +3,4 @@ mod Places
 mod Changes
 mod Profiles
 mod Rooms
+mod Profiling

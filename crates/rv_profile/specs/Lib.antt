@@ -8,3 +8,5 @@ pub mod Following
 pub mod Text
 pub mod Head
 pub mod Leaves
+pub mod Keeping
+pub mod Run

@@ -7,11 +7,14 @@ mod counts;
 mod loads;
 mod passing;
 mod profile;
+mod running;
 mod text;
 mod wait;
+mod written;
 
 pub use counts::WordCounts;
 pub use loads::LoadCosts;
 pub use profile::Profile;
 pub use text::write_table;
 pub use wait::Wait;
+pub use written::write_profile;

@@ -1,0 +1,49 @@
+ghost use Rattle.rv_hardware.specs.Guided.{guided};
+ghost use Rattle.rv_profile.specs.Run.{IsProfile};
+ghost use Rattle.rv_text.specs.IsText.{IsText};
+
+use crate::running::run_profiled;
+use crate::text::write_table;
+use rv_arch::Stop;
+use rv_core::Pipeline;
+use rv_front::Predictor;
+use rv_isa::{Arrivals, Description};
+use rv_source::Listing;
+use rv_text::{ReportError, TextError};
+use std::alloc::Global;
+use std::io::Write;
+
+/// Runs a pipeline that a predictor guides, each cycle with the lines of its number, up to a breakpoint, a stale word,
+/// exhaustion or so many cycles, and then writes the table of its instructions: a line with the names of the columns, and a
+/// line for each address that was fetched, in order of address, with a tab between two cells. It has the number and the
+/// statement of the line that fills the word, which are empty where none does; how often the instruction was fetched, retired
+/// and was squashed; of those that retired the mean and the greatest number of cycles from fetch to dispatch, to issue, to
+/// broadcast and to retirement, or hyphens where none came to both; their hits and misses, where they are loads; their wrong
+/// predictions; and the cycles
+/// that left the instruction at the head of the reorder buffer. The description tells what loads cost. Answers why the run
+/// ended.
+///
+/// # Errors
+///
+/// `Memory` when out of memory: then nothing was written, and the run was cut short. `WriteFailed` where a write fails: then
+/// what was written is a beginning of the table, and the run is done to its end.
+pub fn write_profile<W: Write>(
+    alloc: Global,
+    pipeline: &mut Pipeline,
+    predictor: &mut dyn Predictor,
+    description: &Description,
+    arrivals: &Arrivals,
+    limit: u64,
+    listing: &Listing,
+    writer: &mut W,
+) -> Result<Stop, TextError>
+    ensures { IsText (IsProfile arrivals.now limit description.now listing.now (guided pipeline.old (known predictor.old)) (guided pipeline.new (known predictor.new))) result (W.contents writer.old) (W.contents writer.new) }
+{
+    let Ok(counted) = run_profiled(alloc, pipeline, predictor, description, arrivals, limit) else {
+        return Err(TextError::Memory);
+    };
+    match write_table(writer, listing, counted.profile.words()) {
+        Ok(()) => Ok(counted.stop),
+        Err(ReportError::WriteFailed) => Err(TextError::WriteFailed),
+    }
+}
