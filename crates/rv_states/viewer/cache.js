@@ -4,9 +4,11 @@
 function accessIn(run, here, value, before) {
   const port = value.state.port_free;
   if (!before || port <= value.cycle || port === before.state.port_free) return undefined;
-  const made = (number, address, what) => ({ number, address, what, line: (address - address % run.machine.cache.line) / run.machine.cache.line, cost: port - value.cycle });
+  const size = run.machine.cache.line;
+  const made = (number, address, what) => ({ number, address, what, line: (address - address % size) / size, cost: port - value.cycle });
   const oldest = value.state.store_queue[0], was = oldest && before.state.store_queue.find((store) => store.sequence === oldest.sequence);
-  if (oldest && oldest.state === "draining" && !(was && was.state === "draining")) return made(run.numberOf(oldest.sequence, value), oldest.address, "drain");
+  const drains = oldest && oldest.state === "draining" && !(was && was.state === "draining");
+  if (drains) return made(run.numberOf(oldest.sequence, value), oldest.address, "drain");
   for (const number of here.phases.issue) {
     const load = run.table[number];
     if (!isLoad(load.word) || load.issued + load.cost !== port) continue;

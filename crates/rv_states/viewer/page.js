@@ -22,15 +22,16 @@ function show() {
 }
 
 function showFollowed() {
-  byId("following").textContent = view.followed === undefined ? "Follow an instruction: click on it, or press j." : instructionSentence(run, view.followed, view.place) + relatives(view.followed);
+  const followed = view.followed;
+  say(followed === undefined ? "Follow an instruction: click on it, or press j." : instructionSentence(run, followed, view.place) + relatives(followed));
   markFollowed(view);
 }
 
 function relatives(number) {
   const { producers, consumers } = run.table[number];
   const some = (numbers) => listed(numbers.slice(0, 6).map((each) => "#" + each));
-  return (producers.length ? " Producers: " + producers.map((each) => "#" + each.number + " (" + registerName(each.register) + ")").join(", ") + "." : "") +
-    (consumers.length ? " Consumers: " + some(consumers) + "." : "");
+  const from = producers.map((each) => "#" + each.number + " (" + registerName(each.register) + ")");
+  return (from.length ? " Producers: " + listed(from) + "." : "") + (consumers.length ? " Consumers: " + some(consumers) + "." : "");
 }
 
 function go(place) {
@@ -95,7 +96,8 @@ function follow(number) {
 
 function followNext(way) {
   const numbers = view.line.in_flight;
-  if (view.followed === undefined) return follow(numbers.length ? numbers[way > 0 ? 0 : numbers.length - 1] : Math.max(run.firstNumber, run.places[view.place].fetchedBefore - 1));
+  if (view.followed === undefined && numbers.length) return follow(numbers[way > 0 ? 0 : numbers.length - 1]);
+  if (view.followed === undefined) return follow(Math.max(run.firstNumber, run.places[view.place].fetchedBefore - 1));
   follow(Math.max(run.firstNumber, Math.min(run.table.length - 1, view.followed + way)));
 }
 
@@ -107,8 +109,20 @@ function play(on) {
 }
 
 function setAbi(on) { settings.abi = on; byId("abi").checked = on; show(); }
-function showKeys() { const keys = byId("keys"); keys.hidden = !keys.hidden; byId("help").setAttribute("aria-expanded", String(!keys.hidden)); measure(); show(); }
-function speed(factor) { settings.speed = Math.max(0.5, Math.min(32, settings.speed * factor)); if (playing) play(true); say(settings.speed + " cycles a second."); }
+
+function showKeys() {
+  const text = byId("keys");
+  text.hidden = !text.hidden;
+  byId("help").setAttribute("aria-expanded", String(!text.hidden));
+  measure();
+  show();
+}
+
+function speed(factor) {
+  settings.speed = Math.max(0.5, Math.min(32, settings.speed * factor));
+  if (playing) play(true);
+  say(settings.speed + " cycles a second.");
+}
 
 const steps = {
   first: () => go(0), back: () => go(view.place - 1), on: () => go(view.place + 1), last: () => go(lastPlace),
@@ -116,9 +130,11 @@ const steps = {
 };
 
 const keys = {
-  ArrowLeft: steps.back, ArrowRight: steps.on, Home: steps.first, End: steps.last, PageUp: () => go(view.place - 10), PageDown: () => go(view.place + 10),
-  " ": () => play(!playing), "+": () => speed(2), "-": () => speed(0.5), n: steps.next, N: steps.previous, j: () => followNext(1), k: () => followNext(-1),
-  Escape: () => follow(undefined), a: () => setAbi(!settings.abi), g: () => byId("cycle").select(), d: () => byId("address").select(), "?": showKeys,
+  ArrowLeft: steps.back, ArrowRight: steps.on, Home: steps.first, End: steps.last,
+  PageUp: () => go(view.place - 10), PageDown: () => go(view.place + 10),
+  " ": () => play(!playing), "+": () => speed(2), "-": () => speed(0.5), n: steps.next, N: steps.previous,
+  j: () => followNext(1), k: () => followNext(-1), Escape: () => follow(undefined), "?": showKeys,
+  a: () => setAbi(!settings.abi), g: () => byId("cycle").select(), d: () => byId("address").select(),
 };
 for (const [key, what] of Object.entries({ r: "retirement", w: "wrong", t: "trap", i: "interrupt", s: "stall" })) {
   keys[key] = () => jump(what, 1);
@@ -127,13 +143,15 @@ for (const [key, what] of Object.entries({ r: "retirement", w: "wrong", t: "trap
 
 // Where the run ended before the window, there is nothing to step through.
 function showNothing() {
-  byId("happened").textContent = "The run ended after " + counted(run.stop.cycles, "cycle") + " (" + run.stop.stop + "), before cycle " + run.first + ".";
+  const { cycles, stop } = run.stop;
+  byId("happened").textContent = "The run ended after " + counted(cycles, "cycle") + " (" + stop + "), before cycle " + run.first + ".";
 }
 
 function start() {
   document.addEventListener("keydown", (event) => {
     const tag = event.target.tagName, typing = (tag === "INPUT" && event.target.type !== "checkbox") || tag === "SELECT";
-    if (event.ctrlKey || event.altKey || event.metaKey || (typing && event.key !== "Escape") || (event.key === " " && (tag === "BUTTON" || tag === "INPUT"))) return;
+    if (event.ctrlKey || event.altKey || event.metaKey || (typing && event.key !== "Escape")) return;
+    if (event.key === " " && (tag === "BUTTON" || tag === "INPUT")) return;
     if (typing) event.target.blur();
     const act = keys[event.key];
     if (!act) return;

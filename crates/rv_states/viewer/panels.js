@@ -2,19 +2,30 @@
 
 function byId(id) { return document.getElementById(id); }
 
-// An element with its attributes and children; what is not an element is text, and undefined is nothing.
+// An element with its attributes and children; an attribute that is undefined is left out, and a child that is no element is text.
 function element(tag, attributes, ...children) {
   const made = document.createElement(tag);
-  for (const [name, value] of Object.entries(attributes || {})) if (value !== undefined && value !== false) made.setAttribute(name, value === true ? "" : value);
-  for (const child of children) if (child !== undefined && child !== null) made.append(child instanceof Node ? child : document.createTextNode(child));
+  for (const [name, value] of Object.entries(attributes)) {
+    if (value !== undefined && value !== false) made.setAttribute(name, value === true ? "" : value);
+  }
+  for (const child of children) made.append(child instanceof Node ? child : document.createTextNode(child));
   return made;
 }
 
-function row(attributes, ...cells) { return element("tr", attributes, ...cells.map((cell) => cell instanceof Element && /^T[DH]$/.test(cell.tagName) ? cell : element("td", {}, cell))); }
+// A row of a table, its heading, and the cell that takes the room that is left.
+function row(attributes, ...cells) {
+  const isCell = (cell) => cell instanceof Element && /^T[DH]$/.test(cell.tagName);
+  return element("tr", attributes, ...cells.map((cell) => isCell(cell) ? cell : element("td", {}, cell)));
+}
+function heading(text) { return element("th", { scope: "row" }, text); }
+function wide(...children) { return element("td", { class: "wide" }, ...children); }
+function span(kind, text, attributes) { return element("span", { class: kind, ...attributes }, text); }
+function words(...kinds) { return kinds.filter((kind) => kind).join(" "); }
 
 // A button that follows an instruction.
 function tag(number, text, title) {
-  return number === undefined ? element("span", {}, "-") : element("button", { class: "tag", type: "button", "data-number": number, title, tabindex: -1 }, text || "#" + number);
+  if (number === undefined) return element("span", {}, "-");
+  return element("button", { class: "tag", type: "button", "data-number": number, title, tabindex: -1 }, text || "#" + number);
 }
 
 function fill(id, rows, least, columns) {
@@ -23,6 +34,11 @@ function fill(id, rows, least, columns) {
 }
 
 function note(id, text) { byId(id).textContent = text; }
+function markChange(changed) { return changed ? { class: "changed", title: "changed in this cycle" } : {}; }
+
+// The instructions of the reorder buffer with their numbers, and whether one is on its way to the bus.
+function entriesOf(line) { return line.state.reorder_buffer.map((entry, k) => ({ entry, number: line.in_flight[k] })); }
+function isRunning(entry) { return entry.issued !== undefined && entry.broadcast === undefined; }
 
 // What the layout is, measured once for a size of the window: reading it between changes would lay the page out each time.
 const measures = { rem: 11 };
@@ -73,11 +89,15 @@ function showSource(view) {
   });
   const rowAt = (k) => {
     const { address, line: of, text } = run.listing[k], numbers = flying.get(address) || [];
-    const tags = numbers.slice(0, 4).map((number) => tag(number, letterOf(run.table[number], cycle), "#" + number + ": " + letterWords[letterOf(run.table[number], cycle)]));
-    if (numbers.length > 4) tags.push(element("span", {}, "+" + (numbers.length - 4)));
-    const kinds = ["row", numbers.length ? "flying" : "", run.isStale(address, place) ? "stale" : ""].join(" ");
-    return element("div", { class: kinds, "data-address": address, title: hex(address) + ": " + hex(run.wordAt(address, place)) + (run.isStale(address, place) ? ", stale" : "") + "\n" + text.trim() },
-      element("span", { class: "line" }, of), element("span", { class: "pc" }, (address === line.state.pc ? ">" : " ") + hex(address)), element("span", { class: "tags" }, ...tags), element("span", { class: "text" }, text.trim()));
+    const tags = numbers.slice(0, 4).map((number) => {
+      const letter = letterOf(run.table[number], cycle);
+      return tag(number, letter, "#" + number + ": " + letterWords[letter]);
+    });
+    if (numbers.length > 4) tags.push("+" + (numbers.length - 4));
+    const stale = run.isStale(address, place), title = hex(address) + ": " + hex(run.wordAt(address, place)) + (stale ? ", stale" : "");
+    return element("div", { class: words("row", numbers.length && "flying", stale && "stale"), "data-address": address, title: title + "\n" + text.trim() },
+      span("line", of), span("pc", (address === line.state.pc ? ">" : " ") + hex(address)), element("span", { class: "tags" }, ...tags),
+      span("text", text.trim()));
   };
   note("source-note", "> " + hex(line.state.pc) + " is next to retire");
   lists.source = { count: run.listing.length, rowAt };
@@ -91,7 +111,7 @@ function showFetch(view) {
     const number = line.in_flight[from + k];
     const jumps = word.predicted !== ((word.pc + 4) >>> 0);
     return row({ "data-number": number, "data-pc": hex(word.pc), "data-stage": letterOf(run.table[number], run.cycleOf(place)) },
-      tag(number), hex(word.pc), element("td", { class: "wide" }, run.statement(word)), jumps ? "\u2192" + hex(word.predicted) : "");
+      tag(number), hex(word.pc), wide(run.statement(word)), jumps ? "\u2192" + hex(word.predicted) : "");
   }), Math.min(size, 8), 4);
 }
 
@@ -105,21 +125,25 @@ function showReorderBuffer(view) {
     const target = entry.target ? registerName(entry.target) + "=" + (entry.value === undefined ? "?" : hex(entry.value)) : "";
     const result = entry.fault ? causeName(entry.fault.cause) : target + (jumps ? "\u2192" + hex(entry.predicted) : "") || "-";
     const state = entry.issued !== undefined && entry.broadcast === undefined ? "\u2192" + (entry.issued + entry.cost) : stamp(entry.broadcast);
-    return row({ "data-number": number, "data-sequence": entry.sequence, "data-pc": hex(entry.pc), "data-stage": letter, "data-fetched": entry.fetched, "data-dispatched": entry.dispatched,
-      "data-issued": entry.issued, "data-broadcast": entry.broadcast, "data-value": entry.value === undefined ? undefined : hex(entry.value), title: "fetched in cycle " + entry.fetched + ", sequence number " + entry.sequence },
-      element("th", { scope: "row" }, ends), tag(number), hex(entry.pc), element("td", { class: "wide" }, run.statement(entry)), element("td", { class: "cell " + cellClass(letter), title: letterWords[letter] }, letter),
-      entry.dispatched, stamp(entry.issued), state, element("td", { class: entry.fault ? "fault" : "", title: "predicted to go on at " + hex(entry.predicted) }, result));
+    const data = {
+      "data-number": number, "data-sequence": entry.sequence, "data-pc": hex(entry.pc), "data-stage": letter, "data-fetched": entry.fetched,
+      "data-dispatched": entry.dispatched, "data-issued": entry.issued, "data-broadcast": entry.broadcast,
+      title: "fetched in cycle " + entry.fetched + ", sequence number " + entry.sequence,
+    };
+    return row(data, heading(ends), tag(number), hex(entry.pc), wide(run.statement(entry)),
+      element("td", { class: "cell " + cellClass(letter), title: letterWords[letter] }, letter), entry.dispatched, stamp(entry.issued), state,
+      element("td", { class: entry.fault ? "fault" : "", title: "predicted to go on at " + hex(entry.predicted) }, result));
   }), Math.min(size, 16), 9);
 }
 
 function showStations(view) {
   const { run, line } = view, rows = [], counts = [];
   for (const kind of kinds) {
-    const waiting = line.state.reorder_buffer.map((entry, k) => ({ entry, number: line.in_flight[k] })).filter((each) => each.entry.kind === kind && each.entry.issued === undefined);
+    const waiting = entriesOf(line).filter(({ entry }) => entry.kind === kind && entry.issued === undefined);
     const size = run.machine[kind].stations;
     counts.push(kind + " " + waiting.length + "/" + size);
-    const made = waiting.map(({ entry, number }) => row({ "data-number": number, "data-station": kind }, kind, tag(number), element("td", { class: "wide" }, run.statement(entry)),
-      element("td", {}, ...entry.operands.flatMap((operand) => operandOf(view, operand)))));
+    const made = waiting.map(({ entry, number }) => row({ "data-number": number, "data-station": kind }, kind, tag(number),
+      wide(run.statement(entry)), element("td", {}, ...entry.operands.flatMap((operand) => operandOf(view, operand)))));
     while (made.length < Math.min(size, 4)) made.push(element("tr", { class: "free" }, element("td", {}, kind), element("td", { colspan: 3 })));
     rows.push(...made);
   }
@@ -129,23 +153,26 @@ function showStations(view) {
 
 function operandOf(view, operand) {
   const name = registerName(operand.register);
-  if (operand.producer === undefined) return [element("span", { class: "operand", "data-operand": operand.register, "data-value": hex(operand.value) }, name + "=" + hex(operand.value)), " "];
+  if (operand.producer === undefined) return [span("operand", name + "=" + hex(operand.value), { "data-operand": operand.register }), " "];
   const producer = view.run.numberOf(operand.producer, view.line);
-  return [element("span", { class: "operand waits", "data-operand": operand.register, "data-producer": producer }, name + "\u2190", tag(producer)), " "];
+  const data = { class: "operand waits", "data-operand": operand.register, "data-producer": producer };
+  return [element("span", data, name + "\u2190", tag(producer)), " "];
 }
 
 function showUnits(view) {
   const { run, line, place } = view, cycle = run.cycleOf(place), machine = run.machine;
   const rows = kinds.map((kind) => {
     const held = line.state.units[kind].filter((unit) => unit.since + unit.cycles > cycle).length;
-    const under = line.state.reorder_buffer.map((entry, k) => ({ entry, number: line.in_flight[k] }))
-      .filter(({ entry }) => entry.kind === kind && entry.issued !== undefined && entry.broadcast === undefined && entry.issued + entry.cost > cycle);
-    return row({ "data-unit": kind, "data-held": held }, element("th", { scope: "row" }, kind), held + "/" + machine[kind].units,
-      element("td", { class: "wide" }, ...under.flatMap(({ entry, number }) => [tag(number, "#" + number + "\u2192" + (entry.issued + entry.cost), "executes until cycle " + (entry.issued + entry.cost)), " "])));
+    const under = entriesOf(line).filter(({ entry }) => entry.kind === kind && isRunning(entry) && entry.issued + entry.cost > cycle);
+    return row({ "data-unit": kind, "data-held": held }, heading(kind), held + "/" + machine[kind].units, wide(...under.flatMap(({ entry, number }) => {
+      const end = entry.issued + entry.cost;
+      return [tag(number, "#" + number + "\u2192" + end, "executes until cycle " + end), " "];
+    })));
   });
   const port = line.state.port_free, access = run.places[place].access;
-  rows.push(row({ "data-unit": "port", "data-until": port }, element("th", { scope: "row" }, "port"), port > cycle + 1 ? "busy" : "free",
-    element("td", { class: "wide" }, (port > cycle ? "\u2192" + port + " " : ""), ...(access ? [access.what + " ", tag(access.number), " " + hex(access.address)] : []))));
+  const began = access ? [access.what + " ", tag(access.number), " " + hex(access.address)] : [];
+  rows.push(row({ "data-unit": "port", "data-until": port }, heading("port"), port > cycle + 1 ? "busy" : "free",
+    wide(port > cycle ? "\u2192" + port + " " : "", ...began)));
   fill("units", rows, 5, 3);
 }
 
@@ -153,14 +180,15 @@ function showBus(view) {
   const { run, line, place } = view, cycle = run.cycleOf(place), now = run.places[place].phases.broadcast;
   const rows = now.map((number) => {
     const { target, value } = run.table[number];
-    return row({ "data-number": number, "data-bus": "broadcast" }, "B", tag(number), element("td", { class: "wide" }, target && value !== undefined ? registerName(target) + "=" + hex(value) : run.statement(run.table[number])));
+    const result = target && value !== undefined ? registerName(target) + "=" + hex(value) : run.statement(run.table[number]);
+    return row({ "data-number": number, "data-bus": "broadcast" }, "B", tag(number), wide(result));
   });
   while (rows.length < Math.min(run.machine.bus_width, 2)) rows.push(row({ class: "free" }, "B", "", ""));
-  line.state.reorder_buffer.forEach((entry, k) => {
-    if (entry.issued === undefined || entry.broadcast !== undefined || entry.issued + entry.cost > cycle + 1) return;
-    const number = line.in_flight[k], late = entry.issued + entry.cost <= cycle;
-    rows.push(row({ "data-number": number, "data-bus": "waits" }, late ? "~" : "", tag(number), element("td", { class: "wide" }, (late ? "waits since " : "ready in ") + (entry.issued + entry.cost))));
-  });
+  for (const { entry, number } of entriesOf(line)) {
+    const ready = entry.issued + entry.cost;
+    if (!isRunning(entry) || ready > cycle + 1) continue;
+    rows.push(row({ "data-number": number, "data-bus": "waits" }, ready <= cycle ? "~" : "", tag(number), wide((ready <= cycle ? "waits since " : "ready in ") + ready)));
+  }
   note("bus-note", "of width " + run.machine.bus_width);
   fill("bus", rows, 5, 3);
 }
@@ -171,8 +199,9 @@ function showStores(view) {
   fill("stores", queue.map((store) => {
     const number = run.numberOf(store.sequence, line);
     const bytes = store.bytes ? store.bytes.map((byte) => byte.toString(16).padStart(2, "0")).join(" ") : "";
-    return row({ "data-number": number, "data-sequence": store.sequence, "data-store": store.state, "data-address": store.address === undefined ? undefined : hex(store.address), "data-bytes": bytes },
-      tag(number), element("td", { class: "state" }, store.state), store.address === undefined ? "" : hex(store.address), bytes);
+    const address = store.address === undefined ? "" : hex(store.address);
+    const data = { "data-number": number, "data-sequence": store.sequence, "data-store": store.state, "data-address": address, "data-bytes": bytes };
+    return row(data, tag(number), store.state, address, bytes);
   }), Math.min(size, 8), 4);
 }
 
@@ -181,9 +210,9 @@ function showRegisters(view) {
   line.state.reorder_buffer.forEach((entry, k) => { if (entry.target) producers.set(entry.target, line.in_flight[k]); });
   const cells = line.state.registers.map((value, register) => {
     const changed = before && before.state.registers[register] !== value, producer = producers.get(register);
-    return [element("th", { scope: "row" }, registerName(register)),
-      element("td", { "data-register": register, "data-value": hex(value), "data-producer": producer, class: changed ? "changed" : "", title: changed ? "changed in this cycle" : undefined }, hex(value)),
-      element("td", { class: "producer" }, producer === undefined ? "" : tag(producer, undefined, "#" + producer + " in flight writes " + registerName(register)))];
+    const data = { "data-register": register, "data-value": hex(value), "data-producer": producer };
+    return [heading(registerName(register)), element("td", { ...data, ...markChange(changed) }, hex(value)),
+      element("td", {}, producer === undefined ? "" : tag(producer, undefined, "#" + producer + " in flight writes " + registerName(register)))];
   });
   for (let k = 0; k < 16; k += 1) rows.push(element("tr", {}, ...cells[k], ...cells[k + 16]));
   byId("registers").replaceChildren(...rows);
@@ -191,10 +220,11 @@ function showRegisters(view) {
 
 function showCsrs(view) {
   const { line, before } = view;
-  const rows = Object.entries(line.state.csrs).filter(([name, value]) => value !== 0 || (before && before.state.csrs[name] !== 0)).map(([name, value]) => {
+  const shown = Object.entries(line.state.csrs).filter(([name, value]) => value !== 0 || (before && before.state.csrs[name] !== 0));
+  const rows = shown.map(([name, value]) => {
     const changed = before && before.state.csrs[name] !== value;
-    return row({ "data-csr": name }, element("th", { scope: "row" }, name), element("td", { class: changed ? "changed" : "", "data-value": hex(value) }, hex(value)),
-      element("td", { class: "wide" }, name === "mcause" && line.state.csrs.mcause ? causeName(value) : ""));
+    return row({ "data-csr": name }, heading(name), element("td", { "data-value": hex(value), ...markChange(changed) }, hex(value)),
+      wide(name === "mcause" && value !== 0 ? causeName(value) : ""));
   });
   note("csrs-note", ["software", "timer", "external"].filter((name) => line.state[name]).map((name) => name + " line high").join(", "));
   fill("csrs", rows, 8, 3);
@@ -209,23 +239,26 @@ function showCache(view) {
     const cells = [];
     for (let way = 0; way < Math.min(ways, Math.max(lines.length, 2)); way += 1) {
       const held = lines[way], is = held && touched && touched.line === held.line;
-      cells.push(element("td", { class: (is ? "touched" : "") + (held && held.dirty ? " dirty" : ""), "data-line": held && hex(held.line * line), "data-dirty": held && held.dirty,
-        title: held && (is ? "touched in this cycle; " : "") + (held.dirty ? "dirty: differs from RAM" : "clean") }, held ? hex(held.line * line) + (held.dirty ? "*" : " ") : "-"));
+      const title = held && (is ? "touched in this cycle; " : "") + (held.dirty ? "dirty: differs from RAM" : "clean");
+      const data = { class: words(is && "touched", held && held.dirty && "dirty"), "data-line": held && hex(held.line * line), title };
+      cells.push(element("td", data, held ? hex(held.line * line) + (held.dirty ? "*" : " ") : "-"));
     }
-    rows.push(element("tr", { class: changed.includes(set) ? "changed" : "", "data-set": set }, element("th", { scope: "row" }, set), ...cells));
+    rows.push(element("tr", { class: changed.includes(set) ? "changed" : "", "data-set": set }, heading(set), ...cells));
   }
-  note("cache-note", run.replayFits ? counted(sets, "set") + ", " + counted(ways, "way") + ", " + line + " bytes; * dirty" : "not known: the costs do not fit");
+  const size = counted(sets, "set") + ", " + counted(ways, "way") + ", " + line + " bytes; * dirty";
+  note("cache-note", run.replayFits ? size : "not known: the costs do not fit");
   fill("cache", rows, Math.min(sets, 16), 3);
 }
 
 function showMemory(view) {
   const { run, place } = view;
   const rowAt = (k) => {
-    const address = run.memoryRows[k], words = [0, 4, 8, 12].map((offset) => {
-      const at = address + offset, stale = run.isStale(at, place);
-      return element("span", { class: "word" + (run.isStored(at, place) ? " changed" : "") + (stale ? " stale" : ""), "data-memory": hex(at), "data-value": hex(run.wordAt(at, place)), title: stale ? "stale until fence.i" : undefined }, hex(run.wordAt(at, place)));
+    const address = run.memoryRows[k], four = [0, 4, 8, 12].map((offset) => {
+      const at = address + offset, stale = run.isStale(at, place), word = hex(run.wordAt(at, place));
+      const data = { "data-memory": hex(at), "data-value": word, title: stale ? "stale until fence.i" : undefined };
+      return span(words("word", run.isStored(at, place) && "changed", stale && "stale"), word, data);
     });
-    return element("div", { class: "row" }, element("span", { class: "pc" }, hex(address).slice(2)), ...words);
+    return element("div", { class: "row" }, span("pc", hex(address).slice(2)), ...four);
   };
   lists.memory = { count: run.memoryRows.length, rowAt };
   drawList("memory");
@@ -242,8 +275,8 @@ function showCounts(view) {
   const total = Math.max(1, counts.cycles), share = (value) => (100 * value / total).toFixed(1);
   byId("stack").replaceChildren(...parts.filter(([, value]) => value > 0).map(([name, value]) =>
     element("span", { class: "part " + name, style: "width:" + share(value) + "%", title: name + ": " + share(value) + "% of the cycles" }, name)));
-  fill("counts", parts.map(([name, value]) => row({ "data-count": name, "data-value": value }, element("th", { scope: "row" }, name === "busy" ? name : "stall " + name), value, share(value) + "%",
-    element("td", { class: "wide" }, element("span", { class: "bar " + name, style: "width:" + share(value) + "%" })))), 6, 4);
+  fill("counts", parts.map(([name, value]) => row({ "data-count": name, "data-value": value }, heading(name === "busy" ? name : "stall " + name), value,
+    share(value) + "%", wide(span("bar " + name, "", { style: "width:" + share(value) + "%" })))), 6, 4);
 }
 
 // The places of the followed instruction, its producers and its consumers.
@@ -259,5 +292,6 @@ function markFollowed(view, box) {
 
 function showAll(view) {
   scrollAll(view);
-  for (const show of [showSource, showFetch, showReorderBuffer, showStations, showUnits, showBus, showStores, showRegisters, showCsrs, showCache, showMemory, showCounts, drawPicture]) show(view);
+  const panels = [showSource, showFetch, showReorderBuffer, showStations, showUnits, showBus, showStores, showRegisters, showCsrs, showCache, showMemory];
+  for (const show of [...panels, showCounts, drawPicture]) show(view);
 }

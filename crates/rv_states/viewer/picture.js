@@ -40,7 +40,9 @@ function drawPicture(view) {
     const cycle = run.first + column, now = column === view.place - 1, interrupt = run.places[column + 1].interrupts.length > 0;
     if (!now && !interrupt && (cycle % 5 !== 0 || Math.abs(column - view.place + 1) < 4)) continue;
     const title = "cycle " + cycle + (interrupt ? ": interrupt" : "");
-    heads.push(element("div", { class: "head" + (interrupt ? " interrupt" : "") + (now ? " now" : ""), "data-go": cycle, style: "left:" + at(column), title }, (interrupt ? "!" : "") + (now || !interrupt ? cycle : "")));
+    const text = (interrupt ? "!" : "") + (now || !interrupt ? cycle : "");
+    const kinds = words("head", interrupt && "interrupt", now && "now");
+    heads.push(element("div", { class: kinds, "data-go": cycle, style: "left:" + at(column), title }, text));
   }
   byId("picture-heads").replaceChildren(...heads);
   byId("picture-cursor").style.left = at(view.place - 1);
@@ -54,18 +56,23 @@ function pictureRow(view, instruction, firstColumn, lastColumn, at) {
   const { run } = view, number = instruction.number;
   const gone = instruction.end === "squashed" ? " gone" : instruction.end === "trapped" ? " trap" : "";
   const cells = [];
-  const from = Math.max(instruction.fetched, run.first + firstColumn), to = Math.min(instruction.left === undefined ? run.last : instruction.left, run.first + lastColumn);
+  const end = instruction.left === undefined ? run.last : instruction.left;
+  const from = Math.max(instruction.fetched, run.first + firstColumn), to = Math.min(end, run.first + lastColumn);
   for (let cycle = from; cycle <= to; cycle += 1) {
     const letter = letterOf(instruction, cycle);
-    cells.push(element("span", { class: "cell " + cellClass(letter), style: "left:" + at(cycle - run.first), title: "#" + number + " in cycle " + cycle + ": " + letterWords[letter], "data-cycle": cycle }, letter));
+    const title = "#" + number + " in cycle " + cycle + ": " + letterWords[letter];
+    cells.push(span("cell " + cellClass(letter), letter, { style: "left:" + at(cycle - run.first), title, "data-cycle": cycle }));
   }
-  const label = element("span", { class: "label", title: run.statement(instruction) }, "#" + number + "\u00a0".repeat(Math.max(1, 5 - String(number).length)) + hex(instruction.pc) + " " + run.statement(instruction));
-  return element("div", { class: "row" + gone, "data-number": number, style: "top:" + (number - run.firstNumber + 1) * picture.row + "rem" }, label, ...cells);
+  const statement = run.statement(instruction), gap = "\u00a0".repeat(Math.max(1, 5 - String(number).length));
+  const label = span("label", "#" + number + gap + hex(instruction.pc) + " " + statement, { title: statement });
+  const style = "top:" + (number - run.firstNumber + 1) * picture.row + "rem";
+  return element("div", { class: "row" + gone, "data-number": number, style }, label, ...cells);
 }
 
 function showLegend() {
-  byId("legend").replaceChildren(...Object.entries(letterWords).map(([letter, word]) => element("span", {}, element("b", { class: cellClass(letter) }, letter), " " + word)),
-    element("span", {}, element("b", { class: "interrupt" }, "!"), " interrupt"));
+  const item = (kind, letter, word) => element("span", {}, element("b", { class: kind }, letter), " " + word);
+  const items = Object.entries(letterWords).map(([letter, word]) => item(cellClass(letter), letter, word));
+  byId("legend").replaceChildren(...items, item("interrupt", "!", "interrupt"));
 }
 
 function cellClass(letter) {

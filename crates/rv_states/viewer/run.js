@@ -117,8 +117,8 @@ class Run {
     const buffer = value.state.reorder_buffer, all = buffer.concat(value.state.fetch_buffer);
     value.in_flight.forEach((number, k) => {
       const entry = all[k];
-      const known = this.table[number] ||
-        (this.table[number] = { number, pc: entry.pc, word: entry.word, fetched: entry.fetched, predicted: entry.predicted, producers: [], consumers: [] });
+      const { pc, word, fetched } = entry;
+      const known = this.table[number] || (this.table[number] = { number, pc, word, fetched, producers: [], consumers: [] });
       if (k >= buffer.length) return;
       if (known.dispatched === undefined) {
         known.dispatched = entry.dispatched;

@@ -41,7 +41,9 @@ function cycleSentence(run, place) {
   }
   const ends = (end) => here.ended.filter((each) => each.end === end);
   const retired = ends("retired"), squashed = ends("squashed");
-  if (retired.length) parts.push(listed(retired.map((each) => "#" + each.number + writtenBy(each.written))) + (retired.length > 1 ? " retire" : " retires"));
+  if (retired.length) {
+    parts.push(listed(retired.map((each) => "#" + each.number + writtenBy(each.written))) + (retired.length > 1 ? " retire" : " retires"));
+  }
   for (const each of ends("trapped")) parts.push(called(run, each.number) + " traps: " + causeName(each.cause));
   if (here.wrong !== undefined) parts.push("the prediction after " + called(run, here.wrong) + " was wrong");
   if (squashed.length) parts.push(counted(squashed.length, "instruction") + (squashed.length > 1 ? " are" : " is") + " squashed");
@@ -53,8 +55,8 @@ function cycleSentence(run, place) {
   else if (here.stall) parts.push("nothing is dispatched, since " + stallWords[here.stall]);
   if (phases.fetch.length) parts.push("fetch of " + tags(phases.fetch));
   const text = parts.length ? parts.join("; ") + "." : "nothing happens.";
-  const over = run.stop && place === run.places.length - 1 ? (run.stop.stop === "limit" ? " The page ends here." : " The run ends: " + run.stop.stop + ".") : "";
-  return "Cycle " + here.cycle + ": " + text + over;
+  if (!run.stop || place < run.places.length - 1) return "Cycle " + here.cycle + ": " + text;
+  return "Cycle " + here.cycle + ": " + text + (run.stop.stop === "limit" ? " The page ends here." : " The run ends: " + run.stop.stop + ".");
 }
 
 // What an instruction is doing after the cycle before a place, and what it waits for.
@@ -96,7 +98,9 @@ function stationSentence(run, line, place, entry, k) {
     })) + ".";
   }
   const store = isLoad(entry.word) && buffer.findIndex((each, j) => j < k && isStore(each.word) && each.broadcast === undefined);
-  if (store !== false && store >= 0) return "has its operands, and waits for the older store " + called(run, line.in_flight[store]) + ", whose address is not known.";
+  if (store !== false && store >= 0) {
+    return "has its operands, and waits for the older store " + called(run, line.in_flight[store]) + ", whose address is not known.";
+  }
   if (isLoad(entry.word) && line.state.port_free > cycle + 1) {
     return "has its operands, and may wait for the port of the cache, which is busy until cycle " + line.state.port_free + ".";
   }
@@ -104,7 +108,8 @@ function stationSentence(run, line, place, entry, k) {
   if (busy.length >= run.machine[entry.kind].units) {
     return "has its operands, and waits for a unit: one is free in cycle " + Math.min(...busy.map((unit) => unit.since + unit.cycles)) + ".";
   }
-  const older = buffer.filter((each, j) => j < k && each.kind === entry.kind && each.operands && each.operands.every((operand) => operand.value !== undefined));
+  const isReady = (each) => each.kind === entry.kind && each.issued === undefined && each.operands.every((operand) => operand.value !== undefined);
+  const older = buffer.slice(0, k).filter(isReady);
   return "has its operands, and can issue in cycle " + (cycle + 1) +
     (older.length ? " where a unit is left after " + counted(older.length, "older one") + " of its kind." : ".");
 }
@@ -128,7 +133,7 @@ function headSentence(run, line, entry, k) {
   if (entry.finished === undefined) {
     if (k > 0) return "is executed at its commit, when it is " + head + ": " + older + ".";
     const writes = isFenceI(entry.word) && (line.state.port_free > next || line.state.store_queue.length > 0);
-    return writes ? "is " + head + ", and waits until the retired stores are in the cache and it is written back." : "is " + head + ", and can be executed in cycle " + next + ".";
+    return "is " + head + (writes ? ", and waits until the retired stores are in the cache and it is written back." : ", and can be executed in cycle " + next + ".");
   }
   const end = entry.fault ? "trap (" + causeName(entry.fault.cause) + ")" : "retire";
   return k > 0 ? "is done, and can " + end + " when it is " + head + ": " + older + "." : "is done, and can " + end + " in cycle " + next + ".";
