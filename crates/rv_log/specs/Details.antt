@@ -1,8 +1,11 @@
--- What a viewer's pane of details shows of an instruction that left the hardware: how, what it wrote, and what its execution cost.
-use Rattle.std.specs.Prelude.{ℕ, List, [], ◌++◌, codes, decimal, Option, Some, None}
+-- What a viewer's pane of details shows of an instruction that left the hardware: how, what it wrote, what its
+-- execution cost, and what was predicted after a branch or a jump.
+use Rattle.std.specs.Prelude.{ℕ, if◌then◌else◌, List, [], ◌++◌, codes, decimal, Option, Some, None}
 use Rattle.rv_isa.specs.Cause.{code_of}
+use Rattle.rv_isa.specs.Instruction.{is_branch_or_jump}
 use Rattle.rv_isa.specs.declared.{causes.Cause.Cause, issues.Issue.Issue}
 use Rattle.rv_passage.specs.Names.{register_name}
+use Rattle.rv_passage.specs.Prediction.{correction_of}
 use Rattle.rv_passage.specs.declared.passage.{Ending.Ending, Passage.Passage}
 use Rattle.rv_passage.specs.declared.passage.Ending.TheVariants.{InFlight, Retired, Trapped, Squashed}
 use Rattle.rv_text.specs.Line.{word_text}
@@ -24,6 +27,21 @@ ending_text (Retired order cycle written next) = codes "retired" ++ written_text
 ending_text (Trapped cycle cause) = cause_text cause
 ending_text (Squashed cycle) = codes "squashed"
 
+-- where the program went on, if not where that was predicted
+unfoldable pub correction_text : Option ℕ → List ℕ
+correction_text None = []
+correction_text (Some next) = codes ", but went on at " ++ word_text next
+
+-- the prediction after an instruction
+unfoldable pub predicted_text : Option ℕ → Option ℕ → List ℕ
+predicted_text None correction = []
+predicted_text (Some predicted) correction = (codes ", predicted " ++ word_text predicted) ++ correction_text correction
+
+-- that of a branch or a jump
+unfoldable pub prediction_text : Passage → List ℕ
+prediction_text passage =
+    if is_branch_or_jump passage.instruction then predicted_text passage.predicted (correction_of passage) else []
+
 -- what its execution cost, where it began
 unfoldable pub cost_text : Option Issue → List ℕ
 cost_text None = []
@@ -33,4 +51,4 @@ cost_text (Some issue) = codes ", cost " ++ decimal issue.cost
 unfoldable pub details_line : Passage → List ℕ
 details_line passage =
     (codes "L\t" ++ (decimal passage.number ++ codes "\t1\t")) ++
-    (ending_text passage.ending ++ (cost_text passage.issue ++ codes "\n"))
+    (ending_text passage.ending ++ (cost_text passage.issue ++ (prediction_text passage ++ codes "\n")))

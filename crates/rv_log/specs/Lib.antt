@@ -1,4 +1,5 @@
 pub mod Command
+pub mod Dependence
 pub mod Details
 pub mod Event
 pub mod Log

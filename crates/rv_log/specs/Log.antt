@@ -13,7 +13,8 @@ use Rattle.rv_passage.specs.declared.passage.Passage.{Passage}
 use Rattle.rv_source.specs.Listing.{Listed}
 use Rattle.rv_text.specs.Written.{IsWritten}
 use Rattle.rv_log.specs.Command.{appearance_text}
-use Rattle.rv_log.specs.Event.{events_at, left_at}
+use Rattle.rv_log.specs.Dependence.{row_at}
+use Rattle.rv_log.specs.Event.{left_at}
 
 -- the format, and the number of the first cycle
 unfoldable pub head_text : ℕ → List ℕ
@@ -23,11 +24,11 @@ head_text cycle = codes "Kanata\t0004\nC=\t" ++ (decimal cycle ++ codes "\n")
 unfoldable pub begin_text : Listed → ℕ → List Passage → List ℕ
 begin_text listing cycle rows = head_text cycle ++ flat_map (appearance_text listing) rows
 
--- a cycle: what became of each instruction in it, that it passes, and then what left the hardware in it, whose last stage lasts to its
+-- a cycle: what became of each instruction in it and whose results woke it, that it passes, and then what left the hardware in it, whose last stage lasts to its
 -- end
 unfoldable pub cycle_text : Listed → ℕ → List Passage → List ℕ
 cycle_text listing cycle rows =
-    flat_map (events_at listing cycle) rows ++ (codes "C\t1\n" ++ flat_map (left_at cycle) rows)
+    flat_map (row_at listing cycle) rows ++ (codes "C\t1\n" ++ flat_map (left_at cycle) rows)
 
 -- the number of a cycle, and the instructions at its end, those that left the hardware in it among them
 pub record Moment : Type 0 where

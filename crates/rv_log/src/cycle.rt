@@ -1,11 +1,13 @@
 ghost use Rattle.std.specs.List.{flat_map};
 ghost use Rattle.rv_log.specs.Command.{appearance_text};
-ghost use Rattle.rv_log.specs.Event.{events_at, left_at};
+ghost use Rattle.rv_log.specs.Dependence.{row_at};
+ghost use Rattle.rv_log.specs.Event.{left_at};
 ghost use Rattle.rv_log.specs.Log.{head_text, begin_text, cycle_text};
 ghost use Rattle.rv_text.specs.Written.{IsWritten};
 
 use crate::command::write_appearance;
-use crate::event::{write_events, write_left};
+use crate::dependence::write_row;
+use crate::event::write_left;
 use itoa::Buffer;
 use rv_passage::Passage;
 use rv_source::Listing;
@@ -53,10 +55,10 @@ fn write_rows<W: Write>(
     cycle: u64,
     rows: &[Passage],
 ) -> Result<(), ReportError>
-    ensures { IsWritten result (W.contents writer.old) (W.contents writer.new) (flat_map (events_at listing.now cycle) rows.now) }
+    ensures { IsWritten result (W.contents writer.old) (W.contents writer.new) (flat_map (row_at listing.now cycle) rows.now) }
 {
     for row in rows {
-        write_events(writer, listing, cycle, row)?;
+        write_row(writer, listing, cycle, row)?;
     }
     Ok(())
 }

@@ -1,9 +1,11 @@
-ghost use Rattle.std.specs.Prelude.{◌++◌, codes, decimal};
-ghost use Rattle.rv_log.specs.Details.{written_text, cause_text, ending_text, cost_text, details_line};
+ghost use Rattle.std.specs.Prelude.{◌≡◌, ◌++◌, codes, decimal};
+ghost use Rattle.rv_isa.specs.Instruction.{is_branch_or_jump};
+ghost use Rattle.rv_log.specs.Details.{written_text, cause_text, correction_text, ending_text, cost_text, details_line, predicted_text, prediction_text};
+ghost use Rattle.rv_text.specs.Line.{word_text};
 ghost use Rattle.rv_text.specs.Written.{IsWritten};
 
 use itoa::Buffer;
-use rv_isa::{Cause, Issue, Reg};
+use rv_isa::{Cause, Instr, Issue, Reg};
 use rv_passage::{Ending, Passage, register_name};
 use rv_text::{ReportError, hexadecimal, put, put_all};
 use std::io::Write;
@@ -68,6 +70,73 @@ fn write_cost<W: Write>(writer: &mut W, issue: Option<Issue>) -> Result<(), Repo
     }
 }
 
+#[tactic(auto, unfolding(crate::specs::Details::correction_text))]
+fn write_correction<W: Write>(writer: &mut W, correction: Option<u32>) -> Result<(), ReportError>
+    ensures { IsWritten result (W.contents writer.old) (W.contents writer.new) (correction_text correction) }
+{
+    match correction {
+        Some(next) => {
+            let next = hexadecimal(next);
+            put_all(writer, &[b", but went on at ", next.as_slice()])
+        }
+        None => Ok(()),
+    }
+}
+
+fn write_predicted_pc<W: Write>(writer: &mut W, predicted: u32) -> Result<(), ReportError>
+    ensures { IsWritten result (W.contents writer.old) (W.contents writer.new) (codes ", predicted " ++ word_text predicted) }
+{
+    let predicted = hexadecimal(predicted);
+    put_all(writer, &[b", predicted ", predicted.as_slice()])
+}
+
+fn write_right_or_wrong<W: Write>(
+    writer: &mut W,
+    predicted: u32,
+    correction: Option<u32>,
+) -> Result<(), ReportError>
+    ensures { IsWritten result (W.contents writer.old) (W.contents writer.new) ((codes ", predicted " ++ word_text predicted) ++ correction_text correction) }
+{
+    write_predicted_pc(writer, predicted)?;
+    write_correction(writer, correction)
+}
+
+#[tactic(auto, unfolding(crate::specs::Details::predicted_text))]
+fn write_predicted<W: Write>(
+    writer: &mut W,
+    predicted: Option<u32>,
+    correction: Option<u32>,
+) -> Result<(), ReportError>
+    ensures { IsWritten result (W.contents writer.old) (W.contents writer.new) (predicted_text predicted correction) }
+{
+    match predicted {
+        Some(predicted) => write_right_or_wrong(writer, predicted, correction),
+        None => Ok(()),
+    }
+}
+
+// Whether the execution of an instruction tells where the program goes on.
+fn is_branch_or_jump(instruction: &Option<Instr>) -> bool
+    ensures { result ≡ is_branch_or_jump instruction.now }
+{
+    matches!(
+        instruction,
+        Some(Instr::Jal { .. } | Instr::Jalr { .. } | Instr::Branch { .. })
+    )
+}
+
+// Writes what was predicted after a branch or a jump.
+#[tactic(auto, unfolding(crate::specs::Details::prediction_text))]
+fn write_prediction<W: Write>(writer: &mut W, row: &Passage) -> Result<(), ReportError>
+    ensures { IsWritten result (W.contents writer.old) (W.contents writer.new) (prediction_text row.now) }
+{
+    if is_branch_or_jump(&row.instruction) {
+        write_predicted(writer, row.predicted, row.correction())
+    } else {
+        Ok(())
+    }
+}
+
 fn write_begin<W: Write>(writer: &mut W, number: u64) -> Result<(), ReportError>
     ensures { IsWritten result (W.contents writer.old) (W.contents writer.new) (codes "L\t" ++ (decimal number ++ codes "\t1\t")) }
 {
@@ -83,5 +152,6 @@ pub(crate) fn write_details<W: Write>(writer: &mut W, row: &Passage) -> Result<(
     write_begin(writer, row.number)?;
     write_ending(writer, row.ending)?;
     write_cost(writer, row.issue)?;
+    write_prediction(writer, row)?;
     put(writer, b"\n")
 }

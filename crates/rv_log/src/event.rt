@@ -11,7 +11,8 @@ use rv_source::Listing;
 use rv_text::ReportError;
 use std::io::Write;
 
-fn is_at(stamp: Option<u64>, cycle: u64) -> bool
+/// Whether a stamp is a cycle.
+pub(crate) fn is_at(stamp: Option<u64>, cycle: u64) -> bool
     ensures { result ≡ is_at cycle stamp }
 {
     match stamp {

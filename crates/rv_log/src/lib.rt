@@ -4,6 +4,7 @@
 
 mod command;
 mod cycle;
+mod dependence;
 mod details;
 mod event;
 mod running;

@@ -17,9 +17,10 @@ use std::io::Write;
 /// Runs a pipeline that a predictor guides, each cycle with the lines of its number, up to a breakpoint, a stale word,
 /// exhaustion or so many cycles, and writes the log of the run in Konata's format, version 0004, each cycle as it comes: when
 /// each instruction was fetched (F), dispatched (D), issued (X), had a result that waited for the bus (W), was broadcast (B)
-/// and retired (C), or that it was flushed, which a trap is too. An instruction's number counts from 0 in order of fetch; its
-/// label is its address and its statement by the listing; its details are how it ended, what it wrote and what its execution
-/// cost. Asks for no memory once it has written. Answers why the run ended.
+/// and retired (C), or that it was flushed, which a trap is too; and on whose results it depends, at their broadcast. An
+/// instruction's number counts from 0 in order of fetch; its label is its address and its statement by the listing; its
+/// details are how it ended, what it wrote, what its execution cost, and what was predicted after a branch or a jump. Asks for
+/// no memory once it has written. Answers why the run ended.
 ///
 /// # Errors
 ///

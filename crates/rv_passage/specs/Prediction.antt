@@ -1,5 +1,5 @@
 -- Whether an instruction's prediction was wrong.
-use Rattle.std.specs.Prelude.{ℕ, ◌==◌, Bool, false, not, Option, Some, None}
+use Rattle.std.specs.Prelude.{ℕ, ◌==◌, if◌then◌else◌, Bool, false, not, Option, Some, None}
 use Rattle.rv_passage.specs.declared.passage.{Ending.Ending, Passage.Passage}
 use Rattle.rv_passage.specs.declared.passage.Ending.TheVariants.{InFlight, Retired, Trapped, Squashed}
 
@@ -19,3 +19,7 @@ differ (Some predicted) (Some next) = not (next == predicted)
 -- it retired, and the program did not go on where that was predicted at its fetch
 abbrev pub is_mispredicted : Passage → Bool
 is_mispredicted p = differ p.predicted (next_of p.ending)
+
+-- where the program went on, if that was predicted wrongly
+abbrev pub correction_of : Passage → Option ℕ
+correction_of p = if is_mispredicted p then next_of p.ending else None

@@ -117,7 +117,7 @@ fn start_of(execution: Execution) -> Issue
 
 impl Passage {
     ghost use Rattle.rv_passage.specs.Passage.{is_in_flight, of_entry, of_fetched, retired_by, trapped_by, squashed_in};
-    ghost use Rattle.rv_passage.specs.Prediction.{is_mispredicted};
+    ghost use Rattle.rv_passage.specs.Prediction.{correction_of, is_mispredicted};
     ghost use Rattle.rv_passage.specs.Result.{has_come, issued_in, ready_in, waits_for_bus};
 
     /// Whether the instruction did not leave the hardware yet.
@@ -149,6 +149,17 @@ impl Passage {
         match (self.predicted, self.ending.next()) {
             (Some(predicted), Some(next)) => next != predicted,
             _ => false,
+        }
+    }
+
+    /// Where the program went on after it, if that was predicted wrongly.
+    pub fn correction(&self) -> Option<u32>
+        ensures { result ≡ correction_of self.now }
+    {
+        if self.is_mispredicted() {
+            self.ending.next()
+        } else {
+            None
         }
     }
 

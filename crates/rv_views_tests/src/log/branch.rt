@@ -28,7 +28,7 @@ I\t4\t4\t0
 L\t4\t0\t80000008: addi x1,x0,5
 S\t4\t0\tF
 C\t1
-L\t0\t1\tretired, cost 1
+L\t0\t1\tretired, cost 1, predicted 80000004, but went on at 80000008
 R\t0\t0\t0
 L\t1\t1\tsquashed, cost 1
 R\t1\t1\t1

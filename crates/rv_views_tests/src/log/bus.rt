@@ -39,3 +39,37 @@ fn a_result_that_waits_for_the_bus_is_in_a_stage_of_its_own(rt: HostRuntime) {
     assert_eq!(&rt; stop, Ok(Stop::Limit));
     assert!(&rt; text.as_slice().ends_with(LAST_CYCLE));
 }
+
+// addi x1,x0,5; addi x2,x1,1
+const CHAIN: &[u8] = &[0x93, 0x00, 0x50, 0x00, 0x13, 0x81, 0x10, 0x00];
+
+// Both are dispatched in cycle 1. The first is issued in 2 and broadcast in 3, which wakes the second.
+const WAKING: &[u8] = b"C\t1
+S\t0\t0\tB
+W\t1\t0\t0
+C\t1
+";
+
+#[test]
+fn an_instruction_depends_on_the_one_whose_result_it_waits_for(rt: HostRuntime) {
+    let alloc = rt.alloc();
+    let mut values = Values::standard();
+    values.fetch_buffer = 2;
+    values.rob = 2;
+    let listing = listing(&rt, alloc, &[]);
+    let arrivals = no_arrivals(&rt, alloc);
+    let mut text = Vec::new(alloc);
+    let mut pipeline = pipeline(&rt, alloc, &described(&rt, values), CHAIN);
+    let mut predictor = NotTaken;
+    let stop = write_log(
+        alloc,
+        &mut pipeline,
+        &mut predictor,
+        &arrivals,
+        4,
+        &listing,
+        &mut text,
+    );
+    assert_eq!(&rt; stop, Ok(Stop::Limit));
+    assert!(&rt; text.as_slice().ends_with(WAKING));
+}

@@ -1,10 +1,10 @@
 use Rattle.std.proofs.Common.{take}
 use Rattle.std.specs.Io.KnownBytes.{Appends}
 use Rattle.std.specs.List.{flat_map}
-use Rattle.rv_log.specs.Event.{events_at}
+use Rattle.rv_log.specs.Dependence.{row_at}
 use Rattle.rv_log.proofs.cycle.write_rows.Given as goal
 
 -- what comes before is written
 abbrev pub invariant-loop-row : goal.invariant-loop-row
 invariant-loop-row g l =
-    Appends (g.W.Write.contents l.initial.writer) (g.W.Write.contents l.writer) (flat_map (events_at l.listing l.cycle) (take l.row-index l.rows))
+    Appends (g.W.Write.contents l.initial.writer) (g.W.Write.contents l.writer) (flat_map (row_at l.listing l.cycle) (take l.row-index l.rows))

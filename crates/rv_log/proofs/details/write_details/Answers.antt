@@ -17,7 +17,12 @@ unfolding details_line
 returns-in_err-write_cost g c =
     handed_on _ _ _ _ _ c.from_residual-in_err-write_cost.ensures.1 (beginning-both _ _ _ _ _ c.in_ok-write_begin.ensures (beginning-both _ _ _ _ _ c.in_ok-write_ending.ensures (beginning-longer _ _ _ _ c.in_err-write_cost.ensures)))
 
+pub returns-in_err-write_prediction : goal.returns-in_err-write_prediction
+unfolding details_line
+returns-in_err-write_prediction g c =
+    handed_on _ _ _ _ _ c.from_residual-in_err-write_prediction.ensures.1 (beginning-both _ _ _ _ _ c.in_ok-write_begin.ensures (beginning-both _ _ _ _ _ c.in_ok-write_ending.ensures (beginning-both _ _ _ _ _ c.in_ok-write_cost.ensures (beginning-longer _ _ _ _ c.in_err-write_prediction.ensures))))
+
 pub returns : goal.returns
 unfolding details_line
 returns g c =
-    written_behind _ _ _ _ _ _ c.in_ok-write_begin.ensures (written_behind _ _ _ _ _ _ c.in_ok-write_ending.ensures (written_behind _ _ _ _ _ _ c.in_ok-write_cost.ensures c.put.ensures))
+    written_behind _ _ _ _ _ _ c.in_ok-write_begin.ensures (written_behind _ _ _ _ _ _ c.in_ok-write_ending.ensures (written_behind _ _ _ _ _ _ c.in_ok-write_cost.ensures (written_behind _ _ _ _ _ _ c.in_ok-write_prediction.ensures c.put.ensures)))
