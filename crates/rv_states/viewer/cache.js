@@ -39,6 +39,7 @@ function isForwarded(load, address, line) {
 // Where the lines do not say how the sets change, an access does: its line comes to the front of its set, a set that is full drops its last
 // line, and a write-back leaves all lines clean. What the access cost says whether that is right; where it does not fit, nothing is shown.
 function replay(run, here, value, before, place) {
+  run.replays = run.replays || place > 0;
   const { sets, ways, hit, miss, write_back } = run.machine.cache;
   if (here.access) {
     const { line, what, cost } = here.access, set = line % sets, old = run.sets.last(set) || [];

@@ -245,7 +245,7 @@ function showCache(view) {
     }
     rows.push(element("tr", { class: changed.includes(set) ? "changed" : "", "data-set": set }, heading(set), ...cells));
   }
-  const size = counted(sets, "set") + ", " + counted(ways, "way") + ", " + line + " bytes; * dirty";
+  const size = (run.replays ? "replayed; " : "") + [sets, ways, line].join("\u00d7") + " bytes; * dirty";
   note("cache-note", run.replayFits ? size : "not known: the costs do not fit");
   fill("cache", rows, Math.min(sets, 16), 3);
 }

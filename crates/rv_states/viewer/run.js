@@ -42,7 +42,8 @@ class Run {
     this.table = [];             // each instruction by its number
     this.places = [];            // what happened in the cycle before each place, and where its line stands
     this.stop = null;
-    this.replayFits = true;      // whether what accesses cost fits the sets, where the lines do not tell these
+    this.replays = false;        // whether the sets follow from accesses, since the lines do not tell them
+    this.replayFits = true;      // and whether what these cost fits them
     this.kept = new Map();       // states that were read lately
     this.numbers = new Map();    // the number of each retired instruction, by its sequence number
     let before = null;
