@@ -13,4 +13,6 @@ mod passage;
 #[cfg(test)]
 mod picture;
 #[cfg(test)]
+mod profile;
+#[cfg(test)]
 mod report;
