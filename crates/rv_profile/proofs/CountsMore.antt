@@ -1,5 +1,5 @@
 -- The counts at an address, with one passage more or one more cycle at the head.
-use Rattle.std.proofs.Common.{◌≡◌, ◌∙◌, ℕ, ◌+◌, ◌<◌, ◌≤◌, ◌==◌, Bool, true, false, if◌then◌else◌, List, [], ◌∷◌, length, filter, count_by, Option, Some, None, cond, refl, ap, sym, arith, eq-eqb, ne_eqb}
+use Rattle.std.proofs.Common.{◌≡◌, ◌∙◌, ℕ, ◌+◌, ◌==◌, Bool, true, false, List, [], ◌∷◌, length, filter, count_by, Option, Some, None, cond, refl, ap, sym, arith, eq-eqb, ne_eqb}
 use Rattle.std.specs.List.{cons_option, filter_map}
 use Rattle.std.proofs.lemmas.List.Sums.{sum_by-cons}
 use Rattle.rv_passage.specs.Prediction.{is_mispredicted}

@@ -1,11 +1,11 @@
 -- The place of an address among counts in order, and the change there.
-use Rattle.std.proofs.Common.{◌≡◌, ◌∙◌, ℕ, zero, suc, ◌+◌, ◌<◌, ◌≤◌, ◌==◌, nat_lt, Bool, true, false, if◌then◌else◌, List, [], ◌∷◌, ◌++◌, length, get_or, set, take, drop, refl, ap, sym, arith, eq-eqb, ne_eqb, inl, inr, ◌⊎◌}
+use Rattle.std.proofs.Common.{◌≡◌, ◌∙◌, ℕ, zero, suc, ◌<◌, ◌≤◌, nat_lt, List, [], ◌∷◌, length, get_or, set, refl, ap, sym, arith, eq-eqb, ne_eqb, inl, inr}
 use Rattle.std.specs.Prelude.{insert}
 use Rattle.std.proofs.lemmas.List.{set-get_or}
 use Rattle.std.proofs.lemmas.Bool.{cases_Bool, le-ltb, lt-ltb, ltb-true, ltb-false}
 use Rattle.rv_cache.specs.WriteBack.{Each}
 use Rattle.rv_profile.specs.Counts.{nothing_at}
-use Rattle.rv_profile.specs.Order.{AreAbove, IsInOrder, IsPlaceFor, IsPlaceOf, with_change}
+use Rattle.rv_profile.specs.Order.{IsInOrder, IsPlaceFor, IsPlaceOf, with_change}
 use Rattle.rv_profile.specs.declared.counts.WordCounts.{WordCounts}
 
 -- what each of some has, the one at a place has

@@ -1,13 +1,12 @@
 -- The counts of all addresses, as passages leave the hardware and cycles go on.
-use Rattle.std.proofs.Common.{◌≡◌, ◌∙◌, ℕ, zero, suc, ◌+◌, ◌<◌, ◌≤◌, ◌==◌, Bool, true, false, List, [], ◌∷◌, ◌++◌, Option, Some, None, refl, ap, sym, subst, arith, inl, inr, append_assoc, append-nil}
+use Rattle.std.proofs.Common.{◌≡◌, ℕ, ◌+◌, ◌<◌, ◌==◌, List, [], ◌∷◌, ◌++◌, Option, Some, None, refl, sym, subst, arith, inl, inr}
 use Rattle.std.specs.Option.{option_to_list}
 use Rattle.std.proofs.lemmas.Bool.{cases_Bool, eqb-true, eqb-false}
-use Rattle.rv_cache.specs.WriteBack.{Each}
 use Rattle.rv_passage.specs.declared.passage.{Ending.Ending, Passage.Passage}
 use Rattle.rv_passage.specs.declared.passage.Ending.TheVariants as ending
 use Rattle.rv_profile.specs.Counts.{added, counts_at, once_more_at_head, times_of, with_ended}
 use Rattle.rv_profile.specs.Following.{with_head, with_passages}
-use Rattle.rv_profile.specs.Order.{HasAddress, IsInOrder, with_change}
+use Rattle.rv_profile.specs.Order.{HasAddress, with_change}
 use Rattle.rv_profile.specs.Profile.{IsProfileOf}
 use Rattle.rv_profile.specs.declared.{counts.WordCounts.WordCounts, loads.LoadCosts.LoadCosts}
 use Rattle.rv_profile.proofs.Changes.{counted-change, each-change, has-change, has-kept, in_order-change}

@@ -1,5 +1,5 @@
 -- What a cycle makes of a profile.
-use Rattle.std.specs.Prelude.{◌≡◌, ℕ, ◌+◌, ◌^◌, ◌≤◌, ◌<◌, List, [], ◌∷◌, length, filter, Option, Some, None}
+use Rattle.std.specs.Prelude.{ℕ, ◌+◌, ◌^◌, ◌≤◌, ◌<◌, List, [], ◌∷◌, length, filter, Option, Some, None}
 use Rattle.rv_cache.specs.WriteBack.{Each}
 use Rattle.rv_passage.specs.declared.passage.Passage.{Passage}
 use Rattle.rv_profile.specs.Counts.{IsWithin, added, once_more_at_head}

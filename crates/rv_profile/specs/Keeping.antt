@@ -1,5 +1,5 @@
 -- What a profile keeps while a run goes on.
-use Rattle.std.specs.Prelude.{◌≡◌, ℕ, ◌+◌, ◌*◌, ◌≤◌, List, length, vec_capacity}
+use Rattle.std.specs.Prelude.{◌≡◌, ◌+◌, ◌*◌, ◌≤◌, List, length, vec_capacity}
 use Rattle.rv_cache.specs.WriteBack.{Each}
 use Rattle.rv_core.specs.Watching.{Watched}
 use Rattle.rv_hardware.specs.History.{reports_of}

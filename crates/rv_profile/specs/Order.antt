@@ -1,5 +1,5 @@
 -- Counts in increasing order of address, and a change of those at one address.
-use Rattle.std.specs.Prelude.{◌≡◌, ℕ, ◌<◌, ◌≤◌, ◌==◌, nat_lt, if◌then◌else◌, List, [], ◌∷◌, length, ◌⊎◌}
+use Rattle.std.specs.Prelude.{◌≡◌, ℕ, ◌<◌, ◌≤◌, ◌==◌, nat_lt, if◌then◌else◌, List, [], ◌∷◌, length, slice_set, ◌⊎◌}
 use Rattle.std.specs.List.{slice_index_or}
 use Rattle.rv_cache.specs.WriteBack.{Each}
 use Rattle.rv_profile.specs.Counts.{nothing_at}
@@ -38,3 +38,8 @@ with_change address change (word ∷ words) =
     if word.address == address then change word ∷ words
     else (if nat_lt address word.address then change (nothing_at address) ∷ word ∷ words
     else word ∷ with_change address change words)
+
+-- any change of the counts at a place of the new list is that change of the counts of an address in the old one
+abbrev pub StandsFor : ℕ → ℕ → List WordCounts → List WordCounts → Type 0
+StandsFor address place old new =
+    (change : WordCounts → WordCounts) (word : WordCounts) → with_change address change old ≡ slice_set new place (change (slice_index_or new place word))

@@ -15,19 +15,27 @@ table_head =
     codes "address\tline\tstatement\tfetched\tretired\tsquashed\tdispatch_mean\tdispatch_most\tissue_mean\tissue_most\t" ++
     codes "broadcast_mean\tbroadcast_most\tretire_mean\tretire_most\thits\tmisses\tmispredicted\thead\n"
 
+-- a number, a text in printing characters, and a tab after each
+abbrev pub filled_cells : ℕ → List ℕ → List ℕ
+filled_cells number text = (decimal number ++ codes "\t") ++ (plain_text text ++ codes "\t")
+
 -- the number and the statement of a line; nothing of a word that no line fills
 unfoldable pub line_cells : Option Line → List ℕ
-line_cells (Some line) = decimal line.number ++ (codes "\t" ++ (plain_text line.text ++ codes "\t"))
+line_cells (Some line) = filled_cells line.number line.text
 line_cells None = codes "\t\t"
 
 -- where the instruction stands
 unfoldable pub place_cells : Listed → ℕ → List ℕ
 place_cells listing address = (word_text address ++ codes "\t") ++ line_cells (line_at listing address)
 
--- the mean of waits, rounded down to three digits after the point, and the greatest; hyphens of none
+-- the mean of so many waits, rounded down to three digits after the point, and the greatest
+abbrev pub mean_cells : ℕ → ℕ → ℕ → List ℕ
+mean_cells total count most = ratio_text total count ++ (codes "\t" ++ (decimal most ++ codes "\t"))
+
+-- the mean of waits and the greatest; hyphens of none
 unfoldable pub wait_cells : Waited → List ℕ
 wait_cells wait =
-    if wait.count == 0 then codes "-\t-\t" else ratio_text wait.total wait.count ++ (codes "\t" ++ (decimal wait.most ++ codes "\t"))
+    if wait.count == 0 then codes "-\t-\t" else mean_cells wait.total wait.count wait.most
 
 -- the waits between the stages
 unfoldable pub waits_cells : WordCounts → List ℕ

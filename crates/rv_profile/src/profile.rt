@@ -1,11 +1,9 @@
 ghost use Rattle.std.specs.Prelude.{◌≡◌, ◌+◌, ◌≤◌, ◌<◌, [], length, insert, slice_set, filter, vec_capacity, vec_len, IfErr, IfOk, OnErr};
-ghost use Rattle.std.specs.List.{slice_index_or};
 ghost use Rattle.rv_profile.specs.Counts.{added, nothing_at, once_more_at_head};
 ghost use Rattle.rv_profile.specs.Following.{CanCountMore, HasRoom, with_cycle, with_head, with_passages};
 ghost use Rattle.rv_profile.specs.Load.{costs_of};
-ghost use Rattle.rv_profile.specs.Order.{IsInOrder, IsPlaceFor, IsPlaceOf, with_change};
+ghost use Rattle.rv_profile.specs.Order.{IsInOrder, IsPlaceFor, IsPlaceOf, StandsFor, with_change};
 ghost use Rattle.rv_profile.specs.Passing.{has_left};
-ghost use Rattle.rv_profile.specs.declared.counts.WordCounts.{WordCounts as Counts};
 
 use crate::counts::WordCounts;
 use crate::loads::LoadCosts;
@@ -107,7 +105,7 @@ impl Profile {
         ensures within { result < length self.new.words }
         ensures words { self.new.words ≡ with_change address (λ word. word) self.old.words }
         ensures order { IsInOrder self.old.words }
-        ensures changes { (change : Counts → Counts) (word : Counts) → with_change address change self.old.words ≡ slice_set self.new.words result (change (slice_index_or self.new.words result word)) }
+        ensures changes { StandsFor address result self.old.words self.new.words }
         ensures capacity { self.old.capacity ≤ self.new.capacity }
     {
         match search(self.words.as_slice(), address) {

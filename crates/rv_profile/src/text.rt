@@ -1,8 +1,8 @@
 ghost use Rattle.std.specs.Prelude.{◌≡◌, ◌++◌, ◌*◌, ◌^◌, ◌<◌, ◌≤◌, ◌/◌, ◌%◌, codes, decimal};
 ghost use Rattle.std.specs.List.{flat_map};
-ghost use Rattle.rv_profile.specs.Text.{ended_cells, last_cells, line_cells, place_cells, table_head, table_text, wait_cells, waits_cells, word_line};
+ghost use Rattle.rv_profile.specs.Text.{ended_cells, filled_cells, last_cells, line_cells, mean_cells, place_cells, table_head, table_text, wait_cells, waits_cells, word_line};
 ghost use Rattle.rv_source.specs.Listing.{line_at};
-ghost use Rattle.rv_text.specs.Line.{ratio_text, word_text};
+ghost use Rattle.rv_text.specs.Line.{word_text};
 ghost use Rattle.rv_text.specs.Plain.{plain_text};
 ghost use Rattle.rv_text.specs.Written.{IsWritten};
 
@@ -45,7 +45,7 @@ fn write_statement<W: Write>(writer: &mut W, text: &[u8]) -> Result<(), ReportEr
 
 // Writes the number and the statement of a line.
 fn write_line<W: Write>(writer: &mut W, number: usize, text: &[u8]) -> Result<(), ReportError>
-    ensures { IsWritten result (W.contents writer.old) (W.contents writer.new) ((decimal number ++ codes "\t") ++ (plain_text text.now ++ codes "\t")) }
+    ensures { IsWritten result (W.contents writer.old) (W.contents writer.new) (filled_cells number text.now) }
 {
     write_number(writer, number)?;
     write_statement(writer, text)
@@ -101,7 +101,7 @@ fn write_waited<W: Write>(
     requires some { 0 < count }
     requires few { count < 2 ^ 50 }
     requires within { total ≤ count * 2 ^ 64 }
-    ensures { IsWritten result (W.contents writer.old) (W.contents writer.new) (ratio_text total count ++ (codes "\t" ++ (decimal most ++ codes "\t"))) }
+    ensures { IsWritten result (W.contents writer.old) (W.contents writer.new) (mean_cells total count most) }
 {
     let mut whole_buffer = Buffer::new();
     let whole = whole_buffer.format(total / u128::from(count)).as_bytes();

@@ -1,4 +1,4 @@
-use Rattle.std.proofs.Common.{◌≡◌, ◌∙◌, refl, sym, ap, subst, set}
+use Rattle.std.proofs.Common.{◌≡◌, ◌∙◌, sym, ap, subst, set}
 use Rattle.rv_profile.specs.Counts.{CanCount, added}
 use Rattle.rv_profile.specs.Following.{Profiled}
 use Rattle.rv_profile.proofs.Changes.{in_order-made}
