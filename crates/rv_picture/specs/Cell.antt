@@ -1,5 +1,5 @@
 -- What a picture shows of an instruction in a cycle.
-use Rattle.std.specs.Prelude.{ℕ, ◌+◌, ◌==◌, ◌&&◌, ◌||◌, Bool, false, not, if◌then◌else◌, nat_lt, List, codes, Option, Some, None}
+use Rattle.std.specs.Prelude.{ℕ, ◌+◌, ◌==◌, ◌&&◌, ◌||◌, Bool, true, false, not, if◌then◌else◌, nat_lt, List, codes, Option, Some, None}
 use Rattle.rv_passage.specs.declared.passage.{Ending.Ending, Passage.Passage}
 use Rattle.rv_passage.specs.declared.passage.Ending.TheVariants.{InFlight, Retired, Trapped, Squashed}
 use Rattle.rv_passage.specs.{Passage.left_in, Result.issued_in, Result.waits_for_bus}
@@ -79,9 +79,24 @@ name_of cell.Broadcast = codes "broadcast"
 name_of cell.Retirement = codes "retirement"
 name_of cell.Trap = codes "trap"
 name_of cell.Squash = codes "squash"
-name_of cell.DispatchWait = codes "wait for dispatch"
+name_of cell.DispatchWait = codes "wait for room or its turn to dispatch"
 name_of cell.IssueWait = codes "wait for operands, a unit or the head"
 name_of cell.HeadWait = codes "wait for the head"
+
+-- a dispatched instruction waits to be issued
+abbrev pub is_issue_wait : Cell → Bool
+is_issue_wait cell.IssueWait = true
+is_issue_wait cell.Fetch = false
+is_issue_wait cell.Dispatch = false
+is_issue_wait cell.Issue = false
+is_issue_wait cell.Execution = false
+is_issue_wait cell.BusWait = false
+is_issue_wait cell.Broadcast = false
+is_issue_wait cell.Retirement = false
+is_issue_wait cell.Trap = false
+is_issue_wait cell.Squash = false
+is_issue_wait cell.DispatchWait = false
+is_issue_wait cell.HeadWait = false
 
 -- the class of a cell in the style of an SVG
 unfoldable pub class_of : Cell → List ℕ

@@ -9,3 +9,5 @@ pub mod Recording
 pub mod SvgFrame
 pub mod SvgPicture
 pub mod TextPicture
+pub mod Title
+pub mod Wait

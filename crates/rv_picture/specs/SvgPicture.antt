@@ -5,11 +5,13 @@ use Rattle.std.specs.List.{flat_map}
 use Rattle.rv_passage.specs.declared.passage.{Ending.Ending, Passage.Passage}
 use Rattle.rv_passage.specs.declared.passage.Ending.TheVariants.{InFlight, Retired, Trapped, Squashed}
 use Rattle.rv_source.specs.Listing.{Listed}
-use Rattle.rv_picture.specs.Cell.{cell_of, class_of, has_cell, letter_of, name_of}
+use Rattle.rv_picture.specs.Cell.{cell_of, class_of, has_cell, letter_of}
 use Rattle.rv_picture.specs.Columns.{columns}
 use Rattle.rv_picture.specs.Label.{markup_byte, statement_of, written_by, written_text}
 use Rattle.rv_picture.specs.Places.{column_x, row_y}
 use Rattle.rv_picture.specs.Over.{over_note}
+use Rattle.rv_picture.specs.Title.{row_end}
+use Rattle.rv_picture.specs.Wait.{tip_of}
 use Rattle.rv_picture.specs.SvgFrame.{svg_begin, svg_style, svg_legend, svg_end}
 use Rattle.rv_picture.specs.declared.{cell.Cell.Cell, window.Window.Window}
 use Rattle.rv_text.specs.Line.{word_text}
@@ -61,21 +63,28 @@ interrupt_in window rows cycle =
     then interrupt_mark (decimal (column_x (cycle - window.first))) (decimal cycle) (decimal (row_y rows))
     else []
 
+-- the begin of a box, up to its tip
+unfoldable pub box_begin : List ℕ → List ℕ → List ℕ
+box_begin class x = codes "<g class='p " ++ (class ++ (codes "' transform='translate(" ++ (x ++ codes " 0)'><title>")))
+
+-- the end of a box, from the cycle in its tip on
+unfoldable pub box_end : List ℕ → List ℕ → List ℕ
+box_end cycle letter =
+    codes " in cycle " ++ (cycle ++ (codes "</title><rect width='14' height='18'/><text x='7' y='13'>" ++ (letter ++ codes "</text></g>\n")))
+
 -- a box with a letter, and a tip with the cycle
 unfoldable pub cell_box : List ℕ → List ℕ → List ℕ → List ℕ → List ℕ → List ℕ
-cell_box class x name cycle letter =
-    codes "<g class='p " ++ (class ++ (codes "' transform='translate(" ++ (x ++
-    (codes " 0)'><title>" ++ (name ++ (codes " in cycle " ++ (cycle ++
-    (codes "</title><rect width='14' height='18'/><text x='7' y='13'>" ++ (letter ++ codes "</text></g>\n")))))))))
+cell_box class x tip cycle letter = box_begin class x ++ (tip ++ box_end cycle letter)
 
 -- the box of a cell in a column, and nothing where there is none
-unfoldable pub box_of : Option Cell → ℕ → ℕ → List ℕ
-box_of None column cycle = []
-box_of (Some cell) column cycle = cell_box (class_of cell) (decimal (column_x column)) (name_of cell) (decimal cycle) (letter_of cell)
+unfoldable pub box_of : Option Cell → Window → Passage → ℕ → ℕ → List ℕ
+box_of None window passage column cycle = []
+box_of (Some cell) window passage column cycle =
+    cell_box (class_of cell) (decimal (column_x column)) (tip_of window passage cycle cell) (decimal cycle) (letter_of cell)
 
 -- the box of an instruction in a column of a window
 unfoldable pub box_at : Window → Passage → ℕ → List ℕ
-box_at window passage column = box_of (cell_of passage (window.first + column)) column (window.first + column)
+box_at window passage column = box_of (cell_of passage (window.first + column)) window passage column (window.first + column)
 
 -- the class of a row says how its instruction ended
 unfoldable pub row_class : Ending → List ℕ
@@ -99,14 +108,14 @@ unfoldable pub near_address : Window → Passage → List ℕ
 near_address window passage =
     if nat_le 50 (passage.fetched - window.first) then near_text (decimal (column_x (passage.fetched - window.first))) (word_text passage.pc) else []
 
--- an instruction: its address, its statement, what it wrote, and its cells
+-- an instruction: its address, its statement, what it wrote, its cells, and its tip
 unfoldable pub svg_row : Listed → Window → ℕ → Passage → List ℕ
 svg_row listing window place passage =
     row_begin (row_class passage.ending) (decimal (row_y place)) (word_text passage.pc) ++
     (flat_map markup_byte (statement_of listing passage) ++
     (codes "</text><text x='328' y='13'>" ++ (written_text (written_by passage.ending) ++
     (codes "</text>\n" ++ (numbers_again window place ++ (columns window (box_at window passage) ++
-    (near_address window passage ++ codes "</g>\n")))))))
+    (near_address window passage ++ row_end passage)))))))
 
 -- one that has a cell in the window takes a row
 unfoldable pub placed_row : Listed → Window → ℕ → Passage → List ℕ

@@ -1,5 +1,5 @@
 ghost use Rattle.std.specs.Prelude.{◌≡◌, ◌+◌, ◌<◌, ◌^◌};
-ghost use Rattle.rv_picture.specs.Cell.{is_at, is_past, mark_of, wait_of, phase_of, cell_of, has_cell, letter_of, name_of, class_of};
+ghost use Rattle.rv_picture.specs.Cell.{is_at, is_issue_wait, is_past, mark_of, wait_of, phase_of, cell_of, has_cell, letter_of, name_of, class_of};
 
 use crate::window::Window;
 use rv_passage::{Ending, Passage};
@@ -18,7 +18,7 @@ pub(crate) enum Cell {
     Retirement,
     Trap,
     Squash,
-    /// It waits in the fetch buffer.
+    /// It waits in the fetch buffer, for room or for older ones.
     DispatchWait,
     /// It waits for operands or a unit, or, where it uses none, for the head.
     IssueWait,
@@ -61,10 +61,17 @@ impl Cell {
             Cell::Retirement => b"retirement",
             Cell::Trap => b"trap",
             Cell::Squash => b"squash",
-            Cell::DispatchWait => b"wait for dispatch",
+            Cell::DispatchWait => b"wait for room or its turn to dispatch",
             Cell::IssueWait => b"wait for operands, a unit or the head",
             Cell::HeadWait => b"wait for the head",
         }
+    }
+
+    /// Whether a dispatched instruction waits to be issued.
+    pub(crate) fn is_issue_wait(self) -> bool
+        ensures { result ≡ is_issue_wait self }
+    {
+        matches!(self, Cell::IssueWait)
     }
 
     /// The class of a cell in the style of an SVG.
@@ -96,7 +103,8 @@ fn is_at(stamp: Option<u64>, cycle: u64) -> bool
     }
 }
 
-fn is_past(stamp: Option<u64>, cycle: u64) -> bool
+/// Whether a stamp came before a cycle.
+pub(crate) fn is_past(stamp: Option<u64>, cycle: u64) -> bool
     ensures { result ≡ is_past cycle stamp }
 {
     match stamp {

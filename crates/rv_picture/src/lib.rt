@@ -12,6 +12,8 @@ mod place;
 mod recording;
 mod svg;
 mod text;
+mod title;
+mod wait;
 mod window;
 mod written;
 

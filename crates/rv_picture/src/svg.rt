@@ -1,9 +1,10 @@
 ghost use Rattle.std.specs.Prelude.{◌≡◌, ◌+◌, ◌≤◌, ◌<◌, ◌^◌, count_by, decimal};
 ghost use Rattle.std.specs.List.{flat_map};
-ghost use Rattle.rv_picture.specs.Cell.{class_of, has_cell, letter_of, name_of};
+ghost use Rattle.rv_picture.specs.Cell.{class_of, has_cell, letter_of};
 ghost use Rattle.rv_picture.specs.Label.{markup_byte, statement_of};
 ghost use Rattle.rv_picture.specs.Places.{column_x, row_y};
-ghost use Rattle.rv_picture.specs.SvgPicture.{line_down, tenth_mark, tenth_at, number_mark, number_at, numbers, numbers_again, interrupt_mark, interrupt_in, cell_box, box_at, row_class, row_begin, near_text, near_address, svg_row, placed_row, rows_of, svg_rows, svg_of, svg_picture};
+ghost use Rattle.rv_picture.specs.Wait.{tip_of};
+ghost use Rattle.rv_picture.specs.SvgPicture.{box_begin, box_end, line_down, tenth_mark, tenth_at, number_mark, number_at, numbers, numbers_again, interrupt_mark, interrupt_in, cell_box, box_at, row_class, row_begin, near_text, near_address, svg_row, placed_row, rows_of, svg_rows, svg_of, svg_picture};
 ghost use Rattle.rv_text.specs.Line.{word_text};
 ghost use Rattle.rv_text.specs.Written.{IsWritten};
 
@@ -13,6 +14,8 @@ use crate::frame::{write_begin, write_end, write_legend, write_style};
 use crate::label::{statement, write_markup, write_written};
 use crate::over::write_over;
 use crate::place::{column_x, digits, row_y};
+use crate::title::write_row_end;
+use crate::wait::write_tip;
 use crate::window::Window;
 use itoa::Buffer;
 use rv_passage::{Ending, Passage};
@@ -186,21 +189,12 @@ fn write_interrupts<W: Write>(
     Ok(())
 }
 
-fn write_box<W: Write>(
-    writer: &mut W,
-    cell: Cell,
-    column: u64,
-    cycle: u64,
-) -> Result<(), ReportError>
-    ensures { IsWritten result (W.contents writer.old) (W.contents writer.new) (cell_box (class_of cell) (decimal (column_x column)) (name_of cell) (decimal cycle) (letter_of cell)) }
+fn write_box_begin<W: Write>(writer: &mut W, cell: Cell, column: u64) -> Result<(), ReportError>
+    ensures { IsWritten result (W.contents writer.old) (W.contents writer.new) (box_begin (class_of cell) (decimal (column_x column))) }
 {
     let mut at_column = Buffer::new();
     let x = digits(&mut at_column, column_x(column));
-    let mut at_cycle = Buffer::new();
-    let cycle = digits(&mut at_cycle, u128::from(cycle));
     let class = cell.class();
-    let name = cell.name();
-    let letter = cell.letter();
     put_all(
         writer,
         &[
@@ -209,7 +203,19 @@ fn write_box<W: Write>(
             b"' transform='translate(",
             x,
             b" 0)'><title>",
-            name,
+        ],
+    )
+}
+
+fn write_box_end<W: Write>(writer: &mut W, cell: Cell, cycle: u64) -> Result<(), ReportError>
+    ensures { IsWritten result (W.contents writer.old) (W.contents writer.new) (box_end (decimal cycle) (letter_of cell)) }
+{
+    let mut at_cycle = Buffer::new();
+    let cycle = digits(&mut at_cycle, u128::from(cycle));
+    let letter = cell.letter();
+    put_all(
+        writer,
+        &[
             b" in cycle ",
             cycle,
             b"</title><rect width='14' height='18'/><text x='7' y='13'>",
@@ -217,6 +223,21 @@ fn write_box<W: Write>(
             b"</text></g>\n",
         ],
     )
+}
+
+fn write_box<W: Write>(
+    writer: &mut W,
+    window: Window,
+    row: &Passage,
+    cell: Cell,
+    column: u64,
+    cycle: u64,
+) -> Result<(), ReportError>
+    ensures { IsWritten result (W.contents writer.old) (W.contents writer.new) (cell_box (class_of cell) (decimal (column_x column)) (tip_of window row.now cycle cell) (decimal cycle) (letter_of cell)) }
+{
+    write_box_begin(writer, cell, column)?;
+    write_tip(writer, window, row, cycle, cell)?;
+    write_box_end(writer, cell, cycle)
 }
 
 #[tactic(auto, unfolding(crate::specs::SvgPicture::box_at, crate::specs::SvgPicture::box_of))]
@@ -231,7 +252,7 @@ pub(crate) fn write_box_at<W: Write>(
 {
     let cycle = window.first + column;
     match cell_in(row, cycle) {
-        Some(cell) => write_box(writer, cell, column, cycle),
+        Some(cell) => write_box(writer, window, row, cell, column, cycle),
         None => Ok(()),
     }
 }
@@ -333,7 +354,7 @@ fn write_row<W: Write>(
     write_numbers_again(writer, window, place)?;
     write_columns(writer, window, Columns::Boxes(row))?;
     write_near_address(writer, window, row)?;
-    put(writer, b"</g>\n")
+    write_row_end(writer, row)
 }
 
 #[tactic(auto, unfolding(crate::specs::SvgPicture::placed_row))]

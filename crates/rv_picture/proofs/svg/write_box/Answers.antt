@@ -1,15 +1,18 @@
-use Rattle.std.proofs.Common.{◌∙◌, ap}
-use Rattle.std.specs.Prelude.{decimal}
 use Rattle.rv_picture.specs.SvgPicture.{cell_box}
-use Rattle.rv_text.proofs.Writing.{written_same}
+use Rattle.rv_text.proofs.Writing.{beginning-both, beginning-longer, handed_on, written_behind}
 use Rattle.rv_picture.proofs.svg.write_box.Goals as goal
+
+pub returns-in_err-write_box_begin : goal.returns-in_err-write_box_begin
+unfolding cell_box
+returns-in_err-write_box_begin g c =
+    handed_on _ _ _ _ _ c.from_residual.ensures.1 (beginning-longer _ _ _ _ c.in_err-write_box_begin.ensures)
+
+pub returns-in_err-write_tip : goal.returns-in_err-write_tip
+unfolding cell_box
+returns-in_err-write_tip g c =
+    handed_on _ _ _ _ _ c.from_residual-in_err-write_tip.ensures.1 (beginning-both _ _ _ _ _ c.in_ok-write_box_begin.ensures (beginning-longer _ _ _ _ c.in_err-write_tip.ensures))
 
 pub returns : goal.returns
 unfolding cell_box
 returns g c =
-    let class = c.class-class.ensures in
-    let x = c.digits-x.ensures ∙ ap decimal c.column_x.ensures in
-    let name = c.name-name.ensures in
-    let cycle = c.digits-cycle.ensures ∙ ap decimal c.from.ensures in
-    let letter = c.letter-letter.ensures in
-    written_same _ _ _ _ _ (λ i. cell_box (class i) (x i) (name i) (cycle i) (letter i)) c.put_all.ensures
+    written_behind _ _ _ _ _ _ c.in_ok-write_box_begin.ensures (written_behind _ _ _ _ _ _ c.in_ok-write_tip.ensures c.write_box_end.ensures)

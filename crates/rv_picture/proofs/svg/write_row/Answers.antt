@@ -45,4 +45,4 @@ returns-in_err-write_near_address g c =
 pub returns : goal.returns
 unfolding svg_row
 returns g c =
-    written_behind _ _ _ _ _ _ c.in_ok-write_row_begin.ensures (written_behind _ _ _ _ _ _ c.in_ok-write_statement.ensures (written_behind _ _ _ _ _ _ c.in_ok-put.ensures (written_behind _ _ _ _ _ _ c.in_ok-write_written.ensures (written_behind _ _ _ _ _ _ c.in_ok-put-2.ensures (written_behind _ _ _ _ _ _ c.in_ok-write_numbers_again.ensures (written_behind _ _ _ _ _ _ c.in_ok-write_columns.ensures (written_behind _ _ _ _ _ _ c.in_ok-write_near_address.ensures c.put-3.ensures)))))))
+    written_behind _ _ _ _ _ _ c.in_ok-write_row_begin.ensures (written_behind _ _ _ _ _ _ c.in_ok-write_statement.ensures (written_behind _ _ _ _ _ _ c.in_ok-put.ensures (written_behind _ _ _ _ _ _ c.in_ok-write_written.ensures (written_behind _ _ _ _ _ _ c.in_ok-put-2.ensures (written_behind _ _ _ _ _ _ c.in_ok-write_numbers_again.ensures (written_behind _ _ _ _ _ _ c.in_ok-write_columns.ensures (written_behind _ _ _ _ _ _ c.in_ok-write_near_address.ensures c.write_row_end.ensures)))))))
