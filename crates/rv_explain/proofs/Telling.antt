@@ -35,7 +35,15 @@ nothing_grows more few = record { alu = omega (arith, few); mul = omega (arith, 
 pub telling_nothing : (values : Values) (arrivals : List Arrival) (h : GuidedHardware) (tale : Tale) (registers : List ℕ) (end : Option ℕ) → tale ≡ tale_of values arrivals h.hardware []
     → registers ≡ h.hardware.registers → end ≡ drain_end h.hardware → IsTelling tale tale registers end (watched arrivals h [] h)
 telling_nothing values arrivals h tale registers end untold registers_are end_is =
-    record { values = values; untold = untold; told = λ by is. is; bus_grows = λ more few. subst (λ (t : Tale). CanGrow t.bus more) (sym untold) (nothing_grows more few); units_grow = λ more few. subst (λ (t : Tale). CanGrow t.units more) (sym untold) (nothing_grows more few); registers_are = registers_are; end_is = end_is }
+    record {
+      values = values;
+      untold = untold;
+      told = λ by is. is;
+      bus_grows = λ more few. subst (λ (t : Tale). CanGrow t.bus more) (sym untold) (nothing_grows more few);
+      units_grow = λ more few. subst (λ (t : Tale). CanGrow t.units more) (sym untold) (nothing_grows more few);
+      registers_are = registers_are;
+      end_is = end_is;
+    }
 
 module _ {seen : Watched} {cycle : ℕ} {steps : List Step} {after : Hardware} {progress : Progress} (shown : IsShown seen cycle steps after progress)
     {first tale : Tale} {registers : List ℕ} {end : Option ℕ} (telling : IsTelling first tale registers end seen) where
