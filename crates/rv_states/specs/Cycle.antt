@@ -1,0 +1,31 @@
+-- The lines of the hardware before the first cycle, and of a cycle.
+use Rattle.std.specs.Prelude.{ℕ, List, ◌++◌, codes, decimal, map}
+use Rattle.rv_core.specs.declared.outcome.Progress.{Progress}
+use Rattle.rv_hardware.specs.Hardware.{Hardware}
+use Rattle.rv_hardware.specs.declared.step.Step.{Step}
+use Rattle.rv_passage.specs.declared.passage.Passage.{Passage}
+use Rattle.rv_states.specs.Counts.{counts_text}
+use Rattle.rv_states.specs.Instruction.{instruction_json}
+use Rattle.rv_states.specs.Json.{also, array, begins}
+use Rattle.rv_states.specs.State.{state_json}
+use Rattle.rv_states.specs.Step.{step_json}
+
+-- the number of the next cycle, what is in flight before it, the counts so far, and the hardware
+unfoldable pub start_line : List Passage → Hardware → Progress → List ℕ
+start_line rows h progress =
+    begins (codes "start") (decimal h.cycle) ++
+    (also (codes "instructions") (array (map instruction_json rows)) ++
+    (counts_text progress ++
+    (also (codes "state") (state_json h) ++
+    codes "}\n")))
+
+-- The number of a cycle, the instructions that are in flight at its end or left the hardware in it, in order of fetch, its steps,
+-- the counts of the cycles so far, and the hardware after it.
+unfoldable pub cycle_line : ℕ → List Passage → List Step → Hardware → Progress → List ℕ
+cycle_line cycle rows steps h progress =
+    begins (codes "cycle") (decimal cycle) ++
+    (also (codes "instructions") (array (map instruction_json rows)) ++
+    (also (codes "steps") (array (map step_json steps)) ++
+    (counts_text progress ++
+    (also (codes "state") (state_json h) ++
+    codes "}\n"))))

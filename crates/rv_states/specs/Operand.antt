@@ -1,0 +1,41 @@
+-- What an instruction that waits reads, as JSON.
+use Rattle.std.specs.Prelude.{ℕ, List, [], ◌++◌, codes, decimal, slice_index_or, Option, Some, None}
+use Rattle.rv_isa.specs.Operands.{sources_of}
+use Rattle.rv_isa.specs.declared.instructions.Instr.{Instr}
+use Rattle.rv_core.specs.Ties.{RegisterStatus}
+use Rattle.rv_rob.specs.declared.entry.{Entry.Entry, Stage.Stage}
+use Rattle.rv_rob.specs.declared.entry.Stage.TheVariants.{Waiting, Running, Finished}
+use Rattle.rv_stations.specs.declared.waiting.Operand.{Operand}
+use Rattle.rv_stations.specs.declared.waiting.Operand.TheVariants.{Value, Tag}
+use Rattle.rv_states.specs.Json.{Json, also, begins}
+
+-- a value that is known, or the number of the instruction that gives it
+unfoldable pub known_text : Operand → List ℕ
+known_text (Value value) = also (codes "value") (decimal value)
+known_text (Tag number) = also (codes "producer") (decimal number)
+
+-- a register, and what it gives
+unfoldable pub operand_json : ℕ → Operand → Json
+operand_json register operand = begins (codes "register") (decimal register) ++ (known_text operand ++ codes "}")
+
+-- an operand, where the instruction has it
+unfoldable pub operand_text : List ℕ → RegisterStatus → Option ℕ → List ℕ
+operand_text name status None = []
+operand_text name status (Some register) = also name (operand_json register (status register))
+
+-- both operands of an instruction
+unfoldable pub operands_of : RegisterStatus → Instr → List ℕ
+operands_of status instruction =
+    operand_text (codes "first") status (slice_index_or (sources_of instruction) 0 None) ++
+    operand_text (codes "second") status (slice_index_or (sources_of instruction) 1 None)
+
+-- the same of a word, if it is an instruction
+abbrev pub operands_of_word : RegisterStatus → Option Instr → List ℕ
+operands_of_word status None = []
+operands_of_word status (Some instruction) = operands_of status instruction
+
+-- what an instruction reads that waits
+abbrev pub operands_text : RegisterStatus → Stage → Option Instr → List ℕ
+operands_text status Waiting instruction = operands_of_word status instruction
+operands_text status (Running issue message) instruction = []
+operands_text status (Finished issue cycle message) instruction = []

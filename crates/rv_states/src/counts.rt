@@ -1,0 +1,83 @@
+ghost use Rattle.std.specs.Prelude.{◌≡◌};
+ghost use Rattle.rv_states.specs.Counts.{counts_json, counts_text, stall_name, stall_text};
+ghost use Rattle.rv_text.specs.Written.{IsWritten};
+
+use crate::json::{Member, Value, write_key, write_members, write_object};
+use rv_core::Progress;
+use rv_hardware::Stall;
+use rv_text::ReportError;
+use std::io::Write;
+
+fn stall_name(stall: Stall) -> &'static str
+    ensures { result.now ≡ stall_name stall }
+{
+    match stall {
+        Stall::Fetch => "fetch",
+        Stall::Serial => "serial",
+        Stall::Rob => "rob",
+        Stall::Station => "station",
+        Stall::Store => "store",
+    }
+}
+
+#[tactic(auto, unfolding(crate::specs::Counts::stall_text))]
+fn write_stall<W: Write>(writer: &mut W, stall: Option<Stall>) -> Result<(), ReportError>
+    ensures { IsWritten result (W.contents writer.old) (W.contents writer.new) (stall_text stall) }
+{
+    match stall {
+        Some(stall) => write_members(
+            writer,
+            &[Member {
+                name: "stall",
+                value: Value::Name(stall_name(stall)),
+            }],
+        ),
+        None => Ok(()),
+    }
+}
+
+#[tactic(auto, unfolding(crate::specs::Counts::counts_json))]
+fn write_count_object<W: Write>(writer: &mut W, progress: &Progress) -> Result<(), ReportError>
+    ensures { IsWritten result (W.contents writer.old) (W.contents writer.new) (counts_json progress.now) }
+{
+    write_object(
+        writer,
+        "cycles",
+        progress.cycles,
+        &[
+            Member {
+                name: "busy",
+                value: Value::Number(progress.busy),
+            },
+            Member {
+                name: "fetch",
+                value: Value::Number(progress.stalls.fetch),
+            },
+            Member {
+                name: "serial",
+                value: Value::Number(progress.stalls.serial),
+            },
+            Member {
+                name: "rob",
+                value: Value::Number(progress.stalls.rob),
+            },
+            Member {
+                name: "station",
+                value: Value::Number(progress.stalls.station),
+            },
+            Member {
+                name: "store",
+                value: Value::Number(progress.stalls.store),
+            },
+        ],
+    )
+}
+
+/// Writes what the last cycle waited for, where it dispatched nothing, and the counts so far.
+pub(crate) fn write_counts<W: Write>(writer: &mut W, progress: &Progress) -> Result<(), ReportError>
+    ensures { IsWritten result (W.contents writer.old) (W.contents writer.new) (counts_text progress.now) }
+{
+    write_stall(writer, progress.stall)?;
+    write_key(writer, "counts")?;
+    write_count_object(writer, progress)
+}

@@ -1,0 +1,98 @@
+ghost use Rattle.std.specs.Prelude.{◌≡◌};
+ghost use Rattle.rv_hardware.specs.Seen.{layout_of, seen};
+ghost use Rattle.rv_states.specs.Memory.{memory_line, memory_lines, word_json, word_seen, word_text};
+ghost use Rattle.rv_text.specs.Written.{IsWritten};
+
+use crate::json::{Member, Value, write_object};
+use crate::place::word_address;
+use rv_core::Pipeline;
+use rv_isa::Values;
+use rv_text::{ReportError, put};
+use std::io::Write;
+
+// The word that programs see at an address, or `None` outside RAM.
+#[tactic(auto, unfolding(crate::specs::Memory::word_seen))]
+fn word_at(pipeline: &Pipeline, address: u32) -> Option<u32>
+    ensures { result ≡ word_seen (layout_of pipeline.now.values) (seen pipeline.now).ram address }
+{
+    let bytes = [
+        pipeline.byte(address)?,
+        pipeline.byte(address.wrapping_add(1))?,
+        pipeline.byte(address.wrapping_add(2))?,
+        pipeline.byte(address.wrapping_add(3))?,
+    ];
+    Some(u32::from_le_bytes(bytes))
+}
+
+#[tactic(auto, unfolding(crate::specs::Memory::word_json))]
+fn write_word_object<W: Write>(
+    writer: &mut W,
+    address: u32,
+    word: u32,
+    stale: bool,
+) -> Result<(), ReportError>
+    ensures { IsWritten result (W.contents writer.old) (W.contents writer.new) (word_json address word stale) }
+{
+    write_object(
+        writer,
+        "memory",
+        u64::from(address),
+        &[
+            Member {
+                name: "word",
+                value: Value::Number(u64::from(word)),
+            },
+            Member {
+                name: "stale",
+                value: Value::Truth(stale),
+            },
+        ],
+    )
+}
+
+fn write_word<W: Write>(
+    writer: &mut W,
+    address: u32,
+    word: u32,
+    stale: bool,
+) -> Result<(), ReportError>
+    ensures { IsWritten result (W.contents writer.old) (W.contents writer.new) (word_text address word stale) }
+{
+    write_word_object(writer, address, word, stale)?;
+    put(writer, b"\n")
+}
+
+// Writes the line of the word that programs see at an address; nothing where it is 0 and not stale, or outside RAM.
+fn write_memory_line<W: Write>(
+    writer: &mut W,
+    pipeline: &Pipeline,
+    address: u32,
+) -> Result<(), ReportError>
+    ensures { IsWritten result (W.contents writer.old) (W.contents writer.new) (memory_line pipeline.now address) }
+{
+    let stale = pipeline.is_stale(address);
+    match word_at(pipeline, address) {
+        Some(word) if word != 0 || stale => write_word(writer, address, word, stale),
+        _ => Ok(()),
+    }
+}
+
+fn write_words<W: Write>(
+    writer: &mut W,
+    pipeline: &Pipeline,
+    values: &Values,
+) -> Result<(), ReportError>
+    ensures { IsWritten result (W.contents writer.old) (W.contents writer.new) (memory_lines pipeline.now values.now) }
+{
+    for number in 0..values.ram_size / 4 {
+        write_memory_line(writer, pipeline, word_address(values.ram_base, number))?;
+    }
+    Ok(())
+}
+
+/// Writes a line for each word of RAM, as programs see it, that is not 0 or was stored to since the last FENCE.I.
+pub fn write_memory<W: Write>(writer: &mut W, pipeline: &Pipeline) -> Result<(), ReportError>
+    ensures { IsWritten result (W.contents writer.old) (W.contents writer.new) (memory_lines pipeline.now pipeline.now.values) }
+{
+    write_words(writer, pipeline, pipeline.values())
+}
