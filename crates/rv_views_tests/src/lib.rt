@@ -16,3 +16,5 @@ mod picture;
 mod profile;
 #[cfg(test)]
 mod report;
+#[cfg(test)]
+mod state_lines;
