@@ -95,6 +95,7 @@ program_arguments = with_commands bare_arguments (
     picture_arguments ∷
     limited_arguments (codes "log") ∷
     limited_arguments (codes "explain") ∷
+    limited_arguments (codes "profile") ∷
     limited_arguments (codes "compare") ∷
     []
     )

@@ -9,7 +9,7 @@ use Rattle.clap.specs.Words.{Kinds, Row, Text, fault_of, one_of, subcommand_of}
 use Rattle.clap.specs.declared.error.kind.ErrorKind.TheVariants.{ValueValidation}
 use Rattle.rv_command.specs.Arguments.{last_cycle, most_cycles_shown, most_steps, program_arguments}
 use Rattle.rv_command.specs.declared.command.Command.{Command}
-use Rattle.rv_command.specs.declared.command.Command.TheVariants.{Run, Reference, Check, Picture, Log, Explain, Compare}
+use Rattle.rv_command.specs.declared.command.Command.TheVariants.{Run, Reference, Check, Picture, Log, Explain, Profile, Compare}
 
 -- the limit of a run is 1 to 1,000,000
 abbrev pub IsLegalLimit : ℕ → Type 0
@@ -27,6 +27,7 @@ HasLegalNumbers Check = ⊤
 HasLegalNumbers (Picture text from cycles) = IsLegalWindow from cycles
 HasLegalNumbers (Log limit) = IsLegalLimit limit
 HasLegalNumbers (Explain limit) = IsLegalLimit limit
+HasLegalNumbers (Profile limit) = IsLegalLimit limit
 HasLegalNumbers (Compare limit) = IsLegalLimit limit
 
 -- ---- what the matches of a command hold
@@ -76,7 +77,8 @@ command_named given =
     else (if bytes_eq given.0 (codes "picture") then picture_in given.1
     else (if bytes_eq given.0 (codes "log") then option_map Log (limit_in given.1)
     else (if bytes_eq given.0 (codes "explain") then option_map Explain (limit_in given.1)
-    else (if bytes_eq given.0 (codes "compare") then option_map Compare (limit_in given.1) else None))))))
+    else (if bytes_eq given.0 (codes "profile") then option_map Profile (limit_in given.1)
+    else (if bytes_eq given.0 (codes "compare") then option_map Compare (limit_in given.1) else None)))))))
 
 -- the command that the words ask for, where they fit the program's arguments
 abbrev pub command_of : List Text → Option Command

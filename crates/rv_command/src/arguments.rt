@@ -164,6 +164,10 @@ pub(crate) fn parser<'a>(alloc: Global) -> Result<Command<'a>, AllocError>
         program,
         limited_command(alloc, "explain", help::EXPLAIN, CYCLES),
     )?;
+    let program = with_command(
+        program,
+        limited_command(alloc, "profile", help::PROFILE, CYCLES),
+    )?;
     with_command(
         program,
         limited_command(alloc, "compare", help::COMPARE, CYCLES_OF_EACH),

@@ -35,6 +35,9 @@ pub enum Command {
     Log { limit: u64 },
     /// Say in sentences how a run of a job on the core went, of at most so many cycles.
     Explain { limit: u64 },
+    /// Say of each line of a job's program, in a table, what its instructions cost in a run on the core, of at most so
+    /// many cycles.
+    Profile { limit: u64 },
     /// Compare machines by the totals of one program's run on each, of at most so many cycles.
     Compare { limit: u64 },
 }
@@ -99,6 +102,9 @@ fn command_given(matches: &ArgMatches) -> Option<Command>
             limit: limit_given(given)?,
         }),
         "explain" => Some(Command::Explain {
+            limit: limit_given(given)?,
+        }),
+        "profile" => Some(Command::Profile {
             limit: limit_given(given)?,
         }),
         "compare" => Some(Command::Compare {

@@ -84,6 +84,11 @@ pub(crate) const EXPLAIN: CommandHelp = CommandHelp {
     ending: ending_of_run!("rv_sim explain < FILE"),
 };
 
+pub(crate) const PROFILE: CommandHelp = CommandHelp {
+    about: "Writes a table of what each line of the text on standard input cost in a run",
+    ending: ending_of_run!("rv_sim profile < FILE"),
+};
+
 pub(crate) const COMPARE: CommandHelp = CommandHelp {
     about: "Runs one program on several machines, and compares their totals",
     ending: "Reads from standard input up to 64 descriptions of machines in TOML, a line %% after each, and a program,

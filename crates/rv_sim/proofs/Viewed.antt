@@ -8,10 +8,12 @@ use Rattle.rv_hardware.specs.Hardware.{Hardware}
 use Rattle.rv_job.specs.declared.listed_job.ListedJob.{ListedJob}
 use Rattle.rv_log.specs.Log.{IsLog}
 use Rattle.rv_picture.specs.Picture.{IsPicture}
+use Rattle.rv_profile.specs.Run.{IsProfile}
 use Rattle.rv_sim.specs.CoreReport.{hardware_of}
 use Rattle.rv_sim.specs.ExplanationReport.{IsExplanationOf}
 use Rattle.rv_sim.specs.LogReport.{IsLogOf}
 use Rattle.rv_sim.specs.PictureReport.{IsPictureOf}
+use Rattle.rv_sim.specs.ProfileReport.{IsProfileOf}
 use Rattle.rv_sim.specs.declared.picture.View.{View}
 
 module _ (listed : ListedJob) {predictor : Option DescribedPredictor} {h : Hardware} {end : GuidedHardware} (made : h ≡ hardware_of listed.job) where
@@ -29,3 +31,8 @@ module _ (listed : ListedJob) {predictor : Option DescribedPredictor} {h : Hardw
   pub explanation_of : {limit : ℕ} {stop : Stop} {text : List ℕ} → IsExplanation listed.job.arrivals limit listed.job.description listed.listing (guided h predictor) end stop text → IsExplanationOf listed predictor limit stop text
   explanation_of {limit} {stop} {text} tells =
       record { end = end; explains = subst (λ x. IsExplanation listed.job.arrivals limit listed.job.description listed.listing (guided x predictor) end stop text) made tells }
+
+  -- the profile
+  pub profile_of : {limit : ℕ} {stop : Stop} {text : List ℕ} → IsProfile listed.job.arrivals limit listed.job.description listed.listing (guided h predictor) end stop text → IsProfileOf listed predictor limit stop text
+  profile_of {limit} {stop} {text} counts =
+      record { end = end; profiles = subst (λ x. IsProfile listed.job.arrivals limit listed.job.description listed.listing (guided x predictor) end stop text) made counts }

@@ -7,5 +7,6 @@ pub mod CoreReport
 pub mod PictureReport
 pub mod LogReport
 pub mod ExplanationReport
+pub mod ProfileReport
 pub mod Task
 pub mod Comparison

@@ -25,9 +25,10 @@ use Rattle.rv_sim.specs.CoreReport.{IsSimulation}
 use Rattle.rv_sim.specs.ExplanationReport.{IsExplanationOf}
 use Rattle.rv_sim.specs.LogReport.{IsLogOf}
 use Rattle.rv_sim.specs.PictureReport.{IsPictureOf}
+use Rattle.rv_sim.specs.ProfileReport.{IsProfileOf}
 use Rattle.rv_sim.specs.ReferenceReport.{IsReferenceReport}
 use Rattle.rv_sim.specs.declared.{picture.View.View, task.Task.Task}
-use Rattle.rv_sim.specs.declared.task.Task.TheVariants.{Run, Reference, Check, Picture, Log, Explain, Compare}
+use Rattle.rv_sim.specs.declared.task.Task.TheVariants.{Run, Reference, Check, Picture, Log, Explain, Profile, Compare}
 
 -- the options of a command; which words of memory a report shows is the job's to say
 abbrev pub asked : Bool → ℕ → Options
@@ -50,6 +51,7 @@ Asks command.Check input (Check made) = IsDescribedImageOf input made
 Asks (command.Picture text from cycles) input (Picture listed view) = IsListedJobOf input listed × (view ≡ viewed text from cycles)
 Asks (command.Log limit) input (Log listed asked_limit) = IsListedJobOf input listed × (asked_limit ≡ limit)
 Asks (command.Explain limit) input (Explain listed asked_limit) = IsListedJobOf input listed × (asked_limit ≡ limit)
+Asks (command.Profile limit) input (Profile listed asked_limit) = IsListedJobOf input listed × (asked_limit ≡ limit)
 Asks (command.Compare limit) input (Compare comparison asked_limit) = IsComparisonOf input comparison × (asked_limit ≡ limit)
 Asks _ input _ = ⊥
 
@@ -61,6 +63,7 @@ Refuses command.Check input error = RefusesImage input error
 Refuses (command.Picture text from cycles) input error = RefusesJob input error
 Refuses (command.Log limit) input error = RefusesJob input error
 Refuses (command.Explain limit) input error = RefusesJob input error
+Refuses (command.Profile limit) input error = RefusesJob input error
 Refuses (command.Compare limit) input error = RefusesComparison input error
 
 -- the predictor that a task's machine has; each machine of a comparison has its own, and this one guides none of them
@@ -71,6 +74,7 @@ predictor_of (Check made) = made.description.predictor
 predictor_of (Picture listed view) = listed.job.description.predictor
 predictor_of (Log listed limit) = listed.job.description.predictor
 predictor_of (Explain listed limit) = listed.job.description.predictor
+predictor_of (Profile listed limit) = listed.job.description.predictor
 predictor_of (Compare comparison limit) = standard_values.predictor
 
 -- the exit status of a run
@@ -91,6 +95,8 @@ Shows (Log listed limit) predictor text status =
     (stop : Stop) × IsLogOf listed predictor limit stop text × (status ≡ stop_status stop)
 Shows (Explain listed limit) predictor text status =
     (stop : Stop) × IsExplanationOf listed predictor limit stop text × (status ≡ stop_status stop)
+Shows (Profile listed limit) predictor text status =
+    (stop : Stop) × IsProfileOf listed predictor limit stop text × (status ≡ stop_status stop)
 Shows (Compare comparison limit) predictor text status = IsComparisonTable comparison limit text × (status ≡ 0)
 
 -- a task asks for memory, but for one that only says which image a job makes

@@ -9,6 +9,7 @@ mod explain;
 mod log;
 mod output;
 mod picture;
+mod profile;
 mod program;
 mod reference;
 mod simulate;

@@ -10,6 +10,7 @@ use crate::compare::compare;
 use crate::explain::explain;
 use crate::log::log;
 use crate::picture::{View, picture};
+use crate::profile::profile;
 use crate::reference::reference;
 use crate::simulate::simulate;
 use rv_arch::Stop;
@@ -39,6 +40,8 @@ pub enum Task {
     Log { listed: ListedJob, limit: u64 },
     /// Run a job on the core, up to so many cycles, and tell what the run came to.
     Explain { listed: ListedJob, limit: u64 },
+    /// Run a job on the core, up to so many cycles, and count what became of the instructions at each address.
+    Profile { listed: ListedJob, limit: u64 },
     /// Run a program on several machines, up to so many cycles on each, and write a table of what the runs came to.
     Compare { comparison: Comparison, limit: u64 },
 }
@@ -58,7 +61,8 @@ impl Task {
             Task::Check { made } => made.description.values().predictor,
             Task::Picture { listed, .. }
             | Task::Log { listed, .. }
-            | Task::Explain { listed, .. } => listed.job.description.values().predictor,
+            | Task::Explain { listed, .. }
+            | Task::Profile { listed, .. } => listed.job.description.values().predictor,
             Task::Compare { .. } => Values::standard().predictor,
         }
     }
@@ -119,6 +123,11 @@ fn read_task(alloc: Global, command: &Command, input: &[u8]) -> Result<Task, Sim
             let listed = read_listed_job(alloc, input)?;
             let limit = *limit;
             Ok(Task::Explain { listed, limit })
+        }
+        Command::Profile { limit } => {
+            let listed = read_listed_job(alloc, input)?;
+            let limit = *limit;
+            Ok(Task::Profile { listed, limit })
         }
         Command::Compare { limit } => {
             let comparison = read_comparison(alloc, input)?;
@@ -195,6 +204,10 @@ pub fn finish<W: Write>(
         }
         Task::Explain { listed, limit } => {
             let stop = explain(alloc, listed, predictor, *limit, output)?;
+            Ok(stop_status(stop))
+        }
+        Task::Profile { listed, limit } => {
+            let stop = profile(alloc, listed, predictor, *limit, output)?;
             Ok(stop_status(stop))
         }
         Task::Compare { comparison, limit } => {

@@ -12,6 +12,7 @@ mod pictures;
 mod pieces;
 mod predictors;
 mod prefixes;
+mod profiles;
 mod programs;
 mod reading;
 mod recoveries;

@@ -122,10 +122,10 @@ fn has_a_limit_alone(rt: &impl Abort, alloc: Global, name: &str) -> Result<(), F
 }
 
 #[test]
-fn a_log_an_explanation_and_a_comparison_have_a_limit_and_nothing_else(
+fn a_log_an_explanation_a_profile_and_a_comparison_have_a_limit_and_nothing_else(
     rt: HostRuntime,
 ) -> Result<(), Fail> {
-    const CASES: [(&[&str], Command); 6] = [
+    const CASES: [(&[&str], Command); 8] = [
         (&["rv_sim", "log"], Command::Log { limit: 100_000 }),
         (
             &["rv_sim", "log", "--limit", "7"],
@@ -136,13 +136,18 @@ fn a_log_an_explanation_and_a_comparison_have_a_limit_and_nothing_else(
             &["rv_sim", "explain", "--limit=8"],
             Command::Explain { limit: 8 },
         ),
+        (&["rv_sim", "profile"], Command::Profile { limit: 100_000 }),
+        (
+            &["rv_sim", "profile", "--limit", "6"],
+            Command::Profile { limit: 6 },
+        ),
         (&["rv_sim", "compare"], Command::Compare { limit: 100_000 }),
         (
             &["rv_sim", "compare", "--limit", "9"],
             Command::Compare { limit: 9 },
         ),
     ];
-    const NAMES: [&str; 3] = ["log", "explain", "compare"];
+    const NAMES: [&str; 4] = ["log", "explain", "profile", "compare"];
     let alloc = rt.alloc();
     for (texts, command) in &CASES {
         is_taken(&rt, alloc, texts, *command)?;

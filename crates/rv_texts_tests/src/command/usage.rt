@@ -17,6 +17,7 @@ Commands:
   picture    Draws some cycles of a run of the text on standard input
   log        Writes a run of the text on standard input as a log for pipeline viewers (Konata)
   explain    Says in sentences how a run of the text on standard input went
+  profile    Writes a table of what each line of the text on standard input cost in a run
   compare    Runs one program on several machines, and compares their totals
   help       Print this message or the help of the given subcommand(s)
 
@@ -145,6 +146,18 @@ Options:
     "rv_sim explain < FILE"
 );
 
+const HELP_OF_PROFILE: &str = help_of_run!(
+    "Writes a table of what each line of the text on standard input cost in a run
+
+Usage: rv_sim profile [OPTIONS]
+
+Options:
+      --limit <N>  The most cycles, 1 to 1000000 [default: 100000]
+  -h, --help       Print help
+",
+    "rv_sim profile < FILE"
+);
+
 const HELP_OF_COMPARE: &str = "Runs one program on several machines, and compares their totals
 
 Usage: rv_sim compare [OPTIONS]
@@ -189,7 +202,7 @@ For more information, try '--help'.
 ";
 
 const NO_COMMAND: &str = "error: 'rv_sim' requires a subcommand but one was not provided
-  [subcommands: run, reference, check, picture, log, explain, compare, help]
+  [subcommands: run, reference, check, picture, log, explain, profile, compare, help]
 
 Usage: rv_sim <COMMAND>
 
@@ -261,7 +274,7 @@ fn each_is_shown(
 
 #[test]
 fn help_and_version_have_their_texts(rt: HostRuntime) -> Result<(), Fail> {
-    const CASES: [(&[&str], &str); 11] = [
+    const CASES: [(&[&str], &str); 12] = [
         (&["rv_sim", "--help"], HELP),
         (&["rv_sim", "help"], HELP),
         (&["rv_sim", "run", "-h"], HELP_OF_RUN),
@@ -271,6 +284,7 @@ fn help_and_version_have_their_texts(rt: HostRuntime) -> Result<(), Fail> {
         (&["rv_sim", "help", "picture"], HELP_OF_PICTURE),
         (&["rv_sim", "log", "--help"], HELP_OF_LOG),
         (&["rv_sim", "explain", "--help"], HELP_OF_EXPLAIN),
+        (&["rv_sim", "profile", "--help"], HELP_OF_PROFILE),
         (&["rv_sim", "compare", "--help"], HELP_OF_COMPARE),
         (&["rv_sim", "--version"], VERSION),
     ];

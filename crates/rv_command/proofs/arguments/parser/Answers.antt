@@ -8,4 +8,5 @@ returns c =
     let with_picture = c.in_ok-program-5.ensures.arguments _ _ with_check c.picture_command.ensures.arguments in
     let with_log = c.in_ok-program-6.ensures.arguments _ _ with_picture c.limited_command-2.ensures.arguments in
     let with_explain = c.in_ok-program-7.ensures.arguments _ _ with_log c.limited_command-3.ensures.arguments in
-    record { arguments = c.with_command-7.ensures.arguments _ _ with_explain c.limited_command-4.ensures.arguments }
+    let with_profile = c.in_ok-program-8.ensures.arguments _ _ with_explain c.limited_command-4.ensures.arguments in
+    record { arguments = c.with_command-8.ensures.arguments _ _ with_profile c.limited_command-5.ensures.arguments }

@@ -5,9 +5,10 @@ use Rattle.rv_sim.specs.CoreReport.{IsSimulation}
 use Rattle.rv_sim.specs.ExplanationReport.{IsExplanationOf}
 use Rattle.rv_sim.specs.LogReport.{IsLogOf}
 use Rattle.rv_sim.specs.PictureReport.{IsPictureOf}
+use Rattle.rv_sim.specs.ProfileReport.{IsProfileOf}
 use Rattle.rv_sim.specs.ReferenceReport.{IsReferenceReport}
 use Rattle.rv_sim.specs.Task.{stop_status}
-use Rattle.rv_sim.specs.declared.task.Task.TheVariants.{Run, Reference, Picture, Log, Explain, Compare}
+use Rattle.rv_sim.specs.declared.task.Task.TheVariants.{Run, Reference, Picture, Log, Explain, Profile, Compare}
 use Rattle.rv_sim.proofs.Ending.{Ends-by_error}
 use Rattle.rv_sim.proofs.task.finish.Goals as goal
 
@@ -40,6 +41,12 @@ returns-in_err-stop-in-Explain g c =
     let predictor = (goal.Predictor-dyn g (c.args.predictor.predictor.vtable, c.args.predictor.predictor.value)).known c.args.predictor.predictor.value in
     let ended = Ends-by_error (Explain c.in-Explain.listed c.in-Explain.limit) predictor (IsExplanationOf c.in-Explain.listed predictor c.in-Explain.limit) stop_status _ _ _ tt (λ stop text is. (stop, is, refl)) c.in_err-stop-in-Explain.ensures in
     rw (c.in-Explain.is, handed_on _ _ c.from_residual-in_err-stop-in-Explain.ensures.1) ended
+
+pub returns-in_err-stop-in-Profile : goal.returns-in_err-stop-in-Profile
+returns-in_err-stop-in-Profile g c =
+    let predictor = (goal.Predictor-dyn g (c.args.predictor.predictor.vtable, c.args.predictor.predictor.value)).known c.args.predictor.predictor.value in
+    let ended = Ends-by_error (Profile c.in-Profile.listed c.in-Profile.limit) predictor (IsProfileOf c.in-Profile.listed predictor c.in-Profile.limit) stop_status _ _ _ tt (λ stop text is. (stop, is, refl)) c.in_err-stop-in-Profile.ensures in
+    rw (c.in-Profile.is, handed_on _ _ c.from_residual-in_err-stop-in-Profile.ensures.1) ended
 
 pub returns-in_err-compare-in-Compare : goal.returns-in_err-compare-in-Compare
 returns-in_err-compare-in-Compare g c =
