@@ -17,6 +17,10 @@ last_cycle = 999999
 abbrev pub most_cycles_shown : ℕ
 most_cycles_shown = 1000
 
+-- the most cycles of which the states may be written
+abbrev pub most_cycles_told : ℕ
+most_cycles_told = 10000
+
 -- ---- the options of a command
 
 -- the flag `--NAME`
@@ -37,13 +41,17 @@ number_rule name low high default = record (new_rule name) {
 abbrev pub limit_rule : Rule
 limit_rule = number_rule (codes "limit") 1 most_steps (codes "100000")
 
--- `--from N`: the first cycle that a picture shows
+-- `--from N`: the first cycle that is shown
 abbrev pub from_rule : Rule
 from_rule = number_rule (codes "from") 0 last_cycle (codes "0")
 
 -- `--cycles N`: how many cycles a picture shows
 abbrev pub cycles_rule : Rule
 cycles_rule = number_rule (codes "cycles") 1 most_cycles_shown (codes "60")
+
+-- `--cycles N`: of how many cycles the states are written
+abbrev pub told_cycles_rule : Rule
+told_cycles_rule = number_rule (codes "cycles") 1 most_cycles_told (codes "200")
 
 -- ---- the commands
 
@@ -66,6 +74,14 @@ bare_picture_arguments = with_rule (new_app (codes "picture")) (flag_rule (codes
 -- `rv_sim picture [--text] [--from N] [--cycles N]`
 abbrev pub picture_arguments : App
 picture_arguments = with_rule (with_rule bare_picture_arguments from_rule) cycles_rule
+
+-- `rv_sim NAME [--from N]`
+abbrev pub told_from_arguments : Text → App
+told_from_arguments name = with_rule (new_app name) from_rule
+
+-- `rv_sim NAME [--from N] [--cycles N]`
+abbrev pub told_arguments : Text → App
+told_arguments name = with_rule (told_from_arguments name) told_cycles_rule
 
 -- ---- the program
 
@@ -94,6 +110,8 @@ program_arguments = with_commands bare_arguments (
     check_arguments ∷
     picture_arguments ∷
     limited_arguments (codes "log") ∷
+    told_arguments (codes "states") ∷
+    told_arguments (codes "page") ∷
     limited_arguments (codes "explain") ∷
     limited_arguments (codes "profile") ∷
     limited_arguments (codes "compare") ∷

@@ -1,5 +1,5 @@
 -- What the words of a command line ask for.
-use Rattle.std.specs.Prelude.{◌≤◌, ⊤, ℕ, Bool, List, [], ◌∷◌, Option, Some, None, false, codes}
+use Rattle.std.specs.Prelude.{◌≤◌, ◌<◌, ◌+◌, ⊤, ℕ, Bool, List, [], ◌∷◌, Option, Some, None, false, codes}
 use Rattle.std.specs.Prelude.{if◌then◌else◌, option_and_then, option_map}
 use Rattle.std.specs.{Option.option_map_or, Str.bytes_eq, Str.Parse.digits_value, Str.Parse.without_leading_plus}
 use Rattle.clap.specs.ValueTests.{is_unsigned_in}
@@ -7,9 +7,9 @@ use Rattle.clap.specs.Walk.{is_empty}
 use Rattle.clap.specs.Kinds.{or_else}
 use Rattle.clap.specs.Words.{Kinds, Row, Text, fault_of, one_of, subcommand_of}
 use Rattle.clap.specs.declared.error.kind.ErrorKind.TheVariants.{ValueValidation}
-use Rattle.rv_command.specs.Arguments.{last_cycle, most_cycles_shown, most_steps, program_arguments}
+use Rattle.rv_command.specs.Arguments.{last_cycle, most_cycles_shown, most_cycles_told, most_steps, program_arguments}
 use Rattle.rv_command.specs.declared.command.Command.{Command}
-use Rattle.rv_command.specs.declared.command.Command.TheVariants.{Run, Reference, Check, Picture, Log, Explain, Profile, Compare}
+use Rattle.rv_command.specs.declared.command.Command.TheVariants.{Run, Reference, Check, Picture, Log, States, Page, Explain, Profile, Compare}
 
 -- the limit of a run is 1 to 1,000,000
 abbrev pub IsLegalLimit : ℕ → Type 0
@@ -19,6 +19,10 @@ IsLegalLimit limit = (1 ≤ limit) × (limit ≤ most_steps)
 abbrev pub IsLegalWindow : ℕ → ℕ → Type 0
 IsLegalWindow from cycles = (from ≤ last_cycle) × (1 ≤ cycles) × (cycles ≤ most_cycles_shown)
 
+-- the states of 1 to 10,000 cycles are written, from one that a run may have on up to the limit of the run
+abbrev pub IsLegalStretch : ℕ → ℕ → Type 0
+IsLegalStretch from limit = (from ≤ last_cycle) × (from < limit) × (limit ≤ from + most_cycles_told)
+
 -- the numbers of a command lie in their ranges
 abbrev pub HasLegalNumbers : Command → Type 0
 HasLegalNumbers (Run trace limit) = IsLegalLimit limit
@@ -26,6 +30,8 @@ HasLegalNumbers (Reference limit) = IsLegalLimit limit
 HasLegalNumbers Check = ⊤
 HasLegalNumbers (Picture text from cycles) = IsLegalWindow from cycles
 HasLegalNumbers (Log limit) = IsLegalLimit limit
+HasLegalNumbers (States from limit) = IsLegalStretch from limit
+HasLegalNumbers (Page from limit) = IsLegalStretch from limit
 HasLegalNumbers (Explain limit) = IsLegalLimit limit
 HasLegalNumbers (Profile limit) = IsLegalLimit limit
 HasLegalNumbers (Compare limit) = IsLegalLimit limit
@@ -57,6 +63,22 @@ from_in = number_in (codes "from") 0 last_cycle
 abbrev pub cycles_in : List Row → Option ℕ
 cycles_in = number_in (codes "cycles") 1 most_cycles_shown
 
+-- the number of `--cycles` where the states are written
+abbrev pub told_cycles_in : List Row → Option ℕ
+told_cycles_in = number_in (codes "cycles") 1 most_cycles_told
+
+-- the first of the cycles whose states are written, and the limit of a run that ends with the last of them
+abbrev pub stretch_in : List Row → Option (ℕ × ℕ)
+stretch_in rows = option_and_then (λ from. option_map (λ cycles. (from, from + cycles)) (told_cycles_in rows)) (from_in rows)
+
+-- what the matches of `states` ask for
+abbrev pub states_in : List Row → Option Command
+states_in rows = option_map (λ (stretch : ℕ × ℕ). States stretch.0 stretch.1) (stretch_in rows)
+
+-- what the matches of `page` ask for
+abbrev pub page_in : List Row → Option Command
+page_in rows = option_map (λ (stretch : ℕ × ℕ). Page stretch.0 stretch.1) (stretch_in rows)
+
 -- what the matches of `run` ask for
 abbrev pub run_in : List Row → Option Command
 run_in rows = option_map (Run (flag_in (codes "trace") rows)) (limit_in rows)
@@ -76,9 +98,11 @@ command_named given =
     else (if bytes_eq given.0 (codes "check") then Some Check
     else (if bytes_eq given.0 (codes "picture") then picture_in given.1
     else (if bytes_eq given.0 (codes "log") then option_map Log (limit_in given.1)
+    else (if bytes_eq given.0 (codes "states") then states_in given.1
+    else (if bytes_eq given.0 (codes "page") then page_in given.1
     else (if bytes_eq given.0 (codes "explain") then option_map Explain (limit_in given.1)
     else (if bytes_eq given.0 (codes "profile") then option_map Profile (limit_in given.1)
-    else (if bytes_eq given.0 (codes "compare") then option_map Compare (limit_in given.1) else None)))))))
+    else (if bytes_eq given.0 (codes "compare") then option_map Compare (limit_in given.1) else None)))))))))
 
 -- the command that the words ask for, where they fit the program's arguments
 abbrev pub command_of : List Text → Option Command

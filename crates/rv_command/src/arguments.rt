@@ -3,9 +3,9 @@ ghost use Rattle.std.specs.Prelude.{◌≡◌, false, IfOk};
 ghost use Rattle.clap.specs.Words.{App, new_app, rule_of, with_subcommand};
 ghost use Rattle.rv_command.specs.Arguments.{IsParserOf, check_arguments, cycles_rule, flag_rule, from_rule, limit_rule};
 ghost use Rattle.rv_command.specs.Arguments.{limited_arguments, number_rule, picture_arguments, program_arguments, run_arguments};
-ghost use Rattle.rv_command.specs.Arguments.{bare_arguments, bare_picture_arguments};
+ghost use Rattle.rv_command.specs.Arguments.{bare_arguments, bare_picture_arguments, told_arguments, told_from_arguments};
 
-use crate::command::{LAST_CYCLE, MOST_CYCLES_SHOWN, MOST_STEPS};
+use crate::command::{LAST_CYCLE, MOST_CYCLES_SHOWN, MOST_CYCLES_TOLD, MOST_STEPS};
 use crate::help::{self, CommandHelp};
 use clap::builder::ValueParser;
 use clap::{Arg, ArgAction, Command};
@@ -122,6 +122,42 @@ fn picture_command<'a>(alloc: Global) -> Result<Command<'a>, AllocError>
         ))
 }
 
+// A command that takes the first of some cycles, and no number of them yet.
+fn told_from_command<'a>(
+    alloc: Global,
+    name: &'a str,
+    texts: CommandHelp,
+) -> Result<Command<'a>, AllocError>
+    ensures arguments { IfOk result (IsParserOf (told_from_arguments name.entry.now)) }
+{
+    described(alloc, name, texts).arg(number_argument(
+        alloc,
+        "from",
+        0,
+        LAST_CYCLE,
+        "0",
+        "The first cycle, 0 to 999999",
+    ))
+}
+
+// A command that takes the first of some cycles, and how many they are.
+fn told_command<'a>(
+    alloc: Global,
+    name: &'a str,
+    texts: CommandHelp,
+) -> Result<Command<'a>, AllocError>
+    ensures arguments { IfOk result (IsParserOf (told_arguments name.entry.now)) }
+{
+    told_from_command(alloc, name, texts)?.arg(number_argument(
+        alloc,
+        "cycles",
+        1,
+        MOST_CYCLES_TOLD,
+        "200",
+        "How many cycles, 1 to 10000",
+    ))
+}
+
 // The program with no command yet.
 fn program<'a>(alloc: Global) -> Result<Command<'a>, AllocError>
     ensures arguments { IfOk result (IsParserOf bare_arguments) }
@@ -160,6 +196,8 @@ pub(crate) fn parser<'a>(alloc: Global) -> Result<Command<'a>, AllocError>
     let program = with_command(program, Ok(check_command(alloc)))?;
     let program = with_command(program, picture_command(alloc))?;
     let program = with_command(program, limited_command(alloc, "log", help::LOG, CYCLES))?;
+    let program = with_command(program, told_command(alloc, "states", help::STATES))?;
+    let program = with_command(program, told_command(alloc, "page", help::PAGE))?;
     let program = with_command(
         program,
         limited_command(alloc, "explain", help::EXPLAIN, CYCLES),

@@ -1,7 +1,7 @@
 ghost use Rattle.std.specs.Prelude.{◌≡◌, ◌≤◌, ◌⊎◌, None, Some, IfErr, IfOk, IfSome, map, option_and_then};
 ghost use Rattle.clap.specs.Words.{HasKind, found_of, kind_of, rows_of, subcommand_rows_of};
-ghost use Rattle.rv_command.specs.Command.{HasLegalNumbers, IsLegalLimit, command_named, command_of, flag_in, limit_in, number_in};
-ghost use Rattle.rv_command.specs.Command.{picture_in, refused_kinds, run_in};
+ghost use Rattle.rv_command.specs.Command.{HasLegalNumbers, IsLegalLimit, IsLegalStretch, command_named, command_of, flag_in, limit_in, number_in};
+ghost use Rattle.rv_command.specs.Command.{page_in, picture_in, refused_kinds, run_in, states_in, stretch_in};
 
 use crate::arguments::parser;
 use clap::error::ErrorKind;
@@ -16,6 +16,9 @@ pub const LAST_CYCLE: u64 = MOST_STEPS - 1;
 
 /// The most cycles that a picture may show.
 pub const MOST_CYCLES_SHOWN: u64 = 1_000;
+
+/// The most cycles of which the states may be written.
+pub const MOST_CYCLES_TOLD: u64 = 10_000;
 
 /// What the program is asked to do.
 #[derive(Clone, Copy, Debug, PartialEq, Eq)]
@@ -33,6 +36,11 @@ pub enum Command {
     /// Write a run of a job on the core, of at most so many cycles, as a log that pipeline viewers read
     /// (Konata).
     Log { limit: u64 },
+    /// Write the states of a run of a job on the core, of at most `limit` cycles, line by line, but for the first `from` of
+    /// them.
+    States { from: u64, limit: u64 },
+    /// The same as a page for a browser.
+    Page { from: u64, limit: u64 },
     /// Say in sentences how a run of a job on the core went, of at most so many cycles.
     Explain { limit: u64 },
     /// Say of each line of a job's program, in a table, what its instructions cost in a run on the core, of at most so
@@ -86,6 +94,32 @@ fn picture_given(given: &ArgMatches) -> Option<Command>
     Some(Command::Picture { text, from, cycles })
 }
 
+// The first of some cycles, and the limit of a run that ends with the last of them.
+fn stretch_given(given: &ArgMatches) -> Option<(u64, u64)>
+    ensures stretch { result ≡ stretch_in (rows_of (found_of given.now)) }
+    ensures legal { IfSome result (λ s. IsLegalStretch s.0 s.1) }
+{
+    let from = number_given(given, "from", 0, LAST_CYCLE)?;
+    let cycles = number_given(given, "cycles", 1, MOST_CYCLES_TOLD)?;
+    Some((from, from + cycles))
+}
+
+fn states_given(given: &ArgMatches) -> Option<Command>
+    ensures states { result ≡ states_in (rows_of (found_of given.now)) }
+    ensures legal { IfSome result HasLegalNumbers }
+{
+    let (from, limit) = stretch_given(given)?;
+    Some(Command::States { from, limit })
+}
+
+fn page_given(given: &ArgMatches) -> Option<Command>
+    ensures page { result ≡ page_in (rows_of (found_of given.now)) }
+    ensures legal { IfSome result HasLegalNumbers }
+{
+    let (from, limit) = stretch_given(given)?;
+    Some(Command::Page { from, limit })
+}
+
 fn command_given(matches: &ArgMatches) -> Option<Command>
     ensures command { result ≡ option_and_then command_named (subcommand_rows_of matches.now) }
     ensures legal { IfSome result HasLegalNumbers }
@@ -101,6 +135,8 @@ fn command_given(matches: &ArgMatches) -> Option<Command>
         "log" => Some(Command::Log {
             limit: limit_given(given)?,
         }),
+        "states" => states_given(given),
+        "page" => page_given(given),
         "explain" => Some(Command::Explain {
             limit: limit_given(given)?,
         }),

@@ -79,6 +79,44 @@ pub(crate) const LOG: CommandHelp = CommandHelp {
     ending: ending_of_run!("rv_sim log < FILE > FILE.log"),
 };
 
+// The end of the help of a command that tells of some cycles.
+macro_rules! ending_of_states {
+    ($beginning:literal, $example:literal) => {
+        concat!(
+            "Reads a job from standard input, runs it up to the last of those cycles, and ",
+            $beginning,
+            ", as in:\n  ",
+            $example,
+            "\n
+Exit status:
+  0  the run ended by a breakpoint or with the last of those cycles
+  1  the job was refused
+  2  wrong usage
+  3  the run stopped at a stale word
+  4  standard input or output failed
+  5  out of memory",
+        )
+    };
+}
+
+pub(crate) const STATES: CommandHelp = CommandHelp {
+    about: "Writes the hardware in some cycles of a run of the text on standard input, as lines of JSON",
+    ending: ending_of_states!(
+        "writes a line for each of them:
+what happened in it, and the whole hardware after it",
+        "rv_sim states --from 100 --cycles 40 < FILE"
+    ),
+};
+
+pub(crate) const PAGE: CommandHelp = CommandHelp {
+    about: "Makes a page of some cycles of a run of the text on standard input, to step through in a browser",
+    ending: ending_of_states!(
+        "writes one file, which a browser
+opens from disk: the states of those cycles and a viewer of them",
+        "rv_sim page --from 100 --cycles 40 < FILE > FILE.html"
+    ),
+};
+
 pub(crate) const EXPLAIN: CommandHelp = CommandHelp {
     about: "Says in sentences how a run of the text on standard input went",
     ending: ending_of_run!("rv_sim explain < FILE"),

@@ -9,12 +9,14 @@ use Rattle.rv_job.specs.declared.listed_job.ListedJob.{ListedJob}
 use Rattle.rv_log.specs.Log.{IsLog}
 use Rattle.rv_picture.specs.Picture.{IsPicture}
 use Rattle.rv_profile.specs.Run.{IsProfile}
+use Rattle.rv_states.specs.States.{IsStates}
 use Rattle.rv_sim.specs.CoreReport.{hardware_of}
 use Rattle.rv_sim.specs.ExplanationReport.{IsExplanationOf}
 use Rattle.rv_sim.specs.LogReport.{IsLogOf}
 use Rattle.rv_sim.specs.PictureReport.{IsPictureOf}
 use Rattle.rv_sim.specs.ProfileReport.{IsProfileOf}
-use Rattle.rv_sim.specs.declared.picture.View.{View}
+use Rattle.rv_sim.specs.StatesReport.{IsStatesOf}
+use Rattle.rv_sim.specs.declared.{picture.View.View, states.Stretch.Stretch}
 
 module _ (listed : ListedJob) {predictor : Option DescribedPredictor} {h : Hardware} {end : GuidedHardware} (made : h ≡ hardware_of listed.job) where
   -- the log
@@ -36,3 +38,8 @@ module _ (listed : ListedJob) {predictor : Option DescribedPredictor} {h : Hardw
   pub profile_of : {limit : ℕ} {stop : Stop} {text : List ℕ} → IsProfile listed.job.arrivals limit listed.job.description listed.listing (guided h predictor) end stop text → IsProfileOf listed predictor limit stop text
   profile_of {limit} {stop} {text} counts =
       record { end = end; profiles = subst (λ x. IsProfile listed.job.arrivals limit listed.job.description listed.listing (guided x predictor) end stop text) made counts }
+
+  -- the states
+  pub states_of : (stretch : Stretch) {stop : Stop} {text : List ℕ} → IsStates listed.job.arrivals stretch.from stretch.limit stretch.form listed.listing (guided h predictor) end stop text → IsStatesOf listed predictor stretch stop text
+  states_of stretch {stop} {text} tells =
+      record { end = end; tells = subst (λ x. IsStates listed.job.arrivals stretch.from stretch.limit stretch.form listed.listing (guided x predictor) end stop text) made tells }

@@ -8,5 +8,6 @@ pub mod PictureReport
 pub mod LogReport
 pub mod ExplanationReport
 pub mod ProfileReport
+pub mod StatesReport
 pub mod Task
 pub mod Comparison

@@ -19,6 +19,8 @@ use Rattle.rv_job.specs.declared.errors.SimError.TheVariants.{Memory, WriteFaile
 use Rattle.rv_picture.specs.declared.picture.Form.{Form}
 use Rattle.rv_picture.specs.declared.picture.Form.TheVariants.{Text, Svg}
 use Rattle.rv_report.specs.declared.options.Options.{Options}
+use Rattle.rv_states.specs.declared.form.Form.{Form as StatesForm}
+use Rattle.rv_states.specs.declared.form.Form.TheVariants.{Lines, Page}
 use Rattle.rv_text.specs.Written.{AppendsBeginning}
 use Rattle.rv_sim.specs.Comparison.{IsComparisonTable}
 use Rattle.rv_sim.specs.CoreReport.{IsSimulation}
@@ -27,8 +29,9 @@ use Rattle.rv_sim.specs.LogReport.{IsLogOf}
 use Rattle.rv_sim.specs.PictureReport.{IsPictureOf}
 use Rattle.rv_sim.specs.ProfileReport.{IsProfileOf}
 use Rattle.rv_sim.specs.ReferenceReport.{IsReferenceReport}
-use Rattle.rv_sim.specs.declared.{picture.View.View, task.Task.Task}
-use Rattle.rv_sim.specs.declared.task.Task.TheVariants.{Run, Reference, Check, Picture, Log, Explain, Profile, Compare}
+use Rattle.rv_sim.specs.StatesReport.{IsStatesOf}
+use Rattle.rv_sim.specs.declared.{picture.View.View, states.Stretch.Stretch, task.Task.Task}
+use Rattle.rv_sim.specs.declared.task.Task.TheVariants.{Run, Reference, Check, Picture, Log, States, Explain, Profile, Compare}
 
 -- the options of a command; which words of memory a report shows is the job's to say
 abbrev pub asked : Bool → ℕ → Options
@@ -43,6 +46,15 @@ form_of false = Svg
 abbrev pub viewed : Bool → ℕ → ℕ → View
 viewed text from cycles = record { form = form_of text; from = from; cycles = cycles }
 
+-- the cycles whose states are written in a form
+abbrev pub stretch_of : StatesForm → ℕ → ℕ → Stretch
+stretch_of form from limit = record { form = form; from = from; limit = limit }
+
+-- a task writes the states of some cycles of the run of an input's job
+abbrev pub AsksForStates : StatesForm → ℕ → ℕ → List ℕ → Task → Type 0
+AsksForStates form from limit input (States listed stretch) = IsListedJobOf input listed × (stretch ≡ stretch_of form from limit)
+AsksForStates form from limit input _ = ⊥
+
 -- a task is what a command asks of an input
 abbrev pub Asks : Command → List ℕ → Task → Type 0
 Asks (command.Run trace limit) input (Run job options) = IsJobOf input job × (options ≡ asked trace limit)
@@ -50,6 +62,8 @@ Asks (command.Reference limit) input (Reference job options) = IsJobOf input job
 Asks command.Check input (Check made) = IsDescribedImageOf input made
 Asks (command.Picture text from cycles) input (Picture listed view) = IsListedJobOf input listed × (view ≡ viewed text from cycles)
 Asks (command.Log limit) input (Log listed asked_limit) = IsListedJobOf input listed × (asked_limit ≡ limit)
+Asks (command.States from limit) input task = AsksForStates Lines from limit input task
+Asks (command.Page from limit) input task = AsksForStates Page from limit input task
 Asks (command.Explain limit) input (Explain listed asked_limit) = IsListedJobOf input listed × (asked_limit ≡ limit)
 Asks (command.Profile limit) input (Profile listed asked_limit) = IsListedJobOf input listed × (asked_limit ≡ limit)
 Asks (command.Compare limit) input (Compare comparison asked_limit) = IsComparisonOf input comparison × (asked_limit ≡ limit)
@@ -62,6 +76,8 @@ Refuses (command.Reference limit) input error = RefusesJob input error
 Refuses command.Check input error = RefusesImage input error
 Refuses (command.Picture text from cycles) input error = RefusesJob input error
 Refuses (command.Log limit) input error = RefusesJob input error
+Refuses (command.States from limit) input error = RefusesJob input error
+Refuses (command.Page from limit) input error = RefusesJob input error
 Refuses (command.Explain limit) input error = RefusesJob input error
 Refuses (command.Profile limit) input error = RefusesJob input error
 Refuses (command.Compare limit) input error = RefusesComparison input error
@@ -73,6 +89,7 @@ predictor_of (Reference job options) = job.description.predictor
 predictor_of (Check made) = made.description.predictor
 predictor_of (Picture listed view) = listed.job.description.predictor
 predictor_of (Log listed limit) = listed.job.description.predictor
+predictor_of (States listed stretch) = listed.job.description.predictor
 predictor_of (Explain listed limit) = listed.job.description.predictor
 predictor_of (Profile listed limit) = listed.job.description.predictor
 predictor_of (Compare comparison limit) = standard_values.predictor
@@ -93,6 +110,8 @@ Shows (Picture listed view) predictor text status =
     (stop : Stop) × IsPictureOf listed predictor view stop text × (status ≡ stop_status stop)
 Shows (Log listed limit) predictor text status =
     (stop : Stop) × IsLogOf listed predictor limit stop text × (status ≡ stop_status stop)
+Shows (States listed stretch) predictor text status =
+    (stop : Stop) × IsStatesOf listed predictor stretch stop text × (status ≡ stop_status stop)
 Shows (Explain listed limit) predictor text status =
     (stop : Stop) × IsExplanationOf listed predictor limit stop text × (status ≡ stop_status stop)
 Shows (Profile listed limit) predictor text status =

@@ -13,6 +13,7 @@ mod profile;
 mod program;
 mod reference;
 mod simulate;
+mod states;
 mod task;
 #[cfg(test)]
 mod tests;

@@ -2,7 +2,8 @@ ghost use Rattle.std.specs.Prelude.{◌≡◌, IfOk, IfErr, OnOk};
 ghost use Rattle.rv_isa.specs.Description.{IsLegalPredictor};
 ghost use Rattle.rv_job.specs.Fault.{fault_line, fault_status};
 ghost use Rattle.rv_job.specs.FaultStream.{Tells};
-ghost use Rattle.rv_sim.specs.Task.{Asks, Refuses, Ends, asked, form_of, predictor_of, stop_status};
+ghost use Rattle.rv_job.specs.JobRefusal.{RefusesJob};
+ghost use Rattle.rv_sim.specs.Task.{Asks, AsksForStates, Refuses, Ends, asked, form_of, predictor_of, stop_status};
 ghost use Rattle.rv_job.specs.declared.errors.SimError.{SimError as OneError};
 
 use crate::boxed_predictor::BoxedPredictor;
@@ -13,6 +14,7 @@ use crate::picture::{View, picture};
 use crate::profile::profile;
 use crate::reference::reference;
 use crate::simulate::simulate;
+use crate::states::{Stretch, states};
 use rv_arch::Stop;
 use rv_command::Command;
 use rv_isa::{PredictorValues, Values};
@@ -22,6 +24,7 @@ use rv_job::{
 };
 use rv_picture::Form;
 use rv_report::Options;
+use rv_states::Form as StatesForm;
 use std::alloc::Global;
 use std::io::Write;
 
@@ -38,6 +41,8 @@ pub enum Task {
     Picture { listed: ListedJob, view: View },
     /// Run a job on the core, up to so many cycles, and write the log of the run.
     Log { listed: ListedJob, limit: u64 },
+    /// Run a job on the core, and write the states of a stretch of its cycles.
+    States { listed: ListedJob, stretch: Stretch },
     /// Run a job on the core, up to so many cycles, and tell what the run came to.
     Explain { listed: ListedJob, limit: u64 },
     /// Run a job on the core, up to so many cycles, and count what became of the instructions at each address.
@@ -61,6 +66,7 @@ impl Task {
             Task::Check { made } => made.description.values().predictor,
             Task::Picture { listed, .. }
             | Task::Log { listed, .. }
+            | Task::States { listed, .. }
             | Task::Explain { listed, .. }
             | Task::Profile { listed, .. } => listed.job.description.values().predictor,
             Task::Compare { .. } => Values::standard().predictor,
@@ -84,6 +90,22 @@ const fn form(is_text: bool) -> Form
     ensures { result ≡ form_of is_text }
 {
     if is_text { Form::Text } else { Form::Svg }
+}
+
+// Reads a job of which the states of some cycles are to be written in a form.
+fn read_states(
+    alloc: Global,
+    form: StatesForm,
+    from: u64,
+    limit: u64,
+    input: &[u8],
+) -> Result<Task, SimError>
+    ensures task { IfOk result (AsksForStates form from limit input.now) }
+    ensures refused { IfErr result (RefusesJob input.now) }
+{
+    let listed = read_listed_job(alloc, input)?;
+    let stretch = Stretch { form, from, limit };
+    Ok(Task::States { listed, stretch })
 }
 
 fn read_task(alloc: Global, command: &Command, input: &[u8]) -> Result<Task, SimError>
@@ -118,6 +140,12 @@ fn read_task(alloc: Global, command: &Command, input: &[u8]) -> Result<Task, Sim
             let listed = read_listed_job(alloc, input)?;
             let limit = *limit;
             Ok(Task::Log { listed, limit })
+        }
+        Command::States { from, limit } => {
+            read_states(alloc, StatesForm::Lines, *from, *limit, input)
+        }
+        Command::Page { from, limit } => {
+            read_states(alloc, StatesForm::Page, *from, *limit, input)
         }
         Command::Explain { limit } => {
             let listed = read_listed_job(alloc, input)?;
@@ -169,7 +197,7 @@ fn stop_status(stop: Stop) -> u8
     }
 }
 
-/// Does the task: writes its report, picture, log, sentences or table, or the line that says which image
+/// Does the task: writes its report, picture, log, states, sentences or table, or the line that says which image
 /// the job makes, to `output`, and answers the exit status. Only a run of one job on the core asks the predictor.
 ///
 /// Fails by `Memory`, and has written nothing then, or by `WriteFailed`, and has written a beginning of the text.
@@ -200,6 +228,10 @@ pub fn finish<W: Write>(
         }
         Task::Log { listed, limit } => {
             let stop = log(alloc, listed, predictor, *limit, output)?;
+            Ok(stop_status(stop))
+        }
+        Task::States { listed, stretch } => {
+            let stop = states(alloc, listed, predictor, stretch, output)?;
             Ok(stop_status(stop))
         }
         Task::Explain { listed, limit } => {

@@ -9,11 +9,14 @@ pub mod Machine
 pub mod Member
 pub mod Memory
 pub mod Operand
+pub mod Page
 pub mod Place
 pub mod Queue
 pub mod Registers
 pub mod Set
+pub mod Showing
 pub mod State
+pub mod States
 pub mod Step
 pub mod Stop
 pub mod Units

@@ -1,4 +1,4 @@
-//! The tests of what shows a run: reports, logs, pictures and explanations. They stand apart, so that no crate is proved
+//! The tests of what shows a run: reports, logs, pictures, states and explanations. They stand apart, so that no crate is proved
 //! a second time for them.
 #![tactic(auto)]
 
@@ -18,3 +18,5 @@ mod profile;
 mod report;
 #[cfg(test)]
 mod state_lines;
+#[cfg(test)]
+mod states;

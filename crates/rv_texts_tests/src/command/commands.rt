@@ -110,6 +110,51 @@ fn a_picture_shows_sixty_cycles_from_the_first_on_unless_others_are_asked_for(
     each_is_refused(&rt, alloc, &REFUSED)
 }
 
+#[test]
+fn states_and_page_tell_of_two_hundred_cycles_unless_others_are_asked_for(
+    rt: HostRuntime,
+) -> Result<(), Fail> {
+    const CASES: [(&[&str], Command); 4] = [
+        (
+            &["rv_sim", "states"],
+            Command::States {
+                from: 0,
+                limit: 200,
+            },
+        ),
+        (
+            &["rv_sim", "states", "--from=999999", "--cycles=10000"],
+            Command::States {
+                from: 999_999,
+                limit: 1_009_999,
+            },
+        ),
+        (
+            &["rv_sim", "page", "--from", "7"],
+            Command::Page {
+                from: 7,
+                limit: 207,
+            },
+        ),
+        (
+            &["rv_sim", "page", "--cycles", "1"],
+            Command::Page { from: 0, limit: 1 },
+        ),
+    ];
+    const REFUSED: [&[&str]; 5] = [
+        &["rv_sim", "states", "--from", "1000000"],
+        &["rv_sim", "states", "--cycles", "0"],
+        &["rv_sim", "page", "--cycles", "10001"],
+        &["rv_sim", "page", "--limit", "7"],
+        &["rv_sim", "states", "--text"],
+    ];
+    let alloc = rt.alloc();
+    for (texts, command) in &CASES {
+        is_taken(&rt, alloc, texts, *command)?;
+    }
+    each_is_refused(&rt, alloc, &REFUSED)
+}
+
 // The command has no other limit and no other word.
 fn has_a_limit_alone(rt: &impl Abort, alloc: Global, name: &str) -> Result<(), Fail> {
     let refused: [&[&str]; 4] = [

@@ -16,6 +16,8 @@ Commands:
   check      Assembles the text on standard input
   picture    Draws some cycles of a run of the text on standard input
   log        Writes a run of the text on standard input as a log for pipeline viewers (Konata)
+  states     Writes the hardware in some cycles of a run of the text on standard input, as lines of JSON
+  page       Makes a page of some cycles of a run of the text on standard input, to step through in a browser
   explain    Says in sentences how a run of the text on standard input went
   profile    Writes a table of what each line of the text on standard input cost in a run
   compare    Runs one program on several machines, and compares their totals
@@ -134,6 +136,52 @@ Options:
     "rv_sim log < FILE > FILE.log"
 );
 
+const HELP_OF_STATES: &str =
+    "Writes the hardware in some cycles of a run of the text on standard input, as lines of JSON
+
+Usage: rv_sim states [OPTIONS]
+
+Options:
+      --from <N>    The first cycle, 0 to 999999 [default: 0]
+      --cycles <N>  How many cycles, 1 to 10000 [default: 200]
+  -h, --help        Print help
+
+Reads a job from standard input, runs it up to the last of those cycles, and writes a line for each of them:
+what happened in it, and the whole hardware after it, as in:
+  rv_sim states --from 100 --cycles 40 < FILE
+
+Exit status:
+  0  the run ended by a breakpoint or with the last of those cycles
+  1  the job was refused
+  2  wrong usage
+  3  the run stopped at a stale word
+  4  standard input or output failed
+  5  out of memory
+";
+
+const HELP_OF_PAGE: &str =
+    "Makes a page of some cycles of a run of the text on standard input, to step through in a browser
+
+Usage: rv_sim page [OPTIONS]
+
+Options:
+      --from <N>    The first cycle, 0 to 999999 [default: 0]
+      --cycles <N>  How many cycles, 1 to 10000 [default: 200]
+  -h, --help        Print help
+
+Reads a job from standard input, runs it up to the last of those cycles, and writes one file, which a browser
+opens from disk: the states of those cycles and a viewer of them, as in:
+  rv_sim page --from 100 --cycles 40 < FILE > FILE.html
+
+Exit status:
+  0  the run ended by a breakpoint or with the last of those cycles
+  1  the job was refused
+  2  wrong usage
+  3  the run stopped at a stale word
+  4  standard input or output failed
+  5  out of memory
+";
+
 const HELP_OF_EXPLAIN: &str = help_of_run!(
     "Says in sentences how a run of the text on standard input went
 
@@ -202,7 +250,7 @@ For more information, try '--help'.
 ";
 
 const NO_COMMAND: &str = "error: 'rv_sim' requires a subcommand but one was not provided
-  [subcommands: run, reference, check, picture, log, explain, profile, compare, help]
+  [subcommands: run, reference, check, picture, log, states, page, explain, profile, compare, help]
 
 Usage: rv_sim <COMMAND>
 
@@ -274,7 +322,7 @@ fn each_is_shown(
 
 #[test]
 fn help_and_version_have_their_texts(rt: HostRuntime) -> Result<(), Fail> {
-    const CASES: [(&[&str], &str); 12] = [
+    const CASES: [(&[&str], &str); 14] = [
         (&["rv_sim", "--help"], HELP),
         (&["rv_sim", "help"], HELP),
         (&["rv_sim", "run", "-h"], HELP_OF_RUN),
@@ -283,6 +331,8 @@ fn help_and_version_have_their_texts(rt: HostRuntime) -> Result<(), Fail> {
         (&["rv_sim", "check", "--help"], HELP_OF_CHECK),
         (&["rv_sim", "help", "picture"], HELP_OF_PICTURE),
         (&["rv_sim", "log", "--help"], HELP_OF_LOG),
+        (&["rv_sim", "states", "--help"], HELP_OF_STATES),
+        (&["rv_sim", "page", "--help"], HELP_OF_PAGE),
         (&["rv_sim", "explain", "--help"], HELP_OF_EXPLAIN),
         (&["rv_sim", "profile", "--help"], HELP_OF_PROFILE),
         (&["rv_sim", "compare", "--help"], HELP_OF_COMPARE),

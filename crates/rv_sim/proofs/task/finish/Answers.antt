@@ -7,8 +7,9 @@ use Rattle.rv_sim.specs.LogReport.{IsLogOf}
 use Rattle.rv_sim.specs.PictureReport.{IsPictureOf}
 use Rattle.rv_sim.specs.ProfileReport.{IsProfileOf}
 use Rattle.rv_sim.specs.ReferenceReport.{IsReferenceReport}
+use Rattle.rv_sim.specs.StatesReport.{IsStatesOf}
 use Rattle.rv_sim.specs.Task.{stop_status}
-use Rattle.rv_sim.specs.declared.task.Task.TheVariants.{Run, Reference, Picture, Log, Explain, Profile, Compare}
+use Rattle.rv_sim.specs.declared.task.Task.TheVariants.{Run, Reference, Picture, Log, States, Explain, Profile, Compare}
 use Rattle.rv_sim.proofs.Ending.{Ends-by_error}
 use Rattle.rv_sim.proofs.task.finish.Goals as goal
 
@@ -35,6 +36,12 @@ returns-in_err-stop-in-Log g c =
     let predictor = (goal.Predictor-dyn g (c.args.predictor.predictor.vtable, c.args.predictor.predictor.value)).known c.args.predictor.predictor.value in
     let ended = Ends-by_error (Log c.in-Log.listed c.in-Log.limit) predictor (IsLogOf c.in-Log.listed predictor c.in-Log.limit) stop_status _ _ _ tt (λ stop text is. (stop, is, refl)) c.in_err-stop-in-Log.ensures in
     rw (c.in-Log.is, handed_on _ _ c.from_residual-in_err-stop-in-Log.ensures.1) ended
+
+pub returns-in_err-stop-in-States : goal.returns-in_err-stop-in-States
+returns-in_err-stop-in-States g c =
+    let predictor = (goal.Predictor-dyn g (c.args.predictor.predictor.vtable, c.args.predictor.predictor.value)).known c.args.predictor.predictor.value in
+    let ended = Ends-by_error (States c.in-States.listed c.in-States.stretch) predictor (IsStatesOf c.in-States.listed predictor c.in-States.stretch) stop_status _ _ _ tt (λ stop text is. (stop, is, refl)) c.in_err-stop-in-States.ensures in
+    rw (c.in-States.is, handed_on _ _ c.from_residual-in_err-stop-in-States.ensures.1) ended
 
 pub returns-in_err-stop-in-Explain : goal.returns-in_err-stop-in-Explain
 returns-in_err-stop-in-Explain g c =

@@ -1,0 +1,103 @@
+-- The states of a run, line by line.
+use Rattle.std.specs.Prelude.{◌≡◌, ℕ, ◌==◌, if◌then◌else◌, nat_lt, List, [], ◌∷◌, ◌++◌, length, Option, Result}
+use Rattle.std.specs.List.{flat_map}
+use Rattle.rv_isa.specs.Arrivals.{lines_at}
+use Rattle.rv_isa.specs.declared.{lines.Arrival.Arrival, values.Values.Values}
+use Rattle.rv_arch.specs.declared.outcome.Stop.{Stop}
+use Rattle.rv_core.specs.Progress.{progress_of}
+use Rattle.rv_core.specs.declared.outcome.Progress.{Progress}
+use Rattle.rv_hardware.specs.Guided.{GuidedCycles, GuidedHardware, IsGuidedCycle}
+use Rattle.rv_hardware.specs.Hardware.{Hardware}
+use Rattle.rv_hardware.specs.Report.{Report}
+use Rattle.rv_hardware.specs.Run.{IsStop}
+use Rattle.rv_hardware.specs.declared.step.Step.{Step}
+use Rattle.rv_passage.specs.Table.{Passages, after_cycle, still_open, table_at}
+use Rattle.rv_passage.specs.declared.passage.Passage.{Passage}
+use Rattle.rv_source.specs.Listing.{Listed}
+use Rattle.rv_text.specs.Written.{IsWritten}
+use Rattle.rv_states.specs.Page.{after_lines, before_lines}
+use Rattle.rv_states.specs.Cycle.{cycle_line, start_line}
+use Rattle.rv_states.specs.Listing.{listing_lines}
+use Rattle.rv_states.specs.Machine.{header_line}
+use Rattle.rv_states.specs.Memory.{memory_lines}
+use Rattle.rv_states.specs.Set.{set_lines}
+use Rattle.rv_states.specs.Stop.{stop_line}
+use Rattle.rv_states.specs.declared.form.Form.{Form}
+
+-- the lines of memory and the cache
+unfoldable pub storage_text : Hardware → List ℕ
+storage_text h = memory_lines h h.values ++ set_lines h h.values.cache.sets
+
+-- before the window's first cycle: memory, the cache, and the rest of the hardware
+unfoldable pub window_text : List Passage → Hardware → Progress → List ℕ
+window_text rows h progress = storage_text h ++ start_line rows h progress
+
+-- a cycle: its number, its steps, the instructions at its end, with those that left the hardware in it and without them, the hardware after
+-- it, and the counts of the cycles so far
+pub record Moment : Type 0 where
+  pub cycle : ℕ
+  pub steps : List Step
+  pub rows : List Passage
+  pub remaining : List Passage
+  pub after : Hardware
+  pub progress : Progress
+
+-- the line of a cycle, unless it is one of the first `from`
+abbrev pub shown_text : ℕ → ℕ → List Passage → List Step → Hardware → Progress → List ℕ
+shown_text from cycle rows steps after progress =
+    if nat_lt from progress.cycles then cycle_line cycle rows steps after progress else []
+
+-- the lines before the window, after the last of the cycles before it
+abbrev pub begun_text : ℕ → List Passage → Hardware → Progress → List ℕ
+begun_text from rows h progress = if progress.cycles == from then window_text rows h progress else []
+
+-- what is told of a cycle
+unfoldable pub moment_text : ℕ → Moment → List ℕ
+moment_text from moment =
+    shown_text from moment.cycle moment.rows moment.steps moment.after moment.progress ++
+    begun_text from moment.remaining moment.after moment.progress
+
+-- the machine and the program
+unfoldable pub opening_text : ℕ → Listed → Values → List ℕ
+opening_text from listing values = header_line from values ++ listing_lines listing values
+
+-- what is told before the first cycle of a run: the machine and the program, and what stands before the window where it begins here
+unfoldable pub head_text : ℕ → Listed → List Passage → Hardware → List ℕ
+head_text from listing rows first = opening_text from listing first.values ++ begun_text from rows first (progress_of [])
+
+-- the lines of a run up to some cycle
+unfoldable pub lines_text : ℕ → Listed → Hardware → List Moment → List ℕ
+lines_text from listing first moments = head_text from listing (table_at first).rows first ++ flat_map (moment_text from) moments
+
+-- the lines of a run, whose last one says after how many cycles it ended and why
+unfoldable pub states_text : ℕ → Listed → Hardware → List Moment → ℕ → Stop → List ℕ
+states_text from listing first moments cycles stop = lines_text from listing first moments ++ stop_line cycles stop
+
+-- a cycle by its report and the passages after it
+abbrev pub moment_of : ℕ → Report → Hardware → Progress → Passages → Moment
+moment_of cycle report after progress table =
+    record { cycle = cycle; steps = report.steps; rows = table.rows; remaining = (still_open table).rows; after = after; progress = progress }
+
+-- cycles from some hardware on, each with the lines of its number; what left the hardware in one is forgotten after it
+pub data Passes (arrivals : List Arrival) (first : GuidedHardware) : List Report → List Moment → GuidedHardware → Passages → Type 0 where
+  begun : Passes arrivals first [] [] first (table_at first.hardware)
+  passed : {reports : List Report} {moments : List Moment} {old new : GuidedHardware} {table : Passages} {report : Report} →
+      Passes arrivals first reports moments old table → IsGuidedCycle (lines_at arrivals old.hardware.cycle) old report new →
+      Passes arrivals first (reports ++ report ∷ [])
+      (moments ++ moment_of old.hardware.cycle report new.hardware (progress_of (reports ++ report ∷ [])) (after_cycle old.hardware.cycle report.steps new.hardware table) ∷ [])
+      new (still_open (after_cycle old.hardware.cycle report.steps new.hardware table))
+
+-- a text has, in a form, the states of the cycles after the first `from` of a run that ended for a reason
+pub record IsStates (arrivals : List Arrival) (from limit : ℕ) (form : Form) (listing : Listed) (old new : GuidedHardware) (stop : Stop) (text : List ℕ) : Type 0 where
+  pub reports : List Report
+  pub moments : List Moment
+  pub table : Passages
+  pub cycles : GuidedCycles arrivals old reports new
+  pub passes : Passes arrivals old reports moments new table
+  pub stops : IsStop limit reports new.hardware stop
+  pub text_is : text ≡ before_lines form ++ (states_text from listing old.hardware moments (length reports) stop ++ after_lines form)
+
+-- that text is written, or a beginning of it
+abbrev pub WritesStates : {T E : Type 0} → List Arrival → ℕ → ℕ → Form → Listed → GuidedHardware → GuidedHardware → Stop → Result T E → Option (List ℕ) → Option (List ℕ) → Type 0
+WritesStates arrivals from limit form listing old new stop written before after =
+    (text : List ℕ) × IsStates arrivals from limit form listing old new stop text × IsWritten written before after text

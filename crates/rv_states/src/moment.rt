@@ -1,0 +1,157 @@
+ghost use Rattle.std.specs.Prelude.{◌≡◌, [], ◌++◌};
+ghost use Rattle.rv_core.specs.Progress.{progress_of};
+ghost use Rattle.rv_states.specs.Page.{after_lines, before_lines};
+ghost use Rattle.rv_states.specs.States.{begun_text, head_text, opening_text, shown_text, storage_text, window_text};
+ghost use Rattle.rv_states.specs.Stop.{stop_line};
+ghost use Rattle.rv_text.specs.Written.{IsWritten};
+
+use crate::cycle::{write_cycle, write_start};
+use crate::form::Form;
+use crate::listing::write_listing;
+use crate::machine::write_header;
+use crate::memory::write_memory;
+use crate::page::{write_after, write_before};
+use crate::sets::write_sets;
+use crate::stop::write_stop;
+use rv_arch::Stop;
+use rv_core::{Pipeline, Progress};
+use rv_hardware::{StallCounts, Step};
+use rv_isa::Values;
+use rv_passage::Passage;
+use rv_source::Listing;
+use rv_text::ReportError;
+use std::io::Write;
+
+#[tactic(auto, unfolding(crate::specs::States::storage_text))]
+fn write_storage<W: Write>(writer: &mut W, pipeline: &Pipeline) -> Result<(), ReportError>
+    ensures { IsWritten result (W.contents writer.old) (W.contents writer.new) (storage_text pipeline.now) }
+{
+    write_memory(writer, pipeline)?;
+    write_sets(writer, pipeline)
+}
+
+#[tactic(auto, unfolding(crate::specs::States::window_text))]
+fn write_window<W: Write>(
+    writer: &mut W,
+    rows: &[Passage],
+    pipeline: &Pipeline,
+    progress: &Progress,
+) -> Result<(), ReportError>
+    ensures { IsWritten result (W.contents writer.old) (W.contents writer.new) (window_text rows.now pipeline.now progress.now) }
+{
+    write_storage(writer, pipeline)?;
+    write_start(writer, rows, pipeline, progress)
+}
+
+/// Writes the lines before the window, after the last of the cycles before it; else nothing.
+pub(crate) fn write_begun<W: Write>(
+    writer: &mut W,
+    from: u64,
+    rows: &[Passage],
+    pipeline: &Pipeline,
+    progress: &Progress,
+) -> Result<(), ReportError>
+    ensures { IsWritten result (W.contents writer.old) (W.contents writer.new) (begun_text from rows.now pipeline.now progress.now) }
+{
+    if progress.cycles == from {
+        write_window(writer, rows, pipeline, progress)
+    } else {
+        Ok(())
+    }
+}
+
+/// Writes the line of a cycle, unless it is one of the first `from`.
+pub(crate) fn write_shown<W: Write>(
+    writer: &mut W,
+    from: u64,
+    cycle: u64,
+    rows: &[Passage],
+    steps: &[Step],
+    pipeline: &Pipeline,
+    progress: &Progress,
+) -> Result<(), ReportError>
+    ensures { IsWritten result (W.contents writer.old) (W.contents writer.new) (shown_text from cycle rows.now steps.now pipeline.now progress.now) }
+{
+    if from < progress.cycles {
+        write_cycle(writer, cycle, rows, steps, pipeline, progress)
+    } else {
+        Ok(())
+    }
+}
+
+// The counts of no cycle.
+fn no_cycle() -> Progress
+    ensures { result ≡ progress_of [] }
+{
+    Progress {
+        stalls: StallCounts {
+            fetch: 0,
+            serial: 0,
+            rob: 0,
+            station: 0,
+            store: 0,
+        },
+        busy: 0,
+        cycles: 0,
+        stall: None,
+        silent: 0,
+        longest_gap: 0,
+    }
+}
+
+// Writes the lines of the machine and the program.
+#[tactic(auto, unfolding(crate::specs::States::opening_text))]
+fn write_opening<W: Write>(
+    writer: &mut W,
+    from: u64,
+    listing: &Listing,
+    values: &Values,
+) -> Result<(), ReportError>
+    ensures { IsWritten result (W.contents writer.old) (W.contents writer.new) (opening_text from listing.now values.now) }
+{
+    write_header(writer, from, values)?;
+    write_listing(writer, listing, values)
+}
+
+// Writes what is told before the first cycle of a run.
+#[tactic(auto, unfolding(crate::specs::States::head_text))]
+fn write_first<W: Write>(
+    writer: &mut W,
+    from: u64,
+    listing: &Listing,
+    rows: &[Passage],
+    pipeline: &Pipeline,
+) -> Result<(), ReportError>
+    ensures { IsWritten result (W.contents writer.old) (W.contents writer.new) (head_text from listing.now rows.now pipeline.now) }
+{
+    write_opening(writer, from, listing, pipeline.values())?;
+    write_begun(writer, from, rows, pipeline, &no_cycle())
+}
+
+/// Writes what stands before the lines, and what is told before the first cycle of a run.
+pub(crate) fn write_head<W: Write>(
+    writer: &mut W,
+    form: Form,
+    from: u64,
+    listing: &Listing,
+    rows: &[Passage],
+    pipeline: &Pipeline,
+) -> Result<(), ReportError>
+    ensures { IsWritten result (W.contents writer.old) (W.contents writer.new) (before_lines form ++ head_text from listing.now rows.now pipeline.now) }
+{
+    write_before(writer, form)?;
+    write_first(writer, from, listing, rows, pipeline)
+}
+
+/// Writes the last line, and what stands after the lines.
+pub(crate) fn write_end<W: Write>(
+    writer: &mut W,
+    form: Form,
+    cycles: u64,
+    stop: Stop,
+) -> Result<(), ReportError>
+    ensures { IsWritten result (W.contents writer.old) (W.contents writer.new) (stop_line cycles stop ++ after_lines form) }
+{
+    write_stop(writer, cycles, stop)?;
+    write_after(writer, form)
+}

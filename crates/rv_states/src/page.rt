@@ -1,0 +1,29 @@
+ghost use Rattle.rv_states.specs.Page.{after_lines, before_lines};
+ghost use Rattle.rv_text.specs.Written.{IsWritten};
+
+use crate::form::Form;
+use crate::viewer::{AFTER, BEFORE};
+use rv_text::{ReportError, put};
+use std::io::Write;
+
+/// Writes what stands before the lines.
+#[tactic(auto, unfolding(crate::specs::Page::before_lines))]
+pub(crate) fn write_before<W: Write>(writer: &mut W, form: Form) -> Result<(), ReportError>
+    ensures { IsWritten result (W.contents writer.old) (W.contents writer.new) (before_lines form) }
+{
+    match form {
+        Form::Lines => Ok(()),
+        Form::Page => put(writer, BEFORE),
+    }
+}
+
+/// Writes what stands after the lines.
+#[tactic(auto, unfolding(crate::specs::Page::after_lines))]
+pub(crate) fn write_after<W: Write>(writer: &mut W, form: Form) -> Result<(), ReportError>
+    ensures { IsWritten result (W.contents writer.old) (W.contents writer.new) (after_lines form) }
+{
+    match form {
+        Form::Lines => Ok(()),
+        Form::Page => put(writer, AFTER),
+    }
+}

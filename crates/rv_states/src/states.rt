@@ -1,0 +1,57 @@
+ghost use Rattle.std.specs.Prelude.{◌≡◌, Err};
+ghost use Rattle.rv_hardware.specs.Guided.{guided};
+ghost use Rattle.rv_states.specs.States.{IsStates};
+ghost use Rattle.rv_text.specs.IsText.{IsText};
+
+use crate::form::Form;
+use crate::running::run_shown;
+use rv_arch::Stop;
+use rv_core::Pipeline;
+use rv_front::Predictor;
+use rv_isa::Arrivals;
+use rv_passage::Table;
+use rv_source::Listing;
+use rv_text::{ReportError, TextError};
+use std::alloc::Global;
+use std::io::Write;
+
+/// Runs a pipeline that a predictor guides, each cycle with the lines of its number, up to a breakpoint, a stale word,
+/// exhaustion or `limit` cycles, and writes its states line by line as JSON: the machine and the program; after the first `from`
+/// cycles memory, the cache and the rest of the hardware; each further cycle as it comes, what happened in it and the hardware
+/// after it; and at last after how many cycles the run ended, and why. As a page it stands in a viewer for browsers. An
+/// instruction's number counts from 0 in order of fetch. Asks for no memory once it has written. Answers why the run ended.
+///
+/// # Errors
+///
+/// `Memory` when out of memory: then nothing was run and nothing was written. `WriteFailed` where a write fails: then what was
+/// written is a beginning of the text, and the run is done to its end.
+pub fn write_states<W: Write>(
+    alloc: Global,
+    pipeline: &mut Pipeline,
+    predictor: &mut dyn Predictor,
+    arrivals: &Arrivals,
+    from: u64,
+    limit: u64,
+    form: Form,
+    listing: &Listing,
+    writer: &mut W,
+) -> Result<Stop, TextError>
+    ensures written { IsText (IsStates arrivals.now from limit form listing.now (guided pipeline.old (known predictor.old)) (guided pipeline.new (known predictor.new))) result (W.contents writer.old) (W.contents writer.new) }
+    ensures not_run { result ≡ Err TextError.Memory → (pipeline.new ≡ pipeline.old) × (known predictor.new ≡ known predictor.old) }
+{
+    // Of hardware that a reset and cycles lead to, the buffers are as long as described.
+    let _ = pipeline.cycles_done();
+    let Ok(table) = Table::begin(alloc, pipeline.reorder_buffer(), pipeline.front()) else {
+        return Err(TextError::Memory);
+    };
+    let Ok(steps) = Vec::with_capacity(alloc, 8) else {
+        return Err(TextError::Memory);
+    };
+    let shown = run_shown(
+        pipeline, predictor, arrivals, from, limit, form, listing, table, steps, writer,
+    );
+    match shown.written {
+        Ok(()) => Ok(shown.stop),
+        Err(ReportError::WriteFailed) => Err(TextError::WriteFailed),
+    }
+}

@@ -1,0 +1,69 @@
+use crate::machine::{described, listing, narrow, no_arrivals, pipeline};
+use rv_arch::Stop;
+use rv_front::NotTaken;
+use rv_states::{Form, write_states};
+use std::alloc::Global;
+use std::process::Abort;
+
+// addi x1,x0,5; ebreak
+const BYTES: [u8; 8] = [0x93, 0x00, 0x50, 0x00, 0x73, 0x00, 0x10, 0x00];
+
+// The states of a run of three cycles, but for the first.
+fn told(rt: &impl Abort, alloc: Global, form: Form) -> Vec<u8> {
+    let description = described(rt, narrow());
+    let arrivals = no_arrivals(rt, alloc);
+    let listing = listing(rt, alloc, &["addi x1,x0,5", "ebreak"]);
+    let mut output = Vec::new(alloc);
+    let mut pipeline = pipeline(rt, alloc, &description, &BYTES);
+    let mut predictor = NotTaken;
+    let stop = write_states(
+        alloc,
+        &mut pipeline,
+        &mut predictor,
+        &arrivals,
+        1,
+        3,
+        form,
+        &listing,
+        &mut output,
+    )
+    .expect(rt, "room");
+    assert_eq!(rt; stop, Stop::Limit);
+    output
+}
+
+fn has_part(text: &[u8], part: &[u8]) -> bool {
+    text.windows(part.len()).any(|each| each == part)
+}
+
+// The words at 80000000 and 80000004 are 00500093 and 00100073; the addition was fetched in cycle 0, dispatched in 1 and issued
+// in 2.
+const PARTS: [&[u8]; 4] = [
+    b"{\"address\":2147483652,\"line\":2,\"text\":\"ebreak\"}\n{\"memory\":2147483648,\"word\":5243027,\"stale\":false}\n{\"memory\":2147483652,\"word\":1048691,\"stale\":false}\n{\"start\":1,\"instructions\":[{\"number\":0}],",
+    b"}}\n{\"cycle\":1,\"instructions\":[{\"number\":0},{\"number\":1}],\"steps\":[],\"counts\":{\"cycles\":2,\"busy\":1,\"fetch\":1,",
+    b"}}\n{\"cycle\":2,",
+    b"}}\n{\"cycles\":3,\"stop\":\"limit\"}\n",
+];
+
+#[test]
+fn the_cycles_after_the_first_are_told_line_by_line(rt: HostRuntime) {
+    let lines = told(&rt, rt.alloc(), Form::Lines);
+    assert!(rt;
+        lines.as_slice().starts_with(
+            b"{\"first\":1,\"format\":\"rv_sim states 1\",\"machine\":{\"ram_base\":2147483648,"
+        )
+    );
+    for part in &PARTS {
+        assert!(rt; has_part(lines.as_slice(), part));
+    }
+    assert!(rt; !has_part(lines.as_slice(), b"{\"cycle\":0,"));
+}
+
+#[test]
+fn a_page_has_the_same_lines_in_a_viewer(rt: HostRuntime) {
+    let lines = told(&rt, rt.alloc(), Form::Lines);
+    let page = told(&rt, rt.alloc(), Form::Page);
+    assert!(rt; page.as_slice().starts_with(b"<!DOCTYPE html>\n"));
+    assert!(rt; has_part(page.as_slice(), lines.as_slice()));
+    assert!(rt; page.as_slice().ends_with(b"</html>\n"));
+}
