@@ -73,7 +73,7 @@ fn push_string(out: &mut Vec<u8>, raw: &[u8]) -> Result<(), AsmFault>
 
 impl Directive {
     /// How many bytes it lays down at an offset.
-    pub fn size(self, offset: usize, operand: Operand<'_>) -> u128
+    pub(crate) fn size(self, offset: usize, operand: Operand<'_>) -> u128
         ensures size { result ≡ length (laid_by self offset (operand_of operand.entry)) }
         ensures small { result < 2 ^ 100 }
     {
@@ -85,7 +85,7 @@ impl Directive {
     }
 
     /// Appends the bytes that it lays down at an offset.
-    pub fn push(
+    pub(crate) fn push(
         self,
         offset: usize,
         operand: Operand<'_>,

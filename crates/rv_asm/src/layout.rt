@@ -43,7 +43,7 @@ pub fn length_before(end: u8, text: &[u8]) -> usize
 }
 
 /// The first line of a text, and what stands after its line feed, if it has one.
-fn first_line(text: &[u8]) -> (&[u8], Option<&[u8]>)
+pub fn first_line(text: &[u8]) -> (&[u8], Option<&[u8]>)
     ensures lines { slice_split (λ byte. byte == 10) text.now ≡ result.0.now ∷ lines_left result.1 }
     ensures shorter { IfSome result.1 (λ rest. length rest.now < length text.now) }
 {

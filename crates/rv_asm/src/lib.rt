@@ -1,4 +1,5 @@
-//! The assembler.
+//! The assembler: the image of a text, with the lines of its words, or the text's first fault. The tokens of a line and the forms of
+//! statements are there too, for those that tell why a text was refused.
 #![tactic(auto)]
 
 mod assembler;
@@ -23,5 +24,10 @@ mod symbols;
 mod token;
 
 pub use assembler::assemble;
+pub use directive::Directive;
 pub use fault::{AsmError, AsmFault};
+pub use layout::first_line;
 pub use listing::{ListedImage, assemble_listed};
+pub use mnemonic::{BareInstruction, form_named};
+pub use operation::{Form, Operation, Place, Section};
+pub use token::{Token, tokenize};

@@ -8,7 +8,7 @@ use crate::operation::Place;
 
 impl Place {
     /// Whether no operand stands at the place.
-    pub(crate) fn is_implied(self) -> bool
+    pub fn is_implied(self) -> bool
         ensures { result ≡ is_implied self }
     {
         matches!(

@@ -9,8 +9,9 @@ use rv_describe::{ArrivalsError, DescriptionError, key_name};
 use rv_text::{ReportError, put, put_all};
 use std::io::Write;
 
+/// The name of a fault of assembly.
 #[tactic(auto, unfolding(crate::specs::Fault::fault_name))]
-fn name(fault: AsmFault) -> &'static str
+pub fn fault_name(fault: AsmFault) -> &'static str
     ensures { result.now ≡ fault_name fault }
 {
     match fault {
@@ -129,7 +130,7 @@ pub(crate) fn write_fault<W: Write>(writer: &mut W, error: SimError) -> Result<(
         SimError::Assembly(error) => {
             let mut buffer = Buffer::new();
             let line = buffer.format(error.line).as_bytes();
-            let name = name(error.fault).as_bytes();
+            let name = fault_name(error.fault).as_bytes();
             put_all(
                 writer,
                 &[b"error: assembly line ", line, b": ", name, b"\n"],

@@ -1,5 +1,5 @@
 -- What several runs came to, in a table: a line for each run, its cells with a tab between two.
-use Rattle.std.specs.Prelude.{◌≡◌, ℕ, List, [], ◌∷◌, ◌++◌, codes}
+use Rattle.std.specs.Prelude.{◌≡◌, ℕ, ◌-◌, List, [], ◌∷◌, ◌++◌, codes, get_or}
 use Rattle.std.specs.List.{enumerate_from, flat_map}
 use Rattle.rv_isa.specs.declared.lines.Arrival.{Arrival}
 use Rattle.rv_hardware.specs.Guided.{GuidedCycles, GuidedHardware}
@@ -8,6 +8,7 @@ use Rattle.rv_hardware.specs.Run.{IsStop}
 use Rattle.rv_report.specs.State.{stop_text}
 use Rattle.rv_report.specs.Totals.{totals_at}
 use Rattle.rv_report.specs.declared.totals.Totals.{Totals}
+use Rattle.rv_text.specs.Plain.{plain_text}
 use Rattle.rv_text.specs.ReadField.{cell_text}
 use Rattle.rv_text.specs.declared.fields.Value.{Value}
 use Rattle.rv_text.specs.declared.fields.Value.TheVariants.{Count, Ratio}
@@ -22,7 +23,8 @@ pub record RunsTo (arrivals : List Arrival) (limit : ℕ) (old : GuidedHardware)
 
 -- the names of the columns
 unfoldable pub table_head : List ℕ
-table_head = codes "number\tcycles\tretired\tcpi\tbusy\tfetch\tserial\trob\tstation\tstore\tstop\n"
+table_head =
+    codes "number\tcycles\tretired\tcpi\tinterrupts\tbusy\tstall_fetch\tstall_serial\tstall_rob\tstall_station\tstall_store\tname\tstop\n"
 
 -- the number of a run, its counts, and the cycles that dispatched nothing, by the reason
 abbrev pub row_values : ℕ → Totals → List Value
@@ -31,6 +33,7 @@ row_values number totals =
     Count totals.cycles ∷
     Count totals.steps.retired ∷
     Ratio totals.cycles totals.steps.retired ∷
+    Count totals.steps.interrupts ∷
     Count totals.busy ∷
     Count totals.stalls.fetch ∷
     Count totals.stalls.serial ∷
@@ -39,10 +42,20 @@ row_values number totals =
     Count totals.stalls.store ∷
     []
 
--- the line of a run ends with why it ended
-unfoldable pub table_row : ℕ → Totals → List ℕ
-table_row number totals = flat_map cell_text (row_values number totals) ++ (stop_text totals.stop ++ codes "\n")
+-- the name of a run's machine in printing characters, or a hyphen where it has none
+unfoldable pub name_text : List ℕ → List ℕ
+name_text [] = codes "-"
+name_text (first ∷ others) = plain_text (first ∷ others)
+
+-- the line of a run ends with the name of its machine and why the run ended
+unfoldable pub table_row : ℕ → List ℕ → Totals → List ℕ
+table_row number name totals =
+    flat_map cell_text (row_values number totals) ++ (name_text name ++ (codes "\t" ++ (stop_text totals.stop ++ codes "\n")))
+
+-- the line of a run with a number, where the machines from the first on have these names
+abbrev pub row_of : List (List ℕ) → ℕ × Totals → List ℕ
+row_of names run = table_row run.0 (get_or names (run.0 - 1) []) run.1
 
 -- runs are numbered from 1
-unfoldable pub table_of : List Totals → List ℕ
-table_of runs = table_head ++ flat_map (λ run. table_row run.0 run.1) (enumerate_from 1 runs)
+unfoldable pub table_of : List (List ℕ) → List Totals → List ℕ
+table_of names runs = table_head ++ flat_map (row_of names) (enumerate_from 1 runs)

@@ -1,11 +1,14 @@
-ghost use Rattle.std.specs.Prelude.{◌≡◌, ◌+◌};
+ghost use Rattle.std.specs.Prelude.{◌≡◌, ◌+◌, ◌++◌, [], codes, get_or, map};
 ghost use Rattle.std.specs.List.{enumerate_from, flat_map};
-ghost use Rattle.rv_report.specs.Comparison.{table_head, table_of, table_row};
+ghost use Rattle.rv_report.specs.Comparison.{name_text, row_of, row_values, table_head, table_of, table_row};
+ghost use Rattle.rv_report.specs.State.{stop_text};
+ghost use Rattle.rv_text.specs.ReadField.{cell_text};
 ghost use Rattle.rv_text.specs.Written.{IsWritten};
 
 use crate::state::write_reason;
 use crate::totals::Totals;
-use rv_text::{ReportError, Value, put, write_cells};
+use rv_arch::Stop;
+use rv_text::{ReportError, Value, put, write_cells, write_plain};
 use std::io::Write;
 
 #[tactic(auto, unfolding(crate::specs::Comparison::table_head))]
@@ -14,13 +17,13 @@ fn write_head<W: Write>(writer: &mut W) -> Result<(), ReportError>
 {
     put(
         writer,
-        b"number\tcycles\tretired\tcpi\tbusy\tfetch\tserial\trob\tstation\tstore\tstop\n",
+        b"number\tcycles\tretired\tcpi\tinterrupts\tbusy\tstall_fetch\tstall_serial\tstall_rob\tstall_station\tstall_store\tname\tstop\n",
     )
 }
 
-// The line of a run.
-fn write_row<W: Write>(writer: &mut W, number: u64, totals: Totals) -> Result<(), ReportError>
-    ensures { IsWritten result (W.contents writer.old) (W.contents writer.new) (table_row number totals) }
+// The counts of a run, with its number.
+fn write_counts<W: Write>(writer: &mut W, number: u64, totals: Totals) -> Result<(), ReportError>
+    ensures { IsWritten result (W.contents writer.old) (W.contents writer.new) (flat_map cell_text (row_values number totals)) }
 {
     let values = [
         Value::Count(number),
@@ -30,6 +33,7 @@ fn write_row<W: Write>(writer: &mut W, number: u64, totals: Totals) -> Result<()
             count: totals.cycles,
             each: totals.steps.retired,
         },
+        Value::Count(totals.steps.interrupts),
         Value::Count(totals.busy),
         Value::Count(totals.stalls.fetch),
         Value::Count(totals.stalls.serial),
@@ -37,27 +41,85 @@ fn write_row<W: Write>(writer: &mut W, number: u64, totals: Totals) -> Result<()
         Value::Count(totals.stalls.station),
         Value::Count(totals.stalls.store),
     ];
-    write_cells(writer, &values)?;
-    write_reason(writer, totals.stop)
+    write_cells(writer, &values)
+}
+
+// The name of a machine, or a hyphen where it has none.
+#[tactic(auto, unfolding(crate::specs::Comparison::name_text))]
+fn write_name<W: Write>(writer: &mut W, name: &[u8]) -> Result<(), ReportError>
+    ensures { IsWritten result (W.contents writer.old) (W.contents writer.new) (name_text name.now) }
+{
+    match name {
+        [] => put(writer, b"-"),
+        _ => write_plain(writer, name),
+    }
+}
+
+// What the line of a run ends with: a tab, and why the run ended.
+fn write_end<W: Write>(writer: &mut W, stop: Stop) -> Result<(), ReportError>
+    ensures { IsWritten result (W.contents writer.old) (W.contents writer.new) (codes "\t" ++ (stop_text stop ++ codes "\n")) }
+{
+    put(writer, b"\t")?;
+    write_reason(writer, stop)
+}
+
+// The name of a run's machine, and why the run ended.
+fn write_name_and_end<W: Write>(writer: &mut W, name: &[u8], stop: Stop) -> Result<(), ReportError>
+    ensures { IsWritten result (W.contents writer.old) (W.contents writer.new) (name_text name.now ++ (codes "\t" ++ (stop_text stop ++ codes "\n"))) }
+{
+    write_name(writer, name)?;
+    write_end(writer, stop)
+}
+
+// The line of a run.
+fn write_row<W: Write>(
+    writer: &mut W,
+    number: u64,
+    name: &[u8],
+    totals: Totals,
+) -> Result<(), ReportError>
+    ensures { IsWritten result (W.contents writer.old) (W.contents writer.new) (table_row number name.now totals) }
+{
+    write_counts(writer, number, totals)?;
+    write_name_and_end(writer, name, totals.stop)
+}
+
+// The name at a place, or none.
+fn name_at(names: &[Vec<u8>], place: usize) -> &[u8]
+    ensures { result.now ≡ get_or (map (λ name. name.items) names.entry.now) place [] }
+{
+    if place < names.len() {
+        names[place].as_slice()
+    } else {
+        b""
+    }
 }
 
 // The lines of runs, which are numbered from 1.
-fn write_rows<W: Write>(writer: &mut W, runs: &[Totals]) -> Result<(), ReportError>
-    ensures { IsWritten result (W.contents writer.old) (W.contents writer.new) (flat_map (λ run. table_row run.0 run.1) (enumerate_from 1 runs.now)) }
+fn write_rows<W: Write>(
+    writer: &mut W,
+    names: &[Vec<u8>],
+    runs: &[Totals],
+) -> Result<(), ReportError>
+    ensures { IsWritten result (W.contents writer.old) (W.contents writer.new) (flat_map (row_of (map (λ name. name.items) names.now)) (enumerate_from 1 runs.now)) }
 {
     for place in 0..runs.len() {
         let totals = runs[place];
-        write_row(writer, 1 + place as u64, totals)?;
+        write_row(writer, 1 + place as u64, name_at(names, place), totals)?;
     }
     Ok(())
 }
 
 /// Writes what several runs came to as a table: a line with the names of the columns, and a line for each run, numbered from
-/// 1, with a tab between two cells. Asks for no memory. Fails by `WriteFailed` alone, and what was written is then a
-/// beginning of the table.
-pub fn write_table<W: Write>(runs: &[Totals], writer: &mut W) -> Result<(), ReportError>
-    ensures { IsWritten result (W.contents writer.old) (W.contents writer.new) (table_of runs.now) }
+/// 1, with a tab between two cells. `names` has the names of the runs' machines, in their order. Asks for no memory. Fails by
+/// `WriteFailed` alone, and what was written is then a beginning of the table.
+pub fn write_table<W: Write>(
+    names: &[Vec<u8>],
+    runs: &[Totals],
+    writer: &mut W,
+) -> Result<(), ReportError>
+    ensures { IsWritten result (W.contents writer.old) (W.contents writer.new) (table_of (map (λ name. name.items) names.now) runs.now) }
 {
     write_head(writer)?;
-    write_rows(writer, runs)
+    write_rows(writer, names, runs)
 }

@@ -2,6 +2,7 @@ pub mod Answer
 pub mod Output
 pub mod Program
 pub mod ReferenceReport
+pub mod Refused
 pub mod SimulationReport
 pub mod CoreReport
 pub mod PictureReport

@@ -7,6 +7,7 @@ use Rattle.rv_job.specs.FaultStream.{FaultStream, Tells, TellsError, TellsOf}
 use Rattle.rv_job.specs.Input.{IsInputOf}
 use Rattle.rv_sim.specs.CoreReport.{untaught_of}
 use Rattle.rv_sim.specs.Output.{HoldsBeginning}
+use Rattle.rv_sim.specs.Refused.{HandsBack}
 use Rattle.rv_sim.specs.Task.{Asks, AsksForMemory, Refuses, Shows, predictor_of}
 use Rattle.rv_command.specs.declared.command.Command.{Command}
 use Rattle.rv_job.specs.declared.{errors.SimError.SimError, input.InputError.InputError}
@@ -17,10 +18,11 @@ use Rattle.rv_sim.specs.declared.task.Task.{Task}
 abbrev pub IsUnread : FaultStream → FaultStream → ℕ → Type 0
 IsUnread old new status = (error : InputError) × Tells old new (input_fault_line error) × (status ≡ input_fault_status error)
 
--- the input was refused, which is told
-abbrev pub IsRefused : Command → List ℕ → FaultStream → FaultStream → ℕ → Type 0
-IsRefused command input old new status =
+-- the input was refused, which is told, and the output, whose known bytes are its contents, was handed back
+abbrev pub IsRefused : {W : Type 0} → (W → Option (List ℕ)) → Command → List ℕ → W → Option W → FaultStream → FaultStream → ℕ → Type 0
+IsRefused contents command input given handed old new status =
     (error : SimError) × Refuses command input error × Tells old new (fault_line error) × (status ≡ fault_status error)
+    × HandsBack contents command input error given handed
 
 -- A task ended so, with a predictor, and its output was handed back by the buffer before it. The output has got the text whole. Where a
 -- write failed it holds a beginning of what it held and of the text; when out of memory, of what it held.
@@ -54,5 +56,5 @@ abbrev pub Runs : {W : Type 0} → (W → Option (List ℕ)) → Command → Opt
 Runs contents command remaining given handed old new status =
     ((handed ≡ Some given) × IsUnread old new status)
     ⊎ ((input : List ℕ) × IsInputOf remaining input
-    × (((handed ≡ Some given) × IsRefused command input old new status)
+    × (IsRefused contents command input given handed old new status
     ⊎ IsEnded contents command input given handed old new status))

@@ -12,6 +12,7 @@ mod picture;
 mod profile;
 mod program;
 mod reference;
+mod refusal;
 mod simulate;
 mod states;
 mod task;

@@ -9,6 +9,7 @@ ghost use Rattle.rv_job.specs.declared.input.InputError.{InputError as OneError}
 
 use crate::boxed_predictor::{BoxedPredictor, boxed};
 use crate::output::pass_on;
+use crate::refusal::hand_back;
 use crate::task::{Task, begin, finish};
 use rv_command::Command;
 use rv_isa::PredictorValues;
@@ -102,8 +103,8 @@ fn finish_task<W: Write + Drop, E: Write>(
 }
 
 /// Does what a command asks of an input: reads it from `reader`, and writes the report, picture, log, sentences or table, or
-/// the line that says which image it makes, to `output`, in blocks, and flushes it. A fault is told on `errors`. The exit
-/// status is 0 for what was done, 1 for a refused job, 3 for a run that a stale word ended, 4 where input or output failed, 5
+/// the line that says which image it makes, to `output`, in blocks, and flushes it. A fault is told on `errors`; where a job was
+/// to be explained and is refused, `output` gets why, as far as memory and the writes allow. The exit status is 0 for what was done, 1 for a refused job, 3 for a run that a stale word ended, 4 where input or output failed, 5
 /// when out of memory.
 pub fn run<R: Read, W: Write + Drop, E: Write>(
     alloc: Global,
@@ -128,7 +129,9 @@ pub fn run<R: Read, W: Write + Drop, E: Write>(
             drop(task);
             exit
         }
-        Err(status) => {
+        Err(refused) => {
+            let status = refused.status;
+            let output = hand_back(alloc, command, input.as_slice(), refused.error, output);
             let output = Some(output);
             Exit { status, output }
         }

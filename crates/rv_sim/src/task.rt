@@ -4,7 +4,6 @@ ghost use Rattle.rv_job.specs.Fault.{fault_line, fault_status};
 ghost use Rattle.rv_job.specs.FaultStream.{Tells};
 ghost use Rattle.rv_job.specs.JobRefusal.{RefusesJob};
 ghost use Rattle.rv_sim.specs.Task.{Asks, AsksForStates, Refuses, Ends, asked, form_of, predictor_of, stop_status};
-ghost use Rattle.rv_job.specs.declared.errors.SimError.{SimError as OneError};
 
 use crate::boxed_predictor::BoxedPredictor;
 use crate::compare::compare;
@@ -165,24 +164,35 @@ fn read_task(alloc: Global, command: &Command, input: &[u8]) -> Result<Task, Sim
     }
 }
 
-/// Reads the input as the command asks. Where it is refused, the fault is told on `errors`, and the
-/// exit status is answered.
+/// Why an input is refused, which was told.
+#[derive(Clone, Copy, Debug, PartialEq, Eq)]
+pub struct Refused {
+    /// Its fault.
+    pub error: SimError,
+    /// The exit status.
+    pub status: u8,
+}
+
+/// Reads the input as the command asks. Where it is refused, the fault is told on `errors`, and it is
+/// answered with its exit status.
 pub fn begin<E: Write>(
     alloc: Global,
     command: &Command,
     input: &[u8],
     errors: &mut FaultLines<E>,
-) -> Result<Task, u8>
+) -> Result<Task, Refused>
     ensures task { IfOk result (Asks command.now input.now) }
     ensures nothing_told { OnOk result (errors.new ≡ errors.old) }
-    ensures refused { IfErr result (λ status. (error : OneError)
-        × Refuses command.now input.now error
-        × Tells errors.old errors.new (fault_line error)
-        × (status ≡ fault_status error)) }
+    ensures refused { IfErr result (λ refused. Refuses command.now input.now refused.error
+        × Tells errors.old errors.new (fault_line refused.error)
+        × (refused.status ≡ fault_status refused.error)) }
 {
     match read_task(alloc, command, input) {
         Ok(task) => Ok(task),
-        Err(error) => Err(errors.tell(error)),
+        Err(error) => {
+            let status = errors.tell(error);
+            Err(Refused { error, status })
+        }
     }
 }
 

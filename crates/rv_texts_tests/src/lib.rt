@@ -1,4 +1,4 @@
-//! The tests of what is read: assembly texts, descriptions, jobs and words of a command; and of the texts that are
+//! The tests of what is read: assembly texts, descriptions, jobs and why they are refused, and words of a command; and of the texts that are
 //! written. They stand apart, so that no crate is proved a second time for them.
 #![tactic(auto)]
 
@@ -14,6 +14,8 @@ mod describe;
 mod errors;
 #[cfg(test)]
 mod job;
+#[cfg(test)]
+mod refusal;
 #[cfg(test)]
 mod source;
 #[cfg(test)]

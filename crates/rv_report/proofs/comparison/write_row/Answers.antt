@@ -2,11 +2,11 @@ use Rattle.rv_report.specs.Comparison.{table_row}
 use Rattle.rv_text.proofs.Writing.{handed_on, beginning-longer, written_behind}
 use Rattle.rv_report.proofs.comparison.write_row.Goals as goal
 
-pub returns-in_err-write_cells : goal.returns-in_err-write_cells
+pub returns-in_err-write_counts : goal.returns-in_err-write_counts
 unfolding table_row
-returns-in_err-write_cells g c =
-    handed_on _ _ _ _ _ c.from_residual.ensures.1 (beginning-longer _ _ _ _ c.in_err-write_cells.ensures)
+returns-in_err-write_counts g c =
+    handed_on _ _ _ _ _ c.from_residual.ensures.1 (beginning-longer _ _ _ _ c.in_err-write_counts.ensures)
 
 pub returns : goal.returns
 unfolding table_row
-returns g c = written_behind _ _ _ _ _ _ c.in_ok-write_cells.ensures c.write_reason.ensures
+returns g c = written_behind _ _ _ _ _ _ c.in_ok-write_counts.ensures c.write_name_and_end.ensures

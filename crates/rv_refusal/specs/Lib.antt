@@ -1,0 +1,6 @@
+pub mod Expected
+pub mod Lines
+pub mod Operands
+pub mod Range
+pub mod Refusal
+pub mod Statement

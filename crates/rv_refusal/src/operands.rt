@@ -1,0 +1,140 @@
+ghost use Rattle.std.specs.Prelude.{◌≡◌, ◌++◌, OnOk, codes};
+ghost use Rattle.rv_refusal.specs.Operands.{operand_example, operand_list, operand_word, place_limit, place_word, shape_line, shape_lines};
+
+use crate::text::add_all;
+use itoa::Buffer;
+use rv_asm::{Form, Place};
+use std::alloc::AllocError;
+
+// What may stand at a place, without its limit.
+#[tactic(auto, unfolding(crate::specs::Operands::place_word))]
+fn word(place: Place) -> &'static [u8]
+    ensures { result.now ≡ place_word place }
+{
+    match place {
+        Place::Rd => b"rd",
+        Place::Rs1 => b"rs1",
+        Place::Rs2 => b"rs2",
+        Place::Value => b"value",
+        Place::Known => b"number or .equ symbol above",
+        Place::Target => b"symbol",
+        Place::Address | Place::Base => b"offset(rs1)",
+        Place::Csr => b"csr",
+        Place::UpTo(_) => b"number from 0 to ",
+        Place::Multiple => b"1 or 2 or 4 or 8 or 16",
+        Place::Text => b"\"text\"",
+        Place::Link | Place::Return | Place::One | Place::MinusOne | Place::Empty => b"",
+    }
+}
+
+// Appends the greatest number that may stand at a place, where only those up to a limit may.
+#[tactic(auto, unfolding(crate::specs::Operands::place_limit))]
+fn add_limit(out: &mut Vec<u8>, place: Place) -> Result<(), AllocError>
+    ensures { OnOk result (out.new.items ≡ out.old.items ++ place_limit place) }
+{
+    match place {
+        Place::UpTo(greatest) => {
+            let mut buffer = Buffer::new();
+            out.extend_from_slice(buffer.format(greatest).as_bytes())
+        }
+        _ => Ok(()),
+    }
+}
+
+// Appends what may stand at a place.
+fn add_word(out: &mut Vec<u8>, place: Place) -> Result<(), AllocError>
+    ensures { OnOk result (out.new.items ≡ out.old.items ++ operand_word place) }
+{
+    out.extend_from_slice(word(place))?;
+    add_limit(out, place)
+}
+
+// An operand that stands at a place in an example.
+#[tactic(auto, unfolding(crate::specs::Operands::operand_example))]
+fn example(place: Place) -> &'static [u8]
+    ensures { result.now ≡ operand_example place }
+{
+    match place {
+        Place::Rd => b"x5",
+        Place::Rs1 => b"x6",
+        Place::Rs2 => b"x7",
+        Place::Value | Place::Known | Place::UpTo(_) | Place::Multiple => b"8",
+        Place::Target => b"loop",
+        Place::Address | Place::Base => b"8(x6)",
+        Place::Csr => b"mscratch",
+        Place::Text => b"\"text\"",
+        Place::Link | Place::Return | Place::One | Place::MinusOne | Place::Empty => b"",
+    }
+}
+
+// Appends what may stand at each of some places.
+fn add_words(out: &mut Vec<u8>, mark: &[u8], places: &[Place]) -> Result<(), AllocError>
+    ensures { OnOk result (out.new.items ≡ out.old.items ++ operand_list operand_word mark.now places.now) }
+{
+    let Some((place, others)) = places.split_first() else {
+        return Ok(());
+    };
+    if place.is_implied() {
+        return add_words(out, mark, others);
+    }
+    out.extend_from_slice(mark)?;
+    add_word(out, *place)?;
+    add_words(out, b", ", others)
+}
+
+// Appends the operand of an example at each of some places.
+fn add_examples(out: &mut Vec<u8>, mark: &[u8], places: &[Place]) -> Result<(), AllocError>
+    ensures { OnOk result (out.new.items ≡ out.old.items ++ operand_list operand_example mark.now places.now) }
+{
+    let Some((place, others)) = places.split_first() else {
+        return Ok(());
+    };
+    if place.is_implied() {
+        return add_examples(out, mark, others);
+    }
+    out.extend_from_slice(mark)?;
+    out.extend_from_slice(example(*place))?;
+    add_examples(out, b", ", others)
+}
+
+// Appends the line on a shape of a statement with a name.
+#[tactic(auto, unfolding(crate::specs::Operands::shape_line))]
+fn add_shape(out: &mut Vec<u8>, name: &[u8], places: &[Place]) -> Result<(), AllocError>
+    ensures { OnOk result (out.new.items ≡ out.old.items ++ shape_line name.now places.now) }
+{
+    add_all(out, &[b"expected: ", name])?;
+    add_words(out, b" ", places)?;
+    add_all(out, &[b", as in '", name])?;
+    add_examples(out, b" ", places)?;
+    out.extend_from_slice(b"'\n")
+}
+
+/// Appends the lines on the shapes of a statement with a name: what may stand at each place, and an example.
+#[tactic(auto, unfolding(crate::specs::Operands::shape_lines))]
+pub(crate) fn add_shapes(out: &mut Vec<u8>, name: &[u8], form: Form) -> Result<(), AllocError>
+    ensures { OnOk result (out.new.items ≡ out.old.items ++ shape_lines name.now form) }
+{
+    match form {
+        Form::Nothing => Ok(()),
+        Form::Instruction(_, first, second, third) => {
+            add_shape(out, name, &[first, second, third])
+        }
+        Form::Jal => {
+            add_shape(out, name, &[Place::Target])?;
+            add_shape(out, name, &[Place::Rd, Place::Target])
+        }
+        Form::Jalr => {
+            add_shape(out, name, &[Place::Rs1])?;
+            add_shape(out, name, &[Place::Rd, Place::Base])?;
+            add_shape(out, name, &[Place::Rd, Place::Rs1, Place::Value])
+        }
+        Form::Choice(_) => add_shape(out, name, &[]),
+        Form::Global => add_shape(out, name, &[Place::Target]),
+        Form::Constant => add_shape(out, name, &[Place::Target, Place::Value]),
+        Form::Values(_) => {
+            add_shape(out, name, &[Place::Value])?;
+            add_shape(out, name, &[Place::Value, Place::Value])
+        }
+        Form::Bytes(_, place) => add_shape(out, name, &[place]),
+    }
+}

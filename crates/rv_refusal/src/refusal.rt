@@ -1,0 +1,52 @@
+ghost use Rattle.std.specs.Prelude.{◌≡◌, IfOk};
+ghost use Rattle.rv_refusal.specs.Refusal.{refusal_text};
+ghost use Rattle.rv_text.specs.IsText.{IsText};
+
+use crate::assembly::add_assembly;
+use crate::lines::lines_before;
+use rv_job::{SimError, cut_into_parts};
+use rv_text::{ReportError, TextError, put};
+use std::alloc::{AllocError, Global};
+use std::io::Write;
+
+// Why a job is refused.
+#[tactic(auto, unfolding(crate::specs::Refusal::refusal_text))]
+fn refusal(alloc: Global, text: &[u8], error: SimError) -> Result<Vec<u8>, AllocError>
+    ensures { IfOk result (λ out. out.items ≡ refusal_text text.now error) }
+{
+    let mut out = Vec::new(alloc);
+    match error {
+        SimError::TooLong => {
+            out.extend_from_slice(b"expected: at most 33554432 bytes\n")?;
+        }
+        SimError::Assembly(error) => {
+            let assembly = cut_into_parts(text).assembly;
+            let before = lines_before(text, assembly);
+            add_assembly(alloc, &mut out, before, assembly, error)?;
+        }
+        _ => {}
+    }
+    Ok(out)
+}
+
+/// Writes why a job is refused, for its reader: the line at fault with its numbers in the job and in the assembly, and what was
+/// expected there. `text` is the job, and `error` its fault. Of a fault that needs no more words, and where memory or the output
+/// failed, nothing is written.
+///
+/// Fails by `Memory`, and has written nothing then, or by `WriteFailed`, and has written a beginning of the text.
+pub fn write_refusal<W: Write>(
+    alloc: Global,
+    text: &[u8],
+    error: SimError,
+    writer: &mut W,
+) -> Result<(), TextError>
+    ensures { IsText (λ _ shown. shown ≡ refusal_text text.now error) result (W.contents writer.old) (W.contents writer.new) }
+{
+    let Ok(shown) = refusal(alloc, text, error) else {
+        return Err(TextError::Memory);
+    };
+    match put(writer, shown.as_slice()) {
+        Ok(()) => Ok(()),
+        Err(ReportError::WriteFailed) => Err(TextError::WriteFailed),
+    }
+}

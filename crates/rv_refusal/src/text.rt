@@ -1,0 +1,26 @@
+ghost use Rattle.std.specs.Prelude.{◌≡◌, ◌++◌, OnOk};
+ghost use Rattle.std.specs.List.{flat_map};
+ghost use Rattle.rv_text.specs.Plain.{plain_text};
+
+use rv_text::write_plain;
+use std::alloc::AllocError;
+
+/// Appends texts one after the other.
+pub(crate) fn add_all(out: &mut Vec<u8>, texts: &[&[u8]]) -> Result<(), AllocError>
+    ensures { OnOk result (out.new.items ≡ out.old.items ++ flat_map (λ t. t.now) texts.now) }
+{
+    for text in texts {
+        out.extend_from_slice(text)?;
+    }
+    Ok(())
+}
+
+/// Appends a text of a user's in printing characters.
+pub(crate) fn add_plain(out: &mut Vec<u8>, text: &[u8]) -> Result<(), AllocError>
+    ensures { OnOk result (out.new.items ≡ out.old.items ++ plain_text text.now) }
+{
+    match write_plain(out, text) {
+        Ok(()) => Ok(()),
+        Err(_) => Err(AllocError),
+    }
+}
