@@ -1,6 +1,6 @@
 -- What a text says as a comparison: descriptions, each with a separator after it, and a program; and why it is refused.
-use Rattle.std.specs.Prelude.{◌≡◌, ◌≤◌, ◌<◌, count_by, ℕ, ◌+◌, List, [], ◌∷◌, ◌++◌, length, ⊤, Some, None, Ok, Err}
-use Rattle.std.specs.List.{slice_split}
+use Rattle.std.specs.Prelude.{◌≡◌, ◌≤◌, ◌<◌, codes, count_by, drop, if◌then◌else◌, map, take, ℕ, ◌+◌, List, [], ◌∷◌, ◌++◌, length, ⊤, Some, None, Ok, Err}
+use Rattle.std.specs.{List.slice_split, Str.bytes_eq}
 use Rattle.rv_isa.specs.declared.{images.Image.Image, values.Values.Values}
 use Rattle.rv_describe.specs.Description.{description_of}
 use Rattle.rv_job.specs.Input.{most_bytes}
@@ -17,6 +17,26 @@ most_machines = 64
 -- how many lines of a text are separators: as many descriptions stand in front of a program
 abbrev pub separator_count : List ℕ → ℕ
 separator_count text = count_by is_separator (slice_split is_line_feed text)
+
+-- the name of the machine that a description whose first line this is gives it: what stands behind `# name: ` there, if that stands there
+unfoldable pub machine_name : List ℕ → List ℕ
+machine_name line = if bytes_eq (take 8 line) (codes "# name: ") then drop 8 line else []
+
+-- the first of some lines
+abbrev pub first_of : List (List ℕ) → List ℕ
+first_of [] = []
+first_of (line ∷ lines) = line
+
+-- the names that descriptions give their machines, where the first description begins with a line, and lines stand from there on: a
+-- separator ends each description
+abbrev pub names_from : List ℕ → List (List ℕ) → List (List ℕ)
+names_from first [] = []
+names_from first (line ∷ lines) =
+    if is_separator line then machine_name first ∷ names_from (first_of lines) lines else names_from first lines
+
+-- the names of the machines that a text compares; a text without separator gives none
+abbrev pub names_of : List ℕ → List (List ℕ)
+names_of text = let lines = slice_split is_line_feed text in names_from (first_of lines) lines
 
 -- the front of a text describes machines, with a separator after each description, and the rest stands after the last of them
 pub data IsBehind (text : List ℕ) : List Values → List ℕ → Type 0 where
@@ -50,6 +70,7 @@ pub record IsComparisonOf (text : List ℕ) (comparison : Comparison) : Type 0 w
   pub program : List ℕ
   pub compares : Compares text machines program
   pub loaded : AreLoaded program machines comparison.jobs.items
+  pub names : map (λ name. name.items) comparison.names.items ≡ names_of text
 
 -- why the description with a number is refused; memory may be refused for each part
 abbrev pub RefusesDescribed : ℕ → List ℕ → SimError → Type 0

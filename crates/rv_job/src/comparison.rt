@@ -1,15 +1,17 @@
-ghost use Rattle.std.specs.Prelude.{◌≡◌, ◌≤◌, List, [], IfOk, IfErr, None, Ok, length, nat_lt};
+ghost use Rattle.std.specs.Prelude.{◌≡◌, ◌≤◌, List, [], IfOk, IfErr, None, Ok, length, map, nat_lt};
+ghost use Rattle.rv_asm.specs.Kept.{lines_left};
 ghost use Rattle.rv_describe.specs.Description.{description_of};
-ghost use Rattle.rv_job.specs.Comparison.{AreLoaded, Compares, IsBehind, IsComparisonOf, IsLoaded, RefusesComparison, RefusesDescribed, RefusesDescriptions, RefusesLoading, RefusesProgram, most_machines, separator_count};
+ghost use Rattle.rv_job.specs.Comparison.{AreLoaded, Compares, IsBehind, IsComparisonOf, IsLoaded, RefusesComparison, RefusesDescribed, RefusesDescriptions, RefusesLoading, RefusesProgram, first_of, machine_name, most_machines, names_of, separator_count};
 ghost use Rattle.rv_job.specs.Parts.{halves_of};
 
 use crate::errors::SimError;
 use crate::job::{Job, MOST_BYTES};
 use crate::job_text::read_image;
-use crate::parts::cut_at_separator;
+use crate::parts::{cut_at_separator, is_separator};
+use rv_asm::first_line;
 use rv_describe::{DescriptionError, read_description};
 use rv_isa::{Arrivals, Description};
-use std::alloc::Global;
+use std::alloc::{AllocError, Global};
 
 /// The most machines that are compared.
 const MOST_MACHINES: usize = 64;
@@ -19,6 +21,8 @@ const MOST_MACHINES: usize = 64;
 pub struct Comparison {
     /// One for each description, in their order.
     pub jobs: Vec<Job>,
+    /// The names that the descriptions give their machines, in their order; empty where one gives none.
+    pub names: Vec<Vec<u8>>,
 }
 
 // Whether a text has more separators than there may be descriptions.
@@ -34,6 +38,45 @@ fn has_too_many(text: &[u8]) -> bool
         }
     }
     cut_at_separator(rest).is_some()
+}
+
+// The name that a description with this first line gives its machine.
+#[tactic(auto, unfolding(crate::specs::Comparison::machine_name))]
+fn machine_name(line: &[u8]) -> &[u8]
+    ensures { result.now ≡ machine_name line.entry.now }
+{
+    match line.strip_prefix(b"# name: ".as_slice()) {
+        Some(name) => name,
+        None => b"",
+    }
+}
+
+// The first line of a text that may be missing.
+fn line_of(text: Option<&[u8]>) -> &[u8]
+    ensures { result.now ≡ first_of (lines_left text.entry) }
+{
+    match text {
+        Some(text) => first_line(text).0,
+        None => b"",
+    }
+}
+
+// The names of the machines that a text compares.
+fn read_names(alloc: Global, text: &[u8]) -> Result<Vec<Vec<u8>>, AllocError>
+    ensures { IfOk result (λ names. map (λ name. name.items) names.items ≡ names_of text.now) }
+{
+    let mut names = Vec::new(alloc);
+    let mut first = line_of(Some(text));
+    let mut rest = Some(text);
+    while let Some(unread) = rest {
+        let (line, behind) = first_line(unread);
+        rest = behind;
+        if is_separator(line) {
+            names.push(Vec::from_slice(alloc, machine_name(first))?)?;
+            first = line_of(rest);
+        }
+    }
+    Ok(names)
 }
 
 // The machine that the description with a number describes. Fails by `Described` with its fault, and by `Memory`.
@@ -155,5 +198,8 @@ pub fn read_comparison(alloc: Global, text: &[u8]) -> Result<Comparison, SimErro
     }
     let (descriptions, program) = read_machines(alloc, text)?;
     let jobs = load_each(alloc, program, descriptions.as_slice())?;
-    Ok(Comparison { jobs })
+    let Ok(names) = read_names(alloc, text) else {
+        return Err(SimError::Memory);
+    };
+    Ok(Comparison { jobs, names })
 }

@@ -1,6 +1,6 @@
 ghost use Rattle.std.specs.Prelude.{◌≡◌, ◌≤◌, length, option_map, option_copied};
 ghost use Rattle.std.specs.List.{position_or_len};
-ghost use Rattle.rv_job.specs.Parts.{behind_separator, halves_of, later_halves, parts_of, is_line_feed};
+ghost use Rattle.rv_job.specs.Parts.{behind_separator, halves_of, later_halves, parts_of, is_line_feed, is_separator};
 ghost use Rattle.rv_job.specs.ReadParts.{halves_in, parts_in};
 
 // The line between two parts, without and with a carriage return.
@@ -34,6 +34,13 @@ fn count_before_line_feed(text: &[u8]) -> usize
         }
     }
     text.len()
+}
+
+/// Whether a line stands between two parts.
+pub(crate) fn is_separator(line: &[u8]) -> bool
+    ensures { result ≡ is_separator line.now }
+{
+    line == SEPARATOR || line == SEPARATOR_RETURNED
 }
 
 // What stands after the first line of a text, where that line is a separator.

@@ -24,7 +24,7 @@ pub record RunsTo (arrivals : List Arrival) (limit : ℕ) (old : GuidedHardware)
 -- the names of the columns
 unfoldable pub table_head : List ℕ
 table_head =
-    codes "number\tcycles\tretired\tcpi\tinterrupts\tbusy\tstall_fetch\tstall_serial\tstall_rob\tstall_station\tstall_store\tname\tstop\n"
+    codes "number\tcycles\tretired\tcpi\ttraps\tinterrupts\tbusy\tstall_fetch\tstall_serial\tstall_rob\tstall_station\tstall_store\tname\tstop\n"
 
 -- the number of a run, its counts, and the cycles that dispatched nothing, by the reason
 abbrev pub row_values : ℕ → Totals → List Value
@@ -33,6 +33,7 @@ row_values number totals =
     Count totals.cycles ∷
     Count totals.steps.retired ∷
     Ratio totals.cycles totals.steps.retired ∷
+    Count totals.steps.traps ∷
     Count totals.steps.interrupts ∷
     Count totals.busy ∷
     Count totals.stalls.fetch ∷

@@ -17,7 +17,7 @@ fn write_head<W: Write>(writer: &mut W) -> Result<(), ReportError>
 {
     put(
         writer,
-        b"number\tcycles\tretired\tcpi\tinterrupts\tbusy\tstall_fetch\tstall_serial\tstall_rob\tstall_station\tstall_store\tname\tstop\n",
+        b"number\tcycles\tretired\tcpi\ttraps\tinterrupts\tbusy\tstall_fetch\tstall_serial\tstall_rob\tstall_station\tstall_store\tname\tstop\n",
     )
 }
 
@@ -33,6 +33,7 @@ fn write_counts<W: Write>(writer: &mut W, number: u64, totals: Totals) -> Result
             count: totals.cycles,
             each: totals.steps.retired,
         },
+        Value::Count(totals.steps.traps),
         Value::Count(totals.steps.interrupts),
         Value::Count(totals.busy),
         Value::Count(totals.stalls.fetch),

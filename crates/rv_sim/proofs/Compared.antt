@@ -1,6 +1,7 @@
 -- Jobs that are run one after the other.
-use Rattle.std.proofs.Common.{◌≡◌, ◌∙◌, ℕ, ◌+◌, ◌<◌, List, [], ◌∷◌, ◌++◌, Option, length, take, get_or, sym, ap, subst, arith}
+use Rattle.std.proofs.Common.{◌≡◌, ◌∙◌, ℕ, ◌+◌, ◌<◌, List, [], ◌∷◌, ◌++◌, Option, length, take, get_or, map, sym, ap, subst, arith}
 use Rattle.std.proofs.lemmas.List.{take_all, take_more}
+use Rattle.std.specs.Vec.{Vec}
 use Rattle.rv_isa.specs.declared.lines.Arrival.{Arrival}
 use Rattle.rv_front.specs.declared.predictors.DescribedPredictor.{DescribedPredictor}
 use Rattle.rv_hardware.specs.Guided.{guided}
@@ -29,7 +30,7 @@ pub all_run : (limit : ℕ) (jobs : List Job) (place : ℕ) (runs : List Totals)
 all_run limit jobs place runs is done = subst (λ l. AreRuns limit l runs) (take_all place jobs (omega (arith, is))) done
 
 -- the table of all
-pub table_made : (comparison : Comparison) (limit : ℕ) (jobs : List Job) (runs rows : List Totals) → jobs ≡ comparison.jobs.items → rows ≡ runs → AreRuns limit jobs runs
-    → IsComparisonTable comparison limit (table_of rows)
-table_made comparison limit jobs runs rows jobs_are rows_are done =
-    record { runs = runs; done = subst (λ l. AreRuns limit l runs) jobs_are done; text_is = ap table_of rows_are }
+pub table_made : (comparison : Comparison) (limit : ℕ) (jobs : List Job) (runs rows : List Totals) (names : List (Vec ℕ)) → jobs ≡ comparison.jobs.items → rows ≡ runs → names ≡ comparison.names.items → AreRuns limit jobs runs
+    → IsComparisonTable comparison limit (table_of (map (λ name. name.items) names) rows)
+table_made comparison limit jobs runs rows names jobs_are rows_are names_are done =
+    record { runs = runs; done = subst (λ l. AreRuns limit l runs) jobs_are done; text_is = λ i. table_of (map (λ name. name.items) (names_are i)) (rows_are i) }

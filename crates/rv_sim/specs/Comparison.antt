@@ -1,5 +1,5 @@
 -- What the table of a comparison says.
-use Rattle.std.specs.Prelude.{◌≡◌, ℕ, List, [], ◌∷◌, ◌++◌}
+use Rattle.std.specs.Prelude.{◌≡◌, ℕ, List, [], ◌∷◌, ◌++◌, map}
 use Rattle.rv_job.specs.declared.{comparison.Comparison.Comparison, job.Job.Job}
 use Rattle.rv_report.specs.Comparison.{RunsTo, table_of}
 use Rattle.rv_report.specs.declared.totals.Totals.{Totals}
@@ -15,8 +15,8 @@ pub data AreRuns (limit : ℕ) : List Job → List Totals → Type 0 where
   another : {jobs : List Job} {runs : List Totals} {totals : Totals} (job : Job) → AreRuns limit jobs runs →
       IsRun limit job totals → AreRuns limit (jobs ++ job ∷ []) (runs ++ totals ∷ [])
 
--- a text is the table of runs of a comparison's jobs
+-- a text is the table of runs of a comparison's jobs, with the names of their machines
 pub record IsComparisonTable (comparison : Comparison) (limit : ℕ) (text : List ℕ) : Type 0 where
   pub runs : List Totals
   pub done : AreRuns limit comparison.jobs.items runs
-  pub text_is : text ≡ table_of runs
+  pub text_is : text ≡ table_of (map (λ name. name.items) comparison.names.items) runs

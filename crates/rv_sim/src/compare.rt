@@ -88,7 +88,8 @@ pub fn compare<W: Write>(
     let Ok(runs) = run_each(alloc, jobs, limit) else {
         return Err(SimError::Memory);
     };
+    let names = comparison.names.as_slice();
     let rows = runs.as_slice();
-    write_table(rows, writer)?;
+    write_table(names, rows, writer)?;
     Ok(())
 }

@@ -3,21 +3,24 @@ use crate::tests::helpers::Narrow;
 use rv_job::{SimError, read_comparison};
 use std::test::Fail;
 
-// The same program on machines that differ in their predictors alone, of which it asks nothing.
-const TEXT: &[u8] = b"predictor.kind = \"not_taken\"
+// The same program on machines that differ in their predictors alone, of which it asks nothing. Two have names, one with a tab in it.
+const TEXT: &[u8] = b"# name: not taken
+predictor.kind = \"not_taken\"
 %%
 predictor.kind = \"backward_taken\"
 %%
+# name: two\tbits
 predictor.kind = \"bimodal\"
 %%
 addi x1,x0,5
 ebreak
 ";
 
-const TABLE: &str = "number\tcycles\tretired\tcpi\tbusy\tfetch\tserial\trob\tstation\tstore\tstop
-1\t5\t1\t5.000\t3\t2\t0\t0\t0\t0\tbreakpoint
-2\t5\t1\t5.000\t3\t2\t0\t0\t0\t0\tbreakpoint
-3\t5\t1\t5.000\t3\t2\t0\t0\t0\t0\tbreakpoint
+const TABLE: &str =
+    "number\tcycles\tretired\tcpi\ttraps\tinterrupts\tbusy\tstall_fetch\tstall_serial\tstall_rob\tstall_station\tstall_store\tname\tstop
+1\t5\t1\t5.000\t1\t0\t3\t2\t0\t0\t0\t0\tnot taken\tbreakpoint
+2\t5\t1\t5.000\t1\t0\t3\t2\t0\t0\t0\t0\t-\tbreakpoint
+3\t5\t1\t5.000\t1\t0\t3\t2\t0\t0\t0\t0\ttwo bits\tbreakpoint
 ";
 
 #[test]

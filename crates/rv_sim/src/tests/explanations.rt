@@ -1,5 +1,5 @@
 use crate::tests::checks::check_run;
-use crate::tests::helpers::run_text;
+use crate::tests::helpers::{CORE, run_text};
 use crate::tests::programs::STORE_INTO_CODE;
 use rv_command::Command;
 
@@ -39,6 +39,24 @@ fn a_run_is_explained_with_the_lines_of_its_program(rt: HostRuntime) {
     assert_eq!(rt; ended.status, 0);
     assert!(rt; ended.output.as_slice() == SENTENCES);
     assert!(rt; ended.errors.is_empty());
+}
+
+const REFUSED: &[u8] = b"\
+line 4 of the job, line 2 of its assembly: BadOperands
+    jal x1, 4
+expected: jal symbol, as in 'jal loop'
+expected: jal rd, symbol, as in 'jal x5, loop'
+";
+
+#[test]
+fn a_job_that_is_refused_is_explained_by_its_line(rt: HostRuntime) {
+    let job = b"alu.units = 1\n%%\nnop\njal x1, 4\n";
+    let ended = run_text(rt.alloc(), EXPLAIN, job);
+    assert_eq!(rt; ended.status, 1);
+    assert!(rt; ended.errors.as_slice() == b"error: assembly line 2: BadOperands\n");
+    assert!(rt; ended.output.as_slice() == REFUSED);
+    let run = run_text(rt.alloc(), CORE, job);
+    assert!(rt; run.output.is_empty());
 }
 
 #[test]

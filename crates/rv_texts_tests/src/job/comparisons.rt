@@ -1,4 +1,4 @@
-use crate::checks::check_count;
+use crate::checks::{check_bytes, check_count};
 use crate::job::helpers::check_comparison_fault;
 use rv_job::{Comparison, read_comparison};
 use std::alloc::Global;
@@ -24,6 +24,19 @@ fn a_program_is_assembled_for_each_description(rt: HostRuntime) -> Result<(), Fa
     let text = b"ram_size = 4096\n%%\nram_base = 0\n%%\r\nnop\n_start: ebreak\n";
     let comparison = read_comparison(rt.alloc(), text)?;
     check_sizes(&rt, &comparison, &[(4096, 0x8000_0004), (65536, 4)]);
+    Ok(())
+}
+
+#[test]
+fn a_comment_on_the_first_line_names_a_machine(rt: HostRuntime) -> Result<(), Fail> {
+    let text =
+        b"# name: one \nrob = 4\n%%\nrob = 8\n# name: late\n%%\n%%\n# name: four\n%%\n# name: none\nnop\n";
+    let comparison = read_comparison(rt.alloc(), text)?;
+    let names: [&[u8]; 4] = [b"one ", b"", b"", b"four"];
+    assert_eq!(rt; comparison.names.len(), names.len());
+    for (found, name) in comparison.names.iter().zip(&names) {
+        check_bytes(&rt, found.as_slice(), name);
+    }
     Ok(())
 }
 

@@ -13,8 +13,8 @@ fn a_table_has_a_line_for_each_run(rt: HostRuntime) -> Result<(), Fail> {
         cycles: 17,
         steps: StepCounts {
             retired: 3,
-            traps: 0,
-            interrupts: 0,
+            traps: 7,
+            interrupts: 6,
         },
         longest_gap: 4,
         busy: 2,
@@ -32,10 +32,12 @@ fn a_table_has_a_line_for_each_run(rt: HostRuntime) -> Result<(), Fail> {
         ..stale
     };
     let mut table = Vec::new(rt.alloc());
-    write_table(&[stale, none], &mut table)?;
-    let lines = "number\tcycles\tretired\tcpi\tbusy\tfetch\tserial\trob\tstation\tstore\tstop
-1\t17\t3\t5.666\t2\t1\t2\t3\t4\t5\tstale 80000014
-2\t17\t0\t-\t2\t1\t2\t3\t4\t5\tlimit
+    let names = [Vec::from_slice(rt.alloc(), b"a\tb")?];
+    write_table(&names, &[stale, none], &mut table)?;
+    let lines =
+        "number\tcycles\tretired\tcpi\ttraps\tinterrupts\tbusy\tstall_fetch\tstall_serial\tstall_rob\tstall_station\tstall_store\tname\tstop
+1\t17\t3\t5.666\t7\t6\t2\t1\t2\t3\t4\t5\ta b\tstale 80000014
+2\t17\t0\t-\t0\t0\t2\t1\t2\t3\t4\t5\t-\tlimit
 ";
     assert_eq!(rt; table.as_slice(), lines.as_bytes());
     Ok(())

@@ -1,6 +1,6 @@
 use Rattle.std.proofs.Common.{subst, arith, ◌∙◌, sym}
 use Rattle.std.proofs.lemmas.Bool.{ltb-false, ltb-true}
-use Rattle.rv_job.specs.Comparison.{AreLoaded, RefusesComparison, RefusesLoading, most_machines, separator_count}
+use Rattle.rv_job.specs.Comparison.{AreLoaded, RefusesComparison, RefusesDescriptions, RefusesLoading, most_machines, separator_count}
 use Rattle.rv_job.proofs.SeparatorCount.{jobs_few}
 use Rattle.rv_job.proofs.HandedOn.{refused_on}
 use Rattle.rv_job.proofs.comparison.read_comparison.Goals as goal
@@ -31,3 +31,8 @@ returns-clause-few c =
     jobs_few c.in_ok-descriptions.ensures.machines
     (subst (λ machines. AreLoaded c.in_ok-descriptions.program.now machines c.in_ok-jobs.jobs.items) c.as_slice.ensures.value c.in_ok-jobs.ensures.jobs)
     (ltb-false most_machines (separator_count c.args.text.now) (sym c.has_too_many.ensures ∙ c.if-has_too_many.false))
+
+pub returns-in_default-clause-refused : goal.returns-in_default-clause-refused
+returns-in_default-clause-refused c =
+    RefusesComparison.descriptions (omega (arith, c.if-text-gt-MOST_BYTES.false))
+    (ltb-false most_machines (separator_count c.args.text.now) (sym c.has_too_many.ensures ∙ c.if-has_too_many.false)) RefusesDescriptions.memory
