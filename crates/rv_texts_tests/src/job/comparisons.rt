@@ -35,7 +35,7 @@ fn a_comment_on_the_first_line_names_a_machine(rt: HostRuntime) -> Result<(), Fa
     let names: [&[u8]; 4] = [b"one ", b"", b"", b"four"];
     assert_eq!(rt; comparison.names.len(), names.len());
     for (found, name) in comparison.names.iter().zip(&names) {
-        check_bytes(&rt, found.as_slice(), name);
+        check_bytes(&rt, found.as_slice(), *name);
     }
     Ok(())
 }
