@@ -32,7 +32,11 @@ fn told(rt: &impl Abort, alloc: Global, form: Form) -> Vec<u8> {
     output
 }
 
+// Whether a text has a part, which is not empty.
 fn has_part(text: &[u8], part: &[u8]) -> bool {
+    if part.is_empty() {
+        return false;
+    }
     text.windows(part.len()).any(|each| each == part)
 }
 
