@@ -18,5 +18,6 @@ returns g c =
     let same : c.as_slice.result.now ≡ c.in-Ok.input.items = search rules in
     let silent = c.in-Ok.ensures.nothing_told in
     let refused = rw (same, silent) at c.in-Err-begin.ensures.refused in
-    let handed = rw same at c.hand_back-output.ensures in
+    let again : c.as_slice-in-Err-begin.result.now ≡ c.in-Ok.input.items = search rules in
+    let handed = rw again at c.hand_back-output.ensures in
     inr (c.in-Ok.input.items, c.in-Ok.ensures.input, inl (c.in-Err-begin.refused.error, refused.0, refused.1, refused.2, handed))
