@@ -5,10 +5,10 @@ use Rattle.std.proofs.lemmas.List.{length-map, length-take-le, take-append-le, t
 use Rattle.std.proofs.lemmas.List.Elements.{All-take, filter-append}
 use Rattle.std.proofs.lemmas.List.Sums.{count_by-le-length, length-filter}
 use Rattle.std.proofs.str.Laws.{order}
-use Rattle.std.specs.List.{All, filter, list_any}
+use Rattle.std.specs.List.{filter, list_any}
 use Rattle.rv_isa.specs.Cause.{code_of}
-use Rattle.rv_explain.specs.Kinds.{IsCountable, Kept, belongs, is_alike, kept_of, kept_with, kind_with, kinds_after, kinds_with}
-use Rattle.rv_explain.specs.Series.{continued, series_from, series_of, series_with}
+use Rattle.rv_explain.specs.Kinds.{IsCountable, belongs, is_alike, kept_of, kept_with, kind_with, kinds_after, kinds_with}
+use Rattle.rv_explain.specs.Series.{continued, series_from}
 use Rattle.rv_explain.specs.declared.exception.Exception.{Exception}
 use Rattle.rv_explain.specs.declared.series.Series.{Series}
 use Rattle.rv_explain.proofs.SeriesGrows.{series_counted, series_from-push, series_of-push}

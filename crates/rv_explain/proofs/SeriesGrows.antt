@@ -1,5 +1,5 @@
 -- A series with one event more.
-use Rattle.std.proofs.Common.{◌≡◌, ◌∙◌, ℕ, ◌+◌, ◌≤◌, ◌<◌, ◌^◌, List, [], ◌∷◌, ◌++◌, length, Some, refl, ap, arith, length-append}
+use Rattle.std.proofs.Common.{◌≡◌, ◌+◌, ◌<◌, ◌^◌, List, [], ◌∷◌, ◌++◌, length, Some, refl, ap, arith, length-append}
 use Rattle.std.specs.Prelude.{IfSome}
 use Rattle.rv_explain.specs.Series.{continued, last_of, series_from, series_of, series_with}
 use Rattle.rv_explain.specs.declared.series.Series.{Series}

@@ -1,5 +1,5 @@
 -- Events of one kind: how many there were, the first and the last.
-use Rattle.std.specs.Prelude.{ℕ, ◌+◌, List, [], ◌∷◌, length, Option, Some, None}
+use Rattle.std.specs.Prelude.{◌+◌, List, [], ◌∷◌, length, Option, Some, None}
 use Rattle.rv_explain.specs.declared.series.Series.{Series}
 
 -- the last of an event and of those after it

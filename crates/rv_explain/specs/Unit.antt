@@ -7,7 +7,7 @@ use Rattle.rv_isa.specs.PerKind.{by_kind}
 use Rattle.rv_isa.specs.declared.{instructions.Instr.Instr, per_kind.PerKind.PerKind}
 use Rattle.rv_hardware.specs.declared.step.{Execution.Execution, Row.Row, Step.Step}
 use Rattle.rv_hardware.specs.declared.step.Step.TheVariants.{Retired, Trap, Interrupt}
-use Rattle.rv_explain.specs.Wait.{both_waits, bus_waits, if_kind}
+use Rattle.rv_explain.specs.Wait.{both_waits, if_kind}
 
 -- the greater of two cycles
 abbrev pub later : ℕ → ℕ → ℕ

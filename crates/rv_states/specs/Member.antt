@@ -1,5 +1,5 @@
 -- The members of an object after its first one.
-use Rattle.std.specs.Prelude.{ℕ, List, decimal, Option, Some, None}
+use Rattle.std.specs.Prelude.{ℕ, List, decimal}
 use Rattle.rv_states.specs.Json.{also, also_some, quoted, truth}
 use Rattle.rv_states.specs.declared.json.{Member.Member, Value.Value}
 use Rattle.rv_states.specs.declared.json.Value.TheVariants.{Number, Truth, Name, Maybe}

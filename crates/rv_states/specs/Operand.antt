@@ -3,7 +3,7 @@ use Rattle.std.specs.Prelude.{ℕ, List, [], ◌++◌, codes, decimal, slice_ind
 use Rattle.rv_isa.specs.Operands.{sources_of}
 use Rattle.rv_isa.specs.declared.instructions.Instr.{Instr}
 use Rattle.rv_core.specs.Ties.{RegisterStatus}
-use Rattle.rv_rob.specs.declared.entry.{Entry.Entry, Stage.Stage}
+use Rattle.rv_rob.specs.declared.entry.{Stage.Stage}
 use Rattle.rv_rob.specs.declared.entry.Stage.TheVariants.{Waiting, Running, Finished}
 use Rattle.rv_stations.specs.declared.waiting.Operand.{Operand}
 use Rattle.rv_stations.specs.declared.waiting.Operand.TheVariants.{Value, Tag}

@@ -1,5 +1,5 @@
 use Rattle.rv_explain.specs.Interrupt.{moment_text}
-use Rattle.rv_text.proofs.Writing.{handed_on, written_behind, beginning-longer, beginning-both}
+use Rattle.rv_text.proofs.Writing.{handed_on, written_behind, beginning-longer}
 use Rattle.rv_explain.proofs.interrupt_lines.write_moment.Goals as goal
 
 pub returns-in_err-write_before : goal.returns-in_err-write_before

@@ -1,5 +1,5 @@
 use Rattle.rv_explain.specs.Exception.{exceptions_text}
-use Rattle.rv_text.proofs.Writing.{handed_on, written_behind, beginning-longer, beginning-both}
+use Rattle.rv_text.proofs.Writing.{handed_on, written_behind, beginning-longer}
 use Rattle.rv_explain.proofs.kind_lines.write_all.Goals as goal
 
 pub returns-in_err-write_taken : goal.returns-in_err-write_taken

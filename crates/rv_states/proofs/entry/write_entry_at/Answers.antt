@@ -1,4 +1,4 @@
-use Rattle.std.proofs.Common.{◌∙◌, ap, take, arith}
+use Rattle.std.proofs.Common.{◌∙◌, ap, take}
 use Rattle.rv_core.specs.Ties.{status_behind, values_in}
 use Rattle.rv_states.specs.Entry.{entry_json}
 use Rattle.rv_states.proofs.Operands.{entry_at}
