@@ -53,7 +53,7 @@ fn a_job_that_is_refused_is_explained_by_its_line(rt: HostRuntime) {
     let job = b"alu.units = 1\n%%\nnop\njal x1, 4\n";
     let ended = run_text(rt.alloc(), EXPLAIN, job);
     assert_eq!(rt; ended.status, 1);
-    assert!(rt; ended.errors.as_slice() == b"error: assembly line 2: BadOperands\n");
+    assert!(rt; ended.errors.as_slice() == b"error: assembly line 2: BadOperands\n".as_slice());
     assert!(rt; ended.output.as_slice() == REFUSED);
     let run = run_text(rt.alloc(), CORE, job);
     assert!(rt; run.output.is_empty());
