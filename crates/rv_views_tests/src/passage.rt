@@ -1,14 +1,21 @@
 use crate::machine::{described, pipeline};
+use rv_core::Pipeline;
 use rv_isa::Values;
 use rv_passage::Table;
+use std::alloc::{AllocError, Global};
+
+// A table that begins with what is in flight in a pipeline.
+fn begun(alloc: Global, pipeline: &Pipeline) -> Result<Table, AllocError> {
+    // Of hardware that a reset and cycles lead to, the buffers are as long as described.
+    let _ = pipeline.cycles_done();
+    Table::begin(alloc, pipeline.reorder_buffer(), pipeline.front())
+}
 
 // What becomes of instructions in a run is tested by the pictures and logs that stand on tables.
 #[test]
 fn nothing_is_in_flight_at_reset(rt: HostRuntime) {
     let pipeline = pipeline(&rt, rt.alloc(), &described(&rt, Values::standard()), &[]);
-    let mut table = Table::begin(rt.alloc(), pipeline.reorder_buffer(), pipeline.front()).expect(
-        &rt, "memory",
-    );
+    let mut table = begun(rt.alloc(), &pipeline).expect(&rt, "memory");
     assert!(&rt; table.make_room().is_ok());
     assert!(&rt; table.rows().is_empty());
     assert!(&rt; table.interrupts().is_empty());
