@@ -12,7 +12,7 @@ abbrev pub first_name : List Token → Option (List ℕ)
 first_name (token.Name name ∷ rest) = Some name
 first_name _ = None
 
--- the name that the statement of a line begins with, behind the line's labels
+-- the name that the statement of a line begins with, after the line's labels
 abbrev pub name_on : List ℕ → Option (List ℕ)
 name_on line = option_and_then (λ tokens. first_name (body_of tokens)) (tokens_of line)
 

@@ -29,7 +29,7 @@ fn first_name<'a>(tokens: &[Token<'a>]) -> Option<&'a [u8]>
     }
 }
 
-/// The name that the statement of a line begins with, behind the line's labels, if it begins with one.
+/// The name that the statement of a line begins with, after the line's labels, if it begins with one.
 pub(crate) fn name_on(alloc: Global, line: &[u8]) -> Result<Option<&[u8]>, AllocError>
     ensures { IfOk result (λ name. option_copied name ≡ name_on line.entry.now) }
 {
