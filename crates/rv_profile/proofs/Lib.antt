@@ -1,6 +1,1 @@
-mod CountsMore
-mod Places
-mod Changes
-mod Profiles
-mod Rooms
 mod Profiling

@@ -22,19 +22,19 @@ use Rattle.rv_passage.specs.Passage.{in_flight, is_in_flight, retired_by, trappe
 use Rattle.rv_passage.specs.Table.{CanCount, Passages, after_cycle, numbered_from, passages_of, still_open, table_at, with_oldest, with_step, with_steps}
 use Rattle.rv_passage.specs.declared.passage.Passage.{Passage}
 use Rattle.rv_passage.specs.declared.table.Table.{Table}
-use Rattle.rv_profile.specs.Counts.{IsWithin}
-use Rattle.rv_profile.specs.Following.{CanCountMore, HasRoom, Profiled, with_cycle, with_head, with_passages}
-use Rattle.rv_profile.specs.Head.{head_of, heads_of}
+use Rattle.rv_counts.specs.Counts.{IsWithin}
+use Rattle.rv_counts.specs.Following.{CanCountMore, HasRoom, Profiled, with_cycle, with_head, with_passages}
+use Rattle.rv_counts.specs.Head.{head_of, heads_of}
 use Rattle.rv_profile.specs.Keeping.{IsProfiling, IsRoomy}
-use Rattle.rv_profile.specs.Leaves.{Leaves, begun, passed}
-use Rattle.rv_profile.specs.Load.{costs_of}
-use Rattle.rv_profile.specs.Passing.{has_left}
-use Rattle.rv_profile.specs.Profile.{IsProfileOf}
+use Rattle.rv_counts.specs.Leaves.{Leaves, begun, passed}
+use Rattle.rv_counts.specs.Load.{costs_of}
+use Rattle.rv_counts.specs.Passing.{has_left}
+use Rattle.rv_counts.specs.Profile.{IsProfileOf}
 use Rattle.rv_profile.specs.Run.{IsCounted}
-use Rattle.rv_profile.specs.declared.{counts.WordCounts.WordCounts, loads.LoadCosts.LoadCosts}
-use Rattle.rv_profile.proofs.Changes.{each-by}
-use Rattle.rv_profile.proofs.Profiles.{profile-head, profile-nothing, profile-passages}
-use Rattle.rv_profile.proofs.Rooms.{filter-le, within-head, within-more, within-passages}
+use Rattle.rv_counts.specs.declared.{counts.WordCounts.WordCounts, loads.LoadCosts.LoadCosts}
+use Rattle.rv_counts.proofs.Changes.{each-by}
+use Rattle.rv_counts.proofs.Profiles.{profile-head, profile-nothing, profile-passages}
+use Rattle.rv_counts.proofs.Rooms.{filter-le, within-head, within-more, within-passages}
 
 -- the heads of one cycle more
 heads_of-push : (moments : List Moment) (last : Moment) → heads_of (moments ++ last ∷ []) ≡ option_to_list (head_of last.after) ++ heads_of moments

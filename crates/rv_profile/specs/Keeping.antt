@@ -5,12 +5,12 @@ use Rattle.rv_core.specs.Watching.{Watched}
 use Rattle.rv_hardware.specs.History.{reports_of}
 use Rattle.rv_passage.specs.Table.{HasRoom as TableHasRoom, passages_of}
 use Rattle.rv_passage.specs.declared.{passage.Passage.Passage, table.Table.Table}
-use Rattle.rv_profile.specs.Counts.{IsWithin}
-use Rattle.rv_profile.specs.Following.{Profiled}
-use Rattle.rv_profile.specs.Head.{heads_of}
-use Rattle.rv_profile.specs.Leaves.{Leaves}
-use Rattle.rv_profile.specs.Profile.{IsProfileOf}
-use Rattle.rv_profile.specs.declared.loads.LoadCosts.{LoadCosts}
+use Rattle.rv_counts.specs.Counts.{IsWithin}
+use Rattle.rv_counts.specs.Following.{Profiled}
+use Rattle.rv_counts.specs.Head.{heads_of}
+use Rattle.rv_counts.specs.Leaves.{Leaves}
+use Rattle.rv_counts.specs.Profile.{IsProfileOf}
+use Rattle.rv_counts.specs.declared.loads.LoadCosts.{LoadCosts}
 
 -- a table that keeps room for a cycle, since it forgets what left the hardware
 pub record IsRoomy (table : Table) : Type 0 where

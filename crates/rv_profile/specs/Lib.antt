@@ -1,12 +1,3 @@
-pub mod Wait
-pub mod Passing
-pub mod Load
-pub mod Counts
-pub mod Order
-pub mod Profile
-pub mod Following
 pub mod Text
-pub mod Head
-pub mod Leaves
 pub mod Keeping
 pub mod Run

@@ -8,12 +8,12 @@ use Rattle.rv_hardware.specs.Run.{IsStop}
 use Rattle.rv_passage.specs.Table.{Passages}
 use Rattle.rv_passage.specs.declared.passage.Passage.{Passage}
 use Rattle.rv_source.specs.Listing.{Listed}
-use Rattle.rv_profile.specs.Head.{heads_of}
-use Rattle.rv_profile.specs.Leaves.{Leaves}
-use Rattle.rv_profile.specs.Load.{costs_of}
-use Rattle.rv_profile.specs.Profile.{IsProfileOf}
+use Rattle.rv_counts.specs.Head.{heads_of}
+use Rattle.rv_counts.specs.Leaves.{Leaves}
+use Rattle.rv_counts.specs.Load.{costs_of}
+use Rattle.rv_counts.specs.Profile.{IsProfileOf}
 use Rattle.rv_profile.specs.Text.{table_text}
-use Rattle.rv_profile.specs.declared.counts.WordCounts.{WordCounts}
+use Rattle.rv_counts.specs.declared.counts.WordCounts.{WordCounts}
 
 -- counts are those of a run that ended for a reason: of the instructions that left the hardware in it, and of those in flight
 -- at its end

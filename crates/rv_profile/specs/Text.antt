@@ -6,8 +6,8 @@ use Rattle.rv_text.specs.Line.{ratio_text, word_text}
 use Rattle.rv_text.specs.Plain.{plain_text}
 use Rattle.rv_text.specs.ReadField.{cell_text}
 use Rattle.rv_text.specs.declared.fields.Value.TheVariants.{Count}
-use Rattle.rv_profile.specs.Wait.{Waited}
-use Rattle.rv_profile.specs.declared.counts.WordCounts.{WordCounts}
+use Rattle.rv_counts.specs.Wait.{Waited}
+use Rattle.rv_counts.specs.declared.counts.WordCounts.{WordCounts}
 
 -- the names of the columns
 unfoldable pub table_head : List ℕ

@@ -1,12 +1,12 @@
 ghost use Rattle.std.specs.Prelude.{◌≡◌, ◌≤◌, length, vec_capacity, IfOk};
 ghost use Rattle.rv_hardware.specs.Guided.{guided};
 ghost use Rattle.rv_passage.specs.Table.{HasRoom, passages_of, table_at};
-ghost use Rattle.rv_profile.specs.Head.{head_of};
+ghost use Rattle.rv_counts.specs.Head.{head_of};
 ghost use Rattle.rv_profile.specs.Run.{IsCounted};
 
-use crate::profile::Profile;
 use rv_arch::Stop;
 use rv_core::{Pipeline, Progress, Watcher, watch};
+use rv_counts::Profile;
 use rv_front::Predictor;
 use rv_hardware::Step;
 use rv_isa::{Arrivals, Description};

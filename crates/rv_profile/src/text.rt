@@ -6,9 +6,8 @@ ghost use Rattle.rv_text.specs.Line.{word_text};
 ghost use Rattle.rv_text.specs.Plain.{plain_text};
 ghost use Rattle.rv_text.specs.Written.{IsWritten};
 
-use crate::counts::WordCounts;
-use crate::wait::Wait;
 use itoa::Buffer;
+use rv_counts::{Wait, WordCounts};
 use rv_source::Listing;
 use rv_text::{
     ReportError, Value, hexadecimal, put, put_all, three_digits, write_cells, write_plain,

@@ -2,7 +2,7 @@ use Rattle.std.proofs.Common.{◌∙◌, ◌+◌, List, length, sym, subst, arit
 use Rattle.rv_passage.specs.Table.{after_steps, passages_of}
 use Rattle.rv_passage.specs.declared.passage.Passage.{Passage}
 use Rattle.rv_passage.proofs.InFlight.{short_buffers}
-use Rattle.rv_profile.specs.Following.{HasRoom}
+use Rattle.rv_counts.specs.Following.{HasRoom}
 use Rattle.rv_profile.proofs.Profiling.{can_count, profiling_on, roomy_again, room_now}
 use Rattle.rv_profile.proofs.running.ProfilerWatcher.see.Goals as goal
 

@@ -1,0 +1,5 @@
+mod CountsMore
+mod Places
+pub mod Changes
+pub mod Profiles
+pub mod Rooms

@@ -1,0 +1,194 @@
+-- Room for more counts.
+use Rattle.std.proofs.Common.{◌≡◌, ℕ, zero, suc, ◌+◌, ◌-◌, ◌^◌, ◌≤◌, Bool, true, false, List, [], ◌∷◌, length, take, filter, Option, Some, None, arith, ap, sym, subst}
+use Rattle.std.proofs.lemmas.List.Sums.{count_by-le-length, length-filter}
+use Rattle.rv_cache.specs.WriteBack.{Each}
+use Rattle.rv_passage.specs.Prediction.{is_mispredicted}
+use Rattle.rv_passage.specs.declared.passage.{Ending.Ending, Passage.Passage}
+use Rattle.rv_passage.specs.declared.passage.Ending.TheVariants as ending
+use Rattle.rv_counts.specs.Counts.{CanCount, IsWithin, added, nothing_at, once_more_at_head, one_more, with_ended}
+use Rattle.rv_counts.specs.Following.{CanCountMore, HasRoom, Profiled, with_head, with_passages}
+use Rattle.rv_counts.specs.Order.{with_change}
+use Rattle.rv_counts.specs.Load.{is_hit, is_miss, load_cost}
+use Rattle.rv_counts.specs.Passing.{broadcast_wait, dispatch_wait, issue_wait, retirement_wait}
+use Rattle.rv_counts.specs.Wait.{Waited, with_wait}
+use Rattle.rv_counts.specs.declared.{counts.WordCounts.WordCounts, loads.LoadCosts.LoadCosts}
+use Rattle.rv_counts.proofs.Changes.{by_place, each-by, each-change, length-change}
+
+waits-within : (wait : Option ℕ) (w : Waited) → (with_wait wait w).count ≤ w.count + 1
+waits-within None w = omega arith
+waits-within (Some cycles) w = omega arith
+
+one_more-within : (is : Bool) (count : ℕ) → one_more is count ≤ count + 1
+one_more-within true count = omega arith
+one_more-within false count = omega arith
+
+module _ (most : ℕ) where
+  pub nothing-within : (address : ℕ) → IsWithin most (nothing_at address)
+  nothing-within address = record {
+    fetched = omega arith;
+    retired = omega arith;
+    squashed = omega arith;
+    dispatch = omega arith;
+    issue = omega arith;
+    broadcast = omega arith;
+    retirement = omega arith;
+    hits = omega arith;
+    misses = omega arith;
+    mispredicted = omega arith;
+    head_cycles = omega arith;
+  }
+
+  -- what is within a bound is within a greater one
+  pub within-more : (more : ℕ) (w : WordCounts) → most ≤ more → IsWithin most w → IsWithin more w
+  within-more more w over is = record {
+    fetched = omega (arith, over, is.fetched);
+    retired = omega (arith, over, is.retired);
+    squashed = omega (arith, over, is.squashed);
+    dispatch = omega (arith, over, is.dispatch);
+    issue = omega (arith, over, is.issue);
+    broadcast = omega (arith, over, is.broadcast);
+    retirement = omega (arith, over, is.retirement);
+    hits = omega (arith, over, is.hits);
+    misses = omega (arith, over, is.misses);
+    mispredicted = omega (arith, over, is.mispredicted);
+    head_cycles = omega (arith, over, is.head_cycles);
+  }
+
+  fetched-within : (w : WordCounts) → IsWithin most w → IsWithin (most + 1) (record w { fetched = w.fetched + 1 })
+  fetched-within w is = record {
+    fetched = omega (arith, is.fetched);
+    retired = omega (arith, is.retired);
+    squashed = omega (arith, is.squashed);
+    dispatch = omega (arith, is.dispatch);
+    issue = omega (arith, is.issue);
+    broadcast = omega (arith, is.broadcast);
+    retirement = omega (arith, is.retirement);
+    hits = omega (arith, is.hits);
+    misses = omega (arith, is.misses);
+    mispredicted = omega (arith, is.mispredicted);
+    head_cycles = omega (arith, is.head_cycles);
+  }
+
+  ended-within : (e : Ending) (costs : LoadCosts) (p : Passage) (w : WordCounts) → IsWithin most w → IsWithin (most + 1) (with_ended e costs p (record w { fetched = w.fetched + 1 }))
+  ended-within (ending.Retired order cycle written next) costs p w is = record {
+    fetched = omega (arith, is.fetched);
+    retired = omega (arith, is.retired);
+    squashed = omega (arith, is.squashed);
+    dispatch = omega (arith, is.dispatch, waits-within (dispatch_wait p) w.dispatch);
+    issue = omega (arith, is.issue, waits-within (issue_wait p) w.issue);
+    broadcast = omega (arith, is.broadcast, waits-within (broadcast_wait p) w.broadcast);
+    retirement = omega (arith, is.retirement, waits-within (retirement_wait p) w.retirement);
+    hits = omega (arith, is.hits, one_more-within (is_hit costs (load_cost p)) w.hits);
+    misses = omega (arith, is.misses, one_more-within (is_miss costs (load_cost p)) w.misses);
+    mispredicted = omega (arith, is.mispredicted, one_more-within (is_mispredicted p) w.mispredicted);
+    head_cycles = omega (arith, is.head_cycles);
+  }
+  ended-within (ending.Squashed cycle) costs p w is = record {
+    fetched = omega (arith, is.fetched);
+    retired = omega (arith, is.retired);
+    squashed = omega (arith, is.squashed);
+    dispatch = omega (arith, is.dispatch);
+    issue = omega (arith, is.issue);
+    broadcast = omega (arith, is.broadcast);
+    retirement = omega (arith, is.retirement);
+    hits = omega (arith, is.hits);
+    misses = omega (arith, is.misses);
+    mispredicted = omega (arith, is.mispredicted);
+    head_cycles = omega (arith, is.head_cycles);
+  }
+  ended-within (ending.Trapped cycle cause) costs p w is = fetched-within w is
+  ended-within ending.InFlight costs p w is = fetched-within w is
+
+  head-within : (w : WordCounts) → IsWithin most w → IsWithin (most + 1) (once_more_at_head w)
+  head-within w is = record {
+    fetched = omega (arith, is.fetched);
+    retired = omega (arith, is.retired);
+    squashed = omega (arith, is.squashed);
+    dispatch = omega (arith, is.dispatch);
+    issue = omega (arith, is.issue);
+    broadcast = omega (arith, is.broadcast);
+    retirement = omega (arith, is.retirement);
+    hits = omega (arith, is.hits);
+    misses = omega (arith, is.misses);
+    mispredicted = omega (arith, is.mispredicted);
+    head_cycles = omega (arith, is.head_cycles);
+  }
+
+  -- a change by which no count grows by more than one
+  change-within : (address : ℕ) (change : WordCounts → WordCounts) → ((w : WordCounts) → IsWithin most w → IsWithin (most + 1) (change w)) → (words : List WordCounts) → Each (IsWithin most) words
+      → Each (IsWithin (most + 1)) (with_change address change words)
+  change-within address change grows [] each = (grows _ (nothing-within address), tt)
+  change-within address change grows (w ∷ ws) each =
+      let same : Each (IsWithin (most + 1)) (w ∷ ws) = each-by (w ∷ ws) (λ v is. within-more (most + 1) v (omega arith) is) each in
+      by_place address change (λ words. Each (IsWithin (most + 1)) words) w ws
+      (λ here. (grows w each.0, same.1)) (λ above. (grows _ (nothing-within address), same)) (λ below. (same.0, change-within address change grows ws each.1))
+
+pub added-grows : (costs : LoadCosts) (p : Passage) (most : ℕ) (w : WordCounts) → IsWithin most w → IsWithin (most + 1) (added costs p w)
+added-grows costs p most w is = ended-within most p.ending costs p w is
+
+pub head-grows : (most : ℕ) (w : WordCounts) → IsWithin most w → IsWithin (most + 1) (once_more_at_head w)
+head-grows most w is = head-within most w is
+
+-- what can count some more can count fewer more
+pub can_count-fewer : (words : List WordCounts) (more fewer : ℕ) → fewer ≤ more → CanCountMore words more → CanCountMore words fewer
+can_count-fewer words more fewer under can = record { most = can.most; counts = can.counts; countable = omega (arith, can.countable, under) }
+
+-- any of them can count one more
+pub can_count-each : (words : List WordCounts) → CanCountMore words 1 → Each CanCount words
+can_count-each words can = each-by words (λ w is. within-more can.most (2 ^ 50 - 2) w (omega (arith, can.countable)) is) can.counts
+
+-- so can those among which there are some of an address then
+pub can_count-begun : (address : ℕ) (old new : List WordCounts) → new ≡ with_change address (λ w. w) old → CanCountMore old 1 → Each CanCount new
+can_count-begun address old new begun can =
+    subst (λ (words : List WordCounts). Each CanCount words) (sym begun) (each-change address (λ w. w) CanCount (λ w is. is) (nothing-within (2 ^ 50 - 2) address) old (can_count-each old can))
+
+-- one cycle at the head more, and some passages more
+pub within-head : (head : Option ℕ) (most : ℕ) (words : List WordCounts) → Each (IsWithin most) words → Each (IsWithin (most + 1)) (with_head head words)
+within-head None most words each = each-by words (λ w is. within-more most (most + 1) w (omega arith) is) each
+within-head (Some head) most words each = change-within most head once_more_at_head (head-grows most) words each
+
+pub within-passages : (costs : LoadCosts) (ps : List Passage) (most : ℕ) (words : List WordCounts) → Each (IsWithin most) words → Each (IsWithin (most + length ps)) (with_passages costs ps words)
+within-passages costs [] most words each = each-by words (λ w is. within-more most (most + 0) w (omega arith) is) each
+within-passages costs (p ∷ ps) most words each =
+    let now = change-within (most + length ps) p.pc (added costs p) (added-grows costs p (most + length ps)) (with_passages costs ps words) (within-passages costs ps most words each) in
+    each-by (with_passages costs (p ∷ ps) words) (λ w is. within-more (most + length ps + 1) (most + length (p ∷ ps)) w (omega arith) is) now
+
+can_count-head : (head : Option ℕ) (words : List WordCounts) (more : ℕ) → CanCountMore words (more + 1) → CanCountMore (with_head head words) more
+can_count-head head words more can = record { most = can.most + 1; counts = within-head head can.most words can.counts; countable = omega (arith, can.countable) }
+
+can_count-passages : (costs : LoadCosts) (ps : List Passage) (words : List WordCounts) (more : ℕ) → CanCountMore words (length ps + more) → CanCountMore (with_passages costs ps words) more
+can_count-passages costs ps words more can =
+    record { most = can.most + length ps; counts = within-passages costs ps can.most words can.counts; countable = omega (arith, can.countable) }
+
+pub length-head : (head : Option ℕ) (words : List WordCounts) → length (with_head head words) ≤ length words + 1
+length-head None words = omega arith
+length-head (Some head) words = length-change head once_more_at_head words
+
+pub length-passages : (costs : LoadCosts) (ps : List Passage) (words : List WordCounts) → length (with_passages costs ps words) ≤ length words + length ps
+length-passages costs [] words = omega arith
+length-passages costs (p ∷ ps) words =
+    omega (arith, length-passages costs ps words, length-change p.pc (added costs p) (with_passages costs ps words))
+
+pub take-shorter : {X : Type 0} (n : ℕ) (xs : List X) → length (take n xs) ≤ length xs
+take-shorter zero xs = omega arith
+take-shorter (suc n) [] = omega arith
+take-shorter (suc n) (x ∷ xs) = omega (arith, take-shorter n xs)
+
+pub filter-le : (test : Passage → Bool) (ps : List Passage) → length (filter test ps) ≤ length ps
+filter-le test ps = omega (arith, length-filter test ps, count_by-le-length test ps)
+
+-- room after a cycle's head, and after some passages
+pub room-head : (head : Option ℕ) (old new : Profiled) (more : ℕ) → HasRoom old (more + 1) → new.words ≡ with_head head old.words → old.capacity ≤ new.capacity → HasRoom new more
+room-head head old new more room words capacity = record {
+  capacity = omega (arith, room.capacity, ap length words, length-head head old.words, capacity);
+  counts = subst (λ ws. CanCountMore ws more) (sym words) (can_count-head head old.words more room.counts);
+}
+
+pub room-passages : (costs : LoadCosts) (ps : List Passage) (old new : Profiled) (more : ℕ) → HasRoom old (length ps + more) → new.words ≡ with_passages costs ps old.words → old.capacity ≤ new.capacity → HasRoom new more
+room-passages costs ps old new more room words capacity = record {
+  capacity = omega (arith, room.capacity, ap length words, length-passages costs ps old.words, capacity);
+  counts = subst (λ ws. CanCountMore ws more) (sym words) (can_count-passages costs ps old.words more room.counts);
+}
+
+pub room-fewer : (profile : Profiled) (more fewer : ℕ) → fewer ≤ more → HasRoom profile more → HasRoom profile fewer
+room-fewer profile more fewer under room = record { capacity = omega (arith, room.capacity, under); counts = can_count-fewer profile.words more fewer under room.counts }

@@ -1,0 +1,9 @@
+pub mod Wait
+pub mod Passing
+pub mod Load
+pub mod Counts
+pub mod Order
+pub mod Profile
+pub mod Following
+pub mod Head
+pub mod Leaves

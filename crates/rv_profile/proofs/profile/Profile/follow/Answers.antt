@@ -1,6 +1,0 @@
-use Rattle.rv_profile.proofs.Rooms.{room-head}
-use Rattle.rv_profile.proofs.profile.Profile.follow.Goals as goal
-
-pub add_left-requires : goal.add_left-requires
-add_left-requires c =
-    record { room = room-head c.args.head c.args.self.now c.note_head.new.self _ c.requires.room c.note_head.ensures.words c.note_head.ensures.capacity }
