@@ -22,7 +22,7 @@ one_more-cond : (is : Bool) (count : ℕ) → cond is 1 0 + count ≡ one_more i
 one_more-cond true count = omega arith
 one_more-cond false count = omega arith
 
-count_by-cons : (test : Passage → Bool) (p : Passage) (ps : List Passage) → count_by test (p ∷ ps) ≡ one_more (test p) (count_by test ps)
+pub count_by-cons : (test : Passage → Bool) (p : Passage) (ps : List Passage) → count_by test (p ∷ ps) ≡ one_more (test p) (count_by test ps)
 count_by-cons test p ps = sum_by-cons (λ (q : Passage). cond (test q) 1 0) p ps ∙ one_more-cond (test p) (count_by test ps)
 
 -- the counts by how many were fetched, how many were squashed, and those that retired

@@ -1,5 +1,6 @@
-mod CountsMore
+pub mod CountsMore
 mod Places
 pub mod Changes
 pub mod Profiles
 pub mod Rooms
+pub mod Followed

@@ -18,7 +18,7 @@ waits-within : (wait : Option ℕ) (w : Waited) → (with_wait wait w).count ≤
 waits-within None w = omega arith
 waits-within (Some cycles) w = omega arith
 
-one_more-within : (is : Bool) (count : ℕ) → one_more is count ≤ count + 1
+pub one_more-within : (is : Bool) (count : ℕ) → one_more is count ≤ count + 1
 one_more-within true count = omega arith
 one_more-within false count = omega arith
 

@@ -41,7 +41,7 @@ counts_at costs passages heads address =
 
 -- nothing at an address
 abbrev pub nothing_at : ℕ → WordCounts
-nothing_at address = counts_at (record { hit = 0; forward = 0 }) [] [] address
+nothing_at address = counts_at (record { hit = 0; forward = 0; clean_miss = 0 }) [] [] address
 
 -- one more, where something is so
 abbrev pub one_more : Bool → ℕ → ℕ

@@ -7,3 +7,4 @@ pub mod Profile
 pub mod Following
 pub mod Head
 pub mod Leaves
+pub mod Followed

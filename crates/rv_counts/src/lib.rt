@@ -11,6 +11,7 @@ mod profile;
 mod wait;
 
 pub use counts::WordCounts;
-pub use loads::LoadCosts;
+pub use loads::{LoadCosts, load_cost};
+pub use passing::{has_retired, was_squashed};
 pub use profile::Profile;
 pub use wait::Wait;

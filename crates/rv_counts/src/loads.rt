@@ -1,19 +1,22 @@
 ghost use Rattle.std.specs.Prelude.{◌≡◌};
-ghost use Rattle.rv_counts.specs.Load.{costs_of, is_hit, is_miss, is_quick, load_cost};
+ghost use Rattle.rv_counts.specs.Load.{costs_of, is_hit, is_miss, is_quick, is_slow, load_cost};
 
 use rv_isa::{Description, Instr};
 use rv_passage::Passage;
 
-/// What a load costs that need not go to memory, in cycles.
+/// What a load costs, in cycles.
 #[derive(Clone, Copy, Debug, PartialEq, Eq)]
 pub struct LoadCosts {
+    /// Of a load that need not go to memory.
     pub hit: u32,
     /// Of a load whose bytes all come from the store queue.
     pub forward: u32,
+    /// Of one that misses, and writes no dirty line back.
+    pub clean_miss: u64,
 }
 
-// What an instruction cost, where it is a load that was issued.
-fn load_cost(passage: &Passage) -> Option<u32>
+/// What an instruction cost, where it is a load that was issued: the cycles from its issue until its result could be broadcast.
+pub fn load_cost(passage: &Passage) -> Option<u32>
     ensures { result ≡ load_cost passage.now }
 {
     match passage.instruction {
@@ -31,16 +34,25 @@ impl LoadCosts {
         LoadCosts {
             hit: values.cache.hit,
             forward: values.forward,
+            clean_miss: u64::from(values.cache.hit) + u64::from(values.cache.miss),
         }
     }
 
-    fn is_quick(&self, cost: u32) -> bool
+    /// Whether a cost is that of a hit or of forwarding.
+    pub fn is_quick(&self, cost: u32) -> bool
         ensures { result ≡ is_quick self.now cost }
     {
         cost == self.hit || cost == self.forward
     }
 
-    /// Whether an instruction is a load at one of these costs.
+    /// Whether a cost tells that a dirty line was written back: it is greater than that of a miss alone.
+    pub fn is_slow(&self, cost: u32) -> bool
+        ensures { result ≡ is_slow self.now cost }
+    {
+        !self.is_quick(cost) && self.clean_miss < u64::from(cost)
+    }
+
+    /// Whether an instruction is a load at the cost of a hit or of forwarding.
     pub(crate) fn is_hit(&self, passage: &Passage) -> bool
         ensures { result ≡ is_hit self.now (load_cost passage.now) }
     {

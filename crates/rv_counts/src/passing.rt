@@ -1,7 +1,21 @@
 ghost use Rattle.std.specs.Prelude.{◌≡◌};
-ghost use Rattle.rv_counts.specs.Passing.{broadcast_wait, cycles_between, dispatch_wait, issue_wait, retired_in, retirement_wait};
+ghost use Rattle.rv_counts.specs.Passing.{broadcast_wait, cycles_between, dispatch_wait, is_retirement, is_squash, issue_wait, retired_in, retirement_wait};
 
 use rv_passage::{Ending, Passage};
+
+/// Whether an instruction retired.
+pub fn has_retired(passage: &Passage) -> bool
+    ensures { result ≡ is_retirement passage.now.ending }
+{
+    matches!(passage.ending, Ending::Retired { .. })
+}
+
+/// Whether it was squashed.
+pub fn was_squashed(passage: &Passage) -> bool
+    ensures { result ≡ is_squash passage.now.ending }
+{
+    matches!(passage.ending, Ending::Squashed { .. })
+}
 
 // The cycles from one stage to a later one.
 fn cycles_between(from: Option<u64>, to: Option<u64>) -> Option<u64>

@@ -1,6 +1,6 @@
 use Rattle.std.proofs.Common.{None}
 use Rattle.rv_core.proofs.Shown.{stops_by}
-use Rattle.rv_profile.specs.Keeping.{IsRoomy}
+use Rattle.rv_counts.specs.Followed.{IsRoomy}
 use Rattle.rv_profile.proofs.Profiling.{can_finish, counted_to_the_end, profiling_nothing}
 use Rattle.rv_profile.proofs.running.run_profiled.Goals as goal
 
