@@ -1,3 +1,2 @@
-mod Arrays
-mod Operands
 mod Showing
+mod Status

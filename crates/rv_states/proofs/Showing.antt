@@ -24,7 +24,7 @@ use Rattle.rv_text.proofs.Writing.{written_same}
 use Rattle.rv_states.specs.Page.{after_lines, before_lines}
 use Rattle.rv_states.specs.Showing.{IsRoomy, IsShowing}
 use Rattle.rv_states.specs.States.{Moment, Passes, WritesStates, begun, begun_text, head_text, lines_text, moment_of, moment_text, passed, shown_text, states_text}
-use Rattle.rv_states.specs.Stop.{stop_line}
+use Rattle.rv_json.specs.Stop.{stop_line}
 use Rattle.rv_states.specs.declared.form.Form.{Form}
 
 length-numbered_from : (number : ℕ) (ps : List Passage) → length (numbered_from number ps) ≡ length ps

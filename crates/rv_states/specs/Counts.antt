@@ -3,7 +3,7 @@ use Rattle.std.specs.Prelude.{ℕ, List, [], ◌++◌, codes, decimal, Option, S
 use Rattle.rv_core.specs.declared.outcome.Progress.{Progress}
 use Rattle.rv_hardware.specs.declared.report.Stall.{Stall}
 use Rattle.rv_hardware.specs.declared.report.Stall.TheVariants.{Fetch, Serial, Rob, Station, Store}
-use Rattle.rv_states.specs.Json.{Json, also, begins, quoted}
+use Rattle.rv_json.specs.Json.{Json, also, begins, quoted}
 
 -- a reason to dispatch nothing
 abbrev pub stall_name : Stall → List ℕ

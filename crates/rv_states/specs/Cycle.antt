@@ -5,10 +5,10 @@ use Rattle.rv_hardware.specs.Hardware.{Hardware}
 use Rattle.rv_hardware.specs.declared.step.Step.{Step}
 use Rattle.rv_passage.specs.declared.passage.Passage.{Passage}
 use Rattle.rv_states.specs.Counts.{counts_text}
-use Rattle.rv_states.specs.Instruction.{instruction_json}
-use Rattle.rv_states.specs.Json.{also, array, begins}
+use Rattle.rv_json.specs.Instruction.{instruction_json}
+use Rattle.rv_json.specs.Json.{also, array, begins}
 use Rattle.rv_states.specs.State.{state_json}
-use Rattle.rv_states.specs.Step.{step_json}
+use Rattle.rv_json.specs.Step.{step_json}
 
 -- the number of the next cycle, what is in flight before it, the counts so far, and the hardware
 unfoldable pub start_line : List Passage → Hardware → Progress → List ℕ

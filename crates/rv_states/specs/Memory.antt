@@ -1,13 +1,13 @@
--- The line of a word of memory.
-use Rattle.std.specs.Prelude.{ℕ, ◌+◌, ◌*◌, ◌/◌, ◌%◌, ◌^◌, ◌==◌, ◌&&◌, Bool, not, if◌then◌else◌, List, [], ◌++◌, codes, decimal, Option, Some, None, option_and_then, option_map}
+-- The lines of the words of memory.
+use Rattle.std.specs.Prelude.{ℕ, ◌+◌, ◌*◌, ◌/◌, ◌%◌, ◌^◌, ◌==◌, ◌&&◌, Bool, not, if◌then◌else◌, List, [], Option, Some, None, option_and_then, option_map}
 use Rattle.std.specs.List.{flat_map, range_with_len}
 use Rattle.std.specs.FinSet as set
 use Rattle.rv_isa.specs.declared.values.Values.{Values}
 use Rattle.rv_memory.specs.Memory.{Layout, byte_seen, word_of}
 use Rattle.rv_hardware.specs.Hardware.{Hardware}
 use Rattle.rv_hardware.specs.Seen.{layout_of, seen}
-use Rattle.rv_states.specs.Json.{Json, also, begins, truth}
-use Rattle.rv_states.specs.Place.{word_address}
+use Rattle.rv_json.specs.Place.{word_address}
+use Rattle.rv_json.specs.Word.{word_text}
 
 -- the word of four bytes from an address on, the lowest first; none outside RAM
 unfoldable pub word_seen : Layout → List ℕ → ℕ → Option ℕ
@@ -18,17 +18,7 @@ word_seen layout ram address =
     (byte_seen layout ram ((address + 1) % 2 ^ 32)))
     (byte_seen layout ram address)
 
--- an address, the word there, and whether it was stored to since the last FENCE.I
-unfoldable pub word_json : ℕ → ℕ → Bool → Json
-word_json address word stale =
-    begins (codes "memory") (decimal address) ++
-    ((also (codes "word") (decimal word) ++ also (codes "stale") (truth stale)) ++ codes "}")
-
--- the line of it
-unfoldable pub word_text : ℕ → ℕ → Bool → List ℕ
-word_text address word stale = word_json address word stale ++ codes "\n"
-
--- that, but for a word that is 0 and not stale, and outside RAM
+-- the line of a word, but for one that is 0 and not stale, and outside RAM
 abbrev pub word_if : ℕ → Bool → Option ℕ → List ℕ
 word_if address stale None = []
 word_if address stale (Some word) = if (word == 0) && not stale then [] else word_text address word stale

@@ -1,35 +1,13 @@
 -- The hardware as JSON.
 use Rattle.std.specs.Prelude.{ℕ, List, ◌++◌, codes, decimal, map}
-use Rattle.rv_isa.specs.declared.lines.Lines.{Lines}
-use Rattle.rv_arch.specs.Csr.{Kept}
 use Rattle.rv_core.specs.Ties.{queue_of, values_in}
-use Rattle.rv_front.specs.FetchBuffer.{FetchBuffer}
 use Rattle.rv_hardware.specs.Hardware.{Hardware}
-use Rattle.rv_states.specs.Entry.{entries_json}
-use Rattle.rv_states.specs.Fetched.{fetched_json}
-use Rattle.rv_states.specs.Json.{Json, also, array, begins, truth}
-use Rattle.rv_states.specs.Queue.{store_json}
-use Rattle.rv_states.specs.Registers.{csrs_json}
-use Rattle.rv_states.specs.Units.{units_json}
-
--- the levels of the interrupt lines in the last cycle
-unfoldable pub lines_text : Lines → List ℕ
-lines_text lines =
-    also (codes "software") (truth lines.software) ++
-    (also (codes "timer") (truth lines.timer) ++
-    also (codes "external") (truth lines.external))
-
--- what retired instructions left
-unfoldable pub observed_text : ℕ → List ℕ → Kept → Lines → List ℕ
-observed_text pc registers csrs lines =
-    begins (codes "pc") (decimal pc) ++
-    (also (codes "registers") (array (map decimal registers)) ++
-    (also (codes "csrs") (csrs_json csrs lines) ++
-    lines_text lines))
-
--- where the fetch goes on, and whether it is halted
-unfoldable pub next_fetch_text : FetchBuffer → List ℕ
-next_fetch_text front = also (codes "next_fetch") (decimal front.next_pc) ++ also (codes "halted") (truth front.halted)
+use Rattle.rv_json.specs.Fetched.{fetched_json, next_fetch_text}
+use Rattle.rv_json.specs.Json.{Json, also, array}
+use Rattle.rv_json.specs.Observed.{observed_text}
+use Rattle.rv_json.specs.Queue.{store_json}
+use Rattle.rv_json.specs.Units.{units_json}
+use Rattle.rv_states.specs.Entries.{entries_json}
 
 -- what is in flight
 unfoldable pub in_flight_text : Hardware → List ℕ

@@ -17,11 +17,11 @@ use Rattle.rv_source.specs.Listing.{Listed}
 use Rattle.rv_text.specs.Written.{IsWritten}
 use Rattle.rv_states.specs.Page.{after_lines, before_lines}
 use Rattle.rv_states.specs.Cycle.{cycle_line, start_line}
-use Rattle.rv_states.specs.Listing.{listing_lines}
-use Rattle.rv_states.specs.Machine.{header_line}
+use Rattle.rv_json.specs.Listing.{listing_lines}
+use Rattle.rv_json.specs.Machine.{header_line}
 use Rattle.rv_states.specs.Memory.{memory_lines}
-use Rattle.rv_states.specs.Set.{set_lines}
-use Rattle.rv_states.specs.Stop.{stop_line}
+use Rattle.rv_states.specs.Sets.{set_lines}
+use Rattle.rv_json.specs.Stop.{stop_line}
 use Rattle.rv_states.specs.declared.form.Form.{Form}
 
 -- the lines of memory and the cache

@@ -2,9 +2,9 @@ ghost use Rattle.std.specs.Prelude.{◌≡◌};
 ghost use Rattle.rv_states.specs.Counts.{counts_json, counts_text, stall_name, stall_text};
 ghost use Rattle.rv_text.specs.Written.{IsWritten};
 
-use crate::json::{Member, Value, write_key, write_members, write_object};
 use rv_core::Progress;
 use rv_hardware::Stall;
+use rv_json::{Member, Value, write_key, write_members, write_object};
 use rv_text::ReportError;
 use std::io::Write;
 

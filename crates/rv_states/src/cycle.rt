@@ -1,16 +1,13 @@
 ghost use Rattle.std.specs.Prelude.{codes, decimal};
 ghost use Rattle.rv_states.specs.Cycle.{cycle_line, start_line};
-ghost use Rattle.rv_states.specs.Json.{begins};
+ghost use Rattle.rv_json.specs.Json.{begins};
 ghost use Rattle.rv_text.specs.Written.{IsWritten};
 
-use crate::array::write_array_member;
 use crate::counts::write_counts;
-use crate::instruction::Instructions;
-use crate::json::write_begin;
 use crate::state::write_state;
-use crate::step::Steps;
 use rv_core::{Pipeline, Progress};
 use rv_hardware::Step;
+use rv_json::{Instructions, Steps, write_array_member, write_begin};
 use rv_passage::Passage;
 use rv_text::{ReportError, put};
 use std::io::Write;

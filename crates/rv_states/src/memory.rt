@@ -1,13 +1,12 @@
 ghost use Rattle.std.specs.Prelude.{◌≡◌};
 ghost use Rattle.rv_hardware.specs.Seen.{layout_of, seen};
-ghost use Rattle.rv_states.specs.Memory.{memory_line, memory_lines, word_json, word_seen, word_text};
+ghost use Rattle.rv_states.specs.Memory.{memory_line, memory_lines, word_seen};
 ghost use Rattle.rv_text.specs.Written.{IsWritten};
 
-use crate::json::{Member, Value, write_object};
-use crate::place::word_address;
 use rv_core::Pipeline;
 use rv_isa::Values;
-use rv_text::{ReportError, put};
+use rv_json::{word_address, write_word};
+use rv_text::ReportError;
 use std::io::Write;
 
 // The word that programs see at an address, or `None` outside RAM.
@@ -22,44 +21,6 @@ fn word_at(pipeline: &Pipeline, address: u32) -> Option<u32>
         pipeline.byte(address.wrapping_add(3))?,
     ];
     Some(u32::from_le_bytes(bytes))
-}
-
-#[tactic(auto, unfolding(crate::specs::Memory::word_json))]
-fn write_word_object<W: Write>(
-    writer: &mut W,
-    address: u32,
-    word: u32,
-    stale: bool,
-) -> Result<(), ReportError>
-    ensures { IsWritten result (W.contents writer.old) (W.contents writer.new) (word_json address word stale) }
-{
-    write_object(
-        writer,
-        "memory",
-        u64::from(address),
-        &[
-            Member {
-                name: "word",
-                value: Value::Number(u64::from(word)),
-            },
-            Member {
-                name: "stale",
-                value: Value::Truth(stale),
-            },
-        ],
-    )
-}
-
-fn write_word<W: Write>(
-    writer: &mut W,
-    address: u32,
-    word: u32,
-    stale: bool,
-) -> Result<(), ReportError>
-    ensures { IsWritten result (W.contents writer.old) (W.contents writer.new) (word_text address word stale) }
-{
-    write_word_object(writer, address, word, stale)?;
-    put(writer, b"\n")
 }
 
 // Writes the line of the word that programs see at an address; nothing where it is 0 and not stale, or outside RAM.

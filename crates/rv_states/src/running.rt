@@ -3,7 +3,7 @@ ghost use Rattle.rv_hardware.specs.Guided.{guided};
 ghost use Rattle.rv_passage.specs.Table.{HasRoom, passages_of, table_at};
 ghost use Rattle.rv_states.specs.Page.{after_lines};
 ghost use Rattle.rv_states.specs.States.{WritesStates, begun_text, shown_text};
-ghost use Rattle.rv_states.specs.Stop.{stop_line};
+ghost use Rattle.rv_json.specs.Stop.{stop_line};
 ghost use Rattle.rv_text.specs.Written.{IsWritten};
 
 use crate::form::Form;

@@ -1,86 +1,23 @@
 ghost use Rattle.std.specs.Prelude.{◌++◌, codes, decimal, map};
 ghost use Rattle.rv_core.specs.Ties.{queue_of, values_in};
-ghost use Rattle.rv_states.specs.Entry.{entries_json};
-ghost use Rattle.rv_states.specs.Fetched.{fetched_json};
-ghost use Rattle.rv_states.specs.Json.{also, array, begins};
-ghost use Rattle.rv_states.specs.Queue.{store_json};
-ghost use Rattle.rv_states.specs.State.{in_flight_text, lines_text, next_fetch_text, observed_text, parts_text, state_json};
-ghost use Rattle.rv_states.specs.Units.{units_json};
+ghost use Rattle.rv_json.specs.Fetched.{fetched_json, next_fetch_text};
+ghost use Rattle.rv_json.specs.Json.{also, array};
+ghost use Rattle.rv_json.specs.Observed.{observed_text};
+ghost use Rattle.rv_json.specs.Queue.{store_json};
+ghost use Rattle.rv_json.specs.Units.{units_json};
+ghost use Rattle.rv_states.specs.Entries.{entries_json};
+ghost use Rattle.rv_states.specs.State.{in_flight_text, parts_text, state_json};
 ghost use Rattle.rv_text.specs.Written.{IsWritten};
 
-use crate::array::write_array_member;
-use crate::entry::Entries;
-use crate::fetched::FetchedWords;
-use crate::json::{Member, Value, write_begin, write_key, write_members, write_number};
-use crate::queue::Stores;
-use crate::registers::{Words, write_csrs};
-use crate::units::write_units;
-use rv_arch::Observed;
+use crate::entries::Entries;
 use rv_core::Pipeline;
-use rv_front::Front;
-use rv_isa::Lines;
+use rv_json::{
+    write_array_member, write_fetch_buffer, write_key, write_number, write_observed,
+    write_store_queue, write_units,
+};
 use rv_rob::Rob;
-use rv_stores::StoreQueue;
 use rv_text::{ReportError, put};
 use std::io::Write;
-
-#[tactic(auto, unfolding(crate::specs::State::lines_text))]
-fn write_lines<W: Write>(writer: &mut W, lines: Lines) -> Result<(), ReportError>
-    ensures { IsWritten result (W.contents writer.old) (W.contents writer.new) (lines_text lines) }
-{
-    write_members(
-        writer,
-        &[
-            Member {
-                name: "software",
-                value: Value::Truth(lines.software),
-            },
-            Member {
-                name: "timer",
-                value: Value::Truth(lines.timer),
-            },
-            Member {
-                name: "external",
-                value: Value::Truth(lines.external),
-            },
-        ],
-    )
-}
-
-fn write_pc<W: Write>(writer: &mut W, pc: u32) -> Result<(), ReportError>
-    ensures { IsWritten result (W.contents writer.old) (W.contents writer.new) (begins (codes "pc") (decimal pc)) }
-{
-    write_begin(writer, "pc", u64::from(pc))
-}
-
-// What retired instructions left.
-fn write_observed<W: Write>(writer: &mut W, seen: &Observed) -> Result<(), ReportError>
-    ensures { IsWritten result (W.contents writer.old) (W.contents writer.new) (observed_text seen.now.pc seen.now.regs seen.now.csrs seen.now.lines) }
-{
-    write_pc(writer, seen.pc)?;
-    write_array_member(writer, "registers", &Words { words: &seen.regs })?;
-    write_csrs(writer, seen)?;
-    write_lines(writer, seen.lines)
-}
-
-#[tactic(auto, unfolding(crate::specs::State::next_fetch_text))]
-fn write_next_fetch<W: Write>(writer: &mut W, front: &Front) -> Result<(), ReportError>
-    ensures { IsWritten result (W.contents writer.old) (W.contents writer.new) (next_fetch_text front.now) }
-{
-    write_members(
-        writer,
-        &[
-            Member {
-                name: "next_fetch",
-                value: Value::Number(u64::from(front.next_pc())),
-            },
-            Member {
-                name: "halted",
-                value: Value::Truth(front.is_halted()),
-            },
-        ],
-    )
-}
 
 fn write_observed_of<W: Write>(writer: &mut W, pipeline: &Pipeline) -> Result<(), ReportError>
     ensures { IsWritten result (W.contents writer.old) (W.contents writer.new) (observed_text pipeline.now.pc pipeline.now.registers pipeline.now.csrs pipeline.now.lines) }
@@ -105,13 +42,6 @@ fn write_reorder_buffer<W: Write>(writer: &mut W, pipeline: &Pipeline) -> Result
     write_entries(writer, pipeline.reorder_buffer(), &registers)
 }
 
-fn write_fetch_buffer<W: Write>(writer: &mut W, front: &Front) -> Result<(), ReportError>
-    ensures { IsWritten result (W.contents writer.old) (W.contents writer.new) (also (codes "fetch_buffer") (array (map fetched_json front.now.entries)) ++ next_fetch_text front.now) }
-{
-    write_array_member(writer, "fetch_buffer", &FetchedWords { front })?;
-    write_next_fetch(writer, front)
-}
-
 fn write_front_of<W: Write>(writer: &mut W, pipeline: &Pipeline) -> Result<(), ReportError>
     ensures { IsWritten result (W.contents writer.old) (W.contents writer.new) (also (codes "fetch_buffer") (array (map fetched_json pipeline.now.front.entries)) ++ next_fetch_text pipeline.now.front) }
 {
@@ -132,16 +62,10 @@ fn write_units_of<W: Write>(writer: &mut W, pipeline: &Pipeline) -> Result<(), R
     write_units(writer, pipeline.units())
 }
 
-fn write_queue<W: Write>(writer: &mut W, queue: &StoreQueue) -> Result<(), ReportError>
-    ensures { IsWritten result (W.contents writer.old) (W.contents writer.new) (also (codes "store_queue") (array (map store_json queue.now.stores))) }
-{
-    write_array_member(writer, "store_queue", &Stores { queue })
-}
-
 fn write_queue_of<W: Write>(writer: &mut W, pipeline: &Pipeline) -> Result<(), ReportError>
     ensures { IsWritten result (W.contents writer.old) (W.contents writer.new) (also (codes "store_queue") (array (map store_json (queue_of pipeline.now).stores))) }
 {
-    write_queue(writer, pipeline.store_queue())
+    write_store_queue(writer, pipeline.store_queue())
 }
 
 fn write_port<W: Write>(writer: &mut W, pipeline: &Pipeline) -> Result<(), ReportError>

@@ -1,5 +1,5 @@
 use Rattle.rv_states.specs.Counts.{counts_text}
-use Rattle.rv_states.specs.Json.{also}
+use Rattle.rv_json.specs.Json.{also}
 use Rattle.rv_text.proofs.Writing.{beginning-both, beginning-longer, handed_on, written_behind}
 use Rattle.rv_states.proofs.counts.write_counts.Goals as goal
 

@@ -1,6 +1,6 @@
 use Rattle.std.proofs.Common.{◌≡◌, ◌/◌, ap, arith}
 use Rattle.rv_states.specs.Memory.{memory_line, memory_lines}
-use Rattle.rv_states.specs.Place.{word_address}
+use Rattle.rv_json.specs.Place.{word_address}
 use Rattle.rv_text.proofs.Writing.{handed_on, texts_below, beginning-below, Appends-below, Appends-nothing, Appends-same, beginning-same}
 use Rattle.rv_states.proofs.memory.write_words.Goals as goal
 

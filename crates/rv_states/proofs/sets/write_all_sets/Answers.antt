@@ -1,5 +1,5 @@
 use Rattle.std.proofs.Common.{◌≡◌, ap, arith}
-use Rattle.rv_states.specs.Set.{set_line, set_lines}
+use Rattle.rv_states.specs.Sets.{set_line, set_lines}
 use Rattle.rv_text.proofs.Writing.{handed_on, texts_below, beginning-below, Appends-below, Appends-nothing, Appends-same}
 use Rattle.rv_states.proofs.sets.write_all_sets.Goals as goal
 

@@ -1,5 +1,5 @@
 use Rattle.std.specs.Io.KnownBytes.{Appends}
-use Rattle.rv_states.specs.Set.{set_line}
+use Rattle.rv_states.specs.Sets.{set_line}
 use Rattle.rv_text.proofs.Writing.{texts_below}
 use Rattle.rv_states.proofs.sets.write_all_sets.Given as goal
 

@@ -1,7 +1,7 @@
 use Rattle.std.proofs.Common.{codes}
 use Rattle.rv_core.specs.Ties.{values_in}
-use Rattle.rv_states.specs.Entry.{entries_json}
-use Rattle.rv_states.specs.Json.{also, array}
+use Rattle.rv_states.specs.Entries.{entries_json}
+use Rattle.rv_json.specs.Json.{also, array}
 use Rattle.rv_text.proofs.Writing.{written_same}
 use Rattle.rv_states.proofs.state.write_reorder_buffer.Goals as goal
 

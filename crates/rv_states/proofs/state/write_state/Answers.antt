@@ -1,4 +1,4 @@
-use Rattle.rv_states.specs.Json.{also}
+use Rattle.rv_json.specs.Json.{also}
 use Rattle.rv_text.proofs.Writing.{beginning-longer, handed_on, written_behind}
 use Rattle.rv_states.proofs.state.write_state.Goals as goal
 

@@ -1,0 +1,57 @@
+-- The values of an array, one after the other.
+use Rattle.std.proofs.Common.{◌≡◌, ℕ, zero, suc, ◌+◌, ◌<◌, ◌≤◌, List, [], ◌∷◌, ◌++◌, length, get_or, take, drop, slice_get, Option, Some, None, sym, ap, ◌∙◌, append_assoc, append-nil, arith}
+use Rattle.std.specs.Prelude.{map}
+use Rattle.std.specs.Io.KnownBytes.{Appends}
+use Rattle.std.proofs.lemmas.List.{get_or-map, length-take-le, take_more, take-append-drop}
+use Rattle.std.proofs.lemmas.Option.{get_or_from_slice_get, slice_get_within}
+use Rattle.rv_text.specs.Written.{AppendsBeginning}
+use Rattle.rv_text.proofs.Writing.{Appends-both, Appends-same, beginning-both, beginning-longer, beginning-same}
+use Rattle.rv_json.specs.Json.{Json, comma_at, values_from}
+
+values_from-append : (n : ℕ) (xs ys : List Json) → values_from n (xs ++ ys) ≡ values_from n xs ++ values_from (n + length xs) ys
+values_from-append n [] ys = ap (λ m. values_from m ys) (omega arith)
+values_from-append n (x ∷ xs) ys =
+    let same : n + 1 + length xs ≡ n + suc (length xs) = omega arith in
+    ap (λ l. (comma_at n ++ x) ++ l) (values_from-append (n + 1) xs ys)
+    ∙ sym (append_assoc (comma_at n ++ x) (values_from (n + 1) xs) (values_from (n + 1 + length xs) ys))
+    ∙ ap (λ m. ((comma_at n ++ x) ++ values_from (n + 1) xs) ++ values_from m ys) same
+
+module _ (items : List Json) (place : ℕ) (here : place < length items) where
+  so_many : length (take place items) ≡ place
+  so_many = length-take-le place items (omega (arith, here))
+
+  and_one : length (take (place + 1) items) ≡ place + 1
+  and_one = length-take-le (place + 1) items (omega (arith, here))
+
+  values-more : values_from 0 (take (place + 1) items) ≡ values_from 0 (take place items) ++ (comma_at place ++ get_or items place [])
+  values-more =
+      let at : 0 + length (take place items) ≡ place = omega (arith, so_many) in
+      ap (values_from 0) (take_more items place [] here)
+      ∙ values_from-append 0 (take place items) (get_or items place [] ∷ [])
+      ∙ ap (λ m. values_from 0 (take place items) ++ values_from m (get_or items place [] ∷ [])) at
+      ∙ ap (λ l. values_from 0 (take place items) ++ l) (append-nil (comma_at place ++ get_or items place []))
+
+  values-split : (values_from 0 (take place items) ++ (comma_at place ++ get_or items place [])) ++ values_from (0 + length (take (place + 1) items)) (drop (place + 1) items) ≡ values_from 0 items
+  values-split =
+      ap (λ front. front ++ values_from (0 + length (take (place + 1) items)) (drop (place + 1) items)) (sym values-more)
+      ∙ sym (values_from-append 0 (take (place + 1) items) (drop (place + 1) items))
+      ∙ ap (values_from 0) (take-append-drop (place + 1) items)
+
+  -- where a value was not written whole
+  pub beginning-value : (a b c : Option (List ℕ)) → Appends a b (values_from 0 (take place items)) → AppendsBeginning b c (comma_at place ++ get_or items place []) → AppendsBeginning a c (values_from 0 items)
+  beginning-value a b c front last = beginning-same a c _ _ values-split (beginning-longer a c _ _ (beginning-both a b c _ _ front last))
+
+  -- one value more
+  pub Appends-value : (a b c : Option (List ℕ)) → Appends a b (values_from 0 (take place items)) → Appends b c (comma_at place ++ get_or items place []) → Appends a c (values_from 0 (take (place + 1) items))
+  Appends-value a b c front last = Appends-same a c _ _ (sym values-more) (Appends-both a b c _ _ front last)
+
+module _ {X : Type 0} (json : X → Json) (xs : List X) (place : ℕ) where
+  -- the value at a place is that of the item there
+  pub value_at : (x : X) → slice_get xs place ≡ Some x → json x ≡ get_or (map json xs) place []
+  value_at x is = sym (get_or-map json xs place x [] (slice_get_within xs place x is) ∙ ap json (get_or_from_slice_get xs place x x is))
+
+-- nothing stands past the end alone
+pub is_past : {X : Type 0} (xs : List X) (place : ℕ) → slice_get xs place ≡ None → length xs ≤ place
+is_past [] place none = omega arith
+is_past (x ∷ xs) zero none = absurd (cc)
+is_past (x ∷ xs) (suc place) none = let rest = is_past xs place none in omega (arith, rest)

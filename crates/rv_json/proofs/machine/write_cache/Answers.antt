@@ -1,0 +1,12 @@
+use Rattle.rv_json.specs.Json.{also}
+use Rattle.rv_text.proofs.Writing.{beginning-longer, handed_on, written_behind}
+use Rattle.rv_json.proofs.machine.write_cache.Goals as goal
+
+pub returns-in_err-write_key : goal.returns-in_err-write_key
+unfolding also
+returns-in_err-write_key g c =
+    handed_on _ _ _ _ _ c.from_residual.ensures.1 (beginning-longer _ _ _ _ c.in_err-write_key.ensures)
+
+pub returns : goal.returns
+unfolding also
+returns g c = written_behind _ _ _ _ _ _ c.in_ok-write_key.ensures c.write_cache_object.ensures

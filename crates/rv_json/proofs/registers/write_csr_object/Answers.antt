@@ -1,0 +1,18 @@
+use Rattle.rv_json.specs.Registers.{csrs_json}
+use Rattle.rv_text.proofs.Writing.{beginning-both, beginning-longer, handed_on, written_behind}
+use Rattle.rv_json.proofs.registers.write_csr_object.Goals as goal
+
+pub returns-in_err-write_interrupts : goal.returns-in_err-write_interrupts
+unfolding csrs_json
+returns-in_err-write_interrupts g c =
+    handed_on _ _ _ _ _ c.from_residual.ensures.1 (beginning-longer _ _ _ _ c.in_err-write_interrupts.ensures)
+
+pub returns-in_err-write_trap : goal.returns-in_err-write_trap
+unfolding csrs_json
+returns-in_err-write_trap g c =
+    handed_on _ _ _ _ _ c.from_residual-in_err-write_trap.ensures.1 (beginning-both _ _ _ _ _ c.in_ok-write_interrupts.ensures (beginning-longer _ _ _ _ c.in_err-write_trap.ensures))
+
+pub returns : goal.returns
+unfolding csrs_json
+returns g c =
+    written_behind _ _ _ _ _ _ c.in_ok-write_interrupts.ensures (written_behind _ _ _ _ _ _ c.in_ok-write_trap.ensures c.put.ensures)

@@ -1,0 +1,17 @@
+pub mod Entry
+pub mod Fetched
+pub mod Instruction
+pub mod Json
+pub mod Listing
+pub mod Machine
+pub mod Member
+pub mod Observed
+pub mod Operand
+pub mod Place
+pub mod Queue
+pub mod Registers
+pub mod Set
+pub mod Step
+pub mod Stop
+pub mod Units
+pub mod Word

@@ -1,0 +1,99 @@
+-- The machine's values, as JSON.
+use Rattle.std.specs.Prelude.{ℕ, List, ◌++◌, codes, decimal}
+use Rattle.rv_isa.specs.declared.values.{CacheValues.CacheValues, KindValues.KindValues, PredictorKind.PredictorKind, PredictorValues.PredictorValues, Recovery.Recovery, Values.Values}
+use Rattle.rv_isa.specs.declared.values.PredictorKind.TheVariants.{NotTaken, BackwardTaken, Bimodal}
+use Rattle.rv_isa.specs.declared.values.Recovery.TheVariants.{Commit, Early}
+use Rattle.rv_json.specs.Json.{Json, also, begins, key, quoted, truth}
+
+-- the name of a way to mend wrong predictions
+abbrev pub recovery_name : Recovery → List ℕ
+recovery_name Commit = codes "commit"
+recovery_name Early = codes "early"
+
+-- the branch predictor
+abbrev pub predictor_name : PredictorKind → List ℕ
+predictor_name NotTaken = codes "not_taken"
+predictor_name BackwardTaken = codes "backward_taken"
+predictor_name Bimodal = codes "bimodal"
+
+-- where RAM lies
+unfoldable pub sizes_text : Values → List ℕ
+sizes_text values =
+    begins (codes "ram_base") (decimal values.ram_base) ++
+    (also (codes "ram_size") (decimal values.ram_size) ++ also (codes "rom_bytes") (decimal values.rom_bytes))
+
+-- how much a cycle does
+unfoldable pub widths_text : Values → List ℕ
+widths_text values =
+    also (codes "fetch_width") (decimal values.fetch_width) ++
+    (also (codes "dispatch_width") (decimal values.dispatch_width) ++
+    (also (codes "commit_width") (decimal values.commit_width) ++
+    also (codes "bus_width") (decimal values.bus_width)))
+
+-- what the buffers hold, and the cost of a load whose bytes are forwarded
+unfoldable pub buffers_text : Values → List ℕ
+buffers_text values =
+    also (codes "fetch_buffer") (decimal values.fetch_buffer) ++
+    (also (codes "rob") (decimal values.rob) ++
+    (also (codes "store_queue") (decimal values.store_queue) ++
+    also (codes "forward") (decimal values.forward)))
+
+-- when wrong predictions are mended
+unfoldable pub recovery_text : Recovery → List ℕ
+recovery_text recovery = also (codes "recovery") (quoted (recovery_name recovery))
+
+-- all of these
+unfoldable pub numbers_text : Values → List ℕ
+numbers_text values =
+    sizes_text values ++ (widths_text values ++ (buffers_text values ++ recovery_text values.recovery))
+
+-- the stations and units of a kind
+unfoldable pub kind_json : KindValues → Json
+kind_json kind =
+    begins (codes "stations") (decimal kind.stations) ++
+    ((also (codes "units") (decimal kind.units) ++
+    (also (codes "latency") (decimal kind.latency) ++
+    also (codes "pipelined") (truth kind.pipelined))) ++
+    codes "}")
+
+-- those of the four kinds
+unfoldable pub kinds_text : Values → List ℕ
+kinds_text values =
+    also (codes "alu") (kind_json values.kinds.alu) ++
+    (also (codes "mul") (kind_json values.kinds.mul) ++
+    (also (codes "div") (kind_json values.kinds.div) ++
+    also (codes "mem") (kind_json values.kinds.mem)))
+
+-- the data cache
+unfoldable pub cache_json : CacheValues → Json
+cache_json cache =
+    begins (codes "sets") (decimal cache.sets) ++
+    ((also (codes "ways") (decimal cache.ways) ++
+    (also (codes "line") (decimal cache.line) ++
+    (also (codes "hit") (decimal cache.hit) ++
+    (also (codes "miss") (decimal cache.miss) ++
+    also (codes "write_back") (decimal cache.write_back))))) ++
+    codes "}")
+
+-- the branch predictor
+unfoldable pub predictor_json : PredictorValues → Json
+predictor_json predictor =
+    begins (codes "entries") (decimal predictor.entries) ++
+    (also (codes "kind") (quoted (predictor_name predictor.kind)) ++ codes "}")
+
+-- the machine
+unfoldable pub machine_json : Values → Json
+machine_json values =
+    numbers_text values ++
+    (kinds_text values ++
+    (also (codes "cache") (cache_json values.cache) ++
+    (also (codes "predictor") (predictor_json values.predictor) ++
+    codes "}")))
+
+-- the number of the window's first cycle, and the format
+unfoldable pub format_text : ℕ → List ℕ
+format_text first = begins (codes "first") (decimal first) ++ also (codes "format") (quoted (codes "rv_sim states 1"))
+
+-- the first line: that, and the machine
+unfoldable pub header_line : ℕ → Values → List ℕ
+header_line first values = format_text first ++ (key (codes "machine") ++ (machine_json values ++ codes "}\n"))

@@ -1,0 +1,205 @@
+ghost use Rattle.std.specs.Prelude.{◌≡◌};
+ghost use Rattle.rv_hardware.specs.InFlight.{broadcast_of};
+ghost use Rattle.rv_isa.specs.Instruction.{kind_of_word, target_of_word};
+ghost use Rattle.rv_isa.specs.Key.{kind_name};
+ghost use Rattle.rv_json.specs.Entry.{cause_of, cost_of, entry_text, fault_of, fault_value_of, finished_in, head_text, issued_in, kind_text, next_pc_of, stage_text, value_of};
+ghost use Rattle.rv_json.specs.declared.json.Value.TheVariants.{Maybe};
+ghost use Rattle.rv_text.specs.Written.{IsWritten};
+
+use crate::json::{Member, Value, write_front, write_members};
+use rv_isa::{Fault, Kind, Message, kind, target};
+use rv_rob::{Entry, Stage};
+use rv_text::ReportError;
+use std::io::Write;
+
+/// The name of a kind of unit.
+pub(crate) fn kind_name(kind: Kind) -> &'static str
+    ensures { result.now ≡ kind_name kind }
+{
+    match kind {
+        Kind::Alu => "alu",
+        Kind::Mul => "mul",
+        Kind::Div => "div",
+        Kind::Mem => "mem",
+    }
+}
+
+/// What was broadcast of a result, or was known at dispatch.
+pub fn broadcast(stage: &Stage) -> Option<Message>
+    ensures { result ≡ broadcast_of stage.now }
+{
+    match *stage {
+        Stage::Waiting | Stage::Running { .. } => None,
+        Stage::Finished { message, .. } => Some(message),
+    }
+}
+
+// The cycle in which a result was known.
+fn finished(stage: &Stage) -> Option<u64>
+    ensures { result ≡ finished_in stage.now }
+{
+    match *stage {
+        Stage::Waiting | Stage::Running { .. } => None,
+        Stage::Finished { cycle, .. } => Some(cycle),
+    }
+}
+
+// The register that an instruction writes.
+fn target_number(entry: &Entry) -> Option<u64>
+    ensures { result ≡ target_of_word entry.now.instruction }
+{
+    match &entry.instruction {
+        Some(instruction) => target(instruction).map(|register| u64::from(register.number())),
+        None => None,
+    }
+}
+
+#[tactic(auto, unfolding(crate::specs::Entry::head_text))]
+fn write_head<W: Write>(writer: &mut W, number: u64, entry: &Entry) -> Result<(), ReportError>
+    ensures { IsWritten result (W.contents writer.old) (W.contents writer.new) (head_text number entry.now) }
+{
+    write_front(
+        writer,
+        "sequence",
+        number,
+        &[
+            Member {
+                name: "pc",
+                value: Value::Number(u64::from(entry.pc)),
+            },
+            Member {
+                name: "word",
+                value: Value::Maybe(entry.word.map(u64::from)),
+            },
+            Member {
+                name: "fetched",
+                value: Value::Number(entry.fetched),
+            },
+            Member {
+                name: "dispatched",
+                value: Value::Number(entry.dispatched),
+            },
+            Member {
+                name: "predicted",
+                value: Value::Number(u64::from(entry.predicted_next)),
+            },
+            Member {
+                name: "target",
+                value: Value::Maybe(target_number(entry)),
+            },
+        ],
+    )
+}
+
+#[tactic(auto, unfolding(crate::specs::Entry::kind_text))]
+fn write_kind<W: Write>(writer: &mut W, entry: &Entry) -> Result<(), ReportError>
+    ensures { IsWritten result (W.contents writer.old) (W.contents writer.new) (kind_text (kind_of_word entry.now.instruction)) }
+{
+    let kind = match &entry.instruction {
+        Some(instruction) => kind(instruction),
+        None => None,
+    };
+    match kind {
+        Some(kind) => write_members(
+            writer,
+            &[Member {
+                name: "kind",
+                value: Value::Name(kind_name(kind)),
+            }],
+        ),
+        None => Ok(()),
+    }
+}
+
+// The cycle in which its execution began.
+fn issued(stage: &Stage) -> Option<u64>
+    ensures { result ≡ issued_in stage.now }
+{
+    stage.issue().map(|issue| issue.cycle)
+}
+
+fn cost(stage: &Stage) -> Option<u64>
+    ensures { result ≡ cost_of stage.now }
+{
+    stage.issue().map(|issue| u64::from(issue.cost))
+}
+
+// The value that its result has.
+fn value(stage: &Stage) -> Option<u64>
+    ensures { result ≡ value_of stage.now }
+{
+    match broadcast(stage) {
+        Some(message) => Some(u64::from(message.value)),
+        None => None,
+    }
+}
+
+// The pc that comes after it.
+fn next_pc(stage: &Stage) -> Option<u64>
+    ensures { result ≡ next_pc_of stage.now }
+{
+    match broadcast(stage) {
+        Some(message) => Some(u64::from(message.next_pc)),
+        None => None,
+    }
+}
+
+fn fault(stage: &Stage) -> Option<Fault>
+    ensures { result ≡ fault_of stage.now }
+{
+    match broadcast(stage) {
+        Some(message) => message.fault,
+        None => None,
+    }
+}
+
+fn cause(stage: &Stage) -> Option<u64>
+    ensures { result ≡ cause_of stage.now }
+{
+    fault(stage).map(|fault| u64::from(fault.cause.code()))
+}
+
+// The word that a fault gives mtval.
+fn fault_value(stage: &Stage) -> Option<u64>
+    ensures { result ≡ fault_value_of stage.now }
+{
+    fault(stage).map(|fault| u64::from(fault.value))
+}
+
+fn number(name: &'static str, value: Option<u64>) -> Member
+    ensures name { result.name.now ≡ name.now }
+    ensures value { result.value ≡ Maybe value }
+{
+    Member {
+        name,
+        value: Value::Maybe(value),
+    }
+}
+
+#[tactic(auto, unfolding(crate::specs::Entry::stage_text))]
+fn write_stage<W: Write>(writer: &mut W, stage: &Stage) -> Result<(), ReportError>
+    ensures { IsWritten result (W.contents writer.old) (W.contents writer.new) (stage_text stage.now) }
+{
+    write_members(
+        writer,
+        &[
+            number("issued", issued(stage)),
+            number("cost", cost(stage)),
+            number("finished", finished(stage)),
+            number("value", value(stage)),
+            number("next_pc", next_pc(stage)),
+            number("cause", cause(stage)),
+            number("mtval", fault_value(stage)),
+        ],
+    )
+}
+
+/// Writes what the reorder buffer holds of an instruction, in an object that stays open: its sequence number, what was
+/// fetched, its kind of unit, and how far it has come.
+pub fn write_entry<W: Write>(writer: &mut W, number: u64, entry: &Entry) -> Result<(), ReportError>
+    ensures { IsWritten result (W.contents writer.old) (W.contents writer.new) (entry_text number entry.now) }
+{
+    write_head(writer, number, entry)?;
+    write_kind(writer, entry)?;
+    write_stage(writer, &entry.stage)
+}

@@ -1,0 +1,166 @@
+ghost use Rattle.rv_json.specs.Instruction.{details_text, ended_text, ending_text, instruction_json, passage_text, retired_text, squashed_text, trapped_text};
+ghost use Rattle.rv_text.specs.Written.{IsWritten};
+
+use crate::array::Values;
+use crate::json::{Member, Value, write_begin, write_members};
+use rv_isa::{Cause, Reg};
+use rv_passage::{Ending, Passage};
+use rv_text::{ReportError, put};
+use std::io::Write;
+
+#[tactic(auto, unfolding(crate::specs::Instruction::passage_text))]
+fn write_passage<W: Write>(writer: &mut W, row: &Passage) -> Result<(), ReportError>
+    ensures { IsWritten result (W.contents writer.old) (W.contents writer.new) (passage_text row.now) }
+{
+    write_members(
+        writer,
+        &[
+            Member {
+                name: "pc",
+                value: Value::Number(u64::from(row.pc)),
+            },
+            Member {
+                name: "word",
+                value: Value::Maybe(row.word.map(u64::from)),
+            },
+            Member {
+                name: "fetched",
+                value: Value::Number(row.fetched),
+            },
+            Member {
+                name: "dispatched",
+                value: Value::Maybe(row.dispatched),
+            },
+            Member {
+                name: "issued",
+                value: Value::Maybe(row.issue.map(|issue| issue.cycle)),
+            },
+            Member {
+                name: "cost",
+                value: Value::Maybe(row.issue.map(|issue| u64::from(issue.cost))),
+            },
+            Member {
+                name: "broadcast",
+                value: Value::Maybe(row.broadcast),
+            },
+        ],
+    )
+}
+
+#[tactic(auto, unfolding(crate::specs::Instruction::retired_text))]
+fn write_retired<W: Write>(writer: &mut W, written: Option<(Reg, u32)>) -> Result<(), ReportError>
+    ensures { IsWritten result (W.contents writer.old) (W.contents writer.new) (retired_text written) }
+{
+    let end = Member {
+        name: "end",
+        value: Value::Name("retired"),
+    };
+    match written {
+        Some((register, word)) => write_members(
+            writer,
+            &[
+                end,
+                Member {
+                    name: "register",
+                    value: Value::Number(u64::from(register.number())),
+                },
+                Member {
+                    name: "value",
+                    value: Value::Number(u64::from(word)),
+                },
+            ],
+        ),
+        None => write_members(writer, &[end]),
+    }
+}
+
+#[tactic(auto, unfolding(crate::specs::Instruction::trapped_text))]
+fn write_trapped<W: Write>(writer: &mut W, cause: Cause) -> Result<(), ReportError>
+    ensures { IsWritten result (W.contents writer.old) (W.contents writer.new) (trapped_text cause) }
+{
+    write_members(
+        writer,
+        &[
+            Member {
+                name: "end",
+                value: Value::Name("trapped"),
+            },
+            Member {
+                name: "cause",
+                value: Value::Number(u64::from(cause.code())),
+            },
+        ],
+    )
+}
+
+#[tactic(auto, unfolding(crate::specs::Instruction::squashed_text))]
+fn write_squashed<W: Write>(writer: &mut W) -> Result<(), ReportError>
+    ensures { IsWritten result (W.contents writer.old) (W.contents writer.new) (squashed_text) }
+{
+    write_members(
+        writer,
+        &[Member {
+            name: "end",
+            value: Value::Name("squashed"),
+        }],
+    )
+}
+
+fn write_ending<W: Write>(writer: &mut W, ending: Ending) -> Result<(), ReportError>
+    ensures { IsWritten result (W.contents writer.old) (W.contents writer.new) (ending_text ending) }
+{
+    match ending {
+        Ending::InFlight => Ok(()),
+        Ending::Retired { written, .. } => write_retired(writer, written),
+        Ending::Trapped { cause, .. } => write_trapped(writer, cause),
+        Ending::Squashed { .. } => write_squashed(writer),
+    }
+}
+
+fn write_ended<W: Write>(writer: &mut W, row: &Passage) -> Result<(), ReportError>
+    ensures { IsWritten result (W.contents writer.old) (W.contents writer.new) (ended_text row.now) }
+{
+    write_passage(writer, row)?;
+    write_ending(writer, row.ending)
+}
+
+// What became of an instruction, where it left the hardware.
+fn write_details<W: Write>(writer: &mut W, row: &Passage) -> Result<(), ReportError>
+    ensures { IsWritten result (W.contents writer.old) (W.contents writer.new) (details_text row.now) }
+{
+    if row.is_in_flight() {
+        Ok(())
+    } else {
+        write_ended(writer, row)
+    }
+}
+
+fn write_instruction<W: Write>(writer: &mut W, row: &Passage) -> Result<(), ReportError>
+    ensures { IsWritten result (W.contents writer.old) (W.contents writer.new) (instruction_json row.now) }
+{
+    write_begin(writer, "number", row.number)?;
+    write_details(writer, row)?;
+    put(writer, b"}")
+}
+
+/// The instructions in flight, and those that left the hardware in a cycle, as an array has them.
+#[derive(Drop)]
+pub struct Instructions<'a> {
+    /// In order of fetch.
+    pub rows: &'a [Passage],
+}
+
+impl Values for Instructions<'_> {
+    ghost use Rattle.std.specs.Prelude.{map};
+    ghost use Rattle.rv_json.specs.Instruction.{instruction_json};
+
+    ghost values = { λ i. map instruction_json i.rows.now };
+
+    fn count(&self) -> usize {
+        self.rows.len()
+    }
+
+    fn write_value<W: Write>(&self, writer: &mut W, place: usize) -> Result<(), ReportError> {
+        write_instruction(writer, &self.rows[place])
+    }
+}

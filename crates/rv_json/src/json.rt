@@ -1,0 +1,173 @@
+ghost use Rattle.std.specs.Prelude.{◌≡◌, ◌++◌, codes, decimal};
+ghost use Rattle.std.specs.List.{flat_map};
+ghost use Rattle.rv_json.specs.Json.{also, begins, json_byte, key, opens, string, truth};
+ghost use Rattle.rv_json.specs.Member.{member_text};
+ghost use Rattle.rv_text.specs.Written.{IsWritten};
+
+use itoa::Buffer;
+use rv_text::{ReportError, put, put_all, write_plain_byte};
+use std::io::Write;
+
+/// What a member of an object has.
+#[derive(Clone, Copy, Debug)]
+pub enum Value {
+    /// A whole number.
+    Number(u64),
+    /// A truth value.
+    Truth(bool),
+    /// A name of the format, which needs no escape.
+    Name(&'static str),
+    /// A number where there is one; else the member is left out.
+    Maybe(Option<u64>),
+}
+
+/// A member of an object, but for its first one.
+#[derive(Clone, Copy, Debug)]
+pub struct Member {
+    /// Its name, which needs no escape.
+    pub name: &'static str,
+    /// What it has.
+    pub value: Value,
+}
+
+/// Writes the name of a further member.
+#[tactic(auto, unfolding(crate::specs::Json::key))]
+pub fn write_key<W: Write>(writer: &mut W, name: &str) -> Result<(), ReportError>
+    ensures { IsWritten result (W.contents writer.old) (W.contents writer.new) (key name.now) }
+{
+    put_all(writer, &[b",\"", name.as_bytes(), b"\":"])
+}
+
+/// Writes a further member that is a number.
+#[tactic(auto, unfolding(crate::specs::Json::also, crate::specs::Json::key))]
+pub fn write_number<W: Write>(writer: &mut W, name: &str, number: u64) -> Result<(), ReportError>
+    ensures { IsWritten result (W.contents writer.old) (W.contents writer.new) (also name.now (decimal number)) }
+{
+    let mut buffer = Buffer::new();
+    let digits = buffer.format(number).as_bytes();
+    put_all(writer, &[b",\"", name.as_bytes(), b"\":", digits])
+}
+
+#[tactic(auto, unfolding(crate::specs::Json::truth))]
+fn truth(value: bool) -> &'static [u8]
+    ensures { result.now ≡ truth value }
+{
+    if value { b"true" } else { b"false" }
+}
+
+#[tactic(auto, unfolding(crate::specs::Json::also, crate::specs::Json::key, crate::specs::Json::quoted))]
+fn write_member<W: Write>(writer: &mut W, member: Member) -> Result<(), ReportError>
+    ensures { IsWritten result (W.contents writer.old) (W.contents writer.new) (member_text member) }
+{
+    let name = member.name;
+    match member.value {
+        Value::Number(number) | Value::Maybe(Some(number)) => write_number(writer, name, number),
+        Value::Maybe(None) => Ok(()),
+        Value::Truth(value) => put_all(writer, &[b",\"", name.as_bytes(), b"\":", truth(value)]),
+        Value::Name(text) => put_all(
+            writer,
+            &[
+                b",\"",
+                name.as_bytes(),
+                b"\":",
+                b"\"",
+                text.as_bytes(),
+                b"\"",
+            ],
+        ),
+    }
+}
+
+/// Writes members of an object one after the other, each after a comma.
+pub fn write_members<W: Write>(writer: &mut W, members: &[Member]) -> Result<(), ReportError>
+    ensures { IsWritten result (W.contents writer.old) (W.contents writer.new) (flat_map member_text members.now) }
+{
+    for member in members {
+        write_member(writer, *member)?;
+    }
+    Ok(())
+}
+
+/// Writes the brace of an object and the name of its first member.
+#[tactic(auto, unfolding(crate::specs::Json::opens))]
+pub(crate) fn write_opens<W: Write>(writer: &mut W, name: &str) -> Result<(), ReportError>
+    ensures { IsWritten result (W.contents writer.old) (W.contents writer.new) (opens name.now) }
+{
+    put_all(writer, &[b"{\"", name.as_bytes(), b"\":"])
+}
+
+/// Writes the brace and the first member of an object.
+#[tactic(auto, unfolding(crate::specs::Json::begins, crate::specs::Json::opens))]
+pub fn write_begin<W: Write>(writer: &mut W, name: &str, number: u64) -> Result<(), ReportError>
+    ensures { IsWritten result (W.contents writer.old) (W.contents writer.new) (begins name.now (decimal number)) }
+{
+    let mut buffer = Buffer::new();
+    let digits = buffer.format(number).as_bytes();
+    put_all(writer, &[b"{\"", name.as_bytes(), b"\":", digits])
+}
+
+/// Writes the brace and these members of an object.
+pub(crate) fn write_front<W: Write>(
+    writer: &mut W,
+    name: &str,
+    number: u64,
+    members: &[Member],
+) -> Result<(), ReportError>
+    ensures { IsWritten result (W.contents writer.old) (W.contents writer.new) (begins name.now (decimal number) ++ flat_map member_text members.now) }
+{
+    write_begin(writer, name, number)?;
+    write_members(writer, members)
+}
+
+/// Writes an object whose members are these.
+pub fn write_object<W: Write>(
+    writer: &mut W,
+    name: &str,
+    number: u64,
+    members: &[Member],
+) -> Result<(), ReportError>
+    ensures { IsWritten result (W.contents writer.old) (W.contents writer.new) (begins name.now (decimal number) ++ (flat_map member_text members.now ++ codes "}")) }
+{
+    write_begin(writer, name, number)?;
+    write_members(writer, members)?;
+    put(writer, b"}")
+}
+
+// Writes a byte of a text of a user's.
+#[tactic(auto, unfolding(crate::specs::Json::json_byte))]
+fn write_json_byte<W: Write>(writer: &mut W, byte: u8) -> Result<(), ReportError>
+    ensures { IsWritten result (W.contents writer.old) (W.contents writer.new) (json_byte byte) }
+{
+    if byte == b'"' {
+        put(writer, b"\\u0022")
+    } else if byte == b'&' {
+        put(writer, b"\\u0026")
+    } else if byte == b'<' {
+        put(writer, b"\\u003c")
+    } else if byte == b'>' {
+        put(writer, b"\\u003e")
+    } else if byte == b'\\' {
+        put(writer, b"\\u005c")
+    } else {
+        write_plain_byte(writer, byte)
+    }
+}
+
+// Writes the bytes of a text of a user's.
+fn write_json_bytes<W: Write>(writer: &mut W, text: &[u8]) -> Result<(), ReportError>
+    ensures { IsWritten result (W.contents writer.old) (W.contents writer.new) (flat_map json_byte text.now) }
+{
+    for byte in text {
+        write_json_byte(writer, *byte)?;
+    }
+    Ok(())
+}
+
+/// Writes the string of a text of a user's.
+pub(crate) fn write_string<W: Write>(writer: &mut W, text: &[u8]) -> Result<(), ReportError>
+    ensures { IsWritten result (W.contents writer.old) (W.contents writer.new) (string text.now) }
+{
+    put(writer, b"\"")?;
+    write_json_bytes(writer, text)?;
+    put(writer, b"\"")
+}

@@ -1,0 +1,238 @@
+ghost use Rattle.std.specs.Prelude.{◌≡◌, codes};
+ghost use Rattle.rv_isa.specs.Key.{kind_name};
+ghost use Rattle.rv_json.specs.Json.{also, key};
+ghost use Rattle.rv_json.specs.Machine.{buffers_text, cache_json, format_text, header_line, kind_json, kinds_text, machine_json, numbers_text, predictor_json, predictor_name, recovery_name, recovery_text, sizes_text, widths_text};
+ghost use Rattle.rv_json.specs.declared.json.Value.TheVariants.{Number};
+ghost use Rattle.rv_text.specs.Written.{IsWritten};
+
+use crate::entry::kind_name;
+use crate::json::{Member, Value, write_front, write_key, write_members, write_object};
+use rv_isa::{CacheValues, Kind, KindValues, PredictorKind, PredictorValues, Recovery, Values};
+use rv_text::{ReportError, put};
+use std::io::Write;
+
+fn recovery_name(recovery: Recovery) -> &'static str
+    ensures { result.now ≡ recovery_name recovery }
+{
+    match recovery {
+        Recovery::Commit => "commit",
+        Recovery::Early => "early",
+    }
+}
+
+fn predictor_name(kind: PredictorKind) -> &'static str
+    ensures { result.now ≡ predictor_name kind }
+{
+    match kind {
+        PredictorKind::NotTaken => "not_taken",
+        PredictorKind::BackwardTaken => "backward_taken",
+        PredictorKind::Bimodal => "bimodal",
+    }
+}
+
+fn number(name: &'static str, number: u32) -> Member
+    ensures name { result.name.now ≡ name.now }
+    ensures value { result.value ≡ Number number }
+{
+    Member {
+        name,
+        value: Value::Number(u64::from(number)),
+    }
+}
+
+#[tactic(auto, unfolding(crate::specs::Machine::sizes_text))]
+fn write_sizes<W: Write>(writer: &mut W, values: &Values) -> Result<(), ReportError>
+    ensures { IsWritten result (W.contents writer.old) (W.contents writer.new) (sizes_text values.now) }
+{
+    write_front(
+        writer,
+        "ram_base",
+        u64::from(values.ram_base),
+        &[
+            number("ram_size", values.ram_size),
+            number("rom_bytes", values.rom_bytes),
+        ],
+    )
+}
+
+#[tactic(auto, unfolding(crate::specs::Machine::widths_text))]
+fn write_widths<W: Write>(writer: &mut W, values: &Values) -> Result<(), ReportError>
+    ensures { IsWritten result (W.contents writer.old) (W.contents writer.new) (widths_text values.now) }
+{
+    write_members(
+        writer,
+        &[
+            number("fetch_width", values.fetch_width),
+            number("dispatch_width", values.dispatch_width),
+            number("commit_width", values.commit_width),
+            number("bus_width", values.bus_width),
+        ],
+    )
+}
+
+#[tactic(auto, unfolding(crate::specs::Machine::buffers_text))]
+fn write_buffers<W: Write>(writer: &mut W, values: &Values) -> Result<(), ReportError>
+    ensures { IsWritten result (W.contents writer.old) (W.contents writer.new) (buffers_text values.now) }
+{
+    write_members(
+        writer,
+        &[
+            number("fetch_buffer", values.fetch_buffer),
+            number("rob", values.rob),
+            number("store_queue", values.store_queue),
+            number("forward", values.forward),
+        ],
+    )
+}
+
+#[tactic(auto, unfolding(crate::specs::Machine::recovery_text))]
+fn write_recovery<W: Write>(writer: &mut W, recovery: Recovery) -> Result<(), ReportError>
+    ensures { IsWritten result (W.contents writer.old) (W.contents writer.new) (recovery_text recovery) }
+{
+    write_members(
+        writer,
+        &[Member {
+            name: "recovery",
+            value: Value::Name(recovery_name(recovery)),
+        }],
+    )
+}
+
+fn write_numbers<W: Write>(writer: &mut W, values: &Values) -> Result<(), ReportError>
+    ensures { IsWritten result (W.contents writer.old) (W.contents writer.new) (numbers_text values.now) }
+{
+    write_sizes(writer, values)?;
+    write_widths(writer, values)?;
+    write_buffers(writer, values)?;
+    write_recovery(writer, values.recovery)
+}
+
+#[tactic(auto, unfolding(crate::specs::Machine::kind_json))]
+fn write_kind_object<W: Write>(writer: &mut W, values: KindValues) -> Result<(), ReportError>
+    ensures { IsWritten result (W.contents writer.old) (W.contents writer.new) (kind_json values) }
+{
+    write_object(
+        writer,
+        "stations",
+        u64::from(values.stations),
+        &[
+            number("units", values.units),
+            number("latency", values.latency),
+            Member {
+                name: "pipelined",
+                value: Value::Truth(values.pipelined),
+            },
+        ],
+    )
+}
+
+fn write_kind_key<W: Write>(writer: &mut W, kind: Kind) -> Result<(), ReportError>
+    ensures { IsWritten result (W.contents writer.old) (W.contents writer.new) (key (kind_name kind)) }
+{
+    write_key(writer, kind_name(kind))
+}
+
+fn write_kind<W: Write>(writer: &mut W, kind: Kind, values: KindValues) -> Result<(), ReportError>
+    ensures { IsWritten result (W.contents writer.old) (W.contents writer.new) (also (kind_name kind) (kind_json values)) }
+{
+    write_kind_key(writer, kind)?;
+    write_kind_object(writer, values)
+}
+
+fn write_kinds<W: Write>(writer: &mut W, values: &Values) -> Result<(), ReportError>
+    ensures { IsWritten result (W.contents writer.old) (W.contents writer.new) (kinds_text values.now) }
+{
+    write_kind(writer, Kind::Alu, values.kinds.alu)?;
+    write_kind(writer, Kind::Mul, values.kinds.mul)?;
+    write_kind(writer, Kind::Div, values.kinds.div)?;
+    write_kind(writer, Kind::Mem, values.kinds.mem)
+}
+
+#[tactic(auto, unfolding(crate::specs::Machine::cache_json))]
+fn write_cache_object<W: Write>(writer: &mut W, values: CacheValues) -> Result<(), ReportError>
+    ensures { IsWritten result (W.contents writer.old) (W.contents writer.new) (cache_json values) }
+{
+    write_object(
+        writer,
+        "sets",
+        u64::from(values.sets),
+        &[
+            number("ways", values.ways),
+            number("line", values.line),
+            number("hit", values.hit),
+            number("miss", values.miss),
+            number("write_back", values.write_back),
+        ],
+    )
+}
+
+fn write_cache<W: Write>(writer: &mut W, values: CacheValues) -> Result<(), ReportError>
+    ensures { IsWritten result (W.contents writer.old) (W.contents writer.new) (also (codes "cache") (cache_json values)) }
+{
+    write_key(writer, "cache")?;
+    write_cache_object(writer, values)
+}
+
+#[tactic(auto, unfolding(crate::specs::Machine::predictor_json))]
+fn write_predictor_object<W: Write>(
+    writer: &mut W,
+    values: PredictorValues,
+) -> Result<(), ReportError>
+    ensures { IsWritten result (W.contents writer.old) (W.contents writer.new) (predictor_json values) }
+{
+    write_object(
+        writer,
+        "entries",
+        u64::from(values.entries),
+        &[Member {
+            name: "kind",
+            value: Value::Name(predictor_name(values.kind)),
+        }],
+    )
+}
+
+fn write_predictor<W: Write>(writer: &mut W, values: PredictorValues) -> Result<(), ReportError>
+    ensures { IsWritten result (W.contents writer.old) (W.contents writer.new) (also (codes "predictor") (predictor_json values)) }
+{
+    write_key(writer, "predictor")?;
+    write_predictor_object(writer, values)
+}
+
+fn write_machine<W: Write>(writer: &mut W, values: &Values) -> Result<(), ReportError>
+    ensures { IsWritten result (W.contents writer.old) (W.contents writer.new) (machine_json values.now) }
+{
+    write_numbers(writer, values)?;
+    write_kinds(writer, values)?;
+    write_cache(writer, values.cache)?;
+    write_predictor(writer, values.predictor)?;
+    put(writer, b"}")
+}
+
+#[tactic(auto, unfolding(crate::specs::Machine::format_text))]
+fn write_format<W: Write>(writer: &mut W, first: u64) -> Result<(), ReportError>
+    ensures { IsWritten result (W.contents writer.old) (W.contents writer.new) (format_text first) }
+{
+    write_front(
+        writer,
+        "first",
+        first,
+        &[Member {
+            name: "format",
+            value: Value::Name("rv_sim states 1"),
+        }],
+    )
+}
+
+/// Writes the first line: the format, the number of the window's first cycle, and the machine's values.
+pub fn write_header<W: Write>(
+    writer: &mut W,
+    first: u64,
+    values: &Values,
+) -> Result<(), ReportError>
+    ensures { IsWritten result (W.contents writer.old) (W.contents writer.new) (header_line first values.now) }
+{
+    write_format(writer, first)?;
+    write_key(writer, "machine")?;
+    write_machine(writer, values)?;
+    put(writer, b"}\n")
+}

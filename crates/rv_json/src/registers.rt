@@ -1,0 +1,93 @@
+ghost use Rattle.std.specs.Prelude.{◌≡◌, codes};
+ghost use Rattle.rv_arch.specs.Csr.{value_of};
+ghost use Rattle.rv_json.specs.Json.{also};
+ghost use Rattle.rv_json.specs.Registers.{csrs_json, interrupts_text, trap_text};
+ghost use Rattle.rv_json.specs.declared.json.Value.TheVariants.{Number};
+ghost use Rattle.rv_text.specs.Written.{IsWritten};
+
+use crate::array::Values;
+use crate::json::{Member, Value, write_front, write_key, write_members};
+use itoa::Buffer;
+use rv_arch::Observed;
+use rv_isa::Csr;
+use rv_text::{ReportError, put};
+use std::io::Write;
+
+/// Words, as an array has them.
+#[derive(Drop)]
+pub(crate) struct Words<'a> {
+    pub(crate) words: &'a [u32],
+}
+
+impl Values for Words<'_> {
+    ghost use Rattle.std.specs.Prelude.{decimal, map};
+
+    ghost values = { λ w. map decimal w.words.now };
+
+    fn count(&self) -> usize {
+        self.words.len()
+    }
+
+    fn write_value<W: Write>(&self, writer: &mut W, place: usize) -> Result<(), ReportError> {
+        let mut buffer = Buffer::new();
+        put(writer, buffer.format(self.words[place]).as_bytes())
+    }
+}
+
+// A control and status register.
+fn member(name: &'static str, seen: &Observed, csr: Csr) -> Member
+    ensures name { result.name.now ≡ name.now }
+    ensures value { result.value ≡ Number (value_of seen.now.csrs seen.now.lines csr) }
+{
+    Member {
+        name,
+        value: Value::Number(u64::from(seen.csrs.value(csr, seen.lines))),
+    }
+}
+
+#[tactic(auto, unfolding(crate::specs::Registers::interrupts_text))]
+fn write_interrupts<W: Write>(writer: &mut W, seen: &Observed) -> Result<(), ReportError>
+    ensures { IsWritten result (W.contents writer.old) (W.contents writer.new) (interrupts_text seen.now.csrs seen.now.lines) }
+{
+    write_front(
+        writer,
+        "mstatus",
+        u64::from(seen.csrs.value(Csr::Mstatus, seen.lines)),
+        &[
+            member("mie", seen, Csr::Mie),
+            member("mip", seen, Csr::Mip),
+            member("mtvec", seen, Csr::Mtvec),
+        ],
+    )
+}
+
+#[tactic(auto, unfolding(crate::specs::Registers::trap_text))]
+fn write_trap<W: Write>(writer: &mut W, seen: &Observed) -> Result<(), ReportError>
+    ensures { IsWritten result (W.contents writer.old) (W.contents writer.new) (trap_text seen.now.csrs seen.now.lines) }
+{
+    write_members(
+        writer,
+        &[
+            member("mscratch", seen, Csr::Mscratch),
+            member("mepc", seen, Csr::Mepc),
+            member("mcause", seen, Csr::Mcause),
+            member("mtval", seen, Csr::Mtval),
+        ],
+    )
+}
+
+fn write_csr_object<W: Write>(writer: &mut W, seen: &Observed) -> Result<(), ReportError>
+    ensures { IsWritten result (W.contents writer.old) (W.contents writer.new) (csrs_json seen.now.csrs seen.now.lines) }
+{
+    write_interrupts(writer, seen)?;
+    write_trap(writer, seen)?;
+    put(writer, b"}")
+}
+
+/// Writes the member that has the control and status registers.
+pub(crate) fn write_csrs<W: Write>(writer: &mut W, seen: &Observed) -> Result<(), ReportError>
+    ensures { IsWritten result (W.contents writer.old) (W.contents writer.new) (also (codes "csrs") (csrs_json seen.now.csrs seen.now.lines)) }
+{
+    write_key(writer, "csrs")?;
+    write_csr_object(writer, seen)
+}

@@ -1,9 +1,0 @@
-use Rattle.std.specs.Io.KnownBytes.{Appends}
-use Rattle.rv_states.specs.Listing.{listing_line}
-use Rattle.rv_states.specs.Place.{word_address}
-use Rattle.rv_text.proofs.Writing.{texts_below}
-use Rattle.rv_states.proofs.listing.write_listing.Given as goal
-
--- the lines so far are written
-abbrev pub invariant-loop-number : goal.invariant-loop-number
-invariant-loop-number g l = Appends (g.W.Write.contents l.initial.writer) (g.W.Write.contents l.writer) (texts_below (λ number. listing_line l.listing (word_address l.values.ram_base number)) l.number)

@@ -1,0 +1,16 @@
+-- The instructions in the reorder buffer, as JSON.
+use Rattle.std.specs.Prelude.{ℕ, ◌+◌, List, [], ◌∷◌, ◌++◌, codes}
+use Rattle.rv_core.specs.Ties.{RegisterStatus, status_with}
+use Rattle.rv_json.specs.Entry.{entry_text}
+use Rattle.rv_json.specs.Json.{Json}
+use Rattle.rv_rob.specs.declared.entry.Entry.{Entry}
+use Rattle.rv_states.specs.Operands.{operands_text}
+
+-- an instruction by its sequence number, where the registers give it this
+unfoldable pub entry_json : RegisterStatus → ℕ → Entry → Json
+entry_json status number e = entry_text number e ++ (operands_text status e.stage e.instruction ++ codes "}")
+
+-- the instructions, the oldest first, where the registers give the first of them this
+abbrev pub entries_json : RegisterStatus → ℕ → List Entry → List Json
+entries_json status number [] = []
+entries_json status number (e ∷ es) = entry_json status number e ∷ entries_json (status_with status number e) (number + 1) es

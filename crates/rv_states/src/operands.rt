@@ -1,0 +1,157 @@
+ghost use Rattle.std.specs.Prelude.{◌≡◌, ◌+◌, ◌<◌, ◌≤◌, ◌++◌, if◌then◌else◌, codes, length, option_copied, slice_get, take, Some};
+ghost use Rattle.rv_core.specs.Ties.{operand_by, status_behind, values_in};
+ghost use Rattle.rv_hardware.specs.InFlight.{broadcast_of, writes};
+ghost use Rattle.rv_states.specs.Operands.{operand_text, operands_of, operands_text};
+ghost use Rattle.rv_text.specs.Written.{IsWritten};
+
+use rv_isa::{Instr, Reg, sources, target};
+use rv_json::{broadcast, write_operand};
+use rv_rob::{Entry, Rob, Stage};
+use rv_stations::Operand;
+use rv_text::ReportError;
+use std::io::Write;
+
+/// The sequence number of the entry at a place of the reorder buffer.
+pub(crate) fn number_at(buffer: &Rob, place: usize) -> u64
+    requires { place ≤ length buffer.now.entries }
+    ensures { result ≡ buffer.now.retired + place }
+{
+    let behind = buffer.len() - place;
+    buffer.next_number() - behind as u64
+}
+
+// The entry at a place of the reorder buffer, the oldest at place 0.
+fn found_at(buffer: &Rob, place: usize) -> Option<&Entry>
+    requires { place ≤ length buffer.now.entries }
+    ensures { option_copied result ≡ slice_get buffer.now.entries place }
+{
+    buffer.get(number_at(buffer, place))
+}
+
+/// The entry at a place that there is.
+pub(crate) fn entry_at(buffer: &Rob, place: usize) -> Entry
+    requires { place < length buffer.now.entries }
+    ensures { slice_get buffer.now.entries place ≡ Some result }
+{
+    match found_at(buffer, place) {
+        Some(entry) => *entry,
+        None => unreachable!(),
+    }
+}
+
+// Whether an instruction writes a register.
+fn writes(entry: &Entry, register: Reg) -> bool
+    ensures { result ≡ writes entry.now register }
+{
+    match &entry.instruction {
+        Some(instruction) => match target(instruction) {
+            Some(target) => target == register,
+            None => false,
+        },
+        None => false,
+    }
+}
+
+// What the target of an instruction gives.
+fn given(number: u64, entry: &Entry) -> Operand
+    ensures { result ≡ operand_by number (broadcast_of entry.now.stage) }
+{
+    match broadcast(&entry.stage) {
+        Some(message) => Operand::Value(message.value),
+        None => Operand::Tag(number),
+    }
+}
+
+// What a register gives once one more instruction is older, where it gave this before.
+fn given_with(before: Operand, number: u64, entry: &Entry, register: Reg) -> Operand
+    ensures { result ≡ (if writes entry.now register then operand_by number (broadcast_of entry.now.stage) else before) }
+{
+    if writes(entry, register) {
+        given(number, entry)
+    } else {
+        before
+    }
+}
+
+// What a register gives after so many of the instructions in flight.
+fn operand_behind(buffer: &Rob, registers: &[u32; 32], count: usize, register: Reg) -> Operand
+    requires { count ≤ length buffer.now.entries }
+    ensures { result ≡ status_behind (values_in registers.now) buffer.now.retired (take count buffer.now.entries) register }
+{
+    let mut operand = Operand::Value(registers[register.index()]);
+    for place in 0..count {
+        let entry = entry_at(buffer, place);
+        operand = given_with(operand, number_at(buffer, place), &entry, register);
+    }
+    operand
+}
+
+#[tactic(auto, unfolding(crate::specs::Operands::operand_text))]
+fn write_operand_member<W: Write>(
+    writer: &mut W,
+    name: &str,
+    buffer: &Rob,
+    registers: &[u32; 32],
+    count: usize,
+    register: Option<Reg>,
+) -> Result<(), ReportError>
+    requires { count ≤ length buffer.now.entries }
+    ensures { IsWritten result (W.contents writer.old) (W.contents writer.new) (operand_text name.now (status_behind (values_in registers.now) buffer.now.retired (take count buffer.now.entries)) register) }
+{
+    match register {
+        Some(register) => {
+            let operand = operand_behind(buffer, registers, count, register);
+            write_operand(writer, name, register, operand)
+        }
+        None => Ok(()),
+    }
+}
+
+fn write_both<W: Write>(
+    writer: &mut W,
+    buffer: &Rob,
+    registers: &[u32; 32],
+    count: usize,
+    first: Option<Reg>,
+    second: Option<Reg>,
+) -> Result<(), ReportError>
+    requires { count ≤ length buffer.now.entries }
+    ensures { IsWritten result (W.contents writer.old) (W.contents writer.new) (operand_text (codes "first") (status_behind (values_in registers.now) buffer.now.retired (take count buffer.now.entries)) first ++ operand_text (codes "second") (status_behind (values_in registers.now) buffer.now.retired (take count buffer.now.entries)) second) }
+{
+    write_operand_member(writer, "first", buffer, registers, count, first)?;
+    write_operand_member(writer, "second", buffer, registers, count, second)
+}
+
+#[tactic(auto, unfolding(crate::specs::Operands::operands_of))]
+fn write_sources<W: Write>(
+    writer: &mut W,
+    buffer: &Rob,
+    registers: &[u32; 32],
+    count: usize,
+    instruction: &Instr,
+) -> Result<(), ReportError>
+    requires { count ≤ length buffer.now.entries }
+    ensures { IsWritten result (W.contents writer.old) (W.contents writer.new) (operands_of (status_behind (values_in registers.now) buffer.now.retired (take count buffer.now.entries)) instruction.now) }
+{
+    let sources = sources(instruction);
+    write_both(writer, buffer, registers, count, sources[0], sources[1])
+}
+
+/// Writes what an instruction that waits reads, after so many older ones in flight.
+pub(crate) fn write_operands<W: Write>(
+    writer: &mut W,
+    buffer: &Rob,
+    registers: &[u32; 32],
+    count: usize,
+    entry: &Entry,
+) -> Result<(), ReportError>
+    requires { count ≤ length buffer.now.entries }
+    ensures { IsWritten result (W.contents writer.old) (W.contents writer.new) (operands_text (status_behind (values_in registers.now) buffer.now.retired (take count buffer.now.entries)) entry.now.stage entry.now.instruction) }
+{
+    match (&entry.stage, &entry.instruction) {
+        (Stage::Waiting, Some(instruction)) => {
+            write_sources(writer, buffer, registers, count, instruction)
+        }
+        _ => Ok(()),
+    }
+}
