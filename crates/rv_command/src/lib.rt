@@ -1,11 +1,9 @@
-//! The command line of the program `rv_sim`: what its words ask for, and what is shown of words that are no command. Its model is
-//! `clap`'s reading of the words with the program's arguments. The program stands on it.
+//! The command line of the program `rv_sim`: what its words ask for. Its model is `clap`'s reading of the words with the program's
+//! arguments. The program stands on it.
 #![tactic(auto)]
 
 mod arguments;
 mod command;
 mod help;
-mod usage;
 
 pub use command::{Command, parse_words};
-pub use usage::show_usage;

@@ -20,8 +20,9 @@ mod task;
 mod tests;
 
 use program::run;
-use rv_command::{parse_words, show_usage};
+use rv_command::parse_words;
 use rv_job::{FaultLines, SimError};
+use rv_usage::show_usage;
 use std::io::Eprint;
 use std::process::ExitCode;
 use std::{env, io};
