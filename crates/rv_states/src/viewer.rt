@@ -40,6 +40,7 @@ main { flex: 1 1 auto; min-height: 0; display: grid; grid-template-columns: 24fr
 .panel.grows { flex: 1 1 0; min-height: 6rem; }
 .panel h2 { background: var(--title); padding: 0 0.4rem; white-space: nowrap; }
 .note { background: var(--title); color: var(--quiet); padding: 0 0.4rem; text-align: right; white-space: nowrap; overflow: hidden; text-overflow: ellipsis; font-size: 0.9rem; }
+#stations-note { font-size: 0.8rem; }
 .scroll, .list, #picture { grid-column: 1 / 3; overflow: auto; min-height: 0; scrollbar-width: thin; position: relative; contain: layout paint style; }
 table { border-collapse: collapse; width: 100%; table-layout: auto; }
 th, td { padding: 0 0.25rem; white-space: nowrap; text-align: left; font-weight: normal; height: 1.25rem; overflow: hidden; }
