@@ -1,11 +1,10 @@
 -- What a viewer's pane of details shows of an instruction that left the hardware: how, what it wrote, what its
 -- execution cost, and what was predicted after a branch or a jump.
-use Rattle.std.specs.Prelude.{ℕ, if◌then◌else◌, List, [], ◌++◌, codes, decimal, Option, Some, None}
+use Rattle.std.specs.Prelude.{ℕ, List, [], ◌++◌, codes, decimal, Option, Some, None}
 use Rattle.rv_isa.specs.Cause.{code_of}
-use Rattle.rv_isa.specs.Instruction.{is_branch_or_jump}
 use Rattle.rv_isa.specs.declared.{causes.Cause.Cause, issues.Issue.Issue}
 use Rattle.rv_passage.specs.Names.{register_name}
-use Rattle.rv_passage.specs.Prediction.{correction_of}
+use Rattle.rv_passage.specs.Prediction.{correction_of, prediction_of}
 use Rattle.rv_passage.specs.declared.passage.{Ending.Ending, Passage.Passage}
 use Rattle.rv_passage.specs.declared.passage.Ending.TheVariants.{InFlight, Retired, Trapped, Squashed}
 use Rattle.rv_text.specs.Line.{word_text}
@@ -39,8 +38,7 @@ predicted_text (Some predicted) correction = (codes ", predicted " ++ word_text 
 
 -- that of a branch or a jump
 unfoldable pub prediction_text : Passage → List ℕ
-prediction_text passage =
-    if is_branch_or_jump passage.instruction then predicted_text passage.predicted (correction_of passage) else []
+prediction_text passage = predicted_text (prediction_of passage) (correction_of passage)
 
 -- what its execution cost, where it began
 unfoldable pub cost_text : Option Issue → List ℕ

@@ -1,11 +1,10 @@
 ghost use Rattle.std.specs.Prelude.{◌≡◌, ◌++◌, codes, decimal};
-ghost use Rattle.rv_isa.specs.Instruction.{is_branch_or_jump};
 ghost use Rattle.rv_log.specs.Details.{written_text, cause_text, correction_text, ending_text, cost_text, details_line, predicted_text, prediction_text};
 ghost use Rattle.rv_text.specs.Line.{word_text};
 ghost use Rattle.rv_text.specs.Written.{IsWritten};
 
 use itoa::Buffer;
-use rv_isa::{Cause, Instr, Issue, Reg};
+use rv_isa::{Cause, Issue, Reg};
 use rv_passage::{Ending, Passage, register_name};
 use rv_text::{ReportError, hexadecimal, put, put_all};
 use std::io::Write;
@@ -115,26 +114,12 @@ fn write_predicted<W: Write>(
     }
 }
 
-// Whether the execution of an instruction tells where the program goes on.
-fn is_branch_or_jump(instruction: &Option<Instr>) -> bool
-    ensures { result ≡ is_branch_or_jump instruction.now }
-{
-    matches!(
-        instruction,
-        Some(Instr::Jal { .. } | Instr::Jalr { .. } | Instr::Branch { .. })
-    )
-}
-
 // Writes what was predicted after a branch or a jump.
 #[tactic(auto, unfolding(crate::specs::Details::prediction_text))]
 fn write_prediction<W: Write>(writer: &mut W, row: &Passage) -> Result<(), ReportError>
     ensures { IsWritten result (W.contents writer.old) (W.contents writer.new) (prediction_text row.now) }
 {
-    if is_branch_or_jump(&row.instruction) {
-        write_predicted(writer, row.predicted, row.correction())
-    } else {
-        Ok(())
-    }
+    write_predicted(writer, row.prediction(), row.correction())
 }
 
 fn write_begin<W: Write>(writer: &mut W, number: u64) -> Result<(), ReportError>

@@ -1,5 +1,6 @@
--- Whether an instruction's prediction was wrong.
+-- What was predicted after a branch or a jump, and whether that was wrong.
 use Rattle.std.specs.Prelude.{ℕ, ◌==◌, if◌then◌else◌, Bool, false, not, Option, Some, None}
+use Rattle.rv_isa.specs.Instruction.{is_branch_or_jump}
 use Rattle.rv_passage.specs.declared.passage.{Ending.Ending, Passage.Passage}
 use Rattle.rv_passage.specs.declared.passage.Ending.TheVariants.{InFlight, Retired, Trapped, Squashed}
 
@@ -16,9 +17,13 @@ differ None next = false
 differ (Some predicted) None = false
 differ (Some predicted) (Some next) = not (next == predicted)
 
--- it retired, and the program did not go on where that was predicted at its fetch
+-- the pc that was predicted to come after a branch or a jump
+abbrev pub prediction_of : Passage → Option ℕ
+prediction_of p = if is_branch_or_jump p.instruction then p.predicted else None
+
+-- a branch or a jump retired, and the program did not go on where that was predicted at its fetch
 abbrev pub is_mispredicted : Passage → Bool
-is_mispredicted p = differ p.predicted (next_of p.ending)
+is_mispredicted p = differ (prediction_of p) (next_of p.ending)
 
 -- where the program went on, if that was predicted wrongly
 abbrev pub correction_of : Passage → Option ℕ

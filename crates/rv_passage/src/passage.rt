@@ -117,7 +117,7 @@ fn start_of(execution: Execution) -> Issue
 
 impl Passage {
     ghost use Rattle.rv_passage.specs.Passage.{is_in_flight, of_entry, of_fetched, retired_by, trapped_by, squashed_in};
-    ghost use Rattle.rv_passage.specs.Prediction.{correction_of, is_mispredicted};
+    ghost use Rattle.rv_passage.specs.Prediction.{correction_of, is_mispredicted, prediction_of};
     ghost use Rattle.rv_passage.specs.Result.{has_come, issued_in, ready_in, waits_for_bus};
 
     /// Whether the instruction did not leave the hardware yet.
@@ -142,17 +142,27 @@ impl Passage {
             .map(|issue| u128::from(issue.cycle) + u128::from(issue.cost))
     }
 
-    /// Whether it retired, and the program did not go on where that was predicted at its fetch.
+    /// The pc that was predicted at its fetch to come next, where it is a branch or a jump.
+    pub fn prediction(&self) -> Option<u32>
+        ensures { result ≡ prediction_of self.now }
+    {
+        match self.instruction {
+            Some(Instr::Jal { .. } | Instr::Jalr { .. } | Instr::Branch { .. }) => self.predicted,
+            _ => None,
+        }
+    }
+
+    /// Whether it is a branch or a jump and retired, and the program did not go on where that was predicted at its fetch.
     pub fn is_mispredicted(&self) -> bool
         ensures { result ≡ is_mispredicted self.now }
     {
-        match (self.predicted, self.ending.next()) {
+        match (self.prediction(), self.ending.next()) {
             (Some(predicted), Some(next)) => next != predicted,
             _ => false,
         }
     }
 
-    /// Where the program went on after it, if that was predicted wrongly.
+    /// Where the program went on after a branch or a jump, if that was predicted wrongly.
     pub fn correction(&self) -> Option<u32>
         ensures { result ≡ correction_of self.now }
     {

@@ -1,9 +1,8 @@
 -- The tip of a row: what was predicted after a branch or a jump, and whether that was wrong, or the cause of a trap.
-use Rattle.std.specs.Prelude.{ℕ, if◌then◌else◌, List, [], ◌++◌, codes, decimal, Option, Some, None}
+use Rattle.std.specs.Prelude.{ℕ, List, [], ◌++◌, codes, decimal, Option, Some, None}
 use Rattle.rv_isa.specs.Cause.{code_of}
-use Rattle.rv_isa.specs.Instruction.{is_branch_or_jump}
 use Rattle.rv_isa.specs.declared.causes.Cause.{Cause}
-use Rattle.rv_passage.specs.Prediction.{correction_of}
+use Rattle.rv_passage.specs.Prediction.{correction_of, prediction_of}
 use Rattle.rv_passage.specs.declared.passage.{Ending.Ending, Passage.Passage}
 use Rattle.rv_passage.specs.declared.passage.Ending.TheVariants.{InFlight, Retired, Trapped, Squashed}
 use Rattle.rv_text.specs.Line.{word_text}
@@ -24,8 +23,7 @@ predicted_title (Some predicted) correction = predicted_begin predicted ++ (corr
 
 -- that of a branch or a jump
 unfoldable pub prediction_title : Passage → List ℕ
-prediction_title passage =
-    if is_branch_or_jump passage.instruction then predicted_title passage.predicted (correction_of passage) else []
+prediction_title passage = predicted_title (prediction_of passage) (correction_of passage)
 
 -- the cause of a trap
 unfoldable pub trap_title : ℕ → List ℕ

@@ -1,11 +1,10 @@
 ghost use Rattle.std.specs.Prelude.{◌≡◌, ◌++◌, codes};
 ghost use Rattle.rv_isa.specs.Cause.{code_of};
-ghost use Rattle.rv_isa.specs.Instruction.{is_branch_or_jump};
 ghost use Rattle.rv_picture.specs.Title.{correction_text, predicted_begin, predicted_title, prediction_title, row_end, row_title, trap_title};
 ghost use Rattle.rv_text.specs.Written.{IsWritten};
 
 use itoa::Buffer;
-use rv_isa::{Cause, Instr};
+use rv_isa::Cause;
 use rv_passage::{Ending, Passage};
 use rv_text::{ReportError, hexadecimal, put, put_all};
 use std::io::Write;
@@ -57,25 +56,11 @@ fn write_predicted<W: Write>(
     }
 }
 
-// Whether the execution of an instruction tells where the program goes on.
-fn is_branch_or_jump(instruction: &Option<Instr>) -> bool
-    ensures { result ≡ is_branch_or_jump instruction.now }
-{
-    matches!(
-        instruction,
-        Some(Instr::Jal { .. } | Instr::Jalr { .. } | Instr::Branch { .. })
-    )
-}
-
 #[tactic(auto, unfolding(crate::specs::Title::prediction_title))]
 fn write_prediction<W: Write>(writer: &mut W, row: &Passage) -> Result<(), ReportError>
     ensures { IsWritten result (W.contents writer.old) (W.contents writer.new) (prediction_title row.now) }
 {
-    if is_branch_or_jump(&row.instruction) {
-        write_predicted(writer, row.predicted, row.correction())
-    } else {
-        Ok(())
-    }
+    write_predicted(writer, row.prediction(), row.correction())
 }
 
 fn write_trap<W: Write>(writer: &mut W, cause: Cause) -> Result<(), ReportError>
