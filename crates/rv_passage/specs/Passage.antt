@@ -1,5 +1,5 @@
 -- The passages of the instructions in flight, and how one ends.
-use Rattle.std.specs.Prelude.{ℕ, Bool, true, false, List, ◌++◌, map, Option, Some, None}
+use Rattle.std.specs.Prelude.{ℕ, Bool, true, false, not, List, ◌++◌, map, Option, Some, None}
 use Rattle.std.specs.Option.{option_map}
 use Rattle.rv_isa.specs.declared.{causes.Cause.Cause, issues.Issue.Issue}
 use Rattle.rv_front.specs.FetchBuffer.{FetchBuffer}
@@ -20,6 +20,13 @@ is_running (ending.Retired order cycle written next) = false
 is_running (ending.Trapped cycle cause) = false
 is_running (ending.Squashed cycle) = false
 
+-- it was squashed
+abbrev pub is_squash : Ending → Bool
+is_squash (ending.Squashed cycle) = true
+is_squash ending.InFlight = false
+is_squash (ending.Retired order cycle written next) = false
+is_squash (ending.Trapped cycle cause) = false
+
 -- the cycle in which it left the hardware, if it did
 abbrev pub left_in : Ending → Option ℕ
 left_in ending.InFlight = None
@@ -30,6 +37,10 @@ left_in (ending.Squashed cycle) = Some cycle
 -- it did not leave the hardware yet
 abbrev pub is_in_flight : Passage → Bool
 is_in_flight p = is_running p.ending
+
+-- it was not squashed
+abbrev pub is_unsquashed : Passage → Bool
+is_unsquashed p = not (is_squash p.ending)
 
 -- the cycle in which a result was broadcast
 abbrev pub broadcast_of : Stage → Option ℕ

@@ -6,7 +6,7 @@ use Rattle.rv_hardware.specs.Hardware.{Hardware}
 use Rattle.rv_hardware.specs.Lessons.{first_pc}
 use Rattle.rv_hardware.specs.declared.step.Step.{Step}
 use Rattle.rv_hardware.specs.declared.step.Step.TheVariants as step
-use Rattle.rv_passage.specs.Passage.{in_buffers, is_in_flight, numbered, retired_by, squashed_in, trapped_by}
+use Rattle.rv_passage.specs.Passage.{in_buffers, is_in_flight, is_unsquashed, numbered, retired_by, squashed_in, trapped_by}
 use Rattle.rv_passage.specs.Producers.{standing_at}
 use Rattle.rv_passage.specs.declared.{passage.Passage.Passage, table.Table.Table}
 
@@ -94,6 +94,10 @@ after_cycle cycle steps h t = after_steps cycle steps h.rob h.front h.pc t
 -- without those that ended
 abbrev pub still_open : Passages → Passages
 still_open t = record t { rows = filter is_in_flight t.rows; interrupts = [] }
+
+-- without what was squashed
+abbrev pub without_squashed : Passages → Passages
+without_squashed t = record t { rows = filter is_unsquashed t.rows }
 
 -- room for what a cycle may add: as many rows as can be in flight, and an interrupt for each step
 pub record HasRoom (t : Table) : Type 0 where

@@ -116,7 +116,7 @@ fn start_of(execution: Execution) -> Issue
 }
 
 impl Passage {
-    ghost use Rattle.rv_passage.specs.Passage.{is_in_flight, of_entry, of_fetched, retired_by, trapped_by, squashed_in};
+    ghost use Rattle.rv_passage.specs.Passage.{is_in_flight, is_unsquashed, of_entry, of_fetched, retired_by, trapped_by, squashed_in};
     ghost use Rattle.rv_passage.specs.Prediction.{correction_of, is_mispredicted, prediction_of};
     ghost use Rattle.rv_passage.specs.Result.{has_come, issued_in, ready_in, waits_for_bus};
 
@@ -125,6 +125,13 @@ impl Passage {
         ensures { result ≡ is_in_flight self.now }
     {
         matches!(self.ending, Ending::InFlight)
+    }
+
+    // Whether it was not squashed.
+    pub(crate) fn is_unsquashed(&self) -> bool
+        ensures { result ≡ is_unsquashed self.now }
+    {
+        !matches!(self.ending, Ending::Squashed { .. })
     }
 
     /// The cycle in which its execution began; None, too, where it uses no unit.

@@ -2,7 +2,7 @@ ghost use Rattle.std.specs.Prelude.{◌≡◌, ℕ, ◌+◌, ◌≤◌, ◌<◌,
 ghost use Rattle.rv_hardware.specs.Lessons.{first_pc};
 ghost use Rattle.rv_hardware.specs.Step.{pc_of};
 ghost use Rattle.rv_passage.specs.Passage.{in_buffers, numbered};
-ghost use Rattle.rv_passage.specs.Table.{AreShort, CanCount, HasRoom, after_steps, moved_on, numbered_from, passages_of, still_open, table_from, with_step, with_steps};
+ghost use Rattle.rv_passage.specs.Table.{AreShort, CanCount, HasRoom, after_steps, moved_on, numbered_from, passages_of, still_open, table_from, with_step, with_steps, without_squashed};
 
 use crate::in_flight::{MOST_IN_FLIGHT, count_in_flight, present_at};
 use crate::passage::Passage;
@@ -178,6 +178,13 @@ impl Table {
         };
         self.rows.push(passage).unwrap();
         self.fetched += 1;
+    }
+
+    /// Forgets the instructions that were squashed.
+    pub fn drop_squashed(&mut self)
+        ensures { passages_of self.new ≡ without_squashed (passages_of self.old) }
+    {
+        self.rows.retain(|row| row.is_unsquashed());
     }
 
     /// Forgets the instructions that left the hardware, and the interrupts.
