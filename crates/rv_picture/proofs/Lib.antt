@@ -1,2 +1,1 @@
-mod SvgRows
 pub mod UnderWay

@@ -19,7 +19,7 @@ use Rattle.rv_passage.specs.Passage.{in_flight}
 use Rattle.rv_passage.specs.Table.{CanCount, Passages, after_cycle, numbered_from, table_at}
 use Rattle.rv_passage.specs.declared.passage.Passage.{Passage}
 use Rattle.rv_picture.specs.Recording.{HasFollowed, HasRun, IsFollowed, IsShownIf}
-use Rattle.rv_picture.specs.declared.window.Window.{Window}
+use Rattle.rv_drawing.specs.declared.window.Window.{Window}
 
 length-numbered_from : (number : ℕ) (ps : List Passage) → length (numbered_from number ps) ≡ length ps
 length-numbered_from number [] = refl

@@ -1,13 +1,2 @@
-pub mod Cell
-pub mod ColumnText
-pub mod Columns
-pub mod Label
-pub mod Over
 pub mod Picture
-pub mod Places
 pub mod Recording
-pub mod SvgFrame
-pub mod SvgPicture
-pub mod TextPicture
-pub mod Title
-pub mod Wait

@@ -6,9 +6,10 @@ use Rattle.rv_hardware.specs.Guided.{GuidedHardware}
 use Rattle.rv_passage.specs.Table.{Passages}
 use Rattle.rv_source.specs.Listing.{Listed}
 use Rattle.rv_picture.specs.Recording.{IsRecording}
-use Rattle.rv_picture.specs.SvgPicture.{svg_picture}
-use Rattle.rv_picture.specs.TextPicture.{text_picture}
-use Rattle.rv_picture.specs.declared.{picture.Form.Form, window.Window.Window}
+use Rattle.rv_drawing.specs.SvgPicture.{svg_picture}
+use Rattle.rv_drawing.specs.TextPicture.{text_picture}
+use Rattle.rv_drawing.specs.declared.window.Window.{Window}
+use Rattle.rv_picture.specs.declared.picture.Form.{Form}
 use Rattle.rv_picture.specs.declared.picture.Form.TheVariants.{Text, Svg}
 
 -- the picture of a table in a form

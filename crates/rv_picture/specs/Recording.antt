@@ -10,7 +10,7 @@ use Rattle.rv_hardware.specs.Report.{Report}
 use Rattle.rv_hardware.specs.Run.{IsStop}
 use Rattle.rv_passage.specs.Follows.{Follows}
 use Rattle.rv_passage.specs.Table.{Passages, table_at}
-use Rattle.rv_picture.specs.declared.window.Window.{Window}
+use Rattle.rv_drawing.specs.declared.window.Window.{Window}
 
 -- some cycles that a predictor guides, each with the lines of its number, and nothing else
 abbrev pub HasRun : List Arrival → GuidedHardware → GuidedHardware → Type 0

@@ -6,9 +6,9 @@ ghost use Rattle.rv_hardware.specs.Run.{IsStop};
 ghost use Rattle.rv_passage.specs.Table.{passages_of, table_at};
 ghost use Rattle.rv_picture.specs.Recording.{HasRun, IsFollowed, IsOver, IsRecording, is_limit};
 
-use crate::window::Window;
 use rv_arch::Stop;
 use rv_core::{Pipeline, Progress, Watcher, watch};
+use rv_drawing::Window;
 use rv_front::Predictor;
 use rv_hardware::Step;
 use rv_isa::Arrivals;

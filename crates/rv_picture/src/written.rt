@@ -8,10 +8,9 @@ ghost use Rattle.rv_text.specs.Written.{IsWritten};
 
 use crate::picture::Form;
 use crate::recording::{Recording, record_window};
-use crate::svg::write_picture_svg;
-use crate::text::write_picture_text;
 use rv_arch::Stop;
 use rv_core::Pipeline;
+use rv_drawing::{write_picture_svg, write_picture_text};
 use rv_front::Predictor;
 use rv_isa::Arrivals;
 use rv_source::Listing;

@@ -1,7 +1,7 @@
 use crate::machine::listing;
+use rv_drawing::{Window, write_picture_svg, write_picture_text};
 use rv_isa::{Cause, Issue, Reg};
 use rv_passage::{Ending, Passage, Producers};
-use rv_picture::{Window, write_picture_svg, write_picture_text};
 use std::alloc::Global;
 use std::process::Abort;
 use std::test::Fail;

@@ -1,0 +1,13 @@
+use Rattle.rv_drawing.specs.Label.{padded}
+use Rattle.rv_text.proofs.Writing.{handed_on, beginning-longer, written_behind}
+use Rattle.rv_drawing.proofs.label.write_padded.Goals as goal
+
+pub returns-in_err-put : goal.returns-in_err-put
+unfolding padded
+returns-in_err-put g c =
+    handed_on _ _ _ _ _ c.from_residual.ensures.1 (beginning-longer _ _ _ _ c.in_err-put.ensures)
+
+pub returns : goal.returns
+unfolding padded
+returns g c =
+    written_behind _ _ _ _ _ _ c.in_ok-put.ensures c.write_blanks.ensures

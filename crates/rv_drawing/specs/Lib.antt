@@ -1,0 +1,15 @@
+pub mod Cell
+pub mod ColumnText
+pub mod Columns
+pub mod Label
+pub mod Over
+pub mod Places
+pub mod SvgBoxes
+pub mod SvgFrame
+pub mod SvgLegend
+pub mod SvgMarks
+pub mod SvgPicture
+pub mod SvgStyle
+pub mod TextPicture
+pub mod Title
+pub mod Wait

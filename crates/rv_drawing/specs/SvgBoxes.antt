@@ -1,0 +1,30 @@
+-- The boxes of an instruction in an SVG, one for each cell.
+use Rattle.std.specs.Prelude.{ℕ, ◌+◌, List, [], ◌++◌, codes, decimal, Option, Some, None}
+use Rattle.rv_passage.specs.declared.passage.Passage.{Passage}
+use Rattle.rv_drawing.specs.Cell.{cell_of, class_of, letter_of}
+use Rattle.rv_drawing.specs.Places.{column_x}
+use Rattle.rv_drawing.specs.Wait.{tip_of}
+use Rattle.rv_drawing.specs.declared.{cell.Cell.Cell, window.Window.Window}
+
+-- the begin of a box, up to its tip
+unfoldable pub box_begin : List ℕ → List ℕ → List ℕ
+box_begin class x = codes "<g class='p " ++ (class ++ (codes "' transform='translate(" ++ (x ++ codes " 0)'><title>")))
+
+-- the end of a box, from the cycle in its tip on
+unfoldable pub box_end : List ℕ → List ℕ → List ℕ
+box_end cycle letter =
+    codes " in cycle " ++ (cycle ++ (codes "</title><rect width='14' height='18'/><text x='7' y='13'>" ++ (letter ++ codes "</text></g>\n")))
+
+-- a box with a letter, and a tip with the cycle
+unfoldable pub cell_box : List ℕ → List ℕ → List ℕ → List ℕ → List ℕ → List ℕ
+cell_box class x tip cycle letter = box_begin class x ++ (tip ++ box_end cycle letter)
+
+-- the box of a cell in a column, and nothing where there is none
+unfoldable pub box_of : Option Cell → Window → Passage → ℕ → ℕ → List ℕ
+box_of None window passage column cycle = []
+box_of (Some cell) window passage column cycle =
+    cell_box (class_of cell) (decimal (column_x column)) (tip_of window passage cycle cell) (decimal cycle) (letter_of cell)
+
+-- the box of an instruction in a column of a window
+unfoldable pub box_at : Window → Passage → ℕ → List ℕ
+box_at window passage column = box_of (cell_of passage (window.first + column)) window passage column (window.first + column)

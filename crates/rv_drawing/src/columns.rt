@@ -1,0 +1,63 @@
+ghost use Rattle.std.specs.Prelude.{◌+◌, ◌<◌, ◌^◌};
+ghost use Rattle.rv_drawing.specs.ColumnText.{column_text};
+ghost use Rattle.rv_drawing.specs.Columns.{columns};
+ghost use Rattle.rv_text.specs.Written.{IsWritten};
+
+use crate::boxes::write_box_at;
+use crate::marks::{write_number, write_tenth};
+use crate::text::{write_cell, write_interrupt_column, write_scale_column};
+use crate::window::Window;
+use rv_passage::Passage;
+use rv_text::ReportError;
+use std::io::Write;
+
+/// What stands in the columns of a window.
+#[derive(Clone, Copy, Debug)]
+pub(crate) enum Columns<'a> {
+    /// The cycle numbers of a terminal.
+    Scale,
+    /// The letters of an instruction.
+    Letters(&'a Passage),
+    /// The marks of the cycles of interrupts.
+    Marks(&'a [u64]),
+    /// The cycle numbers of an SVG with so many rows.
+    Tenths { rows: usize },
+    /// The cycle numbers again, further down in an SVG.
+    Numbers,
+    /// The boxes of an instruction.
+    Boxes(&'a Passage),
+}
+
+fn write_column<W: Write>(
+    writer: &mut W,
+    window: Window,
+    shown: Columns<'_>,
+    column: u64,
+) -> Result<(), ReportError>
+    requires { window.first + column < 2 ^ 64 }
+    ensures { IsWritten result (W.contents writer.old) (W.contents writer.new) (column_text shown.entry window column) }
+{
+    match shown {
+        Columns::Scale => write_scale_column(writer, window, column),
+        Columns::Letters(row) => write_cell(writer, window, row, column),
+        Columns::Marks(interrupts) => write_interrupt_column(writer, window, interrupts, column),
+        Columns::Tenths { rows } => write_tenth(writer, window, rows, column),
+        Columns::Numbers => write_number(writer, window, column),
+        Columns::Boxes(row) => write_box_at(writer, window, row, column),
+    }
+}
+
+/// Writes what stands in each column of a window, from its first cycle on.
+pub(crate) fn write_columns<W: Write>(
+    writer: &mut W,
+    window: Window,
+    shown: Columns<'_>,
+) -> Result<(), ReportError>
+    requires { window.first + window.cycles < 2 ^ 64 }
+    ensures { IsWritten result (W.contents writer.old) (W.contents writer.new) (columns window (column_text shown.entry window)) }
+{
+    for column in 0..window.cycles {
+        write_column(writer, window, shown, column)?;
+    }
+    Ok(())
+}

@@ -1,0 +1,30 @@
+ghost use Rattle.rv_drawing.specs.SvgLegend.{svg_legend};
+ghost use Rattle.rv_text.specs.Written.{IsWritten};
+
+use rv_text::{ReportError, put};
+use std::io::Write;
+
+/// Writes the legend, and the begin of what stands below it.
+#[tactic(auto, unfolding(crate::specs::SvgLegend::svg_legend))]
+pub(crate) fn write_legend<W: Write>(writer: &mut W) -> Result<(), ReportError>
+    ensures { IsWritten result (W.contents writer.old) (W.contents writer.new) svg_legend }
+{
+    put(
+        writer,
+        b"<g transform='translate(8 8)'>
+<g transform='translate(0 0)'><g class='p f'><rect width='14' height='18'/><text x='7' y='13'>F</text></g><text x='20' y='13'>fetch</text></g>
+<g transform='translate(150 0)'><g class='p d'><rect width='14' height='18'/><text x='7' y='13'>D</text></g><text x='20' y='13'>dispatch</text></g>
+<g transform='translate(300 0)'><g class='p i'><rect width='14' height='18'/><text x='7' y='13'>I</text></g><text x='20' y='13'>issue</text></g>
+<g transform='translate(450 0)'><g class='p e'><rect width='14' height='18'/><text x='7' y='13'>=</text></g><text x='20' y='13'>execution</text></g>
+<g transform='translate(0 22)'><g class='p r'><rect width='14' height='18'/><text x='7' y='13'>~</text></g><text x='20' y='13'>wait for the bus</text></g>
+<g transform='translate(150 22)'><g class='p b'><rect width='14' height='18'/><text x='7' y='13'>B</text></g><text x='20' y='13'>broadcast</text></g>
+<g transform='translate(300 22)'><g class='p c'><rect width='14' height='18'/><text x='7' y='13'>C</text></g><text x='20' y='13'>retirement</text></g>
+<g transform='translate(450 22)'><g class='p t'><rect width='14' height='18'/><text x='7' y='13'>T</text></g><text x='20' y='13'>trap</text></g>
+<g transform='translate(0 44)'><g class='p x'><rect width='14' height='18'/><text x='7' y='13'>x</text></g><text x='20' y='13'>squash</text></g>
+<g transform='translate(150 44)'><g class='p w'><rect width='14' height='18'/><text x='7' y='13'>.</text></g><text x='20' y='13'>wait</text></g>
+<g transform='translate(300 44)'><g class='v'><text x='7' y='13'>!</text></g><text x='20' y='13'>interrupt</text></g>
+</g>
+<g transform='translate(0 76)'>
+",
+    )
+}

@@ -1,0 +1,48 @@
+ghost use Rattle.std.specs.Prelude.{decimal};
+ghost use Rattle.rv_drawing.specs.Over.{over_note, over_sentence};
+ghost use Rattle.rv_text.specs.Written.{IsWritten};
+
+use crate::place::digits;
+use crate::window::Window;
+use itoa::Buffer;
+use rv_text::{ReportError, put_all};
+use std::io::Write;
+
+fn write_sentence<W: Write>(
+    writer: &mut W,
+    before: &[u8],
+    cycles: u64,
+    after: &[u8],
+) -> Result<(), ReportError>
+    ensures { IsWritten result (W.contents writer.old) (W.contents writer.new) (over_sentence before.now (decimal cycles) after.now) }
+{
+    let mut buffer = Buffer::new();
+    let count = digits(&mut buffer, u128::from(cycles));
+    put_all(
+        writer,
+        &[
+            before,
+            b"The run ended after ",
+            count,
+            b" cycles, before those of this picture.",
+            after,
+        ],
+    )
+}
+
+/// Writes that the run ended before the window, where it did, between two texts.
+#[tactic(auto, unfolding(crate::specs::Over::over_note))]
+pub(crate) fn write_over<W: Write>(
+    writer: &mut W,
+    before: &[u8],
+    window: Window,
+    after: &[u8],
+) -> Result<(), ReportError>
+    ensures { IsWritten result (W.contents writer.old) (W.contents writer.new) (over_note before.now after.now window) }
+{
+    if window.cycles == 0 {
+        write_sentence(writer, before, window.first, after)
+    } else {
+        Ok(())
+    }
+}

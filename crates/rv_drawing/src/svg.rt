@@ -1,0 +1,222 @@
+ghost use Rattle.std.specs.Prelude.{◌≡◌, ◌+◌, ◌≤◌, ◌<◌, ◌^◌, count_by, decimal};
+ghost use Rattle.std.specs.List.{flat_map};
+ghost use Rattle.rv_drawing.specs.Cell.{has_cell};
+ghost use Rattle.rv_drawing.specs.Label.{markup_byte, statement_of};
+ghost use Rattle.rv_drawing.specs.Places.{column_x, row_y};
+ghost use Rattle.rv_drawing.specs.SvgPicture.{row_class, row_begin, near_text, near_address, svg_row, placed_row, rows_of, svg_rows, svg_of, svg_picture};
+ghost use Rattle.rv_text.specs.Line.{word_text};
+ghost use Rattle.rv_text.specs.Written.{IsWritten};
+
+use crate::cell::has_cell;
+use crate::columns::{Columns, write_columns};
+use crate::frame::{write_begin, write_end};
+use crate::label::{statement, write_markup, write_written};
+use crate::legend::write_legend;
+use crate::marks::{write_interrupts, write_numbers_again};
+use crate::over::write_over;
+use crate::place::{column_x, digits, row_y};
+use crate::style::write_style;
+use crate::title::write_row_end;
+use crate::window::Window;
+use itoa::Buffer;
+use rv_passage::{Ending, Passage};
+use rv_source::Listing;
+use rv_text::{ReportError, hexadecimal, put, put_all};
+use std::io::Write;
+
+#[tactic(auto, unfolding(crate::specs::SvgPicture::row_class))]
+fn class(ending: Ending) -> &'static [u8]
+    ensures { result.now ≡ row_class ending }
+{
+    match ending {
+        Ending::InFlight => b"open",
+        Ending::Retired { .. } => b"done",
+        Ending::Trapped { .. } => b"trap",
+        Ending::Squashed { .. } => b"out",
+    }
+}
+
+fn write_row_begin<W: Write>(writer: &mut W, place: usize, row: &Passage) -> Result<(), ReportError>
+    ensures { IsWritten result (W.contents writer.old) (W.contents writer.new) (row_begin (row_class row.now.ending) (decimal (row_y place)) (word_text row.now.pc)) }
+{
+    let mut at_row = Buffer::new();
+    let y = digits(&mut at_row, row_y(place));
+    let pc = hexadecimal(row.pc);
+    let class = class(row.ending);
+    put_all(
+        writer,
+        &[
+            b"<g class='",
+            class,
+            b"' transform='translate(0 ",
+            y,
+            b")'><text x='8' y='13'>",
+            pc.as_slice(),
+            b"</text><text x='84' y='13'>",
+        ],
+    )
+}
+
+fn write_statement<W: Write>(
+    writer: &mut W,
+    listing: &Listing,
+    row: &Passage,
+) -> Result<(), ReportError>
+    ensures { IsWritten result (W.contents writer.old) (W.contents writer.new) (flat_map markup_byte (statement_of listing.now row.now)) }
+{
+    let mut buffer = [0; 8];
+    write_markup(writer, statement(&mut buffer, listing, row))
+}
+
+fn write_near_text<W: Write>(writer: &mut W, column: u64, pc: u32) -> Result<(), ReportError>
+    ensures { IsWritten result (W.contents writer.old) (W.contents writer.new) (near_text (decimal (column_x column)) (word_text pc)) }
+{
+    let mut at_column = Buffer::new();
+    let x = digits(&mut at_column, column_x(column));
+    let pc = hexadecimal(pc);
+    put_all(
+        writer,
+        &[
+            b"<text class='a' dx='-4' y='13' x='",
+            x,
+            b"'>",
+            pc.as_slice(),
+            b"</text>\n",
+        ],
+    )
+}
+
+// Writes the address again in front of the first cell, where that is far from the left.
+#[tactic(auto, unfolding(crate::specs::SvgPicture::near_address))]
+fn write_near_address<W: Write>(
+    writer: &mut W,
+    window: Window,
+    row: &Passage,
+) -> Result<(), ReportError>
+    ensures { IsWritten result (W.contents writer.old) (W.contents writer.new) (near_address window row.now) }
+{
+    let column = row.fetched.saturating_sub(window.first);
+    if 50 <= column {
+        write_near_text(writer, column, row.pc)
+    } else {
+        Ok(())
+    }
+}
+
+fn write_row<W: Write>(
+    writer: &mut W,
+    listing: &Listing,
+    window: Window,
+    place: usize,
+    row: &Passage,
+) -> Result<(), ReportError>
+    requires { window.first + window.cycles < 2 ^ 64 }
+    ensures { IsWritten result (W.contents writer.old) (W.contents writer.new) (svg_row listing.now window place row.now) }
+{
+    write_row_begin(writer, place, row)?;
+    write_statement(writer, listing, row)?;
+    put(writer, b"</text><text x='328' y='13'>")?;
+    write_written(writer, row)?;
+    put(writer, b"</text>\n")?;
+    write_numbers_again(writer, window, place)?;
+    write_columns(writer, window, Columns::Boxes(row))?;
+    write_near_address(writer, window, row)?;
+    write_row_end(writer, row)
+}
+
+#[tactic(auto, unfolding(crate::specs::SvgPicture::placed_row))]
+fn write_placed<W: Write>(
+    writer: &mut W,
+    listing: &Listing,
+    window: Window,
+    place: usize,
+    row: &Passage,
+) -> Result<(), ReportError>
+    requires { window.first + window.cycles < 2 ^ 64 }
+    ensures { IsWritten result (W.contents writer.old) (W.contents writer.new) (placed_row listing.now window place row.now) }
+{
+    if has_cell(window, row) {
+        write_row(writer, listing, window, place, row)
+    } else {
+        Ok(())
+    }
+}
+
+fn rows_of(window: Window, row: &Passage) -> usize
+    requires { window.first + window.cycles < 2 ^ 64 }
+    ensures taken { result ≡ rows_of window row.now }
+    ensures few { result ≤ 1 }
+{
+    if has_cell(window, row) { 1 } else { 0 }
+}
+
+fn write_rows<W: Write>(
+    writer: &mut W,
+    listing: &Listing,
+    window: Window,
+    rows: &[Passage],
+) -> Result<(), ReportError>
+    requires { window.first + window.cycles < 2 ^ 64 }
+    ensures { IsWritten result (W.contents writer.old) (W.contents writer.new) (svg_rows listing.now window 0 rows.now) }
+{
+    let mut place = 0;
+    for row in rows {
+        write_placed(writer, listing, window, place, row)?;
+        place += rows_of(window, row);
+    }
+    Ok(())
+}
+
+// How many rows have a cell in a window.
+fn count_shown(window: Window, rows: &[Passage]) -> usize
+    requires { window.first + window.cycles < 2 ^ 64 }
+    ensures { result ≡ count_by (has_cell window) rows.now }
+{
+    let mut shown = 0;
+    for row in rows {
+        if has_cell(window, row) {
+            shown += 1;
+        }
+    }
+    shown
+}
+
+// Writes a picture with so many rows.
+fn write_shown<W: Write>(
+    writer: &mut W,
+    rows: &[Passage],
+    interrupts: &[u64],
+    listing: &Listing,
+    window: Window,
+    shown: usize,
+) -> Result<(), ReportError>
+    requires { window.first + window.cycles < 2 ^ 64 }
+    ensures { IsWritten result (W.contents writer.old) (W.contents writer.new) (svg_of shown rows.now interrupts.now listing.now window) }
+{
+    write_begin(writer, window.cycles, shown)?;
+    write_style(writer)?;
+    write_legend(writer)?;
+    write_columns(writer, window, Columns::Tenths { rows: shown })?;
+    write_rows(writer, listing, window, rows)?;
+    write_interrupts(writer, window, shown, interrupts)?;
+    write_over(writer, b"<text x='8' y='34'>", window, b"</text>\n")?;
+    write_end(writer)
+}
+
+/// Writes a picture as an SVG: a legend on top, cycle numbers, a row for each instruction that shows something in the window,
+/// with a box for each cell, and a line for each interrupt. The window ends below cycle 2^64. Asks for no memory. Fails
+/// by `WriteFailed` alone, and what was written is then a beginning of the picture.
+#[tactic(auto, unfolding(crate::specs::SvgPicture::svg_picture))]
+pub fn write_picture_svg<W: Write>(
+    rows: &[Passage],
+    interrupts: &[u64],
+    listing: &Listing,
+    window: Window,
+    writer: &mut W,
+) -> Result<(), ReportError>
+    requires { window.first + window.cycles < 2 ^ 64 }
+    ensures { IsWritten result (W.contents writer.old) (W.contents writer.new) (svg_picture rows.now interrupts.now listing.now window) }
+{
+    let shown = count_shown(window, rows);
+    write_shown(writer, rows, interrupts, listing, window, shown)
+}

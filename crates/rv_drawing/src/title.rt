@@ -1,0 +1,92 @@
+ghost use Rattle.std.specs.Prelude.{◌≡◌, ◌++◌, codes};
+ghost use Rattle.rv_isa.specs.Cause.{code_of};
+ghost use Rattle.rv_drawing.specs.Title.{correction_text, predicted_begin, predicted_title, prediction_title, row_end, row_title, trap_title};
+ghost use Rattle.rv_text.specs.Written.{IsWritten};
+
+use itoa::Buffer;
+use rv_isa::Cause;
+use rv_passage::{Ending, Passage};
+use rv_text::{ReportError, hexadecimal, put, put_all};
+use std::io::Write;
+
+#[tactic(auto, unfolding(crate::specs::Title::correction_text))]
+fn write_correction<W: Write>(writer: &mut W, correction: Option<u32>) -> Result<(), ReportError>
+    ensures { IsWritten result (W.contents writer.old) (W.contents writer.new) (correction_text correction) }
+{
+    match correction {
+        Some(next) => {
+            let next = hexadecimal(next);
+            put_all(writer, &[b", but went on at ", next.as_slice()])
+        }
+        None => Ok(()),
+    }
+}
+
+#[tactic(auto, unfolding(crate::specs::Title::predicted_begin))]
+fn write_predicted_begin<W: Write>(writer: &mut W, predicted: u32) -> Result<(), ReportError>
+    ensures { IsWritten result (W.contents writer.old) (W.contents writer.new) (predicted_begin predicted) }
+{
+    let predicted = hexadecimal(predicted);
+    put_all(writer, &[b"<title>predicted ", predicted.as_slice()])
+}
+
+fn write_right_or_wrong<W: Write>(
+    writer: &mut W,
+    predicted: u32,
+    correction: Option<u32>,
+) -> Result<(), ReportError>
+    ensures { IsWritten result (W.contents writer.old) (W.contents writer.new) (predicted_begin predicted ++ (correction_text correction ++ codes "</title>\n")) }
+{
+    write_predicted_begin(writer, predicted)?;
+    write_correction(writer, correction)?;
+    put(writer, b"</title>\n")
+}
+
+#[tactic(auto, unfolding(crate::specs::Title::predicted_title))]
+fn write_predicted<W: Write>(
+    writer: &mut W,
+    predicted: Option<u32>,
+    correction: Option<u32>,
+) -> Result<(), ReportError>
+    ensures { IsWritten result (W.contents writer.old) (W.contents writer.new) (predicted_title predicted correction) }
+{
+    match predicted {
+        Some(predicted) => write_right_or_wrong(writer, predicted, correction),
+        None => Ok(()),
+    }
+}
+
+#[tactic(auto, unfolding(crate::specs::Title::prediction_title))]
+fn write_prediction<W: Write>(writer: &mut W, row: &Passage) -> Result<(), ReportError>
+    ensures { IsWritten result (W.contents writer.old) (W.contents writer.new) (prediction_title row.now) }
+{
+    write_predicted(writer, row.prediction(), row.correction())
+}
+
+fn write_trap<W: Write>(writer: &mut W, cause: Cause) -> Result<(), ReportError>
+    ensures { IsWritten result (W.contents writer.old) (W.contents writer.new) (trap_title (code_of cause)) }
+{
+    let mut buffer = Buffer::new();
+    let code = buffer.format(cause.code()).as_bytes();
+    put_all(writer, &[b"<title>trapped, cause ", code, b"</title>\n"])
+}
+
+#[tactic(auto, unfolding(crate::specs::Title::row_title))]
+fn write_title<W: Write>(writer: &mut W, row: &Passage) -> Result<(), ReportError>
+    ensures { IsWritten result (W.contents writer.old) (W.contents writer.new) (row_title row.now.ending row.now) }
+{
+    match row.ending {
+        Ending::InFlight => write_prediction(writer, row),
+        Ending::Retired { .. } => write_prediction(writer, row),
+        Ending::Trapped { cause, .. } => write_trap(writer, cause),
+        Ending::Squashed { .. } => write_prediction(writer, row),
+    }
+}
+
+/// Writes the end of a row, with its tip: what was predicted after a branch or a jump, or the cause of a trap.
+pub(crate) fn write_row_end<W: Write>(writer: &mut W, row: &Passage) -> Result<(), ReportError>
+    ensures { IsWritten result (W.contents writer.old) (W.contents writer.new) (row_end row.now) }
+{
+    write_title(writer, row)?;
+    put(writer, b"</g>\n")
+}

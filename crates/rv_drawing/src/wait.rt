@@ -1,0 +1,168 @@
+ghost use Rattle.std.specs.Prelude.{◌≡◌, ◌++◌, Some, codes};
+ghost use Rattle.rv_isa.specs.Instruction.{kind_of_word};
+ghost use Rattle.rv_drawing.specs.Wait.{awaited, issue_wait, one_wait, operand_wait, producer_text, result_text, second_wait, tip_of, unit_wait};
+ghost use Rattle.rv_text.specs.Written.{IsWritten};
+
+use crate::cell::{Cell, is_past};
+use crate::window::Window;
+use itoa::Buffer;
+use rv_isa::{Instr, Kind, Reg, kind};
+use rv_passage::{Passage, Producer, register_name};
+use rv_text::{ReportError, hexadecimal, put, put_all};
+use std::io::Write;
+
+fn kind_of(instruction: &Option<Instr>) -> Option<Kind>
+    ensures { result ≡ kind_of_word instruction.now }
+{
+    kind(instruction.as_ref()?)
+}
+
+// A producer, unless its broadcast came before a cycle.
+fn awaited(producer: Option<Producer>, cycle: u64) -> Option<Producer>
+    ensures { result ≡ awaited cycle producer }
+{
+    match producer {
+        Some(producer) => unless_past(producer, cycle),
+        None => None,
+    }
+}
+
+fn unless_past(producer: Producer, cycle: u64) -> Option<Producer>
+    ensures { result ≡ awaited cycle (Some producer) }
+{
+    if is_past(producer.broadcast, cycle) {
+        None
+    } else {
+        Some(producer)
+    }
+}
+
+#[tactic(auto, unfolding(crate::specs::Wait::result_text))]
+fn write_result<W: Write>(writer: &mut W, register: Reg, pc: u32) -> Result<(), ReportError>
+    ensures { IsWritten result (W.contents writer.old) (W.contents writer.new) (result_text register pc) }
+{
+    let mut buffer = Buffer::new();
+    let number = buffer.format(register.number()).as_bytes();
+    let name = register_name(register);
+    let address = hexadecimal(pc);
+    put_all(
+        writer,
+        &[b"x", number, b"/", name, b" of ", address.as_slice()],
+    )
+}
+
+fn write_producer<W: Write>(
+    writer: &mut W,
+    before: &[u8],
+    producer: &Producer,
+) -> Result<(), ReportError>
+    ensures { IsWritten result (W.contents writer.old) (W.contents writer.new) (producer_text before.now producer.now) }
+{
+    put(writer, before)?;
+    write_result(writer, producer.register, producer.pc)
+}
+
+// What an instruction of a kind waits for that waits for no result.
+#[tactic(auto, unfolding(crate::specs::Wait::unit_wait))]
+fn unit_wait(kind: Option<Kind>) -> &'static [u8]
+    ensures { result.now ≡ unit_wait kind }
+{
+    match kind {
+        None => b"wait for the head",
+        Some(Kind::Mem) => b"wait for a unit, the port or older stores",
+        Some(Kind::Alu | Kind::Mul | Kind::Div) => b"wait for a unit",
+    }
+}
+
+#[tactic(auto, unfolding(crate::specs::Wait::one_wait))]
+fn write_one_wait<W: Write>(
+    writer: &mut W,
+    kind: Option<Kind>,
+    producer: &Option<Producer>,
+) -> Result<(), ReportError>
+    ensures { IsWritten result (W.contents writer.old) (W.contents writer.new) (one_wait kind producer.now) }
+{
+    match producer {
+        Some(producer) => write_producer(writer, b"wait for ", producer),
+        None => put(writer, unit_wait(kind)),
+    }
+}
+
+#[tactic(auto, unfolding(crate::specs::Wait::second_wait))]
+fn write_second_wait<W: Write>(writer: &mut W, second: &Option<Producer>) -> Result<(), ReportError>
+    ensures { IsWritten result (W.contents writer.old) (W.contents writer.new) (second_wait second.now) }
+{
+    match second {
+        Some(second) => write_producer(writer, b" and ", second),
+        None => Ok(()),
+    }
+}
+
+fn write_two_waits<W: Write>(
+    writer: &mut W,
+    first: &Producer,
+    second: &Option<Producer>,
+) -> Result<(), ReportError>
+    ensures { IsWritten result (W.contents writer.old) (W.contents writer.new) (producer_text (codes "wait for ") first.now ++ second_wait second.now) }
+{
+    write_producer(writer, b"wait for ", first)?;
+    write_second_wait(writer, second)
+}
+
+#[tactic(auto, unfolding(crate::specs::Wait::operand_wait))]
+fn write_operand_wait<W: Write>(
+    writer: &mut W,
+    kind: Option<Kind>,
+    first: &Option<Producer>,
+    second: &Option<Producer>,
+) -> Result<(), ReportError>
+    ensures { IsWritten result (W.contents writer.old) (W.contents writer.new) (operand_wait kind first.now second.now) }
+{
+    match first {
+        Some(first) => write_two_waits(writer, first, second),
+        None => write_one_wait(writer, kind, second),
+    }
+}
+
+fn write_seen_wait<W: Write>(writer: &mut W, row: &Passage, cycle: u64) -> Result<(), ReportError>
+    ensures { IsWritten result (W.contents writer.old) (W.contents writer.new) (operand_wait (kind_of_word row.now.instruction) (awaited cycle row.now.producers.first) (awaited cycle row.now.producers.second)) }
+{
+    let kind = kind_of(&row.instruction);
+    let first = awaited(row.producers.first, cycle);
+    let second = awaited(row.producers.second, cycle);
+    write_operand_wait(writer, kind, &first, &second)
+}
+
+#[tactic(auto, unfolding(crate::specs::Wait::issue_wait))]
+fn write_issue_wait<W: Write>(
+    writer: &mut W,
+    window: Window,
+    row: &Passage,
+    cycle: u64,
+) -> Result<(), ReportError>
+    ensures { IsWritten result (W.contents writer.old) (W.contents writer.new) (issue_wait window row.now cycle) }
+{
+    if is_past(row.dispatched, window.first) {
+        put(writer, Cell::IssueWait.name())
+    } else {
+        write_seen_wait(writer, row, cycle)
+    }
+}
+
+/// Writes what a cell is called, where a wait says what for.
+#[tactic(auto, unfolding(crate::specs::Wait::tip_of))]
+pub(crate) fn write_tip<W: Write>(
+    writer: &mut W,
+    window: Window,
+    row: &Passage,
+    cycle: u64,
+    cell: Cell,
+) -> Result<(), ReportError>
+    ensures { IsWritten result (W.contents writer.old) (W.contents writer.new) (tip_of window row.now cycle cell) }
+{
+    if cell.is_issue_wait() {
+        write_issue_wait(writer, window, row, cycle)
+    } else {
+        put(writer, cell.name())
+    }
+}

@@ -1,9 +1,0 @@
-use Rattle.std.proofs.Common.{ap, arith}
-use Rattle.rv_picture.specs.TextPicture.{shown_line}
-use Rattle.rv_text.proofs.Writing.{handed_on, beginning-at, beginning-same}
-use Rattle.rv_picture.proofs.text.write_rows.Goals as goal
-
-pub returns-in_err-write_shown : goal.returns-in_err-write_shown
-returns-in_err-write_shown g c =
-    let line = shown_line c.args.listing.now c.args.window in
-    handed_on _ _ _ _ _ c.from_residual.ensures.1 (beginning-at line c.args.rows.now c.loop-row.row-index c.row-item.result (omega arith) _ _ _ c.loop-row.invariant (beginning-same _ _ _ _ (ap line c.row-item.is) c.in_err-write_shown.ensures))
