@@ -3,6 +3,7 @@ use Rattle.std.specs.Prelude.{ℕ, ◌-◌, ◌==◌, if◌then◌else◌, List,
 use Rattle.rv_passage.specs.declared.passage.{Ending.Ending, Passage.Passage}
 use Rattle.rv_passage.specs.Names.{register_name}
 use Rattle.rv_passage.specs.declared.passage.Ending.TheVariants.{InFlight, Retired, Trapped, Squashed}
+use Rattle.rv_drawing.specs.Shorter.{shortened}
 use Rattle.rv_source.specs.Listing.{Listed}
 use Rattle.rv_source.specs.Statement.{statement_at}
 use Rattle.rv_text.specs.Line.{word_text}
@@ -17,9 +18,9 @@ markup_byte byte =
     else if byte == 34 then codes "&quot;"
     else plain_byte byte
 
--- the statement of an instruction, at most 32 bytes of it
+-- the statement of an instruction in at most 32 bytes
 abbrev pub statement_of : Listed → Passage → List ℕ
-statement_of listing passage = take 32 (statement_at listing passage.pc passage.word)
+statement_of listing passage = shortened (statement_at listing passage.pc passage.word)
 
 -- what an instruction wrote, if it retired
 abbrev pub written_by : Ending → Option (ℕ × ℕ)

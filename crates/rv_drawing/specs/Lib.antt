@@ -4,6 +4,7 @@ pub mod Columns
 pub mod Label
 pub mod Over
 pub mod Places
+pub mod Shorter
 pub mod SvgBoxes
 pub mod SvgFrame
 pub mod SvgLegend

@@ -3,11 +3,13 @@ ghost use Rattle.std.specs.List.{flat_map};
 ghost use Rattle.rv_drawing.specs.Label.{blanks, markup_byte, statement_of, written_by, written_text, padded};
 ghost use Rattle.rv_text.specs.Written.{IsWritten};
 
+use crate::shorter::shortened;
+use arrayvec::ArrayVec;
 use itoa::Buffer;
 use rv_isa::Reg;
 use rv_passage::{Ending, Passage, register_name};
 use rv_source::Listing;
-use rv_text::{ReportError, front, hexadecimal, put, put_all, write_plain_byte};
+use rv_text::{ReportError, hexadecimal, put, put_all, write_plain_byte};
 use std::io::Write;
 
 // So many blanks, at most 40.
@@ -42,15 +44,17 @@ pub(crate) fn write_padded<W: Write>(
     write_blanks(writer, width, text.len())
 }
 
-/// The statement of an instruction, at most 32 bytes of it. A word that is shown in its place stands in the buffer.
+/// The statement of an instruction in at most 32 bytes, of which a label takes no more than it can. A word that is shown in its
+/// place stands in the buffer, and what is cut in the room.
 pub(crate) fn statement<'a>(
     buffer: &'a mut [u8; 8],
+    room: &'a mut ArrayVec<u8, 32>,
     listing: &'a Listing,
     row: &Passage,
 ) -> &'a [u8]
     ensures { result.now ≡ statement_of listing.now row.now }
 {
-    front(listing.statement(buffer, row.pc, row.word), 32)
+    shortened(room, listing.statement(buffer, row.pc, row.word))
 }
 
 #[tactic(auto, unfolding(crate::specs::Label::markup_byte))]

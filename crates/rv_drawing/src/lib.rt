@@ -12,6 +12,7 @@ mod legend;
 mod marks;
 mod over;
 mod place;
+mod shorter;
 mod style;
 mod svg;
 mod text;

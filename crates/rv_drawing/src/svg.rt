@@ -18,6 +18,7 @@ use crate::place::{column_x, digits, row_y};
 use crate::style::write_style;
 use crate::title::write_row_end;
 use crate::window::Window;
+use arrayvec::ArrayVec;
 use itoa::Buffer;
 use rv_passage::{Ending, Passage};
 use rv_source::Listing;
@@ -65,7 +66,8 @@ fn write_statement<W: Write>(
     ensures { IsWritten result (W.contents writer.old) (W.contents writer.new) (flat_map markup_byte (statement_of listing.now row.now)) }
 {
     let mut buffer = [0; 8];
-    write_markup(writer, statement(&mut buffer, listing, row))
+    let mut room = ArrayVec::new();
+    write_markup(writer, statement(&mut buffer, &mut room, listing, row))
 }
 
 fn write_near_text<W: Write>(writer: &mut W, column: u64, pc: u32) -> Result<(), ReportError>

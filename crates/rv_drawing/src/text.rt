@@ -10,6 +10,7 @@ use crate::columns::{Columns, write_columns};
 use crate::label::{statement, write_blanks, write_padded, write_written, written};
 use crate::over::write_over;
 use crate::window::Window;
+use arrayvec::ArrayVec;
 use itoa::Buffer;
 use rv_passage::{Passage, register_name};
 use rv_source::Listing;
@@ -64,7 +65,8 @@ fn write_statement<W: Write>(
     ensures { IsWritten result (W.contents writer.old) (W.contents writer.new) (statement_field (statement_of listing.now row.now)) }
 {
     let mut buffer = [0; 8];
-    write_statement_field(writer, statement(&mut buffer, listing, row))
+    let mut room = ArrayVec::new();
+    write_statement_field(writer, statement(&mut buffer, &mut room, listing, row))
 }
 
 // The columns that a register and its value leave free.

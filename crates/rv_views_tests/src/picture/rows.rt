@@ -30,7 +30,7 @@ const TEXT: &str = "                                                           1
 interrupts                                                 !  !     !\n\
 F fetch  D dispatch  I issue  = execution  ~ wait for the bus  B broadcast  C retirement  T trap  x squash  . wait  ! interrupt\n";
 
-fn fetched(number: u64, pc: u32, word: Option<u32>, cycle: u64) -> Passage {
+pub(crate) fn fetched(number: u64, pc: u32, word: Option<u32>, cycle: u64) -> Passage {
     Passage {
         number,
         pc,

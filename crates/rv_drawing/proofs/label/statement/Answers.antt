@@ -1,5 +1,6 @@
-use Rattle.std.proofs.Common.{◌∙◌, ap, take}
+use Rattle.std.proofs.Common.{◌∙◌, ap}
+use Rattle.rv_drawing.specs.Shorter.{shortened}
 use Rattle.rv_drawing.proofs.label.statement.Goals as goal
 
 pub returns : goal.returns
-returns c = c.front.ensures ∙ ap (take 32) c.statement.ensures
+returns c = c.shortened.ensures ∙ ap shortened c.statement.ensures
