@@ -2,9 +2,11 @@ pub mod Cell
 pub mod ColumnText
 pub mod Columns
 pub mod Label
+pub mod Outcome
 pub mod Over
 pub mod Places
 pub mod Shorter
+pub mod Stopped
 pub mod SvgBoxes
 pub mod SvgFrame
 pub mod SvgLegend

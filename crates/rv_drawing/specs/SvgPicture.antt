@@ -1,13 +1,14 @@
 -- A picture as an SVG: a legend on top, cycle numbers, a row for each instruction with a box for each cell, and a line for each
 -- interrupt.
-use Rattle.std.specs.Prelude.{ℕ, ◌+◌, ◌-◌, if◌then◌else◌, nat_le, List, [], ◌∷◌, ◌++◌, codes, decimal, count_by}
+use Rattle.std.specs.Prelude.{ℕ, ◌+◌, ◌-◌, if◌then◌else◌, nat_le, Bool, true, false, List, [], ◌∷◌, ◌++◌, codes, decimal, count_by}
 use Rattle.std.specs.List.{flat_map}
 use Rattle.rv_passage.specs.declared.passage.{Ending.Ending, Passage.Passage}
 use Rattle.rv_passage.specs.declared.passage.Ending.TheVariants.{InFlight, Retired, Trapped, Squashed}
 use Rattle.rv_source.specs.Listing.{Listed}
 use Rattle.rv_drawing.specs.Cell.{has_cell}
 use Rattle.rv_drawing.specs.Columns.{columns}
-use Rattle.rv_drawing.specs.Label.{markup_byte, statement_of, written_by, written_text}
+use Rattle.rv_drawing.specs.Label.{markup_byte, statement_of, written_by}
+use Rattle.rv_drawing.specs.Outcome.{outcome_text}
 use Rattle.rv_drawing.specs.Places.{column_x, row_y}
 use Rattle.rv_drawing.specs.Over.{over_note}
 use Rattle.rv_drawing.specs.SvgBoxes.{box_at}
@@ -15,6 +16,7 @@ use Rattle.rv_drawing.specs.SvgFrame.{svg_begin, svg_end}
 use Rattle.rv_drawing.specs.SvgLegend.{svg_legend}
 use Rattle.rv_drawing.specs.SvgMarks.{interrupt_in, numbers_again, tenth_at}
 use Rattle.rv_drawing.specs.SvgStyle.{svg_style}
+use Rattle.rv_drawing.specs.Stopped.{is_stopped}
 use Rattle.rv_drawing.specs.Title.{row_end}
 use Rattle.rv_drawing.specs.declared.window.Window.{Window}
 use Rattle.rv_text.specs.Line.{word_text}
@@ -25,6 +27,11 @@ row_class InFlight = codes "open"
 row_class (Retired order cycle written next) = codes "done"
 row_class (Trapped cycle cause) = codes "trap"
 row_class (Squashed cycle) = codes "out"
+
+-- the class of a row, where its stale word may have ended the run
+unfoldable pub class_of_row : Bool → Ending → List ℕ
+class_of_row true ending = codes "stale"
+class_of_row false ending = row_class ending
 
 -- a row with its class, so far from the top, and its address
 unfoldable pub row_begin : List ℕ → List ℕ → List ℕ → List ℕ
@@ -44,11 +51,11 @@ near_address window passage =
 -- an instruction: its address, its statement, what it wrote, its cells, and its tip
 unfoldable pub svg_row : Listed → Window → ℕ → Passage → List ℕ
 svg_row listing window place passage =
-    row_begin (row_class passage.ending) (decimal (row_y place)) (word_text passage.pc) ++
+    row_begin (class_of_row (is_stopped window passage) passage.ending) (decimal (row_y place)) (word_text passage.pc) ++
     (flat_map markup_byte (statement_of listing passage) ++
-    (codes "</text><text x='328' y='13'>" ++ (written_text (written_by passage.ending) ++
+    (codes "</text><text x='328' y='13'>" ++ (outcome_text (is_stopped window passage) (written_by passage.ending) ++
     (codes "</text>\n" ++ (numbers_again window place ++ (columns window (box_at window passage) ++
-    (near_address window passage ++ row_end passage)))))))
+    (near_address window passage ++ row_end (is_stopped window passage) passage)))))))
 
 -- one that has a cell in the window takes a row
 unfoldable pub placed_row : Listed → Window → ℕ → Passage → List ℕ

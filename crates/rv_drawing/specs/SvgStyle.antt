@@ -12,6 +12,7 @@ svg_style =
     codes ".n path{stroke:#bbb}\n" ++ (
     codes ".out text{fill:#888}\n" ++ (
     codes ".trap text{fill:#a00}\n" ++ (
+    codes ".stale text{fill:#a00}\n" ++ (
     codes ".v path{stroke:#c00;stroke-dasharray:4 3}\n" ++ (
     codes ".v text{font-size:11px;font-weight:bold;text-anchor:middle;fill:#c00}\n" ++ (
     codes ".a{text-anchor:end}\n" ++ (
@@ -36,6 +37,7 @@ svg_style =
     codes ".n path{stroke:#484c54}\n" ++ (
     codes ".out text{fill:#8c8c8c}\n" ++ (
     codes ".trap text{fill:#ff8080}\n" ++ (
+    codes ".stale text{fill:#ff8080}\n" ++ (
     codes ".v path{stroke:#ff6060}\n" ++ (
     codes ".v text{fill:#ff6060}\n" ++ (
     codes ".p rect{stroke:#16181c}\n" ++ (
@@ -47,4 +49,4 @@ svg_style =
     codes ".c text,.t text,.x text{fill:#fff}\n" ++ (
     codes "}\n" ++ (
     codes "</style>\n" ++ (
-    codes "<rect class='page' width='100%' height='100%'/>\n"))))))))))))))))))))))))))))))))))))))))))
+    codes "<rect class='page' width='100%' height='100%'/>\n"))))))))))))))))))))))))))))))))))))))))))))

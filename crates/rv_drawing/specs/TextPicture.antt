@@ -1,5 +1,5 @@
 -- A picture for a terminal: a line of cycle numbers, a line for each instruction, one for the interrupts, and a legend.
-use Rattle.std.specs.Prelude.{ℕ, ◌+◌, ◌-◌, ◌%◌, ◌==◌, if◌then◌else◌, nat_lt, List, [], ◌++◌, length, codes, decimal, Option, Some, None}
+use Rattle.std.specs.Prelude.{ℕ, ◌+◌, ◌-◌, ◌%◌, ◌==◌, if◌then◌else◌, nat_lt, Bool, true, false, List, [], ◌++◌, length, codes, decimal, Option, Some, None}
 use Rattle.std.specs.List.{flat_map, list_any}
 use Rattle.rv_passage.specs.Names.{register_name}
 use Rattle.rv_passage.specs.declared.passage.Passage.{Passage}
@@ -8,6 +8,7 @@ use Rattle.rv_drawing.specs.Columns.{columns}
 use Rattle.rv_drawing.specs.Over.{over_note}
 use Rattle.rv_drawing.specs.Cell.{cell_of, has_cell, letter_of}
 use Rattle.rv_drawing.specs.Label.{blanks, padded, statement_of, written_by, written_text}
+use Rattle.rv_drawing.specs.Stopped.{is_stopped}
 use Rattle.rv_drawing.specs.declared.{cell.Cell.Cell, window.Window.Window}
 use Rattle.rv_text.specs.Line.{word_text}
 use Rattle.rv_text.specs.Plain.{plain_text}
@@ -37,6 +38,11 @@ room_behind (Some written) = blanks (6 - (length (decimal written.0) + length (r
 unfoldable pub written_field : Option (ℕ × ℕ) → List ℕ
 written_field written = written_text written ++ room_behind written
 
+-- the same of an instruction, where its stale word may have ended the run
+unfoldable pub outcome_field : Bool → Option (ℕ × ℕ) → List ℕ
+outcome_field true written = codes "stale            "
+outcome_field false written = written_field written
+
 -- a cell is its letter, or a blank where there is none
 unfoldable pub cell_text : Option Cell → List ℕ
 cell_text None = codes " "
@@ -51,7 +57,7 @@ unfoldable pub row_line : Listed → Window → Passage → List ℕ
 row_line listing window passage =
     (word_text passage.pc ++ codes " ") ++
     (statement_field (statement_of listing passage) ++
-    (written_field (written_by passage.ending) ++
+    (outcome_field (is_stopped window passage) (written_by passage.ending) ++
     (columns window (cell_at window passage) ++ codes "\n")))
 
 -- those that have a cell in the window

@@ -1,5 +1,5 @@
 -- The tip of a row: what was predicted after a branch or a jump, and whether that was wrong, or the cause of a trap.
-use Rattle.std.specs.Prelude.{ℕ, List, [], ◌++◌, codes, decimal, Option, Some, None}
+use Rattle.std.specs.Prelude.{ℕ, Bool, true, false, List, [], ◌++◌, codes, decimal, Option, Some, None}
 use Rattle.rv_isa.specs.Cause.{code_of}
 use Rattle.rv_isa.specs.declared.causes.Cause.{Cause}
 use Rattle.rv_passage.specs.Prediction.{correction_of, prediction_of}
@@ -36,6 +36,15 @@ row_title (Retired order cycle written next) passage = prediction_title passage
 row_title (Trapped cycle cause) passage = trap_title (code_of cause)
 row_title (Squashed cycle) passage = prediction_title passage
 
+-- the tip of a row whose stale word ended the run
+unfoldable pub stale_title : List ℕ
+stale_title = codes "<title>the run ended here: the word is stale</title>\n"
+
+-- the tip of a row that may be that
+unfoldable pub title_of_row : Bool → Passage → List ℕ
+title_of_row true passage = stale_title
+title_of_row false passage = row_title passage.ending passage
+
 -- the end of a row
-unfoldable pub row_end : Passage → List ℕ
-row_end passage = row_title passage.ending passage ++ codes "</g>\n"
+unfoldable pub row_end : Bool → Passage → List ℕ
+row_end is_stopped passage = title_of_row is_stopped passage ++ codes "</g>\n"

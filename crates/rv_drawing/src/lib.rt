@@ -10,6 +10,7 @@ mod frame;
 mod label;
 mod legend;
 mod marks;
+mod outcome;
 mod over;
 mod place;
 mod shorter;

@@ -18,6 +18,7 @@ text{font:12px monospace;fill:#111}
 .n path{stroke:#bbb}
 .out text{fill:#888}
 .trap text{fill:#a00}
+.stale text{fill:#a00}
 .v path{stroke:#c00;stroke-dasharray:4 3}
 .v text{font-size:11px;font-weight:bold;text-anchor:middle;fill:#c00}
 .a{text-anchor:end}
@@ -42,6 +43,7 @@ text{fill:#e4e4e4}
 .n path{stroke:#484c54}
 .out text{fill:#8c8c8c}
 .trap text{fill:#ff8080}
+.stale text{fill:#ff8080}
 .v path{stroke:#ff6060}
 .v text{fill:#ff6060}
 .p rect{stroke:#16181c}

@@ -3,16 +3,18 @@ ghost use Rattle.std.specs.List.{flat_map};
 ghost use Rattle.rv_drawing.specs.Cell.{has_cell};
 ghost use Rattle.rv_drawing.specs.Label.{markup_byte, statement_of};
 ghost use Rattle.rv_drawing.specs.Places.{column_x, row_y};
-ghost use Rattle.rv_drawing.specs.SvgPicture.{row_class, row_begin, near_text, near_address, svg_row, placed_row, rows_of, svg_rows, svg_of, svg_picture};
+ghost use Rattle.rv_drawing.specs.SvgPicture.{class_of_row, row_class, row_begin, near_text, near_address, svg_row, placed_row, rows_of, svg_rows, svg_of, svg_picture};
+ghost use Rattle.rv_drawing.specs.Stopped.{is_stopped};
 ghost use Rattle.rv_text.specs.Line.{word_text};
 ghost use Rattle.rv_text.specs.Written.{IsWritten};
 
 use crate::cell::has_cell;
 use crate::columns::{Columns, write_columns};
 use crate::frame::{write_begin, write_end};
-use crate::label::{statement, write_markup, write_written};
+use crate::label::{statement, write_markup};
 use crate::legend::write_legend;
 use crate::marks::{write_interrupts, write_numbers_again};
+use crate::outcome::write_outcome;
 use crate::over::write_over;
 use crate::place::{column_x, digits, row_y};
 use crate::style::write_style;
@@ -37,13 +39,25 @@ fn class(ending: Ending) -> &'static [u8]
     }
 }
 
-fn write_row_begin<W: Write>(writer: &mut W, place: usize, row: &Passage) -> Result<(), ReportError>
-    ensures { IsWritten result (W.contents writer.old) (W.contents writer.new) (row_begin (row_class row.now.ending) (decimal (row_y place)) (word_text row.now.pc)) }
+#[tactic(auto, unfolding(crate::specs::SvgPicture::class_of_row))]
+fn class_of_row(is_stopped: bool, ending: Ending) -> &'static [u8]
+    ensures { result.now ≡ class_of_row is_stopped ending }
+{
+    if is_stopped { b"stale" } else { class(ending) }
+}
+
+fn write_row_begin<W: Write>(
+    writer: &mut W,
+    window: Window,
+    place: usize,
+    row: &Passage,
+) -> Result<(), ReportError>
+    ensures { IsWritten result (W.contents writer.old) (W.contents writer.new) (row_begin (class_of_row (is_stopped window row.now) row.now.ending) (decimal (row_y place)) (word_text row.now.pc)) }
 {
     let mut at_row = Buffer::new();
     let y = digits(&mut at_row, row_y(place));
     let pc = hexadecimal(row.pc);
-    let class = class(row.ending);
+    let class = class_of_row(window.is_stopped(row), row.ending);
     put_all(
         writer,
         &[
@@ -115,15 +129,15 @@ fn write_row<W: Write>(
     requires { window.first + window.cycles < 2 ^ 64 }
     ensures { IsWritten result (W.contents writer.old) (W.contents writer.new) (svg_row listing.now window place row.now) }
 {
-    write_row_begin(writer, place, row)?;
+    write_row_begin(writer, window, place, row)?;
     write_statement(writer, listing, row)?;
     put(writer, b"</text><text x='328' y='13'>")?;
-    write_written(writer, row)?;
+    write_outcome(writer, window, row)?;
     put(writer, b"</text>\n")?;
     write_numbers_again(writer, window, place)?;
     write_columns(writer, window, Columns::Boxes(row))?;
     write_near_address(writer, window, row)?;
-    write_row_end(writer, row)
+    write_row_end(writer, window, row)
 }
 
 #[tactic(auto, unfolding(crate::specs::SvgPicture::placed_row))]

@@ -1,7 +1,8 @@
 ghost use Rattle.std.specs.Prelude.{◌≡◌, ◌+◌, ◌<◌, ◌^◌, ◌++◌, codes};
 ghost use Rattle.std.specs.List.{flat_map};
-ghost use Rattle.rv_drawing.specs.TextPicture.{scale_at, scale_line, statement_field, room_behind, written_field, cell_text, cell_at, row_line, shown_line, interrupt_at, mark_line, interrupt_line, text_picture};
+ghost use Rattle.rv_drawing.specs.TextPicture.{scale_at, scale_line, statement_field, room_behind, written_field, outcome_field, cell_text, cell_at, row_line, shown_line, interrupt_at, mark_line, interrupt_line, text_picture};
 ghost use Rattle.rv_drawing.specs.Label.{statement_of, written_by};
+ghost use Rattle.rv_drawing.specs.Stopped.{is_stopped};
 ghost use Rattle.rv_text.specs.Line.{word_text};
 ghost use Rattle.rv_text.specs.Written.{IsWritten};
 
@@ -91,6 +92,21 @@ fn write_written_field<W: Write>(writer: &mut W, row: &Passage) -> Result<(), Re
     write_room_behind(writer, row)
 }
 
+#[tactic(auto, unfolding(crate::specs::TextPicture::outcome_field))]
+fn write_outcome_field<W: Write>(
+    writer: &mut W,
+    window: Window,
+    row: &Passage,
+) -> Result<(), ReportError>
+    ensures { IsWritten result (W.contents writer.old) (W.contents writer.new) (outcome_field (is_stopped window row.now) (written_by row.now.ending)) }
+{
+    if window.is_stopped(row) {
+        put(writer, b"stale            ")
+    } else {
+        write_written_field(writer, row)
+    }
+}
+
 fn write_pc<W: Write>(writer: &mut W, pc: u32) -> Result<(), ReportError>
     ensures { IsWritten result (W.contents writer.old) (W.contents writer.new) (word_text pc ++ codes " ") }
 {
@@ -132,7 +148,7 @@ fn write_row<W: Write>(
 {
     write_pc(writer, row.pc)?;
     write_statement(writer, listing, row)?;
-    write_written_field(writer, row)?;
+    write_outcome_field(writer, window, row)?;
     write_columns(writer, window, Columns::Letters(row))?;
     put(writer, b"\n")
 }

@@ -1,8 +1,10 @@
 ghost use Rattle.std.specs.Prelude.{◌≡◌, ◌++◌, codes};
 ghost use Rattle.rv_isa.specs.Cause.{code_of};
-ghost use Rattle.rv_drawing.specs.Title.{correction_text, predicted_begin, predicted_title, prediction_title, row_end, row_title, trap_title};
+ghost use Rattle.rv_drawing.specs.Title.{correction_text, predicted_begin, predicted_title, prediction_title, row_end, row_title, stale_title, title_of_row, trap_title};
+ghost use Rattle.rv_drawing.specs.Stopped.{is_stopped};
 ghost use Rattle.rv_text.specs.Written.{IsWritten};
 
+use crate::window::Window;
 use itoa::Buffer;
 use rv_isa::Cause;
 use rv_passage::{Ending, Passage};
@@ -83,10 +85,33 @@ fn write_title<W: Write>(writer: &mut W, row: &Passage) -> Result<(), ReportErro
     }
 }
 
-/// Writes the end of a row, with its tip: what was predicted after a branch or a jump, or the cause of a trap.
-pub(crate) fn write_row_end<W: Write>(writer: &mut W, row: &Passage) -> Result<(), ReportError>
-    ensures { IsWritten result (W.contents writer.old) (W.contents writer.new) (row_end row.now) }
+#[tactic(auto, unfolding(crate::specs::Title::title_of_row, crate::specs::Title::stale_title))]
+fn write_title_of_row<W: Write>(
+    writer: &mut W,
+    window: Window,
+    row: &Passage,
+) -> Result<(), ReportError>
+    ensures { IsWritten result (W.contents writer.old) (W.contents writer.new) (title_of_row (is_stopped window row.now) row.now) }
 {
-    write_title(writer, row)?;
+    if window.is_stopped(row) {
+        put(
+            writer,
+            b"<title>the run ended here: the word is stale</title>\n",
+        )
+    } else {
+        write_title(writer, row)
+    }
+}
+
+/// Writes the end of a row, with its tip: what was predicted after a branch or a jump, the cause of a trap, or that the run ended
+/// there.
+pub(crate) fn write_row_end<W: Write>(
+    writer: &mut W,
+    window: Window,
+    row: &Passage,
+) -> Result<(), ReportError>
+    ensures { IsWritten result (W.contents writer.old) (W.contents writer.new) (row_end (is_stopped window row.now) row.now) }
+{
+    write_title_of_row(writer, window, row)?;
     put(writer, b"</g>\n")
 }

@@ -1,3 +1,8 @@
+ghost use Rattle.std.specs.Prelude.{◌≡◌};
+ghost use Rattle.rv_drawing.specs.Stopped.{is_number, is_stopped};
+
+use rv_passage::Passage;
+
 /// The cycles that a picture shows.
 #[derive(Clone, Copy, Debug, PartialEq, Eq)]
 pub struct Window {
@@ -5,4 +10,24 @@ pub struct Window {
     pub first: u64,
     /// How many they are.
     pub cycles: u64,
+    /// The number of the instruction whose stale word ended the run in the last of them, if one did.
+    pub stopped: Option<u64>,
+}
+
+fn is_number(stopped: Option<u64>, number: u64) -> bool
+    ensures { result ≡ is_number stopped number }
+{
+    match stopped {
+        Some(stopped) => stopped == number,
+        None => false,
+    }
+}
+
+impl Window {
+    /// Whether the stale word of an instruction ended the run.
+    pub(crate) fn is_stopped(self, row: &Passage) -> bool
+        ensures { result ≡ is_stopped self row.now }
+    {
+        is_number(self.stopped, row.number)
+    }
 }

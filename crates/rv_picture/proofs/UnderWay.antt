@@ -18,7 +18,7 @@ use Rattle.rv_passage.specs.Follows.{Follows, begun, followed}
 use Rattle.rv_passage.specs.Passage.{in_flight}
 use Rattle.rv_passage.specs.Table.{CanCount, Passages, after_cycle, numbered_from, table_at}
 use Rattle.rv_passage.specs.declared.passage.Passage.{Passage}
-use Rattle.rv_picture.specs.Recording.{HasFollowed, HasRun, IsFollowed, IsShownIf}
+use Rattle.rv_picture.specs.Recording.{HasFollowed, HasRun, IsFollowed, IsShownIf, stopped_at}
 use Rattle.rv_drawing.specs.declared.window.Window.{Window}
 
 length-numbered_from : (number : ℕ) (ps : List Passage) → length (numbered_from number ps) ≡ length ps
@@ -82,9 +82,9 @@ module _ {seen : Watched} {cycle : ℕ} {steps : List Step} {after : Hardware} {
 -- the window of a run that ended
 pub followed_to_the_end : {arrivals : List Arrival} {limit : ℕ} {old new : GuidedHardware} {moments : List Moment} {table : Passages} {stop : Stop} (window : Window) → History arrivals old moments new
     → IsStop limit (reports_of moments) new.hardware stop → HasFollowed table (watched arrivals old moments new) → window.first ≡ old.hardware.cycle → window.cycles ≡ length (reports_of moments)
-    → IsFollowed arrivals limit old new table window stop
-followed_to_the_end {moments = moments} window passes stops so_far first cycles =
-    record { reports = reports_of moments; cycles = cycles_shown passes; follows = so_far.follows; stops = stops; first_is = first; cycles_are = cycles }
+    → window.stopped ≡ stopped_at stop table.rows → IsFollowed arrivals limit old new table window stop
+followed_to_the_end {moments = moments} window passes stops so_far first cycles stopped =
+    record { reports = reports_of moments; cycles = cycles_shown passes; follows = so_far.follows; stops = stops; first_is = first; cycles_are = cycles; stopped_is = stopped }
 
 module _ (arrivals : List Arrival) where
   -- the cycles of a recording end with the run

@@ -1,5 +1,7 @@
 -- The cycles of a run that a picture shows.
-use Rattle.std.specs.Prelude.{◌≡◌, ℕ, ◌+◌, ◌*◌, ◌≤◌, Bool, true, false, List, length}
+use Rattle.std.specs.Prelude.{◌≡◌, ℕ, ◌+◌, ◌*◌, ◌≤◌, Bool, true, false, List, length, Option, None}
+use Rattle.std.specs.List.{find}
+use Rattle.std.specs.Option.{option_map}
 use Rattle.rv_isa.specs.declared.lines.Arrival.{Arrival}
 use Rattle.rv_arch.specs.declared.outcome.Stop.{Stop}
 use Rattle.rv_arch.specs.declared.outcome.Stop.TheVariants as stop
@@ -9,7 +11,9 @@ use Rattle.rv_hardware.specs.History.{reports_of}
 use Rattle.rv_hardware.specs.Report.{Report}
 use Rattle.rv_hardware.specs.Run.{IsStop}
 use Rattle.rv_passage.specs.Follows.{Follows}
+use Rattle.rv_passage.specs.Passage.{is_in_flight}
 use Rattle.rv_passage.specs.Table.{Passages, table_at}
+use Rattle.rv_passage.specs.declared.passage.Passage.{Passage}
 use Rattle.rv_drawing.specs.declared.window.Window.{Window}
 
 -- some cycles that a predictor guides, each with the lines of its number, and nothing else
@@ -22,6 +26,13 @@ pub record HasFollowed (table : Passages) (seen : Watched) : Type 0 where
   pub fetched : table.fetched ≤ 288 * (seen.now.hardware.cycle + 1)
   pub retired : table.retired ≤ 8 * seen.now.hardware.cycle
 
+-- the number of the instruction whose stale word ended a run: the oldest in flight
+abbrev pub stopped_at : Stop → List Passage → Option ℕ
+stopped_at (stop.Stale pc) rows = option_map (λ (p : Passage). p.number) (find is_in_flight rows)
+stopped_at stop.Breakpoint rows = None
+stopped_at stop.Limit rows = None
+stopped_at stop.Exhausted rows = None
+
 -- cycles from some hardware on until they end for a reason, at most so many, and what became of the instructions in them
 pub record IsFollowed (arrivals : List Arrival) (limit : ℕ) (old new : GuidedHardware) (table : Passages) (window : Window) (stop : Stop) : Type 0 where
   pub reports : List Report
@@ -30,6 +41,7 @@ pub record IsFollowed (arrivals : List Arrival) (limit : ℕ) (old new : GuidedH
   pub stops : IsStop limit reports new.hardware stop
   pub first_is : window.first ≡ old.hardware.cycle
   pub cycles_are : window.cycles ≡ length reports
+  pub stopped_is : window.stopped ≡ stopped_at stop table.rows
 
 -- a run that ended before its window: no cycle is shown, and the predictor too is as it was
 pub record IsOver (reason : Stop) (old new : GuidedHardware) (table : Passages) (window : Window) (stop : Stop) : Type 0 where
@@ -37,6 +49,7 @@ pub record IsOver (reason : Stop) (old new : GuidedHardware) (table : Passages) 
   pub table_is : table ≡ table_at old.hardware
   pub first_is : window.first ≡ old.hardware.cycle
   pub cycles_are : window.cycles ≡ 0
+  pub stopped_is : window.stopped ≡ stopped_at stop table.rows
   pub reason_is : stop ≡ reason
 
 -- cycles that ended by their limit

@@ -3,8 +3,11 @@ ghost use Rattle.rv_front.specs.declared.predictors.DescribedPredictor.{Describe
 ghost use Rattle.rv_hardware.specs.Guided.{GuidedCycles, guided};
 ghost use Rattle.rv_hardware.specs.Report.{Report};
 ghost use Rattle.rv_hardware.specs.Run.{IsStop};
+ghost use Rattle.std.specs.List.{find};
+ghost use Rattle.std.specs.Option.{option_copied};
+ghost use Rattle.rv_passage.specs.Passage.{is_in_flight};
 ghost use Rattle.rv_passage.specs.Table.{passages_of, table_at};
-ghost use Rattle.rv_picture.specs.Recording.{HasRun, IsFollowed, IsOver, IsRecording, is_limit};
+ghost use Rattle.rv_picture.specs.Recording.{HasRun, IsFollowed, IsOver, IsRecording, is_limit, stopped_at};
 
 use rv_arch::Stop;
 use rv_core::{Pipeline, Progress, Watcher, watch};
@@ -12,7 +15,7 @@ use rv_drawing::Window;
 use rv_front::Predictor;
 use rv_hardware::Step;
 use rv_isa::Arrivals;
-use rv_passage::Table;
+use rv_passage::{Passage, Table};
 use std::alloc::{AllocError, Global};
 use std::convert::Infallible;
 use std::io;
@@ -148,12 +151,33 @@ fn follow(
     Ok(recorded(follower.table, first, ended.progress.cycles, stop))
 }
 
-fn recorded(table: Table, first: u64, cycles: u64, stop: Stop) -> Recording
-    ensures { result ≡ record { table = table; window = record { first = first; cycles = cycles }; stop = stop } }
+fn oldest_in_flight(rows: &[Passage]) -> Option<&Passage>
+    ensures { option_copied result ≡ find is_in_flight rows.now }
 {
+    rows.iter().find(|row| row.is_in_flight())
+}
+
+// The number of the instruction whose stale word ended a run.
+fn stopped_at(stop: Stop, rows: &[Passage]) -> Option<u64>
+    ensures { result ≡ stopped_at stop rows.now }
+{
+    match stop {
+        Stop::Stale(_) => Some(oldest_in_flight(rows)?.number),
+        Stop::Limit | Stop::Breakpoint | Stop::Exhausted => None,
+    }
+}
+
+fn recorded(table: Table, first: u64, cycles: u64, stop: Stop) -> Recording
+    ensures { result ≡ record { table = table; window = record { first = first; cycles = cycles; stopped = stopped_at stop (passages_of table).rows }; stop = stop } }
+{
+    let stopped = stopped_at(stop, table.rows());
     Recording {
         table,
-        window: Window { first, cycles },
+        window: Window {
+            first,
+            cycles,
+            stopped,
+        },
         stop,
     }
 }

@@ -7,6 +7,7 @@ use std::process::Abort;
 const WINDOW: Window = Window {
     first: 0,
     cycles: 1,
+    stopped: None,
 };
 
 // A line of a program, and what of it stands in the 33 columns of a picture.

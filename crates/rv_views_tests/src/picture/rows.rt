@@ -10,6 +10,7 @@ use std::test::Fail;
 const WINDOW: Window = Window {
     first: 10,
     cycles: 10,
+    stopped: None,
 };
 
 // The second, third and fourth are those in the window.
@@ -93,6 +94,30 @@ fn passages() -> [Passage; 8] {
     ]
 }
 
+// Ten cycles whose last ended the run, at the stale word of the instruction with number 5.
+const STOPPED: Window = Window {
+    stopped: Some(5),
+    ..WINDOW
+};
+
+#[test]
+fn an_instruction_whose_stale_word_ended_the_run_is_marked(rt: HostRuntime) {
+    let alloc = rt.alloc();
+    let listing = listing(&rt, alloc, &LINES);
+    let mut text = Vec::new(alloc);
+    let written = write_picture_text(&passages(), &[], &listing, STOPPED, &mut text);
+    assert_eq!(&rt; written, Ok(()));
+    let text = String::from_utf8(text).expect(&rt, "ASCII");
+    let row =
+        "\n8000000c 00000013                         stale              FDI==~~\n00000000 -                                -  ";
+    assert!(&rt; text.contains(row));
+    let mut drawn = Vec::new(alloc);
+    let written = write_picture_svg(&passages(), &[], &listing, STOPPED, &mut drawn);
+    assert_eq!(&rt; written, Ok(()));
+    let svg = String::from_utf8(drawn).expect(&rt, "ASCII");
+    check_all_shown(&rt, svg.as_str(), &STALE);
+}
+
 #[test]
 fn each_ending_has_its_letter_and_each_phase_its_own(rt: HostRuntime) {
     let alloc = rt.alloc();
@@ -152,6 +177,13 @@ const ROWS: [&str; 6] = [
     "<g class='out' transform='translate(0 98)'><text x='8' y='13'>80000008</text><text x='84' y='13'>0000006f</text>",
     "<g class='open' transform='translate(0 116)'><text x='8' y='13'>8000000c</text><text x='84' y='13'>00000013</text>",
     "<g class='open' transform='translate(0 134)'><text x='8' y='13'>00000000</text><text x='84' y='13'>-</text>",
+];
+
+// What stands in the row of a stale word.
+const STALE: [&str; 3] = [
+    "<g class='stale' transform='translate(0 116)'><text x='8' y='13'>8000000c</text><text x='84' y='13'>00000013</text><text x='328' y='13'>stale</text>\n",
+    "<title>the run ended here: the word is stale</title>\n</g>\n<g class='open' transform='translate(0 134)'>",
+    "\n.stale text{fill:#a00}\n",
 ];
 
 // The SVG of the passages in the window.

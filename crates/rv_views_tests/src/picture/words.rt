@@ -31,13 +31,13 @@ The run ended after 5 cycles, before those of this picture.\n\
 F fetch  D dispatch  I issue  = execution  ~ wait for the bus  B broadcast  C retirement  T trap  x squash  . wait  ! interrupt\n";
 
 // The picture of at most sixty cycles from one on, and why the run ended.
-fn picture_from(rt: &impl Abort, alloc: Global, from: u64) -> (Stop, Vec<u8>) {
+fn picture_of(rt: &impl Abort, alloc: Global, program: &[u8], from: u64) -> (Stop, Vec<u8>) {
     let mut values = Values::standard();
     values.fetch_width = 1;
     let arrivals = no_arrivals(rt, alloc);
     let listing = listing(rt, alloc, &[]);
     let mut text = Vec::new(alloc);
-    let mut pipeline = pipeline(rt, alloc, &described(rt, values), &PROGRAM);
+    let mut pipeline = pipeline(rt, alloc, &described(rt, values), program);
     let mut predictor = NotTaken;
     let stop = write_picture(
         alloc,
@@ -51,6 +51,10 @@ fn picture_from(rt: &impl Abort, alloc: Global, from: u64) -> (Stop, Vec<u8>) {
         &mut text,
     );
     (stop.expect(rt, "a picture"), text)
+}
+
+fn picture_from(rt: &impl Abort, alloc: Global, from: u64) -> (Stop, Vec<u8>) {
+    picture_of(rt, alloc, &PROGRAM, from)
 }
 
 #[test]
@@ -68,4 +72,20 @@ fn behind_the_end_of_a_run_nothing_is_shown(rt: HostRuntime) {
         assert_eq!(rt; stop, Stop::Breakpoint);
         assert_eq!(rt; text.as_slice(), shown.as_bytes());
     }
+}
+
+// lui x1,0x80000; sw x0,8(x1); addi x2,x0,1, which the store makes stale.
+const STALE: [u8; 12] = [
+    0xb7, 0x00, 0x00, 0x80, 0x23, 0xa4, 0x00, 0x00, 0x13, 0x01, 0x10, 0x00,
+];
+
+#[test]
+fn the_row_whose_stale_word_ended_the_run_says_so(rt: HostRuntime) {
+    let (stop, text) = picture_of(&rt, rt.alloc(), &STALE, 0);
+    assert_eq!(rt; stop, Stop::Stale(0x8000_0008));
+    let text = String::from_utf8(text).expect(&rt, "ASCII");
+    let row = "\n80000008 00100113                         stale            ";
+    let (before, behind) = text.split_once(row).expect(&rt, "the row");
+    assert!(rt; !before.contains("stale"));
+    assert!(rt; !behind.contains("stale"));
 }

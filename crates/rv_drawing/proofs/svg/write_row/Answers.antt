@@ -17,32 +17,32 @@ unfolding svg_row
 returns-in_err-put g c =
     handed_on _ _ _ _ _ c.from_residual-in_err-put.ensures.1 (beginning-both _ _ _ _ _ c.in_ok-write_row_begin.ensures (beginning-both _ _ _ _ _ c.in_ok-write_statement.ensures (beginning-longer _ _ _ _ c.in_err-put.ensures)))
 
-pub returns-in_err-write_written : goal.returns-in_err-write_written
+pub returns-in_err-write_outcome : goal.returns-in_err-write_outcome
 unfolding svg_row
-returns-in_err-write_written g c =
-    handed_on _ _ _ _ _ c.from_residual-in_err-write_written.ensures.1 (beginning-both _ _ _ _ _ c.in_ok-write_row_begin.ensures (beginning-both _ _ _ _ _ c.in_ok-write_statement.ensures (beginning-both _ _ _ _ _ c.in_ok-put.ensures (beginning-longer _ _ _ _ c.in_err-write_written.ensures))))
+returns-in_err-write_outcome g c =
+    handed_on _ _ _ _ _ c.from_residual-in_err-write_outcome.ensures.1 (beginning-both _ _ _ _ _ c.in_ok-write_row_begin.ensures (beginning-both _ _ _ _ _ c.in_ok-write_statement.ensures (beginning-both _ _ _ _ _ c.in_ok-put.ensures (beginning-longer _ _ _ _ c.in_err-write_outcome.ensures))))
 
 pub returns-in_err-put-2 : goal.returns-in_err-put-2
 unfolding svg_row
 returns-in_err-put-2 g c =
-    handed_on _ _ _ _ _ c.from_residual-in_err-put-2.ensures.1 (beginning-both _ _ _ _ _ c.in_ok-write_row_begin.ensures (beginning-both _ _ _ _ _ c.in_ok-write_statement.ensures (beginning-both _ _ _ _ _ c.in_ok-put.ensures (beginning-both _ _ _ _ _ c.in_ok-write_written.ensures (beginning-longer _ _ _ _ c.in_err-put-2.ensures)))))
+    handed_on _ _ _ _ _ c.from_residual-in_err-put-2.ensures.1 (beginning-both _ _ _ _ _ c.in_ok-write_row_begin.ensures (beginning-both _ _ _ _ _ c.in_ok-write_statement.ensures (beginning-both _ _ _ _ _ c.in_ok-put.ensures (beginning-both _ _ _ _ _ c.in_ok-write_outcome.ensures (beginning-longer _ _ _ _ c.in_err-put-2.ensures)))))
 
 pub returns-in_err-write_numbers_again : goal.returns-in_err-write_numbers_again
 unfolding svg_row
 returns-in_err-write_numbers_again g c =
-    handed_on _ _ _ _ _ c.from_residual-in_err-write_numbers_again.ensures.1 (beginning-both _ _ _ _ _ c.in_ok-write_row_begin.ensures (beginning-both _ _ _ _ _ c.in_ok-write_statement.ensures (beginning-both _ _ _ _ _ c.in_ok-put.ensures (beginning-both _ _ _ _ _ c.in_ok-write_written.ensures (beginning-both _ _ _ _ _ c.in_ok-put-2.ensures (beginning-longer _ _ _ _ c.in_err-write_numbers_again.ensures))))))
+    handed_on _ _ _ _ _ c.from_residual-in_err-write_numbers_again.ensures.1 (beginning-both _ _ _ _ _ c.in_ok-write_row_begin.ensures (beginning-both _ _ _ _ _ c.in_ok-write_statement.ensures (beginning-both _ _ _ _ _ c.in_ok-put.ensures (beginning-both _ _ _ _ _ c.in_ok-write_outcome.ensures (beginning-both _ _ _ _ _ c.in_ok-put-2.ensures (beginning-longer _ _ _ _ c.in_err-write_numbers_again.ensures))))))
 
 pub returns-in_err-write_columns : goal.returns-in_err-write_columns
 unfolding svg_row
 returns-in_err-write_columns g c =
-    handed_on _ _ _ _ _ c.from_residual-in_err-write_columns.ensures.1 (beginning-both _ _ _ _ _ c.in_ok-write_row_begin.ensures (beginning-both _ _ _ _ _ c.in_ok-write_statement.ensures (beginning-both _ _ _ _ _ c.in_ok-put.ensures (beginning-both _ _ _ _ _ c.in_ok-write_written.ensures (beginning-both _ _ _ _ _ c.in_ok-put-2.ensures (beginning-both _ _ _ _ _ c.in_ok-write_numbers_again.ensures (beginning-longer _ _ _ _ c.in_err-write_columns.ensures)))))))
+    handed_on _ _ _ _ _ c.from_residual-in_err-write_columns.ensures.1 (beginning-both _ _ _ _ _ c.in_ok-write_row_begin.ensures (beginning-both _ _ _ _ _ c.in_ok-write_statement.ensures (beginning-both _ _ _ _ _ c.in_ok-put.ensures (beginning-both _ _ _ _ _ c.in_ok-write_outcome.ensures (beginning-both _ _ _ _ _ c.in_ok-put-2.ensures (beginning-both _ _ _ _ _ c.in_ok-write_numbers_again.ensures (beginning-longer _ _ _ _ c.in_err-write_columns.ensures)))))))
 
 pub returns-in_err-write_near_address : goal.returns-in_err-write_near_address
 unfolding svg_row
 returns-in_err-write_near_address g c =
-    handed_on _ _ _ _ _ c.from_residual-in_err-write_near_address.ensures.1 (beginning-both _ _ _ _ _ c.in_ok-write_row_begin.ensures (beginning-both _ _ _ _ _ c.in_ok-write_statement.ensures (beginning-both _ _ _ _ _ c.in_ok-put.ensures (beginning-both _ _ _ _ _ c.in_ok-write_written.ensures (beginning-both _ _ _ _ _ c.in_ok-put-2.ensures (beginning-both _ _ _ _ _ c.in_ok-write_numbers_again.ensures (beginning-both _ _ _ _ _ c.in_ok-write_columns.ensures (beginning-longer _ _ _ _ c.in_err-write_near_address.ensures))))))))
+    handed_on _ _ _ _ _ c.from_residual-in_err-write_near_address.ensures.1 (beginning-both _ _ _ _ _ c.in_ok-write_row_begin.ensures (beginning-both _ _ _ _ _ c.in_ok-write_statement.ensures (beginning-both _ _ _ _ _ c.in_ok-put.ensures (beginning-both _ _ _ _ _ c.in_ok-write_outcome.ensures (beginning-both _ _ _ _ _ c.in_ok-put-2.ensures (beginning-both _ _ _ _ _ c.in_ok-write_numbers_again.ensures (beginning-both _ _ _ _ _ c.in_ok-write_columns.ensures (beginning-longer _ _ _ _ c.in_err-write_near_address.ensures))))))))
 
 pub returns : goal.returns
 unfolding svg_row
 returns g c =
-    written_behind _ _ _ _ _ _ c.in_ok-write_row_begin.ensures (written_behind _ _ _ _ _ _ c.in_ok-write_statement.ensures (written_behind _ _ _ _ _ _ c.in_ok-put.ensures (written_behind _ _ _ _ _ _ c.in_ok-write_written.ensures (written_behind _ _ _ _ _ _ c.in_ok-put-2.ensures (written_behind _ _ _ _ _ _ c.in_ok-write_numbers_again.ensures (written_behind _ _ _ _ _ _ c.in_ok-write_columns.ensures (written_behind _ _ _ _ _ _ c.in_ok-write_near_address.ensures c.write_row_end.ensures)))))))
+    written_behind _ _ _ _ _ _ c.in_ok-write_row_begin.ensures (written_behind _ _ _ _ _ _ c.in_ok-write_statement.ensures (written_behind _ _ _ _ _ _ c.in_ok-put.ensures (written_behind _ _ _ _ _ _ c.in_ok-write_outcome.ensures (written_behind _ _ _ _ _ _ c.in_ok-put-2.ensures (written_behind _ _ _ _ _ _ c.in_ok-write_numbers_again.ensures (written_behind _ _ _ _ _ _ c.in_ok-write_columns.ensures (written_behind _ _ _ _ _ _ c.in_ok-write_near_address.ensures c.write_row_end.ensures)))))))

@@ -2,12 +2,12 @@ use Rattle.rv_drawing.specs.Title.{row_end}
 use Rattle.rv_text.proofs.Writing.{beginning-longer, handed_on, written_behind}
 use Rattle.rv_drawing.proofs.title.write_row_end.Goals as goal
 
-pub returns-in_err-write_title : goal.returns-in_err-write_title
+pub returns-in_err-write_title_of_row : goal.returns-in_err-write_title_of_row
 unfolding row_end
-returns-in_err-write_title g c =
-    handed_on _ _ _ _ _ c.from_residual.ensures.1 (beginning-longer _ _ _ _ c.in_err-write_title.ensures)
+returns-in_err-write_title_of_row g c =
+    handed_on _ _ _ _ _ c.from_residual.ensures.1 (beginning-longer _ _ _ _ c.in_err-write_title_of_row.ensures)
 
 pub returns : goal.returns
 unfolding row_end
 returns g c =
-    written_behind _ _ _ _ _ _ c.in_ok-write_title.ensures c.put.ensures
+    written_behind _ _ _ _ _ _ c.in_ok-write_title_of_row.ensures c.put.ensures

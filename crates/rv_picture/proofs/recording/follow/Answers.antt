@@ -1,9 +1,9 @@
-use Rattle.std.proofs.Common.{None, ap, sym, subst}
+use Rattle.std.proofs.Common.{None, ap, refl, sym, subst}
 use Rattle.rv_core.specs.declared.outcome.Progress.{Progress}
 use Rattle.rv_core.proofs.Shown.{cycles_shown, stops_by}
 use Rattle.rv_hardware.specs.Guided.{guided}
 use Rattle.rv_passage.specs.Table.{passages_of}
-use Rattle.rv_picture.specs.Recording.{IsFollowed}
+use Rattle.rv_picture.specs.Recording.{IsFollowed, stopped_at}
 use Rattle.rv_picture.specs.declared.recording.Recording.{Recording}
 use Rattle.rv_picture.proofs.UnderWay.{followed_nothing, followed_to_the_end, has_not_run, has_run, on_err}
 use Rattle.rv_picture.proofs.recording.follow.Goals as goal
@@ -28,5 +28,5 @@ returns-clause-followed g c =
     let run = c.watch-ended.ensures in
     let begun = followed_nothing c.args.arrivals.now old (passages_of c.in_ok-begin.field-0) c.in_ok-begin.ensures.table c.in_ok-begin.ensures.few in
     subst (λ (r : Recording). IsFollowed c.args.arrivals.now c.args.limit old new (passages_of r.table) r.window r.stop) (sym c.recorded.ensures)
-    (followed_to_the_end (record { first = c.cycles_done-first.result; cycles = c.watch-ended.result.progress.cycles }) run.passes (stops_by run c.in_ok-stop.stop c.in_ok-stop.was) (run.seen None begun)
-    c.cycles_done-first.ensures.number (ap (λ (p : Progress). p.cycles) run.counted))
+    (followed_to_the_end (record { first = c.cycles_done-first.result; cycles = c.watch-ended.result.progress.cycles; stopped = stopped_at c.in_ok-stop.stop (passages_of c.watch-ended.new.watcher.table).rows }) run.passes (stops_by run c.in_ok-stop.stop c.in_ok-stop.was) (run.seen None begun)
+    c.cycles_done-first.ensures.number (ap (λ (p : Progress). p.cycles) run.counted) refl)
