@@ -1,7 +1,8 @@
 -- The rows of an SVG at one of them.
-use Rattle.std.proofs.Common.{◌≡◌, ◌∙◌, ℕ, ◌+◌, ◌<◌, List, [], ◌∷◌, ◌++◌, length, get_or, take, drop, sym, ap, append_assoc, append-nil, arith, count_by}
+use Rattle.std.proofs.Common.{◌≡◌, ◌∙◌, ℕ, ◌+◌, ◌<◌, List, [], ◌∷◌, ◌++◌, length, get_or, take, drop, sym, ap, append_assoc, append-nil, arith, count_by, Option}
 use Rattle.std.proofs.lemmas.List.{take_more, take-append-drop}
 use Rattle.std.proofs.lemmas.List.Sums.{sum_by-append}
+use Rattle.rv_hardware.specs.declared.report.Stall.{Stall}
 use Rattle.rv_passage.specs.declared.passage.Passage.{Passage}
 use Rattle.rv_source.specs.Listing.{Listed}
 use Rattle.rv_drawing.specs.Cell.{has_cell}
@@ -14,9 +15,9 @@ count_by-cons window x xs =
     let one : count_by (has_cell window) (x ∷ []) ≡ rows_of window x = omega arith in
     sum_by-append _ (x ∷ []) xs ∙ (λ i. one i + count_by (has_cell window) xs)
 
-module _ (listing : Listed) (window : Window) where
+module _ (listing : Listed) (window : Window) (all : List Passage) (reasons : List (Option Stall)) where
   abbrev pub rows_from : ℕ → List Passage → List ℕ
-  rows_from place passages = svg_rows listing window place passages
+  rows_from place passages = svg_rows listing window all reasons place passages
 
   abbrev pub count : List Passage → ℕ
   count passages = count_by (has_cell window) passages
@@ -28,19 +29,19 @@ module _ (listing : Listed) (window : Window) where
   svg_rows-append place (x ∷ xs) ys =
       let behind = place + rows_of window x in
       let same : behind + count xs ≡ place + count (x ∷ xs) = omega (arith, count_by-cons window x xs) in
-      ap (λ l. placed_row listing window place x ++ l) (svg_rows-append behind xs ys ∙ ap (λ n. rows_from behind xs ++ rows_from n ys) same)
-      ∙ sym (append_assoc (placed_row listing window place x) (rows_from behind xs) (rows_from (place + count (x ∷ xs)) ys))
+      ap (λ l. placed_row listing window all reasons place x ++ l) (svg_rows-append behind xs ys ∙ ap (λ n. rows_from behind xs ++ rows_from n ys) same)
+      ∙ sym (append_assoc (placed_row listing window all reasons place x) (rows_from behind xs) (rows_from (place + count (x ∷ xs)) ys))
 
   module _ (items : List Passage) (index : ℕ) (other : Passage) (here : index < length items) (place : ℕ) (below : place ≡ count (take index items)) where
     abbrev pub row : Passage
     row = get_or items index other
 
-    pub svg_rows-more : rows_from 0 (take (index + 1) items) ≡ rows_from 0 (take index items) ++ placed_row listing window place row
+    pub svg_rows-more : rows_from 0 (take (index + 1) items) ≡ rows_from 0 (take index items) ++ placed_row listing window all reasons place row
     unfolding svg_rows
     svg_rows-more =
         let same : 0 + count (take index items) ≡ place = omega (arith, below) in
         ap (rows_from 0) (take_more items index other here) ∙ svg_rows-append 0 (take index items) (row ∷ []) ∙ ap (λ n. rows_from 0 (take index items) ++ rows_from n (row ∷ [])) same
-        ∙ ap (λ l. rows_from 0 (take index items) ++ l) (append-nil (placed_row listing window place row))
+        ∙ ap (λ l. rows_from 0 (take index items) ++ l) (append-nil (placed_row listing window all reasons place row))
 
     pub count-more : place + rows_of window row ≡ count (take (index + 1) items)
     count-more =
@@ -48,6 +49,6 @@ module _ (listing : Listed) (window : Window) where
         let more = ap count (take_more items index other here) ∙ sum_by-append _ (take index items) (row ∷ []) in
         omega (arith, more, one, below)
 
-    pub svg_rows-split : (rows_from 0 (take index items) ++ placed_row listing window place row) ++ rows_from (0 + count (take (index + 1) items)) (drop (index + 1) items) ≡ rows_from 0 items
+    pub svg_rows-split : (rows_from 0 (take index items) ++ placed_row listing window all reasons place row) ++ rows_from (0 + count (take (index + 1) items)) (drop (index + 1) items) ≡ rows_from 0 items
     svg_rows-split =
         ap (λ front. front ++ rows_from (0 + count (take (index + 1) items)) (drop (index + 1) items)) (sym svg_rows-more) ∙ sym (svg_rows-append 0 (take (index + 1) items) (drop (index + 1) items)) ∙ ap (rows_from 0) (take-append-drop (index + 1) items)

@@ -98,6 +98,26 @@ is_issue_wait cell.Squash = false
 is_issue_wait cell.DispatchWait = false
 is_issue_wait cell.HeadWait = false
 
+-- a fetched word waits to be dispatched
+abbrev pub is_dispatch_wait : Cell → Bool
+is_dispatch_wait cell.DispatchWait = true
+is_dispatch_wait cell.Fetch = false
+is_dispatch_wait cell.Dispatch = false
+is_dispatch_wait cell.Issue = false
+is_dispatch_wait cell.Execution = false
+is_dispatch_wait cell.BusWait = false
+is_dispatch_wait cell.Broadcast = false
+is_dispatch_wait cell.Retirement = false
+is_dispatch_wait cell.Trap = false
+is_dispatch_wait cell.Squash = false
+is_dispatch_wait cell.IssueWait = false
+is_dispatch_wait cell.HeadWait = false
+
+-- there is a cell, and it is of a sort
+abbrev pub shows : (Cell → Bool) → Option Cell → Bool
+shows is_such None = false
+shows is_such (Some cell) = is_such cell
+
 -- the class of a cell in the style of an SVG
 unfoldable pub class_of : Cell → List ℕ
 class_of cell.Fetch = codes "f"

@@ -13,4 +13,4 @@ column_text (Letters passage) window = cell_at window passage.now
 column_text (Marks interrupts) window = interrupt_at window interrupts.now
 column_text (Tenths rows) window = tenth_at window rows
 column_text Numbers window = number_at window
-column_text (Boxes passage) window = box_at window passage.now
+column_text (Boxes passage passages reasons) window = box_at window passages.now reasons.now passage.now

@@ -5,6 +5,7 @@ pub mod Label
 pub mod Outcome
 pub mod Over
 pub mod Places
+pub mod Room
 pub mod Shorter
 pub mod Stopped
 pub mod SvgBoxes

@@ -1,5 +1,7 @@
 -- The boxes of an instruction in an SVG, one for each cell.
 use Rattle.std.specs.Prelude.{ℕ, ◌+◌, List, [], ◌++◌, codes, decimal, Option, Some, None}
+use Rattle.std.specs.List.{slice_index_or}
+use Rattle.rv_hardware.specs.declared.report.Stall.{Stall}
 use Rattle.rv_passage.specs.declared.passage.Passage.{Passage}
 use Rattle.rv_drawing.specs.Cell.{cell_of, class_of, letter_of}
 use Rattle.rv_drawing.specs.Places.{column_x}
@@ -20,11 +22,16 @@ unfoldable pub cell_box : List ℕ → List ℕ → List ℕ → List ℕ → Li
 cell_box class x tip cycle letter = box_begin class x ++ (tip ++ box_end cycle letter)
 
 -- the box of a cell in a column, and nothing where there is none
-unfoldable pub box_of : Option Cell → Window → Passage → ℕ → ℕ → List ℕ
-box_of None window passage column cycle = []
-box_of (Some cell) window passage column cycle =
-    cell_box (class_of cell) (decimal (column_x column)) (tip_of window passage cycle cell) (decimal cycle) (letter_of cell)
+unfoldable pub box_of : Option Cell → Window → List Passage → Option Stall → Passage → ℕ → ℕ → List ℕ
+box_of None window passages reason passage column cycle = []
+box_of (Some cell) window passages reason passage column cycle =
+    cell_box (class_of cell) (decimal (column_x column)) (tip_of window passages reason passage cycle cell) (decimal cycle) (letter_of cell)
 
--- the box of an instruction in a column of a window
-unfoldable pub box_at : Window → Passage → ℕ → List ℕ
-box_at window passage column = box_of (cell_of passage (window.first + column)) window passage column (window.first + column)
+-- what the oldest fetched word waits for in a column
+abbrev pub reason_in : List (Option Stall) → ℕ → Option Stall
+reason_in reasons column = slice_index_or reasons column None
+
+-- the box of an instruction among others in a column of a window
+unfoldable pub box_at : Window → List Passage → List (Option Stall) → Passage → ℕ → List ℕ
+box_at window passages reasons passage column =
+    box_of (cell_of passage (window.first + column)) window passages (reason_in reasons column) passage column (window.first + column)

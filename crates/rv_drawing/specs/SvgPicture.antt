@@ -1,7 +1,8 @@
 -- A picture as an SVG: a legend on top, cycle numbers, a row for each instruction with a box for each cell, and a line for each
 -- interrupt.
-use Rattle.std.specs.Prelude.{ℕ, ◌+◌, ◌-◌, if◌then◌else◌, nat_le, Bool, true, false, List, [], ◌∷◌, ◌++◌, codes, decimal, count_by}
+use Rattle.std.specs.Prelude.{ℕ, ◌+◌, ◌-◌, if◌then◌else◌, nat_le, Bool, true, false, List, [], ◌∷◌, ◌++◌, codes, decimal, count_by, Option}
 use Rattle.std.specs.List.{flat_map}
+use Rattle.rv_hardware.specs.declared.report.Stall.{Stall}
 use Rattle.rv_passage.specs.declared.passage.{Ending.Ending, Passage.Passage}
 use Rattle.rv_passage.specs.declared.passage.Ending.TheVariants.{InFlight, Retired, Trapped, Squashed}
 use Rattle.rv_source.specs.Listing.{Listed}
@@ -48,37 +49,41 @@ unfoldable pub near_address : Window → Passage → List ℕ
 near_address window passage =
     if nat_le 50 (passage.fetched - window.first) then near_text (decimal (column_x (passage.fetched - window.first))) (word_text passage.pc) else []
 
--- an instruction: its address, its statement, what it wrote, its cells, and its tip
-unfoldable pub svg_row : Listed → Window → ℕ → Passage → List ℕ
-svg_row listing window place passage =
+-- an instruction among others: its address, its statement, what it wrote, its cells, and its tip
+unfoldable pub svg_row : Listed → Window → List Passage → List (Option Stall) → ℕ → Passage → List ℕ
+svg_row listing window passages reasons place passage =
     row_begin (class_of_row (is_stopped window passage) passage.ending) (decimal (row_y place)) (word_text passage.pc) ++
     (flat_map markup_byte (statement_of listing passage) ++
     (codes "</text><text x='328' y='13'>" ++ (outcome_text (is_stopped window passage) (written_by passage.ending) ++
-    (codes "</text>\n" ++ (numbers_again window place ++ (columns window (box_at window passage) ++
+    (codes "</text>\n" ++ (numbers_again window place ++ (columns window (box_at window passages reasons passage) ++
     (near_address window passage ++ row_end (is_stopped window passage) passage)))))))
 
 -- one that has a cell in the window takes a row
-unfoldable pub placed_row : Listed → Window → ℕ → Passage → List ℕ
-placed_row listing window place passage = if has_cell window passage then svg_row listing window place passage else []
+unfoldable pub placed_row : Listed → Window → List Passage → List (Option Stall) → ℕ → Passage → List ℕ
+placed_row listing window passages reasons place passage =
+    if has_cell window passage then svg_row listing window passages reasons place passage else []
 
 -- how many rows an instruction takes
 abbrev pub rows_of : Window → Passage → ℕ
 rows_of window passage = if has_cell window passage then 1 else 0
 
 -- each row stands below those before
-unfoldable pub svg_rows : Listed → Window → ℕ → List Passage → List ℕ
-svg_rows listing window place [] = []
-svg_rows listing window place (passage ∷ passages) =
-    placed_row listing window place passage ++ svg_rows listing window (place + rows_of window passage) passages
+unfoldable pub svg_rows : Listed → Window → List Passage → List (Option Stall) → ℕ → List Passage → List ℕ
+svg_rows listing window passages reasons place [] = []
+svg_rows listing window passages reasons place (passage ∷ rest) =
+    placed_row listing window passages reasons place passage
+    ++ svg_rows listing window passages reasons (place + rows_of window passage) rest
 
--- the picture of some instructions, which take so many rows, and interrupts in a window
-unfoldable pub svg_of : ℕ → List Passage → List ℕ → Listed → Window → List ℕ
-svg_of rows passages interrupts listing window =
+-- the picture of some instructions, which take so many rows, and interrupts in a window, with what the oldest fetched word waited for
+-- in each cycle
+unfoldable pub svg_of : ℕ → List Passage → List ℕ → List (Option Stall) → Listed → Window → List ℕ
+svg_of rows passages interrupts reasons listing window =
     svg_begin window.cycles rows ++ (svg_style ++ (svg_legend ++
-    (columns window (tenth_at window rows) ++ (svg_rows listing window 0 passages ++
+    (columns window (tenth_at window rows) ++ (svg_rows listing window passages reasons 0 passages ++
     (flat_map (interrupt_in window rows) interrupts ++
     (over_note (codes "<text x='8' y='34'>") (codes "</text>\n") window ++ svg_end))))))
 
--- the picture of some instructions and interrupts in a window
-unfoldable pub svg_picture : List Passage → List ℕ → Listed → Window → List ℕ
-svg_picture passages interrupts listing window = svg_of (count_by (has_cell window) passages) passages interrupts listing window
+-- the picture of some instructions and interrupts in a window, with that
+unfoldable pub svg_picture : List Passage → List ℕ → List (Option Stall) → Listed → Window → List ℕ
+svg_picture passages interrupts reasons listing window =
+    svg_of (count_by (has_cell window) passages) passages interrupts reasons listing window

@@ -1,11 +1,13 @@
--- What a dispatched instruction waits for until its issue, as a tip says it.
+-- The tip of a cell: what it is called, where a wait says what for. What a dispatched instruction waits for until its issue stands here.
 use Rattle.std.specs.Prelude.{ℕ, if◌then◌else◌, List, [], ◌++◌, codes, decimal, Option, Some, None}
 use Rattle.rv_isa.specs.Instruction.{kind_of_word}
 use Rattle.rv_isa.specs.declared.operations.Kind.{Kind}
 use Rattle.rv_isa.specs.declared.operations.Kind.TheVariants as kind
+use Rattle.rv_hardware.specs.declared.report.Stall.{Stall}
 use Rattle.rv_passage.specs.Names.{register_name}
 use Rattle.rv_passage.specs.declared.{passage.Passage.Passage, producers.Producer.Producer}
-use Rattle.rv_drawing.specs.Cell.{is_past, is_issue_wait, name_of}
+use Rattle.rv_drawing.specs.Cell.{is_dispatch_wait, is_past, is_issue_wait, name_of}
+use Rattle.rv_drawing.specs.Room.{dispatch_wait}
 use Rattle.rv_drawing.specs.declared.{cell.Cell.Cell, window.Window.Window}
 use Rattle.rv_drawing.specs.declared.cell.Cell.TheVariants as cell
 use Rattle.rv_text.specs.Line.{word_text}
@@ -53,6 +55,9 @@ issue_wait window passage cycle =
     if is_past window.first passage.dispatched then name_of cell.IssueWait
     else operand_wait (kind_of_word passage.instruction) (awaited cycle passage.producers.first) (awaited cycle passage.producers.second)
 
--- the tip of a cell
-unfoldable pub tip_of : Window → Passage → ℕ → Cell → List ℕ
-tip_of window passage cycle shown = if is_issue_wait shown then issue_wait window passage cycle else name_of shown
+-- the tip of a cell of an instruction among others, in a cycle in which the oldest fetched word waits for something
+unfoldable pub tip_of : Window → List Passage → Option Stall → Passage → ℕ → Cell → List ℕ
+tip_of window passages reason passage cycle shown =
+    if is_issue_wait shown then issue_wait window passage cycle
+    else if is_dispatch_wait shown then dispatch_wait passages reason passage.number cycle
+    else name_of shown

@@ -1,5 +1,5 @@
 ghost use Rattle.std.specs.Prelude.{◌≡◌, ◌+◌, ◌<◌, ◌^◌};
-ghost use Rattle.rv_drawing.specs.Cell.{is_at, is_issue_wait, is_past, mark_of, wait_of, phase_of, cell_of, has_cell, letter_of, name_of, class_of};
+ghost use Rattle.rv_drawing.specs.Cell.{is_at, is_dispatch_wait, is_issue_wait, is_past, mark_of, wait_of, phase_of, cell_of, has_cell, letter_of, name_of, class_of};
 
 use crate::window::Window;
 use rv_passage::{Ending, Passage};
@@ -72,6 +72,13 @@ impl Cell {
         ensures { result ≡ is_issue_wait self }
     {
         matches!(self, Cell::IssueWait)
+    }
+
+    /// Whether a fetched word waits to be dispatched.
+    pub(crate) fn is_dispatch_wait(self) -> bool
+        ensures { result ≡ is_dispatch_wait self }
+    {
+        matches!(self, Cell::DispatchWait)
     }
 
     /// The class of a cell in the style of an SVG.

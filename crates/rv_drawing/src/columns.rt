@@ -7,6 +7,7 @@ use crate::boxes::write_box_at;
 use crate::marks::{write_number, write_tenth};
 use crate::text::{write_cell, write_interrupt_column, write_scale_column};
 use crate::window::Window;
+use rv_hardware::Stall;
 use rv_passage::Passage;
 use rv_text::ReportError;
 use std::io::Write;
@@ -21,11 +22,17 @@ pub(crate) enum Columns<'a> {
     /// The marks of the cycles of interrupts.
     Marks(&'a [u64]),
     /// The cycle numbers of an SVG with so many rows.
-    Tenths { rows: usize },
+    Tenths {
+        rows: usize,
+    },
     /// The cycle numbers again, further down in an SVG.
     Numbers,
-    /// The boxes of an instruction.
-    Boxes(&'a Passage),
+    /// The boxes of an instruction among others, with what the oldest fetched word waited for in each cycle.
+    Boxes {
+        row: &'a Passage,
+        rows: &'a [Passage],
+        stalls: &'a [Option<Stall>],
+    },
 }
 
 fn write_column<W: Write>(
@@ -43,7 +50,9 @@ fn write_column<W: Write>(
         Columns::Marks(interrupts) => write_interrupt_column(writer, window, interrupts, column),
         Columns::Tenths { rows } => write_tenth(writer, window, rows, column),
         Columns::Numbers => write_number(writer, window, column),
-        Columns::Boxes(row) => write_box_at(writer, window, row, column),
+        Columns::Boxes { row, rows, stalls } => {
+            write_box_at(writer, window, rows, stalls, row, column)
+        }
     }
 }
 

@@ -13,6 +13,7 @@ mod marks;
 mod outcome;
 mod over;
 mod place;
+mod room;
 mod shorter;
 mod style;
 mod svg;

@@ -22,6 +22,7 @@ use crate::title::write_row_end;
 use crate::window::Window;
 use arrayvec::ArrayVec;
 use itoa::Buffer;
+use rv_hardware::Stall;
 use rv_passage::{Ending, Passage};
 use rv_source::Listing;
 use rv_text::{ReportError, hexadecimal, put, put_all};
@@ -123,11 +124,13 @@ fn write_row<W: Write>(
     writer: &mut W,
     listing: &Listing,
     window: Window,
+    rows: &[Passage],
+    stalls: &[Option<Stall>],
     place: usize,
     row: &Passage,
 ) -> Result<(), ReportError>
     requires { window.first + window.cycles < 2 ^ 64 }
-    ensures { IsWritten result (W.contents writer.old) (W.contents writer.new) (svg_row listing.now window place row.now) }
+    ensures { IsWritten result (W.contents writer.old) (W.contents writer.new) (svg_row listing.now window rows.now stalls.now place row.now) }
 {
     write_row_begin(writer, window, place, row)?;
     write_statement(writer, listing, row)?;
@@ -135,7 +138,7 @@ fn write_row<W: Write>(
     write_outcome(writer, window, row)?;
     put(writer, b"</text>\n")?;
     write_numbers_again(writer, window, place)?;
-    write_columns(writer, window, Columns::Boxes(row))?;
+    write_columns(writer, window, Columns::Boxes { row, rows, stalls })?;
     write_near_address(writer, window, row)?;
     write_row_end(writer, window, row)
 }
@@ -145,14 +148,16 @@ fn write_placed<W: Write>(
     writer: &mut W,
     listing: &Listing,
     window: Window,
+    rows: &[Passage],
+    stalls: &[Option<Stall>],
     place: usize,
     row: &Passage,
 ) -> Result<(), ReportError>
     requires { window.first + window.cycles < 2 ^ 64 }
-    ensures { IsWritten result (W.contents writer.old) (W.contents writer.new) (placed_row listing.now window place row.now) }
+    ensures { IsWritten result (W.contents writer.old) (W.contents writer.new) (placed_row listing.now window rows.now stalls.now place row.now) }
 {
     if has_cell(window, row) {
-        write_row(writer, listing, window, place, row)
+        write_row(writer, listing, window, rows, stalls, place, row)
     } else {
         Ok(())
     }
@@ -171,13 +176,14 @@ fn write_rows<W: Write>(
     listing: &Listing,
     window: Window,
     rows: &[Passage],
+    stalls: &[Option<Stall>],
 ) -> Result<(), ReportError>
     requires { window.first + window.cycles < 2 ^ 64 }
-    ensures { IsWritten result (W.contents writer.old) (W.contents writer.new) (svg_rows listing.now window 0 rows.now) }
+    ensures { IsWritten result (W.contents writer.old) (W.contents writer.new) (svg_rows listing.now window rows.now stalls.now 0 rows.now) }
 {
     let mut place = 0;
     for row in rows {
-        write_placed(writer, listing, window, place, row)?;
+        write_placed(writer, listing, window, rows, stalls, place, row)?;
         place += rows_of(window, row);
     }
     Ok(())
@@ -202,37 +208,40 @@ fn write_shown<W: Write>(
     writer: &mut W,
     rows: &[Passage],
     interrupts: &[u64],
+    stalls: &[Option<Stall>],
     listing: &Listing,
     window: Window,
     shown: usize,
 ) -> Result<(), ReportError>
     requires { window.first + window.cycles < 2 ^ 64 }
-    ensures { IsWritten result (W.contents writer.old) (W.contents writer.new) (svg_of shown rows.now interrupts.now listing.now window) }
+    ensures { IsWritten result (W.contents writer.old) (W.contents writer.new) (svg_of shown rows.now interrupts.now stalls.now listing.now window) }
 {
     write_begin(writer, window.cycles, shown)?;
     write_style(writer)?;
     write_legend(writer)?;
     write_columns(writer, window, Columns::Tenths { rows: shown })?;
-    write_rows(writer, listing, window, rows)?;
+    write_rows(writer, listing, window, rows, stalls)?;
     write_interrupts(writer, window, shown, interrupts)?;
     write_over(writer, b"<text x='8' y='34'>", window, b"</text>\n")?;
     write_end(writer)
 }
 
 /// Writes a picture as an SVG: a legend on top, cycle numbers, a row for each instruction that shows something in the window,
-/// with a box for each cell, and a line for each interrupt. The window ends below cycle 2^64. Asks for no memory. Fails
+/// with a box for each cell, and a line for each interrupt. `stalls` has what the oldest fetched word waited for in each cycle of
+/// the window in which nothing was dispatched. The window ends below cycle 2^64. Asks for no memory. Fails
 /// by `WriteFailed` alone, and what was written is then a beginning of the picture.
 #[tactic(auto, unfolding(crate::specs::SvgPicture::svg_picture))]
 pub fn write_picture_svg<W: Write>(
     rows: &[Passage],
     interrupts: &[u64],
+    stalls: &[Option<Stall>],
     listing: &Listing,
     window: Window,
     writer: &mut W,
 ) -> Result<(), ReportError>
     requires { window.first + window.cycles < 2 ^ 64 }
-    ensures { IsWritten result (W.contents writer.old) (W.contents writer.new) (svg_picture rows.now interrupts.now listing.now window) }
+    ensures { IsWritten result (W.contents writer.old) (W.contents writer.new) (svg_picture rows.now interrupts.now stalls.now listing.now window) }
 {
     let shown = count_shown(window, rows);
-    write_shown(writer, rows, interrupts, listing, window, shown)
+    write_shown(writer, rows, interrupts, stalls, listing, window, shown)
 }

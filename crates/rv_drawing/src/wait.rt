@@ -4,8 +4,10 @@ ghost use Rattle.rv_drawing.specs.Wait.{awaited, issue_wait, one_wait, operand_w
 ghost use Rattle.rv_text.specs.Written.{IsWritten};
 
 use crate::cell::{Cell, is_past};
+use crate::room::dispatch_wait;
 use crate::window::Window;
 use itoa::Buffer;
+use rv_hardware::Stall;
 use rv_isa::{Instr, Kind, Reg, kind};
 use rv_passage::{Passage, Producer, register_name};
 use rv_text::{ReportError, hexadecimal, put, put_all};
@@ -149,19 +151,24 @@ fn write_issue_wait<W: Write>(
     }
 }
 
-/// Writes what a cell is called, where a wait says what for.
+/// Writes what a cell of an instruction among others is called, where a wait says what for, in a cycle in which the oldest fetched
+/// word waits for this.
 #[tactic(auto, unfolding(crate::specs::Wait::tip_of))]
 pub(crate) fn write_tip<W: Write>(
     writer: &mut W,
     window: Window,
+    rows: &[Passage],
+    stall: Option<Stall>,
     row: &Passage,
     cycle: u64,
     cell: Cell,
 ) -> Result<(), ReportError>
-    ensures { IsWritten result (W.contents writer.old) (W.contents writer.new) (tip_of window row.now cycle cell) }
+    ensures { IsWritten result (W.contents writer.old) (W.contents writer.new) (tip_of window rows.now stall row.now cycle cell) }
 {
     if cell.is_issue_wait() {
         write_issue_wait(writer, window, row, cycle)
+    } else if cell.is_dispatch_wait() {
+        put(writer, dispatch_wait(rows, stall, row.number, cycle))
     } else {
         put(writer, cell.name())
     }

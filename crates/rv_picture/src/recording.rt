@@ -1,4 +1,4 @@
-ghost use Rattle.std.specs.Prelude.{◌≡◌, ◌≤◌, List, Option, IfOk, OnErr, length, vec_capacity};
+ghost use Rattle.std.specs.Prelude.{◌≡◌, ◌≤◌, ◌<◌, ◌++◌, [], ◌∷◌, List, Option, IfOk, OnErr, length, vec_capacity};
 ghost use Rattle.rv_front.specs.declared.predictors.DescribedPredictor.{DescribedPredictor};
 ghost use Rattle.rv_hardware.specs.Guided.{GuidedCycles, guided};
 ghost use Rattle.rv_hardware.specs.Report.{Report};
@@ -13,7 +13,7 @@ use rv_arch::Stop;
 use rv_core::{Pipeline, Progress, Watcher, watch};
 use rv_drawing::Window;
 use rv_front::Predictor;
-use rv_hardware::Step;
+use rv_hardware::{Stall, Step};
 use rv_isa::Arrivals;
 use rv_passage::{Passage, Table};
 use std::alloc::{AllocError, Global};
@@ -28,6 +28,8 @@ pub(crate) struct Recording {
     pub(crate) table: Table,
     /// The cycles.
     pub(crate) window: Window,
+    /// What each of them waited for, where it dispatched nothing.
+    pub(crate) stalls: Vec<Option<Stall>>,
     /// Why the run ended.
     pub(crate) stop: Stop,
 }
@@ -50,24 +52,27 @@ impl Watcher for Nobody {
     fn see<W: Write>(&mut self, _: u64, _: &[Step], _: &Pipeline, _: &Progress, _: &mut W) {}
 }
 
-// The watcher that follows the instructions.
+// The watcher that follows the instructions, and notes what each cycle waits for.
 #[derive(Debug, Drop)]
 struct Follower {
     table: Table,
+    stalls: Vec<Option<Stall>>,
 }
 
 impl Watcher for Follower {
+    ghost use Rattle.std.specs.Prelude.{◌<◌, length, vec_capacity};
     ghost use Rattle.rv_passage.specs.Table.{HasRoom, passages_of};
     ghost use Rattle.rv_picture.specs.Recording.{HasFollowed};
 
     type Refusal = AllocError;
 
-    ghost has_seen = { λ _ follower seen _ _. HasFollowed (passages_of follower.table) seen };
+    ghost has_seen = { λ _ follower seen _ _. HasFollowed (passages_of follower.table) follower.stalls.items seen };
 
-    ghost has_room = { λ follower. HasRoom follower.table };
+    ghost has_room = { λ follower. HasRoom follower.table × (length follower.stalls.items < vec_capacity follower.stalls) };
 
     fn make_room(&mut self) -> Result<(), AllocError> {
-        self.table.make_room()
+        self.table.make_room()?;
+        self.stalls.reserve(1)
     }
 
     fn see<W: Write>(
@@ -75,7 +80,7 @@ impl Watcher for Follower {
         cycle: u64,
         steps: &[Step],
         pipeline: &Pipeline,
-        _: &Progress,
+        progress: &Progress,
         _: &mut W,
     ) {
         // Of hardware that a reset and cycles lead to, the buffers are as long as described.
@@ -84,7 +89,16 @@ impl Watcher for Follower {
         let pc = pipeline.observe().pc;
         self.table
             .follow(cycle, steps, buffer, pipeline.front(), pc);
+        note(&mut self.stalls, progress.stall);
     }
+}
+
+// Notes what a cycle waited for.
+fn note(stalls: &mut Vec<Option<Stall>>, stall: Option<Stall>)
+    requires { length stalls.old.items < vec_capacity stalls.old }
+    ensures { stalls.new.items ≡ stalls.old.items ++ stall ∷ [] }
+{
+    stalls.push(stall).unwrap();
 }
 
 // Runs a pipeline that a predictor guides up to so many cycles. Answers why the run ended.
@@ -130,12 +144,13 @@ fn follow(
     arrivals: &Arrivals,
     limit: u64,
 ) -> Result<Recording, AllocError>
-    ensures followed { IfOk result (λ recording. IsFollowed arrivals.now limit (guided pipeline.old (known predictor.old)) (guided pipeline.new (known predictor.new)) (passages_of recording.table) recording.window recording.stop) }
+    ensures followed { IfOk result (λ recording. IsFollowed arrivals.now limit (guided pipeline.old (known predictor.old)) (guided pipeline.new (known predictor.new)) (passages_of recording.table) recording.window recording.stalls.items recording.stop) }
     ensures run { OnErr result (HasRun arrivals.now (guided pipeline.old (known predictor.old)) (guided pipeline.new (known predictor.new))) }
 {
     let first = pipeline.cycles_done();
     let mut follower = Follower {
         table: begin(alloc, pipeline)?,
+        stalls: Vec::new(alloc),
     };
     let steps = Vec::with_capacity(alloc, 8)?;
     let ended = watch(
@@ -148,7 +163,8 @@ fn follow(
         &mut io::sink(),
     );
     let stop = ended.stop?;
-    Ok(recorded(follower.table, first, ended.progress.cycles, stop))
+    let cycles = ended.progress.cycles;
+    Ok(recorded(follower.table, first, cycles, follower.stalls, stop))
 }
 
 fn oldest_in_flight(rows: &[Passage]) -> Option<&Passage>
@@ -167,8 +183,15 @@ fn stopped_at(stop: Stop, rows: &[Passage]) -> Option<u64>
     }
 }
 
-fn recorded(table: Table, first: u64, cycles: u64, stop: Stop) -> Recording
-    ensures { result ≡ record { table = table; window = record { first = first; cycles = cycles; stopped = stopped_at stop (passages_of table).rows }; stop = stop } }
+// A recording of so many cycles from the first on.
+fn recorded(
+    table: Table,
+    first: u64,
+    cycles: u64,
+    stalls: Vec<Option<Stall>>,
+    stop: Stop,
+) -> Recording
+    ensures { result ≡ record { table = table; window = record { first = first; cycles = cycles; stopped = stopped_at stop (passages_of table).rows }; stalls = stalls; stop = stop } }
 {
     let stopped = stopped_at(stop, table.rows());
     Recording {
@@ -178,6 +201,7 @@ fn recorded(table: Table, first: u64, cycles: u64, stop: Stop) -> Recording
             cycles,
             stopped,
         },
+        stalls,
         stop,
     }
 }
@@ -190,10 +214,11 @@ fn is_limit(stop: Stop) -> bool
 
 // The recording of a run that ended before its window.
 fn nothing_shown(alloc: Global, pipeline: &Pipeline, stop: Stop) -> Result<Recording, AllocError>
-    ensures { IfOk result (λ recording. (predictor : Option DescribedPredictor) → IsOver stop (guided pipeline.now predictor) (guided pipeline.now predictor) (passages_of recording.table) recording.window recording.stop) }
+    ensures { IfOk result (λ recording. (predictor : Option DescribedPredictor) → IsOver stop (guided pipeline.now predictor) (guided pipeline.now predictor) (passages_of recording.table) recording.window recording.stalls.items recording.stop) }
 {
     let table = begin(alloc, pipeline)?;
-    Ok(recorded(table, pipeline.cycles_done(), 0, stop))
+    let first = pipeline.cycles_done();
+    Ok(recorded(table, first, 0, Vec::new(alloc), stop))
 }
 
 /// Runs a pipeline that a predictor guides for `from` cycles, each with the lines of its number, and then up to `limit`
@@ -209,7 +234,7 @@ pub(crate) fn record_window(
     from: u64,
     limit: u64,
 ) -> Result<Recording, AllocError>
-    ensures recording { IfOk result (λ recording. IsRecording arrivals.now from limit (guided pipeline.old (known predictor.old)) (guided pipeline.new (known predictor.new)) (passages_of recording.table) recording.window recording.stop) }
+    ensures recording { IfOk result (λ recording. IsRecording arrivals.now from limit (guided pipeline.old (known predictor.old)) (guided pipeline.new (known predictor.new)) (passages_of recording.table) recording.window recording.stalls.items recording.stop) }
     ensures run { OnErr result (HasRun arrivals.now (guided pipeline.old (known predictor.old)) (guided pipeline.new (known predictor.new))) }
 {
     let steps = Vec::with_capacity(alloc, 8)?;

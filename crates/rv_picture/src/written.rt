@@ -58,12 +58,15 @@ fn write_recording<W: Write>(
     writer: &mut W,
 ) -> Result<(), ReportError>
     requires { recording.now.window.first + recording.now.window.cycles < 2 ^ 64 }
-    ensures { IsWritten result (W.contents writer.old) (W.contents writer.new) (picture_of form (passages_of recording.now.table) listing.now recording.now.window) }
+    ensures { IsWritten result (W.contents writer.old) (W.contents writer.new) (picture_of form (passages_of recording.now.table) recording.now.stalls.items listing.now recording.now.window) }
 {
     let rows = recording.table.rows();
     let interrupts = recording.table.interrupts();
     match form {
         Form::Text => write_picture_text(rows, interrupts, listing, recording.window, writer),
-        Form::Svg => write_picture_svg(rows, interrupts, listing, recording.window, writer),
+        Form::Svg => {
+            let stalls = recording.stalls.as_slice();
+            write_picture_svg(rows, interrupts, stalls, listing, recording.window, writer)
+        }
     }
 }

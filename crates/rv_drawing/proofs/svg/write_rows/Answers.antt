@@ -13,8 +13,8 @@ returns-in_err-write_placed g c =
     let listing = c.args.listing.now in
     let window = c.args.window in
     let loop = c.loop-row in
-    let line = placed_row listing window loop.place in
-    let split = svg_rows-split listing window c.args.rows.now loop.row-index c.row-item.result (omega arith) loop.place loop.invariant.shown in
+    let line = placed_row listing window c.args.rows.now c.args.stalls.now loop.place in
+    let split = svg_rows-split listing window c.args.rows.now c.args.stalls.now c.args.rows.now loop.row-index c.row-item.result (omega arith) loop.place loop.invariant.shown in
     let here = beginning-same _ _ _ _ (ap line c.row-item.is) c.in_err-write_placed.ensures in
     handed_on _ _ _ _ _ c.from_residual.ensures.1 (beginning-same _ _ _ _ split (beginning-longer _ _ _ _ (beginning-both _ _ _ _ _ loop.invariant.written here)))
 
@@ -23,9 +23,9 @@ loop-row-preserved g c =
     let listing = c.args.listing.now in
     let window = c.args.window in
     let loop = c.loop-row in
-    let line = placed_row listing window loop.place in
-    let more = svg_rows-more listing window c.args.rows.now loop.row-index c.row-item.result (omega arith) loop.place loop.invariant.shown in
-    let count = count-more listing window c.args.rows.now loop.row-index c.row-item.result (omega arith) loop.place loop.invariant.shown in
+    let line = placed_row listing window c.args.rows.now c.args.stalls.now loop.place in
+    let more = svg_rows-more listing window c.args.rows.now c.args.stalls.now c.args.rows.now loop.row-index c.row-item.result (omega arith) loop.place loop.invariant.shown in
+    let count = count-more listing window c.args.rows.now c.args.stalls.now c.args.rows.now loop.row-index c.row-item.result (omega arith) loop.place loop.invariant.shown in
     let here = Appends-same _ _ _ _ (ap line c.row-item.is) c.in_ok-write_placed.ensures in
     record {
       written = Appends-same _ _ _ _ (sym more) (Appends-both _ _ _ _ _ loop.invariant.written here);

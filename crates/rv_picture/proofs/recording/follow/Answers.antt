@@ -19,14 +19,14 @@ returns-in_err-stop-clause-run g c = on_err _ (has_run (cycles_shown c.watch-end
 
 pub watch-ended-requires-clause-ready : goal.watch-ended-requires-clause-ready
 watch-ended-requires-clause-ready g c =
-    (None, followed_nothing c.args.arrivals.now _ (passages_of c.in_ok-begin.field-0) c.in_ok-begin.ensures.table c.in_ok-begin.ensures.few)
+    (None, followed_nothing c.args.arrivals.now _ (passages_of c.in_ok-begin.field-0) c.new.result.items c.in_ok-begin.ensures.table c.in_ok-begin.ensures.few c.new.ensures.items)
 
 pub returns-clause-followed : goal.returns-clause-followed
 returns-clause-followed g c =
     let old = guided c.args.pipeline.now ((goal.Predictor-dyn g c.args.predictor.now).known c.args.predictor.now.1) in
     let new = guided c.watch-ended.new.pipeline ((goal.Predictor-dyn g (c.args.predictor.now.0, c.watch-ended.new.predictor)).known c.watch-ended.new.predictor) in
     let run = c.watch-ended.ensures in
-    let begun = followed_nothing c.args.arrivals.now old (passages_of c.in_ok-begin.field-0) c.in_ok-begin.ensures.table c.in_ok-begin.ensures.few in
-    subst (λ (r : Recording). IsFollowed c.args.arrivals.now c.args.limit old new (passages_of r.table) r.window r.stop) (sym c.recorded.ensures)
+    let begun = followed_nothing c.args.arrivals.now old (passages_of c.in_ok-begin.field-0) c.new.result.items c.in_ok-begin.ensures.table c.in_ok-begin.ensures.few c.new.ensures.items in
+    subst (λ (r : Recording). IsFollowed c.args.arrivals.now c.args.limit old new (passages_of r.table) r.window r.stalls.items r.stop) (sym c.recorded.ensures)
     (followed_to_the_end (record { first = c.cycles_done-first.result; cycles = c.watch-ended.result.progress.cycles; stopped = stopped_at c.in_ok-stop.stop (passages_of c.watch-ended.new.watcher.table).rows }) run.passes (stops_by run c.in_ok-stop.stop c.in_ok-stop.was) (run.seen None begun)
     c.cycles_done-first.ensures.number (ap (λ (p : Progress). p.cycles) run.counted) refl)

@@ -20,7 +20,7 @@ returns-then-is_limit-clause-recording g c =
       reason = c.run_on-stop.result;
       led = way.1;
       stops = way.2;
-      shown = subst (λ (b : Bool). IsShownIf b c.args.arrivals.now c.args.limit c.run_on-stop.result start end (passages_of r.table) r.window r.stop) (sym (sym c.is_limit.ensures ∙ c.if-is_limit.true)) followed;
+      shown = subst (λ (b : Bool). IsShownIf b c.args.arrivals.now c.args.limit c.run_on-stop.result start end (passages_of r.table) r.window r.stalls.items r.stop) (sym (sym c.is_limit.ensures ∙ c.if-is_limit.true)) followed;
     })
     c.follow.ensures.followed
 
@@ -35,7 +35,7 @@ returns-else-is_limit-clause-recording g c =
       reason = c.run_on-stop.result;
       led = way.1;
       stops = way.2;
-      shown = subst (λ (b : Bool). IsShownIf b c.args.arrivals.now c.args.limit c.run_on-stop.result start start (passages_of r.table) r.window r.stop) (sym (sym c.is_limit.ensures ∙ c.if-is_limit.false)) (over _);
+      shown = subst (λ (b : Bool). IsShownIf b c.args.arrivals.now c.args.limit c.run_on-stop.result start start (passages_of r.table) r.window r.stalls.items r.stop) (sym (sym c.is_limit.ensures ∙ c.if-is_limit.false)) (over _);
     })
     c.nothing_shown.ensures
 

@@ -16,3 +16,4 @@ follow-requires-clause-few g c = let (start, seen, before, shown, so_far) = c.re
 pub returns : goal.returns
 returns g c start seen before shown so_far =
     followed_on shown so_far (passages_of c.follow.new.self) (c.follow.ensures.followed ∙ (λ i. after_steps c.args.cycle c.args.steps.now (c.reorder_buffer-buffer.ensures i) (c.front.ensures i) (c.observe-pc.ensures.pc i) (passages_of c.args.self.now.table))) c.follow.ensures.fetched c.follow.ensures.retired
+    c.note.new.stalls.items c.note.ensures
