@@ -1,3 +1,4 @@
 mod labels;
 mod rows;
+mod tips;
 mod words;

@@ -109,10 +109,10 @@ fn an_instruction_whose_stale_word_ended_the_run_is_marked(rt: HostRuntime) {
     assert_eq!(&rt; written, Ok(()));
     let text = String::from_utf8(text).expect(&rt, "ASCII");
     let row =
-        "\n8000000c 00000013                         stale              FDI==~~\n00000000 -                                -  ";
+        "\n8000000c 00000013                         stale               FDI==~~\n00000000 -                                -  ";
     assert!(&rt; text.contains(row));
     let mut drawn = Vec::new(alloc);
-    let written = write_picture_svg(&passages(), &[], &listing, STOPPED, &mut drawn);
+    let written = write_picture_svg(&passages(), &[], &[], &listing, STOPPED, &mut drawn);
     assert_eq!(&rt; written, Ok(()));
     let svg = String::from_utf8(drawn).expect(&rt, "ASCII");
     check_all_shown(&rt, svg.as_str(), &STALE);
@@ -190,7 +190,7 @@ const STALE: [&str; 3] = [
 fn drawn(rt: &impl Abort, alloc: Global) -> String {
     let listing = listing(rt, alloc, &LINES);
     let mut text = Vec::new(alloc);
-    let written = write_picture_svg(&passages(), &INTERRUPTS, &listing, WINDOW, &mut text);
+    let written = write_picture_svg(&passages(), &INTERRUPTS, &[], &listing, WINDOW, &mut text);
     assert_eq!(rt; written, Ok(()));
     String::from_utf8(text).expect(rt, "ASCII")
 }

@@ -1,0 +1,222 @@
+use crate::machine::listing;
+use crate::picture::rows::fetched;
+use rv_decode::decode;
+use rv_drawing::{Window, write_picture_svg};
+use rv_hardware::Stall;
+use rv_isa::{Cause, Issue, Reg};
+use rv_passage::{Ending, Passage, Producer, Producers};
+use std::alloc::Global;
+use std::process::Abort;
+use std::test::Fail;
+
+// Ten cycles from cycle 10 on.
+const WINDOW: Window = Window {
+    first: 10,
+    cycles: 10,
+    stopped: None,
+};
+
+// beq x5,x6,8; addi x1,x0,5; add x8,x5,x6; lw x7,0(x5); csrrw x0,mscratch,x0; mret.
+const BRANCH: u32 = 0x0062_8463;
+
+const ADDITION: u32 = 0x0050_0093;
+
+const SUM: u32 = 0x0062_8433;
+
+const LOAD: u32 = 0x0002_a383;
+
+const CSR: u32 = 0x3400_1073;
+
+const RETURN: u32 = 0x3020_0073;
+
+// An instruction at 80000010 that is fetched in cycle 10 and dispatched in 11, after which 80000014 is predicted.
+fn dispatched(word: u32) -> Passage {
+    Passage {
+        instruction: decode(word),
+        predicted: Some(0x8000_0014),
+        dispatched: Some(11),
+        ..fetched(7, 0x8000_0010, Some(word), 10)
+    }
+}
+
+// It retires in cycle 19, and the program goes on at a pc.
+fn retired(word: u32, next: u32) -> Passage {
+    Passage {
+        ending: Ending::Retired {
+            order: 0,
+            cycle: 19,
+            written: None,
+            next,
+        },
+        ..dispatched(word)
+    }
+}
+
+// The SVG of some instructions, with what the oldest fetched word waits for in each cycle.
+fn drawn(rt: &impl Abort, alloc: Global, rows: &[Passage], stalls: &[Option<Stall>]) -> String {
+    let listing = listing(rt, alloc, &[]);
+    let mut text = Vec::new(alloc);
+    let written = write_picture_svg(rows, &[], stalls, &listing, WINDOW, &mut text);
+    assert_eq!(rt; written, Ok(()));
+    String::from_utf8(text).expect(rt, "ASCII")
+}
+
+#[test]
+fn the_tip_of_a_row_says_what_was_predicted_or_the_cause_of_a_trap(rt: HostRuntime) {
+    let squashed = Passage {
+        ending: Ending::Squashed { cycle: 14 },
+        ..dispatched(BRANCH)
+    };
+    let trapped = Passage {
+        ending: Ending::Trapped {
+            cycle: 14,
+            cause: Cause::LoadAccessFault,
+        },
+        ..dispatched(LOAD)
+    };
+    let cases = [
+        (retired(BRANCH, 0x8000_0014), "predicted 80000014"),
+        (
+            retired(BRANCH, 0x8000_0018),
+            "predicted 80000014, but went on at 80000018",
+        ),
+        (dispatched(BRANCH), "predicted 80000014"),
+        (squashed, "predicted 80000014"),
+        (trapped, "trapped, cause 5"),
+    ];
+    for (row, tip) in cases {
+        let svg = drawn(&rt, rt.alloc(), &[row], &[]);
+        let (_, behind) = svg
+            .split_once("</g>\n<title>")
+            .expect(&rt, "a tip of the row");
+        let (shown, rest) = behind.split_once("</title>\n</g>\n").expect(&rt, "its end");
+        assert_eq!(&rt; shown, tip);
+        assert!(&rt; !rest.contains("<title>"));
+    }
+}
+
+// Only branches and jumps have predictions of their own: all others go on at the next word, but for MRET.
+#[test]
+fn other_rows_have_no_tip(rt: HostRuntime) {
+    let cases = [
+        retired(ADDITION, 0x8000_0014),
+        retired(RETURN, 0x8000_0100),
+        dispatched(LOAD),
+    ];
+    for row in cases {
+        let svg = drawn(&rt, rt.alloc(), &[row], &[]);
+        assert!(&rt; !svg.contains("</g>\n<title>"));
+        assert!(&rt; !svg.contains("predicted"));
+    }
+}
+
+fn check_tips(rt: &impl Abort, alloc: Global, svg: &str, tips: &[(&str, u32)]) -> Result<(), Fail> {
+    for (tip, cycle) in tips {
+        let shown = format!(in alloc; "<title>{tip} in cycle {cycle}</title>")?;
+        assert!(rt; svg.contains(shown.as_str()), "{shown}");
+    }
+    Ok(())
+}
+
+// What the oldest fetched word waits for from cycle 10 on.
+const STALLS: [Option<Stall>; 10] = [
+    Some(Stall::Fetch),
+    Some(Stall::Rob),
+    Some(Stall::Station),
+    Some(Stall::Store),
+    Some(Stall::Serial),
+    None,
+    None,
+    Some(Stall::Station),
+    None,
+    None,
+];
+
+#[test]
+fn the_oldest_fetched_word_waits_for_room_and_the_others_for_it(
+    rt: HostRuntime,
+) -> Result<(), Fail> {
+    let older = Passage {
+        dispatched: Some(16),
+        ..dispatched(ADDITION)
+    };
+    let svg = drawn(&rt, rt.alloc(), &[older], &STALLS);
+    let tips = [
+        ("fetch", 10),
+        ("wait for room in the reorder buffer", 11),
+        ("wait for a station of its kind", 12),
+        ("wait for room in the store queue", 13),
+        ("wait for a serialising instruction", 14),
+        ("wait for room or its turn to dispatch", 15),
+        ("dispatch", 16),
+    ];
+    check_tips(&rt, rt.alloc(), svg.as_str(), &tips)?;
+    let younger = fetched(8, 0x8000_0014, Some(ADDITION), 11);
+    let svg = drawn(&rt, rt.alloc(), &[older, younger], &STALLS);
+    check_tips(&rt, rt.alloc(), svg.as_str(), &tips)?;
+    let tips = [
+        ("wait for older ones to dispatch", 12),
+        ("wait for older ones to dispatch", 15),
+        ("wait for room or its turn to dispatch", 16),
+        ("wait for a station of its kind", 17),
+        ("wait for room or its turn to dispatch", 18),
+    ];
+    check_tips(&rt, rt.alloc(), svg.as_str(), &tips)
+}
+
+fn producer(register: u8, pc: u32, broadcast: u64) -> Option<Producer> {
+    Some(Producer {
+        register: Reg::new(register)?,
+        number: u64::from(register),
+        pc,
+        broadcast: Some(broadcast),
+    })
+}
+
+#[test]
+fn a_dispatched_one_waits_for_results_and_then_for_a_unit_the_bus_and_the_head(
+    rt: HostRuntime,
+) -> Result<(), Fail> {
+    let sum = Passage {
+        producers: Producers {
+            first: producer(5, 0x8000_0000, 13),
+            second: producer(6, 0x8000_0004, 14),
+        },
+        issue: Some(Issue { cycle: 16, cost: 1 }),
+        broadcast: Some(18),
+        ending: Ending::Squashed { cycle: 20 },
+        ..dispatched(SUM)
+    };
+    let svg = drawn(&rt, rt.alloc(), &[sum], &[]);
+    let tips = [
+        ("wait for x5/t0 of 80000000 and x6/t1 of 80000004", 12),
+        ("wait for x5/t0 of 80000000 and x6/t1 of 80000004", 13),
+        ("wait for x6/t1 of 80000004", 14),
+        ("wait for a unit", 15),
+        ("wait for the bus", 17),
+        ("wait for the head", 19),
+    ];
+    check_tips(&rt, rt.alloc(), svg.as_str(), &tips)
+}
+
+#[test]
+fn what_waits_for_no_result_waits_for_what_its_kind_needs(rt: HostRuntime) -> Result<(), Fail> {
+    let before = Passage {
+        dispatched: Some(9),
+        fetched: 8,
+        ..dispatched(SUM)
+    };
+    let cases = [
+        (
+            dispatched(LOAD),
+            "wait for a unit, the port or older stores",
+        ),
+        (dispatched(CSR), "wait for the head"),
+        (before, "wait for operands, a unit or the head"),
+    ];
+    for (row, tip) in cases {
+        let svg = drawn(&rt, rt.alloc(), &[row], &[]);
+        check_tips(&rt, rt.alloc(), svg.as_str(), &[(tip, 12)])?;
+    }
+    Ok(())
+}
