@@ -1,1 +1,3 @@
 mod Arrays
+pub mod Markup
+pub mod Parts

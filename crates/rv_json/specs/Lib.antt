@@ -4,6 +4,7 @@ pub mod Instruction
 pub mod Json
 pub mod Listing
 pub mod Machine
+pub mod Markup
 pub mod Member
 pub mod Observed
 pub mod Operand

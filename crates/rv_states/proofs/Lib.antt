@@ -1,2 +1,3 @@
+mod Markup
 mod Showing
 mod Status

@@ -26,6 +26,7 @@ use Rattle.rv_states.specs.Showing.{IsRoomy, IsShowing}
 use Rattle.rv_states.specs.States.{Moment, Passes, WritesStates, begun, begun_text, head_text, lines_text, moment_of, moment_text, passed, shown_text, states_text}
 use Rattle.rv_json.specs.Stop.{stop_line}
 use Rattle.rv_states.specs.declared.form.Form.{Form}
+use Rattle.rv_states.proofs.Markup.{states_plain}
 
 length-numbered_from : (number : ℕ) (ps : List Passage) → length (numbered_from number ps) ≡ length ps
 length-numbered_from number [] = refl
@@ -138,6 +139,6 @@ shown_to_the_end {from = from} {listing = listing} {old = old} {moments = moment
     let count = length (reports_of moments) in
     let whole = ap (λ n. ((around ++ first_lines) ++ told) ++ (stop_line n stop ++ after_lines form)) cycles_are ∙ parts-whole around first_lines told (stop_line count stop) (after_lines form) in (
       around ++ (states_text from listing old.hardware showing.moments count stop ++ after_lines form),
-      record { reports = reports_of moments; moments = showing.moments; table = passages_of table; cycles = cycles_shown passes; passes = showing.passes; stops = stops; text_is = refl },
+      record { reports = reports_of moments; moments = showing.moments; table = passages_of table; cycles = cycles_shown passes; passes = showing.passes; stops = stops; no_markup = states_plain from listing old.hardware showing.moments count stop; text_is = refl },
       written_same ended before now _ _ whole (ends before ((around ++ first_lines) ++ told) (showing.wrote before (around ++ first_lines) begins)),
     )

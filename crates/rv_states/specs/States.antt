@@ -19,6 +19,7 @@ use Rattle.rv_states.specs.Page.{after_lines, before_lines}
 use Rattle.rv_states.specs.Cycle.{cycle_line, start_line}
 use Rattle.rv_json.specs.Listing.{listing_lines}
 use Rattle.rv_json.specs.Machine.{header_line}
+use Rattle.rv_json.specs.Markup.{HasNoMarkup}
 use Rattle.rv_states.specs.Memory.{memory_lines}
 use Rattle.rv_states.specs.Sets.{set_lines}
 use Rattle.rv_json.specs.Stop.{stop_line}
@@ -87,7 +88,8 @@ pub data Passes (arrivals : List Arrival) (first : GuidedHardware) : List Report
       (moments ++ moment_of old.hardware.cycle report new.hardware (progress_of (reports ++ report ∷ [])) (after_cycle old.hardware.cycle report.steps new.hardware table) ∷ [])
       new (still_open (after_cycle old.hardware.cycle report.steps new.hardware table))
 
--- a text has, in a form, the states of the cycles after the first `from` of a run that ended for a reason
+-- A text has, in a form, the states of the cycles after the first `from` of a run that ended for a reason. No byte of the lines is one that
+-- HTML gives a meaning.
 pub record IsStates (arrivals : List Arrival) (from limit : ℕ) (form : Form) (listing : Listed) (old new : GuidedHardware) (stop : Stop) (text : List ℕ) : Type 0 where
   pub reports : List Report
   pub moments : List Moment
@@ -95,6 +97,7 @@ pub record IsStates (arrivals : List Arrival) (from limit : ℕ) (form : Form) (
   pub cycles : GuidedCycles arrivals old reports new
   pub passes : Passes arrivals old reports moments new table
   pub stops : IsStop limit reports new.hardware stop
+  pub no_markup : HasNoMarkup (states_text from listing old.hardware moments (length reports) stop)
   pub text_is : text ≡ before_lines form ++ (states_text from listing old.hardware moments (length reports) stop ++ after_lines form)
 
 -- that text is written, or a beginning of it
