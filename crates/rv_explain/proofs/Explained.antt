@@ -14,18 +14,21 @@ use Rattle.rv_explain.specs.declared.tale.Tale.{Tale}
 use Rattle.rv_explain.proofs.HeadSum.{heads_within_cycles}
 use Rattle.rv_explain.proofs.Telling.{length-reports}
 
-pub explained : (arrivals : List Arrival) (limit : ℕ) (values : Values) (listing : Listed) (old new : GuidedHardware) (stop : Stop) (progress : Progress) (tale : Tale)
-    → IsTold arrivals limit values old new stop progress tale → IsExplanation arrivals limit values listing old new stop (explanation listing stop new.hardware progress tale)
-explained arrivals limit values listing old new stop progress tale told = record {
+pub explained : (arrivals : List Arrival) (limit : ℕ) (values : Values) (listing : Listed) (old new : GuidedHardware) (stop : Stop) (progress : Progress) (fetched : ℕ) (tale : Tale)
+    → IsTold arrivals limit values old new stop progress fetched tale → IsExplanation arrivals limit values listing old new stop (explanation listing stop new.hardware progress fetched tale)
+explained arrivals limit values listing old new stop progress fetched tale told = record {
   moments = told.moments;
+  left = told.left;
+  table = told.table;
   passes = told.passes;
+  leaves = told.leaves;
   stops = told.stops;
-  text_is = λ i. explanation listing stop new.hardware (told.counted i) (told.kept i);
+  text_is = λ i. explanation listing stop new.hardware (told.counted i) (told.fetched_are i) (told.kept i);
 }
 
 -- no more cycles left the words of RAM at the head than there were
-pub heads_counted : (arrivals : List Arrival) (limit : ℕ) (values : Values) (old new : GuidedHardware) (stop : Stop) (progress : Progress) (tale : Tale)
-    → IsTold arrivals limit values old new stop progress tale → sum (counts_of tale.words) ≤ progress.cycles
-heads_counted arrivals limit values old new stop progress tale told =
+pub heads_counted : (arrivals : List Arrival) (limit : ℕ) (values : Values) (old new : GuidedHardware) (stop : Stop) (progress : Progress) (fetched : ℕ) (tale : Tale)
+    → IsTold arrivals limit values old new stop progress fetched tale → sum (counts_of tale.words) ≤ progress.cycles
+heads_counted arrivals limit values old new stop progress fetched tale told =
     let heads = heads_within_cycles values (last_store_to (stores_of old.hardware told.moments)) told.moments in
     omega (arith, heads, ap (λ (t : Tale). sum (counts_of t.words)) told.kept, ap (λ (p : Progress). p.cycles) told.counted, length-reports told.moments)

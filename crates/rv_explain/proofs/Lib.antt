@@ -15,3 +15,4 @@ mod Spots
 mod Tales
 mod Telling
 mod WordTable
+mod Works

@@ -1,5 +1,5 @@
 -- What is kept of a run, with one cycle more.
-use Rattle.std.proofs.Common.{◌≡◌, ◌∙◌, ℕ, ◌+◌, ◌*◌, ◌^◌, ◌<◌, ◌≤◌, ◌==◌, List, [], ◌∷◌, ◌++◌, length, count_by, Option, Some, None, cond, Bool, true, false, refl, sym, ap, arith, append-nil}
+use Rattle.std.proofs.Common.{◌≡◌, ◌∙◌, ℕ, ◌+◌, ◌*◌, ◌^◌, ◌<◌, ◌≤◌, ◌==◌, List, [], ◌∷◌, ◌++◌, length, count_by, filter, Option, Some, None, cond, Bool, true, false, refl, sym, ap, arith, append-nil}
 use Rattle.std.specs.Prelude.{is_some}
 use Rattle.std.specs.List.{cons_option, filter_map}
 use Rattle.std.specs.Option.{option_to_list}
@@ -15,7 +15,9 @@ use Rattle.rv_hardware.specs.Run.{steps_of}
 use Rattle.rv_hardware.specs.Step.{is_retirement}
 use Rattle.rv_hardware.specs.declared.step.Step.{Step}
 use Rattle.rv_hardware.specs.declared.step.Step.TheVariants.{Retired, Trap, Interrupt}
-use Rattle.rv_explain.specs.Access.{both}
+use Rattle.rv_passage.specs.declared.passage.Passage.{Passage}
+use Rattle.rv_counts.specs.Load.{costs_of, is_hit}
+use Rattle.rv_counts.specs.Passing.{has_left, is_squash}
 use Rattle.rv_explain.specs.Dispatch.{dispatched_after, dispatched_with, is_last, none_dispatched, with_cycle}
 use Rattle.rv_explain.specs.Drain.{drain_in, drains_by, drains_of}
 use Rattle.rv_explain.specs.Exception.{exception_of_cycle, exceptions_of}
@@ -24,18 +26,20 @@ use Rattle.rv_hardware.specs.History.{History, Moment, reports_of}
 use Rattle.rv_explain.specs.Interrupt.{by_line, interruption_of_cycle, interruptions_of, interrupts_after}
 use Rattle.rv_explain.specs.Kinds.{kept_after, kept_of}
 use Rattle.rv_explain.specs.LastStore.{last_store_to, stores_in, stores_of, with_stores}
-use Rattle.rv_explain.specs.Load.{costs_of, is_quick, load_cost, loads_of}
+use Rattle.rv_explain.specs.Load.{loads_of, retired_load_cost}
 use Rattle.rv_explain.specs.Tale.{HasRoom, tale_after, tale_of}
 use Rattle.rv_explain.specs.Unit.{arrivals_after, arrivals_by, none_came, unit_wait_in, unit_waits}
 use Rattle.rv_explain.specs.Wait.{CanGrow, both_waits, bus_wait, bus_waits}
 use Rattle.rv_explain.specs.WordNotes.{notes_of}
-use Rattle.rv_explain.specs.declared.{dispatches.Dispatches.Dispatches, exception.Exception.Exception, interruption.Interruption.Interruption, loads.Costs.Costs}
+use Rattle.rv_explain.specs.Work.{is_mispredicted_branch, is_retired_branch, work_of}
+use Rattle.rv_explain.specs.declared.{dispatches.Dispatches.Dispatches, exception.Exception.Exception, interruption.Interruption.Interruption}
 use Rattle.rv_explain.proofs.DrainCounts.{drains_by-append, drains_of-le, drains_of-push}
 use Rattle.rv_explain.proofs.Heads.{head_cycles-le, with_head_of}
 use Rattle.rv_explain.proofs.LastStores.{stores_of-push, with_stores_of}
 use Rattle.rv_explain.proofs.InterruptsGrow.{by_line-push, lines_counted}
 use Rattle.rv_explain.proofs.KindsGrow.{kept-push, kept_counted}
 use Rattle.rv_explain.proofs.WordTable.{note_of}
+use Rattle.rv_explain.proofs.Works.{loads-left, work-left}
 
 kept_after-push : (es : List Exception) (o : Option Exception) → kept_after o (kept_of es) ≡ kept_of (es ++ cons_option o [])
 kept_after-push es None = sym (ap kept_of (append-nil es))
@@ -111,17 +115,12 @@ unit_waits-append came (step ∷ some) more =
     ap (both_waits (unit_wait_in came step)) (unit_waits-append (arrivals_by came step) some more) ∙
     both_waits-assoc (unit_wait_in came step) (unit_waits (arrivals_by came step) some) (unit_waits (arrivals_after (arrivals_by came step) some) more)
 
-loads_of-append : (costs : Costs) (some more : List Step) → loads_of costs (some ++ more) ≡ both (loads_of costs some) (loads_of costs more)
-loads_of-append costs some more = λ i. record {
-  all = sum_by-append (λ (step : Step). cond (is_some (load_cost step)) 1 0) some more i;
-  quick = sum_by-append (λ (step : Step). cond (is_quick costs (load_cost step)) 1 0) some more i;
-}
-
 module _ (values : Values) where
   -- one more cycle
-  pub tale-push : {arrivals : List Arrival} {old now : GuidedHardware} {moments : List Moment} (moment : Moment) → History arrivals old moments now
-      → tale_after now.hardware.registers moment.report.steps (drain_in arrivals now.hardware) moment.after (tale_of values arrivals old.hardware moments) ≡ tale_of values arrivals old.hardware (moments ++ moment ∷ [])
-  tale-push {arrivals = arrivals} {old = old} {now = now} {moments = moments} moment passes =
+  pub tale-push : {arrivals : List Arrival} {old now : GuidedHardware} {moments : List Moment} (moment : Moment) (rows left : List Passage) → History arrivals old moments now
+      → tale_after now.hardware.registers moment.report.steps (drain_in arrivals now.hardware) moment.after rows (tale_of values arrivals old.hardware moments left)
+      ≡ tale_of values arrivals old.hardware (moments ++ moment ∷ []) (filter has_left rows ++ left)
+  tale-push {arrivals = arrivals} {old = old} {now = now} {moments = moments} moment rows left passes =
       let steps = shown_steps-push moments moment in
       let exceptions = exceptions-push moments moment in
       let interrupts = interrupts-push moments moment in
@@ -133,7 +132,8 @@ module _ (values : Values) where
       let bus = sym (ap bus_waits steps ∙ bus_waits-append (steps_of (reports_of moments)) moment.report.steps) in
       let units = sym (ap (unit_waits none_came) steps ∙ unit_waits-append none_came (steps_of (reports_of moments)) moment.report.steps) in
       let came = sym (ap (arrivals_after none_came) steps ∙ arrivals_after-append none_came (steps_of (reports_of moments)) moment.report.steps) in
-      let loads = sym (ap (loads_of (costs_of values)) steps ∙ loads_of-append (costs_of values) (steps_of (reports_of moments)) moment.report.steps) in
+      let work = work-left (filter has_left rows) left in
+      let loads = loads-left (costs_of values) rows left in
       let drains = sym (ap (drains_by values.cache.hit) (drains_of-push moment passes) ∙ drains_by-append values.cache.hit (drains_of arrivals old.hardware moments) (option_to_list (drain_in arrivals now.hardware))) in
       let words = heads ∙ stores ∙ (λ i. notes_of values (λ word. record { last_store = last_store_to (stored i) word; head_cycles = head_cycles (moments ++ moment ∷ []) word })) in
       λ i. record {
@@ -144,6 +144,7 @@ module _ (values : Values) where
         bus = bus i;
         units = units i;
         came = came i;
+        work = work i;
         costs = costs_of values;
         loads = loads i;
         drains = drains i;
@@ -151,16 +152,22 @@ module _ (values : Values) where
       }
 
   -- the steps of one more cycle can be counted
-  pub has_room : (arrivals : List Arrival) (h : Hardware) (moments : List Moment) (more : ℕ) → length (steps_of (reports_of moments)) ≤ 8 * 2 ^ 40 → length moments ≤ 2 ^ 40 → more ≤ 8 → CanGrow (bus_waits (steps_of (reports_of moments))) more → CanGrow (unit_waits none_came (steps_of (reports_of moments))) more → HasRoom (tale_of values arrivals h moments) more
-  has_room arrivals h moments more few within little bus_grows units_grow = record {
+  pub has_room : (arrivals : List Arrival) (h : Hardware) (moments : List Moment) (left : List Passage) (more rows : ℕ) → length (steps_of (reports_of moments)) ≤ 8 * 2 ^ 40 → length moments ≤ 2 ^ 40
+      → length left ≤ 576 * 2 ^ 40 → more ≤ 8 → rows ≤ 576 → CanGrow (bus_waits (steps_of (reports_of moments))) more → CanGrow (unit_waits none_came (steps_of (reports_of moments))) more
+      → HasRoom (tale_of values arrivals h moments left) more rows
+  has_room arrivals h moments left more rows few within fewer little some bus_grows units_grow = record {
     dispatches = omega (arith, dispatched_after-le (steps_of (reports_of moments)) none_dispatched, few, little);
     bus = bus_grows;
     units = units_grow;
     retired = omega (arith, count_by-le-length is_retirement (steps_of (reports_of moments)), few, little);
     exceptions = kept_counted (exceptions_of moments) (omega (arith, length-filter_map exception_of_cycle moments, within));
     interrupts = lines_counted (interruptions_of moments) (omega (arith, length-filter_map interruption_of_cycle moments, within));
-    loads = omega (arith, count_by-le-length (λ step. is_some (load_cost step)) (steps_of (reports_of moments)), few, little);
-    quick = omega (arith, count_by-le-length (λ step. is_quick (costs_of values) (load_cost step)) (steps_of (reports_of moments)), few, little);
+    left = omega (arith, fewer, some);
+    squashed = omega (arith, count_by-le-length (λ (p : Passage). is_squash p.ending) left, fewer, some);
+    branches = omega (arith, count_by-le-length is_retired_branch left, fewer, some);
+    mispredicted = omega (arith, count_by-le-length is_mispredicted_branch left, fewer, some);
+    loads = omega (arith, count_by-le-length (λ p. is_some (retired_load_cost p)) left, fewer, some);
+    quick = omega (arith, count_by-le-length (λ p. is_hit (costs_of values) (retired_load_cost p)) left, fewer, some);
     drains = omega (arith, drains_of-le arrivals h moments, within);
     hits = omega (arith, drains_of-le arrivals h moments, count_by-le-length (λ (cost : ℕ). cost == values.cache.hit) (drains_of arrivals h moments), within);
     heads = note_of values (λ word. record { last_store = last_store_to (stores_of h moments) word; head_cycles = head_cycles moments word }) (λ note. note.head_cycles + 1 < 2 ^ 64) (λ word. omega (arith, head_cycles-le moments word, within));

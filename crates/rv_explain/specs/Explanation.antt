@@ -1,5 +1,5 @@
 -- What a run came to, in sentences.
-use Rattle.std.specs.Prelude.{◌≡◌, ℕ, List, ◌++◌, codes}
+use Rattle.std.specs.Prelude.{◌≡◌, ℕ, List, ◌++◌, codes, length}
 use Rattle.rv_isa.specs.declared.{lines.Arrival.Arrival, values.Values.Values}
 use Rattle.rv_arch.specs.declared.outcome.Stop.{Stop}
 use Rattle.rv_core.specs.Progress.{progress_of}
@@ -7,6 +7,9 @@ use Rattle.rv_core.specs.declared.outcome.Progress.{Progress}
 use Rattle.rv_hardware.specs.Guided.{GuidedHardware}
 use Rattle.rv_hardware.specs.Hardware.{Hardware}
 use Rattle.rv_hardware.specs.Run.{IsStop}
+use Rattle.rv_passage.specs.Table.{Passages}
+use Rattle.rv_passage.specs.declared.passage.Passage.{Passage}
+use Rattle.rv_counts.specs.Leaves.{Leaves}
 use Rattle.rv_source.specs.Listing.{Listed}
 use Rattle.rv_text.specs.Line.{line_of, ratio_text}
 use Rattle.rv_explain.specs.Dispatch.{dispatches_text}
@@ -20,15 +23,21 @@ use Rattle.rv_explain.specs.Load.{load_text}
 use Rattle.rv_explain.specs.Stack.{count_text, stall_text}
 use Rattle.rv_explain.specs.Tale.{tale_of}
 use Rattle.rv_explain.specs.Wait.{waits_text}
+use Rattle.rv_explain.specs.Work.{work_text}
 use Rattle.rv_explain.specs.declared.tale.Tale.{Tale}
 
--- cycles, with the hardware that each left, up to the end of a run, and what was kept of them
-pub record IsTold (arrivals : List Arrival) (limit : ℕ) (values : Values) (old new : GuidedHardware) (stop : Stop) (progress : Progress) (tale : Tale) : Type 0 where
+-- cycles, with the hardware that each left, up to the end of a run, the instructions that left the hardware in them and those in
+-- flight at the end, how many words that are, and what was kept of them
+pub record IsTold (arrivals : List Arrival) (limit : ℕ) (values : Values) (old new : GuidedHardware) (stop : Stop) (progress : Progress) (fetched : ℕ) (tale : Tale) : Type 0 where
   pub moments : List Moment
+  pub left : List Passage
+  pub table : Passages
   pub passes : History arrivals old moments new
+  pub leaves : Leaves arrivals old (reports_of moments) left new table
   pub stops : IsStop limit (reports_of moments) new.hardware stop
   pub counted : progress ≡ progress_of (reports_of moments)
-  pub kept : tale ≡ tale_of values arrivals old.hardware moments
+  pub fetched_are : fetched ≡ length (table.rows ++ left)
+  pub kept : tale ≡ tale_of values arrivals old.hardware moments left
 
 -- the cycles, and those to each instruction
 unfoldable pub cycle_text : Progress → ℕ → List ℕ
@@ -36,22 +45,30 @@ cycle_text progress retired =
     count_text progress.cycles retired ++
     (line_of (codes "cycles per instruction") (ratio_text progress.cycles retired) ++ stall_text progress.cycles progress.busy progress.stalls)
 
+-- what results and instructions waited for, and what the accesses to memory cost
+unfoldable pub waited_text : Tale → List ℕ
+waited_text tale =
+    waits_text (codes "cycles that results waited for the bus") tale.bus ++
+    (waits_text (codes "cycles that instructions waited for a unit") tale.units ++ (load_text tale.loads ++ drain_text tale.drains))
+
 -- where the cycles went
-unfoldable pub cost_text : Listed → Progress → Tale → List ℕ
-cost_text listing progress tale =
+unfoldable pub cost_text : Listed → Progress → ℕ → Tale → List ℕ
+cost_text listing progress fetched tale =
     cycle_text progress tale.retired ++ (dispatches_text progress.busy tale.dispatches.cycles ++
-    (waits_text (codes "cycles that results waited for the bus") tale.bus ++ (waits_text (codes "cycles that instructions waited for a unit") tale.units ++
-    (load_text tale.loads ++ (drain_text tale.drains ++ hotspots_text listing progress.cycles tale.words)))))
+    (work_text fetched tale.work ++ (waited_text tale ++ hotspots_text listing progress.cycles tale.words)))
 
--- the sentences
-unfoldable pub explanation : Listed → Stop → Hardware → Progress → Tale → List ℕ
-explanation listing stop h progress tale =
+-- the sentences, by how many words were fetched among others
+unfoldable pub explanation : Listed → Stop → Hardware → Progress → ℕ → Tale → List ℕ
+explanation listing stop h progress fetched tale =
     ending_text listing stop h tale.words ++ (exceptions_text listing tale.exceptions.all tale.exceptions.kinds ++
-    (interrupts_text listing tale.interrupts ++ cost_text listing progress tale))
+    (interrupts_text listing tale.interrupts ++ cost_text listing progress fetched tale))
 
--- A text explains a run that ended for a reason.
+-- A text explains a run that ended for a reason, by the instructions that left the hardware in it and those in flight at its end.
 pub record IsExplanation (arrivals : List Arrival) (limit : ℕ) (values : Values) (listing : Listed) (old new : GuidedHardware) (stop : Stop) (text : List ℕ) : Type 0 where
   pub moments : List Moment
+  pub left : List Passage
+  pub table : Passages
   pub passes : History arrivals old moments new
+  pub leaves : Leaves arrivals old (reports_of moments) left new table
   pub stops : IsStop limit (reports_of moments) new.hardware stop
-  pub text_is : text ≡ explanation listing stop new.hardware (progress_of (reports_of moments)) (tale_of values arrivals old.hardware moments)
+  pub text_is : text ≡ explanation listing stop new.hardware (progress_of (reports_of moments)) (length (table.rows ++ left)) (tale_of values arrivals old.hardware moments left)

@@ -6,6 +6,7 @@ pub mod Access
 pub mod Load
 pub mod Drain
 pub mod Stack
+pub mod Work
 pub mod Hotspot
 pub mod Ending
 pub mod Series

@@ -1,5 +1,5 @@
 -- What is kept of a run, cycle by cycle.
-use Rattle.std.specs.Prelude.{◌≡◌, ℕ, ◌+◌, ◌^◌, ◌<◌, ◌≤◌, List, [], count_by, length, Option, IfSome}
+use Rattle.std.specs.Prelude.{◌≡◌, ℕ, ◌+◌, ◌^◌, ◌<◌, ◌≤◌, List, [], count_by, filter, length, Option, IfSome}
 use Rattle.std.specs.Option.{option_to_list}
 use Rattle.rv_isa.specs.declared.{lines.Arrival.Arrival, values.Values.Values}
 use Rattle.rv_core.specs.Watching.{Watched}
@@ -8,6 +8,10 @@ use Rattle.rv_hardware.specs.Hardware.{Hardware}
 use Rattle.rv_hardware.specs.Run.{steps_of}
 use Rattle.rv_hardware.specs.Step.{is_retirement}
 use Rattle.rv_hardware.specs.declared.step.Step.{Step}
+use Rattle.rv_passage.specs.declared.{passage.Passage.Passage, table.Table.Table}
+use Rattle.rv_counts.specs.Followed.{IsFollowed}
+use Rattle.rv_counts.specs.Load.{costs_of}
+use Rattle.rv_counts.specs.Passing.{has_left}
 use Rattle.rv_explain.specs.Access.{both}
 use Rattle.rv_explain.specs.Dispatch.{dispatched_after, none_dispatched}
 use Rattle.rv_explain.specs.Drain.{drains_by, drains_of}
@@ -17,15 +21,17 @@ use Rattle.rv_hardware.specs.History.{Moment, reports_of}
 use Rattle.rv_explain.specs.Interrupt.{AreCountable, by_line, interruption_in, interruptions_of, interrupts_after}
 use Rattle.rv_explain.specs.Kinds.{IsCountable, kept_after, kept_of}
 use Rattle.rv_explain.specs.LastStore.{last_store_to, stores_in, stores_of, with_stores}
-use Rattle.rv_explain.specs.Load.{costs_of, loads_of}
+use Rattle.rv_explain.specs.Load.{loads_of}
 use Rattle.rv_explain.specs.Unit.{arrivals_after, none_came, unit_waits}
 use Rattle.rv_explain.specs.Wait.{CanGrow, both_waits, bus_waits}
 use Rattle.rv_explain.specs.WordNotes.{note_at, notes_of}
+use Rattle.rv_explain.specs.Work.{both_work, work_of}
 use Rattle.rv_explain.specs.declared.tale.Tale.{Tale}
 
--- what is kept of some cycles that began with such hardware, by the arrivals at the interrupt lines
-abbrev pub tale_of : Values → List Arrival → Hardware → List Moment → Tale
-tale_of values arrivals h moments = record {
+-- what is kept of some cycles that began with such hardware, by the arrivals at the interrupt lines, and of the instructions that
+-- left the hardware in them
+abbrev pub tale_of : Values → List Arrival → Hardware → List Moment → List Passage → Tale
+tale_of values arrivals h moments left = record {
   retired = count_by is_retirement (steps_of (reports_of moments));
   exceptions = kept_of (exceptions_of moments);
   interrupts = by_line (interruptions_of moments);
@@ -33,16 +39,17 @@ tale_of values arrivals h moments = record {
   bus = bus_waits (steps_of (reports_of moments));
   units = unit_waits none_came (steps_of (reports_of moments));
   came = arrivals_after none_came (steps_of (reports_of moments));
+  work = work_of left;
   costs = costs_of values;
-  loads = loads_of (costs_of values) (steps_of (reports_of moments));
+  loads = loads_of (costs_of values) left;
   drains = drains_by values.cache.hit (drains_of arrivals h moments);
   words = notes_of values (λ word. record { last_store = last_store_to (stores_of h moments) word; head_cycles = head_cycles moments word });
 }
 
--- what is kept with one more cycle: its steps, by the registers before them, the drain that began in it, and the hardware
--- that it left
-abbrev pub tale_after : List ℕ → List Step → Option ℕ → Hardware → Tale → Tale
-tale_after registers steps drain after tale = record {
+-- what is kept with one more cycle: its steps, by the registers before them, the drain that began in it, the hardware that it
+-- left, and the passages at its end
+abbrev pub tale_after : List ℕ → List Step → Option ℕ → Hardware → List Passage → Tale → Tale
+tale_after registers steps drain after rows tale = record {
   retired = tale.retired + count_by is_retirement steps;
   exceptions = kept_after (exception_in after steps) tale.exceptions;
   interrupts = interrupts_after (interruption_in steps) tale.interrupts;
@@ -50,33 +57,40 @@ tale_after registers steps drain after tale = record {
   bus = both_waits tale.bus (bus_waits steps);
   units = both_waits tale.units (unit_waits tale.came steps);
   came = arrivals_after tale.came steps;
+  work = both_work tale.work (work_of (filter has_left rows));
   costs = tale.costs;
-  loads = both tale.loads (loads_of tale.costs steps);
+  loads = both tale.loads (loads_of tale.costs rows);
   drains = both tale.drains (drains_by tale.costs.hit (option_to_list drain));
   words = with_stores (stores_in registers steps) (with_head (head_word after) tale.words);
 }
 
--- what is kept of the cycles that were seen, of those values by which nothing was kept at first; with the registers and the
--- end of the drain under way after them
-pub record IsTelling (first tale : Tale) (registers : List ℕ) (end : Option ℕ) (seen : Watched) : Type 0 where
+-- what is kept of the cycles that were seen, of those values by which nothing was kept at first; with the registers, the end of
+-- the drain under way and the passages after them
+pub record IsTelling (first tale : Tale) (registers : List ℕ) (end : Option ℕ) (table : Table) (seen : Watched) : Type 0 where
   pub values : Values
-  pub untold : first ≡ tale_of values seen.arrivals seen.first.hardware []
-  pub told : (by : Values) → first ≡ tale_of by seen.arrivals seen.first.hardware [] → tale ≡ tale_of by seen.arrivals seen.first.hardware seen.moments
+  pub left : List Passage
+  pub followed : IsFollowed seen.arrivals seen.first (reports_of seen.moments) left seen.now table
+  pub untold : first ≡ tale_of values seen.arrivals seen.first.hardware [] []
+  pub told : (by : Values) → first ≡ tale_of by seen.arrivals seen.first.hardware [] [] → tale ≡ tale_of by seen.arrivals seen.first.hardware seen.moments left
   pub bus_grows : (more : ℕ) → length (steps_of (reports_of seen.moments)) + more ≤ 2 ^ 44 → CanGrow tale.bus more
   pub units_grow : (more : ℕ) → length (steps_of (reports_of seen.moments)) + more ≤ 2 ^ 44 → CanGrow tale.units more
   pub registers_are : registers ≡ seen.now.hardware.registers
   pub end_is : end ≡ drain_end seen.now.hardware
 
--- no count of a cycle with so many steps more comes to 2^64
-pub record HasRoom (tale : Tale) (more : ℕ) : Type 0 where
+-- no count of a cycle with so many steps more, and so many passages at its end, comes to 2^64
+pub record HasRoom (tale : Tale) (more rows : ℕ) : Type 0 where
   pub retired : tale.retired + more < 2 ^ 64
   pub dispatches : tale.dispatches.cycles + more < 2 ^ 64
   pub bus : CanGrow tale.bus more
   pub units : CanGrow tale.units more
   pub exceptions : IsCountable tale.exceptions
   pub interrupts : AreCountable tale.interrupts
-  pub loads : tale.loads.all + more < 2 ^ 64
-  pub quick : tale.loads.quick + more < 2 ^ 64
+  pub left : tale.work.left + rows < 2 ^ 64
+  pub squashed : tale.work.squashed + rows < 2 ^ 64
+  pub branches : tale.work.branches + rows < 2 ^ 64
+  pub mispredicted : tale.work.mispredicted + rows < 2 ^ 64
+  pub loads : tale.loads.all + rows < 2 ^ 64
+  pub quick : tale.loads.quick + rows < 2 ^ 64
   pub drains : tale.drains.all + 1 < 2 ^ 64
   pub hits : tale.drains.quick + 1 < 2 ^ 64
   pub heads : (word : ℕ) → IfSome (note_at tale.words word) (λ note. note.head_cycles + 1 < 2 ^ 64)

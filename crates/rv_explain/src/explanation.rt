@@ -1,9 +1,10 @@
-ghost use Rattle.std.specs.Prelude.{◌≡◌, ◌≤◌, Err, List, [], sum, vec_capacity, IfOk};
-ghost use Rattle.rv_explain.specs.Explanation.{IsExplanation, cost_text, cycle_text, explanation};
+ghost use Rattle.std.specs.Prelude.{◌≡◌, ◌≤◌, Err, List, [], length, sum, vec_capacity, IfOk};
+ghost use Rattle.rv_explain.specs.Explanation.{IsExplanation, cost_text, cycle_text, explanation, waited_text};
 ghost use Rattle.rv_explain.specs.Hotspot.{counts_of};
 ghost use Rattle.rv_hardware.specs.Guided.{guided};
 ghost use Rattle.rv_hardware.specs.Hardware.{Hardware};
 ghost use Rattle.rv_isa.specs.declared.lines.Arrival.{Arrival};
+ghost use Rattle.rv_passage.specs.Table.{HasRoom, passages_of, table_at};
 ghost use Rattle.rv_explain.specs.Tale.{tale_of};
 ghost use Rattle.rv_text.specs.IsText.{IsText};
 ghost use Rattle.rv_text.specs.Written.{IsWritten};
@@ -15,15 +16,17 @@ use crate::hotspots::write_hotspots;
 use crate::interrupt_lines::write_interrupts;
 use crate::kind_lines::write_exceptions;
 use crate::loads::write_loads;
-use crate::running::run_told;
+use crate::running::{begin_table, run_told};
 use crate::stack::{write_counts, write_stalls};
 use crate::tale::Tale;
 use crate::waits::write_waits;
+use crate::work::write_work;
 use rv_arch::Stop;
 use rv_core::{Pipeline, Progress};
 use rv_front::Predictor;
 use rv_hardware::Step;
 use rv_isa::{Arrivals, Description};
+use rv_passage::Table;
 use rv_source::Listing;
 use rv_text::{Field, ReportError, TextError, Value, write_fields};
 use std::alloc::{AllocError, Global};
@@ -33,17 +36,28 @@ use std::io::Write;
 #[derive(Drop)]
 struct Beginning {
     steps: Vec<Step>,
+    table: Table,
     tale: Tale,
 }
 
-// Room for the steps of a cycle, and a tale of no cycle.
-fn begin(alloc: Global, description: &Description) -> Result<Beginning, AllocError>
-    ensures room { IfOk result (λ beginning. 8 ≤ vec_capacity beginning.steps) }
-    ensures untold { IfOk result (λ beginning. (arrivals : List Arrival) (h : Hardware) → beginning.tale ≡ tale_of description.now arrivals h []) }
+// Room for the steps of a cycle, a table of what is in flight, and a tale of no cycle.
+fn begin(
+    alloc: Global,
+    pipeline: &Pipeline,
+    description: &Description,
+) -> Result<Beginning, AllocError>
+    ensures steps { IfOk result (λ beginning. 8 ≤ vec_capacity beginning.steps) }
+    ensures table { IfOk result (λ beginning. passages_of beginning.table ≡ table_at pipeline.now) }
+    ensures room { IfOk result (λ beginning. HasRoom beginning.table) }
+    ensures rows { IfOk result (λ beginning. 576 ≤ vec_capacity beginning.table.rows) }
+    ensures interrupts { IfOk result (λ beginning. 8 ≤ vec_capacity beginning.table.interrupts) }
+    ensures few { IfOk result (λ beginning. length (passages_of beginning.table).rows ≤ 288) }
+    ensures untold { IfOk result (λ beginning. (arrivals : List Arrival) (h : Hardware) → beginning.tale ≡ tale_of description.now arrivals h [] []) }
 {
     let steps = Vec::with_capacity(alloc, 8)?;
+    let table = begin_table(alloc, pipeline)?;
     let tale = Tale::new(alloc, description)?;
-    Ok(Beginning { steps, tale })
+    Ok(Beginning { steps, table, tale })
 }
 
 // The cycles, and those to each instruction.
@@ -68,18 +82,10 @@ fn write_cycles<W: Write>(
     write_stalls(writer, progress)
 }
 
-// Where the cycles went.
-fn write_costs<W: Write>(
-    writer: &mut W,
-    listing: &Listing,
-    progress: &Progress,
-    tale: &mut Tale,
-) -> Result<(), ReportError>
-    requires heads { sum (counts_of tale.old.words) ≤ progress.now.cycles }
-    ensures { IsWritten result (W.contents writer.old) (W.contents writer.new) (cost_text listing.now progress.now tale.old) }
+// What results and instructions waited for, and what the accesses to memory cost.
+fn write_waited<W: Write>(writer: &mut W, tale: &Tale) -> Result<(), ReportError>
+    ensures { IsWritten result (W.contents writer.old) (W.contents writer.new) (waited_text tale.now) }
 {
-    write_cycles(writer, progress, tale.retired)?;
-    write_dispatches(writer, progress.busy, &tale.dispatches)?;
     write_waits(writer, b"cycles that results waited for the bus", &tale.bus)?;
     write_waits(
         writer,
@@ -87,7 +93,24 @@ fn write_costs<W: Write>(
         &tale.units,
     )?;
     write_loads(writer, &tale.loads)?;
-    write_drains(writer, &tale.drains)?;
+    write_drains(writer, &tale.drains)
+}
+
+// Where the cycles went.
+fn write_costs<W: Write>(
+    writer: &mut W,
+    listing: &Listing,
+    progress: &Progress,
+    fetched: u64,
+    tale: &mut Tale,
+) -> Result<(), ReportError>
+    requires heads { sum (counts_of tale.old.words) ≤ progress.now.cycles }
+    ensures { IsWritten result (W.contents writer.old) (W.contents writer.new) (cost_text listing.now progress.now fetched tale.old) }
+{
+    write_cycles(writer, progress, tale.retired)?;
+    write_dispatches(writer, progress.busy, &tale.dispatches)?;
+    write_work(writer, fetched, &tale.work)?;
+    write_waited(writer, tale)?;
     write_hotspots(writer, listing, progress.cycles, &mut tale.words)
 }
 
@@ -98,24 +121,26 @@ fn write_told<W: Write>(
     stop: Stop,
     pipeline: &Pipeline,
     progress: &Progress,
+    fetched: u64,
     tale: &mut Tale,
 ) -> Result<(), ReportError>
     requires heads { sum (counts_of tale.old.words) ≤ progress.now.cycles }
-    ensures { IsWritten result (W.contents writer.old) (W.contents writer.new) (explanation listing.now stop pipeline.now progress.now tale.old) }
+    ensures { IsWritten result (W.contents writer.old) (W.contents writer.new) (explanation listing.now stop pipeline.now progress.now fetched tale.old) }
 {
     write_ending(writer, listing, stop, pipeline, &tale.words)?;
     write_exceptions(writer, listing, &tale.exceptions)?;
     write_interrupts(writer, listing, &tale.interrupts)?;
-    write_costs(writer, listing, progress, tale)
+    write_costs(writer, listing, progress, fetched, tale)
 }
 
 /// Runs a pipeline that a predictor guides, each cycle with the lines of its number, up to a breakpoint, a stale word,
 /// exhaustion or so many cycles, and then writes what the run came to, in plain sentences: how it ended, where and why,
 /// and for a stale word the last store to it; its exceptions and interrupts; where the cycles went; how many dispatched only
-/// what did not retire; what results waited for the bus, and
-/// instructions for a unit; what its loads and the drains of its stores cost; and the five lines that most cycles left at the head of the reorder buffer. The
-/// description tells where RAM lies, whose words are counted, and what loads and drains cost. The listing is that of the
-/// program, whose lines are shown. Answers why the run ended.
+/// what did not retire; how many words were fetched and how many of them squashed; how many branches and jumps retired, and how
+/// many of them were mispredicted; what results waited for the bus, and instructions for a unit; what its loads and the drains of
+/// its stores cost; and the five lines that most cycles left at the head of the reorder buffer. The description tells where RAM
+/// lies, whose words are counted, and what loads and drains cost. The listing is that of the program, whose lines are shown.
+/// Answers why the run ended.
 ///
 /// # Errors
 ///
@@ -134,7 +159,7 @@ pub fn write_explanation<W: Write>(
     ensures written { IsText (IsExplanation arrivals.now limit description.now listing.now (guided pipeline.old (known predictor.old)) (guided pipeline.new (known predictor.new))) result (W.contents writer.old) (W.contents writer.new) }
     ensures not_run { result ≡ Err TextError.Memory → (pipeline.new ≡ pipeline.old) × (known predictor.new ≡ known predictor.old) }
 {
-    let Ok(beginning) = begin(alloc, description) else {
+    let Ok(beginning) = begin(alloc, pipeline, description) else {
         return Err(TextError::Memory);
     };
     let told = run_told(
@@ -144,6 +169,7 @@ pub fn write_explanation<W: Write>(
         arrivals,
         limit,
         beginning.steps,
+        beginning.table,
         beginning.tale,
     );
     let mut tale = told.tale;
@@ -153,6 +179,7 @@ pub fn write_explanation<W: Write>(
         told.stop,
         pipeline,
         &told.progress,
+        told.fetched,
         &mut tale,
     ) {
         Ok(()) => Ok(told.stop),

@@ -1,5 +1,5 @@
-//! What a run of the core came to, in plain sentences: how it ended and why, its exceptions and interrupts, where its cycles went, what its
-//! loads and the drains of its stores cost, and the lines that stood longest at the head of the reorder buffer. The text is a
+//! What a run of the core came to, in plain sentences: how it ended and why, its exceptions and interrupts, where its cycles went, what
+//! became of the fetched words and of the predictions, what its loads and the drains of its stores cost, and the lines that stood longest at the head of the reorder buffer. The text is a
 //! function of the run and of the listing of its program.
 #![tactic(auto)]
 
@@ -30,5 +30,6 @@ mod unit_waits;
 mod waits;
 mod word_note;
 mod word_notes;
+mod work;
 
 pub use explanation::write_explanation;

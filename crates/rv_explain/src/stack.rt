@@ -8,8 +8,8 @@ use rv_core::Progress;
 use rv_text::{ReportError, put_all};
 use std::io::Write;
 
-// How many of so many parts of a whole a count is, to the nearest; none of nothing.
-fn parts_of(parts: u32, count: u64, all: u64) -> u128
+/// How many of so many parts of a whole a count is, to the nearest; none of nothing.
+pub(crate) fn parts_of(parts: u32, count: u64, all: u64) -> u128
     ensures { result ≡ parts_of parts count all }
 {
     if all == 0 {

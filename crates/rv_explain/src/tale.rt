@@ -12,14 +12,17 @@ use crate::exceptions::exception_in;
 use crate::hotspots::note_head;
 use crate::interrupts::{Interrupts, interruption_in};
 use crate::kinds::Exceptions;
-use crate::loads::{Costs, add_loads};
+use crate::loads::add_loads;
 use crate::stores::note_stores;
 use crate::unit_waits::add_unit_waits;
 use crate::waits::{add_waits, no_waits};
 use crate::word_notes::WordNotes;
+use crate::work::Work;
 use rv_core::Pipeline;
+use rv_counts::LoadCosts;
 use rv_hardware::Step;
 use rv_isa::{Description, PerKind};
+use rv_passage::Passage;
 use std::alloc::{AllocError, Global};
 
 /// What is kept of a run so far.
@@ -35,7 +38,8 @@ pub(crate) struct Tale {
     pub(crate) units: PerKind<u128>,
     /// The cycle in which the value of each register came.
     pub(crate) came: [u64; 32],
-    pub(crate) costs: Costs,
+    pub(crate) work: Work,
+    pub(crate) costs: LoadCosts,
     pub(crate) loads: Accesses,
     pub(crate) drains: Accesses,
     pub(crate) words: WordNotes,
@@ -53,7 +57,7 @@ fn count_retired(steps: &[Step]) -> usize
 impl Tale {
     /// What is kept of no cycle. The only error is out of memory.
     pub(crate) fn new(alloc: Global, description: &Description) -> Result<Tale, AllocError>
-        ensures { IfOk result (λ tale. (arrivals : List Arrival) (h : Hardware) → tale ≡ tale_of description.now arrivals h []) }
+        ensures { IfOk result (λ tale. (arrivals : List Arrival) (h : Hardware) → tale ≡ tale_of description.now arrivals h [] []) }
     {
         Ok(Tale {
             retired: 0,
@@ -63,24 +67,26 @@ impl Tale {
             bus: no_waits(),
             units: no_waits(),
             came: [0; 32],
-            costs: Costs::new(&description.values()),
+            work: Work::NONE,
+            costs: LoadCosts::new(description),
             loads: Accesses { all: 0, quick: 0 },
             drains: Accesses { all: 0, quick: 0 },
             words: WordNotes::new(alloc, description)?,
         })
     }
 
-    /// Keeps what the core's last cycle tells, by its steps, the registers before them, and what the drain costs that began
-    /// in it.
+    /// Keeps what the core's last cycle tells, by its steps, the registers before them, what the drain costs that began in it, and
+    /// the passages at its end.
     pub(crate) fn add(
         &mut self,
         registers: &mut [u32; 32],
         steps: &[Step],
         drain: Option<u64>,
         pipeline: &Pipeline,
+        rows: &[Passage],
     )
-        requires room { HasRoom self.old (length steps.now) }
-        ensures kept { self.new ≡ tale_after registers.old steps.now drain pipeline.now self.old }
+        requires room { HasRoom self.old (length steps.now) (length rows.now) }
+        ensures kept { self.new ≡ tale_after registers.old steps.now drain pipeline.now rows.now self.old }
         ensures bus_grows { (more : ℕ) → CanGrow self.old.bus (more + length steps.now) → CanGrow self.new.bus more }
         ensures units_grow { (more : ℕ) → CanGrow self.old.units (more + length steps.now) → CanGrow self.new.units more }
     {
@@ -90,7 +96,8 @@ impl Tale {
         self.dispatches.add(steps);
         add_waits(&mut self.bus, steps);
         add_unit_waits(&mut self.units, &mut self.came, steps);
-        add_loads(&mut self.loads, &self.costs, steps);
+        self.work.add(rows);
+        add_loads(&mut self.loads, &self.costs, rows);
         add_drain(&mut self.drains, self.costs.hit, drain);
         note_head(&mut self.words, pipeline);
         note_stores(&mut self.words, registers, steps);

@@ -26,6 +26,8 @@ rob             0    0.0% \x20
 station         0    0.0% \x20
 store           0    0.0% \x20
 of the busy cycles 1 dispatched something that retired, 10 only what did not
+fetched words: 16, of them 6 squashed (37.5%)
+branches and jumps: none
 cycles that results waited for the bus: alu 0, mul 0, div 0, mem 0
 cycles that instructions waited for a unit: alu 0, mul 0, div 0, mem 0
 loads: 0, of them 0 at the cost of a hit or of forwarding, 0 at that of a miss

@@ -1,20 +1,25 @@
+use Rattle.rv_counts.specs.Followed.{IsRoomy}
 use Rattle.rv_explain.proofs.Explained.{explained, heads_counted}
 use Rattle.rv_explain.proofs.explanation.write_explanation.Goals as goal
 
 pub run_told-told-requires-clause-untold : goal.run_told-told-requires-clause-untold
 run_told-told-requires-clause-untold g c = c.in-Ok.ensures.untold c.args.arrivals.now c.args.pipeline.now
 
+pub run_told-told-requires-clause-room : goal.run_told-told-requires-clause-room
+run_told-told-requires-clause-room g c =
+    record { room = c.in-Ok.ensures.room; rows = c.in-Ok.ensures.rows; interrupts = c.in-Ok.ensures.interrupts }
+
 pub write_told-requires : goal.write_told-requires
 write_told-requires g c =
     let told = c.run_told-told.result in
-    record { heads = heads_counted _ c.args.limit c.args.description.now _ _ told.stop told.progress told.tale c.run_told-told.ensures }
+    record { heads = heads_counted _ c.args.limit c.args.description.now _ _ told.stop told.progress told.fetched told.tale c.run_told-told.ensures }
 
 pub returns-in-Ok-write_told-clause-written : goal.returns-in-Ok-write_told-clause-written
 returns-in-Ok-write_told-clause-written g c =
     let told = c.run_told-told.result in
-    (_, explained _ c.args.limit c.args.description.now c.args.listing.now _ _ told.stop told.progress told.tale c.run_told-told.ensures, c.in-Ok-write_told.ensures)
+    (_, explained _ c.args.limit c.args.description.now c.args.listing.now _ _ told.stop told.progress told.fetched told.tale c.run_told-told.ensures, c.in-Ok-write_told.ensures)
 
 pub returns-clause-written : goal.returns-clause-written
 returns-clause-written g c =
     let told = c.run_told-told.result in
-    (told.stop, _, explained _ c.args.limit c.args.description.now c.args.listing.now _ _ told.stop told.progress told.tale c.run_told-told.ensures, c.in-Err-WriteFailed.ensures)
+    (told.stop, _, explained _ c.args.limit c.args.description.now c.args.listing.now _ _ told.stop told.progress told.fetched told.tale c.run_told-told.ensures, c.in-Err-WriteFailed.ensures)
