@@ -1,5 +1,5 @@
 //! The assembler: the image of a text, with the lines of its words, or the text's first fault. The tokens of a line and the forms of
-//! statements are there too, for those that tell why a text was refused.
+//! statements are there too, with what reads them, for those that tell why a text was refused.
 #![tactic(auto)]
 
 mod assembler;
@@ -29,5 +29,8 @@ pub use fault::{AsmError, AsmFault};
 pub use layout::first_line;
 pub use listing::{ListedImage, assemble_listed};
 pub use mnemonic::{BareInstruction, form_named};
+pub use names::register_named;
+pub use operand::{Expression, Operand, read_operand};
 pub use operation::{Form, Operation, Place, Section};
-pub use token::{Token, tokenize};
+pub use statement::{Reading, Statement, make_statement, read};
+pub use token::{Lexeme, Token, first_lexeme, tokenize};

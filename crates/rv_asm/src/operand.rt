@@ -86,8 +86,8 @@ fn direct<'a>(tokens: &[Token<'a>]) -> Option<Operand<'a>>
     }
 }
 
-/// The operand that tokens spell.
-fn read_operand<'a>(tokens: &[Token<'a>]) -> Option<Operand<'a>>
+/// The operand that tokens spell, if they spell one.
+pub fn read_operand<'a>(tokens: &[Token<'a>]) -> Option<Operand<'a>>
     ensures { option_map operand_of result ≡ operand (tokens_in tokens.now) }
 {
     let (offset, behind) = tokens.split_at(tokens.len().saturating_sub(3));

@@ -18,7 +18,7 @@ impl Place {
     }
 
     /// Whether an operand has the shape of the place.
-    pub(crate) fn takes(self, operand: Operand<'_>) -> bool
+    pub fn takes(self, operand: Operand<'_>) -> bool
         ensures { result ≡ takes self (operand_of operand.entry) }
     {
         match operand {

@@ -28,10 +28,10 @@ pub enum Token<'a> {
 
 /// What a line begins with: a token, or a separator or a comment, which give none.
 #[derive(Clone, Copy)]
-struct Lexeme<'a> {
-    token: Option<Token<'a>>,
+pub struct Lexeme<'a> {
+    pub token: Option<Token<'a>>,
     /// How many bytes it has.
-    size: usize,
+    pub size: usize,
 }
 
 fn is_separator(byte: u8) -> bool
@@ -135,9 +135,9 @@ fn quoted_length(bytes: &[u8]) -> Option<usize>
     }
 }
 
-// What a line begins with.
+/// What a line begins with, or `None` where that is no token.
 #[tactic(auto, unfolding(crate::specs::Token::first_lexeme))]
-fn first_lexeme(line: &[u8]) -> Option<Lexeme<'_>>
+pub fn first_lexeme(line: &[u8]) -> Option<Lexeme<'_>>
     requires { 0 < length line.now }
     ensures lexeme { option_map lexeme_of result ≡ first_lexeme (get_or line.now 0 0) line.now }
     ensures size { IfSome result (λ found. (0 < found.size) × (found.size ≤ length line.now)) }

@@ -1,0 +1,3 @@
+pub mod Blanks
+pub mod Distance
+pub mod Named

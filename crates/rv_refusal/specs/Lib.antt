@@ -1,6 +1,11 @@
+pub mod Caret
+pub mod Culprit
 pub mod Expected
 pub mod Lines
+pub mod Names
+pub mod Near
 pub mod Operands
+pub mod Place
 pub mod Range
 pub mod Refusal
 pub mod Statement

@@ -1,6 +1,5 @@
 -- The statement of a line.
-use Rattle.std.specs.Prelude.{ℕ, List, [], ◌∷◌, Option, Some, None, option_and_then}
-use Rattle.std.specs.Option.{option_map}
+use Rattle.std.specs.Prelude.{ℕ, List, ◌∷◌, Option, Some, None, option_and_then}
 use Rattle.rv_asm.specs.Layout.{body_of}
 use Rattle.rv_asm.specs.Mnemonic.{form_named}
 use Rattle.rv_asm.specs.Token.{Token, tokens_of}

@@ -3,12 +3,19 @@
 #![tactic(auto)]
 
 mod assembly;
+mod caret;
+mod culprit;
 mod expected;
 mod lines;
+mod names;
+mod near;
 mod operands;
+mod place;
 mod ranges;
 mod refusal;
 mod statement;
+mod symbols;
 mod text;
+mod unknown;
 
 pub use refusal::write_refusal;

@@ -6,8 +6,8 @@ ghost use Rattle.rv_refusal.specs.Statement.{first_name, name_on};
 use rv_asm::{AsmFault, Token, tokenize};
 use std::alloc::{AllocError, Global};
 
-// What stands after the labels of a line.
-fn behind_labels<'t, 'a>(tokens: &'t [Token<'a>]) -> &'t [Token<'a>]
+/// What stands after the labels of a line.
+pub(crate) fn behind_labels<'t, 'a>(tokens: &'t [Token<'a>]) -> &'t [Token<'a>]
     ensures { tokens_in result.now ≡ body_of (tokens_in tokens.entry.now) }
 {
     let mut rest = tokens;
@@ -19,8 +19,8 @@ fn behind_labels<'t, 'a>(tokens: &'t [Token<'a>]) -> &'t [Token<'a>]
     }
 }
 
-// The name that tokens begin with.
-fn first_name<'a>(tokens: &[Token<'a>]) -> Option<&'a [u8]>
+/// The name that tokens begin with.
+pub(crate) fn first_name<'a>(tokens: &[Token<'a>]) -> Option<&'a [u8]>
     ensures { option_copied result ≡ first_name (tokens_in tokens.now) }
 {
     match tokens {

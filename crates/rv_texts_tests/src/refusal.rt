@@ -12,14 +12,129 @@ struct Refused {
     why: &'static [u8],
 }
 
-const REFUSED: [Refused; 1] = [Refused {
-    job: b"rob = 8\n%%\nnop\n\tslli x1, x1, 32 # \xc3\xa4\n",
-    why: b"\
+const REFUSED: [Refused; 13] = [
+    Refused {
+        job: b"rob = 8\n%%\nnop\n\tslli x1, x1, 32 # \xc3\xa4\n",
+        why: b"\
 line 4 of the job, line 2 of its assembly: OutOfRange
      slli x1, x1, 32 # ??
+                  ^
 expected: a value from 0 to 31
 ",
-}];
+    },
+    Refused {
+        job: b"again: addq x1, x2, x3",
+        why: b"\
+line 1 of the job, line 1 of its assembly: UnknownMnemonic
+    again: addq x1, x2, x3
+           ^
+expected: a statement that begins with an instruction or a directive
+nearest: addi, add, andi
+",
+    },
+    Refused {
+        job: b"%%\n.wrod 5\n",
+        why: b"\
+line 2 of the job, line 1 of its assembly: UnknownMnemonic
+    .wrod 5
+    ^
+expected: a statement that begins with an instruction or a directive
+nearest: .word
+",
+    },
+    Refused {
+        job: b"li x1, 5 # five\n  .ascii \"a\\q\"",
+        why: b"\
+line 2 of the job, line 2 of its assembly: BadToken
+      .ascii \"a\\q\"
+             ^
+expected: names, numbers up to 4294967295, strings that end on their line, and the marks , : ( ) + -
+",
+    },
+    Refused {
+        job: b"add x1, x2, 5",
+        why: b"\
+line 1 of the job, line 1 of its assembly: BadOperands
+    add x1, x2, 5
+                ^
+expected: add rd, rs1, rs2, as in 'add x5, x6, x7'
+",
+    },
+    Refused {
+        job: b"add x1, x2, x3, x4",
+        why: b"\
+line 1 of the job, line 1 of its assembly: BadOperands
+    add x1, x2, x3, x4
+                    ^
+expected: add rd, rs1, rs2, as in 'add x5, x6, x7'
+",
+    },
+    Refused {
+        job: b"a: add x1, x2",
+        why: b"\
+line 1 of the job, line 1 of its assembly: BadOperands
+    a: add x1, x2
+       ^
+expected: add rd, rs1, rs2, as in 'add x5, x6, x7'
+",
+    },
+    Refused {
+        job: b"lw a0, 8(a9)",
+        why: b"\
+line 1 of the job, line 1 of its assembly: BadRegister
+    lw a0, 8(a9)
+             ^
+expected: a register, x0 to x31, or its name in the calling convention
+nearest: x9, a0, a1
+",
+    },
+    Refused {
+        job: b"csrr x1, mstatsu",
+        why: b"\
+line 1 of the job, line 1 of its assembly: BadOperands
+    csrr x1, mstatsu
+             ^
+expected: csrr rd, csr, as in 'csrr x5, mscratch'
+nearest: mstatus, mstatush
+",
+    },
+    Refused {
+        job: b"loop: nop\n.equ lop, 1\nj loup\n",
+        why: b"\
+line 3 of the job, line 3 of its assembly: UnknownSymbol
+    j loup
+      ^
+expected: a symbol that a label or .equ defines
+nearest: loop, lop
+",
+    },
+    Refused {
+        job: b"a: nop\nb: .equ a, 1\n",
+        why: b"\
+line 2 of the job, line 2 of its assembly: DuplicateSymbol
+    b: .equ a, 1
+expected: a symbol that is not defined above
+",
+    },
+    Refused {
+        job: b"a: nop\n.equ a, 1\n",
+        why: b"\
+line 2 of the job, line 2 of its assembly: DuplicateSymbol
+    .equ a, 1
+         ^
+expected: a symbol that is not defined above
+",
+    },
+    Refused {
+        job: b".byte 1, 256, 2",
+        why: b"\
+line 1 of the job, line 1 of its assembly: OutOfRange
+    .byte 1, 256, 2
+             ^
+expected: values from -128 to 255
+",
+    },
+];
 
 #[test]
 fn a_refusal_shows_the_line_and_what_was_expected(rt: HostRuntime) -> Result<(), Fail> {
@@ -141,7 +256,7 @@ const OTHERS: [(&str, &str); 6] = [
     ),
     (
         "mv x1, y1",
-        "\nexpected: a register, x0 to x31, or its name in the calling convention\n",
+        "\nexpected: a register, x0 to x31, or its name in the calling convention\nnearest: x1, t1, s1\n",
     ),
     (
         "a: a: nop",

@@ -58,6 +58,7 @@ fn a_run_is_explained_with_the_lines_of_its_program(rt: HostRuntime) {
 const REFUSED: &[u8] = b"\
 line 4 of the job, line 2 of its assembly: BadOperands
     jal x1, 4
+            ^
 expected: jal symbol, as in 'jal loop'
 expected: jal rd, symbol, as in 'jal x5, loop'
 ";

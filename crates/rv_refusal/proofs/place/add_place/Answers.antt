@@ -1,6 +1,6 @@
 use Rattle.std.proofs.Common.{◌∙◌}
-use Rattle.rv_refusal.specs.Refusal.{place_line}
-use Rattle.rv_refusal.proofs.assembly.add_place.Goals as goal
+use Rattle.rv_refusal.specs.Place.{place_line}
+use Rattle.rv_refusal.proofs.place.add_place.Goals as goal
 
 pub returns : goal.returns
 unfolding place_line

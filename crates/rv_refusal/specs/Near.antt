@@ -1,0 +1,35 @@
+-- The known names that are near an unknown one.
+use Rattle.std.specs.Prelude.{ℕ, ◌+◌, ◌==◌, List, [], ◌∷◌, ◌++◌, Bool, ◌&&◌, length, nat_eq, nat_le, nat_lt, codes, take, option_and_then}
+use Rattle.std.specs.{List.filter, List.flat_map, Option.option_map_or}
+use Rattle.strsim.specs.Edits.{levenshtein_row}
+use Rattle.rv_asm.specs.Layout.{body_of}
+use Rattle.rv_asm.specs.Token.{tokens_of}
+use Rattle.rv_asm.specs.declared.fault.AsmFault.{AsmFault}
+use Rattle.rv_refusal.specs.Names.{known_names, unknown_name}
+
+-- how many insertions, deletions and substitutions of a byte lead from one name to another at least: their Levenshtein distance
+abbrev pub edits : List ℕ → List ℕ → ℕ
+edits name other = levenshtein_row nat_eq name other (length other)
+
+-- a known name is so many edits away, which are fewer than the unknown name has bytes; one of more than 64 bytes is not compared
+abbrev pub is_near : ℕ → List ℕ → List ℕ → Bool
+is_near distance name other =
+    nat_lt distance (length name) && (nat_le (length name) 64 && (nat_le (length other) (length name + distance) && edits name other == distance))
+
+-- the known names that are one edit away, and then those that are two away; at most three
+abbrev pub nearest : List ℕ → List (List ℕ) → List (List ℕ)
+nearest name known = take 3 (filter (is_near 1 name) known ++ filter (is_near 2 name) known)
+
+-- names, each after a comma and a blank
+abbrev pub other_names : List (List ℕ) → List ℕ
+other_names names = flat_map (λ name. codes ", " ++ name) names
+
+-- the line on some names, if there are any
+unfoldable pub names_line : List (List ℕ) → List ℕ
+names_line [] = []
+names_line (first ∷ others) = codes "nearest: " ++ (first ++ (other_names others ++ codes "\n"))
+
+-- the line on the known names that are nearest to the unknown one of a line at fault, where its fault is one of a name
+unfoldable pub nearest_line : AsmFault → List ℕ → List ℕ → List ℕ
+nearest_line fault line assembly =
+    option_map_or (λ name. names_line (nearest name (known_names fault assembly))) (option_and_then (λ tokens. unknown_name fault (body_of tokens)) (tokens_of line)) []

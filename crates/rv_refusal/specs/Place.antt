@@ -1,0 +1,15 @@
+-- Where a line at fault stands.
+use Rattle.std.specs.Prelude.{ℕ, ◌+◌, List, ◌++◌, codes, decimal}
+use Rattle.rv_asm.specs.declared.fault.AsmFault.{AsmFault}
+use Rattle.rv_job.specs.Fault.{fault_name}
+use Rattle.rv_text.specs.Plain.{plain_text}
+
+-- where a line of the assembly stands that so many lines of the job stand before, and its fault
+unfoldable pub place_line : ℕ → ℕ → AsmFault → List ℕ
+place_line before number fault =
+    codes "line " ++ (decimal (before + number) ++ (codes " of the job, line " ++ (decimal number ++
+    (codes " of its assembly: " ++ (fault_name fault ++ codes "\n")))))
+
+-- a line in printing characters
+unfoldable pub shown_line : List ℕ → List ℕ
+shown_line line = codes "    " ++ (plain_text line ++ codes "\n")

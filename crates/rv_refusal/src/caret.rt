@@ -1,0 +1,120 @@
+ghost use Rattle.std.specs.Prelude.{◌≡◌, ◌+◌, ◌<◌, ◌≤◌, ◌++◌, None, OnOk, IfOk, IfSome, drop, length, replicate};
+ghost use Rattle.rv_asm.specs.Read.{tokens_in};
+ghost use Rattle.rv_refusal.specs.Caret.{caret_below, caret_line, culprit_place, distance, fault_place, is_of_token, token_place};
+
+use crate::culprit::culprit_on;
+use rv_asm::{AsmFault, Token, first_lexeme, tokenize};
+use std::alloc::{AllocError, Global};
+
+// How many bytes are passed over at the front of a line, and how many tokens are then still to be passed over; none where the end is
+// reached.
+fn step(rest: &[u8], before: usize) -> Option<(usize, usize)>
+    requires { 0 < length rest.now }
+    ensures reached { result ≡ None → distance rest.now 0 before ≡ 0 }
+    ensures further { IfSome result (λ next. distance rest.now 0 before ≡ next.0 + distance (drop next.0 rest.now) 0 next.1) }
+    ensures size { IfSome result (λ next. (0 < next.0) × (next.0 ≤ length rest.now)) }
+{
+    let Some(found) = first_lexeme(rest) else {
+        return None;
+    };
+    let Some(_token) = found.token else {
+        return Some((found.size, before));
+    };
+    if before == 0 {
+        return None;
+    }
+    Some((found.size, before - 1))
+}
+
+/// How many bytes of a line stand before the token that so many tokens stand before, or before the first bytes that are no token.
+#[tactic(auto, using(crate::proofs::Distance::distance_empty))]
+fn token_place(line: &[u8], before: usize) -> usize
+    ensures { result ≡ token_place line.now before }
+{
+    let mut rest = line;
+    let mut left = before;
+    while !rest.is_empty() {
+        let Some((size, others)) = step(rest, left) else {
+            return line.len() - rest.len();
+        };
+        let (_, behind) = rest.split_at(size);
+        rest = behind;
+        left = others;
+    }
+    line.len()
+}
+
+fn is_of_token(fault: AsmFault) -> bool
+    ensures { result ≡ is_of_token fault }
+{
+    matches!(fault, AsmFault::BadToken)
+}
+
+// How many bytes of a line with these tokens stand before the one at fault.
+fn culprit_place(
+    alloc: Global,
+    fault: AsmFault,
+    line: &[u8],
+    tokens: &[Token<'_>],
+) -> Result<Option<usize>, AllocError>
+    ensures { IfOk result (λ place. place ≡ culprit_place fault line.now (tokens_in tokens.now)) }
+{
+    match culprit_on(alloc, fault, tokens)? {
+        Some(from) => {
+            let before = tokens.len().saturating_sub(from.len());
+            Ok(Some(token_place(line, before)))
+        }
+        None => Ok(None),
+    }
+}
+
+// How many bytes of a line stand before the token at fault.
+#[tactic(auto, unfolding(crate::specs::Caret::fault_place))]
+fn fault_place(alloc: Global, fault: AsmFault, line: &[u8]) -> Result<Option<usize>, AllocError>
+    ensures { IfOk result (λ place. place ≡ fault_place fault line.now) }
+{
+    if is_of_token(fault) {
+        return Ok(Some(token_place(line, line.len())));
+    }
+    match tokenize(alloc, line) {
+        Ok(tokens) => culprit_place(alloc, fault, line, tokens.as_slice()),
+        Err(AsmFault::Memory) => Err(AllocError),
+        Err(_) => Ok(None),
+    }
+}
+
+// Appends so many blanks.
+#[tactic(auto, using(crate::proofs::Blanks::blanks_more))]
+fn add_blanks(out: &mut Vec<u8>, count: usize) -> Result<(), AllocError>
+    ensures { OnOk result (out.new.items ≡ out.old.items ++ replicate count 32) }
+{
+    for _blank in 0..count {
+        out.push(b' ')?;
+    }
+    Ok(())
+}
+
+// Appends a caret below a byte of a line that is shown.
+#[tactic(auto, unfolding(crate::specs::Caret::caret_below))]
+fn add_caret_below(out: &mut Vec<u8>, place: usize) -> Result<(), AllocError>
+    ensures { OnOk result (out.new.items ≡ out.old.items ++ caret_below place) }
+{
+    out.extend_from_slice(b"    ")?;
+    add_blanks(out, place)?;
+    out.extend_from_slice(b"^\n")
+}
+
+/// Appends the line with the caret below the token at fault, where there is one.
+pub(crate) fn add_caret_line(
+    alloc: Global,
+    out: &mut Vec<u8>,
+    fault: AsmFault,
+    line: &[u8],
+) -> Result<(), AllocError>
+    ensures { OnOk result (out.new.items ≡ out.old.items ++ caret_line fault line.now) }
+{
+    match fault_place(alloc, fault, line)? {
+        Some(place) => add_caret_below(out, place),
+        None => Ok(()),
+    }
+}

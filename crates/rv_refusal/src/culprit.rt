@@ -1,0 +1,449 @@
+ghost use Rattle.std.specs.Prelude.{◌≡◌, ◌≤◌, IfOk, false, length, map, option_map};
+ghost use Rattle.std.specs.List.{before_first, find, list_all, position_or_len};
+ghost use Rattle.std.specs.Option.{option_map_or};
+ghost use Rattle.rv_asm.specs.Layout.{body_of};
+ghost use Rattle.rv_asm.specs.Meaning.{fits_width};
+ghost use Rattle.rv_asm.specs.Operand.{is_comma};
+ghost use Rattle.rv_asm.specs.Read.{operand_of, token_of, tokens_in};
+ghost use Rattle.rv_asm.specs.Statement.{is_implied};
+ghost use Rattle.rv_refusal.specs.Culprit.{culprit_among, culprit_of, culprit_on, definition_on, defines, from_register, has_base, has_unknown_register, holds_register, holds_value, is_culprit, is_misfit, is_of_definition, is_of_operands, is_of_register, is_of_shape, is_past_csrs, is_too_wide, is_unnamed, is_wrong_value, marked, may_be_out_of_range, only, operand_at, operand_of_fault, operands_on, unless_empty};
+
+use crate::statement::behind_labels;
+use rv_asm::{
+    AsmFault, Expression, Form, Operand, Place, Token, form_named, read_operand, register_named,
+};
+use rv_isa::Width;
+use std::alloc::{AllocError, Global};
+
+fn is_comma(token: &Token<'_>) -> bool
+    ensures { result ≡ is_comma (token_of token.now) }
+{
+    matches!(*token, Token::Comma)
+}
+
+// The tokens from each operand on.
+fn operands_on<'t, 'a>(
+    alloc: Global,
+    tokens: &'t [Token<'a>],
+) -> Result<Vec<&'t [Token<'a>]>, AllocError>
+    ensures { IfOk result (λ operands. map (λ operand. tokens_in operand.now) operands.items ≡ operands_on (tokens_in tokens.entry.now)) }
+{
+    let mut operands = Vec::new(alloc);
+    if tokens.is_empty() {
+        return Ok(operands);
+    }
+    operands.push(tokens)?;
+    let mut rest = tokens;
+    while let [first, others @ ..] = rest {
+        if is_comma(first) {
+            operands.push(others)?;
+        }
+        rest = others;
+    }
+    Ok(operands)
+}
+
+// How many tokens stand before the first comma.
+fn own_count(tokens: &[Token<'_>]) -> usize
+    ensures count { result ≡ position_or_len is_comma (tokens_in tokens.now) }
+    ensures in_range { result ≤ length tokens.now }
+{
+    for (count, token) in tokens.iter().enumerate() {
+        if is_comma(token) {
+            return count;
+        }
+    }
+    tokens.len()
+}
+
+// The tokens before the first comma.
+fn own_tokens<'t, 'a>(tokens: &'t [Token<'a>]) -> &'t [Token<'a>]
+    ensures own { tokens_in result.now ≡ before_first is_comma (tokens_in tokens.entry.now) }
+    ensures size { length result.now ≤ length tokens.entry.now }
+{
+    let (own, _) = tokens.split_at(own_count(tokens));
+    own
+}
+
+// The operand that tokens begin with, if it is one.
+fn operand_at<'a>(tokens: &[Token<'a>]) -> Option<Operand<'a>>
+    ensures { option_map operand_of result ≡ operand_at (tokens_in tokens.now) }
+{
+    read_operand(own_tokens(tokens))
+}
+
+fn holds_value(place: Place) -> bool
+    ensures { result ≡ holds_value place }
+{
+    matches!(
+        place,
+        Place::Value | Place::Known | Place::Target | Place::Address | Place::Base
+    )
+}
+
+fn holds_register(place: Place) -> bool
+    ensures { result ≡ holds_register place }
+{
+    matches!(
+        place,
+        Place::Rd | Place::Rs1 | Place::Rs2 | Place::Address | Place::Base
+    )
+}
+
+fn is_unnamed(name: &[u8]) -> bool
+    ensures { result ≡ is_unnamed name.now }
+{
+    register_named(name).is_none()
+}
+
+// Whether an operand has a name in the place of a register that is none.
+fn has_unknown_register(operand: Operand<'_>) -> bool
+    ensures { result ≡ has_unknown_register (operand_of operand.entry) }
+{
+    match operand {
+        Operand::Value(Expression::Symbol(name)) | Operand::Indirect(_, name) => is_unnamed(name),
+        _ => false,
+    }
+}
+
+// Whether an operand is a number that no CSR has.
+fn is_past_csrs(operand: Operand<'_>) -> bool
+    ensures { result ≡ is_past_csrs (operand_of operand.entry) }
+{
+    match operand {
+        Operand::Value(Expression::Number(number)) => number < 0 || number > 4095,
+        _ => false,
+    }
+}
+
+// Whether the value of an operand at a place is the one that may be out of range.
+fn may_be_out_of_range(place: Place, operand: Operand<'_>) -> bool
+    ensures { result ≡ may_be_out_of_range place (operand_of operand.entry) }
+{
+    match place {
+        Place::Csr => is_past_csrs(operand),
+        _ => holds_value(place),
+    }
+}
+
+// Whether no operand is written that a place takes.
+fn is_misfit(place: Place, written: Option<Operand<'_>>) -> bool
+    ensures { result ≡ is_misfit place (option_map operand_of written.entry) }
+{
+    match written {
+        Some(operand) => !place.takes(operand),
+        None => true,
+    }
+}
+
+// The same of a name in a register's place that is none, and of a value that may be out of range.
+fn is_unknown_register(written: Option<Operand<'_>>) -> bool
+    ensures { result ≡ option_map_or has_unknown_register (option_map operand_of written.entry) false }
+{
+    match written {
+        Some(operand) => has_unknown_register(operand),
+        None => false,
+    }
+}
+
+fn is_out_of_range(place: Place, written: Option<Operand<'_>>) -> bool
+    ensures { result ≡ option_map_or (may_be_out_of_range place) (option_map operand_of written.entry) false }
+{
+    match written {
+        Some(operand) => may_be_out_of_range(place, operand),
+        None => false,
+    }
+}
+
+// Whether an operand at a place is the one for which a fault is reported, if those before it are not.
+#[tactic(auto, unfolding(crate::specs::Culprit::is_culprit))]
+fn is_culprit(fault: AsmFault, place: Place, written: Option<Operand<'_>>) -> bool
+    ensures { result ≡ is_culprit fault place (option_map operand_of written.entry) }
+{
+    match fault {
+        AsmFault::BadOperands => is_misfit(place, written),
+        AsmFault::BadRegister => holds_register(place) && is_unknown_register(written),
+        AsmFault::UnknownSymbol => holds_value(place),
+        AsmFault::OutOfRange => is_out_of_range(place, written),
+        _ => false,
+    }
+}
+
+fn are_implied(places: &[Place]) -> bool
+    ensures { result ≡ list_all is_implied places.now }
+{
+    places.iter().all(|place| place.is_implied())
+}
+
+// The operand for which a fault is reported, of operands at these places after a last one.
+fn culprit_among<'t, 'a>(
+    fault: AsmFault,
+    places: &[Place],
+    last: Option<&'t [Token<'a>]>,
+    operands: &[&'t [Token<'a>]],
+) -> Option<&'t [Token<'a>]>
+    ensures { option_map (λ from. tokens_in from.now) result ≡ culprit_among fault places.now
+        (option_map (λ from. tokens_in from.now) last.entry) (map (λ from. tokens_in from.now) operands.now) }
+{
+    let Some((operand, others)) = operands.split_first() else {
+        if are_implied(places) {
+            return last;
+        }
+        return None;
+    };
+    let Some((place, later)) = places.split_first() else {
+        return Some(*operand);
+    };
+    if place.is_implied() {
+        return culprit_among(fault, later, last, operands);
+    }
+    if is_culprit(fault, *place, operand_at(operand)) {
+        return Some(*operand);
+    }
+    culprit_among(fault, later, Some(*operand), others)
+}
+
+fn fits_width(width: Width, number: i64) -> bool
+    ensures { result ≡ fits_width width number }
+{
+    match width {
+        Width::Byte => -128 <= number && number <= 255,
+        Width::Half => -32768 <= number && number <= 65535,
+        Width::Word => -2147483648 <= number && number <= 4294967295,
+    }
+}
+
+// Whether an operand is a number that data of a width cannot hold.
+fn is_too_wide(width: Width, operand: Operand<'_>) -> bool
+    ensures { result ≡ is_too_wide width (operand_of operand.entry) }
+{
+    match operand {
+        Operand::Value(Expression::Number(number)) => !fits_width(width, number),
+        _ => false,
+    }
+}
+
+fn is_written_too_wide(width: Width, written: Option<Operand<'_>>) -> bool
+    ensures { result ≡ option_map_or (is_too_wide width) (option_map operand_of written.entry) false }
+{
+    match written {
+        Some(operand) => is_too_wide(width, operand),
+        None => false,
+    }
+}
+
+// Whether an operand of data of a width is one for which a fault is reported.
+#[tactic(auto, unfolding(crate::specs::Culprit::is_wrong_value))]
+fn is_wrong_value(fault: AsmFault, width: Width, written: Option<Operand<'_>>) -> bool
+    ensures { result ≡ is_wrong_value fault width (option_map operand_of written.entry) }
+{
+    match fault {
+        AsmFault::BadOperands => is_misfit(Place::Value, written),
+        AsmFault::OutOfRange => is_written_too_wide(width, written),
+        _ => false,
+    }
+}
+
+// The first operand of data of a width for which a fault is reported.
+fn wrong_value<'t, 'a>(
+    fault: AsmFault,
+    width: Width,
+    operands: &[&'t [Token<'a>]],
+) -> Option<&'t [Token<'a>]>
+    ensures { option_map (λ from. tokens_in from.now) result
+        ≡ find (λ from. is_wrong_value fault width (operand_at from)) (map (λ from. tokens_in from.now) operands.now) }
+{
+    for operand in operands {
+        if is_wrong_value(fault, width, operand_at(operand)) {
+            return Some(*operand);
+        }
+    }
+    None
+}
+
+// The only one of some operands.
+fn only<'t, 'a>(operands: &[&'t [Token<'a>]]) -> Option<&'t [Token<'a>]>
+    ensures { option_map (λ from. tokens_in from.now) result ≡ only (map (λ from. tokens_in from.now) operands.now) }
+{
+    match operands {
+        [operand] => Some(*operand),
+        _ => None,
+    }
+}
+
+// The operand of a form for which a fault is reported, from its first token on.
+#[tactic(auto, unfolding(crate::specs::Culprit::culprit_of))]
+fn culprit_of<'t, 'a>(
+    fault: AsmFault,
+    form: Form,
+    operands: &[&'t [Token<'a>]],
+) -> Option<&'t [Token<'a>]>
+    ensures { option_map (λ from. tokens_in from.now) result ≡ culprit_of fault form (map (λ from. tokens_in from.now) operands.now) }
+{
+    match form {
+        Form::Instruction(_, first, second, third) => {
+            culprit_among(fault, &[first, second, third], None, operands)
+        }
+        Form::Jal => match operands {
+            [_] => culprit_among(fault, &[Place::Target], None, operands),
+            _ => culprit_among(fault, &[Place::Rd, Place::Target], None, operands),
+        },
+        Form::Jalr => match operands {
+            [_] => culprit_among(fault, &[Place::Rs1], None, operands),
+            [_, _] => culprit_among(fault, &[Place::Rd, Place::Base], None, operands),
+            _ => {
+                let places = [Place::Rd, Place::Rs1, Place::Value];
+                culprit_among(fault, &places, None, operands)
+            }
+        },
+        Form::Global => culprit_among(fault, &[Place::Target], None, operands),
+        Form::Constant => culprit_among(fault, &[Place::Target, Place::Value], None, operands),
+        Form::Values(width) => match wrong_value(fault, width, operands) {
+            Some(operand) => Some(operand),
+            None => only(operands),
+        },
+        Form::Bytes(_, place) => culprit_among(fault, &[place], None, operands),
+        Form::Nothing | Form::Choice(_) => culprit_among(fault, &[], None, operands),
+    }
+}
+
+fn is_of_operands(fault: AsmFault) -> bool
+    ensures { result ≡ is_of_operands fault }
+{
+    matches!(
+        fault,
+        AsmFault::BadOperands
+            | AsmFault::BadRegister
+            | AsmFault::UnknownSymbol
+            | AsmFault::OutOfRange
+    )
+}
+
+// Whether an operand has a register in parentheses.
+fn has_base(written: Option<Operand<'_>>) -> bool
+    ensures { result ≡ option_map_or has_base (option_map operand_of written.entry) false }
+{
+    match written {
+        Some(Operand::Indirect(_, _)) => true,
+        _ => false,
+    }
+}
+
+// An operand with a register in parentheses from the register's name on.
+fn from_register<'t, 'a>(tokens: &'t [Token<'a>]) -> &'t [Token<'a>]
+    ensures { tokens_in result.now ≡ from_register (tokens_in tokens.entry.now) }
+{
+    if !has_base(operand_at(tokens)) {
+        return tokens;
+    }
+    let (_, from) = tokens.split_at(own_count(tokens).saturating_sub(2));
+    from
+}
+
+fn is_of_register(fault: AsmFault) -> bool
+    ensures { result ≡ is_of_register fault }
+{
+    matches!(fault, AsmFault::BadRegister)
+}
+
+/// Whether a fault is one of the count or the shape of operands.
+pub(crate) fn is_of_shape(fault: AsmFault) -> bool
+    ensures { result ≡ is_of_shape fault }
+{
+    matches!(fault, AsmFault::BadOperands)
+}
+
+fn is_of_definition(fault: AsmFault) -> bool
+    ensures { result ≡ is_of_definition fault }
+{
+    matches!(fault, AsmFault::DuplicateSymbol)
+}
+
+// The tokens of an operand from the one at fault on.
+fn marked<'t, 'a>(fault: AsmFault, tokens: &'t [Token<'a>]) -> &'t [Token<'a>]
+    ensures { tokens_in result.now ≡ marked fault (tokens_in tokens.entry.now) }
+{
+    if is_of_register(fault) {
+        return from_register(tokens);
+    }
+    tokens
+}
+
+/// The operand of a statement for which a fault is reported, from its token at fault on.
+#[tactic(auto, unfolding(crate::specs::Culprit::operand_of_fault))]
+pub(crate) fn operand_of_fault<'t, 'a>(
+    alloc: Global,
+    fault: AsmFault,
+    body: &'t [Token<'a>],
+) -> Result<Option<&'t [Token<'a>]>, AllocError>
+    ensures { IfOk result (λ operand. option_map (λ from. tokens_in from.now) operand ≡ operand_of_fault fault (tokens_in body.entry.now)) }
+{
+    let [Token::Name(name), rest @ ..] = body else {
+        return Ok(None);
+    };
+    if !is_of_operands(fault) {
+        return Ok(None);
+    }
+    let Some(form) = form_named(name) else {
+        return Ok(None);
+    };
+    let operands = operands_on(alloc, rest)?;
+    match culprit_of(fault, form, operands.as_slice()) {
+        Some(operand) => Ok(Some(marked(fault, operand))),
+        None => Ok(None),
+    }
+}
+
+// Whether tokens begin with a label, or with a directive that defines a symbol.
+fn defines(tokens: &[Token<'_>]) -> bool
+    ensures { result ≡ defines (tokens_in tokens.now) }
+{
+    match tokens {
+        [Token::Name(_), Token::Colon, ..] => true,
+        [Token::Name(directive), ..] => *directive == b".equ".as_slice(),
+        _ => false,
+    }
+}
+
+// From the symbol on that a line defines, if it defines one alone.
+#[tactic(auto, unfolding(crate::specs::Culprit::definition_on))]
+fn definition_on<'t, 'a>(tokens: &'t [Token<'a>]) -> Option<&'t [Token<'a>]>
+    ensures { option_map (λ from. tokens_in from.now) result ≡ definition_on (tokens_in tokens.entry.now) }
+{
+    match tokens {
+        [Token::Name(_), Token::Colon, rest @ ..] => {
+            if defines(rest) { None } else { Some(tokens) }
+        }
+        [Token::Name(_), rest @ ..] => Some(rest),
+        _ => None,
+    }
+}
+
+// The first tokens, where there are some, else the other ones.
+fn unless_empty<'t, 'a>(tokens: &'t [Token<'a>], other: &'t [Token<'a>]) -> &'t [Token<'a>]
+    ensures { tokens_in result.now ≡ unless_empty (tokens_in tokens.entry.now) (tokens_in other.entry.now) }
+{
+    match tokens {
+        [] => other,
+        _ => tokens,
+    }
+}
+
+/// The tokens of a line from the one at fault on, if it is known.
+#[tactic(auto, unfolding(crate::specs::Culprit::culprit_on))]
+pub(crate) fn culprit_on<'t, 'a>(
+    alloc: Global,
+    fault: AsmFault,
+    tokens: &'t [Token<'a>],
+) -> Result<Option<&'t [Token<'a>]>, AllocError>
+    ensures { IfOk result (λ culprit. option_map (λ from. tokens_in from.now) culprit ≡ culprit_on fault (tokens_in tokens.entry.now)) }
+{
+    if is_of_definition(fault) {
+        return Ok(definition_on(tokens));
+    }
+    let body = behind_labels(tokens);
+    match operand_of_fault(alloc, fault, body)? {
+        Some(operand) => Ok(Some(operand)),
+        None => Ok(Some(unless_empty(body, tokens))),
+    }
+}

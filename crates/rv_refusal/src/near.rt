@@ -1,0 +1,88 @@
+ghost use Rattle.std.specs.Prelude.{◌≡◌, ◌++◌, IfOk, OnOk, map};
+ghost use Rattle.std.specs.List.{filter};
+ghost use Rattle.rv_refusal.specs.Near.{is_near, names_line, nearest, other_names};
+
+use crate::text::add_all;
+use std::alloc::{AllocError, Global};
+use strsim::generic_levenshtein;
+
+// Whether a known name is so many edits away from an unknown one.
+fn is_near(alloc: Global, distance: usize, name: &[u8], other: &[u8]) -> Result<bool, AllocError>
+    ensures { IfOk result (λ near. near ≡ is_near distance name.now other.now) }
+{
+    if distance >= name.len() || name.len() > 64 {
+        return Ok(false);
+    }
+    if other.len().saturating_sub(distance) > name.len() {
+        return Ok(false);
+    }
+    let edits = generic_levenshtein(alloc, name, other)?;
+    Ok(edits == distance)
+}
+
+// The known names that are so many edits away from an unknown one.
+fn near<'a>(
+    alloc: Global,
+    distance: usize,
+    name: &[u8],
+    known: &[&'a [u8]],
+) -> Result<Vec<&'a [u8]>, AllocError>
+    ensures { IfOk result (λ found. map (λ other. other.now) found.items
+        ≡ filter (is_near distance name.now) (map (λ other. other.now) known.now)) }
+{
+    let mut found = Vec::new(alloc);
+    for other in known {
+        if is_near(alloc, distance, name, other)? {
+            found.push(*other)?;
+        }
+    }
+    Ok(found)
+}
+
+// The known names that are nearest to an unknown one.
+#[tactic(auto, using(crate::proofs::Named::named_three))]
+fn nearest<'a>(alloc: Global, name: &[u8], known: &[&'a [u8]]) -> Result<Vec<&'a [u8]>, AllocError>
+    ensures { IfOk result (λ found. map (λ other. other.now) found.items ≡ nearest name.now (map (λ other. other.now) known.now)) }
+{
+    let mut found = near(alloc, 1, name, known)?;
+    let others = near(alloc, 2, name, known)?;
+    found.extend_from_slice(others.as_slice())?;
+    found.truncate(3);
+    Ok(found)
+}
+
+// Appends names, each after a comma and a blank.
+fn add_others(out: &mut Vec<u8>, names: &[&[u8]]) -> Result<(), AllocError>
+    ensures { OnOk result (out.new.items ≡ out.old.items ++ other_names (map (λ name. name.now) names.now)) }
+{
+    for name in names {
+        add_all(out, &[b", ", name])?;
+    }
+    Ok(())
+}
+
+// Appends the line on some names, if there are any.
+#[tactic(auto, unfolding(crate::specs::Near::names_line))]
+fn add_names_line(out: &mut Vec<u8>, names: &[&[u8]]) -> Result<(), AllocError>
+    ensures { OnOk result (out.new.items ≡ out.old.items ++ names_line (map (λ name. name.now) names.now)) }
+{
+    let Some((first, others)) = names.split_first() else {
+        return Ok(());
+    };
+    add_all(out, &[b"nearest: ", first])?;
+    add_others(out, others)?;
+    out.extend_from_slice(b"\n")
+}
+
+/// Appends the line on the known names that are nearest to an unknown one, if some are near.
+pub(crate) fn add_nearest(
+    alloc: Global,
+    out: &mut Vec<u8>,
+    name: &[u8],
+    known: &[&[u8]],
+) -> Result<(), AllocError>
+    ensures { OnOk result (out.new.items ≡ out.old.items ++ names_line (nearest name.now (map (λ other. other.now) known.now))) }
+{
+    let names = nearest(alloc, name, known)?;
+    add_names_line(out, names.as_slice())
+}

@@ -1,0 +1,46 @@
+ghost use Rattle.std.specs.Prelude.{◌≡◌, ◌++◌, OnOk};
+ghost use Rattle.rv_refusal.specs.Place.{place_line, shown_line};
+
+use crate::text::{add_all, add_plain};
+use itoa::Buffer;
+use rv_asm::AsmFault;
+use rv_job::fault_name;
+use std::alloc::AllocError;
+
+/// Appends where a line of the assembly stands that so many lines of the job stand before, and its fault.
+#[tactic(auto, unfolding(crate::specs::Place::place_line))]
+pub(crate) fn add_place(
+    out: &mut Vec<u8>,
+    before: usize,
+    number: usize,
+    fault: AsmFault,
+) -> Result<(), AllocError>
+    ensures { OnOk result (out.new.items ≡ out.old.items ++ place_line before number fault) }
+{
+    let mut whole = Buffer::new();
+    let in_job = whole.format(before as u128 + number as u128).as_bytes();
+    let mut part = Buffer::new();
+    let in_part = part.format(number).as_bytes();
+    add_all(
+        out,
+        &[
+            b"line ",
+            in_job,
+            b" of the job, line ",
+            in_part,
+            b" of its assembly: ",
+            fault_name(fault).as_bytes(),
+            b"\n",
+        ],
+    )
+}
+
+/// Appends a line in printing characters.
+#[tactic(auto, unfolding(crate::specs::Place::shown_line))]
+pub(crate) fn add_line(out: &mut Vec<u8>, line: &[u8]) -> Result<(), AllocError>
+    ensures { OnOk result (out.new.items ≡ out.old.items ++ shown_line line.now) }
+{
+    out.extend_from_slice(b"    ")?;
+    add_plain(out, line)?;
+    out.extend_from_slice(b"\n")
+}

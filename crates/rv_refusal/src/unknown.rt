@@ -1,0 +1,129 @@
+ghost use Rattle.std.specs.Prelude.{◌≡◌, ◌++◌, IfOk, OnOk, option_and_then, option_copied};
+ghost use Rattle.rv_asm.specs.Layout.{body_of};
+ghost use Rattle.rv_asm.specs.Read.{tokens_in};
+ghost use Rattle.rv_asm.specs.Token.{tokens_of};
+ghost use Rattle.rv_refusal.specs.Names.{has_csr, is_of_mnemonic, known_names, names_csr, unknown_name};
+ghost use Rattle.rv_refusal.specs.Culprit.{operand_of_fault};
+ghost use Rattle.rv_refusal.specs.Near.{names_line, nearest, nearest_line};
+ghost use Rattle.rv_refusal.specs.Statement.{first_name};
+
+use crate::culprit::{is_of_shape, operand_of_fault};
+use crate::names::{csrs, mnemonics, registers};
+use crate::near::add_nearest;
+use crate::statement::{behind_labels, first_name};
+use crate::symbols::symbols_of;
+use rv_asm::{AsmFault, Form, Operation, Token, form_named, tokenize};
+use std::alloc::{AllocError, Global};
+
+// Whether a form has a CSR among its operands.
+fn has_csr(form: Form) -> bool
+    ensures { result ≡ has_csr form }
+{
+    matches!(
+        form,
+        Form::Instruction(Operation::Csr(_) | Operation::CsrImmediate(_), _, _, _)
+    )
+}
+
+// Whether a statement has a CSR among its operands.
+fn names_csr(body: &[Token<'_>]) -> bool
+    ensures { result ≡ names_csr (tokens_in body.now) }
+{
+    match first_name(body) {
+        Some(name) => match form_named(name) {
+            Some(form) => has_csr(form),
+            None => false,
+        },
+        None => false,
+    }
+}
+
+// The name of an operand at fault in a statement.
+fn operand_name<'a>(
+    alloc: Global,
+    fault: AsmFault,
+    body: &[Token<'a>],
+) -> Result<Option<&'a [u8]>, AllocError>
+    ensures { IfOk result (λ name. option_copied name ≡ option_and_then first_name (operand_of_fault fault (tokens_in body.now))) }
+{
+    match operand_of_fault(alloc, fault, body)? {
+        Some(operand) => Ok(first_name(operand)),
+        None => Ok(None),
+    }
+}
+
+fn is_of_mnemonic(fault: AsmFault) -> bool
+    ensures { result ≡ is_of_mnemonic fault }
+{
+    matches!(fault, AsmFault::UnknownMnemonic)
+}
+
+// The name at fault in a statement.
+#[tactic(auto, unfolding(crate::specs::Names::unknown_name))]
+fn unknown_name<'a>(
+    alloc: Global,
+    fault: AsmFault,
+    body: &[Token<'a>],
+) -> Result<Option<&'a [u8]>, AllocError>
+    ensures { IfOk result (λ name. option_copied name ≡ unknown_name fault (tokens_in body.now)) }
+{
+    if is_of_mnemonic(fault) {
+        return Ok(first_name(body));
+    }
+    if is_of_shape(fault) && !names_csr(body) {
+        return Ok(None);
+    }
+    operand_name(alloc, fault, body)
+}
+
+// The name at fault on a line.
+fn unknown_on(alloc: Global, fault: AsmFault, line: &[u8]) -> Result<Option<&[u8]>, AllocError>
+    ensures { IfOk result (λ name. option_copied name
+        ≡ option_and_then (λ tokens. unknown_name fault (body_of tokens)) (tokens_of line.entry.now)) }
+{
+    match tokenize(alloc, line) {
+        Ok(tokens) => unknown_name(alloc, fault, behind_labels(tokens.as_slice())),
+        Err(AsmFault::Memory) => Err(AllocError),
+        Err(_) => Ok(None),
+    }
+}
+
+// Appends the line on the names that are nearest to one and may stand where a fault of an assembly is reported.
+#[tactic(auto, unfolding(crate::specs::Names::known_names, crate::specs::Near::names_line))]
+fn add_known(
+    alloc: Global,
+    out: &mut Vec<u8>,
+    fault: AsmFault,
+    name: &[u8],
+    assembly: &[u8],
+) -> Result<(), AllocError>
+    ensures { OnOk result (out.new.items ≡ out.old.items ++ names_line (nearest name.now (known_names fault assembly.now))) }
+{
+    match fault {
+        AsmFault::UnknownMnemonic => add_nearest(alloc, out, name, mnemonics()),
+        AsmFault::BadRegister => add_nearest(alloc, out, name, registers()),
+        AsmFault::BadOperands => add_nearest(alloc, out, name, csrs()),
+        AsmFault::UnknownSymbol => {
+            let symbols = symbols_of(alloc, assembly)?;
+            add_nearest(alloc, out, name, symbols.as_slice())
+        }
+        _ => Ok(()),
+    }
+}
+
+/// Appends the line on the known names that are nearest to the unknown one of a line at fault, where its fault is one of a name.
+#[tactic(auto, unfolding(crate::specs::Near::nearest_line))]
+pub(crate) fn add_nearest_line(
+    alloc: Global,
+    out: &mut Vec<u8>,
+    fault: AsmFault,
+    line: &[u8],
+    assembly: &[u8],
+) -> Result<(), AllocError>
+    ensures { OnOk result (out.new.items ≡ out.old.items ++ nearest_line fault line.now assembly.now) }
+{
+    match unknown_on(alloc, fault, line)? {
+        Some(name) => add_known(alloc, out, fault, name, assembly),
+        None => Ok(()),
+    }
+}
