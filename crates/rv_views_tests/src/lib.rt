@@ -5,6 +5,8 @@
 #[cfg(test)]
 mod explain;
 #[cfg(test)]
+mod json;
+#[cfg(test)]
 mod log;
 #[cfg(test)]
 mod machine;
@@ -18,5 +20,11 @@ mod profile;
 mod report;
 #[cfg(test)]
 mod state_lines;
+#[cfg(test)]
+mod state_operands;
+#[cfg(test)]
+mod state_start;
+#[cfg(test)]
+mod state_storage;
 #[cfg(test)]
 mod states;

@@ -8,11 +8,11 @@ use std::process::Abort;
 // addi x1,x0,5; ebreak
 const BYTES: [u8; 8] = [0x93, 0x00, 0x50, 0x00, 0x73, 0x00, 0x10, 0x00];
 
-// The states of a run of three cycles, but for the first.
-fn told(rt: &impl Abort, alloc: Global, form: Form) -> Vec<u8> {
+// The states of a run of three cycles, but for the first, of a program that reads so.
+fn told_of(rt: &impl Abort, alloc: Global, form: Form, program: &[&str]) -> Vec<u8> {
     let description = described(rt, narrow());
     let arrivals = no_arrivals(rt, alloc);
-    let listing = listing(rt, alloc, &["addi x1,x0,5", "ebreak"]);
+    let listing = listing(rt, alloc, program);
     let mut output = Vec::new(alloc);
     let mut pipeline = pipeline(rt, alloc, &description, &BYTES);
     let mut predictor = NotTaken;
@@ -32,8 +32,13 @@ fn told(rt: &impl Abort, alloc: Global, form: Form) -> Vec<u8> {
     output
 }
 
+// Those of an addition and a breakpoint.
+fn told(rt: &impl Abort, alloc: Global, form: Form) -> Vec<u8> {
+    told_of(rt, alloc, form, &["addi x1,x0,5", "ebreak"])
+}
+
 // Whether a text has a part, which is not empty.
-fn has_part(text: &[u8], part: &[u8]) -> bool {
+pub(crate) fn has_part(text: &[u8], part: &[u8]) -> bool {
     if part.is_empty() {
         return false;
     }
@@ -70,4 +75,21 @@ fn a_page_has_the_same_lines_in_a_viewer(rt: HostRuntime) {
     assert!(rt; page.as_slice().starts_with(b"<!DOCTYPE html>\n"));
     assert!(rt; has_part(page.as_slice(), lines.as_slice()));
     assert!(rt; page.as_slice().ends_with(b"</html>\n"));
+}
+
+#[test]
+fn a_statement_with_markup_leaves_none_in_the_lines(rt: HostRuntime) {
+    let program = ["</script><b>&amp;\"'", "<!-- ebreak"];
+    let lines = told_of(&rt, rt.alloc(), Form::Lines, &program);
+    assert!(&rt;
+        has_part(
+            lines.as_slice(),
+            b"\"text\":\"\\u003c/script\\u003e\\u003cb\\u003e\\u0026amp;\\u0022'\"}\n"
+        )
+    );
+    assert!(&rt;
+        !lines
+            .iter()
+            .any(|byte| *byte == b'<' || *byte == b'>' || *byte == b'&')
+    );
 }

@@ -1,0 +1,73 @@
+use crate::json::expect_text;
+use rv_isa::{Cause, Issue, Reg};
+use rv_json::{Instructions, write_array_member};
+use rv_passage::{Ending, Passage, Producers};
+
+// An instruction that passed through all stages.
+fn passed(number: u64, ending: Ending) -> Passage {
+    Passage {
+        number,
+        pc: 20,
+        word: Some(21),
+        instruction: None,
+        predicted: Some(24),
+        fetched: 25,
+        dispatched: Some(26),
+        producers: Producers::NONE,
+        issue: Some(Issue {
+            cycle: 27,
+            cost: 28,
+        }),
+        broadcast: Some(29),
+        ending,
+    }
+}
+
+fn retired(written: Option<(Reg, u32)>) -> Ending {
+    Ending::Retired {
+        order: 30,
+        cycle: 31,
+        written,
+        next: 32,
+    }
+}
+
+const PASSED: &str = "\"pc\":20,\"word\":21,\"fetched\":25,\"dispatched\":26,\"issued\":27,\
+\"cost\":28,\"broadcast\":29,";
+
+#[test]
+fn an_instruction_that_left_has_its_stages_and_its_end(rt: HostRuntime) {
+    let register = Reg::new(6).expect(&rt, "a register");
+    let trapped = Ending::Trapped {
+        cycle: 33,
+        cause: Cause::EnvironmentCall,
+    };
+    let ends = [
+        (
+            retired(Some((register, 7))),
+            "\"end\":\"retired\",\"register\":6,\"value\":7}]",
+        ),
+        (retired(None), "\"end\":\"retired\"}]"),
+        (trapped, "\"end\":\"trapped\",\"cause\":11}]"),
+        (Ending::Squashed { cycle: 34 }, "\"end\":\"squashed\"}]"),
+    ];
+    for (ending, end) in ends {
+        let alloc = rt.alloc();
+        let mut text = Vec::new(alloc);
+        let rows = [passed(9, ending)];
+        let written = write_array_member(&mut text, "instructions", &Instructions { rows: &rows });
+        let expected = format!(in alloc; ",\"instructions\":[{{\"number\":9,{PASSED}{end}").expect(
+            &rt, "a text",
+        );
+        expect_text(&rt, written, &text, expected.as_bytes());
+    }
+}
+
+#[test]
+fn an_instruction_in_flight_has_its_number_alone(rt: HostRuntime) {
+    let rows = [passed(9, Ending::InFlight), passed(10, Ending::InFlight)];
+    let mut text = Vec::new(rt.alloc());
+    let written = write_array_member(&mut text, "instructions", &Instructions { rows: &rows });
+    let expected = b",\"instructions\":[{\"number\":9},{\"number\":10}]";
+    expect_text(&rt, written, &text, expected);
+}

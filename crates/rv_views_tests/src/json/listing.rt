@@ -1,0 +1,72 @@
+use crate::json::expect_text;
+use crate::machine::listing;
+use rv_isa::Values;
+use rv_json::write_listing;
+use rv_source::{Listing, SourceLine};
+
+// The values of a RAM of three words.
+fn three_words() -> Values {
+    let mut values = Values::standard();
+    values.ram_size = 12;
+    values
+}
+
+const LINES: &[u8] = b"{\"address\":2147483648,\"line\":7,\"text\":\"lui x1,1\"}\n\
+{\"address\":2147483656,\"line\":5,\"text\":\"ecall\"}\n";
+
+#[test]
+fn a_word_of_the_program_has_its_address_and_its_line(rt: HostRuntime) {
+    let alloc = rt.alloc();
+    let mut listing = Listing::new(alloc, 0x8000_0000);
+    let first = b"lui x1,1".to_vec(alloc).expect(&rt, "a line");
+    let third = b"ecall".to_vec(alloc).expect(&rt, "a line");
+    let pushed = listing.push_line(SourceLine::new(7, first), 1);
+    assert!(&rt; pushed.is_ok());
+    assert!(&rt; listing.push_gap(1).is_ok());
+    let pushed = listing.push_line(SourceLine::new(5, third), 1);
+    assert!(&rt; pushed.is_ok());
+    let mut text = Vec::new(alloc);
+    let written = write_listing(&mut text, &listing, &three_words());
+    expect_text(&rt, written, &text, LINES);
+}
+
+#[test]
+fn a_line_of_two_words_stands_at_both_addresses(rt: HostRuntime) {
+    let alloc = rt.alloc();
+    let mut listing = Listing::new(alloc, 0x8000_0000);
+    let line = b"li x1,5000".to_vec(alloc).expect(&rt, "a line");
+    let pushed = listing.push_line(SourceLine::new(3, line), 2);
+    assert!(&rt; pushed.is_ok());
+    let mut text = Vec::new(alloc);
+    let written = write_listing(&mut text, &listing, &three_words());
+    let expected = b"{\"address\":2147483648,\"line\":3,\"text\":\"li x1,5000\"}\n\
+{\"address\":2147483652,\"line\":3,\"text\":\"li x1,5000\"}\n";
+    expect_text(&rt, written, &text, expected);
+}
+
+// What a line of the program is shown as.
+const SHOWN: [(&str, &str); 7] = [
+    ("</script>", "\\u003c/script\\u003e"),
+    ("a&b", "a\\u0026b"),
+    ("'\"", "'\\u0022"),
+    ("\\n", "\\u005cn"),
+    ("\ta", " a"),
+    ("\u{1}\u{1f} ~\u{7f}", "?? ~?"),
+    // Its code is c3 and a9 in UTF-8, two bytes.
+    ("\u{e9}", "??"),
+];
+
+#[test]
+fn no_line_of_the_program_becomes_markup(rt: HostRuntime) {
+    for (line, shown) in SHOWN {
+        let alloc = rt.alloc();
+        let listing = listing(&rt, alloc, &[line]);
+        let mut text = Vec::new(alloc);
+        let written = write_listing(&mut text, &listing, &three_words());
+        assert!(&rt; written.is_ok());
+        let shown = format!(in alloc;
+            "{{\"address\":2147483648,\"line\":1,\"text\":\"{shown}\"}}\n"
+        ).expect(&rt, "a text");
+        assert_eq!(&rt; text.as_slice(), shown.as_bytes());
+    }
+}

@@ -1,0 +1,87 @@
+use crate::machine::{described, narrow, pipeline};
+use crate::states::has_part;
+use rv_core::Progress;
+use rv_front::NotTaken;
+use rv_hardware::{Stall, StallCounts};
+use rv_isa::Lines;
+use rv_passage::{Ending, Passage, Producers};
+use rv_states::write_start;
+
+// addi x1,x0,5
+const ADDITION: [u8; 4] = [0x93, 0x00, 0x50, 0x00];
+
+// The addition was fetched in cycle 0.
+const START: &[u8] = b"{\"start\":1,\"instructions\":[{\"number\":24}],\
+\"counts\":{\"cycles\":21,\"busy\":6,\"fetch\":1,\"serial\":2,\"rob\":3,\"station\":4,\"store\":5},\
+\"state\":{\"pc\":2147483648,\"registers\":[0,0,0,0,0,0,0,0,0,0,0,0,0,0,0,0,0,0,0,0,0,0,0,0,0,0,0,0,0,0,0,0],\
+\"csrs\":{\"mstatus\":6144,\"mie\":0,\"mip\":0,\"mtvec\":0,\"mscratch\":0,\"mepc\":0,\"mcause\":0,\"mtval\":0},\
+\"software\":false,\"timer\":false,\"external\":false,\
+\"reorder_buffer\":[],\
+\"fetch_buffer\":[{\"pc\":2147483648,\"word\":5243027,\"fetched\":0,\"predicted\":2147483652}],\
+\"next_fetch\":2147483652,\"halted\":false,\
+\"units\":{\"alu\":[],\"mul\":[],\"div\":[],\"mem\":[]},\
+\"store_queue\":[],\"port_free\":0}}\n";
+
+// Counts of which no two are equal.
+pub(crate) fn counts(stall: Option<Stall>) -> Progress {
+    Progress {
+        stalls: StallCounts {
+            fetch: 1,
+            serial: 2,
+            rob: 3,
+            station: 4,
+            store: 5,
+        },
+        busy: 6,
+        cycles: 21,
+        stall,
+        silent: 22,
+        longest_gap: 23,
+    }
+}
+
+// An instruction in flight.
+const ROW: Passage = Passage {
+    number: 24,
+    pc: 25,
+    word: Some(26),
+    instruction: None,
+    predicted: Some(27),
+    fetched: 28,
+    dispatched: None,
+    producers: Producers::NONE,
+    issue: None,
+    broadcast: None,
+    ending: Ending::InFlight,
+};
+
+#[test]
+fn the_hardware_before_a_window_has_the_number_of_its_first_cycle(rt: HostRuntime) {
+    let alloc = rt.alloc();
+    let mut pipeline = pipeline(&rt, alloc, &described(&rt, narrow()), &ADDITION);
+    let _report = pipeline.cycle(&mut NotTaken, Lines::default());
+    let mut line = Vec::new(alloc);
+    let written = write_start(&mut line, &[ROW], &pipeline, &counts(None));
+    assert!(&rt; written.is_ok());
+    assert_eq!(&rt; line.as_slice(), START);
+}
+
+const STALLS: [(Stall, &str); 5] = [
+    (Stall::Fetch, "],\"stall\":\"fetch\",\"counts\":{"),
+    (Stall::Serial, "],\"stall\":\"serial\",\"counts\":{"),
+    (Stall::Rob, "],\"stall\":\"rob\",\"counts\":{"),
+    (Stall::Station, "],\"stall\":\"station\",\"counts\":{"),
+    (Stall::Store, "],\"stall\":\"store\",\"counts\":{"),
+];
+
+#[test]
+fn the_reason_to_dispatch_nothing_has_its_name(rt: HostRuntime) {
+    let alloc = rt.alloc();
+    let pipeline = pipeline(&rt, alloc, &described(&rt, narrow()), &ADDITION);
+    for (stall, part) in STALLS {
+        let mut line = Vec::new(alloc);
+        let written = write_start(&mut line, &[], &pipeline, &counts(Some(stall)));
+        assert!(&rt; written.is_ok());
+        assert!(&rt; has_part(line.as_slice(), part.as_bytes()));
+    }
+}
