@@ -2,4 +2,5 @@ mod Counts
 mod LiveReport
 mod MemoryLines
 mod TableRows
-mod Totalled
+mod Speculated
+mod Tallied

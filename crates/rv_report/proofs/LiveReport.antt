@@ -1,5 +1,5 @@
 -- A run whose report is written as its cycles come: what was written so far, one cycle more, and the end.
-use Rattle.std.proofs.Common.{◌≡◌, ◌∙◌, ℕ, ◌+◌, ◌*◌, ◌^◌, ◌≤◌, Bool, true, false, List, [], ◌++◌, length, Option, Some, None, count_by, sym, ap, refl, subst, arith}
+use Rattle.std.proofs.Common.{◌≡◌, ◌∙◌, ℕ, ◌+◌, ◌*◌, ◌^◌, ◌≤◌, Bool, true, false, List, [], ◌++◌, length, Option, count_by, sym, ap, refl, subst, arith}
 use Rattle.std.specs.Prelude.{IsErrAnd, Result, Ok, Err}
 use Rattle.std.specs.Result.{is_ok}
 use Rattle.std.specs.Io.KnownBytes.{Appends}
@@ -46,7 +46,7 @@ trace_of-append false xs ys = refl
 count_by-append : (p : Step → Bool) (xs ys : List Step) → count_by p (xs ++ ys) ≡ count_by p xs + count_by p ys
 count_by-append p xs ys = sum_by-append _ xs ys
 
-counts_of-append : (xs ys : List Step) → counts_of (xs ++ ys) ≡ both_counts (counts_of xs) (counts_of ys)
+pub counts_of-append : (xs ys : List Step) → counts_of (xs ++ ys) ≡ both_counts (counts_of xs) (counts_of ys)
 counts_of-append xs ys = λ i. record {
   retired = count_by-append is_retirement xs ys i;
   traps = count_by-append is_trap xs ys i;

@@ -5,36 +5,36 @@ use Rattle.std.specs.Io.KnownBytes.{Appends}
 use Rattle.std.proofs.lemmas.List.{take_all}
 use Rattle.std.proofs.lemmas.List.FromFn.{get_or-enumerate_from, length-enumerate_from}
 use Rattle.rv_report.specs.Comparison.{row_of, table_row}
-use Rattle.rv_report.specs.declared.totals.Totals.{Totals}
+use Rattle.rv_report.specs.declared.losses.ComparedRun.{ComparedRun}
 use Rattle.rv_text.specs.Written.{AppendsBeginning}
 use Rattle.rv_text.proofs.Writing.{Appends-at, Appends-same, beginning-at, beginning-same}
 
-module _ (names : List (List ℕ)) (runs : List Totals) (place : ℕ) (below : place < length runs) (other : Totals) (a b c : Option (List ℕ))
+module _ (names : List (List ℕ)) (runs : List ComparedRun) (place : ℕ) (below : place < length runs) (other : ComparedRun) (a b c : Option (List ℕ))
     (front : Appends a b (flat_map (row_of names) (take place (enumerate_from 1 runs)))) where
-  abbrev totals : Totals
-  totals = get_or runs place other
+  abbrev run : ComparedRun
+  run = get_or runs place other
 
-  abbrev here : ℕ × Totals
+  abbrev here : ℕ × ComparedRun
   here = (0, other)
 
   within : place < length (enumerate_from 1 runs)
   within = omega (arith, length-enumerate_from 1 runs, below)
 
-  line_is : table_row (1 + place) (get_or names place []) totals ≡ row_of names (get_or (enumerate_from 1 runs) place here)
+  line_is : table_row (1 + place) (get_or names place []) run ≡ row_of names (get_or (enumerate_from 1 runs) place here)
   line_is =
       let before : place ≡ (1 + place) - 1 = omega arith in
-      ap (λ n. table_row (1 + place) (get_or names n []) totals) before
+      ap (λ n. table_row (1 + place) (get_or names n []) run) before
       ∙ ap (row_of names) (sym (get_or-enumerate_from 1 runs place here below))
 
   -- a line that was not written whole
-  pub beginning_at_row : AppendsBeginning b c (table_row (1 + place) (get_or names place []) totals) → AppendsBeginning a c (flat_map (row_of names) (enumerate_from 1 runs))
+  pub beginning_at_row : AppendsBeginning b c (table_row (1 + place) (get_or names place []) run) → AppendsBeginning a c (flat_map (row_of names) (enumerate_from 1 runs))
   beginning_at_row last = beginning-at (row_of names) (enumerate_from 1 runs) place here within a b c front (beginning-same _ _ _ _ line_is last)
 
   -- one more line
-  pub row_written : Appends b c (table_row (1 + place) (get_or names place []) totals) → Appends a c (flat_map (row_of names) (take (place + 1) (enumerate_from 1 runs)))
+  pub row_written : Appends b c (table_row (1 + place) (get_or names place []) run) → Appends a c (flat_map (row_of names) (take (place + 1) (enumerate_from 1 runs)))
   row_written last = Appends-at (row_of names) (enumerate_from 1 runs) place here within a b c front (Appends-same _ _ _ _ line_is last)
 
 -- the lines of all runs
-pub all_rows : (names : List (List ℕ)) (runs : List Totals) (place : ℕ) → place ≡ length runs → flat_map (row_of names) (take place (enumerate_from 1 runs)) ≡ flat_map (row_of names) (enumerate_from 1 runs)
+pub all_rows : (names : List (List ℕ)) (runs : List ComparedRun) (place : ℕ) → place ≡ length runs → flat_map (row_of names) (take place (enumerate_from 1 runs)) ≡ flat_map (row_of names) (enumerate_from 1 runs)
 all_rows names runs place is =
     ap (flat_map (row_of names)) (take_all place (enumerate_from 1 runs) (omega (arith, is, length-enumerate_from 1 runs)))

@@ -2,45 +2,51 @@
 use Rattle.std.specs.Prelude.{◌≡◌, ℕ, ◌-◌, List, [], ◌∷◌, ◌++◌, codes, get_or}
 use Rattle.std.specs.List.{enumerate_from, flat_map}
 use Rattle.rv_isa.specs.declared.lines.Arrival.{Arrival}
-use Rattle.rv_hardware.specs.Guided.{GuidedCycles, GuidedHardware}
-use Rattle.rv_hardware.specs.Report.{Report}
+use Rattle.rv_hardware.specs.Guided.{GuidedHardware}
+use Rattle.rv_hardware.specs.History.{History, Moment, reports_of}
 use Rattle.rv_hardware.specs.Run.{IsStop}
 use Rattle.rv_report.specs.State.{stop_text}
+use Rattle.rv_report.specs.Tally.{losses_of}
 use Rattle.rv_report.specs.Totals.{totals_at}
-use Rattle.rv_report.specs.declared.totals.Totals.{Totals}
+use Rattle.rv_report.specs.declared.losses.ComparedRun.{ComparedRun}
 use Rattle.rv_text.specs.Plain.{plain_text}
 use Rattle.rv_text.specs.ReadField.{cell_text}
 use Rattle.rv_text.specs.declared.fields.Value.{Value}
 use Rattle.rv_text.specs.declared.fields.Value.TheVariants.{Count, Ratio}
 
--- a run of some hardware that a predictor guides, up to a limit of cycles, came to these totals
-pub record RunsTo (arrivals : List Arrival) (limit : ℕ) (old : GuidedHardware) (totals : Totals) : Type 0 where
-  pub reports : List Report
+-- a run of some hardware that a predictor guides, up to a limit of cycles, came to this
+pub record RunsTo (arrivals : List Arrival) (limit : ℕ) (old : GuidedHardware) (run : ComparedRun) : Type 0 where
+  pub moments : List Moment
   pub new : GuidedHardware
-  pub cycles : GuidedCycles arrivals old reports new
-  pub stops : IsStop limit reports new.hardware totals.stop
-  pub totals_are : totals ≡ totals_at reports totals.stop
+  pub cycles : History arrivals old moments new
+  pub stops : IsStop limit (reports_of moments) new.hardware run.totals.stop
+  pub totals_are : run.totals ≡ totals_at (reports_of moments) run.totals.stop
+  pub losses_are : run.losses ≡ losses_of old.hardware moments new.hardware
 
 -- the names of the columns
 unfoldable pub table_head : List ℕ
 table_head =
-    codes "number\tcycles\tretired\tcpi\ttraps\tinterrupts\tbusy\tstall_fetch\tstall_serial\tstall_rob\tstall_station\tstall_store\tname\tstop\n"
+    codes "number\tcycles\tretired\tcpi\ttraps\tinterrupts\tbusy\tstall_fetch\tstall_serial\tstall_rob\t" ++
+    codes "stall_station\tstall_store\tmispredicted\tsquashed\tmisses\tname\tstop\n"
 
--- the number of a run, its counts, and the cycles that dispatched nothing, by the reason
-abbrev pub row_values : ℕ → Totals → List Value
-row_values number totals =
+-- the number of a run, its counts, the cycles that dispatched nothing, by the reason, and what it lost cycles to
+abbrev pub row_values : ℕ → ComparedRun → List Value
+row_values number run =
     Count number ∷
-    Count totals.cycles ∷
-    Count totals.steps.retired ∷
-    Ratio totals.cycles totals.steps.retired ∷
-    Count totals.steps.traps ∷
-    Count totals.steps.interrupts ∷
-    Count totals.busy ∷
-    Count totals.stalls.fetch ∷
-    Count totals.stalls.serial ∷
-    Count totals.stalls.rob ∷
-    Count totals.stalls.station ∷
-    Count totals.stalls.store ∷
+    Count run.totals.cycles ∷
+    Count run.totals.steps.retired ∷
+    Ratio run.totals.cycles run.totals.steps.retired ∷
+    Count run.totals.steps.traps ∷
+    Count run.totals.steps.interrupts ∷
+    Count run.totals.busy ∷
+    Count run.totals.stalls.fetch ∷
+    Count run.totals.stalls.serial ∷
+    Count run.totals.stalls.rob ∷
+    Count run.totals.stalls.station ∷
+    Count run.totals.stalls.store ∷
+    Count run.losses.mispredicted ∷
+    Count run.losses.squashed ∷
+    Count run.losses.misses ∷
     []
 
 -- the name of a run's machine in printing characters, or a hyphen where it has none
@@ -49,14 +55,14 @@ name_text [] = codes "-"
 name_text (first ∷ others) = plain_text (first ∷ others)
 
 -- the line of a run ends with the name of its machine and why the run ended
-unfoldable pub table_row : ℕ → List ℕ → Totals → List ℕ
-table_row number name totals =
-    flat_map cell_text (row_values number totals) ++ (name_text name ++ (codes "\t" ++ (stop_text totals.stop ++ codes "\n")))
+unfoldable pub table_row : ℕ → List ℕ → ComparedRun → List ℕ
+table_row number name run =
+    flat_map cell_text (row_values number run) ++ (name_text name ++ (codes "\t" ++ (stop_text run.totals.stop ++ codes "\n")))
 
 -- the line of a run with a number, where the machines from the first on have these names
-abbrev pub row_of : List (List ℕ) → ℕ × Totals → List ℕ
+abbrev pub row_of : List (List ℕ) → ℕ × ComparedRun → List ℕ
 row_of names run = table_row run.0 (get_or names (run.0 - 1) []) run.1
 
 -- runs are numbered from 1
-unfoldable pub table_of : List (List ℕ) → List Totals → List ℕ
+unfoldable pub table_of : List (List ℕ) → List ComparedRun → List ℕ
 table_of names runs = table_head ++ flat_map (row_of names) (enumerate_from 1 runs)

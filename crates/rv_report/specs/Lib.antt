@@ -5,4 +5,7 @@ pub mod Rows
 pub mod Totals
 pub mod RunReport
 pub mod LiveReport
+pub mod Speculation
+pub mod Misses
+pub mod Tally
 pub mod Comparison

@@ -5,26 +5,30 @@ ghost use Rattle.rv_report.specs.State.{stop_text};
 ghost use Rattle.rv_text.specs.ReadField.{cell_text};
 ghost use Rattle.rv_text.specs.Written.{IsWritten};
 
+use crate::losses::ComparedRun;
 use crate::state::write_reason;
-use crate::totals::Totals;
 use rv_arch::Stop;
-use rv_text::{ReportError, Value, put, write_cells, write_plain};
+use rv_text::{ReportError, Value, put, put_all, write_cells, write_plain};
 use std::io::Write;
 
 #[tactic(auto, unfolding(crate::specs::Comparison::table_head))]
 fn write_head<W: Write>(writer: &mut W) -> Result<(), ReportError>
     ensures { IsWritten result (W.contents writer.old) (W.contents writer.new) table_head }
 {
-    put(
+    put_all(
         writer,
-        b"number\tcycles\tretired\tcpi\ttraps\tinterrupts\tbusy\tstall_fetch\tstall_serial\tstall_rob\tstall_station\tstall_store\tname\tstop\n",
+        &[
+            b"number\tcycles\tretired\tcpi\ttraps\tinterrupts\tbusy\tstall_fetch\tstall_serial\tstall_rob\t",
+            b"stall_station\tstall_store\tmispredicted\tsquashed\tmisses\tname\tstop\n",
+        ],
     )
 }
 
 // The counts of a run, with its number.
-fn write_counts<W: Write>(writer: &mut W, number: u64, totals: Totals) -> Result<(), ReportError>
-    ensures { IsWritten result (W.contents writer.old) (W.contents writer.new) (flat_map cell_text (row_values number totals)) }
+fn write_counts<W: Write>(writer: &mut W, number: u64, run: ComparedRun) -> Result<(), ReportError>
+    ensures { IsWritten result (W.contents writer.old) (W.contents writer.new) (flat_map cell_text (row_values number run)) }
 {
+    let ComparedRun { totals, losses } = run;
     let values = [
         Value::Count(number),
         Value::Count(totals.cycles),
@@ -41,6 +45,9 @@ fn write_counts<W: Write>(writer: &mut W, number: u64, totals: Totals) -> Result
         Value::Count(totals.stalls.rob),
         Value::Count(totals.stalls.station),
         Value::Count(totals.stalls.store),
+        Value::Count(losses.mispredicted),
+        Value::Count(losses.squashed),
+        Value::Count(losses.misses),
     ];
     write_cells(writer, &values)
 }
@@ -77,12 +84,12 @@ fn write_row<W: Write>(
     writer: &mut W,
     number: u64,
     name: &[u8],
-    totals: Totals,
+    run: ComparedRun,
 ) -> Result<(), ReportError>
-    ensures { IsWritten result (W.contents writer.old) (W.contents writer.new) (table_row number name.now totals) }
+    ensures { IsWritten result (W.contents writer.old) (W.contents writer.new) (table_row number name.now run) }
 {
-    write_counts(writer, number, totals)?;
-    write_name_and_end(writer, name, totals.stop)
+    write_counts(writer, number, run)?;
+    write_name_and_end(writer, name, run.totals.stop)
 }
 
 // The name at a place, or none.
@@ -100,13 +107,13 @@ fn name_at(names: &[Vec<u8>], place: usize) -> &[u8]
 fn write_rows<W: Write>(
     writer: &mut W,
     names: &[Vec<u8>],
-    runs: &[Totals],
+    runs: &[ComparedRun],
 ) -> Result<(), ReportError>
     ensures { IsWritten result (W.contents writer.old) (W.contents writer.new) (flat_map (row_of (map (λ name. name.items) names.now)) (enumerate_from 1 runs.now)) }
 {
     for place in 0..runs.len() {
-        let totals = runs[place];
-        write_row(writer, 1 + place as u64, name_at(names, place), totals)?;
+        let run = runs[place];
+        write_row(writer, 1 + place as u64, name_at(names, place), run)?;
     }
     Ok(())
 }
@@ -116,7 +123,7 @@ fn write_rows<W: Write>(
 /// `WriteFailed` alone, and what was written is then a beginning of the table.
 pub fn write_table<W: Write>(
     names: &[Vec<u8>],
-    runs: &[Totals],
+    runs: &[ComparedRun],
     writer: &mut W,
 ) -> Result<(), ReportError>
     ensures { IsWritten result (W.contents writer.old) (W.contents writer.new) (table_of (map (λ name. name.items) names.now) runs.now) }

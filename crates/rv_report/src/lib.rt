@@ -3,18 +3,24 @@
 //! runs' totals; where a write fails, what was written is a beginning of it.
 #![tactic(auto)]
 
+mod compared_run;
 mod comparison;
 mod live_report;
+mod losses;
 mod memory;
+mod misses;
 mod options;
 mod reference_report;
 mod rows;
 mod run_report;
+mod speculation;
 mod state;
 mod totals;
 
+pub use compared_run::run_totals;
 pub use comparison::write_table;
-pub use live_report::{run_totals, write_run};
+pub use live_report::write_run;
+pub use losses::{ComparedRun, Losses};
 pub use options::Options;
 pub use reference_report::write_reference;
 pub use rows::write_steps;

@@ -1,6 +1,5 @@
 ghost use Rattle.std.specs.Prelude.{◌≡◌, ◌≤◌, ℕ, List, [], ◌++◌, Option, Ok, length, vec_capacity};
 ghost use Rattle.rv_hardware.specs.Guided.{guided};
-ghost use Rattle.rv_report.specs.Comparison.{RunsTo};
 ghost use Rattle.rv_report.specs.LiveReport.{IsRunReport, IsTraced, Reports};
 ghost use Rattle.rv_report.specs.RunReport.{trace_of};
 ghost use Rattle.rv_report.specs.Totals.{HasRoom, both_counts, counts_of};
@@ -16,7 +15,6 @@ use rv_hardware::Step;
 use rv_isa::Arrivals;
 use rv_text::ReportError;
 use std::convert::Infallible;
-use std::io;
 use std::io::Write;
 
 // The steps of a run so far: how many there were of each sort, and whether their lines, where they are shown, were written.
@@ -109,36 +107,6 @@ pub fn write_run<W: Write>(
     run.written?;
     write_totals(&run.totals, &run.pipeline, options, writer)?;
     Ok(run.totals.stop)
-}
-
-/// Runs a pipeline that a predictor guides, each cycle with the lines of its number, up to a breakpoint, a stale word,
-/// exhaustion or a limit of cycles. `steps` is a list with room for the eight steps of a cycle. Asks for no memory.
-/// Answers what the run came to.
-pub fn run_totals(
-    pipeline: Pipeline,
-    predictor: &mut dyn Predictor,
-    arrivals: &Arrivals,
-    limit: u64,
-    steps: Vec<Step>,
-) -> Totals
-    requires room { 8 ≤ vec_capacity steps }
-    ensures { RunsTo arrivals.now limit (guided pipeline (known predictor.old)) result }
-{
-    let options = Options {
-        trace: false,
-        limit,
-        dump_address: 0,
-        dump_words: 0,
-    };
-    let run = run_traced(
-        pipeline,
-        predictor,
-        arrivals,
-        &options,
-        steps,
-        &mut io::sink(),
-    );
-    run.totals
 }
 
 // Runs a pipeline to the end, and writes the trace, where it is asked for, as far as no write fails.

@@ -7,7 +7,7 @@ use crate::boxed_predictor::{BoxedPredictor, boxed};
 use rv_core::Pipeline;
 use rv_isa::PredictorValues;
 use rv_job::{Comparison, Job, SimError};
-use rv_report::{Totals, run_totals, write_table};
+use rv_report::{ComparedRun, run_totals, write_table};
 use std::alloc::Global;
 use std::io::Write;
 
@@ -19,32 +19,33 @@ fn run_guided(
     values: PredictorValues,
     predictor: BoxedPredictor,
     limit: u64,
-) -> Result<Totals, SimError>
+) -> Result<ComparedRun, SimError>
     requires described { known predictor.predictor ≡ untaught_of values }
     requires own { values ≡ job.now.description.predictor }
-    ensures totals { IfOk result (IsRun limit job.now) }
+    ensures run { IfOk result (IsRun limit job.now) }
     ensures errors { IfErr result (λ e. e ≡ SimError.Memory) }
 {
     // The image of a job fits, so that memory alone can be wanting.
     let Ok(pipeline) = Pipeline::new(alloc, &job.description, &job.image) else {
         return Err(SimError::Memory);
     };
-    let Ok(steps) = Vec::with_capacity(alloc, 8) else {
-        return Err(SimError::Memory);
-    };
     let mut predictor = predictor;
-    Ok(run_totals(
+    let ended = run_totals(
+        alloc,
         pipeline,
         &mut *predictor.predictor,
         &job.arrivals,
         limit,
-        steps,
-    ))
+    );
+    match ended {
+        Ok(run) => Ok(run),
+        Err(_) => Err(SimError::Memory),
+    }
 }
 
 // Runs a job with the predictor that it describes.
-fn run_one(alloc: Global, job: &Job, limit: u64) -> Result<Totals, SimError>
-    ensures totals { IfOk result (IsRun limit job.now) }
+fn run_one(alloc: Global, job: &Job, limit: u64) -> Result<ComparedRun, SimError>
+    ensures run { IfOk result (IsRun limit job.now) }
     ensures errors { IfErr result (λ e. e ≡ SimError.Memory) }
 {
     let values = job.description.values().predictor;
@@ -55,16 +56,16 @@ fn run_one(alloc: Global, job: &Job, limit: u64) -> Result<Totals, SimError>
 }
 
 // Runs jobs one after the other.
-fn run_each(alloc: Global, jobs: &[Job], limit: u64) -> Result<Vec<Totals>, SimError>
+fn run_each(alloc: Global, jobs: &[Job], limit: u64) -> Result<Vec<ComparedRun>, SimError>
     ensures runs { IfOk result (λ runs. AreRuns limit jobs.now runs.items) }
     ensures errors { IfErr result (λ e. e ≡ SimError.Memory) }
 {
     let mut runs = Vec::new(alloc);
     for job in jobs {
-        let Ok(totals) = run_one(alloc, job, limit) else {
+        let Ok(ended) = run_one(alloc, job, limit) else {
             return Err(SimError::Memory);
         };
-        let Ok(()) = runs.push(totals) else {
+        let Ok(()) = runs.push(ended) else {
             return Err(SimError::Memory);
         };
     }

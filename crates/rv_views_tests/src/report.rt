@@ -1,4 +1,5 @@
 mod cut_short;
+mod losses;
 mod outcome;
 mod reports;
 mod tables;

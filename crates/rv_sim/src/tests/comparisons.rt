@@ -16,11 +16,13 @@ addi x1,x0,5
 ebreak
 ";
 
-const TABLE: &str =
-    "number\tcycles\tretired\tcpi\ttraps\tinterrupts\tbusy\tstall_fetch\tstall_serial\tstall_rob\tstall_station\tstall_store\tname\tstop
-1\t5\t1\t5.000\t1\t0\t3\t2\t0\t0\t0\t0\tnot taken\tbreakpoint
-2\t5\t1\t5.000\t1\t0\t3\t2\t0\t0\t0\t0\t-\tbreakpoint
-3\t5\t1\t5.000\t1\t0\t3\t2\t0\t0\t0\t0\ttwo bits\tbreakpoint
+// Each fetches two words in each of its five cycles but in the last, in which the ebreak traps: what stands after it is squashed.
+const TABLE: &str = "\
+number\tcycles\tretired\tcpi\ttraps\tinterrupts\tbusy\tstall_fetch\tstall_serial\tstall_rob\tstall_station\tstall_store\t\
+mispredicted\tsquashed\tmisses\tname\tstop
+1\t5\t1\t5.000\t1\t0\t3\t2\t0\t0\t0\t0\t0\t6\t0\tnot taken\tbreakpoint
+2\t5\t1\t5.000\t1\t0\t3\t2\t0\t0\t0\t0\t0\t6\t0\t-\tbreakpoint
+3\t5\t1\t5.000\t1\t0\t3\t2\t0\t0\t0\t0\t0\t6\t0\ttwo bits\tbreakpoint
 ";
 
 #[test]

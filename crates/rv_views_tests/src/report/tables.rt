@@ -3,7 +3,7 @@ use rv_arch::Stop;
 use rv_front::NotTaken;
 use rv_hardware::StallCounts;
 use rv_isa::Values;
-use rv_report::{StepCounts, Totals, run_totals, write_table};
+use rv_report::{ComparedRun, Losses, StepCounts, Totals, run_totals, write_table};
 use std::test::Fail;
 
 #[test]
@@ -31,13 +31,29 @@ fn a_table_has_a_line_for_each_run(rt: HostRuntime) -> Result<(), Fail> {
         steps: StepCounts::default(),
         ..stale
     };
+    let losses = Losses {
+        mispredicted: 8,
+        squashed: 9,
+        misses: 10,
+    };
+    let runs = [
+        ComparedRun {
+            totals: stale,
+            losses,
+        },
+        ComparedRun {
+            totals: none,
+            losses,
+        },
+    ];
     let mut table = Vec::new(rt.alloc());
     let names = [Vec::from_slice(rt.alloc(), b"a\tb")?];
-    write_table(&names, &[stale, none], &mut table)?;
-    let lines =
-        "number\tcycles\tretired\tcpi\ttraps\tinterrupts\tbusy\tstall_fetch\tstall_serial\tstall_rob\tstall_station\tstall_store\tname\tstop
-1\t17\t3\t5.666\t7\t6\t2\t1\t2\t3\t4\t5\ta b\tstale 80000014
-2\t17\t0\t-\t0\t0\t2\t1\t2\t3\t4\t5\t-\tlimit
+    write_table(&names, &runs, &mut table)?;
+    let lines = "\
+number\tcycles\tretired\tcpi\ttraps\tinterrupts\tbusy\tstall_fetch\tstall_serial\tstall_rob\tstall_station\tstall_store\t\
+mispredicted\tsquashed\tmisses\tname\tstop
+1\t17\t3\t5.666\t7\t6\t2\t1\t2\t3\t4\t5\t8\t9\t10\ta b\tstale 80000014
+2\t17\t0\t-\t0\t0\t2\t1\t2\t3\t4\t5\t8\t9\t10\t-\tlimit
 ";
     assert_eq!(rt; table.as_slice(), lines.as_bytes());
     Ok(())
@@ -48,10 +64,9 @@ fn a_table_has_a_line_for_each_run(rt: HostRuntime) -> Result<(), Fail> {
 fn a_run_comes_to_its_totals(rt: HostRuntime) -> Result<(), Fail> {
     let alloc = rt.alloc();
     let arrivals = no_arrivals(&rt, alloc);
-    let steps = Vec::with_capacity(alloc, 8)?;
     let pipeline = pipeline(&rt, alloc, &described(&rt, Values::standard()), &[]);
     let mut predictor = NotTaken;
-    let totals = run_totals(pipeline, &mut predictor, &arrivals, 100, steps);
+    let totals = run_totals(alloc, pipeline, &mut predictor, &arrivals, 100)?.totals;
     assert_eq!(rt;
         (totals.cycles, totals.busy, totals.stalls.fetch),
         (100, 50, 50)

@@ -1,7 +1,6 @@
-use Rattle.std.proofs.Common.{◌≡◌, [], length, get_or, map, arith, sym, subst}
-use Rattle.rv_report.specs.Comparison.{table_row}
+use Rattle.std.proofs.Common.{◌≡◌, length, map, arith}
 use Rattle.rv_report.proofs.TableRows.{all_rows, beginning_at_row, row_written}
-use Rattle.rv_text.proofs.Writing.{Appends-nothing, Appends-same, beginning-same, handed_on}
+use Rattle.rv_text.proofs.Writing.{Appends-nothing, Appends-same, handed_on}
 use Rattle.rv_report.proofs.comparison.write_rows.Goals as goal
 
 pub loop-place-init : goal.loop-place-init

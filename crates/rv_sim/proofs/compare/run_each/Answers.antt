@@ -10,7 +10,7 @@ pub loop-job-preserved : goal.loop-job-preserved
 loop-job-preserved c =
     subst (AreRuns c.args.limit (take (c.loop-job.job-index + 1) c.args.jobs.now)) (sym c.in-Ok-push.ensures.items)
     (run_more c.args.limit c.args.jobs.now c.loop-job.job-index (omega arith) c.loop-job.runs.items c.loop-job.invariant
-    c.job-item.result c.job-item.is c.in-Ok.totals c.in-Ok.ensures.totals)
+    c.job-item.result c.job-item.is c.in-Ok.ended c.in-Ok.ensures.run)
 
 pub returns-clause-runs : goal.returns-clause-runs
 returns-clause-runs c =

@@ -1,0 +1,20 @@
+use Rattle.std.proofs.Common.{◌≡◌, [], None}
+use Rattle.rv_core.proofs.Shown.{stops_by}
+use Rattle.rv_report.specs.Totals.{counts_of}
+use Rattle.rv_report.proofs.Tallied.{room_at_end, tallied_nothing, tallied_to_the_end}
+use Rattle.rv_report.proofs.compared_run.run_totals.Goals as goal
+
+pub losses-requires : goal.losses-requires
+losses-requires g c =
+    let zeros = c.default.ensures in
+    let none : c.default.result ≡ counts_of [] = λ i. record { retired = zeros.0 i; traps = zeros.1.0 i; interrupts = zeros.1.1 i } in
+    let begun = tallied_nothing c.args.arrivals.now _ c.default.result c.in_ok-speculation.speculation c.begin-2.result none c.in_ok-speculation.ensures.speculated c.in_ok-speculation.ensures.few c.begin-2.ensures in
+    room_at_end (c.watch-ended.ensures.seen None begun) c.count_in_flight.result c.count_in_flight.ensures.few c.is_exhausted.ensures.within
+
+pub returns : goal.returns
+returns g c =
+    let zeros = c.default.ensures in
+    let none : c.default.result ≡ counts_of [] = λ i. record { retired = zeros.0 i; traps = zeros.1.0 i; interrupts = zeros.1.1 i } in
+    let begun = tallied_nothing c.args.arrivals.now _ c.default.result c.in_ok-speculation.speculation c.begin-2.result none c.in_ok-speculation.ensures.speculated c.in_ok-speculation.ensures.few c.begin-2.ensures in
+    let run = c.watch-ended.ensures in
+    tallied_to_the_end (run.seen None begun) c.count_in_flight.result run.passes run.counted (stops_by run c.in-Ok.stop c.in-Ok.is) c.new.ensures c.count_in_flight.ensures.count c.losses.ensures

@@ -1,0 +1,130 @@
+ghost use Rattle.std.specs.Prelude.{◌≡◌, ◌+◌, ◌≤◌, ◌<◌, ◌^◌, IfOk};
+ghost use Rattle.rv_hardware.specs.Guided.{guided};
+ghost use Rattle.rv_report.specs.Comparison.{RunsTo};
+ghost use Rattle.rv_report.specs.Speculation.{in_flight, speculated_at};
+ghost use Rattle.rv_report.specs.Tally.{losses_with};
+
+use crate::losses::{ComparedRun, Losses};
+use crate::misses::Misses;
+use crate::speculation::Speculation;
+use crate::totals::{StepCounts, Totals};
+use rv_core::{Pipeline, Progress, Watcher, watch};
+use rv_front::Predictor;
+use rv_hardware::Step;
+use rv_isa::Arrivals;
+use std::alloc::{AllocError, Global};
+use std::convert::Infallible;
+use std::io;
+use std::io::Write;
+
+// What is counted of a run so far.
+#[derive(Drop)]
+struct Tally {
+    counts: StepCounts,
+    speculation: Speculation,
+    misses: Misses,
+}
+
+impl Watcher for Tally {
+    ghost use Rattle.rv_report.specs.Tally.{IsTallied};
+
+    type Refusal = Infallible;
+
+    ghost has_seen = { λ _ tally seen _ _. IsTallied tally.counts tally.speculation tally.misses seen };
+
+    ghost has_room = { λ _. Unit {0} };
+
+    fn make_room(&mut self) -> Result<(), Infallible> {
+        Ok(())
+    }
+
+    fn see<W: Write>(
+        &mut self,
+        cycle: u64,
+        steps: &[Step],
+        pipeline: &Pipeline,
+        _: &Progress,
+        _: &mut W,
+    ) {
+        // Of hardware that a reset and cycles lead to, the buffers are as long as described.
+        let _ = pipeline.cycles_done();
+        let buffer = pipeline.reorder_buffer();
+        let pc = pipeline.observe().pc;
+        self.counts.count_all(steps);
+        self.misses.follow(cycle, steps, pipeline.drain_end());
+        self.speculation
+            .follow(cycle, steps, buffer, pipeline.front(), pc);
+    }
+}
+
+// How many instructions are in flight.
+fn count_in_flight(pipeline: &Pipeline) -> u64
+    ensures count { result ≡ in_flight pipeline.now.rob pipeline.now.front }
+    ensures few { result ≤ 288 }
+{
+    // Of hardware that a reset and cycles lead to, the buffers are as long as described.
+    let _ = pipeline.cycles_done();
+    (pipeline.reorder_buffer().len() + pipeline.front().len()) as u64
+}
+
+// Nothing but what is in flight in a pipeline.
+fn begin(alloc: Global, pipeline: &Pipeline) -> Result<Speculation, AllocError>
+    ensures speculated { IfOk result (λ s. s ≡ speculated_at pipeline.now) }
+    ensures few { IfOk result (λ s. s.fetched ≤ 288) }
+{
+    // Of hardware that a reset and cycles lead to, the buffers are as long as described.
+    let _ = pipeline.cycles_done();
+    Speculation::begin(alloc, pipeline.reorder_buffer(), pipeline.front())
+}
+
+// What a run lost that left so many instructions in flight.
+fn losses(tally: &Tally, left: u64) -> Losses
+    requires { tally.now.counts.retired + tally.now.counts.traps + left < 2 ^ 64 }
+    ensures { result ≡ losses_with tally.now.speculation tally.now.counts left tally.now.misses.count }
+{
+    let ended = tally.counts.retired + tally.counts.traps;
+    Losses {
+        mispredicted: tally.speculation.mispredicted(),
+        squashed: tally.speculation.fetched().saturating_sub(ended + left),
+        misses: tally.misses.count,
+    }
+}
+
+/// Runs a pipeline that a predictor guides, each cycle with the lines of its number, up to a breakpoint, a stale word,
+/// exhaustion or a limit of cycles. Answers what the run came to. The only error is out of memory, in which nothing was
+/// run.
+pub fn run_totals(
+    alloc: Global,
+    pipeline: Pipeline,
+    predictor: &mut dyn Predictor,
+    arrivals: &Arrivals,
+    limit: u64,
+) -> Result<ComparedRun, AllocError>
+    ensures { IfOk result (RunsTo arrivals.now limit (guided pipeline (known predictor.old))) }
+{
+    let mut pipeline = pipeline;
+    let speculation = begin(alloc, &pipeline)?;
+    let steps = Vec::with_capacity(alloc, 8)?;
+    let mut tally = Tally {
+        counts: StepCounts::default(),
+        misses: Misses::begin(&pipeline),
+        speculation,
+    };
+    let ended = watch(
+        &mut pipeline,
+        predictor,
+        arrivals,
+        limit,
+        steps,
+        &mut tally,
+        &mut io::sink(),
+    );
+    // It counts so many cycles at most, and so the counts can go on.
+    let _ = pipeline.is_exhausted();
+    match ended.stop {
+        Ok(stop) => Ok(ComparedRun {
+            totals: Totals::new(&ended.progress, tally.counts, stop),
+            losses: losses(&tally, count_in_flight(&pipeline)),
+        }),
+    }
+}

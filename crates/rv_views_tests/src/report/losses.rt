@@ -1,0 +1,116 @@
+use crate::machine::{described, narrow, no_arrivals, pipeline};
+use rv_front::NotTaken;
+use rv_isa::{Lines, Recovery, Values};
+use rv_report::{Losses, run_totals};
+use std::alloc::Global;
+use std::process::Abort;
+use std::test::Fail;
+
+// What a run of a program loses after so many cycles, on a machine that predicts no branch as taken.
+fn lost(
+    rt: &impl Abort,
+    alloc: Global,
+    values: Values,
+    words: &[u32],
+    before: u32,
+) -> Result<Losses, Fail> {
+    let mut program = Vec::new(alloc);
+    for word in words {
+        program.extend_from_slice(&word.to_le_bytes())?;
+    }
+    let mut pipeline = pipeline(rt, alloc, &described(rt, values), program.as_slice());
+    let mut predictor = NotTaken;
+    for _ in 0..before {
+        pipeline.cycle(&mut predictor, Lines::default());
+    }
+    let arrivals = no_arrivals(rt, alloc);
+    let run = run_totals(alloc, pipeline, &mut predictor, &arrivals, 1000)?;
+    Ok(run.losses)
+}
+
+// auipc x1,0; jalr x5,12(x1); lw x6,256(x1); beq x0,x0,8; addi x6,x0,2; bne x0,x0,8; jal x0,8; addi x6,x0,3; csrw mscratch,x1;
+// addi x7,x1,52; csrw mepc,x7; mret; addi x6,x0,4; ebreak
+const JUMPS: [u32; 14] = [
+    0x0000_0097,
+    0x00c0_82e7,
+    0x1000_a303,
+    0x0000_0463,
+    0x0020_0313,
+    0x0000_1463,
+    0x0080_006f,
+    0x0030_0313,
+    0x3400_9073,
+    0x0340_8393,
+    0x3413_9073,
+    0x3020_0073,
+    0x0040_0313,
+    0x0010_0073,
+];
+
+// The jalr and the first branch go on where they were not predicted, the second branch and the jal where they were. A machine
+// that does one thing a cycle fetches a word in each, so that what it squashes is what it fetched since. The jalr is fetched in
+// cycle 1 and retires in 6, the branch in 6 and 10; the CSR instructions in 12 and 16, 17 and 21, mret in 21 and 23, and the
+// ebreak in 23 and 25: that are 4, 3, 3, 3, 1 and 1 words. The load is one of the first four.
+#[test]
+fn wrong_predictions_and_squashed_words_are_counted(rt: HostRuntime) -> Result<(), Fail> {
+    let losses = Losses {
+        mispredicted: 2,
+        squashed: 15,
+        misses: 0,
+    };
+    assert_eq!(&rt; lost(&rt, rt.alloc(), narrow(), &JUMPS, 0)?, losses);
+    // The jalr is in flight before the first cycle.
+    assert_eq!(&rt; lost(&rt, rt.alloc(), narrow(), &JUMPS, 5)?, losses);
+    Ok(())
+}
+
+// The jalr and the branch are broadcast a cycle before they retire, and a word less is fetched after each.
+#[test]
+fn a_prediction_that_is_mended_early_was_wrong_too(rt: HostRuntime) -> Result<(), Fail> {
+    let mut values = narrow();
+    values.recovery = Recovery::Early;
+    let losses = Losses {
+        mispredicted: 2,
+        squashed: 13,
+        misses: 0,
+    };
+    assert_eq!(&rt; lost(&rt, rt.alloc(), values, &JUMPS, 0)?, losses);
+    // The jalr was mended before the first cycle.
+    let later = Losses {
+        mispredicted: 1,
+        squashed: 10,
+        misses: 0,
+    };
+    assert_eq!(&rt; lost(&rt, rt.alloc(), values, &JUMPS, 6)?, later);
+    Ok(())
+}
+
+// auipc x1,0; lw x2,256(x1); lw x3,260(x1); lw x4,272(x1); sw x2,264(x1); sw x3,268(x1); sw x3,276(x1); sw x2,280(x1);
+// sw x2,288(x1); lw x5,288(x1); lw x6,304(x1); div x7,x6,x6; div x8,x7,x7; ebreak
+const ACCESSES: [u32; 14] = [
+    0x0000_0097,
+    0x1000_a103,
+    0x1040_a183,
+    0x1100_a203,
+    0x1020_a423,
+    0x1030_a623,
+    0x1030_aa23,
+    0x1020_ac23,
+    0x1220_a023,
+    0x1200_a283,
+    0x1300_a303,
+    0x0263_43b3,
+    0x0273_c433,
+    0x0010_0073,
+];
+
+// Three loads and the last store are the first to their line. One load hits, four stores do, and one load's bytes all come from
+// the last store. The two divisions take so long that the stores are in the cache before the ebreak retires.
+#[test]
+fn loads_and_drains_that_miss_are_counted(rt: HostRuntime) -> Result<(), Fail> {
+    let mut values = Values::standard();
+    values.forward = 3;
+    let losses = lost(&rt, rt.alloc(), values, &ACCESSES, 0)?;
+    assert_eq!(&rt; losses.misses, 4);
+    Ok(())
+}
