@@ -1,9 +1,7 @@
 -- No JSON of a part has a byte that HTML gives a meaning.
-use Rattle.std.proofs.Common.{◌≡◌, ℕ, List, Option, Some, None, refl}
+use Rattle.std.proofs.Common.{ℕ, List, Option, Some, None, refl}
 use Rattle.std.specs.Prelude.{Bool, codes, decimal, map, option_map}
-use Rattle.rv_isa.specs.Cause.{code_of}
-use Rattle.rv_isa.specs.Key.{kind_name}
-use Rattle.rv_isa.specs.declared.{broadcast.StoreAccess.StoreAccess, causes.Cause.Cause, issues.Issue.Issue, lines.Lines.Lines, operations.Kind.Kind, per_kind.PerKind.PerKind}
+use Rattle.rv_isa.specs.declared.{broadcast.StoreAccess.StoreAccess, issues.Issue.Issue, lines.Lines.Lines, operations.Kind.Kind, per_kind.PerKind.PerKind}
 use Rattle.rv_isa.specs.declared.operations.Kind.TheVariants as kind
 use Rattle.rv_isa.specs.declared.values.{CacheValues.CacheValues, KindValues.KindValues, PredictorKind.PredictorKind, PredictorValues.PredictorValues, Recovery.Recovery, Values.Values}
 use Rattle.rv_isa.specs.declared.values.PredictorKind.TheVariants.{NotTaken, BackwardTaken, Bimodal}
@@ -31,8 +29,8 @@ use Rattle.rv_json.specs.Entry.{cause_of, cost_of, entry_text, fault_value_of, f
 use Rattle.rv_json.specs.Fetched.{fetched_json, next_fetch_text}
 use Rattle.rv_json.specs.Instruction.{details_text, ended_text, ending_text, instruction_json, passage_text, retired_text, squashed_text, trapped_text}
 use Rattle.rv_json.specs.Json.{array}
-use Rattle.rv_json.specs.Listing.{line_if, line_text, listing_line, listing_lines, place_text}
-use Rattle.rv_json.specs.Machine.{buffers_text, cache_json, format_text, header_line, kind_json, kinds_text, machine_json, numbers_text, predictor_json, predictor_name, recovery_name, recovery_text, sizes_text, widths_text}
+use Rattle.rv_json.specs.Listing.{line_if, line_text, listing_lines, place_text}
+use Rattle.rv_json.specs.Machine.{buffers_text, cache_json, format_text, header_line, kind_json, kinds_text, machine_json, numbers_text, predictor_json, predictor_name, recovery_text, sizes_text, widths_text}
 use Rattle.rv_json.specs.Markup.{HasNoMarkup}
 use Rattle.rv_json.specs.Observed.{lines_text as levels_text, observed_text}
 use Rattle.rv_json.specs.Operand.{known_text, operand_json}

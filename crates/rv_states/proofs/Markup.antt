@@ -1,21 +1,18 @@
 -- No line of the states of a run has a byte that HTML gives a meaning.
 use Rattle.std.proofs.Common.{◌≡◌, ℕ, ◌+◌, List, [], ◌∷◌, Option, Some, None, refl}
-use Rattle.std.specs.Prelude.{Bool, false, codes, get_or, slice_index_or}
+use Rattle.std.specs.Prelude.{Bool, false, codes, get_or}
 use Rattle.std.specs.FinSet as set
 use Rattle.std.specs.List.{list_any}
-use Rattle.rv_isa.specs.Operands.{sources_of}
-use Rattle.rv_isa.specs.declared.{instructions.Instr.Instr, values.Values.Values}
+use Rattle.rv_isa.specs.declared.instructions.Instr.{Instr}
 use Rattle.rv_arch.specs.declared.outcome.Stop.{Stop}
 use Rattle.rv_cache.specs.declared.line.CacheLine.{CacheLine}
-use Rattle.rv_core.specs.Progress.{progress_of}
-use Rattle.rv_core.specs.Ties.{RegisterStatus, queue_of, status_with, values_in}
+use Rattle.rv_core.specs.Ties.{RegisterStatus, status_with}
 use Rattle.rv_core.specs.declared.outcome.Progress.{Progress}
 use Rattle.rv_memory.specs.Memory.{word_of}
 use Rattle.rv_hardware.specs.Hardware.{Hardware}
 use Rattle.rv_hardware.specs.Seen.{layout_of, seen}
 use Rattle.rv_hardware.specs.declared.{report.Stall.Stall, step.Step.Step}
 use Rattle.rv_hardware.specs.declared.report.Stall.TheVariants.{Fetch, Serial, Rob, Station, Store}
-use Rattle.rv_passage.specs.Table.{table_at}
 use Rattle.rv_passage.specs.declared.passage.Passage.{Passage}
 use Rattle.rv_rob.specs.declared.entry.{Entry.Entry, Stage.Stage}
 use Rattle.rv_rob.specs.declared.entry.Stage.TheVariants.{Waiting, Running, Finished}
@@ -35,7 +32,7 @@ use Rattle.rv_states.specs.Memory.{memory_line, memory_lines, word_if, word_seen
 use Rattle.rv_states.specs.Operands.{operand_text, operands_of, operands_text}
 use Rattle.rv_states.specs.Sets.{lines_if, set_line, set_lines}
 use Rattle.rv_states.specs.State.{in_flight_text, parts_text, state_json}
-use Rattle.rv_states.specs.States.{Moment, begun_text, head_text, lines_text, moment_text, opening_text, shown_text, states_text, storage_text, window_text}
+use Rattle.rv_states.specs.States.{Moment, head_text, lines_text, moment_text, opening_text, states_text, storage_text, window_text}
 
 stall : (s : Option Stall) → HasNoMarkup (stall_text s)
 unfolding stall_text
