@@ -1,9 +1,7 @@
 -- The values of an array, one after the other.
-use Rattle.std.proofs.Common.{◌≡◌, ℕ, zero, suc, ◌+◌, ◌<◌, ◌≤◌, List, [], ◌∷◌, ◌++◌, length, get_or, take, drop, slice_get, Option, Some, None, sym, ap, ◌∙◌, append_assoc, append-nil, arith}
-use Rattle.std.specs.Prelude.{map}
+use Rattle.std.proofs.Common.{◌≡◌, ℕ, suc, ◌+◌, ◌<◌, List, [], ◌∷◌, ◌++◌, length, get_or, take, drop, Option, sym, ap, ◌∙◌, append_assoc, append-nil, arith}
 use Rattle.std.specs.Io.KnownBytes.{Appends}
-use Rattle.std.proofs.lemmas.List.{get_or-map, length-take-le, take_more, take-append-drop}
-use Rattle.std.proofs.lemmas.Option.{get_or_from_slice_get, slice_get_within}
+use Rattle.std.proofs.lemmas.List.{length-take-le, take_more, take-append-drop}
 use Rattle.rv_text.specs.Written.{AppendsBeginning}
 use Rattle.rv_text.proofs.Writing.{Appends-both, Appends-same, beginning-both, beginning-longer, beginning-same}
 use Rattle.rv_json.specs.Json.{Json, comma_at, values_from}
@@ -44,14 +42,3 @@ module _ (items : List Json) (place : ℕ) (here : place < length items) where
   -- one value more
   pub Appends-value : (a b c : Option (List ℕ)) → Appends a b (values_from 0 (take place items)) → Appends b c (comma_at place ++ get_or items place []) → Appends a c (values_from 0 (take (place + 1) items))
   Appends-value a b c front last = Appends-same a c _ _ (sym values-more) (Appends-both a b c _ _ front last)
-
-module _ {X : Type 0} (json : X → Json) (xs : List X) (place : ℕ) where
-  -- the value at a place is that of the item there
-  pub value_at : (x : X) → slice_get xs place ≡ Some x → json x ≡ get_or (map json xs) place []
-  value_at x is = sym (get_or-map json xs place x [] (slice_get_within xs place x is) ∙ ap json (get_or_from_slice_get xs place x x is))
-
--- nothing stands past the end alone
-pub is_past : {X : Type 0} (xs : List X) (place : ℕ) → slice_get xs place ≡ None → length xs ≤ place
-is_past [] place none = omega arith
-is_past (x ∷ xs) zero none = absurd (cc)
-is_past (x ∷ xs) (suc place) none = let rest = is_past xs place none in omega (arith, rest)
