@@ -16,3 +16,4 @@ mod Tales
 mod Telling
 mod WordTable
 mod Works
+mod OutcomesGrow

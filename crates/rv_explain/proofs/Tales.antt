@@ -26,18 +26,19 @@ use Rattle.rv_hardware.specs.History.{History, Moment, reports_of}
 use Rattle.rv_explain.specs.Interrupt.{by_line, interruption_of_cycle, interruptions_of, interrupts_after}
 use Rattle.rv_explain.specs.Kinds.{kept_after, kept_of}
 use Rattle.rv_explain.specs.LastStore.{last_store_to, stores_in, stores_of, with_stores}
-use Rattle.rv_explain.specs.Load.{loads_of, retired_load_cost}
+use Rattle.rv_explain.specs.Load.{retired_load_cost}
 use Rattle.rv_explain.specs.Tale.{HasRoom, tale_after, tale_of}
 use Rattle.rv_explain.specs.Unit.{arrivals_after, arrivals_by, none_came, unit_wait_in, unit_waits}
 use Rattle.rv_explain.specs.Wait.{CanGrow, both_waits, bus_wait, bus_waits}
 use Rattle.rv_explain.specs.WordNotes.{notes_of}
-use Rattle.rv_explain.specs.Work.{is_mispredicted_branch, is_retired_branch, work_of}
+use Rattle.rv_explain.specs.Work.{is_mispredicted_branch, is_retired_branch}
 use Rattle.rv_explain.specs.declared.{dispatches.Dispatches.Dispatches, exception.Exception.Exception, interruption.Interruption.Interruption}
 use Rattle.rv_explain.proofs.DrainCounts.{drains_by-append, drains_of-le, drains_of-push}
 use Rattle.rv_explain.proofs.Heads.{head_cycles-le, with_head_of}
 use Rattle.rv_explain.proofs.LastStores.{stores_of-push, with_stores_of}
 use Rattle.rv_explain.proofs.InterruptsGrow.{by_line-push, lines_counted}
 use Rattle.rv_explain.proofs.KindsGrow.{kept-push, kept_counted}
+use Rattle.rv_explain.proofs.OutcomesGrow.{can_take, outcomes-left}
 use Rattle.rv_explain.proofs.WordTable.{note_of}
 use Rattle.rv_explain.proofs.Works.{loads-left, work-left}
 
@@ -134,6 +135,7 @@ module _ (values : Values) where
       let came = sym (ap (arrivals_after none_came) steps ∙ arrivals_after-append none_came (steps_of (reports_of moments)) moment.report.steps) in
       let work = work-left (filter has_left rows) left in
       let loads = loads-left (costs_of values) rows left in
+      let outcomes = outcomes-left values (costs_of values) (filter has_left rows) left in
       let drains = sym (ap (drains_by values.cache.hit) (drains_of-push moment passes) ∙ drains_by-append values.cache.hit (drains_of arrivals old.hardware moments) (option_to_list (drain_in arrivals now.hardware))) in
       let words = heads ∙ stores ∙ (λ i. notes_of values (λ word. record { last_store = last_store_to (stored i) word; head_cycles = head_cycles (moments ++ moment ∷ []) word })) in
       λ i. record {
@@ -149,6 +151,7 @@ module _ (values : Values) where
         loads = loads i;
         drains = drains i;
         words = words i;
+        outcomes = outcomes i;
       }
 
   -- the steps of one more cycle can be counted
@@ -170,5 +173,6 @@ module _ (values : Values) where
     quick = omega (arith, count_by-le-length (λ p. is_hit (costs_of values) (retired_load_cost p)) left, fewer, some);
     drains = omega (arith, drains_of-le arrivals h moments, within);
     hits = omega (arith, drains_of-le arrivals h moments, count_by-le-length (λ (cost : ℕ). cost == values.cache.hit) (drains_of arrivals h moments), within);
+    outcomes = can_take values (costs_of values) left rows (omega (arith, fewer, some));
     heads = note_of values (λ word. record { last_store = last_store_to (stores_of h moments) word; head_cycles = head_cycles moments word }) (λ note. note.head_cycles + 1 < 2 ^ 64) (λ word. omega (arith, head_cycles-le moments word, within));
   }

@@ -6,13 +6,12 @@ use Rattle.std.proofs.lemmas.Bool.{ltb-true, ltb-false}
 use Rattle.rv_isa.specs.declared.values.Values.{Values}
 use Rattle.rv_memory.specs.Memory.{word_of}
 use Rattle.rv_explain.specs.WordNotes.{Notes, note_at, notes_of, with_change}
-use Rattle.rv_explain.specs.declared.word_note.WordNote.{WordNote}
 
-same_words : (f g : ℕ → WordNote) (a n : ℕ) → ((w : ℕ) → a ≤ w → w < a + n → f w ≡ g w) → map f (range_with_len a n) ≡ map g (range_with_len a n)
+same_words : {X : Type 0} (f g : ℕ → X) (a n : ℕ) → ((w : ℕ) → a ≤ w → w < a + n → f w ≡ g w) → map f (range_with_len a n) ≡ map g (range_with_len a n)
 same_words f g a zero all = refl
 same_words f g a (suc n) all = λ i. all a (omega arith) (omega arith) i ∷ same_words f g (a + 1) n (λ w low high. all w (omega arith) (omega arith)) i
 
-word_set : (f g : ℕ → WordNote) (a n i : ℕ) → i < n → ((w : ℕ) → (w ≡ a + i → ⊥) → f w ≡ g w) → slice_set (map f (range_with_len a n)) i (g (a + i)) ≡ map g (range_with_len a n)
+word_set : {X : Type 0} (f g : ℕ → X) (a n i : ℕ) → i < n → ((w : ℕ) → (w ≡ a + i → ⊥) → f w ≡ g w) → slice_set (map f (range_with_len a n)) i (g (a + i)) ≡ map g (range_with_len a n)
 word_set f g a zero i within others = absurd (omega arith)
 word_set f g a (suc n) zero within others =
     let here : a + 0 ≡ a = omega arith in
@@ -22,20 +21,20 @@ word_set f g a (suc n) (suc i) within others =
     let rest = ap (λ (w : ℕ). slice_set (map f (range_with_len (a + 1) n)) i (g w)) place ∙ word_set f g (a + 1) n i (omega arith) (λ w is_not. others w (λ is. is_not (omega arith))) in
     λ j. others a (λ is. omega arith) j ∷ rest j
 
-word_got : (f : ℕ → WordNote) (a n i : ℕ) → i < n → slice_get (map f (range_with_len a n)) i ≡ Some (f (a + i))
+word_got : {X : Type 0} (f : ℕ → X) (a n i : ℕ) → i < n → slice_get (map f (range_with_len a n)) i ≡ Some (f (a + i))
 word_got f a zero i within = absurd (omega arith)
 word_got f a (suc n) zero within = ap (λ (w : ℕ). Some (f w)) (omega arith)
 word_got f a (suc n) (suc i) within = word_got f (a + 1) n i (omega arith) ∙ ap (λ (w : ℕ). Some (f w)) (omega arith)
 
-no_word : (f : ℕ → WordNote) (a n i : ℕ) → n ≤ i → slice_get (map f (range_with_len a n)) i ≡ None
+no_word : {X : Type 0} (f : ℕ → X) (a n i : ℕ) → n ≤ i → slice_get (map f (range_with_len a n)) i ≡ None
 no_word f a zero i past = refl
 no_word f a (suc n) zero past = absurd (omega arith)
 no_word f a (suc n) (suc i) past = no_word f (a + 1) n i (omega arith)
 
-notes_from : (ℕ → WordNote) → ℕ → ℕ → Notes
+notes_from : {X : Type 0} → (ℕ → X) → ℕ → ℕ → Notes X
 notes_from f a n = record { first = a; words = map f (range_with_len a n) }
 
-module _ (change : WordNote → WordNote) (f g : ℕ → WordNote) (word a n : ℕ) (here : change (f word) ≡ g word) (others : (w : ℕ) → (w ≡ word → ⊥) → f w ≡ g w) where
+module _ {X : Type 0} (change : X → X) (f g : ℕ → X) (word a n : ℕ) (here : change (f word) ≡ g word) (others : (w : ℕ) → (w ≡ word → ⊥) → f w ≡ g w) where
   all_same : ((w : ℕ) → a ≤ w → w < a + n → w ≡ word → ⊥) → notes_from f a n ≡ notes_from g a n
   unfolding notes_from
   all_same outside = ap (λ words. record { first = a; words = words }) (same_words f g a n (λ w low high. others w (outside w low high)))
@@ -64,28 +63,28 @@ module _ (change : WordNote → WordNote) (f g : ℕ → WordNote) (word a n : �
   change_of false above = change_above (nat_lt (word - a) n) above refl
 
 -- a change at one word
-pub change_one : (values : Values) (change : WordNote → WordNote) (f g : ℕ → WordNote) (word : ℕ) → change (f word) ≡ g word → ((w : ℕ) → (w ≡ word → ⊥) → f w ≡ g w)
+pub change_one : {X : Type 0} (values : Values) (change : X → X) (f g : ℕ → X) (word : ℕ) → change (f word) ≡ g word → ((w : ℕ) → (w ≡ word → ⊥) → f w ≡ g w)
     → with_change change (notes_of values f) word ≡ notes_of values g
 unfolding notes_from
 change_one values change f g word here others =
     change_of change f g word (word_of values.ram_base) (word_of values.ram_size) here others (nat_lt word (word_of values.ram_base)) refl
 
-got_of : (f : ℕ → WordNote) (P : WordNote → Type 0) → ((w : ℕ) → P (f w)) → (a n i : ℕ) → IfSome (slice_get (map f (range_with_len a n)) i) P
+got_of : {X : Type 0} (f : ℕ → X) (P : X → Type 0) → ((w : ℕ) → P (f w)) → (a n i : ℕ) → IfSome (slice_get (map f (range_with_len a n)) i) P
 got_of f P all a zero i = tt
 got_of f P all a (suc n) zero = all a
 got_of f P all a (suc n) (suc i) = got_of f P all (a + 1) n i
 
-note_of_from : (f : ℕ → WordNote) (P : WordNote → Type 0) → ((w : ℕ) → P (f w)) → (a n word : ℕ) (below : Bool) → nat_lt word a ≡ below → IfSome (note_at (notes_from f a n) word) P
+note_of_from : {X : Type 0} (f : ℕ → X) (P : X → Type 0) → ((w : ℕ) → P (f w)) → (a n word : ℕ) (below : Bool) → nat_lt word a ≡ below → IfSome (note_at (notes_from f a n) word) P
 unfolding notes_from
 note_of_from f P all a n word true is = rw is tt
 note_of_from f P all a n word false is = rw is (got_of f P all a n (word - a))
 
 -- what holds of each word holds of what is kept of any
-pub note_of : (values : Values) (f : ℕ → WordNote) (P : WordNote → Type 0) → ((w : ℕ) → P (f w)) → (word : ℕ) → IfSome (note_at (notes_of values f) word) P
+pub note_of : {X : Type 0} (values : Values) (f : ℕ → X) (P : X → Type 0) → ((w : ℕ) → P (f w)) → (word : ℕ) → IfSome (note_at (notes_of values f) word) P
 unfolding notes_from
 note_of values f P all word = note_of_from f P all (word_of values.ram_base) (word_of values.ram_size) word (nat_lt word (word_of values.ram_base)) refl
 
 -- nothing is kept of any word
-pub all_alike : (note : WordNote) (a n : ℕ) → replicate n note ≡ map (λ (w : ℕ). note) (range_with_len a n)
+pub all_alike : {X : Type 0} (note : X) (a n : ℕ) → replicate n note ≡ map (λ (w : ℕ). note) (range_with_len a n)
 all_alike note a zero = refl
 all_alike note a (suc n) = ap (λ words. note ∷ words) (all_alike note (a + 1) n)

@@ -1,7 +1,7 @@
 -- What became of the fetched words, as instructions leave the hardware.
-use Rattle.std.proofs.Common.{◌≡◌, ◌∙◌, ℕ, ◌+◌, ◌≤◌, Bool, true, false, List, [], ◌∷◌, ◌++◌, length, filter, count_by, Option, None, cond, refl, ap, sym, arith, length-append}
+use Rattle.std.proofs.Common.{◌≡◌, ◌∙◌, ◌+◌, Bool, true, false, List, [], ◌∷◌, ◌++◌, length, filter, count_by, cond, refl, ap, sym, arith, length-append}
 use Rattle.std.specs.Prelude.{is_some, not}
-use Rattle.std.proofs.lemmas.List.Sums.{count_by-le-length, length-filter, sum_by-append, sum_by-cons}
+use Rattle.std.proofs.lemmas.List.Sums.{sum_by-append, sum_by-cons}
 use Rattle.rv_passage.specs.Passage.{is_running}
 use Rattle.rv_passage.specs.declared.passage.{Ending.Ending, Passage.Passage}
 use Rattle.rv_passage.specs.declared.passage.Ending.TheVariants as ending
@@ -11,7 +11,6 @@ use Rattle.rv_counts.specs.declared.loads.LoadCosts.{LoadCosts}
 use Rattle.rv_explain.specs.Access.{both}
 use Rattle.rv_explain.specs.Load.{loads_of, retired_load_cost}
 use Rattle.rv_explain.specs.Work.{both_work, is_mispredicted_branch, is_retired_branch, work_of}
-use Rattle.rv_explain.specs.declared.work.Work.{Work}
 
 -- what did not leave the hardware neither retired nor was squashed
 unretired_by : (e : Ending) → not (is_running e) ≡ false → is_retirement e ≡ false

@@ -31,7 +31,7 @@ last_store_text listing (Some pc) = codes "The last store to that word was the o
 last_store_text listing None = []
 
 -- the last store to the word at which a run ended, if that is stale
-abbrev pub stale_text : Listed → Stop → Notes → List ℕ
+abbrev pub stale_text : Listed → Stop → Notes WordNote → List ℕ
 stale_text listing (Stale pc) notes =
     last_store_text listing (option_and_then (λ (note : WordNote). note.last_store) (note_at notes (word_of pc)))
 stale_text listing Breakpoint notes = []
@@ -39,5 +39,5 @@ stale_text listing Limit notes = []
 stale_text listing Exhausted notes = []
 
 -- how a run ended, and where
-unfoldable pub ending_text : Listed → Stop → Hardware → Notes → List ℕ
+unfoldable pub ending_text : Listed → Stop → Hardware → Notes WordNote → List ℕ
 ending_text listing stop h notes = reason_text stop ++ (place_text listing (place_of stop h) ++ stale_text listing stop notes)

@@ -55,7 +55,8 @@ waited_text tale =
 unfoldable pub cost_text : Listed → Progress → ℕ → Tale → List ℕ
 cost_text listing progress fetched tale =
     cycle_text progress tale.retired ++ (dispatches_text progress.busy tale.dispatches.cycles ++
-    (work_text fetched tale.work ++ (waited_text tale ++ hotspots_text listing progress.cycles tale.words)))
+    (work_text fetched tale.work ++ (waited_text tale ++
+    hotspots_text listing progress.cycles tale.words tale.outcomes)))
 
 -- the sentences, by how many words were fetched among others
 unfoldable pub explanation : Listed → Stop → Hardware → Progress → ℕ → Tale → List ℕ

@@ -6,6 +6,7 @@ use Rattle.rv_rob.specs.declared.entry.Entry.{Entry}
 use Rattle.rv_hardware.specs.Hardware.{Hardware}
 use Rattle.rv_hardware.specs.History.{Moment}
 use Rattle.rv_explain.specs.WordNotes.{Notes, once_more_at_head, with_change}
+use Rattle.rv_explain.specs.declared.word_note.WordNote.{WordNote}
 
 -- the word of the instruction at the head, if there is one
 abbrev pub head_word : Hardware → Option ℕ
@@ -21,6 +22,6 @@ abbrev pub head_cycles : List Moment → ℕ → ℕ
 head_cycles moments word = count_by (λ moment. is_word word (head_word moment.after)) moments
 
 -- what is kept of the words with one more cycle, which left this word at the head
-abbrev pub with_head : Option ℕ → Notes → Notes
+abbrev pub with_head : Option ℕ → Notes WordNote → Notes WordNote
 with_head None notes = notes
 with_head (Some word) notes = with_change once_more_at_head notes word

@@ -7,6 +7,7 @@ pub mod Load
 pub mod Drain
 pub mod Stack
 pub mod Work
+pub mod Outcome
 pub mod Hotspot
 pub mod Ending
 pub mod Series

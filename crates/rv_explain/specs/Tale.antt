@@ -22,6 +22,7 @@ use Rattle.rv_explain.specs.Interrupt.{AreCountable, by_line, interruption_in, i
 use Rattle.rv_explain.specs.Kinds.{IsCountable, kept_after, kept_of}
 use Rattle.rv_explain.specs.LastStore.{last_store_to, stores_in, stores_of, with_stores}
 use Rattle.rv_explain.specs.Load.{loads_of}
+use Rattle.rv_explain.specs.Outcome.{CanTake, outcomes_at, with_passages}
 use Rattle.rv_explain.specs.Unit.{arrivals_after, none_came, unit_waits}
 use Rattle.rv_explain.specs.Wait.{CanGrow, both_waits, bus_waits}
 use Rattle.rv_explain.specs.WordNotes.{note_at, notes_of}
@@ -44,6 +45,7 @@ tale_of values arrivals h moments left = record {
   loads = loads_of (costs_of values) left;
   drains = drains_by values.cache.hit (drains_of arrivals h moments);
   words = notes_of values (λ word. record { last_store = last_store_to (stores_of h moments) word; head_cycles = head_cycles moments word });
+  outcomes = notes_of values (outcomes_at (costs_of values) left);
 }
 
 -- what is kept with one more cycle: its steps, by the registers before them, the drain that began in it, the hardware that it
@@ -62,6 +64,7 @@ tale_after registers steps drain after rows tale = record {
   loads = both tale.loads (loads_of tale.costs rows);
   drains = both tale.drains (drains_by tale.costs.hit (option_to_list drain));
   words = with_stores (stores_in registers steps) (with_head (head_word after) tale.words);
+  outcomes = with_passages tale.costs (filter has_left rows) tale.outcomes;
 }
 
 -- what is kept of the cycles that were seen, of those values by which nothing was kept at first; with the registers, the end of
@@ -93,4 +96,5 @@ pub record HasRoom (tale : Tale) (more rows : ℕ) : Type 0 where
   pub quick : tale.loads.quick + rows < 2 ^ 64
   pub drains : tale.drains.all + 1 < 2 ^ 64
   pub hits : tale.drains.quick + 1 < 2 ^ 64
+  pub outcomes : CanTake tale.outcomes rows
   pub heads : (word : ℕ) → IfSome (note_at tale.words word) (λ note. note.head_cycles + 1 < 2 ^ 64)

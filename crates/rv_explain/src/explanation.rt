@@ -111,7 +111,13 @@ fn write_costs<W: Write>(
     write_dispatches(writer, progress.busy, &tale.dispatches)?;
     write_work(writer, fetched, &tale.work)?;
     write_waited(writer, tale)?;
-    write_hotspots(writer, listing, progress.cycles, &mut tale.words)
+    write_hotspots(
+        writer,
+        listing,
+        progress.cycles,
+        &tale.outcomes,
+        &mut tale.words,
+    )
 }
 
 // The sentences on a run that ended.
@@ -138,8 +144,8 @@ fn write_told<W: Write>(
 /// and for a stale word the last store to it; its exceptions and interrupts; where the cycles went; how many dispatched only
 /// what did not retire; how many words were fetched and how many of them squashed; how many branches and jumps retired, and how
 /// many of them were mispredicted; what results waited for the bus, and instructions for a unit; what its loads and the drains of
-/// its stores cost; and the five lines that most cycles left at the head of the reorder buffer. The description tells where RAM
-/// lies, whose words are counted, and what loads and drains cost. The listing is that of the program, whose lines are shown.
+/// its stores cost; and the five lines that most cycles left at the head of the reorder buffer, with their loads. The description tells where RAM lies, whose words are counted, and what loads and drains
+/// cost. The listing is that of the program, whose lines are shown.
 /// Answers why the run ended.
 ///
 /// # Errors

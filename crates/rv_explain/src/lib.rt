@@ -19,6 +19,7 @@ mod kind_lines;
 mod kinds;
 mod lines;
 mod loads;
+mod outcomes;
 mod place;
 mod running;
 mod series;
@@ -30,6 +31,7 @@ mod unit_waits;
 mod waits;
 mod word_note;
 mod word_notes;
+mod word_outcomes;
 mod work;
 
 pub use explanation::write_explanation;

@@ -22,8 +22,8 @@ pub(crate) fn retired_load_cost(passage: &Passage) -> Option<u32>
     }
 }
 
-// Whether a load retired at one of these costs.
-fn is_quick(costs: &LoadCosts, passage: &Passage) -> bool
+/// Whether a load retired at the cost of a hit or of forwarding.
+pub(crate) fn is_quick(costs: &LoadCosts, passage: &Passage) -> bool
     ensures { result ≡ is_hit costs.now (retired_load_cost passage.now) }
 {
     match retired_load_cost(passage) {

@@ -17,6 +17,7 @@ use crate::stores::note_stores;
 use crate::unit_waits::add_unit_waits;
 use crate::waits::{add_waits, no_waits};
 use crate::word_notes::WordNotes;
+use crate::word_outcomes::WordOutcomes;
 use crate::work::Work;
 use rv_core::Pipeline;
 use rv_counts::LoadCosts;
@@ -43,6 +44,7 @@ pub(crate) struct Tale {
     pub(crate) loads: Accesses,
     pub(crate) drains: Accesses,
     pub(crate) words: WordNotes,
+    pub(crate) outcomes: WordOutcomes,
 }
 
 fn count_retired(steps: &[Step]) -> usize
@@ -72,6 +74,7 @@ impl Tale {
             loads: Accesses { all: 0, quick: 0 },
             drains: Accesses { all: 0, quick: 0 },
             words: WordNotes::new(alloc, description)?,
+            outcomes: WordOutcomes::new(alloc, description)?,
         })
     }
 
@@ -101,5 +104,6 @@ impl Tale {
         add_drain(&mut self.drains, self.costs.hit, drain);
         note_head(&mut self.words, pipeline);
         note_stores(&mut self.words, registers, steps);
+        self.outcomes.add_left(&self.costs, rows);
     }
 }

@@ -21,8 +21,9 @@ pub(crate) struct WordNotes {
 
 impl Model for WordNotes {
     ghost use Rattle.rv_explain.specs.WordNotes.{Notes};
+    ghost use Rattle.rv_explain.specs.declared.word_note.WordNote.{WordNote};
 
-    ghost Value = { Notes };
+    ghost Value = { Notes WordNote };
 
     ghost view = { λ notes. record { first = notes.first; words = notes.words.items } };
 

@@ -1,4 +1,3 @@
-use Rattle.rv_counts.specs.Followed.{IsRoomy}
 use Rattle.rv_explain.proofs.Explained.{explained, heads_counted}
 use Rattle.rv_explain.proofs.explanation.write_explanation.Goals as goal
 

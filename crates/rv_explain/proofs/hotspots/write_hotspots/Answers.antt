@@ -13,4 +13,4 @@ unfolding hotspots_text
 returns g c =
     let joined = c.join_lines.ensures in
     written_behind _ _ _ _ _ _ c.in_ok-put.ensures
-    (written_same _ _ _ _ _ (λ i. flat_map (hotspot_text c.args.listing.now c.args.all) (hotspots 5 (joined.first i) (joined.counts i))) c.write_most.ensures)
+    (written_same _ _ _ _ _ (λ i. flat_map (hotspot_text c.args.listing.now c.args.all c.args.outcomes.now) (hotspots 5 (joined.first i) (joined.counts i))) c.write_most.ensures)

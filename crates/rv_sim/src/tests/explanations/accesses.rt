@@ -53,3 +53,32 @@ fn drains_are_counted_when_they_begin(rt: HostRuntime) {
         check_run(&rt, rt.alloc(), EXPLAIN, told.program, 0, &[told.line]);
     }
 }
+
+// A cache of one word. The first load drops the word that the store put there, which is written back; the second one drops what the
+// first brought; the third one hits.
+const DIRTY_VICTIM: &str = "cache.sets = 1
+cache.ways = 1
+cache.line = 4
+%%
+lui x5,0x80001
+sw x5,0(x5)
+csrr x6,mip
+div x7,x5,x5
+div x7,x7,x5
+add x5,x5,x7
+lw x8,4(x5)
+lw x9,0(x5)
+lw x10,0(x5)
+ebreak
+";
+
+#[test]
+fn the_loads_of_the_slowest_lines_are_told(rt: HostRuntime) {
+    let lines = [
+        "80000018, line 7: lw x8,4(x5)",
+        "       its loads: hits 0, misses 1, write-backs 1",
+        "8000001c, line 8: lw x9,0(x5)",
+        "       its loads: hits 0, misses 1, write-backs 0",
+    ];
+    check_run(&rt, rt.alloc(), EXPLAIN, DIRTY_VICTIM, 0, &lines);
+}

@@ -1,4 +1,4 @@
-use Rattle.std.proofs.Common.{◌∙◌, ◌+◌, arith}
+use Rattle.std.proofs.Common.{◌∙◌, arith}
 use Rattle.rv_passage.specs.Table.{after_steps, passages_of}
 use Rattle.rv_passage.proofs.InFlight.{short_buffers}
 use Rattle.rv_counts.proofs.Followed.{roomy_again}

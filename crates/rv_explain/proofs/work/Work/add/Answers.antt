@@ -1,4 +1,4 @@
-use Rattle.std.proofs.Common.{◌≡◌, ◌∙◌, ◌+◌, ap, sym, length, filter}
+use Rattle.std.proofs.Common.{◌∙◌, ◌+◌, sym}
 use Rattle.std.proofs.lemmas.List.Sums.{length-filter}
 use Rattle.rv_counts.specs.Passing.{has_left}
 use Rattle.rv_explain.proofs.Works.{branches_left, mispredicted_left, squashed_left}

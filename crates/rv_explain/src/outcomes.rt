@@ -1,0 +1,69 @@
+ghost use Rattle.std.specs.Prelude.{◌≡◌, ◌+◌, ◌<◌, ◌^◌};
+ghost use Rattle.rv_counts.specs.Counts.{one_more};
+ghost use Rattle.rv_counts.specs.Load.{is_hit, is_miss};
+ghost use Rattle.rv_explain.specs.Load.{retired_load_cost};
+ghost use Rattle.rv_explain.specs.Outcome.{CanCount, is_write_back, nothing_came, outcomes_with};
+
+use crate::loads::{is_quick, retired_load_cost};
+use rv_counts::LoadCosts;
+use rv_passage::Passage;
+
+/// The loads in a word that retired, by what they cost.
+#[derive(Clone, Copy, Debug, PartialEq, Eq)]
+pub(crate) struct Outcomes {
+    /// At the cost of a hit or of forwarding.
+    pub(crate) hits: u64,
+    /// All others.
+    pub(crate) misses: u64,
+    /// Those of the misses that cost more than a miss alone.
+    pub(crate) write_backs: u64,
+}
+
+// One more, where something is so.
+fn one_more(is: bool, count: u64) -> u64
+    requires { count + 1 < 2 ^ 64 }
+    ensures { result ≡ one_more is count }
+{
+    if is { count + 1 } else { count }
+}
+
+// Whether a load retired at any other cost than that of a hit or of forwarding.
+fn is_miss(costs: &LoadCosts, passage: &Passage) -> bool
+    ensures { result ≡ is_miss costs.now (retired_load_cost passage.now) }
+{
+    match retired_load_cost(passage) {
+        Some(cost) => !costs.is_quick(cost),
+        None => false,
+    }
+}
+
+// Whether a load retired at a greater cost than that of a miss alone.
+fn is_write_back(costs: &LoadCosts, passage: &Passage) -> bool
+    ensures { result ≡ is_write_back costs.now (retired_load_cost passage.now) }
+{
+    match retired_load_cost(passage) {
+        Some(cost) => costs.is_slow(cost),
+        None => false,
+    }
+}
+
+impl Outcomes {
+    /// Of no instruction.
+    pub(crate) const NONE: Outcomes = Outcomes {
+        hits: 0,
+        misses: 0,
+        write_backs: 0,
+    };
+
+    /// With one more instruction.
+    pub(crate) fn with(&self, costs: &LoadCosts, passage: &Passage) -> Outcomes
+        requires room { CanCount self.now }
+        ensures { result ≡ outcomes_with costs.now passage.now self.now }
+    {
+        Outcomes {
+            hits: one_more(is_quick(costs, passage), self.hits),
+            misses: one_more(is_miss(costs, passage), self.misses),
+            write_backs: one_more(is_write_back(costs, passage), self.write_backs),
+        }
+    }
+}
