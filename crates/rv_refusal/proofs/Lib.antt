@@ -1,3 +1,5 @@
 pub mod Blanks
 pub mod Distance
+pub mod Faulty
 pub mod Named
+pub mod Passed

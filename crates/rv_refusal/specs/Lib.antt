@@ -1,6 +1,7 @@
 pub mod Caret
 pub mod Culprit
 pub mod Expected
+pub mod Further
 pub mod Lines
 pub mod Names
 pub mod Near

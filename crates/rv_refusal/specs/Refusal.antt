@@ -6,6 +6,7 @@ use Rattle.rv_job.specs.declared.errors.SimError.{SimError}
 use Rattle.rv_job.specs.declared.errors.SimError.TheVariants.{TooLong, Assembly}
 use Rattle.rv_refusal.specs.Caret.{caret_line}
 use Rattle.rv_refusal.specs.Expected.{expected}
+use Rattle.rv_refusal.specs.Further.{further_lines}
 use Rattle.rv_refusal.specs.Lines.{line_at, lines_before}
 use Rattle.rv_refusal.specs.Near.{nearest_line}
 use Rattle.rv_refusal.specs.Place.{place_line, shown_line}
@@ -15,11 +16,11 @@ unfoldable pub line_text : ℕ → ℕ → AsmFault → List ℕ → List ℕ
 line_text before number fault line =
     place_line before number fault ++ (shown_line line ++ (caret_line fault line ++ expected fault line))
 
--- the fault of an assembly that so many lines of the job stand before, and the known names that are near
+-- the fault of an assembly that so many lines of the job stand before, the known names that are near, and the lines after it at fault
 unfoldable pub assembly_text : ℕ → List ℕ → AsmError → List ℕ
 assembly_text before assembly error =
     let line = line_at error.line assembly in
-    line_text before error.line error.fault line ++ nearest_line error.fault line assembly
+    line_text before error.line error.fault line ++ (nearest_line error.fault line assembly ++ further_lines before error.line assembly)
 
 -- why a job is refused
 unfoldable pub refusal_text : List ℕ → SimError → List ℕ

@@ -3,6 +3,7 @@ ghost use Rattle.rv_refusal.specs.Refusal.{assembly_text, line_text};
 
 use crate::caret::add_caret_line;
 use crate::expected::add_expected;
+use crate::further::add_further;
 use crate::lines::line_at;
 use crate::place::{add_line, add_place};
 use crate::unknown::add_nearest_line;
@@ -27,7 +28,8 @@ fn add_line_text(
     add_expected(alloc, out, fault, line)
 }
 
-/// Appends the fault of an assembly that so many lines of the job stand before, and the known names that are near.
+/// Appends the fault of an assembly that so many lines of the job stand before, the known names that are near, and the lines after it
+/// at fault.
 #[tactic(auto, unfolding(crate::specs::Refusal::assembly_text))]
 pub(crate) fn add_assembly(
     alloc: Global,
@@ -40,5 +42,6 @@ pub(crate) fn add_assembly(
 {
     let line = line_at(error.line, assembly);
     add_line_text(alloc, out, before, error.line, error.fault, line)?;
-    add_nearest_line(alloc, out, error.fault, line, assembly)
+    add_nearest_line(alloc, out, error.fault, line, assembly)?;
+    add_further(alloc, out, before, error.line, assembly)
 }

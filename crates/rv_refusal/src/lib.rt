@@ -6,6 +6,7 @@ mod assembly;
 mod caret;
 mod culprit;
 mod expected;
+mod further;
 mod lines;
 mod names;
 mod near;

@@ -12,7 +12,7 @@ struct Refused {
     why: &'static [u8],
 }
 
-const REFUSED: [Refused; 13] = [
+const REFUSED: [Refused; 15] = [
     Refused {
         job: b"rob = 8\n%%\nnop\n\tslli x1, x1, 32 # \xc3\xa4\n",
         why: b"\
@@ -132,6 +132,48 @@ line 1 of the job, line 1 of its assembly: OutOfRange
     .byte 1, 256, 2
              ^
 expected: values from -128 to 255
+",
+    },
+    Refused {
+        job: b"rob = 8\n%%\nnop\nfrob x1\nnop\nadd x1\nl: mv x1, y\n5k\n",
+        why: b"\
+line 4 of the job, line 2 of its assembly: UnknownMnemonic
+    frob x1
+    ^
+expected: a statement that begins with an instruction or a directive
+line 6 of the job, line 4 of its assembly: BadOperands
+line 7 of the job, line 5 of its assembly: BadRegister
+line 8 of the job, line 6 of its assembly: BadToken
+",
+    },
+    Refused {
+        job: b"x\nx\nx\nx\nx\nx\nx\nx\nx\nx\nx\nx\nx\nx\nx\nx\nx\nx\nx\nx\nx\nx\n",
+        why: b"\
+line 1 of the job, line 1 of its assembly: UnknownMnemonic
+    x
+    ^
+expected: a statement that begins with an instruction or a directive
+line 2 of the job, line 2 of its assembly: UnknownMnemonic
+line 3 of the job, line 3 of its assembly: UnknownMnemonic
+line 4 of the job, line 4 of its assembly: UnknownMnemonic
+line 5 of the job, line 5 of its assembly: UnknownMnemonic
+line 6 of the job, line 6 of its assembly: UnknownMnemonic
+line 7 of the job, line 7 of its assembly: UnknownMnemonic
+line 8 of the job, line 8 of its assembly: UnknownMnemonic
+line 9 of the job, line 9 of its assembly: UnknownMnemonic
+line 10 of the job, line 10 of its assembly: UnknownMnemonic
+line 11 of the job, line 11 of its assembly: UnknownMnemonic
+line 12 of the job, line 12 of its assembly: UnknownMnemonic
+line 13 of the job, line 13 of its assembly: UnknownMnemonic
+line 14 of the job, line 14 of its assembly: UnknownMnemonic
+line 15 of the job, line 15 of its assembly: UnknownMnemonic
+line 16 of the job, line 16 of its assembly: UnknownMnemonic
+line 17 of the job, line 17 of its assembly: UnknownMnemonic
+line 18 of the job, line 18 of its assembly: UnknownMnemonic
+line 19 of the job, line 19 of its assembly: UnknownMnemonic
+line 20 of the job, line 20 of its assembly: UnknownMnemonic
+line 21 of the job, line 21 of its assembly: UnknownMnemonic
+and 1 more
 ",
     },
 ];
