@@ -132,36 +132,45 @@ const STALLS: [Option<Stall>; 10] = [
     None,
 ];
 
-#[test]
-fn the_oldest_fetched_word_waits_for_room_and_the_others_for_it(
-    rt: HostRuntime,
-) -> Result<(), Fail> {
-    let older = Passage {
+// What the tips of a word say that is fetched in cycle 10 and dispatched in cycle 16, while it is the oldest.
+const ROOMS: [(&str, u32); 7] = [
+    ("fetch", 10),
+    ("wait for room in the reorder buffer", 11),
+    ("wait for a station of its kind", 12),
+    ("wait for room in the store queue", 13),
+    ("wait for a serialising instruction", 14),
+    ("wait for room or its turn to dispatch", 15),
+    ("dispatch", 16),
+];
+
+// What those of a younger one say besides.
+const TURNS: [(&str, u32); 5] = [
+    ("wait for older ones to dispatch", 12),
+    ("wait for older ones to dispatch", 15),
+    ("wait for room or its turn to dispatch", 16),
+    ("wait for a station of its kind", 17),
+    ("wait for room or its turn to dispatch", 18),
+];
+
+fn oldest() -> Passage {
+    Passage {
         dispatched: Some(16),
         ..dispatched(ADDITION)
-    };
-    let svg = drawn(&rt, rt.alloc(), &[older], &STALLS);
-    let tips = [
-        ("fetch", 10),
-        ("wait for room in the reorder buffer", 11),
-        ("wait for a station of its kind", 12),
-        ("wait for room in the store queue", 13),
-        ("wait for a serialising instruction", 14),
-        ("wait for room or its turn to dispatch", 15),
-        ("dispatch", 16),
-    ];
-    check_tips(&rt, rt.alloc(), svg.as_str(), &tips)?;
-    let younger = fetched(8, 0x8000_0014, Some(ADDITION), 11);
-    let svg = drawn(&rt, rt.alloc(), &[older, younger], &STALLS);
-    check_tips(&rt, rt.alloc(), svg.as_str(), &tips)?;
-    let tips = [
-        ("wait for older ones to dispatch", 12),
-        ("wait for older ones to dispatch", 15),
-        ("wait for room or its turn to dispatch", 16),
-        ("wait for a station of its kind", 17),
-        ("wait for room or its turn to dispatch", 18),
-    ];
-    check_tips(&rt, rt.alloc(), svg.as_str(), &tips)
+    }
+}
+
+#[test]
+fn the_oldest_fetched_word_waits_for_room(rt: HostRuntime) -> Result<(), Fail> {
+    let svg = drawn(&rt, rt.alloc(), &[oldest()], &STALLS);
+    check_tips(&rt, rt.alloc(), svg.as_str(), &ROOMS)
+}
+
+#[test]
+fn the_others_wait_for_the_oldest_fetched_word(rt: HostRuntime) -> Result<(), Fail> {
+    let rows = [oldest(), fetched(8, 0x8000_0014, Some(ADDITION), 11)];
+    let svg = drawn(&rt, rt.alloc(), &rows, &STALLS);
+    check_tips(&rt, rt.alloc(), svg.as_str(), &ROOMS)?;
+    check_tips(&rt, rt.alloc(), svg.as_str(), &TURNS)
 }
 
 fn producer(register: u8, pc: u32, broadcast: u64) -> Option<Producer> {
