@@ -1,19 +1,7 @@
 -- A byte after stores is the youngest covering store's, else the one below.
-use Rattle.std.proofs.Common.{◌≡◌, ℕ, ◌+◌, ◌-◌, ◌<◌, ◌≤◌, List, [], ◌∷◌, length, get_or, slice_get, Option, Some, None, inl, inr, refl, sym, ap, ◌∙◌, arith}
-use Rattle.std.specs.Option.{option_or, unwrap_or}
-use Rattle.std.proofs.lemmas.Bool.{cases_lt, cond-true, cond-false, le-leb, lt-leb}
-use Rattle.std.proofs.lemmas.Option.{slice_get-get_or, slice_get_past}
-use Rattle.std.proofs.lemmas.List.Elements.{All-head, All-tail}
-use Rattle.rv_isa.specs.declared.broadcast.StoreAccess.{StoreAccess}
-use Rattle.rv_memory.specs.Bytes.{overwritten}
-use Rattle.rv_cache.proofs.Written.{length-overwritten, get_or-overwritten_in, get_or-overwritten_below, get_or-overwritten_above}
-use Rattle.rv_stores.specs.declared.store.Store.{Store}
-use Rattle.rv_stores.specs.declared.store.StoreState.{StoreState}
-use Rattle.rv_stores.specs.declared.store.StoreState.TheVariants.{Waiting, Faulted, Filled}
-use Rattle.rv_stores.specs.Store.{byte_of_state, written_at}
-use Rattle.rv_stores.specs.Queue.{youngest_byte}
-use Rattle.rv_hardware.specs.InFlight.{with_store, memory_behind}
-use Rattle.rv_core.specs.Access.{LieIn, LiesIn}
+use Rattle.rv_core.proofs.Words.{◌≡◌, ℕ, ◌+◌, ◌-◌, ◌<◌, ◌≤◌, List, [], ◌∷◌, length, slice_get, slice_index_or as get_or, Some, None, Option, unwrap_or, sym, refl, ap, ◌∙◌, inl, inr, arith, le-leb, cases_lt, cond-false, cond-true, lt-leb, All-head, All-tail, option_or, StoreAccess, overwritten, get_or-overwritten_above, get_or-overwritten_below, get_or-overwritten_in, length-overwritten, youngest_byte, byte_of_state, written_at, Store, StoreState, Faulted, Filled, memory_behind, slice_get-get_or, slice_get_past, LieIn, LiesIn}
+use Rattle.rv_stores.specs.declared.store.StoreState.TheVariants.{Waiting}
+use Rattle.rv_hardware.specs.InFlight.{with_store}
 
 unwrap_or-option_or : (a b : Option ℕ) (d : ℕ) → unwrap_or (option_or a b) d ≡ unwrap_or a (unwrap_or b d)
 unwrap_or-option_or None b d = refl

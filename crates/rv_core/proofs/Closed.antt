@@ -1,12 +1,5 @@
 -- Parts that are tied to a hardware stand for it.
-use Rattle.std.proofs.Common.{◌≡◌, filter, subst, sym, ap, ◌∙◌}
-use Rattle.rv_stores.specs.Queue.{Queue}
-use Rattle.rv_stores.specs.Store.{is_committed}
-use Rattle.rv_hardware.specs.Hardware.{Hardware}
-use Rattle.rv_core.specs.Parts.{IsSound, hardware_of}
-use Rattle.rv_core.specs.Soundness.{IsSoundHardware}
-use Rattle.rv_core.specs.Ties.{AreTied}
-use Rattle.rv_core.specs.declared.parts.Parts.TheInside.{Inside}
+use Rattle.rv_core.proofs.Words.{◌≡◌, filter, sym, ap, ◌∙◌, subst, is_committed, Hardware, Queue, IsSound, hardware_of, IsSoundHardware, AreTied, Inside}
 use Rattle.rv_core.proofs.TiedQueue.{retired_of_queue}
 
 module _ (p : Inside) (h : Hardware) (same : record (hardware_of p) { committed = h.committed } ≡ h) (tied : AreTied h p.rename p.stations p.bus p.stores) (sound : IsSoundHardware h) where

@@ -1,15 +1,7 @@
 -- The loop of the commit phase.
-use Rattle.std.proofs.Common.{◌≡◌, ℕ, ◌+◌, ◌<◌, ◌≤◌, List, [], ◌∷◌, ◌++◌, append-nil, length, length-append, Option, None, Some, refl, ap, sym, ◌∙◌, arith}
+use Rattle.rv_core.proofs.Words.{◌≡◌, ℕ, ◌+◌, ◌<◌, ◌≤◌, List, [], ◌∷◌, ◌++◌, length, Some, None, Option, sym, refl, ap, ◌∙◌, append_assoc, append-nil, arith, length-append, due, Committing, commit, commit_turn, commit_unless, Hardware, Ends, repeated, Step, IsKept, committing, turn_left, HeadTurn}
 use Rattle.std.specs.FinSet as set
-use Rattle.std.proofs.lemmas.List.{append_assoc}
-use Rattle.rv_arch.specs.Due.{due}
-use Rattle.rv_hardware.specs.Commit.{Committing, commit, commit_turn, commit_unless}
-use Rattle.rv_hardware.specs.Hardware.{Hardware}
-use Rattle.rv_hardware.specs.Repeated.{Ends, repeated}
-use Rattle.rv_hardware.specs.declared.step.Step.{Step}
 use Rattle.rv_core.proofs.Turned.{turned-ends, turned-goes}
-use Rattle.rv_core.specs.HeadTurn.{committing, turn_left, IsKept}
-use Rattle.rv_core.specs.declared.head.HeadTurn.{HeadTurn}
 use Rattle.rv_core.specs.declared.head.HeadTurn.TheVariants.{GoesOn}
 
 -- after some turns, with others left to come: these lead to what all of them lead to

@@ -1,19 +1,6 @@
 -- The phases one after another are a cycle of the hardware.
-use Rattle.std.proofs.Common.{◌≡◌, ℕ, ◌+◌, ◌≤◌, Option, refl, ap, subst, ◌∙◌}
+use Rattle.rv_core.proofs.Words.{◌≡◌, ℕ, ◌+◌, ◌≤◌, Option, refl, ap, ◌∙◌, subst, Lines, Stop, Answers, FetchesInto, FetchStop, broadcast, Committing, IsCycle, commit_with, execute, with_lines, Dispatching, stall_of, drain, Hardware, issue, Stall, report_with}
 use Rattle.std.specs.FinSet as set
-use Rattle.rv_isa.specs.declared.lines.Lines.{Lines}
-use Rattle.rv_arch.specs.declared.outcome.Stop.{Stop}
-use Rattle.rv_front.specs.FetchBuffer.{Answers, FetchesInto}
-use Rattle.rv_front.specs.declared.fetched.FetchStop.{FetchStop}
-use Rattle.rv_hardware.specs.Broadcast.{broadcast}
-use Rattle.rv_hardware.specs.Commit.{Committing}
-use Rattle.rv_hardware.specs.Cycle.{IsCycle, commit_with, execute, with_lines}
-use Rattle.rv_hardware.specs.Dispatch.{Dispatching, stall_of}
-use Rattle.rv_hardware.specs.Drain.{drain}
-use Rattle.rv_hardware.specs.Hardware.{Hardware}
-use Rattle.rv_hardware.specs.Issue.{issue}
-use Rattle.rv_hardware.specs.declared.report.Stall.{Stall}
-use Rattle.rv_core.specs.Told.{report_with}
 use Rattle.rv_core.proofs.CyclesKept.{Commits, broadcast-now, commit-now, dispatch-now, drain-now, issue-now}
 
 module _ (lines : Lines) (old committed : Hardware) (width : 1 ≤ old.values.commit_width) (commits : committed ≡ (commit_with set.contains lines old).hardware) where

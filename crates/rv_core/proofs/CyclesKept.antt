@@ -1,41 +1,9 @@
 -- What the phases of a cycle leave alone: its number; and how many steps a commit takes.
-use Rattle.std.proofs.Common.{◌≡◌, ℕ, zero, suc, ◌+◌, ◌≤◌, ◌&&◌, ◌==◌, Bool, true, false, cond, List, [], ◌∷◌, ◌++◌, length, nat_le, Option, Some, None, refl, ap, ◌∙◌, length-append, arith}
-use Rattle.std.specs.Option.{unwrap_or}
-use Rattle.std.specs.Ordering.{nat_cmp}
+use Rattle.rv_core.proofs.Words.{◌≡◌, ℕ, zero, suc, ◌+◌, ◌≤◌, Bool, true, false, cond, ◌&&◌, List, [], ◌∷◌, ◌++◌, length, nat_le, ◌==◌, Some, None, Option, nat_cmp, unwrap_or, refl, ap, ◌∙◌, arith, length-append, at_kind, Message, StoreAccess, Cause, Fault, Instr, Csr, FenceI, Mret, Kind, word_of, due, Effect, Faults, Retires, effect, oldest_to_drain, is_free, Entry, Fetched, broadcast, broadcast_oldest, broadcast_result, broadcast_turn, has_result, is_mispredicted, mends_early, result_at, with_broadcast, with_recovery, Committing, commit, commit_turn, commit_turn_of, commit_unless, execute_head, fence_instructions, finish_broadcast, finish_head, head_turn, is_drained, retire, stop_of, take_effect, with_write_back, write_back_time, Dispatching, dispatch, dispatch_turn, dispatch_turn_of, dispatch_unless, reason_of, drain, end_drain, start_drain, Hardware, broadcast_of, FromCache, FromStores, Path, Without, is_ready_entry, issue, issue_kind, issue_oldest, issue_turn, oldest, path, with_access, Ends, GoesOn, Turn, followed_by, repeated, row_of, with_result, written_of, layout_of, seen, flushed, is_breakpoint_cause, Stall, Step, IsCommitStop}
 use Rattle.std.specs.FinSet as set
-use Rattle.rv_isa.specs.PerKind.{at_kind}
-use Rattle.rv_isa.specs.declared.broadcast.Message.{Message}
-use Rattle.rv_isa.specs.declared.broadcast.StoreAccess.{StoreAccess}
-use Rattle.rv_isa.specs.declared.causes.Cause.{Cause}
-use Rattle.rv_isa.specs.declared.causes.Fault.{Fault}
-use Rattle.rv_isa.specs.declared.instructions.Instr.{Instr}
-use Rattle.rv_isa.specs.declared.instructions.Instr.TheVariants.{FenceI, Csr, Mret}
-use Rattle.rv_isa.specs.declared.operations.Kind.{Kind}
 use Rattle.rv_isa.specs.declared.operations.Kind.TheVariants as kind
-use Rattle.rv_arch.specs.Due.{due}
-use Rattle.rv_arch.specs.Effect.{Effect, Retires, Faults, effect}
 use Rattle.rv_arch.specs.declared.outcome.Stop.TheVariants as stop
-use Rattle.rv_front.specs.declared.fetched.Fetched.{Fetched}
-use Rattle.rv_memory.specs.Memory.{word_of}
-use Rattle.rv_rob.specs.declared.entry.Entry.{Entry}
-use Rattle.rv_stores.specs.Queue.{oldest_to_drain}
-use Rattle.rv_units.specs.Pool.{is_free}
-use Rattle.rv_hardware.specs.Broadcast.{broadcast, broadcast_oldest, broadcast_result, broadcast_turn, has_result, is_mispredicted, mends_early, result_at, with_broadcast, with_recovery}
-use Rattle.rv_hardware.specs.Commit.{Committing, commit, commit_turn, commit_turn_of, commit_unless, execute_head, fence_instructions, finish_broadcast, finish_head, head_turn, is_drained, retire, take_effect, with_write_back, stop_of, write_back_time}
-use Rattle.rv_hardware.specs.Dispatch.{Dispatching, dispatch, dispatch_turn, dispatch_turn_of, dispatch_unless, reason_of}
-use Rattle.rv_hardware.specs.Drain.{drain, end_drain, start_drain}
-use Rattle.rv_hardware.specs.Hardware.{Hardware}
-use Rattle.rv_hardware.specs.InFlight.{broadcast_of}
-use Rattle.rv_hardware.specs.Issue.{Path, Without, FromStores, FromCache, issue, issue_kind, issue_oldest, issue_turn, is_ready, oldest, path, with_access}
-use Rattle.rv_hardware.specs.Repeated.{Turn, GoesOn, Ends, followed_by, repeated}
-use Rattle.rv_hardware.specs.Retirement.{row_of, with_result, written_of}
-use Rattle.rv_hardware.specs.Seen.{layout_of, seen}
-use Rattle.rv_hardware.specs.Squash.{flushed}
-use Rattle.rv_hardware.specs.Step.{is_breakpoint_cause}
-use Rattle.rv_hardware.specs.declared.report.Stall.{Stall}
-use Rattle.rv_hardware.specs.declared.step.Step.{Step}
 use Rattle.rv_hardware.specs.declared.step.Step.TheVariants as step
-use Rattle.rv_core.specs.Told.{IsCommitStop}
 
 -- what holds of the state that a turn leaves
 abbrev Leaves : {S : Type 0} → (S → Type 0) → Turn S → Type 0
@@ -79,8 +47,8 @@ module _ (now : ℕ) where
 
   issue_turn-now : (k : Kind) (h : Hardware) → IsNow h → Leaves IsNow (issue_turn k h)
   issue_turn-now k h is =
-      elim (is_free h.cycle (at_kind k h.units)) as (λ b. Leaves IsNow (cond b (issue_oldest k h (oldest (is_ready h k) h.rob.entries)) (Ends h))) [
-        | true ↦ issued-now k h (oldest (is_ready h k) h.rob.entries) is
+      elim (is_free h.cycle (at_kind k h.units)) as (λ b. Leaves IsNow (cond b (issue_oldest k h (oldest (is_ready_entry h k) h.rob.entries)) (Ends h))) [
+        | true ↦ issued-now k h (oldest (is_ready_entry h k) h.rob.entries) is
         | false ↦ is
       ]
 

@@ -1,22 +1,7 @@
 -- The drain phase on the queue: what is in flight stays after the retired stores.
-use Rattle.std.proofs.Common.{◌≡◌, ℕ, ◌+◌, ◌<◌, Bool, true, false, if◌then◌else◌, List, [], ◌∷◌, ◌++◌, Option, None, Some, refl, subst}
-use Rattle.std.specs.List.{All}
-use Rattle.std.proofs.lemmas.List.Elements.{All-head, All-tail, All-cons}
-use Rattle.rv_isa.specs.Numbered.{AreBelow}
-use Rattle.rv_isa.specs.declared.broadcast.Message.{Message}
-use Rattle.rv_isa.specs.declared.broadcast.StoreAccess.{StoreAccess}
-use Rattle.rv_isa.specs.declared.values.Values.{Values}
-use Rattle.rv_rob.specs.declared.entry.Entry.{Entry}
-use Rattle.rv_stores.specs.Queue.{is_oldest_draining, oldest_to_drain, with_oldest_draining, without_drained}
-use Rattle.rv_stores.specs.Store.{access_to_drain, draining, is_draining}
-use Rattle.rv_stores.specs.declared.store.Store.{Store as QueuedStore}
-use Rattle.rv_stores.specs.declared.store.StorePhase.TheVariants.{Speculative, Committed, Draining}
-use Rattle.rv_stores.specs.declared.store.StoreState.{StoreState}
+use Rattle.rv_core.proofs.Words.{◌≡◌, ℕ, ◌+◌, ◌<◌, Bool, true, false, List, [], ◌∷◌, ◌++◌, if◌then◌else◌, Some, None, All, Option, refl, subst, All-cons, All-head, All-tail, is_store, Message, StoreAccess, Values, oldest_to_drain, with_oldest_draining, without_drained, access_to_drain, draining, is_draining, Store as QueuedStore, Committed, Draining, Speculative, StoreState, Entry, broadcast_of, store_of_broadcast, store_of_message, stores_of, AreBelow, is_oldest_draining, IsLegalAccess, IsRetiredStore}
 use Rattle.rv_stores.specs.declared.store.StoreState.TheVariants as store
-use Rattle.rv_hardware.specs.InFlight.{broadcast_of, store_of_broadcast, store_of_message, stores_of}
-use Rattle.rv_isa.specs.Instruction.{is_store}
 use Rattle.rv_core.proofs.RetiredStores.{AreRetired}
-use Rattle.rv_core.specs.Soundness.{IsLegalAccess, IsRetiredStore}
 
 -- a store in flight does not drain, and has nothing to drain
 

@@ -1,20 +1,5 @@
 -- The parts once an instruction was dispatched into them.
-use Rattle.std.proofs.Common.{◌≡◌, ◌&&◌, ◌<◌, List, [], ◌∷◌, drop, All, Some, None, refl}
-use Rattle.std.specs.List.{slice_get}
-use Rattle.std.specs.Option.{IfSome}
-use Rattle.std.proofs.lemmas.List.Elements.{All-drop, All-head}
-use Rattle.rv_front.specs.FetchBuffer.{FetchBuffer}
-use Rattle.rv_front.specs.declared.fetched.Fetched.{Fetched}
-use Rattle.rv_rob.specs.ReorderBuffer.{next_number, pushed}
-use Rattle.rv_hardware.specs.Broadcast.{mends_early}
-use Rattle.rv_hardware.specs.Dispatch.{entry_of_fetched, reason_of}
-use Rattle.rv_hardware.specs.Hardware.{Hardware}
-use Rattle.rv_isa.specs.Instruction.{is_branch_or_jump, is_store, target_of_word}
-use Rattle.rv_core.specs.Entering.{with_instruction, with_jump, with_store, with_target}
-use Rattle.rv_core.specs.Parts.{IsSound, hardware_of}
-use Rattle.rv_core.specs.Soundness.{IsDecoded}
-use Rattle.rv_core.specs.Ties.{status_behind, values_in}
-use Rattle.rv_core.specs.declared.parts.Parts.TheInside.{Inside}
+use Rattle.rv_core.proofs.Words.{◌≡◌, ◌<◌, ◌&&◌, List, [], ◌∷◌, drop, IfSome, slice_get, Some, None, All, refl, All-head, is_branch_or_jump, is_store, target_of_word, pushed, FetchBuffer, Fetched, mends_early, entry_of_fetched, reason_of, Hardware, All-drop, next_number, with_instruction, with_jump, with_store, with_target, IsSound, hardware_of, IsDecoded, status_behind, values_in, Inside}
 use Rattle.rv_core.proofs.Closed.{closed-is, closed-sound}
 use Rattle.rv_core.proofs.Fetched.{sound_with_front}
 use Rattle.rv_core.proofs.TiedDispatch.{sound-dispatched, tied-dispatched}

@@ -1,18 +1,5 @@
 -- FENCE.I at the head: it waits for the retired stores and the port, then for the write-back, and retires.
-use Rattle.std.proofs.Common.{◌≡◌, ℕ, Bool, true, false, ◌==◌, nat_le, if◌then◌else◌, List, [], ◌∷◌, ◌++◌, append-nil, Some, refl, ap, sym, ◌∙◌, arith, subst}
-use Rattle.std.specs.List.{AllPairs}
-use Rattle.std.proofs.lemmas.Bool.{true≢false}
-use Rattle.rv_isa.specs.declared.instructions.Instr.TheVariants.{FenceI}
-use Rattle.rv_rob.specs.declared.entry.Entry.{Entry}
-use Rattle.rv_stores.specs.declared.store.Store.{Store as QueuedStore}
-use Rattle.rv_hardware.specs.Commit.{execute_head, fence_instructions, is_drained, with_write_back, write_back_time}
-use Rattle.rv_hardware.specs.Hardware.{Hardware}
-use Rattle.rv_hardware.specs.InFlight.{broadcast_of, store_of_broadcast, stores_of}
-use Rattle.rv_isa.specs.Instruction.{is_serialising, is_store}
-use Rattle.rv_hardware.specs.declared.step.Step.{Step}
-use Rattle.rv_core.specs.HeadTurn.{committing}
-use Rattle.rv_core.specs.Soundness.{IsSoundHardware}
-use Rattle.rv_core.specs.Ties.{queue_of}
+use Rattle.rv_core.proofs.Words.{◌≡◌, ℕ, Bool, true, false, List, [], ◌∷◌, ◌++◌, if◌then◌else◌, nat_le, ◌==◌, Some, AllPairs, sym, refl, ap, ◌∙◌, subst, true≢false, append-nil, arith, is_serialising, is_store, FenceI, Store as QueuedStore, Entry, execute_head, fence_instructions, is_drained, with_write_back, write_back_time, Hardware, broadcast_of, store_of_broadcast, stores_of, Step, committing, IsSoundHardware, queue_of}
 
 -- nothing stands after a serialising head
 alone : (e : Entry) (es : List Entry) → AllPairs (λ (older younger : Entry). is_serialising older.instruction ≡ false) (e ∷ es) →

@@ -1,15 +1,5 @@
 -- The fetch phase keeps what holds of the hardware.
-use Rattle.std.proofs.Common.{◌≡◌, ℕ, zero, suc, Bool, true, false, List, [], ◌∷◌, ◌++◌, length, ◌-◌, Option, None, Some, MatchBool, MatchOption, sym, subst}
-use Rattle.std.specs.List.{All}
-use Rattle.std.proofs.lemmas.List.Elements.{All-append, All-cons, All-nil}
-use Rattle.rv_memory.specs.Memory.{Memory}
-use Rattle.rv_front.specs.FetchBuffer.{Answers, FetchBuffer, Fetches, FetchesInto, is_halted, stop_behind}
-use Rattle.rv_front.specs.declared.fetched.FetchStop.{FetchStop}
-use Rattle.rv_front.specs.declared.fetched.FetchStop.TheVariants.{Halted}
-use Rattle.rv_front.specs.declared.fetched.Fetched.{Fetched}
-use Rattle.rv_core.specs.Parts.{IsSound, hardware_of}
-use Rattle.rv_core.specs.Soundness.{IsDecoded}
-use Rattle.rv_core.specs.declared.parts.Parts.TheInside.{Inside}
+use Rattle.rv_core.proofs.Words.{◌≡◌, ℕ, zero, suc, ◌-◌, Bool, true, false, List, [], ◌∷◌, ◌++◌, length, Some, None, MatchBool, All, Option, MatchOption, sym, subst, All-append, All-cons, All-nil, Memory, Answers, FetchBuffer, Fetches, FetchesInto, is_halted, stop_behind, FetchStop, Halted, Fetched, IsSound, hardware_of, IsDecoded, Inside}
 use Rattle.rv_core.proofs.SoundInFlight.{sound_in_flight}
 
 -- no more words, or as many as follow

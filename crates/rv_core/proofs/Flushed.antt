@@ -1,27 +1,9 @@
 -- Everything in flight is squashed: what is left is empty, but for the retired stores.
-use Rattle.std.proofs.Common.{◌≡◌, ℕ, List, [], ◌∷◌, append-nil, filter, refl, ap, sym, ◌∙◌, arith, le-ltb}
-use Rattle.rv_isa.proofs.WithKind.{by_kind-same}
-use Rattle.rv_isa.specs.PerKind.{for_each, at_kind}
-use Rattle.rv_isa.specs.Numbered.{below}
-use Rattle.rv_isa.proofs.Numbered.{below-goes}
-use Rattle.rv_isa.specs.declared.per_kind.PerKind.{PerKind}
-use Rattle.rv_isa.specs.declared.values.Values.{Values}
-use Rattle.rv_rename.specs.Renaming.{Renaming, cleared}
-use Rattle.rv_rob.specs.declared.entry.Entry.{Entry}
-use Rattle.rv_rob.specs.ReorderBuffer.{ReorderBuffer, cut_from, entries_below}
-use Rattle.rv_stations.specs.Pool.{Pool, squashed as squashed_pool}
-use Rattle.rv_stores.specs.Queue.{Queue}
-use Rattle.rv_stores.specs.Store.{is_committed}
-use Rattle.rv_units.specs.Bus.{Pending, squashed as squashed_bus}
-use Rattle.rv_hardware.specs.Broadcast.{mends_early}
-use Rattle.rv_hardware.specs.Hardware.{Hardware}
-use Rattle.rv_hardware.specs.Squash.{flushed, redirected}
+use Rattle.rv_core.proofs.Words.{◌≡◌, ℕ, List, [], ◌∷◌, filter, sym, refl, ap, ◌∙◌, append-nil, arith, le-ltb, at_kind, for_each, PerKind, Values, is_committed, ReorderBuffer, entries_below, Entry, mends_early, Hardware, flushed, redirected, below, below-goes, by_kind-same, Queue, Pool, squashed_pool, Pending, squashed_bus, Renaming, cleared, cut_from, IsSoundHardware, AreTied, bus_of, pool_of_kind, stations_of}
 use Rattle.rv_core.proofs.RetiredStores.{AreRetired}
 use Rattle.rv_core.proofs.SoundInFlight.{sound_in_flight}
 use Rattle.rv_core.proofs.TiedQueue.{retired_of_queue}
 use Rattle.rv_core.proofs.TiedRenaming.{no_checkpoints}
-use Rattle.rv_core.specs.Soundness.{IsSoundHardware}
-use Rattle.rv_core.specs.Ties.{AreTied, bus_of, pool_of_kind, stations_of}
 
 -- no number is below 0
 pub none_below_0 : {X : Type 0} (seq : X → ℕ) (xs : List X) → below seq 0 xs ≡ []

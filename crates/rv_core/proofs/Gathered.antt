@@ -1,11 +1,5 @@
 -- What instructions in flight give, one after another: `own` is what one gives in a state, and `next` the state after it.
-use Rattle.std.proofs.Common.{◌≡◌, ℕ, ◌+◌, ◌≤◌, ◌==◌, true, false, cond, inl, inr, List, [], ◌∷◌, ◌++◌, length, All, refl, sym, ap, ◌∙◌, append-nil, append_assoc, length-append, lt-ltb, le-ltb, arith}
-use Rattle.std.proofs.lemmas.Bool.{cases_lt}
-use Rattle.std.proofs.lemmas.List.Elements.{All-append}
-use Rattle.rv_isa.specs.Numbered.{below, AreBelow}
-use Rattle.rv_isa.proofs.Numbered.{below-append, below-all, below-none, AreBelow-append}
-use Rattle.rv_rob.specs.declared.entry.Entry.{Entry}
-use Rattle.rv_rob.specs.ReorderBuffer.{entries_below, with_entry}
+use Rattle.rv_core.proofs.Words.{◌≡◌, ℕ, ◌+◌, ◌≤◌, true, false, cond, List, [], ◌∷◌, ◌++◌, length, ◌==◌, All, sym, refl, ap, ◌∙◌, inl, inr, append_assoc, append-nil, arith, length-append, le-ltb, lt-ltb, cases_lt, All-append, entries_below, with_entry, Entry, AreBelow, below, AreBelow-append, below-all, below-append, below-none}
 
 module _ {S : Type 0} (next : S → ℕ → Entry → S) where
   -- the state after some instructions, the first of which has a sequence number

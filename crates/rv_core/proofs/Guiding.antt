@@ -1,10 +1,5 @@
 -- A guided cycle or run of a value that stands for the same hardware.
-use Rattle.std.proofs.Common.{◌≡◌, Option, subst}
-use Rattle.rv_isa.specs.declared.lines.Lines.{Lines}
-use Rattle.rv_front.specs.declared.predictors.DescribedPredictor.{DescribedPredictor}
-use Rattle.rv_hardware.specs.Guided.{GuidedHardware, IsGuidedCycle, guided}
-use Rattle.rv_hardware.specs.Hardware.{Hardware}
-use Rattle.rv_hardware.specs.Report.{Report}
+use Rattle.rv_core.proofs.Words.{◌≡◌, Option, subst, Lines, Hardware, Report, DescribedPredictor, GuidedHardware, IsGuidedCycle, guided}
 
 -- a cycle from the same hardware
 pub cycle_from : {lines : Lines} {h h' : Hardware} {predictor : Option DescribedPredictor} {report : Report} {new : GuidedHardware} → h ≡ h' → IsGuidedCycle lines (guided h predictor) report new → IsGuidedCycle lines (guided h' predictor) report new

@@ -1,20 +1,7 @@
 -- The turn of a head, by its role.
-use Rattle.std.proofs.Common.{◌≡◌, false, List, [], ◌∷◌, slice_get, Option, Some, None, refl, sym, ap, ◌∙◌}
-use Rattle.std.specs.Ordering.{nat_cmp}
+use Rattle.rv_core.proofs.Words.{◌≡◌, false, List, [], ◌∷◌, slice_get, Some, None, Option, nat_cmp, sym, refl, ap, ◌∙◌, is_serialising, Instr, Csr, FenceI, Mret, word_of, Entry, Committing, commit_turn, commit_turn_of, execute_head, finish_broadcast, head_turn, Hardware, broadcast_of, Ends, Step, IsHead, committing, instruction_of_access, role_of, CsrAccess as Access, WaitsForResult}
 use Rattle.std.specs.FinSet as set
-use Rattle.rv_isa.specs.declared.instructions.Instr.{Instr}
-use Rattle.rv_isa.specs.declared.instructions.Instr.TheVariants.{FenceI, Csr, Mret}
-use Rattle.rv_memory.specs.Memory.{word_of}
-use Rattle.rv_rob.specs.declared.entry.Entry.{Entry}
-use Rattle.rv_hardware.specs.Commit.{Committing, commit_turn, commit_turn_of, execute_head, finish_broadcast, head_turn}
-use Rattle.rv_hardware.specs.Hardware.{Hardware}
-use Rattle.rv_hardware.specs.InFlight.{broadcast_of}
-use Rattle.rv_isa.specs.Instruction.{is_serialising}
-use Rattle.rv_hardware.specs.Repeated.{Ends}
-use Rattle.rv_hardware.specs.declared.step.Step.{Step}
-use Rattle.rv_core.specs.HeadTurn.{committing, instruction_of_access, IsHead, role_of}
-use Rattle.rv_core.specs.declared.head.CsrAccess.{CsrAccess as Access}
-use Rattle.rv_core.specs.declared.head.Role.TheVariants.{CsrAccess, WaitsForResult}
+use Rattle.rv_core.specs.declared.head.Role.TheVariants.{CsrAccess}
 
 first_of : (entries : List Entry) (e : Entry) → slice_get entries 0 ≡ Some e → (younger : List Entry) × (entries ≡ e ∷ younger)
 first_of [] e is = absurd (cc)

@@ -1,43 +1,6 @@
 -- What the execution of an instruction leaves is what the definition's start of it leaves.
-use Rattle.std.proofs.Common.{◌≡◌, ℕ, ◌+◌, ◌^◌, ◌≤◌, Bool, true, false, cond, List, [], ◌∷◌, length, map, All, Option, Some, None, is_some, option_and_then, refl, sym, ap, ◌∙◌, subst, arith}
-use Rattle.rv_isa.specs.Description.{IsLegalCost}
-use Rattle.rv_isa.specs.Operands.{kind_of, sources_of}
-use Rattle.rv_isa.specs.Operation.{bytes_of, width_of}
-use Rattle.rv_isa.specs.PerKind.{at_kind, with_kind}
-use Rattle.rv_isa.specs.Word.{modulo_word, sum}
-use Rattle.rv_isa.specs.declared.broadcast.Message.{Message}
-use Rattle.rv_isa.specs.declared.instructions.Instr.{Instr}
-use Rattle.rv_isa.specs.declared.instructions.Instr.TheVariants.{Load}
-use Rattle.rv_isa.specs.declared.issues.Issue.{Issue}
-use Rattle.rv_isa.specs.declared.lines.Lines.{Lines}
-use Rattle.rv_isa.specs.declared.operations.Kind.{Kind}
-use Rattle.rv_isa.specs.declared.per_kind.PerKind.{PerKind}
-use Rattle.rv_isa.specs.declared.values.CacheValues.{CacheValues}
-use Rattle.rv_decode.specs.Decodes.{instruction_of}
-use Rattle.rv_arch.specs.State.{State, register_of}
-use Rattle.rv_cache.specs.Cache.{Contents, access_cost, cost_of_access}
-use Rattle.rv_cache.specs.declared.line.CacheLine.{CacheLine}
-use Rattle.rv_memory.specs.Memory.{Memory}
-use Rattle.rv_rename.specs.Renaming.{Renaming}
-use Rattle.rv_rob.specs.Entry.{started}
-use Rattle.rv_rob.specs.ReorderBuffer.{changed}
-use Rattle.rv_rob.specs.declared.entry.Entry.{Entry}
-use Rattle.rv_stations.specs.Pool.{issued as taken_from, Pool}
-use Rattle.rv_stations.specs.declared.waiting.Ready.{Ready}
-use Rattle.rv_stores.specs.Queue.{Queue, older_than}
-use Rattle.rv_stores.specs.declared.store.Store.{Store}
-use Rattle.rv_units.specs.Bus.{Pending, with_result}
-use Rattle.rv_units.specs.Pool.{started as started_unit, Pool as UnitPool}
-use Rattle.rv_hardware.specs.Hardware.{Hardware}
-use Rattle.rv_hardware.specs.InFlight.{memory_behind}
-use Rattle.rv_isa.specs.Instruction.{is_store, kind_of_word}
-use Rattle.rv_hardware.specs.Issue.{Path, Without, FromStores, FromCache, cost_of, issued, path, path_of as path_of_word, path_of_load, with_start}
-use Rattle.rv_hardware.specs.Result.{result_in, result_of_word}
-use Rattle.rv_hardware.specs.Seen.{layout_of, seen_behind, stores_behind}
-use Rattle.rv_core.specs.Access.{IsBehind, LieIn, cache_after, load_path, path_cost, port_after}
-use Rattle.rv_core.specs.Execution.{Reads, operand_value}
-use Rattle.rv_core.specs.Soundness.{IsDescribedCache, IsLegalWrite, IsSoundEntry, IsSoundHardware}
-use Rattle.rv_core.specs.Ties.{AreTied}
+use Rattle.rv_core.proofs.Words.{◌≡◌, ℕ, ◌+◌, ◌^◌, ◌≤◌, Bool, true, false, cond, List, [], ◌∷◌, map, length, is_some, Some, None, All, Option, option_and_then, sym, refl, ap, ◌∙◌, subst, arith, is_store, kind_of_word, sources_of, bytes_of, width_of, at_kind, with_kind, modulo_word, sum, Message, Instr, Load, Issue, Lines, Kind, PerKind, CacheValues, instruction_of, Memory, State, register_of, Contents, access_cost, cost_of_access, CacheLine, Store, UnitPool, started, changed, Entry, Hardware, memory_behind, FromCache, FromStores, Path, Without, cost_of, issued, path, path_of_word, with_start, result_in, result_of_word, layout_of, seen_behind, stores_behind, IsLegalCost, kind_of, Queue, older_than, Pool, taken_from, Ready, Pending, started_unit, Renaming, path_of_load, IsBehind, LieIn, cache_after, load_path, path_cost, port_after, Reads, operand_value, IsDescribedCache, IsLegalWrite, IsSoundEntry, IsSoundHardware, AreTied}
+use Rattle.rv_units.specs.Bus.{with_result}
 use Rattle.rv_core.proofs.IssueFound.{Leaving, test_of}
 use Rattle.rv_core.proofs.IssueReady.{All-left, kind_there}
 use Rattle.rv_core.proofs.IssueStores.{older_than-behind}

@@ -1,43 +1,22 @@
 -- The instruction that leaves its station is the definition's, with what it reads.
-use Rattle.std.proofs.Common.{◌≡◌, ◌+◌, ◌&&◌, ◌⊎◌, Bool, true, nat_le, List, [], ◌∷◌, ◌++◌, length, All, Option, Some, None, option_and_then, inl, inr, refl, sym, ap, ◌∙◌, subst, arith}
-use Rattle.std.proofs.lemmas.Bool.{and_parts, cases_Bool, cond-true, cond-false}
-use Rattle.rv_isa.specs.declared.broadcast.Message.{Message}
-use Rattle.rv_isa.specs.declared.issues.Issue.{Issue}
-use Rattle.rv_isa.specs.declared.operations.Kind.{Kind}
-use Rattle.rv_isa.specs.declared.operations.Kind.TheVariants.{Alu, Mul, Div, Mem}
-use Rattle.rv_isa.specs.declared.values.Values.{Values}
-use Rattle.rv_rob.specs.Entry.{started}
-use Rattle.rv_rob.specs.declared.entry.Entry.{Entry}
-use Rattle.rv_stations.specs.Waiting.{has_value, is_ready, oldest_ready, ready_of, ready_with, without_oldest_ready}
-use Rattle.rv_stations.specs.declared.waiting.Operand.{Operand}
-use Rattle.rv_stations.specs.declared.waiting.Operand.TheVariants.{Value, Tag}
-use Rattle.rv_stations.specs.declared.waiting.Ready.{Ready}
-use Rattle.rv_stations.specs.declared.waiting.Waiting.{Waiting}
-use Rattle.rv_hardware.specs.Dispatch.{is_stationed}
-use Rattle.rv_hardware.specs.Hardware.{Hardware}
-use Rattle.rv_hardware.specs.Issue.{is_ready as is_ready_entry, oldest}
-use Rattle.rv_hardware.specs.Seen.{layout_of, seen_behind, stores_behind}
-use Rattle.rv_core.specs.Execution.{Reads}
-use Rattle.rv_core.specs.Load.{goes}
-use Rattle.rv_core.specs.Soundness.{IsSoundEntry, IsSoundHardware}
-use Rattle.rv_core.specs.Ties.{status_behind, values_in, waiting_from, waiting_of}
+use Rattle.rv_core.proofs.Words.{◌≡◌, ◌+◌, Bool, true, ◌&&◌, ◌⊎◌, List, [], ◌∷◌, ◌++◌, length, nat_le, Some, None, All, Option, option_and_then, sym, refl, ap, ◌∙◌, subst, inl, inr, arith, and_parts, cases_Bool, cond-false, cond-true, Message, Issue, Kind, Values, started, Entry, is_stationed, Hardware, is_ready_entry, oldest, layout_of, seen_behind, stores_behind, Alu, Div, Mem, Mul, has_value, is_ready_station, oldest_ready, ready_of, ready_with, without_oldest_ready, Operand, Tag, Value, Ready, Station, Reads, goes, IsSoundEntry, IsSoundHardware, status_behind, values_in, waiting_from, waiting_of}
 use Rattle.rv_core.proofs.IssueOperands.{reads, ready_parts, tells_at}
 use Rattle.rv_core.proofs.IssueReady.{All-left, HasTarget, accesses_agree, operations_agree, passes_by}
 use Rattle.rv_core.proofs.IssueSearch.{Agree, Found, NoneFound, search_from, station_behind}
 
 -- what a search answers is ready
 
-found_ready : (test : Waiting → Bool) (ws : List Waiting) (w : Waiting) → oldest_ready test ws ≡ Some w → is_ready w ≡ true
+found_ready : (test : Station → Bool) (ws : List Station) (w : Station) → oldest_ready test ws ≡ Some w → is_ready_station w ≡ true
 found_ready test [] w is = absurd (cc)
-found_ready test (v ∷ ws) w is = elim (cases_Bool (is_ready v && test v)) [
+found_ready test (v ∷ ws) w is = elim (cases_Bool (is_ready_station v && test v)) [
   | inl passes ↦
-      let found = cond-true (is_ready v && test v) (Some v) (oldest_ready test ws) passes in
+      let found = cond-true (is_ready_station v && test v) (Some v) (oldest_ready test ws) passes in
       let same : v ≡ w = cc in
-      subst (λ u. is_ready u ≡ true) same (and_parts (is_ready v) (test v) passes).0
-  | inr fails ↦ found_ready test ws w (sym (cond-false (is_ready v && test v) (Some v) (oldest_ready test ws) fails) ∙ is)
+      subst (λ u. is_ready_station u ≡ true) same (and_parts (is_ready_station v) (test v) passes).0
+  | inr fails ↦ found_ready test ws w (sym (cond-false (is_ready_station v && test v) (Some v) (oldest_ready test ws) fails) ∙ is)
 ]
 
-ready_is_some : (w : Waiting) (a b : Operand) → (has_value a && has_value b) ≡ true → ready_with w a b ≡ None → ⊥
+ready_is_some : (w : Station) (a b : Operand) → (has_value a && has_value b) ≡ true → ready_with w a b ≡ None → ⊥
 ready_is_some w (Value x) (Value y) ready none = absurd (cc)
 ready_is_some w (Value x) (Tag t) ready none = absurd (cc)
 ready_is_some w (Tag t) b ready none = absurd (cc)
@@ -46,10 +25,10 @@ sound_targets : (values : Values) (es : List Entry) → All (IsSoundEntry values
 sound_targets values es sound k d within = (sound k d within).target
 
 module _ (h : Hardware) (kind : Kind) where
-  abbrev pub test_of : Waiting → Bool
+  abbrev pub test_of : Station → Bool
   test_of = goes kind (layout_of h.values) (stores_behind h h.rob.entries) (nat_le h.port_free h.cycle)
 
-  abbrev pub stationed_now : List Waiting
+  abbrev pub stationed_now : List Station
   stationed_now = waiting_from kind (values_in h.registers) h.rob.retired h.rob.entries
 
   -- an instruction that the definition starts, as it left its station

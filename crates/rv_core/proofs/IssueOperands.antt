@@ -1,26 +1,7 @@
 -- The operands in a station are what the definition reads after the older instructions.
-use Rattle.std.proofs.Common.{◌≡◌, ◌≢◌, ℕ, ◌+◌, ◌<◌, ◌&&◌, Bool, true, false, cond, nat_eq, List, [], ◌∷◌, length, map, slice_index, slice_index_or, All, Option, Some, None, is_some, inl, inr, refl, sym, ap, ◌∙◌, length-set, get_or-set_same, get_or-set_other}
-use Rattle.std.specs.Option.{IfSome}
-use Rattle.std.proofs.Math.Bool.{and-true}
-use Rattle.std.proofs.lemmas.Bool.{cases_Bool, cond-true, cond-false, eqb-true, eqb-false}
-use Rattle.std.proofs.lemmas.List.Elements.{All-head, All-tail}
-use Rattle.rv_isa.specs.Operands.{sources_of, target_of, written}
-use Rattle.rv_isa.specs.declared.broadcast.Message.{Message}
+use Rattle.rv_core.proofs.Words.{◌≡◌, ℕ, ◌+◌, ◌<◌, Bool, true, false, cond, ◌&&◌, ◌≢◌, List, [], ◌∷◌, map, length, is_some, IfSome, nat_eq, slice_index, slice_index_or, Some, None, All, Option, sym, refl, ap, ◌∙◌, inl, inr, length-set, get_or-set_other, get_or-set_same, eqb-true, cases_Bool, cond-false, cond-true, eqb-false, All-head, All-tail, is_target, target_of_word, sources_of, target_of, written, Message, Instr, Auipc, Csr, Jal, Jalr, Load, Lui, Op, OpImmediate, Shift, State, with_register, Entry, broadcast_of, is_known_from, registers_behind, with_value, has_operands, and-true, has_value, is_ready_station, ready_of, ready_with, Operand, Tag, Value, Ready, Station, is_known, Reads, operand_value, RegisterStatus, operand_by, operand_of, status_behind, status_with, values_in, waiting_of}
 use Rattle.rv_isa.specs.declared.instructions.CsrSource.TheVariants as source
-use Rattle.rv_isa.specs.declared.instructions.Instr.{Instr}
-use Rattle.rv_isa.specs.declared.instructions.Instr.TheVariants.{Lui, Auipc, Jal, Jalr, Load, OpImmediate, Shift, Op, Csr}
-use Rattle.rv_arch.specs.State.{State, with_register}
-use Rattle.rv_rob.specs.declared.entry.Entry.{Entry}
-use Rattle.rv_stations.specs.Waiting.{has_value, is_ready, ready_of, ready_with}
-use Rattle.rv_stations.specs.declared.waiting.Operand.{Operand}
-use Rattle.rv_stations.specs.declared.waiting.Operand.TheVariants.{Value, Tag}
-use Rattle.rv_stations.specs.declared.waiting.Ready.{Ready}
-use Rattle.rv_stations.specs.declared.waiting.Waiting.{Waiting}
-use Rattle.rv_hardware.specs.InFlight.{broadcast_of, is_known, is_known_from, registers_behind, with_value, writes}
-use Rattle.rv_isa.specs.Instruction.{is_target, target_of_word}
-use Rattle.rv_hardware.specs.Issue.{has_operands}
-use Rattle.rv_core.specs.Execution.{Reads, operand_value}
-use Rattle.rv_core.specs.Ties.{RegisterStatus, operand_by, operand_of, status_behind, status_with, values_in, waiting_of}
+use Rattle.rv_hardware.specs.InFlight.{writes}
 
 -- an instruction has two sources
 pub two_sources : (i : Instr) → sources_of i ≡ slice_index_or (sources_of i) 0 None ∷ slice_index_or (sources_of i) 1 None ∷ []
@@ -141,7 +122,7 @@ operand_value-told : (status : RegisterStatus) (s : State) (from : Option ℕ) (
 operand_value-told status s None v tells is = cc
 operand_value-told status s (Some r) v tells is = tells r v is
 
-pub ready_parts : (w : Waiting) (a b : Operand) (ready : Ready) → ready_with w a b ≡ Some ready → (a ≡ Value ready.first) × (b ≡ Value ready.second) × (ready.seq ≡ w.seq) × (ready.pc ≡ w.pc) × (ready.instruction ≡ w.instruction)
+pub ready_parts : (w : Station) (a b : Operand) (ready : Ready) → ready_with w a b ≡ Some ready → (a ≡ Value ready.first) × (b ≡ Value ready.second) × (ready.seq ≡ w.seq) × (ready.pc ≡ w.pc) × (ready.instruction ≡ w.instruction)
 ready_parts w (Value x) (Value y) ready is =
     let made : Ready = record { seq = w.seq; pc = w.pc; instruction = w.instruction; first = x; second = y } in
     let same : made ≡ ready = cc in
@@ -170,7 +151,7 @@ both_known status older known (Some r) None = ap (λ k. k && true) (known r)
 both_known status older known (Some r) (Some q) =
     (λ k. known r k && known q k) ∙ ap (λ z. is_known older r && z) (sym (and-true (is_known older q)))
 
-pub is_ready-known : (status : RegisterStatus) (older : List Entry) (seq pc : ℕ) (i : Instr) → ((r : ℕ) → has_value (status r) ≡ is_known older r) → is_ready (waiting_of status seq pc i) ≡ has_operands older (sources_of i)
+pub is_ready-known : (status : RegisterStatus) (older : List Entry) (seq pc : ℕ) (i : Instr) → ((r : ℕ) → has_value (status r) ≡ is_known older r) → is_ready_station (waiting_of status seq pc i) ≡ has_operands older (sources_of i)
 is_ready-known status older seq pc i known =
     both_known status older known (slice_index_or (sources_of i) 0 None) (slice_index_or (sources_of i) 1 None)
     ∙ ap (has_operands older) (sym (two_sources i))

@@ -1,37 +1,6 @@
 -- What the parts answer to a search in the stations, in the definition's words.
-use Rattle.std.proofs.Common.{◌≡◌, ℕ, ◌+◌, ◌<◌, Bool, true, false, nat_le, List, [], length, Option, None, Some, is_some, option_and_then, inl, inr, refl, sym, ap, ◌∙◌, subst}
-use Rattle.std.proofs.lemmas.Bool.{cases_Bool, cond-true, cond-false}
-use Rattle.rv_isa.proofs.WithKind.{at_kind-by_kind, with_kind-back}
-use Rattle.rv_isa.specs.Operands.{kind_of}
-use Rattle.rv_isa.specs.PerKind.{at_kind, with_kind}
-use Rattle.rv_isa.specs.declared.broadcast.Message.{Message}
-use Rattle.rv_isa.specs.declared.lines.Lines.{Lines}
-use Rattle.rv_isa.specs.declared.operations.Kind.{Kind}
-use Rattle.rv_isa.specs.declared.per_kind.PerKind.{PerKind}
-use Rattle.rv_stations.specs.Pool.{issued as taken_from, Pool}
-use Rattle.rv_stations.specs.Waiting.{oldest_ready, ready_of, without_oldest_ready}
-use Rattle.rv_stations.specs.declared.waiting.Ready.{Ready}
-use Rattle.rv_stations.specs.declared.waiting.Waiting.{Waiting}
-use Rattle.rv_arch.specs.State.{State}
-use Rattle.rv_cache.specs.Cache.{Contents}
-use Rattle.rv_memory.specs.Memory.{Memory}
-use Rattle.rv_rob.specs.Entry.{started}
-use Rattle.rv_rob.specs.ReorderBuffer.{ReorderBuffer, changed}
-use Rattle.rv_stores.specs.Queue.{Queue, older_than}
-use Rattle.rv_units.specs.Bus.{Pending, holds, with_result}
-use Rattle.rv_units.specs.Pool.{is_free, started as started_unit, Pool as UnitPool}
-use Rattle.rv_hardware.specs.Hardware.{Hardware}
-use Rattle.rv_hardware.specs.Issue.{Path, is_ready as is_ready_entry, issue_oldest, issue_turn, oldest}
-use Rattle.rv_hardware.specs.Repeated.{Ends, GoesOn}
-use Rattle.rv_hardware.specs.Result.{result_in}
-use Rattle.rv_hardware.specs.Seen.{stores_behind}
-use Rattle.rv_core.specs.Access.{IsBehind, cache_after, load_path, path_cost, port_after}
-use Rattle.rv_core.specs.Execution.{Reads}
-use Rattle.rv_core.specs.Soundness.{IsSoundHardware}
-use Rattle.rv_core.specs.Ties.{AreTied, pool_of_kind}
-use Rattle.rv_core.specs.Load.{goes}
-use Rattle.rv_core.specs.Parts.{IsSound, hardware_of}
-use Rattle.rv_core.specs.declared.parts.Parts.TheInside.{Inside}
+use Rattle.rv_core.proofs.Words.{◌≡◌, ℕ, ◌+◌, ◌<◌, Bool, true, false, List, [], length, is_some, nat_le, Some, None, Option, option_and_then, sym, refl, ap, ◌∙◌, subst, inl, inr, cases_Bool, cond-false, cond-true, at_kind, with_kind, Message, Lines, Kind, PerKind, Memory, State, Contents, UnitPool, is_free, started, ReorderBuffer, changed, Hardware, Path, is_ready_entry, issue_oldest, issue_turn, oldest, Ends, GoesOn, result_in, stores_behind, kind_of, at_kind-by_kind, with_kind-back, Queue, older_than, Pool, taken_from, oldest_ready, ready_of, without_oldest_ready, Ready, Station, Pending, holds, started_unit, IsBehind, cache_after, load_path, path_cost, port_after, Reads, goes, IsSound, hardware_of, IsSoundHardware, AreTied, pool_of_kind, Inside}
+use Rattle.rv_units.specs.Bus.{with_result}
 use Rattle.rv_core.proofs.IssueExecuted.{is_issued, is_sound, is_tied, started_hardware}
 use Rattle.rv_core.proofs.IssueFound.{Leaving, leaves, nothing_leaves, stationed_now, test_of}
 use Rattle.rv_core.proofs.IssueTied.{absent_from_bus, room_on_bus}
@@ -41,7 +10,7 @@ module _ (parts : Inside) (sound : IsSound parts) (kind : Kind) (idle : Bool) (p
   h = hardware_of parts
 
   -- the test that the code asks
-  abbrev pub code_test : Waiting → Bool
+  abbrev pub code_test : Station → Bool
   code_test = goes kind parts.cache.backing.layout parts.stores.stores idle
 
   pub same_test : code_test ≡ test_of h kind
@@ -67,7 +36,7 @@ module _ (parts : Inside) (sound : IsSound parts) (kind : Kind) (idle : Bool) (p
         let pool = at_kind kind parts.stations in
         let same : without_oldest_ready code_test pool.waiting ≡ pool.waiting =
         (λ j. without_oldest_ready (same_test j) (same_waiting j)) ∙ (nothing_leaves h kind sound.sound result answered is).1 ∙ sym same_waiting in
-        ap (λ (ws : List Waiting). with_kind kind (record pool { waiting = ws }) parts.stations) same
+        ap (λ (ws : List Station). with_kind kind (record pool { waiting = ws }) parts.stations) same
         ∙ with_kind-back kind parts.stations
 
     -- the parts once an instruction has started

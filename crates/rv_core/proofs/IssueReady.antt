@@ -1,36 +1,5 @@
 -- A station is ready, and passes the code's test, where the definition finds its instruction ready.
-use Rattle.std.proofs.Common.{◌≡◌, ℕ, ℤ, ◌+◌, ◌<◌, ◌&&◌, ◌||◌, Bool, true, false, not, nat_le, List, ◌∷◌, ◌++◌, length, slice_index, All, Option, Some, refl, sym, ap, ◌∙◌, arith, length-append, None}
-use Rattle.std.specs.List.{list_all}
-use Rattle.std.specs.Option.{IfSome}
-use Rattle.std.proofs.lemmas.Bool.{and_parts}
-use Rattle.std.proofs.lemmas.List.{get_or_append_left}
-use Rattle.rv_isa.proofs.WithKind.{is_same-true}
-use Rattle.rv_isa.specs.Numbered.{AreBelow}
-use Rattle.rv_isa.specs.Operands.{kind_of}
-use Rattle.rv_isa.specs.Operation.{bytes_of, width_of}
-use Rattle.rv_isa.specs.Word.{modulo_word, sum}
-use Rattle.rv_isa.specs.declared.instructions.Instr.{Instr}
-use Rattle.rv_isa.specs.declared.instructions.Instr.TheVariants.{Load}
-use Rattle.rv_isa.specs.declared.operations.Kind.{Kind}
-use Rattle.rv_isa.specs.declared.operations.Kind.TheVariants.{Alu, Mul, Div, Mem}
-use Rattle.rv_isa.specs.declared.operations.LoadForm.{LoadForm}
-use Rattle.rv_rob.specs.declared.entry.Entry.{Entry}
-use Rattle.rv_stations.specs.Waiting.{has_value, is_ready}
-use Rattle.rv_stations.specs.declared.waiting.Operand.{Operand}
-use Rattle.rv_stations.specs.declared.waiting.Operand.TheVariants.{Value, Tag}
-use Rattle.rv_stations.specs.declared.waiting.Waiting.{Waiting}
-use Rattle.rv_stores.specs.Queue.{first_unknown, older_than}
-use Rattle.rv_stores.specs.Store.{is_known as is_known_store}
-use Rattle.rv_stores.specs.declared.store.Store.{Store}
-use Rattle.rv_hardware.specs.Dispatch.{is_stationed}
-use Rattle.rv_hardware.specs.Hardware.{Hardware}
-use Rattle.rv_hardware.specs.InFlight.{is_waiting, registers_behind}
-use Rattle.rv_isa.specs.Instruction.{target_of_word, is_load, is_of_kind, kind_of_word, sources_of_word}
-use Rattle.rv_hardware.specs.Issue.{has_operands, has_port, is_ready as is_ready_entry, may_load, path_of as path_of_word, path_of_load}
-use Rattle.rv_hardware.specs.Seen.{layout_of, seen_behind, stores_behind}
-use Rattle.rv_core.specs.Execution.{is_operation}
-use Rattle.rv_core.specs.Load.{is_known_before, may_go, needs_port, path_of}
-use Rattle.rv_core.specs.Ties.{RegisterStatus, status_behind, values_in, waiting_of}
+use Rattle.rv_core.proofs.Words.{◌≡◌, ℕ, ◌+◌, ◌<◌, Bool, true, false, not, ◌&&◌, ◌||◌, List, ◌∷◌, ◌++◌, length, ℤ, IfSome, nat_le, slice_index, Some, None, All, Option, sym, refl, ap, ◌∙◌, arith, length-append, and_parts, list_all, is_same-true, is_load, is_of_kind, kind_of_word, sources_of_word, target_of_word, bytes_of, width_of, modulo_word, sum, Instr, Load, Kind, LoadForm, is_known_store, Store, Entry, is_stationed, Hardware, is_waiting, registers_behind, has_operands, has_port, is_ready_entry, may_load, path_of_word, layout_of, seen_behind, stores_behind, get_or_append_left, AreBelow, kind_of, Alu, Div, Mem, Mul, first_unknown, older_than, has_value, is_ready_station, Operand, Tag, Value, Station, path_of_load, is_operation, is_known_before, may_go, needs_port, path_of, RegisterStatus, status_behind, values_in, waiting_of}
 use Rattle.rv_core.proofs.IssueOperands.{Tells, is_known-status, is_ready-known, tells_at}
 use Rattle.rv_core.proofs.IssueSearch.{Agree, PassBy}
 use Rattle.rv_core.proofs.IssueStores.{known-behind, older_than-behind}
@@ -79,7 +48,7 @@ module _ (h : Hardware) where
   status0 = values_in h.registers
 
   -- the test of loads and stores
-  abbrev pub goes : Waiting → Bool
+  abbrev pub goes : Station → Bool
   goes w = may_go (layout_of h.values) (stores_behind h h.rob.entries) (first_unknown (stores_behind h h.rob.entries)) (nat_le h.port_free h.cycle) w
 
   pub passes_by : (kind : Kind) → PassBy kind status0 h.rob.retired h.rob.entries goes (is_ready_entry h kind)
@@ -96,10 +65,10 @@ module _ (h : Hardware) where
     abbrev may : Option Instr → Bool
     may word = not (is_load word) || (list_all is_known_store (stores_behind h older) && has_port h (path_of_word h older (seen_behind h older e.pc) word))
 
-    agrees : (kind : Kind) (test : Waiting → Bool) (i : Instr) → e.instruction ≡ Some i → is_stationed kind e ≡ true → (is_ready (waiting_of status number e.pc i) ≡ true → test (waiting_of status number e.pc i) ≡ may (Some i)) → (is_ready (waiting_of status number e.pc i) && test (waiting_of status number e.pc i)) ≡ is_ready_entry h kind older e
+    agrees : (kind : Kind) (test : Station → Bool) (i : Instr) → e.instruction ≡ Some i → is_stationed kind e ≡ true → (is_ready_station (waiting_of status number e.pc i) ≡ true → test (waiting_of status number e.pc i) ≡ may (Some i)) → (is_ready_station (waiting_of status number e.pc i) && test (waiting_of status number e.pc i)) ≡ is_ready_entry h kind older e
     agrees kind test i decoded there passes =
         let w = waiting_of status number e.pc i in
-        agree_by (is_ready w) (test w) (has_operands older (sources_of_word e.instruction)) (may e.instruction) (is_stationed kind e)
+        agree_by (is_ready_station w) (test w) (has_operands older (sources_of_word e.instruction)) (may e.instruction) (is_stationed kind e)
         (is_ready-known status older number e.pc i (λ r. is_known-status h.registers h.rob.retired older r) ∙ ap (λ word. has_operands older (sources_of_word word)) (sym decoded))
         there (λ ready. passes ready ∙ ap may (sym decoded))
 
@@ -126,7 +95,7 @@ module _ (h : Hardware) where
       load_goes form rd rs1 offset (Value base) second is there = λ k. known k && port form rs1 base (modulo_word offset) is k
       load_goes form rd rs1 offset (Tag tag) second is there = absurd (cc)
 
-      all_go : (i : Instr) → is_ready (waiting_of status number e.pc i) ≡ true → goes (waiting_of status number e.pc i) ≡ may (Some i)
+      all_go : (i : Instr) → is_ready_station (waiting_of status number e.pc i) ≡ true → goes (waiting_of status number e.pc i) ≡ may (Some i)
       all_go (Load form rd rs1 offset) ready = load_goes form rd rs1 offset (status rs1) (Value 0) refl (and_parts (has_value (status rs1)) true ready).0
       all_go _ ready = refl
 

@@ -1,22 +1,5 @@
 -- A search in the stations of a kind finds the oldest instruction that the definition finds.
-use Rattle.std.proofs.Common.{◌≡◌, ℕ, ◌+◌, ◌&&◌, ◌⊎◌, Bool, true, false, List, [], ◌∷◌, ◌++◌, length, Option, Some, None, inl, inr, refl, sym, ap, ◌∙◌, arith, length-append, append-nil}
-use Rattle.std.proofs.lemmas.Bool.{and_parts, and_right, cases_Bool, cond-true, cond-false}
-use Rattle.std.proofs.lemmas.List.{append_assoc}
-use Rattle.rv_isa.specs.declared.broadcast.Message.{Message}
-use Rattle.rv_isa.specs.declared.instructions.Instr.{Instr}
-use Rattle.rv_isa.specs.declared.issues.Issue.{Issue}
-use Rattle.rv_isa.specs.declared.operations.Kind.{Kind}
-use Rattle.rv_rob.specs.Entry.{started}
-use Rattle.rv_rob.specs.declared.entry.Entry.{Entry}
-use Rattle.rv_rob.specs.declared.entry.Stage.{Stage}
-use Rattle.rv_rob.specs.declared.entry.Stage.TheVariants.{Waiting, Running, Finished}
-use Rattle.rv_stations.specs.Waiting.{is_ready, oldest_ready, without_oldest_ready}
-use Rattle.rv_stations.specs.declared.waiting.Waiting.{Waiting as Station}
-use Rattle.rv_hardware.specs.Dispatch.{is_stationed}
-use Rattle.rv_hardware.specs.InFlight.{is_waiting}
-use Rattle.rv_hardware.specs.Issue.{oldest_from}
-use Rattle.rv_isa.specs.Instruction.{is_of_kind, kind_of_word}
-use Rattle.rv_core.specs.Ties.{RegisterStatus, status_behind, status_with, waiting_at, waiting_from, waiting_of}
+use Rattle.rv_core.proofs.Words.{◌≡◌, ℕ, ◌+◌, Bool, true, false, ◌&&◌, ◌⊎◌, List, [], ◌∷◌, ◌++◌, length, Some, None, Option, sym, refl, ap, ◌∙◌, inl, inr, append_assoc, append-nil, arith, length-append, and_parts, and_right, cases_Bool, cond-false, cond-true, is_of_kind, kind_of_word, Message, Instr, Issue, Kind, started, Entry, Stage, Finished, Running, Waiting, is_stationed, is_waiting, oldest_from, is_ready_station, oldest_ready, without_oldest_ready, Station, RegisterStatus, status_behind, status_with, waiting_at, waiting_from, waiting_of}
 
 -- an instruction that starts gives no value yet, as one that waits
 status_staged : (status : RegisterStatus) (seq : ℕ) (e : Entry) (issue : Issue) (message : Message) (stage : Stage) → is_waiting stage ≡ true → status_with status seq (started issue message e) ≡ status_with status seq (record e { stage = stage })
@@ -81,7 +64,7 @@ module _ (kind : Kind) (status0 : RegisterStatus) (n0 : ℕ) where
 
   module _ (entries : List Entry) (test : Station → Bool) (ready : List Entry → Entry → Bool) where
     abbrev pub Agree : Type 0
-    Agree = (older rest : List Entry) (e : Entry) (i : Instr) → older ++ e ∷ rest ≡ entries → e.instruction ≡ Some i → is_stationed kind e ≡ true → (is_ready (station_behind older e i) && test (station_behind older e i)) ≡ ready older e
+    Agree = (older rest : List Entry) (e : Entry) (i : Instr) → older ++ e ∷ rest ≡ entries → e.instruction ≡ Some i → is_stationed kind e ≡ true → (is_ready_station (station_behind older e i) && test (station_behind older e i)) ≡ ready older e
 
     abbrev pub PassBy : Type 0
     PassBy = (older : List Entry) (e : Entry) → is_stationed kind e ≡ false → ready older e ≡ false
@@ -112,9 +95,9 @@ module _ (kind : Kind) (status0 : RegisterStatus) (n0 : ℕ) where
 
     search_ready_none : (ws : List Station) → oldest_ready test ws ≡ None → without_oldest_ready test ws ≡ ws
     search_ready_none [] none = refl
-    search_ready_none (w ∷ ws) none = elim (cases_Bool (is_ready w && test w)) [
-      | inl found ↦ let some = cond-true (is_ready w && test w) (Some w) (oldest_ready test ws) found in absurd (cc)
-      | inr not ↦ rw not (ap (λ l. w ∷ l) (search_ready_none ws (sym (cond-false (is_ready w && test w) (Some w) (oldest_ready test ws) not) ∙ none)))
+    search_ready_none (w ∷ ws) none = elim (cases_Bool (is_ready_station w && test w)) [
+      | inl found ↦ let some = cond-true (is_ready_station w && test w) (Some w) (oldest_ready test ws) found in absurd (cc)
+      | inr not ↦ rw not (ap (λ l. w ∷ l) (search_ready_none ws (sym (cond-false (is_ready_station w && test w) (Some w) (oldest_ready test ws) not) ∙ none)))
     ]
 
     -- past an instruction whose stations' part is a list in which nothing is found
@@ -170,10 +153,10 @@ module _ (kind : Kind) (status0 : RegisterStatus) (n0 : ℕ) where
               let i = there.0 in
               let w = station_behind older e i in
               let same = agree older es e i all there.1 there.3 in
-              elim (cases_Bool (is_ready w && test w)) [
+              elim (cases_Bool (is_ready_station w && test w)) [
                 | inr fails ↦ past older e es (w ∷ []) there.2 (sym same ∙ fails)
-                    (λ ws. cond-false (is_ready w && test w) (Some w) (oldest_ready test ws) fails)
-                    (λ ws. cond-false (is_ready w && test w) ws (w ∷ without_oldest_ready test ws) fails)
+                    (λ ws. cond-false (is_ready_station w && test w) (Some w) (oldest_ready test ws) fails)
+                    (λ ws. cond-false (is_ready_station w && test w) ws (w ∷ without_oldest_ready test ws) fails)
                     rest
                 | inl passes ↦
                     let ws = stations_behind (older ++ e ∷ []) es in
@@ -189,10 +172,10 @@ module _ (kind : Kind) (status0 : RegisterStatus) (n0 : ℕ) where
                       decoded = there.1;
                       there = there.3;
                       defined = cond-true (ready older e) (Some (older, e)) (oldest_from ready (older ++ e ∷ []) es) (sym same ∙ passes);
-                      searched = ap (oldest_ready test) joined ∙ cond-true (is_ready w && test w) (Some w) (oldest_ready test ws) passes;
+                      searched = ap (oldest_ready test) joined ∙ cond-true (is_ready_station w && test w) (Some w) (oldest_ready test ws) passes;
                       left = λ issue message.
                           ap (without_oldest_ready test) joined
-                          ∙ cond-true (is_ready w && test w) ws (w ∷ without_oldest_ready test ws) passes
+                          ∙ cond-true (is_ready_station w && test w) ws (w ∷ without_oldest_ready test ws) passes
                           ∙ sym (stations_started older e i es issue message there.1 (waits kind e there.3));
                     })
               ]

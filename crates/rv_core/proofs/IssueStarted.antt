@@ -1,24 +1,5 @@
 -- What the start of an instruction leaves: a list of entries with one of them changed.
-use Rattle.std.proofs.Common.{◌≡◌, ◌≢◌, ℕ, suc, ◌+◌, ◌<◌, ◌≤◌, true, false, cond, nat_eq, nat_lt, List, [], ◌∷◌, ◌++◌, length, All, Option, Some, None, refl, sym, ap, ◌∙◌, arith, eq-eqb, ne_eqb, lt-ltb, le-ltb}
-use Rattle.std.proofs.lemmas.Bool.{cond-true, cond-false}
-use Rattle.std.proofs.lemmas.List.{append_assoc}
-use Rattle.std.proofs.lemmas.List.Elements.{All-cons, All-head, All-tail}
-use Rattle.rv_isa.specs.declared.broadcast.Message.{Message}
-use Rattle.rv_isa.specs.declared.instructions.Instr.{Instr}
-use Rattle.rv_isa.specs.declared.issues.Issue.{Issue}
-use Rattle.rv_isa.specs.declared.operations.Kind.{Kind}
-use Rattle.rv_rob.specs.Entry.{started}
-use Rattle.rv_rob.specs.ReorderBuffer.{with_entry}
-use Rattle.rv_rob.specs.declared.entry.Entry.{Entry}
-use Rattle.rv_rob.specs.declared.entry.Stage.{Stage}
-use Rattle.rv_rob.specs.declared.entry.Stage.TheVariants.{Waiting, Running, Finished}
-use Rattle.rv_stores.specs.declared.store.Store.{Store}
-use Rattle.rv_units.specs.Bus.{holds, placed}
-use Rattle.rv_units.specs.declared.bus.PendingResult.{PendingResult}
-use Rattle.rv_hardware.specs.Dispatch.{is_stationed}
-use Rattle.rv_hardware.specs.InFlight.{broadcast_of, is_waiting, store_of_broadcast, stores_of}
-use Rattle.rv_isa.specs.Instruction.{is_store}
-use Rattle.rv_core.specs.Ties.{RegisterStatus, pending_from, pending_of, status_with, waiting_at, waiting_from, waiting_of}
+use Rattle.rv_core.proofs.Words.{◌≡◌, ℕ, suc, ◌+◌, ◌<◌, ◌≤◌, true, false, cond, ◌≢◌, List, [], ◌∷◌, ◌++◌, length, nat_eq, nat_lt, Some, None, All, Option, sym, refl, ap, ◌∙◌, append_assoc, arith, le-ltb, lt-ltb, eq-eqb, ne_eqb, cond-false, cond-true, All-cons, All-head, All-tail, is_store, Message, Instr, Issue, Kind, Store, started, with_entry, Entry, Stage, Finished, Running, Waiting, is_stationed, broadcast_of, is_waiting, store_of_broadcast, stores_of, holds, placed, PendingResult, RegisterStatus, pending_from, pending_of, status_with, waiting_at, waiting_from, waiting_of}
 use Rattle.rv_core.proofs.IssueSearch.{status_started}
 
 -- the entry of a number

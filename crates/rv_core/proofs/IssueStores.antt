@@ -1,20 +1,5 @@
 -- The stores older than an instruction, in the queue and in the definition.
-use Rattle.std.proofs.Common.{◌≡◌, ℕ, suc, ◌+◌, ◌<◌, ◌≤◌, Bool, true, false, cond, List, [], ◌∷◌, ◌++◌, length, All, inl, inr, refl, sym, ap, ◌∙◌, arith}
-use Rattle.std.specs.List.{list_all}
-use Rattle.std.proofs.lemmas.Bool.{cases_Bool, lt-ltb, le-ltb}
-use Rattle.std.proofs.lemmas.List.{append_assoc}
-use Rattle.std.proofs.lemmas.List.Elements.{All-cons, All-head, All-tail}
-use Rattle.rv_isa.specs.Numbered.{AreBelow}
-use Rattle.rv_isa.proofs.Numbered.{AreBelow-append, AreBelow-head, AreBelow-tail, AreBelow-weaken, below-split}
-use Rattle.rv_rob.specs.declared.entry.Entry.{Entry}
-use Rattle.rv_stores.specs.Queue.{first_unknown, older_than}
-use Rattle.rv_stores.specs.Store.{is_known}
-use Rattle.rv_stores.specs.declared.store.Store.{Store}
-use Rattle.rv_hardware.specs.Hardware.{Hardware}
-use Rattle.rv_hardware.specs.InFlight.{broadcast_of, store_of_broadcast, stores_of}
-use Rattle.rv_isa.specs.Instruction.{is_store}
-use Rattle.rv_hardware.specs.Seen.{stores_behind}
-use Rattle.rv_core.specs.Load.{is_known_before}
+use Rattle.rv_core.proofs.Words.{◌≡◌, ℕ, suc, ◌+◌, ◌<◌, ◌≤◌, Bool, true, false, cond, List, [], ◌∷◌, ◌++◌, length, All, sym, refl, ap, ◌∙◌, inl, inr, append_assoc, arith, le-ltb, lt-ltb, cases_Bool, All-cons, All-head, All-tail, list_all, is_store, is_known_store, Store, Entry, Hardware, broadcast_of, store_of_broadcast, stores_of, stores_behind, AreBelow, AreBelow-append, AreBelow-head, AreBelow-tail, AreBelow-weaken, below-split, first_unknown, older_than, is_known_before}
 
 abbrev seq_of : Store → ℕ
 seq_of s = s.seq
@@ -52,14 +37,14 @@ stores_of-from n m (e ∷ xs) le =
 
 known_from : (m : ℕ) (ys : List Store) → All (λ s. m ≤ s.seq) ys → is_known_before (first_unknown ys) m ≡ true
 known_from m [] high = refl
-known_from m (y ∷ ys) high = elim (cases_Bool (is_known y)) [
+known_from m (y ∷ ys) high = elim (cases_Bool (is_known_store y)) [
   | inl known ↦ rw known (known_from m ys (All-tail (λ s. m ≤ s.seq) y ys high))
   | inr unknown ↦ rw (unknown, le-ltb y.seq m (All-head (λ s. m ≤ s.seq) y ys high)) refl
 ]
 
-known_before : (m : ℕ) (xs ys : List Store) → AreBelow seq_of m xs → All (λ s. m ≤ s.seq) ys → is_known_before (first_unknown (xs ++ ys)) m ≡ list_all is_known xs
+known_before : (m : ℕ) (xs ys : List Store) → AreBelow seq_of m xs → All (λ s. m ≤ s.seq) ys → is_known_before (first_unknown (xs ++ ys)) m ≡ list_all is_known_store xs
 known_before m [] ys low high = known_from m ys high
-known_before m (x ∷ xs) ys low high = elim (cases_Bool (is_known x)) [
+known_before m (x ∷ xs) ys low high = elim (cases_Bool (is_known_store x)) [
   | inl known ↦ rw known (known_before m xs ys (AreBelow-tail seq_of m x xs low) high)
   | inr unknown ↦ rw (unknown, lt-ltb x.seq m (AreBelow-head seq_of m x xs low)) refl
 ]
@@ -87,5 +72,5 @@ module _ (h : Hardware) (retired : AreBelow seq_of h.rob.retired h.committed) (o
   older_than-behind = ap (older_than place) split ∙ below-split seq_of place (stores_behind h older) (stores_of place rest) low high
 
   -- all older stores are known where the first that is not is no older one
-  pub known-behind : is_known_before (first_unknown (stores_behind h (older ++ rest))) place ≡ list_all is_known (stores_behind h older)
+  pub known-behind : is_known_before (first_unknown (stores_behind h (older ++ rest))) place ≡ list_all is_known_store (stores_behind h older)
   known-behind = ap (λ l. is_known_before (first_unknown l) place) split ∙ known_before place (stores_behind h older) (stores_of place rest) low high

@@ -1,31 +1,6 @@
 -- After the start of an instruction the parts are still told by the instructions in flight.
-use Rattle.std.proofs.Common.{◌≡◌, ℕ, ◌+◌, ◌^◌, ◌<◌, ◌≤◌, Bool, true, false, List, [], ◌∷◌, ◌++◌, length, All, refl, sym, ap, ◌∙◌, arith}
-use Rattle.std.proofs.lemmas.Bool.{and_right}
-use Rattle.std.proofs.lemmas.List.Elements.{All-head, All-tail}
-use Rattle.rv_isa.proofs.WithKind.{at_kind-by_kind, with_kind-by_kind}
-use Rattle.rv_isa.specs.PerKind.{at_kind, with_kind}
-use Rattle.rv_isa.specs.declared.broadcast.Message.{Message}
-use Rattle.rv_isa.specs.declared.issues.Issue.{Issue}
-use Rattle.rv_isa.specs.declared.operations.Kind.{Kind}
-use Rattle.rv_isa.specs.declared.per_kind.PerKind.{PerKind}
-use Rattle.rv_cache.specs.Cache.{Contents}
-use Rattle.rv_memory.specs.Memory.{Memory}
-use Rattle.rv_rename.specs.Renaming.{Renaming}
-use Rattle.rv_rob.specs.Entry.{started}
-use Rattle.rv_rob.specs.ReorderBuffer.{ReorderBuffer, changed}
-use Rattle.rv_rob.specs.declared.entry.Entry.{Entry}
-use Rattle.rv_stations.specs.Pool.{issued, Pool}
-use Rattle.rv_stations.specs.Waiting.{without_oldest_ready}
-use Rattle.rv_stations.specs.declared.waiting.Waiting.{Waiting}
-use Rattle.rv_stores.specs.Queue.{Queue}
-use Rattle.rv_units.specs.Bus.{Pending, holds, placed, with_result}
-use Rattle.rv_units.specs.Pool.{Pool as UnitPool}
-use Rattle.rv_hardware.specs.Dispatch.{is_stationed}
-use Rattle.rv_hardware.specs.Hardware.{Hardware}
-use Rattle.rv_hardware.specs.InFlight.{is_waiting, stores_of}
-use Rattle.rv_isa.specs.Instruction.{is_serialising, is_store, is_of_kind, kind_of_word}
-use Rattle.rv_core.specs.Soundness.{AreSoundEntries, IsDescribedCache, IsLegalWrite, IsSoundEntry, IsSoundHardware}
-use Rattle.rv_core.specs.Ties.{AreTied, bus_of, pending_from, pool_of_kind, stations_of, values_in, waiting_from}
+use Rattle.rv_core.proofs.Words.{◌≡◌, ℕ, ◌+◌, ◌^◌, ◌<◌, ◌≤◌, Bool, true, false, List, [], ◌∷◌, ◌++◌, length, All, sym, refl, ap, ◌∙◌, arith, and_right, All-head, All-tail, is_of_kind, is_serialising, is_store, kind_of_word, at_kind, with_kind, Message, Issue, Kind, PerKind, Memory, Contents, UnitPool, started, ReorderBuffer, changed, Entry, is_stationed, Hardware, is_waiting, stores_of, at_kind-by_kind, with_kind-by_kind, Queue, Pool, taken_from, without_oldest_ready, Station, Pending, holds, placed, Renaming, AreSoundEntries, IsDescribedCache, IsLegalWrite, IsSoundEntry, IsSoundHardware, AreTied, bus_of, pending_from, pool_of_kind, stations_of, values_in, waiting_from}
+use Rattle.rv_units.specs.Bus.{with_result}
 use Rattle.rv_core.proofs.IssueReady.{kind_there}
 use Rattle.rv_core.proofs.IssueSearch.{waits}
 use Rattle.rv_core.proofs.IssueStarted.{All_started, others_started, pending_absent, pending_room, pending_started, stores_started, with_entry-at}
@@ -64,14 +39,14 @@ module _ (h : Hardware) (kind : Kind) (before : List Entry) (e : Entry) (rest : 
         ap (λ es. (changed (started issue message) n (record h.rob { entries = es })).entries) split
         ∙ with_entry-at (started issue message) n h.rob.retired before e rest at
 
-    stationed : (stations : PerKind Pool) (test : Waiting → Bool) → stations ≡ stations_of h.values h.registers h.rob → without_oldest_ready test (waiting_from kind (values_in h.registers) h.rob.retired h.rob.entries) ≡ waiting_from kind (values_in h.registers) h.rob.retired (before ++ started issue message e ∷ rest) → with_kind kind (issued test (at_kind kind stations)) stations ≡ stations_of h.values h.registers rob_started
+    stationed : (stations : PerKind Pool) (test : Station → Bool) → stations ≡ stations_of h.values h.registers h.rob → without_oldest_ready test (waiting_from kind (values_in h.registers) h.rob.retired h.rob.entries) ≡ waiting_from kind (values_in h.registers) h.rob.retired (before ++ started issue message e ∷ rest) → with_kind kind (taken_from test (at_kind kind stations)) stations ≡ stations_of h.values h.registers rob_started
     stationed stations test tied left =
         let n0 = h.rob.retired in
         let status = values_in h.registers in
-        let own : issued test (at_kind kind (stations_of h.values h.registers h.rob)) ≡ pool_of_kind h.values h.registers rob_started kind =
-        ap (issued test) (at_kind-by_kind (pool_of_kind h.values h.registers h.rob) kind)
+        let own : taken_from test (at_kind kind (stations_of h.values h.registers h.rob)) ≡ pool_of_kind h.values h.registers rob_started kind =
+        ap (taken_from test) (at_kind-by_kind (pool_of_kind h.values h.registers h.rob) kind)
         ∙ (λ j. record { waiting = (left ∙ ap (waiting_from kind status n0) (sym entries_started)) j; capacity = (pool_of_kind h.values h.registers h.rob kind).capacity }) in
-        ap (λ s. with_kind kind (issued test (at_kind kind s)) s) tied
+        ap (λ s. with_kind kind (taken_from test (at_kind kind s)) s) tied
         ∙ ap (λ p. with_kind kind p (stations_of h.values h.registers h.rob)) own
         ∙ with_kind-by_kind kind (pool_of_kind h.values h.registers h.rob) (pool_of_kind h.values h.registers rob_started)
         (λ k other.
@@ -101,7 +76,7 @@ module _ (h : Hardware) (kind : Kind) (before : List Entry) (e : Entry) (rest : 
       abbrev pub hardware_started : Hardware
       hardware_started = record h { cache = cache; port_free = port_free; units = units; rob = rob_started }
 
-      pub tied_started : (rename : Renaming) (stations : PerKind Pool) (bus : Pending) (queue : Queue) (test : Waiting → Bool) → AreTied h rename stations bus queue → without_oldest_ready test (waiting_from kind (values_in h.registers) h.rob.retired h.rob.entries) ≡ waiting_from kind (values_in h.registers) h.rob.retired (before ++ started issue message e ∷ rest) → AreTied hardware_started rename (with_kind kind (issued test (at_kind kind stations)) stations) (with_result n (issue.cycle + issue.cost) bus) queue
+      pub tied_started : (rename : Renaming) (stations : PerKind Pool) (bus : Pending) (queue : Queue) (test : Station → Bool) → AreTied h rename stations bus queue → without_oldest_ready test (waiting_from kind (values_in h.registers) h.rob.retired h.rob.entries) ≡ waiting_from kind (values_in h.registers) h.rob.retired (before ++ started issue message e ∷ rest) → AreTied hardware_started rename (with_kind kind (taken_from test (at_kind kind stations)) stations) (with_result n (issue.cycle + issue.cost) bus) queue
       tied_started rename stations bus queue test tied left = record {
         renamed = tied.renamed ∙ sym (renaming-same (started issue message) (λ x. refl) n h.values h.rob);
         stationed = stationed stations test tied.stationed left;

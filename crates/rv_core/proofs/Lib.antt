@@ -1,3 +1,4 @@
+pub mod Words
 pub mod Guiding
 pub mod BehindStores
 pub mod Closed

@@ -1,18 +1,5 @@
 -- The bytes that a load takes from the older stores and the cache are those of memory after the stores.
-use Rattle.std.proofs.Common.{◌≡◌, ℕ, zero, suc, ◌+◌, ◌-◌, ◌<◌, ◌≤◌, ◌&&◌, Bool, true, List, [], ◌∷◌, ◌++◌, length, get_or, take, drop, Option, Some, None, is_some, refl, sym, ap, ◌∙◌, arith}
-use Rattle.std.specs.List.{slice_range}
-use Rattle.std.specs.Option.{unwrap_or}
-use Rattle.std.proofs.lemmas.Bool.{and_parts}
-use Rattle.std.proofs.lemmas.List.{drop_more, get_or_append_left}
-use Rattle.std.proofs.lemmas.List.Edits.{length-between, get_or-between}
-use Rattle.rv_isa.specs.Operation.{bytes_of}
-use Rattle.rv_isa.specs.declared.operations.Width.{Width}
-use Rattle.rv_isa.specs.declared.operations.Width.TheVariants.{Byte, Half, Word}
-use Rattle.rv_stores.specs.Queue.{forwarded, youngest_byte}
-use Rattle.rv_stores.specs.declared.store.Store.{Store}
-use Rattle.rv_hardware.specs.InFlight.{memory_behind}
-use Rattle.rv_core.specs.Load.{bytes_over, is_forwarded}
-use Rattle.rv_core.specs.Access.{LieIn}
+use Rattle.rv_core.proofs.Words.{◌≡◌, ℕ, zero, suc, ◌+◌, ◌-◌, ◌<◌, ◌≤◌, Bool, true, ◌&&◌, List, [], ◌∷◌, ◌++◌, length, take, drop, is_some, slice_index_or as get_or, slice_range, Some, None, Option, unwrap_or, sym, refl, ap, ◌∙◌, arith, and_parts, bytes_of, Width, forwarded, youngest_byte, Store, memory_behind, drop_more, get_or_append_left, get_or-between, length-between, Byte, Half, Word, LieIn, bytes_over, is_forwarded}
 use Rattle.rv_core.proofs.BehindStores.{get_or-memory_behind, length-memory_behind}
 
 -- so many numbers of a list, from a place on

@@ -1,21 +1,7 @@
 -- The effect of a load and of a store, by its fault.
-use Rattle.std.proofs.Common.{◌≡◌, ℕ, ◌+◌, ◌%◌, ◌≤◌, Bool, true, false, not, cond, nat_le, List, Option, Some, None, inl, inr, refl, ap}
-use Rattle.std.proofs.lemmas.Bool.{and_parts, eqb-true, leb-true}
-use Rattle.rv_isa.specs.Operation.{bytes_of, is_sign_extended, width_of}
-use Rattle.rv_isa.specs.Word.{pc_plus_4}
-use Rattle.rv_isa.specs.declared.broadcast.StoreAccess.{StoreAccess}
-use Rattle.rv_isa.specs.declared.causes.Cause.{Cause}
-use Rattle.rv_isa.specs.declared.operations.LoadForm.{LoadForm}
-use Rattle.rv_isa.specs.declared.operations.Width.{Width}
-use Rattle.rv_isa.specs.declared.operations.Width.TheVariants.{Byte, Half, Word}
-use Rattle.rv_arch.specs.Effect.{Effect, Faults, extended, loads, stores, writes}
-use Rattle.rv_arch.specs.State.{State}
-use Rattle.rv_cache.specs.Cache.{IsAligned}
-use Rattle.rv_memory.specs.Memory.{Layout, is_aligned, is_in_ram, is_writable, number_at}
-use Rattle.rv_hardware.specs.Result.{effect_message, fault_message}
-use Rattle.rv_core.specs.Load.{is_forwarded, load_fault, path_unless, store_fault}
-use Rattle.rv_core.specs.declared.load.Path.{Path}
+use Rattle.rv_core.proofs.Words.{◌≡◌, ℕ, ◌+◌, ◌%◌, ◌≤◌, Bool, true, false, cond, not, List, nat_le, Some, None, Option, refl, ap, inl, inr, eqb-true, leb-true, and_parts, bytes_of, is_sign_extended, width_of, pc_plus_4, StoreAccess, Cause, LoadForm, Width, Layout, is_aligned, is_in_ram, is_writable, number_at, Effect, Faults, extended, loads, stores, State, IsAligned, effect_message, fault_message, Byte, Half, Word, writes, is_forwarded, load_fault, path_unless, store_fault}
 use Rattle.rv_core.specs.declared.load.Path.TheVariants.{Without, FromStores, FromCache}
+use Rattle.rv_core.specs.declared.load.Path.{Path}
 
 -- of two tests in turn, each with its fault
 

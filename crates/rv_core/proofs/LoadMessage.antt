@@ -1,23 +1,8 @@
 -- The value that a load takes from the older stores and the cache is that of its effect.
-use Rattle.std.proofs.Common.{◌≡◌, ℕ, ◌+◌, ◌-◌, ◌≤◌, List, ◌++◌, length, take, Option, None, refl, sym, ap, ◌∙◌, subst, arith}
-use Rattle.std.specs.List.{slice_range}
-use Rattle.rv_isa.specs.Bytes.{number_of}
-use Rattle.rv_isa.specs.Operation.{bytes_of, width_of, is_sign_extended}
-use Rattle.rv_isa.specs.Word.{pc_plus_4}
-use Rattle.rv_isa.specs.declared.operations.LoadForm.{LoadForm}
-use Rattle.rv_arch.specs.Effect.{extended, loads, writes}
-use Rattle.rv_arch.specs.State.{State}
-use Rattle.rv_cache.specs.Cache.{Contents}
-use Rattle.rv_memory.specs.Memory.{Memory, number_at}
-use Rattle.rv_stores.specs.Queue.{forwarded}
-use Rattle.rv_stores.specs.declared.store.Store.{Store}
-use Rattle.rv_hardware.specs.InFlight.{memory_behind}
-use Rattle.rv_hardware.specs.Result.{effect_message}
-use Rattle.rv_core.specs.Access.{IsBehind, IsOverRam}
-use Rattle.rv_core.specs.Load.{bytes_over, load_fault, path_of}
-use Rattle.rv_core.specs.declared.load.Path.TheVariants.{FromStores, FromCache}
+use Rattle.rv_core.proofs.Words.{◌≡◌, ℕ, ◌+◌, ◌-◌, ◌≤◌, List, ◌++◌, length, take, slice_range, None, Option, sym, refl, ap, ◌∙◌, subst, arith, number_of, bytes_of, is_sign_extended, width_of, pc_plus_4, LoadForm, Memory, number_at, extended, loads, State, Contents, forwarded, Store, memory_behind, effect_message, writes, IsBehind, IsOverRam, bytes_over, load_fault, path_of}
 use Rattle.rv_core.proofs.LoadBytes.{bytes_from_cache, bytes_from_stores}
 use Rattle.rv_core.proofs.LoadEffect.{PathFacts, load_gives, load_within, path_facts}
+use Rattle.rv_core.specs.declared.load.Path.TheVariants.{FromStores, FromCache}
 
 module _ (cache : Contents Memory) (ss : List Store) (over : IsOverRam cache) (s : State) (behind : IsBehind cache ss s) (form : LoadForm) (rd address : ℕ) where
   abbrev count : ℕ

@@ -1,19 +1,7 @@
 -- The path of a load in the code is the definition's.
-use Rattle.std.proofs.Common.{◌≡◌, ℕ, ◌&&◌, ◌||◌, Bool, true, false, not, cond, nat_le, List, Option, Some, None, refl}
-use Rattle.std.proofs.Math.Bool.{or-true, or-false}
-use Rattle.rv_isa.specs.PerKind.{at_kind}
-use Rattle.rv_isa.specs.declared.causes.Cause.{Cause}
-use Rattle.rv_memory.specs.Memory.{is_aligned, is_in_ram}
-use Rattle.rv_stores.specs.Queue.{forwarded}
-use Rattle.rv_rob.specs.declared.entry.Entry.{Entry}
-use Rattle.rv_isa.specs.declared.operations.Kind.{Kind}
-use Rattle.rv_hardware.specs.Hardware.{Hardware}
-use Rattle.rv_hardware.specs.Issue.{Path as DefinedPath, Without as DefinedWithout, FromStores as DefinedFromStores, FromCache as DefinedFromCache, cost_of, has_port, path_of_load, with_access}
-use Rattle.rv_hardware.specs.Seen.{layout_of, stores_behind}
-use Rattle.rv_core.specs.Access.{cache_after, defined_path, path_cost, port_after}
-use Rattle.rv_core.specs.Load.{is_forwarded, needs_port, path_of, path_unless}
-use Rattle.rv_core.specs.declared.load.Path.{Path}
+use Rattle.rv_core.proofs.Words.{◌≡◌, ℕ, Bool, true, false, cond, not, ◌&&◌, ◌||◌, List, nat_le, Some, None, Option, refl, at_kind, Cause, Kind, is_aligned, is_in_ram, forwarded, Entry, Hardware, FromCache as DefinedFromCache, FromStores as DefinedFromStores, Path as DefinedPath, Without as DefinedWithout, cost_of, has_port, with_access, layout_of, stores_behind, or-false, or-true, path_of_load, cache_after, defined_path, path_cost, port_after, is_forwarded, needs_port, path_of, path_unless}
 use Rattle.rv_core.specs.declared.load.Path.TheVariants.{Without, FromStores, FromCache}
+use Rattle.rv_core.specs.declared.load.Path.{Path}
 
 path_covered : (all : Bool) (address : ℕ) (overlay : List (Option ℕ)) → defined_path address (cond all (FromStores overlay) (FromCache overlay)) ≡ cond all DefinedFromStores (DefinedFromCache address)
 path_covered true address overlay = refl

@@ -1,8 +1,5 @@
 -- The parts with other lines, and with the next cycle's number.
-use Rattle.std.proofs.Common.{ℕ, ◌^◌, ◌≤◌, arith}
-use Rattle.rv_isa.specs.declared.lines.Lines.{Lines}
-use Rattle.rv_core.specs.Parts.{IsSound}
-use Rattle.rv_core.specs.declared.parts.Parts.TheInside.{Inside}
+use Rattle.rv_core.proofs.Words.{ℕ, ◌^◌, ◌≤◌, arith, Lines, IsSound, Inside}
 
 pub sound-numbered : (p : Inside) → IsSound p → (lines : Lines) (next : ℕ) → p.cycle ≤ next → next ≤ 2 ^ 40 → IsSound (record p { lines = lines; cycle = next })
 sound-numbered p is lines next later counted =

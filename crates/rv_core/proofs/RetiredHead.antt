@@ -1,32 +1,6 @@
 -- The head retires: rename map, stations, bus and queue are those of the instructions after it.
-use Rattle.std.proofs.Common.{◌≡◌, ◌≢◌, ℕ, ◌+◌, ◌<◌, Bool, true, false, ◌==◌, not, if◌then◌else◌, inl, inr, List, [], ◌∷◌, ◌++◌, length, map, filter, Option, None, Some, IfSome, refl, ap, sym, ◌∙◌, arith, eq-eqb, ne_eqb, get_or-set_same, get_or-set_other}
-use Rattle.std.proofs.lemmas.Bool.{cases_eq}
-use Rattle.rv_isa.proofs.WithKind.{by_kind-same}
-use Rattle.rv_isa.specs.PerKind.{at_kind}
-use Rattle.rv_isa.specs.declared.broadcast.Message.{Message}
-use Rattle.rv_isa.specs.declared.instructions.Instr.{Instr}
-use Rattle.rv_isa.specs.declared.operations.Kind.{Kind}
-use Rattle.rv_isa.specs.declared.per_kind.PerKind.{PerKind}
-use Rattle.rv_isa.specs.declared.values.Values.{Values}
-use Rattle.rv_arch.specs.State.{with_register}
-use Rattle.rv_rename.specs.Renaming.{Checkpoint, checkpoint_without_oldest, without_oldest, retired, without_checkpoint, Renaming}
-use Rattle.rv_rename.specs.declared.producer.Producer.{Producer}
-use Rattle.rv_rob.specs.ReorderBuffer.{ReorderBuffer, after_head, head_retired}
-use Rattle.rv_rob.specs.declared.entry.Entry.{Entry}
-use Rattle.rv_rob.specs.declared.entry.Stage.{Stage}
-use Rattle.rv_rob.specs.declared.entry.Stage.TheVariants.{Waiting, Running, Finished}
-use Rattle.rv_stations.specs.Pool.{Pool}
-use Rattle.rv_stores.specs.Queue.{Queue}
-use Rattle.rv_units.specs.Bus.{Pending}
-use Rattle.rv_hardware.specs.Hardware.{Hardware}
-use Rattle.rv_hardware.specs.Broadcast.{mends_early}
-use Rattle.rv_hardware.specs.InFlight.{broadcast_of, is_waiting, with_value, stores_of}
-use Rattle.rv_isa.specs.Instruction.{is_target, target_of_word, is_branch_or_jump, is_store}
-use Rattle.rv_hardware.specs.Retirement.{committed_store, with_result}
-use Rattle.rv_core.specs.Ties.{RegisterStatus, operand_by, values_in, status_with, producer_of, producers_of, producers_with, checkpoints_of, renaming_of, waiting_at, waiting_from, stations_of, pending_of, bus_of, AreTied, pool_of_kind}
-use Rattle.rv_core.specs.Soundness.{IsLegalWrite}
+use Rattle.rv_core.proofs.Words.{◌≡◌, ℕ, ◌+◌, ◌<◌, Bool, true, false, not, ◌≢◌, List, [], ◌∷◌, ◌++◌, map, length, IfSome, if◌then◌else◌, ◌==◌, Some, None, filter, Option, sym, refl, ap, ◌∙◌, inl, inr, arith, get_or-set_other, get_or-set_same, eq-eqb, ne_eqb, cases_eq, is_branch_or_jump, is_store, is_target, target_of_word, at_kind, Message, Instr, Kind, PerKind, Values, with_register, ReorderBuffer, after_head, head_retired, Entry, Stage, Finished, Running, Waiting, mends_early, Hardware, broadcast_of, is_waiting, stores_of, with_value, committed_store, with_result, by_kind-same, Queue, Pool, Pending, Checkpoint, Renaming, checkpoint_without_oldest, retired, without_checkpoint, without_oldest, Producer, with_commit, without_target, IsLegalWrite, AreTied, RegisterStatus, bus_of, checkpoints_of, operand_by, pending_of, pool_of_kind, producer_of, producers_of, producers_with, renaming_of, stations_of, status_with, values_in, waiting_at, waiting_from}
 use Rattle.rv_core.proofs.RetiredStores.{AreRetired, queued_behind_head}
-use Rattle.rv_core.specs.Retiring.{without_target, with_commit}
 
 -- the registers
 

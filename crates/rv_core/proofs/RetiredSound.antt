@@ -1,24 +1,7 @@
 -- The head retires: what holds of the hardware goes on to hold.
-use Rattle.std.proofs.Common.{◌≡◌, ℕ, suc, ◌+◌, ◌*◌, ◌<◌, Bool, true, false, ◌==◌, if◌then◌else◌, slice_set, List, ◌∷◌, ◌++◌, append-nil, length, Option, None, Some, refl, ap, sym, ◌∙◌, arith, length-set, subst}
-use Rattle.std.specs.List.{All, AllPairs}
-use Rattle.std.proofs.lemmas.List.Elements.{All-tail, All-push}
-use Rattle.rv_isa.proofs.Numbered.{AreBelow-weaken, AreBelow-push}
-use Rattle.rv_isa.specs.declared.broadcast.Message.{Message}
-use Rattle.rv_isa.specs.declared.broadcast.StoreAccess.{StoreAccess}
-use Rattle.rv_isa.specs.declared.values.Values.{Values}
-use Rattle.rv_arch.specs.State.{with_register}
-use Rattle.rv_rob.specs.ReorderBuffer.{ReorderBuffer, head_retired}
-use Rattle.rv_rob.specs.declared.entry.Entry.{Entry}
-use Rattle.rv_stores.specs.declared.store.Store.{Store as QueuedStore}
-use Rattle.rv_stores.specs.declared.store.StorePhase.TheVariants.{Committed}
-use Rattle.rv_stores.specs.declared.store.StoreState.TheVariants.{Filled}
-use Rattle.rv_hardware.specs.Hardware.{Hardware}
-use Rattle.rv_hardware.specs.InFlight.{with_value}
-use Rattle.rv_isa.specs.Instruction.{is_serialising, is_store, target_of_word}
-use Rattle.rv_hardware.specs.Retirement.{committed_store, with_result}
+use Rattle.rv_core.proofs.Words.{◌≡◌, ℕ, suc, ◌+◌, ◌*◌, ◌<◌, Bool, true, false, List, ◌∷◌, ◌++◌, length, if◌then◌else◌, ◌==◌, slice_set, Some, None, All, Option, AllPairs, sym, refl, ap, ◌∙◌, subst, append-nil, arith, length-set, All-tail, is_serialising, is_store, target_of_word, Message, StoreAccess, Values, with_register, Store as QueuedStore, Committed, Filled, ReorderBuffer, head_retired, Entry, Hardware, with_value, committed_store, with_result, All-push, AreBelow-push, AreBelow-weaken, AreSoundEntries, AreSoundStores, IsLegalWrite, IsRetiredStore, IsSoundEntry, IsSoundHardware}
 use Rattle.rv_core.proofs.RetiredHead.{buffer_behind}
 use Rattle.rv_core.proofs.RetiredStores.{AreRetired}
-use Rattle.rv_core.specs.Soundness.{AreSoundEntries, AreSoundStores, IsLegalWrite, IsRetiredStore, IsSoundEntry, IsSoundHardware}
 
 pub register_count : (registers : List ℕ) (r value : ℕ) → length (with_register registers r value) ≡ length registers
 register_count registers r value = kept (r == 0) registers r value where

@@ -1,23 +1,6 @@
 -- A store retires: it is the oldest in the queue that has not.
-use Rattle.std.proofs.Common.{◌≡◌, ℕ, ◌+◌, Bool, true, false, if◌then◌else◌, List, [], ◌∷◌, ◌++◌, append-nil, Option, None, Some, refl, ap, sym}
-use Rattle.std.specs.List.{All}
-use Rattle.std.proofs.lemmas.List.{append_assoc}
-use Rattle.std.proofs.lemmas.List.Elements.{All-head, All-tail}
-use Rattle.rv_isa.specs.declared.broadcast.Message.{Message}
-use Rattle.rv_isa.specs.declared.broadcast.StoreAccess.{StoreAccess}
-use Rattle.rv_isa.specs.declared.values.Values.{Values}
-use Rattle.rv_rob.specs.declared.entry.Entry.{Entry}
-use Rattle.rv_stores.specs.Queue.{with_oldest_retired}
-use Rattle.rv_stores.specs.Store.{is_committed}
-use Rattle.rv_stores.specs.declared.store.Store.{Store as QueuedStore}
-use Rattle.rv_stores.specs.declared.store.StorePhase.TheVariants.{Speculative, Committed, Draining}
-use Rattle.rv_stores.specs.declared.store.StoreState.{StoreState}
+use Rattle.rv_core.proofs.Words.{◌≡◌, ℕ, ◌+◌, Bool, true, false, List, [], ◌∷◌, ◌++◌, if◌then◌else◌, Some, None, All, Option, sym, refl, ap, append_assoc, append-nil, All-head, All-tail, is_store, Message, StoreAccess, Values, is_committed, Store as QueuedStore, Committed, Draining, Speculative, StoreState, Entry, broadcast_of, store_of_broadcast, stores_of, committed_store, with_oldest_retired, with_commit, IsLegalWrite, IsRetiredStore}
 use Rattle.rv_stores.specs.declared.store.StoreState.TheVariants as store
-use Rattle.rv_hardware.specs.InFlight.{broadcast_of, store_of_broadcast, stores_of}
-use Rattle.rv_isa.specs.Instruction.{is_store}
-use Rattle.rv_hardware.specs.Retirement.{committed_store}
-use Rattle.rv_core.specs.Retiring.{with_commit}
-use Rattle.rv_core.specs.Soundness.{IsLegalWrite, IsRetiredStore}
 
 abbrev pub AreRetired : Values → List QueuedStore → Type 0
 AreRetired values ss = All (λ (s : QueuedStore). IsRetiredStore values s.state) ss

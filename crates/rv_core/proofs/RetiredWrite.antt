@@ -1,22 +1,6 @@
 -- What a head that retires writes: its target lies in the registers, and its store in RAM.
-use Rattle.std.proofs.Common.{◌≡◌, ℕ, ◌+◌, ◌<◌, ◌≤◌, Bool, true, false, IsTrue, List, ◌∷◌, inl, inr, Option, None, Some, IfSome, refl, arith, subst, le-leb, lt-ltb, ne_eqb}
-use Rattle.std.specs.List.{All}
-use Rattle.std.specs.Option.{option_map}
-use Rattle.std.proofs.lemmas.List.Elements.{All-head}
-use Rattle.rv_isa.specs.declared.broadcast.Message.{Message}
-use Rattle.rv_isa.specs.declared.broadcast.StoreAccess.{StoreAccess}
-use Rattle.rv_isa.specs.declared.causes.Fault.{Fault}
-use Rattle.rv_isa.specs.declared.values.Values.{Values}
-use Rattle.rv_memory.specs.Stale.{StaleWords, is_covered}
-use Rattle.rv_rob.specs.declared.entry.Entry.{Entry}
-use Rattle.rv_rob.specs.declared.entry.Stage.{Stage}
-use Rattle.rv_rob.specs.declared.entry.Stage.TheVariants.{Waiting, Running, Finished}
-use Rattle.rv_hardware.specs.Hardware.{Hardware}
-use Rattle.rv_hardware.specs.InFlight.{broadcast_of, with_value}
-use Rattle.rv_isa.specs.Instruction.{is_store}
+use Rattle.rv_core.proofs.Words.{◌≡◌, ℕ, ◌+◌, ◌<◌, ◌≤◌, Bool, true, false, List, ◌∷◌, IfSome, Some, None, All, Option, option_map, refl, subst, inl, inr, arith, lt-ltb, ne_eqb, le-leb, All-head, is_store, Message, StoreAccess, Fault, Values, Entry, Stage, Finished, Running, Waiting, Hardware, broadcast_of, with_value, IsTrue, StaleWords, is_covered, registers_with, IsLegalAccess, IsLegalWrite, IsSoundEntry, IsSoundHardware, message_of}
 use Rattle.rv_core.proofs.RetiredHead.{IsTarget}
-use Rattle.rv_core.specs.Retiring.{registers_with}
-use Rattle.rv_core.specs.Soundness.{IsLegalAccess, IsLegalWrite, IsSoundEntry, IsSoundHardware, message_of}
 
 known_message : (stage : Stage) (m : Message) → broadcast_of stage ≡ Some m → message_of stage ≡ Some m
 known_message Waiting m known = absurd (cc)

@@ -1,19 +1,6 @@
 -- The counts of cycles with one more, and what is told of them.
-use Rattle.std.proofs.Common.{◌≡◌, ℕ, suc, ◌+◌, ◌≤◌, max, ◌==◌, Bool, true, false, not, cond, List, [], ◌∷◌, ◌++◌, length, Option, Some, None, refl, sym, ap, ◌∙◌, arith, append_assoc, length-append}
-use Rattle.std.specs.List.{sum_by}
-use Rattle.std.proofs.lemmas.List.Sums.{count_by-le-length, sum_by-append}
-use Rattle.std.proofs.Math.Nat.{le-max_left, le-max_right, max-eq_right, max-le}
-use Rattle.rv_isa.specs.declared.lines.Arrival.{Arrival}
-use Rattle.rv_hardware.specs.Guided.{GuidedCycles, GuidedHardware, ended}
-use Rattle.rv_hardware.specs.Report.{Report}
-use Rattle.rv_hardware.specs.Run.{NoneStops, busy_of, counted_stall, is_silent, longest_gap_from, stalls_from, stalls_of, steps_of}
-use Rattle.rv_hardware.specs.declared.report.Stall.{Stall}
+use Rattle.rv_core.proofs.Words.{◌≡◌, ℕ, suc, ◌+◌, ◌≤◌, max, Bool, true, false, cond, not, List, [], ◌∷◌, ◌++◌, length, ◌==◌, Some, None, Option, sym, refl, ap, ◌∙◌, append_assoc, arith, length-append, Arrival, Report, NoneStops, busy_of, counted_stall, is_silent, longest_gap_from, stalls_from, stalls_of, steps_of, Stall, Step, le-max_left, le-max_right, max-eq_right, max-le, count_by-le-length, sum_by-append, sum_by, GuidedCycles, GuidedHardware, guided_ended as ended, StallCounts, IsBounded, last_stall_of, progress_after, progress_of, silence_after, silence_from, IsRun, Progress}
 use Rattle.rv_hardware.specs.declared.report.Stall.TheVariants as stall
-use Rattle.rv_hardware.specs.declared.report.StallCounts.{StallCounts}
-use Rattle.rv_hardware.specs.declared.step.Step.{Step}
-use Rattle.rv_core.specs.Progress.{IsBounded, progress_after, last_stall_of, progress_of, silence_after, silence_from}
-use Rattle.rv_core.specs.RunDone.{IsRun}
-use Rattle.rv_core.specs.declared.outcome.Progress.{Progress}
 
 -- ---- each count, with one more report at the end
 

@@ -1,11 +1,6 @@
 -- The reason of a run's last cycle is the run's.
-use Rattle.std.proofs.Common.{◌≡◌, ℕ, ◌<◌, List, [], ◌∷◌, ◌++◌, length, Some, refl, arith, length-append}
-use Rattle.rv_arch.specs.declared.outcome.Stop.{Stop}
+use Rattle.rv_core.proofs.Words.{◌≡◌, ℕ, ◌<◌, List, [], ◌∷◌, ◌++◌, length, Some, refl, arith, length-append, Stop, Hardware, Report, IsStop, NoneStops, IsCommitStop}
 use Rattle.rv_arch.specs.declared.outcome.Stop.TheVariants as stop
-use Rattle.rv_hardware.specs.Hardware.{Hardware}
-use Rattle.rv_hardware.specs.Report.{Report}
-use Rattle.rv_hardware.specs.Run.{IsStop, NoneStops}
-use Rattle.rv_core.specs.Told.{IsCommitStop}
 
 pub is_stop : (limit : ℕ) (reports : List Report) (last : Report) (new : Hardware) (reason : Stop) → NoneStops reports → last.stop ≡ Some reason → IsCommitStop (Some reason) → length reports < limit → IsStop limit (reports ++ last ∷ []) new reason
 is_stop limit reports last new stop.Breakpoint none is own within =

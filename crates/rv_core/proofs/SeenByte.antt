@@ -1,15 +1,5 @@
 -- The byte that programs see is the youngest retired store's, else the cache's.
-use Rattle.std.proofs.Common.{◌≡◌, ℕ, ◌+◌, ◌-◌, ◌≤◌, false, nat_le, get_or, slice_get, Option, Some, None, inl, inr, sym, ap, ◌∙◌, arith}
-use Rattle.std.specs.Option.{unwrap_or}
-use Rattle.std.proofs.lemmas.Bool.{and_from, cases_lt, cond-true, cond-false, false≢true, le-leb, lt-leb}
-use Rattle.std.proofs.lemmas.Option.{slice_get_past}
-use Rattle.rv_cache.specs.Cache.{IsCached}
-use Rattle.rv_memory.specs.Memory.{byte_seen, is_in_ram}
-use Rattle.rv_stores.specs.Queue.{youngest_byte}
-use Rattle.rv_hardware.specs.Hardware.{Hardware}
-use Rattle.rv_hardware.specs.Seen.{layout_of, seen}
-use Rattle.rv_core.specs.Access.{LieIn}
-use Rattle.rv_core.specs.Soundness.{IsSoundHardware}
+use Rattle.rv_core.proofs.Words.{◌≡◌, ℕ, ◌+◌, ◌-◌, ◌≤◌, false, nat_le, slice_get, slice_index_or as get_or, Some, None, Option, unwrap_or, sym, ap, ◌∙◌, inl, inr, arith, le-leb, and_from, cases_lt, cond-false, cond-true, false≢true, lt-leb, is_in_ram, youngest_byte, Hardware, layout_of, seen, slice_get_past, byte_seen, IsCached, LieIn, IsSoundHardware}
 use Rattle.rv_core.proofs.BehindStores.{length-memory_behind, slice_get-memory_behind}
 use Rattle.rv_core.proofs.IssueWrites.{committed_inside}
 

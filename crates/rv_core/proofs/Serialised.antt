@@ -1,14 +1,7 @@
 -- A serialising head retires, which squashes what is after it.
-use Rattle.std.proofs.Common.{◌≡◌, ℕ, ◌+◌, ◌*◌, ◌<◌, List, ◌∷◌, length, Option, None, Some, refl, ap, ◌∙◌, arith, length-set}
-use Rattle.rv_isa.proofs.Numbered.{AreBelow-weaken}
-use Rattle.rv_rob.specs.ReorderBuffer.{ReorderBuffer, head_retired}
-use Rattle.rv_rob.specs.declared.entry.Entry.{Entry}
-use Rattle.rv_stores.specs.declared.store.Store.{Store as QueuedStore}
-use Rattle.rv_hardware.specs.Hardware.{Hardware}
+use Rattle.rv_core.proofs.Words.{◌≡◌, ℕ, ◌+◌, ◌*◌, ◌<◌, List, ◌∷◌, length, Some, None, Option, refl, ap, ◌∙◌, arith, length-set, Store as QueuedStore, ReorderBuffer, head_retired, Entry, Hardware, AreBelow-weaken, registers_with, IsSoundHardware}
 use Rattle.rv_core.proofs.RetiredHead.{buffer_behind}
 use Rattle.rv_core.proofs.RetiredSound.{entries_behind_head}
-use Rattle.rv_core.specs.Retiring.{registers_with}
-use Rattle.rv_core.specs.Soundness.{IsSoundHardware}
 
 pub written_count : (written : Option (ℕ × ℕ)) (registers : List ℕ) → length (registers_with written registers) ≡ length registers
 written_count None registers = refl

@@ -1,21 +1,7 @@
 -- A run that is watched: what was shown of it so far, one more cycle, and its end.
-use Rattle.std.proofs.Common.{◌≡◌, ℕ, ◌+◌, ◌^◌, ◌<◌, ◌≤◌, List, [], ◌∷◌, ◌++◌, length, Option, Some, None, Result, Ok, Err, refl, sym, ap, ◌∙◌, subst, arith, length-append}
-use Rattle.rv_isa.specs.Arrivals.{lines_at}
-use Rattle.rv_isa.specs.declared.{lines.Arrival.Arrival, lines.Lines.Lines}
-use Rattle.rv_arch.specs.declared.outcome.Stop.{Stop}
-use Rattle.rv_front.specs.declared.predictors.DescribedPredictor.{DescribedPredictor}
-use Rattle.rv_hardware.specs.Guided.{GuidedCycles, GuidedHardware, IsGuidedCycle, guided, cycled as guided_cycled, ended as guided_ended}
-use Rattle.rv_hardware.specs.Hardware.{Hardware}
-use Rattle.rv_hardware.specs.History.{History, Moment, cycled, ended, reports_of}
-use Rattle.rv_hardware.specs.Report.{Report}
-use Rattle.rv_hardware.specs.Run.{IsStop, NoneStops, Reachable, steps_of}
-use Rattle.rv_hardware.specs.declared.step.Step.{Step}
+use Rattle.rv_core.proofs.Words.{◌≡◌, ℕ, ◌+◌, ◌^◌, ◌<◌, ◌≤◌, List, [], ◌∷◌, ◌++◌, length, Some, None, Option, sym, refl, ap, ◌∙◌, subst, arith, length-append, lines_at, Arrival, Lines, Stop, Hardware, Report, IsStop, NoneStops, Reachable, steps_of, Step, Err, Ok, Result, DescribedPredictor, GuidedCycles, GuidedHardware, IsGuidedCycle, guided_cycled, guided_ended, guided, History, Moment, cycled, ended, reports_of, IsBounded, IsNextCycle, progress_after, progress_of, IsCommitStop, HaveFewSteps, IsEnd, IsShown, IsWatchedRun, Sight, Watched, watched, Progress}
 use Rattle.rv_hardware.proofs.AnyPrediction.{cycles_of}
 use Rattle.rv_hardware.proofs.Headline.Reached.{cycles_counted}
-use Rattle.rv_core.specs.Progress.{IsBounded, IsNextCycle, progress_after, progress_of}
-use Rattle.rv_core.specs.Told.{IsCommitStop}
-use Rattle.rv_core.specs.Watching.{HaveFewSteps, IsEnd, IsShown, IsWatchedRun, Sight, Watched, watched}
-use Rattle.rv_core.specs.declared.outcome.Progress.{Progress}
 use Rattle.rv_core.proofs.RunReports.{NoneStops-push, progress-bounded, progress_of-push, steps_of-push}
 use Rattle.rv_core.proofs.RunStops.{is_stop}
 

@@ -1,11 +1,5 @@
 -- The hardware with other instructions in flight, or with other fetched words, is as sound.
-use Rattle.std.proofs.Common.{◌≡◌, ◌≤◌, false, List, length, All}
-use Rattle.std.specs.List.{AllPairs}
-use Rattle.rv_front.specs.FetchBuffer.{FetchBuffer}
-use Rattle.rv_rob.specs.declared.entry.Entry.{Entry}
-use Rattle.rv_hardware.specs.Hardware.{Hardware}
-use Rattle.rv_isa.specs.Instruction.{is_serialising}
-use Rattle.rv_core.specs.Soundness.{IsDecoded, IsSoundEntry, IsSoundHardware}
+use Rattle.rv_core.proofs.Words.{◌≡◌, ◌≤◌, false, List, length, All, AllPairs, is_serialising, Entry, FetchBuffer, Hardware, IsDecoded, IsSoundEntry, IsSoundHardware}
 
 pub sound_in_flight : (h : Hardware) (es : List Entry) (front : FetchBuffer) → IsSoundHardware h → length es ≤ h.values.rob → All (IsSoundEntry h.values) es
     → AllPairs (λ older younger. is_serialising older.instruction ≡ false) es → All IsDecoded front.entries

@@ -1,19 +1,7 @@
 -- Parts of which everything in flight was squashed are sound, and stand for the flushed hardware.
-use Rattle.std.proofs.Common.{◌≡◌, ℕ, List, filter, ◌∙◌}
-use Rattle.rv_isa.specs.PerKind.{for_each}
-use Rattle.rv_rename.specs.Renaming.{cleared}
-use Rattle.rv_rob.specs.ReorderBuffer.{ReorderBuffer}
-use Rattle.rv_stations.specs.Pool.{squashed as squashed_pool}
-use Rattle.rv_stores.specs.Store.{is_committed}
-use Rattle.rv_units.specs.Bus.{squashed as squashed_bus}
-use Rattle.rv_hardware.specs.Hardware.{Hardware}
-use Rattle.rv_hardware.specs.Squash.{flushed}
+use Rattle.rv_core.proofs.Words.{◌≡◌, ℕ, List, filter, ◌∙◌, for_each, is_committed, ReorderBuffer, Hardware, flushed, squashed_pool, squashed_bus, cleared, IsSound, hardware_of, IsSoundHardware, AreTied, Inside}
 use Rattle.rv_core.proofs.Closed.{closed-is, closed-sound}
 use Rattle.rv_core.proofs.Flushed.{sound_when_flushed, tied_when_flushed}
-use Rattle.rv_core.specs.Parts.{IsSound, hardware_of}
-use Rattle.rv_core.specs.Soundness.{IsSoundHardware}
-use Rattle.rv_core.specs.Ties.{AreTied}
-use Rattle.rv_core.specs.declared.parts.Parts.TheInside.{Inside}
 
 -- what stands beside the hardware, once everything in flight is squashed
 pub record AreSquashed (before after : Inside) : Type 0 where

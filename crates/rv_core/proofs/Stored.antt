@@ -1,17 +1,7 @@
 -- Parts of which the retired stores, the cache and the port alone change.
-use Rattle.std.proofs.Common.{◌≡◌, ℕ, ◌^◌, ◌≤◌, List, refl}
-use Rattle.rv_isa.specs.Numbered.{AreBelow}
-use Rattle.rv_memory.specs.Memory.{Memory}
-use Rattle.rv_cache.specs.Cache.{Contents}
-use Rattle.rv_stores.specs.Queue.{Queue}
-use Rattle.rv_stores.specs.declared.store.Store.{Store as QueuedStore}
-use Rattle.rv_hardware.specs.Hardware.{Hardware}
+use Rattle.rv_core.proofs.Words.{◌≡◌, ℕ, ◌^◌, ◌≤◌, List, refl, Memory, Contents, Store as QueuedStore, Hardware, AreBelow, Queue, IsSound, hardware_of, IsDescribedCache, IsSoundHardware, AreTied, queue_of, Inside}
 use Rattle.rv_core.proofs.Closed.{closed-is, closed-sound}
 use Rattle.rv_core.proofs.RetiredStores.{AreRetired}
-use Rattle.rv_core.specs.Parts.{hardware_of, IsSound}
-use Rattle.rv_core.specs.Soundness.{IsDescribedCache, IsSoundHardware}
-use Rattle.rv_core.specs.Ties.{AreTied, queue_of}
-use Rattle.rv_core.specs.declared.parts.Parts.TheInside.{Inside}
 
 -- the hardware with these retired stores, this cache and this port
 abbrev pub with_cache : Contents Memory → List QueuedStore → ℕ → Hardware → Hardware

@@ -1,31 +1,10 @@
 -- What the commit phase teaches the predictor, turn by turn.
-use Rattle.std.proofs.Common.{◌≡◌, ℕ, List, [], ◌∷◌, ◌++◌, Option, None, refl, sym, ap, subst, ◌∙◌}
+use Rattle.rv_core.proofs.Words.{◌≡◌, ℕ, List, [], ◌∷◌, ◌++◌, None, Option, sym, refl, ap, ◌∙◌, subst, append_assoc, append-nil, Lines, due, State, Committing, commit_turn, commit_with, execute, with_lines, Hardware, Ends, GoesOn, Turn, Reachable, seen, pc_of, Step, Leads as LeavesEither, fold, Lesson, AreTaught, after_lesson, DescribedPredictor, first_pc, lesson_of, lessons_of, committing, turn_left, IsBegun, HeadTurn}
 use Rattle.std.specs.FinSet as set
-use Rattle.std.specs.List.{fold}
-use Rattle.std.proofs.lemmas.List.{append-nil, append_assoc}
-use Rattle.rv_isa.specs.declared.lines.Lines.{Lines}
-use Rattle.rv_arch.specs.Due.{due}
-use Rattle.rv_arch.specs.State.{State}
-use Rattle.rv_front.specs.Lesson.{Lesson}
-use Rattle.rv_front.specs.Predictors.{AreTaught, after_lesson}
-use Rattle.rv_front.specs.declared.predictors.DescribedPredictor.{DescribedPredictor}
 use Rattle.rv_hardware.proofs.Headline.Commit.{IsDone, IsGoing, begins_going, commit_done, turn_done}
 use Rattle.rv_hardware.proofs.Headline.Cycle.{always_sound, execute_kept, lines_sound}
 use Rattle.rv_hardware.proofs.Headline.Invariant.{IsSound}
-use Rattle.rv_hardware.proofs.Headline.Steps.{LeavesEither}
 use Rattle.rv_hardware.proofs.Headline.Turn.{GoesFrom, turn_goes_from}
-use Rattle.rv_hardware.specs.Commit.{Committing, commit_turn}
-use Rattle.rv_hardware.specs.Cycle.{commit_with, execute, with_lines}
-use Rattle.rv_hardware.specs.Hardware.{Hardware}
-use Rattle.rv_hardware.specs.Lessons.{first_pc, lesson_of, lessons_of}
-use Rattle.rv_hardware.specs.Repeated.{Turn, GoesOn, Ends}
-use Rattle.rv_hardware.specs.Run.{Reachable}
-use Rattle.rv_hardware.specs.Seen.{seen}
-use Rattle.rv_hardware.specs.Step.{pc_of}
-use Rattle.rv_hardware.specs.declared.step.Step.{Step}
-use Rattle.rv_core.specs.HeadTurn.{committing, turn_left}
-use Rattle.rv_core.specs.Reached.{IsBegun}
-use Rattle.rv_core.specs.declared.head.HeadTurn.{HeadTurn}
 use Rattle.rv_core.specs.declared.head.HeadTurn.TheVariants as head
 
 first_of_more : (steps : List Step) (s : Step) (next : ℕ) → first_pc (steps ++ s ∷ []) next ≡ first_pc steps (pc_of s)

@@ -1,26 +1,5 @@
 -- A broadcast and the squash after a wrong prediction keep the ties of the parts and the soundness of the hardware.
-use Rattle.std.proofs.Common.{◌≡◌, ℕ, ◌+◌, ◌&&◌, true, false, [], ◌++◌, length, find, map, Some, None, refl, sym, ap, subst, ◌∙◌, arith}
-use Rattle.std.specs.Option.{IfSome}
-use Rattle.rv_isa.specs.PerKind.{for_each}
-use Rattle.rv_rename.specs.Renaming.{restored}
-use Rattle.rv_rob.specs.Entry.{finished, predicting}
-use Rattle.rv_rob.specs.ReorderBuffer.{ReorderBuffer, changed, cut_from, entries_below, entry_of, with_entry}
-use Rattle.rv_rob.specs.declared.entry.Entry.{Entry}
-use Rattle.rv_stations.specs.Pool.{squashed as squashed_pool, woken_pool}
-use Rattle.rv_stores.specs.Queue.{Queue, older_than}
-use Rattle.rv_stores.specs.Store.{answered}
-use Rattle.rv_units.specs.Bus.{Pending, granted_one, is_ready, squashed as squashed_bus}
-use Rattle.rv_units.specs.declared.bus.PendingResult.{PendingResult}
-use Rattle.rv_hardware.specs.Broadcast.{broadcast_entry, broadcast_oldest, broadcast_result, broadcast_turn, is_mispredicted, mends_early, with_broadcast, with_recovery}
-use Rattle.rv_hardware.specs.Hardware.{Hardware}
-use Rattle.rv_hardware.specs.InFlight.{broadcast_of, is_waiting, store_of_message}
-use Rattle.rv_isa.specs.Instruction.{is_branch_or_jump, is_serialising, is_store}
-use Rattle.rv_hardware.specs.Repeated.{Ends, GoesOn}
-use Rattle.rv_hardware.specs.Squash.{redirected}
-use Rattle.rv_core.specs.Parts.{IsSound, hardware_of}
-use Rattle.rv_core.specs.Soundness.{IsLegalWrite, IsSoundEntry, IsSoundHardware, message_of}
-use Rattle.rv_core.specs.Ties.{AreTied, bus_of}
-use Rattle.rv_core.specs.declared.parts.Parts.TheInside.{Inside}
+use Rattle.rv_core.proofs.Words.{◌≡◌, ℕ, ◌+◌, true, false, ◌&&◌, [], ◌++◌, map, length, IfSome, Some, None, sym, refl, ap, ◌∙◌, subst, arith, is_branch_or_jump, is_serialising, is_store, for_each, finished, predicting, ReorderBuffer, changed, entries_below, with_entry, Entry, broadcast_oldest, broadcast_result, broadcast_turn, is_mispredicted, mends_early, with_broadcast, with_recovery, Hardware, broadcast_of, is_waiting, store_of_message, Ends, GoesOn, redirected, find, Queue, older_than, answered, squashed_pool, woken_pool, Pending, granted_one, is_ready_result, squashed_bus, PendingResult, restored, cut_from, entry_of, broadcast_entry, IsSound, hardware_of, IsLegalWrite, IsSoundEntry, IsSoundHardware, message_of, AreTied, bus_of, Inside}
 use Rattle.rv_core.proofs.Closed.{closed-is, closed-sound}
 use Rattle.rv_core.proofs.SoundInFlight.{sound_in_flight}
 use Rattle.rv_core.proofs.TiedBus.{IsGranted, bus-predicting, bus-squashed, granted, granted-none, without-none}
@@ -30,19 +9,19 @@ use Rattle.rv_core.proofs.TiedRenaming.{renaming-restored, renaming-same}
 use Rattle.rv_core.proofs.TiedStations.{stations-predicting, stations-squashed, stations-woken}
 
 -- ---- nothing to send
-module _ (p : Inside) (is : IsSound p) (none : find (is_ready p.cycle) p.bus.results ≡ None) where
+module _ (p : Inside) (is : IsSound p) (none : find (is_ready_result p.cycle) p.bus.results ≡ None) where
   pub unsent : broadcast_turn (hardware_of p) ≡ Ends (hardware_of p)
   unsent =
-      ap (broadcast_oldest (hardware_of p)) (granted-none p.cycle p.rob.retired [] p.rob.entries (sym (ap (λ (bus : Pending). find (is_ready p.cycle) bus.results) is.tied.pending) ∙ none))
+      ap (broadcast_oldest (hardware_of p)) (granted-none p.cycle p.rob.retired [] p.rob.entries (sym (ap (λ (bus : Pending). find (is_ready_result p.cycle) bus.results) is.tied.pending) ∙ none))
 
   pub unsent_bus : granted_one p.cycle p.bus ≡ p.bus
   unsent_bus = ap (λ results. record p.bus { results = results }) (without-none p.cycle p.bus.results none)
 
 -- ---- a result is sent
-module _ (p : Inside) (is : IsSound p) (r : PendingResult) (found : find (is_ready p.cycle) p.bus.results ≡ Some r) where
+module _ (p : Inside) (is : IsSound p) (r : PendingResult) (found : find (is_ready_result p.cycle) p.bus.results ≡ Some r) where
   pub grant : IsGranted p.cycle p.rob.retired [] p.rob.entries r
   grant =
-      granted p.cycle p.rob.retired [] p.rob.entries r (sym (ap (λ (bus : Pending). find (is_ready p.cycle) bus.results) is.tied.pending) ∙ found)
+      granted p.cycle p.rob.retired [] p.rob.entries r (sym (ap (λ (bus : Pending). find (is_ready_result p.cycle) bus.results) is.tied.pending) ∙ found)
 
   pub sent-turn : broadcast_turn (hardware_of p) ≡ broadcast_entry (hardware_of p) r.seq grant.entry grant.message
   sent-turn =

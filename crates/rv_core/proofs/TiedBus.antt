@@ -1,25 +1,7 @@
 -- The common data bus as the instructions in flight tell it, through a dispatch, a broadcast and a squash.
-use Rattle.std.proofs.Common.{◌≡◌, ℕ, ◌+◌, ◌==◌, Bool, true, false, cond, inl, inr, List, [], ◌∷◌, ◌++◌, length, find, nat_le, All, Option, Some, None, refl, sym, ap, ◌∙◌, append-nil, length-append, eq-eqb, ne_eqb, arith}
-use Rattle.std.proofs.lemmas.Bool.{cases_Bool}
-use Rattle.std.proofs.lemmas.List.Elements.{All-cons}
-use Rattle.rv_isa.specs.Numbered.{below}
-use Rattle.rv_isa.specs.declared.broadcast.Message.{Message}
-use Rattle.rv_isa.specs.declared.issues.Issue.{Issue}
-use Rattle.rv_isa.specs.declared.operations.Kind.{Kind}
-use Rattle.rv_isa.specs.declared.values.Values.{Values}
-use Rattle.rv_rob.specs.Entry.{finished, predicting}
-use Rattle.rv_rob.specs.ReorderBuffer.{ReorderBuffer, changed, cut_from, entries_below, entry_of, next_number, pushed, with_entry}
-use Rattle.rv_rob.specs.declared.entry.Entry.{Entry}
-use Rattle.rv_rob.specs.declared.entry.Stage.{Stage}
-use Rattle.rv_rob.specs.declared.entry.Stage.TheVariants.{Waiting, Running, Finished}
-use Rattle.rv_units.specs.Bus.{is_ready, seq_of, squashed, without_first_ready}
-use Rattle.rv_units.specs.declared.bus.PendingResult.{PendingResult}
-use Rattle.rv_hardware.specs.Broadcast.{has_result, result_at}
-use Rattle.rv_hardware.specs.Dispatch.{stage_by}
-use Rattle.rv_hardware.specs.Issue.{oldest_from}
-use Rattle.rv_core.specs.Ties.{bus_of, pending_from, pending_of}
-use Rattle.rv_core.proofs.TiedEntries.{entry_of-from}
+use Rattle.rv_core.proofs.Words.{◌≡◌, ℕ, ◌+◌, Bool, true, false, cond, List, [], ◌∷◌, ◌++◌, length, nat_le, ◌==◌, Some, None, All, Option, sym, refl, ap, ◌∙◌, inl, inr, append-nil, arith, length-append, eq-eqb, ne_eqb, cases_Bool, All-cons, Message, Issue, Kind, Values, finished, predicting, ReorderBuffer, changed, entries_below, pushed, with_entry, Entry, Stage, Finished, Running, Waiting, has_result, result_at, stage_by, oldest_from, find, below, is_ready_result, seq_of, squashed_bus, without_first_ready, PendingResult, cut_from, entry_of, next_number, bus_of, pending_from, pending_of}
 use Rattle.rv_core.proofs.Gathered.{gathered, gathered-cut, gathered-push, gathered-same}
+use Rattle.rv_core.proofs.TiedEntries.{entry_of-from}
 
 abbrev nothing : Unit {0} → ℕ → Entry → Unit {0}
 nothing st s e = tt
@@ -49,7 +31,7 @@ pending-predicting next_pc n s es =
     gathered-same nothing own_result (predicting next_pc) (λ st s e. refl) (λ st s e. refl) n tt s es ∙
     sym (pending-gathered s es)
 
-pub bus-squashed : (values : Values) (rob : ReorderBuffer) (n : ℕ) → squashed n (bus_of values rob) ≡ bus_of values (cut_from n rob)
+pub bus-squashed : (values : Values) (rob : ReorderBuffer) (n : ℕ) → squashed_bus n (bus_of values rob) ≡ bus_of values (cut_from n rob)
 bus-squashed values rob n =
     ap (λ results. record { results = results; capacity = values.rob; width = values.bus_width }) (pending-cut n rob.retired rob.entries)
 
@@ -109,8 +91,8 @@ module _ (cycle : ℕ) where
         rest = rw other (skips ∙ ap (λ ps. pending_of n e.stage ++ ps) later.rest);
       }
 
-  granted-at : (n : ℕ) (older : List Entry) (e : Entry) (stage : Stage) (es : List Entry) (r : PendingResult) → find (is_ready cycle) (pending_of n stage ++ pending_from (n + 1) es) ≡ Some r
-      → (find (is_ready cycle) (pending_from (n + 1) es) ≡ Some r → IsGranted cycle (n + 1) (older ++ record e { stage = stage } ∷ []) es r)
+  granted-at : (n : ℕ) (older : List Entry) (e : Entry) (stage : Stage) (es : List Entry) (r : PendingResult) → find (is_ready_result cycle) (pending_of n stage ++ pending_from (n + 1) es) ≡ Some r
+      → (find (is_ready_result cycle) (pending_from (n + 1) es) ≡ Some r → IsGranted cycle (n + 1) (older ++ record e { stage = stage } ∷ []) es r)
       → IsGranted cycle n older (record e { stage = stage } ∷ es) r
   granted-at n older e Waiting es r found later = granted-later n older (record e { stage = Waiting }) es r refl refl (later found)
   granted-at n older e (Finished issue at message) es r found later =
@@ -118,7 +100,7 @@ module _ (cycle : ℕ) where
   granted-at n older e (Running issue message) es r found later = elim (cases_Bool (nat_le (issue.cycle + issue.cost) cycle)) [
     | inl ready ↦
         let own : PendingResult = record { seq = n; ready = issue.cycle + issue.cost } in
-        let is : Some own ≡ Some r = sym (ap (λ b. cond b (Some own) (find (is_ready cycle) (pending_from (n + 1) es))) ready) ∙ found in
+        let is : Some own ≡ Some r = sym (ap (λ b. cond b (Some own) (find (is_ready_result cycle) (pending_from (n + 1) es))) ready) ∙ found in
         let one : own ≡ r = cc in
         rw (← one) (record {
           before = older;
@@ -134,42 +116,42 @@ module _ (cycle : ℕ) where
         })
     | inr late ↦
         let own : PendingResult = record { seq = n; ready = issue.cycle + issue.cost } in
-        let found_later : find (is_ready cycle) (pending_from (n + 1) es) ≡ Some r = sym (ap (λ b. cond b (Some own) (find (is_ready cycle) (pending_from (n + 1) es))) late) ∙ found in
+        let found_later : find (is_ready_result cycle) (pending_from (n + 1) es) ≡ Some r = sym (ap (λ b. cond b (Some own) (find (is_ready_result cycle) (pending_from (n + 1) es))) late) ∙ found in
         granted-later n older (record e { stage = Running issue message }) es r (rw late refl) (rw late refl) (later found_later)
   ]
 
-  pub granted : (n : ℕ) (older es : List Entry) (r : PendingResult) → find (is_ready cycle) (pending_from n es) ≡ Some r → IsGranted cycle n older es r
+  pub granted : (n : ℕ) (older es : List Entry) (r : PendingResult) → find (is_ready_result cycle) (pending_from n es) ≡ Some r → IsGranted cycle n older es r
   granted n older [] r found = absurd (cc)
   granted n older (e ∷ es) r found =
       granted-at n older e e.stage es r found (λ later. granted (n + 1) (older ++ e ∷ []) es r later)
 
-  none-at : (n : ℕ) (older : List Entry) (e : Entry) (stage : Stage) (es : List Entry) → find (is_ready cycle) (pending_of n stage ++ pending_from (n + 1) es) ≡ None
-      → (find (is_ready cycle) (pending_from (n + 1) es) ≡ None → oldest_from (has_result cycle) (older ++ record e { stage = stage } ∷ []) es ≡ None)
+  none-at : (n : ℕ) (older : List Entry) (e : Entry) (stage : Stage) (es : List Entry) → find (is_ready_result cycle) (pending_of n stage ++ pending_from (n + 1) es) ≡ None
+      → (find (is_ready_result cycle) (pending_from (n + 1) es) ≡ None → oldest_from (has_result cycle) (older ++ record e { stage = stage } ∷ []) es ≡ None)
       → oldest_from (has_result cycle) older (record e { stage = stage } ∷ es) ≡ None
   none-at n older e Waiting es none later = later none
   none-at n older e (Finished issue at message) es none later = later none
   none-at n older e (Running issue message) es none later = elim (cases_Bool (nat_le (issue.cycle + issue.cost) cycle)) [
     | inl ready ↦
         let own : PendingResult = record { seq = n; ready = issue.cycle + issue.cost } in
-        let is : Some own ≡ None = sym (ap (λ b. cond b (Some own) (find (is_ready cycle) (pending_from (n + 1) es))) ready) ∙ none in
+        let is : Some own ≡ None = sym (ap (λ b. cond b (Some own) (find (is_ready_result cycle) (pending_from (n + 1) es))) ready) ∙ none in
         absurd (cc)
     | inr late ↦
         let own : PendingResult = record { seq = n; ready = issue.cycle + issue.cost } in
-        rw late (later (sym (ap (λ b. cond b (Some own) (find (is_ready cycle) (pending_from (n + 1) es))) late) ∙ none))
+        rw late (later (sym (ap (λ b. cond b (Some own) (find (is_ready_result cycle) (pending_from (n + 1) es))) late) ∙ none))
   ]
 
   -- where none is ready, no execution is over
-  pub granted-none : (n : ℕ) (older es : List Entry) → find (is_ready cycle) (pending_from n es) ≡ None → oldest_from (has_result cycle) older es ≡ None
+  pub granted-none : (n : ℕ) (older es : List Entry) → find (is_ready_result cycle) (pending_from n es) ≡ None → oldest_from (has_result cycle) older es ≡ None
   granted-none n older [] none = refl
   granted-none n older (e ∷ es) none =
       none-at n older e e.stage es none (λ later. granted-none (n + 1) (older ++ e ∷ []) es later)
 
   -- and nothing leaves the bus
-  pub without-none : (ps : List PendingResult) → find (is_ready cycle) ps ≡ None → without_first_ready cycle ps ≡ ps
+  pub without-none : (ps : List PendingResult) → find (is_ready_result cycle) ps ≡ None → without_first_ready cycle ps ≡ ps
   without-none [] none = refl
-  without-none (p ∷ ps) none = elim (cases_Bool (is_ready cycle p)) [
+  without-none (p ∷ ps) none = elim (cases_Bool (is_ready_result cycle p)) [
     | inl ready ↦
-        let is : Some p ≡ None = sym (ap (λ b. cond b (Some p) (find (is_ready cycle) ps)) ready) ∙ none in absurd (cc)
+        let is : Some p ≡ None = sym (ap (λ b. cond b (Some p) (find (is_ready_result cycle) ps)) ready) ∙ none in absurd (cc)
     | inr late ↦
-        rw late (ap (λ l. p ∷ l) (without-none ps (sym (ap (λ b. cond b (Some p) (find (is_ready cycle) ps)) late) ∙ none)))
+        rw late (ap (λ l. p ∷ l) (without-none ps (sym (ap (λ b. cond b (Some p) (find (is_ready_result cycle) ps)) late) ∙ none)))
   ]

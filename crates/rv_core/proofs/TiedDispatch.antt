@@ -1,41 +1,8 @@
 -- A dispatch keeps the ties of the parts and the soundness of the hardware.
-use Rattle.std.proofs.Common.{◌≡◌, ℕ, zero, suc, ◌+◌, ◌-◌, ◌<◌, ◌&&◌, ◌||◌, Bool, true, false, cond, List, [], ◌∷◌, ◌++◌, length, nat_le, All, Option, Some, None, refl, sym, ap, ◌∙◌, length-append, arith}
-use Rattle.std.specs.List.{AllPairs, list_any, slice_get}
-use Rattle.std.specs.Option.{IfSome}
-use Rattle.std.proofs.lemmas.Bool.{leb-false, or_parts}
-use Rattle.std.proofs.lemmas.List.Elements.{All-cons, All-push}
-use Rattle.std.proofs.lemmas.List.Quantifiers.{all_pairs_push}
-use Rattle.rv_isa.proofs.WithKind.{at_kind-by_kind}
-use Rattle.rv_isa.specs.PerKind.{at_kind}
-use Rattle.rv_isa.specs.declared.broadcast.Message.{Message}
-use Rattle.rv_isa.specs.declared.instructions.Instr.{Instr}
+use Rattle.rv_core.proofs.Words.{◌≡◌, ℕ, zero, suc, ◌+◌, ◌-◌, ◌<◌, Bool, true, false, cond, ◌&&◌, ◌||◌, List, [], ◌∷◌, ◌++◌, length, IfSome, nat_le, slice_get, Some, None, All, Option, AllPairs, sym, refl, ap, ◌∙◌, arith, length-append, leb-false, or_parts, All-cons, list_any, is_branch_or_jump, is_serialising, is_store, kind_of_word, target_of_word, at_kind, Message, Instr, Lines, Kind, PerKind, Values, Layout, Effect, Faults, Retires, State, pushed, Entry, Finished, Fetched, mends_early, entry_of_fetched, has_full_stations, reason_of, stage_by, Hardware, effect_message, result_of_word, layout_of, seen_behind, stores_behind, Stall, All-push, all_pairs_push, at_kind-by_kind, Queue, Pool, Pending, Renaming, next_number, are_full_for, with_instruction, with_jump, with_store, with_target, IsDecoded, IsLegalWrite, IsSoundEntry, IsSoundHardware, message_of, AreTied, pool_of_kind, stations_of, status_behind, values_in}
 use Rattle.rv_isa.specs.declared.instructions.Instr.TheVariants as instruction
-use Rattle.rv_isa.specs.declared.lines.Lines.{Lines}
-use Rattle.rv_isa.specs.declared.operations.Kind.{Kind}
-use Rattle.rv_isa.specs.declared.per_kind.PerKind.{PerKind}
-use Rattle.rv_isa.specs.declared.values.Values.{Values}
-use Rattle.rv_arch.specs.Effect.{Effect, Retires, Faults}
-use Rattle.rv_arch.specs.State.{State}
-use Rattle.rv_memory.specs.Memory.{Layout}
-use Rattle.rv_stations.specs.Pool.{Pool}
-use Rattle.rv_front.specs.declared.fetched.Fetched.{Fetched}
-use Rattle.rv_rename.specs.Renaming.{Renaming}
-use Rattle.rv_rob.specs.ReorderBuffer.{next_number, pushed, youngest}
-use Rattle.rv_rob.specs.declared.entry.Entry.{Entry}
-use Rattle.rv_rob.specs.declared.entry.Stage.TheVariants.{Finished}
-use Rattle.rv_stores.specs.Queue.{Queue}
-use Rattle.rv_units.specs.Bus.{Pending}
-use Rattle.rv_hardware.specs.Broadcast.{mends_early}
-use Rattle.rv_hardware.specs.Dispatch.{entry_of_fetched, has_full_stations, reason_of, stage_by}
-use Rattle.rv_hardware.specs.Hardware.{Hardware}
-use Rattle.rv_isa.specs.Instruction.{is_branch_or_jump, is_serialising, is_store, target_of_word, kind_of_word}
-use Rattle.rv_hardware.specs.Result.{effect_message, result_of_word}
-use Rattle.rv_hardware.specs.Seen.{layout_of, seen_behind, stores_behind}
-use Rattle.rv_hardware.specs.declared.report.Stall.{Stall}
 use Rattle.rv_hardware.specs.declared.report.Stall.TheVariants as stall
-use Rattle.rv_core.specs.Entering.{are_full_for, with_instruction, with_jump, with_store, with_target}
-use Rattle.rv_core.specs.Soundness.{IsDecoded, IsLegalWrite, IsSoundEntry, IsSoundHardware, message_of}
-use Rattle.rv_core.specs.Ties.{AreTied, stations_of, status_behind, values_in, pool_of_kind}
+use Rattle.rv_rob.specs.ReorderBuffer.{youngest}
 use Rattle.rv_core.proofs.SoundInFlight.{sound_in_flight}
 use Rattle.rv_core.proofs.TiedBus.{bus-push}
 use Rattle.rv_core.proofs.TiedQueue.{stores-push}

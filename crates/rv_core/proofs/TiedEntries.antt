@@ -1,11 +1,5 @@
 -- The entry of a number, in a list whose first entry has a number of its own.
-use Rattle.std.proofs.Common.{◌≡◌, ℕ, suc, ◌+◌, ◌<◌, ◌≤◌, ◌==◌, true, false, cond, inl, inr, List, [], ◌∷◌, length, get_or, nat_lt, Some, refl, sym, ap, ◌∙◌, le-ltb, arith}
-use Rattle.std.proofs.lemmas.Bool.{cases_Bool, eqb-true}
-use Rattle.std.specs.List.{All, AllPairs}
-use Rattle.std.proofs.lemmas.List.Kept.{AllPairs-cons}
-use Rattle.std.proofs.lemmas.List.Elements.{All-cons, All-head, All-tail}
-use Rattle.rv_rob.specs.declared.entry.Entry.{Entry}
-use Rattle.rv_rob.specs.ReorderBuffer.{entries_below, entry_of, with_entry}
+use Rattle.rv_core.proofs.Words.{◌≡◌, ℕ, suc, ◌+◌, ◌<◌, ◌≤◌, true, false, cond, List, [], ◌∷◌, length, nat_lt, ◌==◌, slice_index_or as get_or, Some, All, AllPairs, sym, refl, ap, ◌∙◌, inl, inr, arith, le-ltb, eqb-true, cases_Bool, All-cons, All-head, All-tail, AllPairs-cons, entries_below, with_entry, Entry, entry_of}
 
 -- the number of an entry that is held lies among those of the list
 pub entry_of-from : (n s : ℕ) (es : List Entry) (e : Entry) → entry_of n s es ≡ Some e → (s ≤ n) × (n < s + length es)

@@ -1,35 +1,10 @@
 -- The store queue as the retired stores and the instructions in flight tell it, through a dispatch, a broadcast and a squash.
-use Rattle.std.proofs.Common.{◌≡◌, ℕ, ◌+◌, ◌<◌, ◌≤◌, ◌==◌, Bool, true, false, cond, inl, inr, List, [], ◌∷◌, ◌++◌, length, filter, map, All, Option, Some, None, refl, sym, ap, ◌∙◌, append-nil, append_assoc, eq-eqb, ne_eqb, arith}
-use Rattle.std.proofs.lemmas.Bool.{cases_Bool, eqb-true, eqb-false, true≢false}
-use Rattle.std.proofs.lemmas.List.{map-append}
-use Rattle.std.proofs.lemmas.List.Elements.{All-cons, All-head, All-tail, filter-append}
-use Rattle.rv_isa.specs.Numbered.{AreBelow}
-use Rattle.rv_isa.proofs.Numbered.{below-append, below-all, AreBelow-append, AreBelow-weaken}
-use Rattle.rv_isa.specs.declared.broadcast.Message.{Message}
-use Rattle.rv_isa.specs.declared.broadcast.StoreAccess.{StoreAccess}
-use Rattle.rv_isa.specs.declared.instructions.Instr.{Instr}
+use Rattle.rv_core.proofs.Words.{◌≡◌, ℕ, ◌+◌, ◌<◌, ◌≤◌, Bool, true, false, cond, List, [], ◌∷◌, ◌++◌, map, length, ◌==◌, Some, None, All, filter, Option, sym, refl, ap, ◌∙◌, inl, inr, true≢false, append_assoc, append-nil, arith, eq-eqb, ne_eqb, eqb-true, cases_Bool, eqb-false, map-append, All-cons, All-head, All-tail, filter-append, is_store, kind_of_word, Message, StoreAccess, Instr, Values, is_committed, is_committed_state, Store, StoreState, finished, predicting, ReorderBuffer, entries_below, with_entry, Entry, Stage, Finished, stage_by, Hardware, broadcast_of, store_of_broadcast, store_of_message, stores_of, AreBelow, AreBelow-append, AreBelow-weaken, below-all, below-append, CanEnter, Queue, older_than, answered, entry_of, next_number, with_store, IsRetiredStore, queue_of}
 use Rattle.rv_isa.specs.declared.instructions.Instr.TheVariants as instruction
-use Rattle.rv_isa.specs.declared.values.Values.{Values}
-use Rattle.rv_rob.specs.Entry.{finished, predicting}
-use Rattle.rv_rob.specs.ReorderBuffer.{ReorderBuffer, entries_below, entry_of, next_number, with_entry}
-use Rattle.rv_rob.specs.declared.entry.Entry.{Entry}
-use Rattle.rv_rob.specs.declared.entry.Stage.{Stage}
-use Rattle.rv_rob.specs.declared.entry.Stage.TheVariants.{Finished}
-use Rattle.rv_stores.specs.Queue.{Queue, CanEnter, older_than}
-use Rattle.rv_stores.specs.Store.{answered, is_committed, is_committed_state}
-use Rattle.rv_stores.specs.declared.store.Store.{Store}
-use Rattle.rv_stores.specs.declared.store.StoreState.{StoreState}
 use Rattle.rv_stores.specs.declared.store.StoreState.TheVariants as store
-use Rattle.rv_hardware.specs.Dispatch.{stage_by}
-use Rattle.rv_hardware.specs.Hardware.{Hardware}
-use Rattle.rv_hardware.specs.InFlight.{broadcast_of, store_of_broadcast, store_of_message, stores_of}
-use Rattle.rv_isa.specs.Instruction.{is_store, kind_of_word}
-use Rattle.rv_core.specs.Entering.{with_store}
-use Rattle.rv_core.specs.Soundness.{IsRetiredStore}
-use Rattle.rv_core.specs.Ties.{queue_of}
+use Rattle.rv_core.proofs.Gathered.{gathered, gathered-below, gathered-cut, gathered-from, gathered-push, gathered-same}
 use Rattle.rv_core.proofs.RetiredStores.{AreRetired, retired_is_committed}
 use Rattle.rv_core.proofs.TiedEntries.{entry_of-from}
-use Rattle.rv_core.proofs.Gathered.{gathered, gathered-below, gathered-cut, gathered-from, gathered-push, gathered-same}
 
 -- ---- the stores in flight, one after another
 abbrev nothing : Unit {0} → ℕ → Entry → Unit {0}

@@ -1,17 +1,5 @@
 -- What a register gives: the value or the tag of the youngest instruction that writes it.
-use Rattle.std.proofs.Common.{◌≡◌, ℕ, ◌+◌, ◌<◌, ◌≤◌, ◌==◌, Bool, true, false, cond, inl, inr, List, [], ◌∷◌, ◌++◌, length, All, Option, Some, None, refl, sym, ◌∙◌, eq-eqb, ne_eqb, arith}
-use Rattle.std.specs.Option.{option_or}
-use Rattle.std.proofs.lemmas.Bool.{cases_Bool, eqb-true, eqb-false}
-use Rattle.std.proofs.lemmas.List.Elements.{All-head, All-tail}
-use Rattle.rv_rename.specs.Renaming.{youngest}
-use Rattle.rv_rename.specs.declared.producer.Producer.{Producer}
-use Rattle.rv_rob.specs.ReorderBuffer.{entry_of}
-use Rattle.rv_rob.specs.declared.entry.Entry.{Entry}
-use Rattle.rv_stations.specs.declared.waiting.Operand.{Operand}
-use Rattle.rv_stations.specs.declared.waiting.Operand.TheVariants.{Value}
-use Rattle.rv_hardware.specs.InFlight.{broadcast_of}
-use Rattle.rv_isa.specs.Instruction.{is_target, target_of_word}
-use Rattle.rv_core.specs.Ties.{RegisterStatus, operand_by, producer_of, producers_of, status_behind, status_with}
+use Rattle.rv_core.proofs.Words.{◌≡◌, ℕ, ◌+◌, ◌<◌, ◌≤◌, Bool, true, false, cond, List, [], ◌∷◌, ◌++◌, length, ◌==◌, Some, None, All, Option, sym, refl, ◌∙◌, inl, inr, arith, eq-eqb, ne_eqb, eqb-true, cases_Bool, eqb-false, All-head, All-tail, option_or, is_target, target_of_word, Entry, broadcast_of, Operand, Value, youngest, Producer, entry_of, RegisterStatus, operand_by, producer_of, producers_of, status_behind, status_with}
 use Rattle.rv_core.proofs.TiedRenaming.{producers-below, producers-from}
 
 -- what the entry of a producer gives

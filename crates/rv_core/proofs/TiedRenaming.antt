@@ -1,20 +1,7 @@
 -- The rename map as the instructions in flight tell it, through a dispatch and a squash.
-use Rattle.std.proofs.Common.{◌≡◌, ℕ, ◌+◌, ◌<◌, ◌≤◌, ◌==◌, ◌&&◌, Bool, true, false, cond, inl, inr, List, [], ◌∷◌, ◌++◌, length, All, Option, Some, None, refl, sym, ap, ◌∙◌, append-nil, append_assoc, lt-ltb, arith}
-use Rattle.std.proofs.lemmas.Bool.{cases_Bool, eqb-true}
-use Rattle.std.proofs.lemmas.List.Elements.{All-cons}
-use Rattle.rv_isa.specs.Numbered.{below, AreBelow}
-use Rattle.rv_isa.proofs.Numbered.{AreBelow-append}
-use Rattle.rv_isa.specs.declared.values.Values.{Values}
-use Rattle.rv_rename.specs.Renaming.{Checkpoint, Renaming, CanCheckpoint, CanDefine, producers_at, restored}
-use Rattle.rv_rename.specs.declared.producer.Producer.{Producer}
-use Rattle.rv_rob.specs.ReorderBuffer.{ReorderBuffer, changed, cut_from, entries_below, entry_of, next_number, pushed, with_entry}
-use Rattle.rv_rob.specs.declared.entry.Entry.{Entry}
-use Rattle.rv_hardware.specs.Broadcast.{mends_early}
-use Rattle.rv_isa.specs.Instruction.{is_branch_or_jump, target_of_word}
-use Rattle.rv_core.specs.Entering.{with_jump, with_target}
-use Rattle.rv_core.specs.Ties.{checkpoints_of, producer_of, producers_of, producers_with, renaming_of}
-use Rattle.rv_core.proofs.TiedEntries.{entries_below-first, entry_of-from}
+use Rattle.rv_core.proofs.Words.{◌≡◌, ℕ, ◌+◌, ◌<◌, ◌≤◌, Bool, true, false, cond, ◌&&◌, List, [], ◌∷◌, ◌++◌, length, ◌==◌, Some, None, All, Option, sym, refl, ap, ◌∙◌, inl, inr, append_assoc, append-nil, arith, lt-ltb, eqb-true, cases_Bool, All-cons, is_branch_or_jump, target_of_word, Values, ReorderBuffer, changed, entries_below, pushed, with_entry, Entry, mends_early, AreBelow, below, AreBelow-append, CanCheckpoint, CanDefine, Checkpoint, Renaming, producers_at, restored, Producer, cut_from, entry_of, next_number, with_jump, with_target, checkpoints_of, producer_of, producers_of, producers_with, renaming_of}
 use Rattle.rv_core.proofs.Gathered.{behind, gathered, gathered-below, gathered-cut, gathered-from, gathered-length, gathered-push, gathered-same}
+use Rattle.rv_core.proofs.TiedEntries.{entries_below-first, entry_of-from}
 
 -- ---- producers, one after another
 abbrev nothing : Unit {0} → ℕ → Entry → Unit {0}

@@ -1,16 +1,5 @@
 -- The parts at reset: nothing is in flight.
-use Rattle.std.proofs.Common.{◌≡◌, ℕ, ◌+◌, ◌-◌, ◌≤◌, List, [], ◌++◌, length, drop, replicate, refl, sym, ap, length-append, arith}
-use Rattle.std.proofs.lemmas.List.{drop-replicate, length-replicate}
-use Rattle.rv_isa.specs.Description.{IsLegal}
-use Rattle.rv_isa.specs.PerKind.{for_each}
-use Rattle.rv_isa.specs.declared.values.Values.{Values}
-use Rattle.rv_rename.specs.Renaming.{empty as no_producers}
-use Rattle.rv_stations.specs.Pool.{empty_pool}
-use Rattle.rv_units.specs.Bus.{empty_bus}
-use Rattle.rv_hardware.specs.Broadcast.{mends_early}
-use Rattle.rv_hardware.specs.Reset.{reset_hardware}
-use Rattle.rv_core.specs.Soundness.{IsSoundHardware}
-use Rattle.rv_core.specs.Ties.{AreTied}
+use Rattle.rv_core.proofs.Words.{◌≡◌, ℕ, ◌+◌, ◌-◌, ◌≤◌, List, [], ◌++◌, length, drop, replicate, sym, refl, ap, arith, length-append, length-replicate, IsLegal, for_each, Values, mends_early, reset_hardware, drop-replicate, empty_pool, empty_bus, empty as no_producers, IsSoundHardware, AreTied}
 use Rattle.rv_core.proofs.TiedRenaming.{no_checkpoints}
 
 -- an image that is written over zeros has zeros after it

@@ -1,36 +1,13 @@
 -- The reservation stations as the instructions in flight tell them, through a dispatch, a broadcast and a squash.
-use Rattle.std.proofs.Common.{◌≡◌, ℕ, ◌+◌, ◌<◌, ◌≤◌, ◌==◌, ◌&&◌, Bool, true, false, cond, inl, inr, List, [], ◌∷◌, ◌++◌, length, filter, map, slice_index_or, All, Option, Some, None, refl, sym, ap, ◌∙◌, append-nil, eq-eqb, ne_eqb, arith, subst}
-use Rattle.std.proofs.lemmas.Bool.{cases_Bool, eqb-true, eqb-false, and_right}
-use Rattle.std.proofs.lemmas.List.{map-append}
-use Rattle.std.proofs.lemmas.List.Elements.{All-cons}
-use Rattle.rv_isa.proofs.WithKind.{at_kind-by_kind, by_kind-same, is_same-own, with_kind-by_kind}
-use Rattle.rv_isa.specs.Numbered.{below, AreBelow}
-use Rattle.rv_isa.specs.Operands.{kind_of, sources_of}
-use Rattle.rv_isa.specs.PerKind.{at_kind, for_each, by_kind, is_same, with_kind}
-use Rattle.rv_isa.specs.declared.broadcast.Message.{Message}
-use Rattle.rv_isa.specs.declared.instructions.Instr.{Instr}
-use Rattle.rv_isa.specs.declared.operations.Kind.{Kind}
-use Rattle.rv_isa.specs.declared.per_kind.PerKind.{PerKind}
-use Rattle.rv_isa.specs.declared.values.Values.{Values}
-use Rattle.rv_rob.specs.Entry.{finished, predicting}
-use Rattle.rv_rob.specs.ReorderBuffer.{ReorderBuffer, changed, cut_from, entries_below, entry_of, next_number, pushed, with_entry}
-use Rattle.rv_rob.specs.declared.entry.Entry.{Entry}
-use Rattle.rv_rob.specs.declared.entry.Stage.{Stage}
+use Rattle.rv_core.proofs.Words.{◌≡◌, ℕ, ◌+◌, ◌<◌, ◌≤◌, Bool, true, false, cond, ◌&&◌, List, [], ◌∷◌, ◌++◌, map, length, ◌==◌, slice_index_or, Some, None, All, filter, Option, sym, refl, ap, ◌∙◌, subst, inl, inr, append-nil, arith, eq-eqb, ne_eqb, eqb-true, and_right, cases_Bool, eqb-false, map-append, All-cons, is_same-own, is_of_kind, kind_of_word, sources_of, at_kind, for_each, is_same, with_kind, Message, Instr, Kind, PerKind, Values, finished, predicting, ReorderBuffer, changed, entries_below, pushed, with_entry, Entry, Stage, is_stationed, stage_by, broadcast_of, is_waiting, AreBelow, below, kind_of, by_kind, at_kind-by_kind, by_kind-same, with_kind-by_kind, Pool, squashed_pool, with_waiting, woken_pool, woken, woken_operand, Value, Station, cut_from, entry_of, next_number, with_instruction, with_station, RegisterStatus, operand_by, operand_of, pool_of_kind, stations_of, status_behind, status_with, values_in, waiting_at, waiting_from, waiting_of}
 use Rattle.rv_rob.specs.declared.entry.Stage.TheVariants as stage
-use Rattle.rv_stations.specs.Pool.{Pool, squashed, with_waiting, woken_pool}
-use Rattle.rv_stations.specs.Waiting.{seq_of, woken, woken_operand}
-use Rattle.rv_stations.specs.declared.waiting.Operand.TheVariants.{Value}
-use Rattle.rv_stations.specs.declared.waiting.Waiting.{Waiting}
-use Rattle.rv_hardware.specs.Dispatch.{is_stationed, stage_by}
-use Rattle.rv_hardware.specs.InFlight.{broadcast_of, is_waiting, writes}
-use Rattle.rv_isa.specs.Instruction.{is_of_kind, kind_of_word}
-use Rattle.rv_core.specs.Entering.{with_instruction, with_station}
-use Rattle.rv_core.specs.Ties.{RegisterStatus, operand_by, operand_of, pool_of_kind, stations_of, status_behind, status_with, values_in, waiting_at, waiting_from, waiting_of}
+use Rattle.rv_stations.specs.Waiting.{seq_of}
+use Rattle.rv_hardware.specs.InFlight.{writes}
 use Rattle.rv_core.proofs.Gathered.{behind, gathered, gathered-below, gathered-cut, gathered-push, gathered-same}
 
 -- ---- the waiting instructions, one after another
 module _ (unit : Kind) where
-  abbrev own_waiting : RegisterStatus → ℕ → Entry → List Waiting
+  abbrev own_waiting : RegisterStatus → ℕ → Entry → List Station
   own_waiting status s e = waiting_at unit status s e e.instruction
 
   waiting-gathered : (status : RegisterStatus) (s : ℕ) (es : List Entry) → waiting_from unit status s es ≡ gathered status_with own_waiting status s es
@@ -38,7 +15,7 @@ module _ (unit : Kind) where
   waiting-gathered status s (e ∷ es) =
       ap (λ ws. waiting_at unit status s e e.instruction ++ ws) (waiting-gathered (status_with status s e) (s + 1) es)
 
-  waiting-at_if : (b : Bool) (s : ℕ) (w : Waiting) → w.seq ≡ s → All (λ w. seq_of w ≡ s) (cond b (w ∷ []) [])
+  waiting-at_if : (b : Bool) (s : ℕ) (w : Station) → w.seq ≡ s → All (λ w. seq_of w ≡ s) (cond b (w ∷ []) [])
   waiting-at_if true s w is = All-cons (λ w. seq_of w ≡ s) w [] is (λ k d lt. absurd (omega arith))
   waiting-at_if false s w is = λ k d lt. absurd (omega arith)
 
@@ -73,7 +50,7 @@ module _ (unit : Kind) where
       sym (waiting-gathered status s es)
 
   -- ---- how many there are
-  count-at : (status : RegisterStatus) (s : ℕ) (e : Entry) (o : Option Instr) (es : List Entry) (ws : List Waiting) → e.instruction ≡ o → length ws ≡ length (filter (is_stationed unit) es)
+  count-at : (status : RegisterStatus) (s : ℕ) (e : Entry) (o : Option Instr) (es : List Entry) (ws : List Station) → e.instruction ≡ o → length ws ≡ length (filter (is_stationed unit) es)
       → length (waiting_at unit status s e o ++ ws) ≡ length (cond (is_stationed unit e) (e ∷ filter (is_stationed unit) es) (filter (is_stationed unit) es))
   count-at status s e None es ws is later =
       let out : is_stationed unit e ≡ false = ap (λ x. is_waiting e.stage && is_of_kind unit (kind_of_word x)) is ∙ and_right (is_waiting e.stage) false refl in
@@ -178,8 +155,8 @@ stations_by : (values : Values) (registers : List ℕ) (rob : ReorderBuffer) (ch
 stations_by values registers rob change new is =
     by_kind-same (λ k. change (pool_of_kind values registers rob k)) (pool_of_kind values registers new) is
 
-pub stations-squashed : (values : Values) (registers : List ℕ) (rob : ReorderBuffer) (n : ℕ) → for_each (squashed n) (stations_of values registers rob) ≡ stations_of values registers (cut_from n rob)
-stations-squashed values registers rob n = stations_by values registers rob (squashed n) (cut_from n rob) (λ k i. record {
+pub stations-squashed : (values : Values) (registers : List ℕ) (rob : ReorderBuffer) (n : ℕ) → for_each (squashed_pool n) (stations_of values registers rob) ≡ stations_of values registers (cut_from n rob)
+stations-squashed values registers rob n = stations_by values registers rob (squashed_pool n) (cut_from n rob) (λ k i. record {
   waiting = waiting-cut k n (values_in registers) rob.retired rob.entries i;
   capacity = (at_kind k values.kinds).stations;
 })
@@ -208,7 +185,7 @@ nothing_more : (pool : Pool) → pool ≡ record pool { waiting = pool.waiting +
 nothing_more pool = ap (λ ws. record pool { waiting = ws }) (sym (append-nil pool.waiting))
 
 -- the pools, with more instructions in that of each kind
-abbrev with_each : (Kind → List Waiting) → PerKind Pool → PerKind Pool
+abbrev with_each : (Kind → List Station) → PerKind Pool → PerKind Pool
 with_each more pools = by_kind (λ k. record (at_kind k pools) { waiting = (at_kind k pools).waiting ++ more k })
 
 with_none : (pools : PerKind Pool) → pools ≡ with_each (λ k. []) pools
@@ -219,7 +196,7 @@ with_none pools =
 abbrev first_stage_of : Option Kind → Bool → ℕ → Message → Stage
 first_stage_of unit serialising cycle message = stage_by unit serialising (stage.Finished None cycle message)
 
-with_station-is : (o : Option Kind) (serialising : Bool) (cycle : ℕ) (message : Message) (w : Waiting) (pools : PerKind Pool)
+with_station-is : (o : Option Kind) (serialising : Bool) (cycle : ℕ) (message : Message) (w : Station) (pools : PerKind Pool)
     → with_station o w pools ≡ with_each (λ k. cond (is_waiting (first_stage_of o serialising cycle message) && is_of_kind k o) (w ∷ []) []) pools
 with_station-is None true cycle message w pools = with_none pools
 with_station-is None false cycle message w pools = with_none pools
@@ -235,7 +212,7 @@ with_instruction-is : (status : RegisterStatus) (n : ℕ) (e : Entry) (o : Optio
     → with_instruction status n e.pc o pools ≡ with_each (λ k. waiting_at k status n e o) pools
 with_instruction-is status n e None serialising cycle message pools is at = with_none pools
 with_instruction-is status n e (Some instruction) serialising cycle message pools is at =
-    let w : Waiting = waiting_of status n e.pc instruction in
+    let w : Station = waiting_of status n e.pc instruction in
     with_station-is (kind_of instruction) serialising cycle message w pools ∙
     (λ i. with_each (λ k. cond (is_waiting (sym at i) && is_of_kind k (kind_of_word (sym is i))) (w ∷ []) []) pools)
 

@@ -1,22 +1,9 @@
 -- What is promised of a run of the described hardware, and why it stops.
-use Rattle.std.proofs.Common.{ℕ, List, Result, Ok, Err, IfOk, MatchResult, sym, subst}
-use Rattle.rv_arch.specs.declared.outcome.Stop.{Stop}
-use Rattle.rv_isa.specs.declared.lines.Arrival.{Arrival}
+use Rattle.rv_core.proofs.Words.{ℕ, List, sym, subst, Arrival, Stop, OnlyLastStops, IsTrueStop, Report, IsStop, Reachable, layout_of, seen, Step, Err, IfOk, MatchResult, Ok, Result, GuidedHardware, StallCounts, IsCutShort, IsOutcome, IsRun, KeepsPromise, reported, reported_so_far, OutOfMemory, Outcome}
 use Rattle.rv_hardware.proofs.AnyPrediction.{cycles_of}
 use Rattle.rv_hardware.proofs.Gap.Run.{none_stops-only_last, is_stop-only_last}
 use Rattle.rv_hardware.proofs.Headline.Stops.{headline_of_stop}
 use Rattle.rv_hardware.proofs.Promise.{promise_of_run}
-use Rattle.rv_hardware.specs.Gap.{OnlyLastStops}
-use Rattle.rv_hardware.specs.Guided.{GuidedHardware}
-use Rattle.rv_hardware.specs.Headline.{IsTrueStop}
-use Rattle.rv_hardware.specs.Report.{Report}
-use Rattle.rv_hardware.specs.Run.{IsStop, Reachable}
-use Rattle.rv_hardware.specs.Seen.{layout_of, seen}
-use Rattle.rv_hardware.specs.declared.report.StallCounts.{StallCounts}
-use Rattle.rv_hardware.specs.declared.step.Step.{Step}
-use Rattle.rv_core.specs.RunDone.{IsCutShort, IsOutcome, IsRun, KeepsPromise, reported, reported_so_far}
-use Rattle.rv_core.specs.declared.errors.OutOfMemory.{OutOfMemory}
-use Rattle.rv_core.specs.declared.outcome.Outcome.{Outcome}
 
 -- of a run that ended, and of one for which memory was wanting
 both_ends : {A P : Outcome → Type 0} {B Q : OutOfMemory → Type 0} (ended : Result Outcome OutOfMemory) → ((outcome : Outcome) → A outcome → P outcome) → ((done : OutOfMemory) → B done → Q done) →

@@ -1,6 +1,5 @@
 -- A loop that takes turns: what is still to come leads to the same.
-use Rattle.std.proofs.Common.{◌≡◌, ℕ, zero, suc, ◌+◌, ◌<◌, refl, sym, ap, ◌∙◌, arith}
-use Rattle.rv_hardware.specs.Repeated.{Turn, GoesOn, Ends, followed_by, repeated}
+use Rattle.rv_core.proofs.Words.{◌≡◌, ℕ, zero, suc, ◌+◌, ◌<◌, sym, refl, ap, ◌∙◌, arith, Ends, GoesOn, Turn, followed_by, repeated}
 
 module _ {S : Type 0} (turn : S → Turn S) (final : S) where
   -- a turn that ends the phase

@@ -1,9 +1,4 @@
-use Rattle.std.proofs.Common.{None, sym, subst}
-use Rattle.rv_hardware.specs.Guided.{guided}
-use Rattle.rv_hardware.specs.History.{reports_of}
-use Rattle.rv_core.specs.RunDone.{IsCutShort, IsOutcome}
-use Rattle.rv_core.specs.declared.errors.OutOfMemory.{OutOfMemory}
-use Rattle.rv_core.specs.declared.outcome.Outcome.{Outcome}
+use Rattle.rv_core.proofs.Words.{None, sym, subst, guided, reports_of, IsCutShort, IsOutcome, OutOfMemory, Outcome}
 use Rattle.rv_core.proofs.RunReports.{told_of}
 use Rattle.rv_core.proofs.Shown.{cut_short_by, cycles_shown, stops_by}
 use Rattle.rv_core.proofs.cycles.collect.Goals as goal

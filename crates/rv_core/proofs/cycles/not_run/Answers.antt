@@ -1,7 +1,4 @@
-use Rattle.std.proofs.Common.{[], sym, subst, arith}
-use Rattle.rv_core.specs.RunDone.{IsCutShort, IsOutcome}
-use Rattle.rv_core.specs.declared.errors.OutOfMemory.{OutOfMemory}
-use Rattle.rv_core.specs.declared.outcome.Outcome.{Outcome}
+use Rattle.rv_core.proofs.Words.{[], sym, subst, arith, IsCutShort, IsOutcome, OutOfMemory, Outcome}
 use Rattle.rv_core.proofs.RunReports.{told_nothing}
 use Rattle.rv_core.proofs.cycles.not_run.Goals as goal
 

@@ -1,5 +1,4 @@
-use Rattle.rv_hardware.specs.Guided.{guided}
-use Rattle.rv_core.specs.RunDone.{IsDone}
+use Rattle.rv_core.proofs.Words.{guided, IsDone}
 use Rattle.rv_core.proofs.Guiding.{some_guide}
 use Rattle.rv_core.proofs.cycles.run.Goals as goal
 

@@ -1,5 +1,4 @@
-use Rattle.std.proofs.Common.{sym, ap, ◌∙◌}
-use Rattle.std.specs.Option.{option_copied}
+use Rattle.rv_core.proofs.Words.{sym, ap, ◌∙◌, option_copied}
 use Rattle.rv_core.proofs.TiedDispatch.{serial_in, serial-youngest}
 use Rattle.rv_core.proofs.dispatch.is_serial.Goals as goal
 

@@ -1,7 +1,4 @@
-use Rattle.std.proofs.Common.{sym, ap, ◌∙◌, arith}
-use Rattle.std.specs.Option.{option_copied}
-use Rattle.rv_rename.specs.Renaming.{youngest}
-use Rattle.rv_core.specs.Ties.{values_in}
+use Rattle.rv_core.proofs.Words.{sym, ap, ◌∙◌, arith, option_copied, youngest, values_in}
 use Rattle.rv_core.proofs.TiedRegisters.{operand_at, operand_from, status-is, youngest-below}
 use Rattle.rv_core.proofs.dispatch.operand_of.Goals as goal
 

@@ -1,14 +1,4 @@
-use Rattle.std.proofs.Common.{◌≡◌, ℕ, false, Option, None, Some, refl, sym, ap, ◌∙◌}
-use Rattle.rv_isa.specs.Word.{pc_plus_4}
-use Rattle.rv_isa.specs.declared.broadcast.Message.{Message}
-use Rattle.rv_isa.specs.declared.instructions.Instr.{Instr}
-use Rattle.rv_isa.specs.declared.instructions.Instr.TheVariants.{Ecall, Ebreak}
-use Rattle.rv_isa.specs.declared.lines.Lines.{Lines}
-use Rattle.rv_arch.specs.Effect.{goes_to}
-use Rattle.rv_arch.specs.State.{State}
-use Rattle.rv_memory.specs.Memory.{Layout}
-use Rattle.rv_isa.specs.Instruction.{is_serialising, kind_of_word}
-use Rattle.rv_hardware.specs.Result.{effect_message, result_in, result_of_word}
+use Rattle.rv_core.proofs.Words.{◌≡◌, ℕ, false, Some, None, Option, sym, refl, ap, ◌∙◌, is_serialising, kind_of_word, pc_plus_4, Message, Instr, Ebreak, Ecall, Lines, Layout, goes_to, State, effect_message, result_in, result_of_word}
 use Rattle.rv_core.proofs.execute.finishes.Goals as goal
 
 -- an instruction without a unit that neither serialises nor faults only goes on

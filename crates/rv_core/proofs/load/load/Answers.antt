@@ -1,12 +1,4 @@
-use Rattle.std.proofs.Common.{◌≡◌, ◌+◌, ◌-◌, [], ◌∷◌, ◌++◌, None, take, replicate, sym, ap, ◌∙◌}
-use Rattle.std.specs.List.{slice_range}
-use Rattle.rv_isa.specs.Bytes.{number_of}
-use Rattle.rv_isa.specs.Operation.{bytes_of, width_of, is_sign_extended}
-use Rattle.rv_isa.specs.Word.{modulo_word, pc_plus_4, sum}
-use Rattle.rv_arch.specs.Effect.{extended, writes}
-use Rattle.rv_stores.specs.Queue.{older_than}
-use Rattle.rv_hardware.specs.Result.{effect_message}
-use Rattle.rv_core.specs.Load.{bytes_over, path_of}
+use Rattle.rv_core.proofs.Words.{◌≡◌, ◌+◌, ◌-◌, [], ◌∷◌, ◌++◌, take, replicate, slice_range, None, sym, ap, ◌∙◌, number_of, bytes_of, is_sign_extended, width_of, modulo_word, pc_plus_4, sum, extended, effect_message, writes, older_than, bytes_over, path_of}
 use Rattle.rv_core.proofs.LoadMessage.{from_cache, from_stores}
 use Rattle.rv_core.proofs.load.load.Goals as goal
 

@@ -1,10 +1,4 @@
-use Rattle.std.proofs.Common.{◌≡◌, ℕ, ◌%◌, ◌<◌, length, ap, ◌∙◌, sym, replicate, [], arith}
-use Rattle.rv_cache.proofs.Divided.{line_divides, base_divides}
-use Rattle.rv_memory.specs.Bytes.{overwritten}
-use Rattle.rv_memory.specs.Memory.{Memory}
-use Rattle.rv_cache.specs.Cache.{Contents}
-use Rattle.rv_hardware.specs.Reset.{memory_at_reset as reset_bytes}
-use Rattle.rv_hardware.specs.Seen.{layout_of}
+use Rattle.rv_core.proofs.Words.{◌≡◌, ℕ, ◌%◌, ◌<◌, [], length, replicate, sym, ap, ◌∙◌, arith, overwritten, Memory, Contents, memory_at_reset as reset_bytes, layout_of, base_divides, line_divides}
 use Rattle.rv_core.proofs.TiedReset.{image_over_zeros}
 use Rattle.rv_core.proofs.parts.memory_at_reset.Goals as goal
 

@@ -1,4 +1,4 @@
-use Rattle.std.proofs.Common.{◌≡◌, take}
+use Rattle.rv_core.proofs.Words.{◌≡◌, take}
 use Rattle.rv_core.proofs.pipeline.listed.Given as goal
 
 -- the steps so far

@@ -1,7 +1,4 @@
-use Rattle.std.proofs.Common.{Ok, Err, sym, ap, ◌∙◌, ◌+◌, arith}
-use Rattle.std.proofs.lemmas.Bool.{leb-true, leb-false}
-use Rattle.rv_arch.specs.declared.outcome.Stop.TheVariants.{Exhausted, Limit}
-use Rattle.rv_core.specs.declared.outcome.Progress.{Progress}
+use Rattle.rv_core.proofs.Words.{◌+◌, sym, ap, ◌∙◌, arith, leb-false, leb-true, Err, Ok, Exhausted, Limit, Progress}
 use Rattle.rv_core.proofs.Shown.{bounded_so_far, ended_as, shown_now, so_many_shown, watched_to, watched_to_stop, watching_nothing, watching_on, watching_still}
 use Rattle.rv_core.proofs.watching.watch.Goals as goal
 

@@ -1,5 +1,4 @@
-use Rattle.std.proofs.Common.{◌≡◌, ◌≤◌, vec_capacity}
-use Rattle.rv_hardware.specs.Guided.{guided}
+use Rattle.rv_core.proofs.Words.{◌≡◌, ◌≤◌, vec_capacity, guided}
 use Rattle.rv_core.proofs.Shown.{IsWatching}
 use Rattle.rv_core.proofs.watching.watch.Given as goal
 

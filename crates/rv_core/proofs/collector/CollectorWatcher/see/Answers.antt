@@ -1,4 +1,4 @@
-use Rattle.std.proofs.Common.{◌++◌, sym, ◌∙◌, arith}
+use Rattle.rv_core.proofs.Words.{◌++◌, sym, ◌∙◌, arith}
 use Rattle.rv_core.proofs.Shown.{shown_steps-push}
 use Rattle.rv_core.proofs.collector.CollectorWatcher.see.Goals as goal
 

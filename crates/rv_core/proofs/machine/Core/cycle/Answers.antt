@@ -1,8 +1,5 @@
-use Rattle.std.proofs.Common.{subst}
+use Rattle.rv_core.proofs.Words.{subst, IsCycle, any_prediction, Hardware, report_of_cycle}
 use Rattle.rv_hardware.proofs.AnyPrediction.{any_cycle}
-use Rattle.rv_hardware.specs.Cycle.{IsCycle, any_prediction}
-use Rattle.rv_hardware.specs.Hardware.{Hardware}
-use Rattle.rv_core.specs.Told.{report_of_cycle}
 use Rattle.rv_core.proofs.machine.Core.cycle.Goals as goal
 
 pub returns-clause-cycled : goal.returns-clause-cycled

@@ -1,12 +1,5 @@
-use Rattle.std.proofs.Common.{◌≡◌, ◌+◌, ◌++◌, refl, sym, ap, subst, ◌∙◌, arith}
+use Rattle.rv_core.proofs.Words.{◌≡◌, ◌+◌, ◌++◌, sym, refl, ap, ◌∙◌, subst, arith, IsLegal, commit, IsCycle, commit_with, with_lines, Hardware, Reachable, hardware_of, IsCommitStop, report_with}
 use Rattle.std.specs.FinSet as set
-use Rattle.rv_isa.specs.Description.{IsLegal}
-use Rattle.rv_hardware.specs.Commit.{commit}
-use Rattle.rv_hardware.specs.Cycle.{IsCycle, commit_with, with_lines}
-use Rattle.rv_hardware.specs.Hardware.{Hardware}
-use Rattle.rv_hardware.specs.Run.{Reachable}
-use Rattle.rv_core.specs.Parts.{hardware_of}
-use Rattle.rv_core.specs.Told.{IsCommitStop, report_with}
 use Rattle.rv_core.proofs.CycleDone.{committing-now, cycle-done, dispatched-now}
 use Rattle.rv_core.proofs.CyclesKept.{Commits}
 use Rattle.rv_core.proofs.Numbered.{sound-numbered}

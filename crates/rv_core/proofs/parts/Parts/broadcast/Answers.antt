@@ -1,6 +1,4 @@
-use Rattle.std.proofs.Common.{◌+◌, ◌-◌, ap, ◌∙◌, arith}
-use Rattle.rv_hardware.specs.Broadcast.{broadcast, broadcast_turn}
-use Rattle.rv_core.specs.Turns.{turn_of}
+use Rattle.rv_core.proofs.Words.{◌+◌, ◌-◌, ap, ◌∙◌, arith, broadcast, broadcast_turn, turn_of}
 use Rattle.rv_core.proofs.Turned.{turned-goes}
 use Rattle.rv_core.proofs.parts.Parts.broadcast.Goals as goal
 

@@ -1,6 +1,4 @@
-use Rattle.std.proofs.Common.{◌≡◌, ◌-◌}
-use Rattle.rv_hardware.specs.Broadcast.{broadcast, broadcast_turn}
-use Rattle.rv_hardware.specs.Repeated.{repeated}
+use Rattle.rv_core.proofs.Words.{◌≡◌, ◌-◌, broadcast, broadcast_turn, repeated}
 use Rattle.rv_core.proofs.parts.Parts.broadcast.Given as goal
 
 -- the turns to come lead to what all of them lead to

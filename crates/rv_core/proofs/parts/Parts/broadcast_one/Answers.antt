@@ -1,18 +1,4 @@
-use Rattle.std.proofs.Common.{◌≡◌, ◌&&◌, find, map, [], Some, None, sym, ap, subst, ◌∙◌}
-use Rattle.std.proofs.lemmas.Bool.{and_parts}
-use Rattle.rv_isa.specs.PerKind.{for_each}
-use Rattle.rv_isa.specs.declared.broadcast.Message.{Message}
-use Rattle.rv_rob.specs.Entry.{finished}
-use Rattle.rv_rob.specs.ReorderBuffer.{changed}
-use Rattle.rv_stations.specs.Pool.{woken_pool}
-use Rattle.rv_stores.specs.Store.{answered}
-use Rattle.rv_units.specs.Bus.{is_ready}
-use Rattle.rv_hardware.specs.Broadcast.{is_mispredicted, mends_early, with_recovery}
-use Rattle.rv_hardware.specs.Hardware.{Hardware}
-use Rattle.rv_hardware.specs.InFlight.{store_of_message}
-use Rattle.rv_hardware.specs.Repeated.{Ends, GoesOn}
-use Rattle.rv_core.specs.Parts.{IsSound, hardware_of}
-use Rattle.rv_core.specs.declared.parts.Parts.TheInside.{Inside}
+use Rattle.rv_core.proofs.Words.{◌≡◌, ◌&&◌, [], map, Some, None, sym, ap, ◌∙◌, subst, and_parts, for_each, Message, finished, changed, is_mispredicted, mends_early, with_recovery, Hardware, store_of_message, Ends, GoesOn, find, answered, woken_pool, is_ready_result, IsSound, hardware_of, Inside}
 use Rattle.rv_core.proofs.TiedBroadcast.{grant, sent_parts, sent-goes_on, sent-is, sent-recovers, sent-sound, sent_to, unsent, unsent_bus}
 use Rattle.rv_core.proofs.TiedBus.{IsGranted}
 use Rattle.rv_core.proofs.TiedEntries.{entry_of-changed}
@@ -20,7 +6,7 @@ use Rattle.rv_core.proofs.parts.Parts.broadcast_one.Goals as goal
 use Rattle.rv_core.proofs.parts.Parts.broadcast_one.Goals.{After-fill_store, In_default}
 
 -- nothing is ready
-none : (c : In_default) → find (is_ready c.self.inside.cycle) c.self.inside.bus.results ≡ None
+none : (c : In_default) → find (is_ready_result c.self.inside.cycle) c.self.inside.bus.results ≡ None
 none c = sym c.grant_one.ensures.lowest_ready ∙ c.in_default.is
 
 pub invariant_of-self : goal.invariant_of-self
@@ -36,7 +22,7 @@ returns-in_default c = rw (← c.self.view_is) (unsent c.self.inside c.self.inva
 abbrev left : After-fill_store → Inside
 left c = record c.self.inside { bus = c.grant_one.new.self; rob = c.finish.new.self; stations = c.wake.new.self; stores = c.fill_store.new.stores }
 
-found : (c : After-fill_store) → find (is_ready c.self.inside.cycle) c.self.inside.bus.results ≡ Some c.in-Some.pending
+found : (c : After-fill_store) → find (is_ready_result c.self.inside.cycle) c.self.inside.bus.results ≡ Some c.in-Some.pending
 found c = sym c.grant_one.ensures.lowest_ready ∙ c.in-Some.is
 
 abbrev sent : (c : After-fill_store) → IsGranted c.self.inside.cycle c.self.inside.rob.retired [] c.self.inside.rob.entries c.in-Some.pending

@@ -1,10 +1,4 @@
-use Rattle.std.proofs.Common.{◌-◌, get_or, refl, sym, ap, ◌∙◌}
-use Rattle.std.specs.Option.{unwrap_or}
-use Rattle.std.proofs.lemmas.Bool.{false≢true}
-use Rattle.rv_memory.specs.Memory.{byte_seen, is_in_ram}
-use Rattle.rv_hardware.specs.Hardware.{Hardware}
-use Rattle.rv_hardware.specs.Seen.{layout_of, seen}
-use Rattle.rv_core.specs.Parts.{hardware_of}
+use Rattle.rv_core.proofs.Words.{◌-◌, slice_index_or as get_or, unwrap_or, sym, refl, ap, ◌∙◌, false≢true, is_in_ram, Hardware, layout_of, seen, byte_seen, hardware_of}
 use Rattle.rv_core.proofs.SeenByte.{none_outside, outside_by, some_inside}
 use Rattle.rv_core.proofs.parts.Parts.byte.Goals as goal
 

@@ -1,14 +1,7 @@
-use Rattle.std.proofs.Common.{◌≡◌, ◌+◌, ◌-◌, [], ◌∷◌, Some, ◌++◌, refl, ap, subst, sym, ◌∙◌, arith}
+use Rattle.rv_core.proofs.Words.{◌≡◌, ◌+◌, ◌-◌, [], ◌∷◌, ◌++◌, Some, sym, refl, ap, ◌∙◌, subst, arith, Committing, commit, commit_unless, Hardware, Step, Stale, AreTaught, lessons_of, committing, stop_with, turn_left}
 use Rattle.std.specs.FinSet as set
-use Rattle.rv_arch.specs.declared.outcome.Stop.TheVariants.{Stale}
-use Rattle.rv_hardware.specs.Hardware.{Hardware}
-use Rattle.rv_front.specs.Predictors.{AreTaught}
-use Rattle.rv_hardware.specs.Commit.{Committing, commit, commit_unless}
-use Rattle.rv_hardware.specs.declared.step.Step.{Step}
 use Rattle.rv_core.proofs.CommitLoop.{none_committed, committed_all, committed_whole, committed_more, interrupted, steps_with}
 use Rattle.rv_core.proofs.Taught.{none_taught, taught_all, taught_at_end, taught_whole, teaching_begins, teaching_goes}
-use Rattle.rv_hardware.specs.Lessons.{lessons_of}
-use Rattle.rv_core.specs.HeadTurn.{committing, stop_with, turn_left}
 use Rattle.rv_core.proofs.parts.Parts.commit.Goals as goal
 use Rattle.rv_core.proofs.parts.Parts.commit.Goals.{In-Some, In-Waits, In-Stale, In-Ends}
 use Rattle.rv_core.proofs.parts.Parts.commit.Given.{Over}

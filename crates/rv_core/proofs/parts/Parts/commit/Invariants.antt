@@ -1,4 +1,4 @@
-use Rattle.std.proofs.Common.{◌≡◌, ◌-◌, vec_capacity}
+use Rattle.rv_core.proofs.Words.{◌≡◌, ◌-◌, vec_capacity}
 use Rattle.rv_core.proofs.CommitLoop.{AreCommitted}
 use Rattle.rv_core.proofs.Taught.{AreTeaching}
 use Rattle.rv_core.proofs.parts.Parts.commit.Given as goal

@@ -1,10 +1,6 @@
-use Rattle.std.proofs.Common.{◌≡◌, false, slice_get, ap, sym, subst, ◌∙◌}
+use Rattle.rv_core.proofs.Words.{◌≡◌, false, slice_get, sym, ap, ◌∙◌, subst, word_of, Entry, Hardware, IsHead, committing}
 use Rattle.std.specs.FinSet as set
-use Rattle.rv_memory.specs.Memory.{word_of}
-use Rattle.rv_rob.specs.declared.entry.Entry.{Entry}
-use Rattle.rv_hardware.specs.Hardware.{Hardware}
 use Rattle.rv_core.proofs.HeadRoles.{first_is_head, heads_agree, turn_of_head, turn_unknown}
-use Rattle.rv_core.specs.HeadTurn.{IsHead, committing}
 use Rattle.rv_core.proofs.parts.Parts.commit_head.Goals as goal
 use Rattle.rv_core.proofs.parts.Parts.commit_head.Goals.{In-Some}
 

@@ -1,6 +1,4 @@
-use Rattle.std.proofs.Common.{◌+◌, ◌-◌, ap, ◌∙◌, arith}
-use Rattle.rv_hardware.specs.Dispatch.{dispatch, dispatch_turn, stall_of}
-use Rattle.rv_core.specs.Told.{dispatch_told, dispatching}
+use Rattle.rv_core.proofs.Words.{◌+◌, ◌-◌, ap, ◌∙◌, arith, dispatch, dispatch_turn, stall_of, dispatch_told, dispatching}
 use Rattle.rv_core.proofs.Turned.{turned-ends, turned-goes}
 use Rattle.rv_core.proofs.parts.Parts.dispatch.Goals as goal
 

@@ -1,7 +1,4 @@
-use Rattle.std.proofs.Common.{◌≡◌, ◌-◌}
-use Rattle.rv_hardware.specs.Dispatch.{dispatch, dispatch_turn}
-use Rattle.rv_hardware.specs.Repeated.{repeated}
-use Rattle.rv_core.specs.Told.{dispatching}
+use Rattle.rv_core.proofs.Words.{◌≡◌, ◌-◌, dispatch, dispatch_turn, repeated, dispatching}
 use Rattle.rv_core.proofs.parts.Parts.dispatch.Given as goal
 
 -- the turns to come lead to what all of them lead to

@@ -1,15 +1,6 @@
-use Rattle.std.proofs.Common.{◌≡◌, ◌<◌, ap, ◌∙◌}
-use Rattle.rv_stores.specs.Queue.{Queue, without_drained}
-use Rattle.rv_hardware.specs.Drain.{end_drain}
-use Rattle.rv_hardware.specs.Hardware.{Hardware}
-use Rattle.rv_hardware.specs.InFlight.{stores_of}
-use Rattle.rv_stores.specs.declared.store.Store.{Store as QueuedStore}
+use Rattle.rv_core.proofs.Words.{◌≡◌, ◌<◌, ap, ◌∙◌, without_drained, Store as QueuedStore, end_drain, Hardware, stores_of, Queue, IsSound, hardware_of, IsRetiredStore, IsSoundHardware, queue_of, Inside}
 use Rattle.rv_core.proofs.Drained.{kept_when_drained, none_drains, without_drained_behind}
 use Rattle.rv_core.proofs.Stored.{sound_with_cache, parts_with_cache, view_with_cache}
-use Rattle.rv_core.specs.Parts.{hardware_of, IsSound}
-use Rattle.rv_core.specs.Soundness.{IsRetiredStore, IsSoundHardware}
-use Rattle.rv_core.specs.Ties.{queue_of}
-use Rattle.rv_core.specs.declared.parts.Parts.TheInside.{Inside}
 use Rattle.rv_core.proofs.parts.Parts.end_drain.Goals as goal
 
 abbrev next : Inside → Hardware

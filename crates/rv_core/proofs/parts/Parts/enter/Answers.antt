@@ -1,13 +1,4 @@
-use Rattle.std.proofs.Common.{◌≡◌, ◌<◌, ◌&&◌, length, None, refl, sym, ap, subst, ◌∙◌, arith}
-use Rattle.std.proofs.lemmas.Bool.{leb-false}
-use Rattle.rv_rob.specs.ReorderBuffer.{pushed}
-use Rattle.rv_hardware.specs.Broadcast.{mends_early}
-use Rattle.rv_hardware.specs.Dispatch.{entry_of_fetched, reason_of}
-use Rattle.rv_hardware.specs.Hardware.{Hardware}
-use Rattle.rv_isa.specs.Instruction.{is_branch_or_jump, is_store, target_of_word, kind_of_word}
-use Rattle.rv_core.specs.Entering.{are_full_for, with_instruction, with_jump, with_store, with_target}
-use Rattle.rv_core.specs.Parts.{IsSound, hardware_of}
-use Rattle.rv_core.specs.Ties.{status_behind, values_in}
+use Rattle.rv_core.proofs.Words.{◌≡◌, ◌<◌, ◌&&◌, length, None, sym, refl, ap, ◌∙◌, subst, arith, leb-false, is_branch_or_jump, is_store, kind_of_word, target_of_word, pushed, mends_early, entry_of_fetched, reason_of, Hardware, are_full_for, with_instruction, with_jump, with_store, with_target, IsSound, hardware_of, status_behind, values_in}
 use Rattle.rv_core.proofs.Entered.{entered_parts, entered-is, entered-sound}
 use Rattle.rv_core.proofs.TiedDispatch.{Goes, full-is, goes}
 use Rattle.rv_core.proofs.TiedQueue.{can_enter}

@@ -1,14 +1,5 @@
-use Rattle.std.proofs.Common.{◌≡◌, Bool, false, IsTrue, [], Some, ap, sym, ◌∙◌, subst}
-use Rattle.std.proofs.lemmas.Bool.{true≢false}
-use Rattle.rv_isa.specs.declared.instructions.Instr.TheVariants.{FenceI}
-use Rattle.rv_rob.specs.declared.entry.Entry.{Entry}
-use Rattle.rv_stores.specs.Queue.{Queue}
-use Rattle.rv_hardware.specs.Hardware.{Hardware}
-use Rattle.rv_hardware.specs.Repeated.{Ends}
+use Rattle.rv_core.proofs.Words.{◌≡◌, Bool, false, [], Some, sym, ap, ◌∙◌, subst, true≢false, FenceI, Entry, Hardware, Ends, IsTrue, Queue, IsHead, IsSound, hardware_of, Inside}
 use Rattle.rv_core.proofs.Fence.{fence_waits_for_stores, fence_waits_for_port, queue_beside_fence}
-use Rattle.rv_core.specs.HeadTurn.{IsHead}
-use Rattle.rv_core.specs.Parts.{hardware_of, IsSound}
-use Rattle.rv_core.specs.declared.parts.Parts.TheInside.{Inside}
 use Rattle.rv_core.proofs.parts.Parts.fence_instructions.Goals as goal
 use Rattle.rv_core.proofs.parts.Parts.fence_instructions.Goals.{then-not-is_empty-via-then-not-is_empty, then-not-is_empty-via-else-not-is_empty+then-not-is_port_idle}
 

@@ -1,9 +1,6 @@
-use Rattle.std.proofs.Common.{◌≡◌, ap, ◌∙◌}
-use Rattle.rv_hardware.specs.Squash.{flushed}
+use Rattle.rv_core.proofs.Words.{◌≡◌, ap, ◌∙◌, flushed, hardware_of, Inside}
 use Rattle.rv_core.proofs.Flushed.{emptied}
 use Rattle.rv_core.proofs.Squashed.{AreSquashed, squashed-is, squashed-sound}
-use Rattle.rv_core.specs.Parts.{hardware_of}
-use Rattle.rv_core.specs.declared.parts.Parts.TheInside.{Inside}
 use Rattle.rv_core.proofs.parts.Parts.flush.Goals as goal
 
 abbrev left : goal.After-redirect → Inside

@@ -1,9 +1,4 @@
-use Rattle.std.proofs.Common.{◌+◌, ◌-◌, nat_le, refl, sym, ap, ◌∙◌, arith}
-use Rattle.rv_isa.specs.PerKind.{at_kind}
-use Rattle.rv_hardware.specs.Hardware.{Hardware}
-use Rattle.rv_hardware.specs.Issue.{issue_kind, issue_turn}
-use Rattle.rv_hardware.specs.Repeated.{Ends}
-use Rattle.rv_core.specs.Turns.{turn_of}
+use Rattle.rv_core.proofs.Words.{◌+◌, ◌-◌, nat_le, sym, refl, ap, ◌∙◌, arith, at_kind, Hardware, issue_kind, issue_turn, Ends, turn_of}
 use Rattle.rv_core.proofs.IssueParts.{turn_empty}
 use Rattle.rv_core.proofs.Turned.{turned-ends, turned-goes, turned-none}
 use Rattle.rv_core.proofs.parts.Parts.issue_kind.Goals as goal

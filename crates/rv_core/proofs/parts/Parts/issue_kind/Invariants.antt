@@ -1,6 +1,4 @@
-use Rattle.std.proofs.Common.{◌≡◌, ◌-◌}
-use Rattle.rv_hardware.specs.Issue.{issue_kind, issue_turn}
-use Rattle.rv_hardware.specs.Repeated.{repeated}
+use Rattle.rv_core.proofs.Words.{◌≡◌, ◌-◌, issue_kind, issue_turn, repeated}
 use Rattle.rv_core.proofs.parts.Parts.issue_kind.Given as goal
 
 -- what is still to come from here leads to the same

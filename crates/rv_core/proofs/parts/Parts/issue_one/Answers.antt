@@ -1,9 +1,4 @@
-use Rattle.std.proofs.Common.{nat_le, sym, ap, ◌∙◌}
-use Rattle.rv_isa.specs.declared.values.KindValues.{KindValues}
-use Rattle.rv_stores.specs.Queue.{older_than}
-use Rattle.rv_hardware.specs.Hardware.{Hardware}
-use Rattle.rv_hardware.specs.Issue.{issue_turn}
-use Rattle.rv_core.specs.Access.{load_path, path_cost}
+use Rattle.rv_core.proofs.Words.{nat_le, sym, ap, ◌∙◌, Hardware, issue_turn, KindValues, older_than, load_path, path_cost}
 use Rattle.rv_core.proofs.IssueParts.{absent, room, sound_after, sound_still, turn_after, turn_ends}
 use Rattle.rv_core.proofs.parts.Parts.issue_one.Goals as goal
 

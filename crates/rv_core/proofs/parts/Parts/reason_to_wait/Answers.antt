@@ -1,9 +1,4 @@
-use Rattle.std.proofs.Common.{◌≡◌, ◌&&◌, true, false, length, nat_le, refl, sym, ap, ◌∙◌}
-use Rattle.rv_hardware.specs.Dispatch.{has_full_stations}
-use Rattle.rv_isa.specs.Instruction.{is_store, kind_of_word}
-use Rattle.rv_hardware.specs.Seen.{stores_behind}
-use Rattle.rv_core.specs.Entering.{are_full_for}
-use Rattle.rv_core.specs.Parts.{hardware_of}
+use Rattle.rv_core.proofs.Words.{◌≡◌, true, false, ◌&&◌, length, nat_le, sym, refl, ap, ◌∙◌, is_store, kind_of_word, has_full_stations, stores_behind, are_full_for, hardware_of}
 use Rattle.rv_core.proofs.TiedDispatch.{full-is, reason-is}
 use Rattle.rv_core.proofs.parts.Parts.reason_to_wait.Goals as goal
 use Rattle.rv_core.proofs.parts.Parts.reason_to_wait.Goals.{After-are_full_for, After-waits_for_queue}

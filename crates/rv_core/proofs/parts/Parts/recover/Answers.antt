@@ -1,9 +1,4 @@
-use Rattle.std.proofs.Common.{◌≡◌, ◌+◌, Some, sym, ap, subst, ◌∙◌, arith}
-use Rattle.rv_rob.specs.Entry.{predicting}
-use Rattle.rv_rob.specs.ReorderBuffer.{changed, cut_from, entry_of}
-use Rattle.rv_hardware.specs.Hardware.{Hardware}
-use Rattle.rv_hardware.specs.Squash.{redirected}
-use Rattle.rv_core.specs.Parts.{IsSound, hardware_of}
+use Rattle.rv_core.proofs.Words.{◌≡◌, ◌+◌, Some, sym, ap, ◌∙◌, subst, arith, predicting, changed, Hardware, redirected, cut_from, entry_of, IsSound, hardware_of}
 use Rattle.rv_core.proofs.TiedBroadcast.{recovered-is, recovered-sound}
 use Rattle.rv_core.proofs.TiedEntries.{entry_of-from}
 use Rattle.rv_core.proofs.parts.Parts.recover.Goals as goal

@@ -1,23 +1,8 @@
-use Rattle.std.proofs.Common.{◌≡◌, ◌≢◌, ℕ, ◌+◌, ◌*◌, ◌<◌, length, Option, Some, None, IfSome, ap, sym, ◌∙◌, subst}
-use Rattle.std.specs.Option.{option_map}
-use Rattle.rv_isa.specs.declared.broadcast.Message.{Message}
-use Rattle.rv_rename.specs.Renaming.{without_checkpoint}
-use Rattle.rv_rob.specs.declared.entry.Entry.{Entry}
-use Rattle.rv_memory.specs.Stale.{StaleWords}
-use Rattle.rv_hardware.specs.Hardware.{Hardware}
-use Rattle.rv_hardware.specs.InFlight.{broadcast_of}
-use Rattle.rv_isa.specs.Instruction.{is_store, target_of_word}
-use Rattle.rv_hardware.specs.Retirement.{with_result}
+use Rattle.rv_core.proofs.Words.{◌≡◌, ℕ, ◌+◌, ◌*◌, ◌<◌, ◌≢◌, length, IfSome, Some, None, Option, option_map, sym, ap, ◌∙◌, subst, is_store, target_of_word, Message, Entry, Hardware, broadcast_of, with_result, StaleWords, without_checkpoint, IsHead, IsSound, hardware_of, registers_with, without_target, IsLegalWrite, IsSoundHardware, AreTied, Inside}
 use Rattle.rv_core.proofs.Closed.{closed-is, closed-sound}
 use Rattle.rv_core.proofs.RetiredHead.{IsTarget, tied_behind_head}
 use Rattle.rv_core.proofs.RetiredSound.{sound_behind_head}
 use Rattle.rv_core.proofs.RetiredWrite.{legal_write, target_written, write_is_covered}
-use Rattle.rv_core.specs.HeadTurn.{IsHead}
-use Rattle.rv_core.specs.Parts.{hardware_of, IsSound}
-use Rattle.rv_core.specs.Retiring.{registers_with, without_target}
-use Rattle.rv_core.specs.Soundness.{IsLegalWrite, IsSoundHardware}
-use Rattle.rv_core.specs.Ties.{AreTied}
-use Rattle.rv_core.specs.declared.parts.Parts.TheInside.{Inside}
 use Rattle.rv_core.proofs.parts.Parts.retire.Goals as goal
 
 -- what the callers promise, of the parts themselves

@@ -1,15 +1,7 @@
-use Rattle.std.proofs.Common.{◌≡◌, ◌+◌, ◌*◌, ◌<◌, [], ap, sym, ◌∙◌, subst}
-use Rattle.rv_rob.specs.ReorderBuffer.{ReorderBuffer, head_retired}
-use Rattle.rv_hardware.specs.Hardware.{Hardware}
-use Rattle.rv_hardware.specs.Squash.{flushed}
+use Rattle.rv_core.proofs.Words.{◌≡◌, ◌+◌, ◌*◌, ◌<◌, [], sym, ap, ◌∙◌, subst, ReorderBuffer, head_retired, Hardware, flushed, IsHead, hardware_of, registers_with, IsSoundHardware, Inside}
 use Rattle.rv_core.proofs.Flushed.{emptied}
 use Rattle.rv_core.proofs.Serialised.{sound_behind_serial}
 use Rattle.rv_core.proofs.Squashed.{AreSquashed, squashed-is, squashed-sound}
-use Rattle.rv_core.specs.HeadTurn.{IsHead}
-use Rattle.rv_core.specs.Parts.{hardware_of}
-use Rattle.rv_core.specs.Retiring.{registers_with}
-use Rattle.rv_core.specs.Soundness.{IsSoundHardware}
-use Rattle.rv_core.specs.declared.parts.Parts.TheInside.{Inside}
 use Rattle.rv_core.proofs.parts.Parts.serialise.Goals as goal
 
 abbrev left : goal.After-redirect → Inside

@@ -1,19 +1,6 @@
-use Rattle.std.proofs.Common.{◌≡◌, ◌+◌, Bool, true, false, IsTrue, List, length, Option, Some, None, IsSome, refl, ap, sym, ◌∙◌, arith, subst}
-use Rattle.std.proofs.lemmas.Bool.{true≢false}
-use Rattle.rv_isa.specs.declared.broadcast.StoreAccess.{StoreAccess}
-use Rattle.rv_memory.specs.Memory.{Memory}
-use Rattle.rv_cache.specs.Cache.{Contents, IsAccess, access_cost, accessed_sets, seen_after}
-use Rattle.rv_stores.specs.Queue.{Queue, oldest_to_drain, with_oldest_draining}
-use Rattle.rv_stores.specs.declared.store.Store.{Store as QueuedStore}
-use Rattle.rv_hardware.specs.Drain.{start_drain, with_drained}
-use Rattle.rv_hardware.specs.Hardware.{Hardware}
-use Rattle.rv_hardware.specs.InFlight.{stores_of}
+use Rattle.rv_core.proofs.Words.{◌≡◌, ◌+◌, Bool, true, false, List, length, Some, None, Option, sym, refl, ap, ◌∙◌, subst, true≢false, arith, StoreAccess, Memory, Contents, access_cost, accessed_sets, oldest_to_drain, with_oldest_draining, Store as QueuedStore, start_drain, with_drained, Hardware, stores_of, IsSome, IsTrue, IsAccess, seen_after, Queue, IsSound, hardware_of, IsDescribedCache, IsLegalAccess, IsSoundHardware, queue_of, Inside}
 use Rattle.rv_core.proofs.Drained.{below_when_draining, draining_behind, none_drains, oldest_behind, oldest_is_legal, retired_when_draining}
 use Rattle.rv_core.proofs.Stored.{sound_with_cache, parts_with_cache, view_with_cache, with_cache}
-use Rattle.rv_core.specs.Parts.{hardware_of, IsSound}
-use Rattle.rv_core.specs.Soundness.{IsDescribedCache, IsLegalAccess, IsSoundHardware}
-use Rattle.rv_core.specs.Ties.{queue_of}
-use Rattle.rv_core.specs.declared.parts.Parts.TheInside.{Inside}
 use Rattle.rv_core.proofs.parts.Parts.start_drain.Goals as goal
 
 -- the queue's oldest store is the oldest retired one

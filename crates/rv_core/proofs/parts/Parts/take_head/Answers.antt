@@ -1,10 +1,6 @@
-use Rattle.std.proofs.Common.{◌≡◌, List, slice_get, ap, sym, ◌∙◌}
+use Rattle.rv_core.proofs.Words.{◌≡◌, List, slice_get, sym, ap, ◌∙◌, commit_turn, head_turn, Hardware, Step, IsHead, committing}
 use Rattle.std.specs.FinSet as set
-use Rattle.rv_hardware.specs.Commit.{commit_turn, head_turn}
-use Rattle.rv_hardware.specs.Hardware.{Hardware}
-use Rattle.rv_hardware.specs.declared.step.Step.{Step}
 use Rattle.rv_core.proofs.HeadRoles.{first_is_head, turn_of_head, turn_waits, turn_accesses}
-use Rattle.rv_core.specs.HeadTurn.{IsHead, committing}
 use Rattle.rv_core.proofs.parts.Parts.take_head.Goals as goal
 use Rattle.rv_core.proofs.parts.Parts.take_head.Goals.{After-role_of, In-Some}
 

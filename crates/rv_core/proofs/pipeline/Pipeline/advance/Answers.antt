@@ -1,6 +1,5 @@
-use Rattle.std.proofs.Common.{◌∙◌}
+use Rattle.rv_core.proofs.Words.{◌∙◌, by_cycle}
 use Rattle.rv_hardware.proofs.AnyPrediction.{any_cycle}
-use Rattle.rv_hardware.specs.Run.{by_cycle}
 use Rattle.rv_core.proofs.Guiding.{cycle_from}
 use Rattle.rv_core.proofs.pipeline.Pipeline.advance.Goals as goal
 

@@ -1,12 +1,9 @@
-use Rattle.std.proofs.Common.{◌≡◌, ℕ, ◌==◌, true, false, Option, Some, None, IfSome, is_some, Bool, refl}
-use Rattle.rv_arch.specs.Due.{due}
+use Rattle.rv_core.proofs.Words.{◌≡◌, ℕ, Bool, true, false, is_some, IfSome, ◌==◌, Some, None, Option, refl, due, Stall, report_of_cycle}
 use Rattle.rv_hardware.proofs.AnyPrediction.{any_cycle}
 use Rattle.rv_hardware.proofs.Headline.Cycle.{headline_of_cycle}
 use Rattle.rv_hardware.proofs.Laws.Counts.{IsCounted}
 use Rattle.rv_hardware.proofs.Marks.History.{reachable_has_history}
 use Rattle.rv_hardware.proofs.Laws.OfCycles.{cycle_tells, due_interrupt_is_taken}
-use Rattle.rv_hardware.specs.declared.report.Stall.{Stall}
-use Rattle.rv_core.specs.Told.{report_of_cycle}
 use Rattle.rv_core.proofs.pipeline.Pipeline.cycle.Goals as goal
 
 pub returns-clause-true_cycle : goal.returns-clause-true_cycle

@@ -1,5 +1,4 @@
-use Rattle.std.proofs.Common.{sym, subst, arith}
-use Rattle.rv_hardware.specs.Run.{Reachable, at_reset}
+use Rattle.rv_core.proofs.Words.{sym, subst, arith, Reachable, at_reset}
 use Rattle.rv_core.proofs.pipeline.Pipeline.new.Goals as goal
 
 pub invariant_of-result : goal.invariant_of-result

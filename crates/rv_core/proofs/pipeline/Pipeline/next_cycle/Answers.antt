@@ -1,9 +1,6 @@
-use Rattle.std.proofs.Common.{◌≡◌, ◌^◌, ◌++◌, false, nat_le, sym, ap, ◌∙◌, arith}
-use Rattle.std.proofs.lemmas.Bool.{leb-false}
-use Rattle.rv_hardware.specs.Run.{by_cycle}
-use Rattle.rv_core.specs.Told.{report_with}
-use Rattle.rv_core.proofs.Guiding.{cycle_from, cycle_with}
+use Rattle.rv_core.proofs.Words.{◌≡◌, ◌^◌, false, ◌++◌, nat_le, sym, ap, ◌∙◌, arith, leb-false, by_cycle, report_with}
 use Rattle.rv_hardware.proofs.AnyPrediction.{any_cycle}
+use Rattle.rv_core.proofs.Guiding.{cycle_from, cycle_with}
 use Rattle.rv_core.proofs.pipeline.Pipeline.next_cycle.Goals as goal
 
 pub invariant_of-self-2 : goal.invariant_of-self-2
