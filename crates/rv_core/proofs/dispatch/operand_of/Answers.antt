@@ -1,5 +1,5 @@
 use Rattle.rv_core.proofs.Words.{sym, ap, ◌∙◌, arith, option_copied, youngest, values_in}
-use Rattle.rv_core.proofs.TiedRegisters.{operand_at, operand_from, status-is, youngest-below}
+use Rattle.rv_core.proofs.Ties.Registers.{operand_at, operand_from, status-is, youngest-below}
 use Rattle.rv_core.proofs.dispatch.operand_of.Goals as goal
 
 pub returns-in_default-lookup-clause-operand : goal.returns-in_default-lookup-clause-operand
@@ -8,7 +8,9 @@ returns-in_default-lookup-clause-operand c =
     let rob = c.args.rob.now in
     let registers = c.args.registers.now in
     let looked = sym (c.lookup.ensures.youngest ∙ ap (youngest register) c.requires.producers) ∙ c.in_default-lookup.is in
-    rw (c.in-Some.is, c.index.ensures.number) (sym (status-is register (values_in registers) rob.retired rob.entries ∙ ap (λ o. operand_from (values_in registers register) o rob.retired rob.entries) looked))
+    rw (c.in-Some.is, c.index.ensures.number)
+    (sym (status-is register (values_in registers) rob.retired rob.entries
+    ∙ ap (λ o. operand_from (values_in registers register) o rob.retired rob.entries) looked))
 
 pub operand_by-requires : goal.operand_by-requires
 operand_by-requires c =

@@ -1,5 +1,5 @@
 use Rattle.rv_core.proofs.Words.{◌≡◌, ◌+◌, ◌-◌, [], ◌∷◌, ◌++◌, take, replicate, slice_range, None, sym, ap, ◌∙◌, number_of, bytes_of, is_sign_extended, width_of, modulo_word, pc_plus_4, sum, extended, effect_message, writes, older_than, bytes_over, path_of}
-use Rattle.rv_core.proofs.LoadMessage.{from_cache, from_stores}
+use Rattle.rv_core.proofs.Loads.Message.{from_cache, from_stores}
 use Rattle.rv_core.proofs.load.load.Goals as goal
 
 pub returns-in-FromStores-clause-message : goal.returns-in-FromStores-clause-message
@@ -9,11 +9,14 @@ returns-in-FromStores-clause-message c = λ s at behind.
     let form = c.args.form in
     let rd = c.args.rd in
     let count = bytes_of (width_of form) in
-    let value = c.value_of-value.ensures ∙ ap (λ b. extended (is_sign_extended form) count (number_of (take count b))) c.laid_over.ensures in
+    let value = c.value_of-value.ensures
+    ∙ ap (λ b. extended (is_sign_extended form) count (number_of (take count b))) c.laid_over.ensures in
     c.computes.ensures s at
     ∙ ap (λ v. effect_message None (writes s rd v (pc_plus_4 s.pc))) value
-    ∙ from_stores cache stores c.requires.over_ram s behind form rd (sum c.args.ready.now.first (modulo_word c.args.offset)) c.in-FromStores.overlay (0 ∷ 0 ∷ 0 ∷ 0 ∷ [])
-    ((λ j. path_of cache.backing.layout stores (sym c.address-place.ensures j) (bytes_of (sym c.width-width.ensures j))) ∙ sym c.path_of.ensures ∙ c.in-FromStores.is)
+    ∙ from_stores cache stores c.requires.over_ram s behind form rd
+    (sum c.args.ready.now.first (modulo_word c.args.offset)) c.in-FromStores.overlay (0 ∷ 0 ∷ 0 ∷ 0 ∷ [])
+    ((λ j. path_of cache.backing.layout stores (sym c.address-place.ensures j) (bytes_of (sym c.width-width.ensures j)))
+    ∙ sym c.path_of.ensures ∙ c.in-FromStores.is)
 
 pub returns-in-FromCache-clause-message : goal.returns-in-FromCache-clause-message
 returns-in-FromCache-clause-message c = λ s at behind.
@@ -25,10 +28,14 @@ returns-in-FromCache-clause-message c = λ s at behind.
     let address = sum c.args.ready.now.first (modulo_word c.args.offset) in
     let padding = replicate (4 - c.bytes.result) 0 in
     let counted : c.bytes.result ≡ count = c.bytes.ensures ∙ ap bytes_of c.width-width.ensures in
-    let bytes = c.read-cost.ensures.bytes ∙ (λ j. slice_range cache.bytes (c.address-place.ensures j - cache.base) (c.address-place.ensures j - cache.base + counted j) ++ padding) in
+    let bytes = c.read-cost.ensures.bytes
+    ∙ (λ j. slice_range cache.bytes (c.address-place.ensures j - cache.base)
+    (c.address-place.ensures j - cache.base + counted j) ++ padding) in
     let value = c.value_of-value-in-FromCache.ensures
-    ∙ ap (λ b. extended (is_sign_extended form) count (number_of (take count b))) (c.laid_over-in-FromCache.ensures ∙ ap (bytes_over c.in-FromCache.overlay) bytes) in
+    ∙ ap (λ b. extended (is_sign_extended form) count (number_of (take count b)))
+    (c.laid_over-in-FromCache.ensures ∙ ap (bytes_over c.in-FromCache.overlay) bytes) in
     c.computes-in-FromCache.ensures s at
     ∙ ap (λ v. effect_message None (writes s rd v (pc_plus_4 s.pc))) value
     ∙ from_cache cache stores c.requires.over_ram s behind form rd address c.in-FromCache.overlay padding
-    ((λ j. path_of cache.backing.layout stores (sym c.address-place.ensures j) (bytes_of (sym c.width-width.ensures j))) ∙ sym c.path_of.ensures ∙ c.in-FromCache.is)
+    ((λ j. path_of cache.backing.layout stores (sym c.address-place.ensures j) (bytes_of (sym c.width-width.ensures j)))
+    ∙ sym c.path_of.ensures ∙ c.in-FromCache.is)

@@ -1,5 +1,5 @@
 use Rattle.rv_core.proofs.Words.{◌≡◌, ℕ, ◌%◌, ◌<◌, [], length, replicate, sym, ap, ◌∙◌, arith, overwritten, Memory, Contents, memory_at_reset as reset_bytes, layout_of, base_divides, line_divides}
-use Rattle.rv_core.proofs.TiedReset.{image_over_zeros}
+use Rattle.rv_core.proofs.Ties.Reset.{image_over_zeros}
 use Rattle.rv_core.proofs.parts.memory_at_reset.Goals as goal
 
 pub new-requires-3-clause-lines : goal.new-requires-3-clause-lines
@@ -24,7 +24,10 @@ returns-clause-cache c =
     let ram : c.load.new.self ≡ record { layout = layout_of d; bytes = reset_bytes d image } =
     c.load.ensures.loaded ∙
     (λ i. record (c.in_ok-ram.ensures i) { bytes = overwritten (c.in_ok-ram.ensures i).bytes 0 (c.as_slice.ensures i) }) ∙
-    (λ i. record { layout = layout_of (c.values-values.ensures.values i); bytes = overwritten (replicate (c.values-values.ensures.values i).ram_size 0) 0 image }) ∙
+    (λ i. record {
+      layout = layout_of (c.values-values.ensures.values i);
+      bytes = overwritten (replicate (c.values-values.ensures.values i).ram_size 0) 0 image;
+    }) ∙
     ap (λ bytes. record { layout = layout_of d; bytes = bytes }) (image_over_zeros d.ram_size image) in
     let made : ℕ → Memory → Contents Memory = λ base memory. record {
       base = base;

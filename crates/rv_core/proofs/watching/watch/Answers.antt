@@ -3,11 +3,16 @@ use Rattle.rv_core.proofs.Shown.{bounded_so_far, ended_as, shown_now, so_many_sh
 use Rattle.rv_core.proofs.watching.watch.Goals as goal
 
 pub loop-init : goal.loop-init
-loop-init g c =
-    (watching_nothing g.T.Watcher.has_seen c.args.arrivals.now _ c.args.watcher.now _ c.new-progress.result c.new-progress.ensures, ap (λ (p : Progress). p.cycles) c.new-progress.ensures, c.requires.room)
+loop-init g c = (
+  watching_nothing g.T.Watcher.has_seen c.args.arrivals.now _ c.args.watcher.now _ c.new-progress.result
+      c.new-progress.ensures,
+  ap (λ (p : Progress). p.cycles) c.new-progress.ensures,
+  c.requires.room,
+)
 
 pub run_cycle-stop-requires-clause-bounded : goal.run_cycle-stop-requires-clause-bounded
-run_cycle-stop-requires-clause-bounded g c = bounded_so_far g.T.Watcher.has_seen c.args.arrivals.now _ c.args.watcher.now _ c.loop.invariant.0
+run_cycle-stop-requires-clause-bounded g c =
+    bounded_so_far g.T.Watcher.has_seen c.args.arrivals.now _ c.args.watcher.now _ c.loop.invariant.0
 
 pub run_cycle-stop-requires-clause-countable : goal.run_cycle-stop-requires-clause-countable
 run_cycle-stop-requires-clause-countable g c = omega (arith, c.loop.invariant.1, c.loop-test.true, c.ranges.limit)
@@ -15,49 +20,64 @@ run_cycle-stop-requires-clause-countable g c = omega (arith, c.loop.invariant.1,
 pub returns-then-is_exhausted : goal.returns-then-is_exhausted
 returns-then-is_exhausted g c =
     let way = c.loop.invariant.0 in
-    let count = so_many_shown g.T.Watcher.has_seen c.args.arrivals.now _ c.args.watcher.now _ way c.loop.counter c.loop.invariant.1 in
+    let count = so_many_shown g.T.Watcher.has_seen c.args.arrivals.now _ c.args.watcher.now _ way c.loop.counter
+    c.loop.invariant.1 in
     let over = leb-true 1099511627776 c.loop.pipeline.cycle (sym c.is_exhausted.ensures.exhausted ∙ c.if-is_exhausted.true) in
     ended_as c.finished.ensures.progress c.finished.ensures.stop
-    (watched_to g.T.Watcher.has_seen c.args.arrivals.now _ c.args.watcher.now _ way c.args.limit (Ok Exhausted) (way.none_stops, omega (arith, count, c.loop-test.true), omega (arith, over, c.is_exhausted.ensures.within)))
+    (watched_to g.T.Watcher.has_seen c.args.arrivals.now _ c.args.watcher.now _ way c.args.limit (Ok Exhausted)
+    (way.none_stops, omega (arith, count, c.loop-test.true), omega (arith, over, c.is_exhausted.ensures.within)))
 
 pub returns-in-Err : goal.returns-in-Err
 returns-in-Err g c =
-    let way = watching_still g.T.Watcher.has_seen c.args.arrivals.now _ c.args.watcher.now _ c.loop.invariant.0 c.make_room.ensures.kept in
-    let count = so_many_shown g.T.Watcher.has_seen c.args.arrivals.now _ c.args.watcher.now _ way c.loop.counter c.loop.invariant.1 in
+    let way = watching_still g.T.Watcher.has_seen c.args.arrivals.now _ c.args.watcher.now _ c.loop.invariant.0
+    c.make_room.ensures.kept in
+    let count = so_many_shown g.T.Watcher.has_seen c.args.arrivals.now _ c.args.watcher.now _ way c.loop.counter
+    c.loop.invariant.1 in
     ended_as c.finished-in-Err.ensures.progress c.finished-in-Err.ensures.stop
-    (watched_to g.T.Watcher.has_seen c.args.arrivals.now _ c.args.watcher.now _ way c.args.limit (Err c.in-Err.refusal) (way.none_stops, omega (arith, count, c.loop-test.true)))
+    (watched_to g.T.Watcher.has_seen c.args.arrivals.now _ c.args.watcher.now _ way c.args.limit (Err c.in-Err.refusal)
+    (way.none_stops, omega (arith, count, c.loop-test.true)))
 
 pub see-requires-clause-shown : goal.see-requires-clause-shown
 see-requires-clause-shown g c =
-    let way = watching_still g.T.Watcher.has_seen c.args.arrivals.now _ c.args.watcher.now _ c.loop.invariant.0 c.make_room.ensures.kept in
+    let way = watching_still g.T.Watcher.has_seen c.args.arrivals.now _ c.args.watcher.now _ c.loop.invariant.0
+    c.make_room.ensures.kept in
     let within = leb-false 1099511627776 c.loop.pipeline.cycle (sym c.is_exhausted.ensures.exhausted ∙ c.if-is_exhausted.false) in
     let number = c.cycles_done-cycle.ensures.number in (
       c.args.watcher.now,
       _,
       c.requires.ready.0,
-      shown_now g.T.Watcher.has_seen c.args.arrivals.now _ c.args.watcher.now _ way c.run_cycle-stop.ensures.cycle c.clear.ensures.items c.as_slice.ensures.value c.cycles_done-cycle.ensures.reached number (omega (arith, number, within)),
+      shown_now g.T.Watcher.has_seen c.args.arrivals.now _ c.args.watcher.now _ way c.run_cycle-stop.ensures.cycle
+          c.clear.ensures.items c.as_slice.ensures.value c.cycles_done-cycle.ensures.reached number
+          (omega (arith, number, within)),
       way.seen c.requires.ready.0 c.requires.ready.1,
     )
 
 pub returns-in-Some : goal.returns-in-Some
 returns-in-Some g c =
-    let way = watching_still g.T.Watcher.has_seen c.args.arrivals.now _ c.args.watcher.now _ c.loop.invariant.0 c.make_room.ensures.kept in
+    let way = watching_still g.T.Watcher.has_seen c.args.arrivals.now _ c.args.watcher.now _ c.loop.invariant.0
+    c.make_room.ensures.kept in
     let within = leb-false 1099511627776 c.loop.pipeline.cycle (sym c.is_exhausted.ensures.exhausted ∙ c.if-is_exhausted.false) in
     let number = c.cycles_done-cycle.ensures.number in
     let next = c.run_cycle-stop.ensures.cycle in
-    let shown = shown_now g.T.Watcher.has_seen c.args.arrivals.now _ c.args.watcher.now _ way next c.clear.ensures.items c.as_slice.ensures.value c.cycles_done-cycle.ensures.reached number (omega (arith, number, within)) in
+    let shown = shown_now g.T.Watcher.has_seen c.args.arrivals.now _ c.args.watcher.now _ way next c.clear.ensures.items
+    c.as_slice.ensures.value c.cycles_done-cycle.ensures.reached number (omega (arith, number, within)) in
     ended_as c.finished-in-Some.ensures.progress c.finished-in-Some.ensures.stop
-    (watched_to_stop g.T.Watcher.has_seen c.args.arrivals.now _ c.args.watcher.now _ way next c.clear.ensures.items c.as_slice.ensures.value c.cycles_done-cycle.ensures.reached number (omega (arith, number, within))
-    (λ before. c.see.ensures c.args.watcher.now _ before shown) c.args.limit c.in-Some.stop c.in-Some.is (omega (arith, c.loop.invariant.1, c.loop-test.true)))
+    (watched_to_stop g.T.Watcher.has_seen c.args.arrivals.now _ c.args.watcher.now _ way next c.clear.ensures.items
+    c.as_slice.ensures.value c.cycles_done-cycle.ensures.reached number (omega (arith, number, within))
+    (λ before. c.see.ensures c.args.watcher.now _ before shown) c.args.limit c.in-Some.stop c.in-Some.is
+    (omega (arith, c.loop.invariant.1, c.loop-test.true)))
 
 pub loop-preserved : goal.loop-preserved
 loop-preserved g c =
-    let way = watching_still g.T.Watcher.has_seen c.args.arrivals.now _ c.args.watcher.now _ c.loop.invariant.0 c.make_room.ensures.kept in
+    let way = watching_still g.T.Watcher.has_seen c.args.arrivals.now _ c.args.watcher.now _ c.loop.invariant.0
+    c.make_room.ensures.kept in
     let within = leb-false 1099511627776 c.loop.pipeline.cycle (sym c.is_exhausted.ensures.exhausted ∙ c.if-is_exhausted.false) in
     let number = c.cycles_done-cycle.ensures.number in
     let next = c.run_cycle-stop.ensures.cycle in
-    let shown = shown_now g.T.Watcher.has_seen c.args.arrivals.now _ c.args.watcher.now _ way next c.clear.ensures.items c.as_slice.ensures.value c.cycles_done-cycle.ensures.reached number (omega (arith, number, within)) in (
-      watching_on g.T.Watcher.has_seen c.args.arrivals.now _ c.args.watcher.now _ way next c.clear.ensures.items c.as_slice.ensures.value c.cycles_done-cycle.ensures.reached number (omega (arith, number, within))
+    let shown = shown_now g.T.Watcher.has_seen c.args.arrivals.now _ c.args.watcher.now _ way next c.clear.ensures.items
+    c.as_slice.ensures.value c.cycles_done-cycle.ensures.reached number (omega (arith, number, within)) in (
+      watching_on g.T.Watcher.has_seen c.args.arrivals.now _ c.args.watcher.now _ way next c.clear.ensures.items
+          c.as_slice.ensures.value c.cycles_done-cycle.ensures.reached number (omega (arith, number, within))
           (λ before. c.see.ensures c.args.watcher.now _ before shown) c.in_default-stop.is,
       ap (λ (p : Progress). p.cycles) next.counted ∙ ap (λ n. n + 1) c.loop.invariant.1,
       omega (arith, c.run_cycle-stop.ensures.capacity, c.clear.ensures.capacity, c.loop.invariant.2),
@@ -66,6 +86,8 @@ loop-preserved g c =
 pub returns : goal.returns
 returns g c =
     let way = c.loop.invariant.0 in
-    let count = so_many_shown g.T.Watcher.has_seen c.args.arrivals.now _ c.args.watcher.now _ way c.loop.counter c.loop.invariant.1 in
+    let count = so_many_shown g.T.Watcher.has_seen c.args.arrivals.now _ c.args.watcher.now _ way c.loop.counter
+    c.loop.invariant.1 in
     ended_as c.finished-2.ensures.progress c.finished-2.ensures.stop
-    (watched_to g.T.Watcher.has_seen c.args.arrivals.now _ c.args.watcher.now _ way c.args.limit (Ok Limit) (way.none_stops, omega (arith, count, c.loop-test.false, c.loop.auto.counter-end)))
+    (watched_to g.T.Watcher.has_seen c.args.arrivals.now _ c.args.watcher.now _ way c.args.limit (Ok Limit)
+    (way.none_stops, omega (arith, count, c.loop-test.false, c.loop.auto.counter-end)))

@@ -5,6 +5,9 @@ use Rattle.rv_core.proofs.watching.watch.Given as goal
 -- the cycles so far were shown, and the list keeps its room
 abbrev pub invariant-loop : goal.invariant-loop
 invariant-loop g l =
-    IsWatching g.T.Watcher.has_seen l.arrivals (guided l.fn.pipeline ((goal.Predictor-dyn g l.fn.predictor.now).known l.fn.predictor.now.1)) l.fn.watcher (g.W.Write.contents l.fn.output)
-    (guided l.pipeline ((goal.Predictor-dyn g l.predictor.now).known l.predictor.now.1)) l.progress l.watcher (g.W.Write.contents l.output)
+    IsWatching g.T.Watcher.has_seen l.arrivals
+    (guided l.fn.pipeline ((goal.Predictor-dyn g l.fn.predictor.now).known l.fn.predictor.now.1)) l.fn.watcher
+    (g.W.Write.contents l.fn.output)
+    (guided l.pipeline ((goal.Predictor-dyn g l.predictor.now).known l.predictor.now.1)) l.progress l.watcher
+    (g.W.Write.contents l.output)
     × (l.progress.cycles ≡ l.counter) × (8 ≤ vec_capacity l.steps)

@@ -1,15 +1,16 @@
 use Rattle.rv_core.proofs.Words.{◌≡◌, ◌+◌, ◌++◌, sym, refl, ap, ◌∙◌, subst, arith, IsLegal, commit, IsCycle, commit_with, with_lines, Hardware, Reachable, hardware_of, IsCommitStop, report_with}
 use Rattle.std.specs.FinSet as set
-use Rattle.rv_core.proofs.CycleDone.{committing-now, cycle-done, dispatched-now}
-use Rattle.rv_core.proofs.CyclesKept.{Commits}
-use Rattle.rv_core.proofs.Numbered.{sound-numbered}
-use Rattle.rv_core.proofs.Taught.{executed_here, taught_as}
+use Rattle.rv_core.proofs.Phases.Cycle.{committing-now, cycle-done, dispatched-now}
+use Rattle.rv_core.proofs.Phases.Steps.{Commits}
+use Rattle.rv_core.proofs.Phases.Numbered.{sound-numbered}
+use Rattle.rv_core.proofs.Retired.Taught.{executed_here, taught_as}
 use Rattle.rv_core.proofs.parts.Parts.advance.Goals as goal
 use Rattle.rv_core.proofs.parts.Parts.advance.Goals.{After-self-2}
 use Rattle.rv_core.proofs.parts.Parts.advance.Given.{Over}
 
 pub invariant_of-self : goal.invariant_of-self
-invariant_of-self g c = sound-numbered c.self.inside c.self.invariant c.args.lines c.self.inside.cycle (omega arith) c.self.invariant.sound.cycles
+invariant_of-self g c = sound-numbered c.self.inside c.self.invariant c.args.lines c.self.inside.cycle
+    (omega arith) c.self.invariant.sound.cycles
 
 pub overflow_add-self : goal.overflow_add-self
 overflow_add-self g c = omega (arith, c.self.invariant.sound.cycles)
@@ -18,38 +19,50 @@ legal : (g : Over) (c : After-self-2 g) → IsLegal c.args.self.now.values
 legal g c = subst (λ (h : Hardware). IsLegal h.values) c.self.view_is c.self.invariant.sound.legal
 
 -- what the commit phase left
-commits : (g : Over) (c : After-self-2 g) → c.commit-stop.new.self ≡ (commit_with set.contains c.args.lines c.args.self.now).hardware
+commits : (g : Over) (c : After-self-2 g) →
+    c.commit-stop.new.self ≡ (commit_with set.contains c.args.lines c.args.self.now).hardware
 commits g c = c.commit-stop.ensures.hardware ∙ ap (λ h. (commit set.contains (with_lines c.args.lines h)).hardware) c.self.view_is
 
 stops : (g : Over) (c : After-self-2 g) → c.commit-stop.result ≡ (commit_with set.contains c.args.lines c.args.self.now).stop
 stops g c = c.commit-stop.ensures.stop ∙ ap (λ h. (commit set.contains (with_lines c.args.lines h)).stop) c.self.view_is
 
-counted : (g : Over) (c : After-self-2 g) → Commits c.args.self.now.cycle c.args.self.now.values.commit_width (commit_with set.contains c.args.lines c.args.self.now)
+counted : (g : Over) (c : After-self-2 g) →
+    Commits c.args.self.now.cycle c.args.self.now.values.commit_width (commit_with set.contains c.args.lines c.args.self.now)
 counted g c = committing-now c.args.lines c.args.self.now c.commit-stop.new.self (legal g c).pipeline.commit_width.0 (commits g c)
 
 -- the cycle's number is still that of before
 here : (g : Over) (c : After-self-2 g) → c.self-2.inside.cycle ≡ c.self.inside.cycle
 here g c =
     ap (λ (h : Hardware). h.cycle) (c.self-2.view_is ∙ c.fetch.ensures.others)
-    ∙ dispatched-now c.args.lines c.args.self.now c.commit-stop.new.self (legal g c).pipeline.commit_width.0 (commits g c) c.execute-dispatched.new.self c.execute-dispatched.ensures.hardware
+    ∙ dispatched-now c.args.lines c.args.self.now c.commit-stop.new.self (legal g c).pipeline.commit_width.0
+    (commits g c) c.execute-dispatched.new.self c.execute-dispatched.ensures.hardware
     ∙ sym (ap (λ (h : Hardware). h.cycle) c.self.view_is)
 
 pub invariant_of-self-2 : goal.invariant_of-self-2
 invariant_of-self-2 g c =
     let before = rw (← c.self.view_is) at c.requires.cycles in
-    sound-numbered c.self-2.inside c.self-2.invariant c.self-2.inside.lines (c.self.inside.cycle + 1) (omega (arith, here g (goal.at.invariant_of-self-2 g c).After-self-2)) (omega (arith, before))
+    sound-numbered c.self-2.inside c.self-2.invariant c.self-2.inside.lines (c.self.inside.cycle + 1)
+    (omega (arith, here g (goal.at.invariant_of-self-2 g c).After-self-2)) (omega (arith, before))
 
 pub returns-clause-cycle : goal.returns-clause-cycle
 returns-clause-cycle g c =
     let at = (goal.at.returns-clause-cycle g c).After-self-2 in
     let old = c.args.self.now in
     let lines = c.args.lines in
-    let steps = c.commit-stop.ensures.steps ∙ ap (λ h. c.args.steps.now.items ++ (commit set.contains (with_lines lines h)).steps) c.self.view_is in
+    let steps = c.commit-stop.ensures.steps
+    ∙ ap (λ h. c.args.steps.now.items ++ (commit set.contains (with_lines lines h)).steps) c.self.view_is in
     let done =
-    cycle-done lines old c.commit-stop.new.self (legal g at).pipeline.commit_width.0 (commits g at) c.execute-dispatched.new.self c.execute-dispatched.ensures.hardware _ c.fetch.new.self c.fetch.result
-    c.execute-dispatched.result.0 c.execute-dispatched.result.1 c.commit-stop.result c.execute-dispatched.ensures.dispatched c.execute-dispatched.ensures.stall (stops g at)
+    cycle-done lines old c.commit-stop.new.self (legal g at).pipeline.commit_width.0
+    (commits g at) c.execute-dispatched.new.self c.execute-dispatched.ensures.hardware _ c.fetch.new.self c.fetch.result
+    c.execute-dispatched.result.0 c.execute-dispatched.result.1 c.commit-stop.result c.execute-dispatched.ensures.dispatched
+    c.execute-dispatched.ensures.stall (stops g at)
     c.fetch.ensures.fetched c.fetch.ensures.others in
-    let report = report_with (commit_with set.contains lines old).steps (record { dispatched = c.execute-dispatched.result.0; stall = c.execute-dispatched.result.1; stop = c.commit-stop.result }) in
+    let report = report_with (commit_with set.contains lines old).steps
+    (record {
+      dispatched = c.execute-dispatched.result.0;
+      stall = c.execute-dispatched.result.1;
+      stop = c.commit-stop.result;
+    }) in
     let new : record c.fetch.new.self { cycle = old.cycle + 1 } ≡ _ =
     λ i. record (sym c.self-2.view_is i) { cycle = (sym c.self.view_is i).cycle + 1 } in
     let same = ap (λ h. (commit set.contains (with_lines lines h)).steps) c.self.view_is in
@@ -61,14 +74,16 @@ returns-clause-cycle g c =
       omega (arith, (counted g at).steps, (legal g at).pipeline.commit_width.1),
       record {
         learns =
-            taught_as ((goal.Predictor-dyn g c.args.predictor.now).known c.args.predictor.now.1) ((goal.Predictor-dyn g (c.args.predictor.now.0, c.commit-stop.new.predictor)).known c.commit-stop.new.predictor)
+            taught_as ((goal.Predictor-dyn g c.args.predictor.now).known c.args.predictor.now.1)
+            ((goal.Predictor-dyn g (c.args.predictor.now.0, c.commit-stop.new.predictor)).known c.commit-stop.new.predictor)
             _ (commit_with set.contains lines old).steps _ _ same (sym here) c.commit-stop.ensures.taught;
         cycle = subst (IsCycle _ lines old report) new done;
       },
     )
 
 pub returns-clause-numbers : goal.returns-clause-numbers
-returns-clause-numbers g c = omega (arith, c.self-2.invariant.sound.entries.numbers, here g (goal.at.returns-clause-numbers g c).After-self-2)
+returns-clause-numbers g c =
+    omega (arith, c.self-2.invariant.sound.entries.numbers, here g (goal.at.returns-clause-numbers g c).After-self-2)
 
 pub returns-clause-stop : goal.returns-clause-stop
 returns-clause-stop g c =

@@ -1,4 +1,4 @@
-use Rattle.rv_core.proofs.Entered.{decoded-first, sound-taken}
+use Rattle.rv_core.proofs.Phases.Entered.{decoded-first, sound-taken}
 use Rattle.rv_core.proofs.parts.Parts.dispatch_one.Goals as goal
 
 pub invariant_of-self : goal.invariant_of-self

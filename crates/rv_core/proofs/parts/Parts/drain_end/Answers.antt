@@ -1,5 +1,5 @@
 use Rattle.rv_core.proofs.Words.{◌≡◌, ap, ◌∙◌, stores_of, Queue, is_oldest_draining, IsSound, hardware_of, Inside}
-use Rattle.rv_core.proofs.Drained.{is_draining_behind, none_drains}
+use Rattle.rv_core.proofs.Phases.Drained.{is_draining_behind, none_drains}
 
 -- the queue's oldest store drains where the oldest retired one does
 oldest : (p : Inside) → IsSound p → is_oldest_draining p.stores.stores ≡ is_oldest_draining (hardware_of p).committed

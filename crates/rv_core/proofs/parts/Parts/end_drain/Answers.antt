@@ -1,6 +1,6 @@
 use Rattle.rv_core.proofs.Words.{◌≡◌, ◌<◌, ap, ◌∙◌, without_drained, Store as QueuedStore, end_drain, Hardware, stores_of, Queue, IsSound, hardware_of, IsRetiredStore, IsSoundHardware, queue_of, Inside}
-use Rattle.rv_core.proofs.Drained.{kept_when_drained, none_drains, without_drained_behind}
-use Rattle.rv_core.proofs.Stored.{sound_with_cache, parts_with_cache, view_with_cache}
+use Rattle.rv_core.proofs.Phases.Drained.{kept_when_drained, none_drains, without_drained_behind}
+use Rattle.rv_core.proofs.Phases.Stored.{sound_with_cache, parts_with_cache, view_with_cache}
 use Rattle.rv_core.proofs.parts.Parts.end_drain.Goals as goal
 
 abbrev next : Inside → Hardware
@@ -14,7 +14,8 @@ sound p before =
     (kept_when_drained (λ (s : QueuedStore). IsRetiredStore h.values s.state) h.committed before.sound.stores.each)
     (kept_when_drained (λ (s : QueuedStore). s.seq < h.rob.retired) h.committed before.sound.stores.older) before.sound.port
 
-queued : (p : Inside) (stores : Queue) → IsSound p → stores ≡ record p.stores { stores = without_drained p.stores.stores } → stores ≡ queue_of (next p)
+queued : (p : Inside) (stores : Queue) → IsSound p → stores ≡ record p.stores { stores = without_drained p.stores.stores } →
+    stores ≡ queue_of (next p)
 queued p stores before is =
     let h = hardware_of p in
     is

@@ -1,6 +1,6 @@
 use Rattle.rv_core.proofs.Words.{◌≡◌, ap, ◌∙◌, flushed, hardware_of, Inside}
-use Rattle.rv_core.proofs.Flushed.{emptied}
-use Rattle.rv_core.proofs.Squashed.{AreSquashed, squashed-is, squashed-sound}
+use Rattle.rv_core.proofs.Retired.Flushed.{emptied}
+use Rattle.rv_core.proofs.Retired.Squashed.{AreSquashed, squashed-is, squashed-sound}
 use Rattle.rv_core.proofs.parts.Parts.flush.Goals as goal
 
 abbrev left : goal.After-redirect → Inside
@@ -21,7 +21,8 @@ squashed c = record {
   stores = c.squash_all.ensures.stores;
 }
 
-same : (c : goal.After-redirect) → record (hardware_of (left c)) { committed = (hardware_of c.self.inside).committed } ≡ flushed (hardware_of c.self.inside)
+same : (c : goal.After-redirect) →
+    record (hardware_of (left c)) { committed = (hardware_of c.self.inside).committed } ≡ flushed (hardware_of c.self.inside)
 same c =
     let rob = c.squash_all.ensures.rob ∙ emptied c.self.inside.rob in
     λ i. record (hardware_of c.self.inside) { rob = rob i; front = c.redirect.ensures i }
@@ -29,9 +30,11 @@ same c =
 pub invariant_of-self : goal.invariant_of-self
 invariant_of-self c =
     let p = c.self.inside in
-    squashed-sound p (left c) c.self.invariant p.pc p.registers p.rob (squashed c) c.self.invariant.sound (same c) c.self.invariant.stale_base c.self.invariant.stale_size
+    squashed-sound p (left c) c.self.invariant p.pc p.registers p.rob (squashed c) c.self.invariant.sound
+    (same c) c.self.invariant.stale_base c.self.invariant.stale_size
 
 pub returns : goal.returns
 returns c =
     let p = c.self.inside in
-    squashed-is p (left c) c.self.invariant p.pc p.registers p.rob (squashed c) c.self.invariant.sound (same c) ∙ ap flushed c.self.view_is
+    squashed-is p (left c) c.self.invariant p.pc p.registers p.rob (squashed c) c.self.invariant.sound (same c)
+    ∙ ap flushed c.self.view_is

@@ -1,21 +1,26 @@
 use Rattle.rv_core.proofs.Words.{◌+◌, ◌-◌, nat_le, sym, refl, ap, ◌∙◌, arith, at_kind, Hardware, issue_kind, issue_turn, Ends, turn_of}
-use Rattle.rv_core.proofs.IssueParts.{turn_empty}
-use Rattle.rv_core.proofs.Turned.{turned-ends, turned-goes, turned-none}
+use Rattle.rv_core.proofs.Issued.Parts.{turn_empty}
+use Rattle.rv_core.proofs.Phases.Turned.{turned-ends, turned-goes, turned-none}
 use Rattle.rv_core.proofs.parts.Parts.issue_kind.Goals as goal
 
 pub returns-then-is_empty : goal.returns-then-is_empty
 returns-then-is_empty c =
     let parts = c.self.inside in
-    let ends = turn_empty parts c.self.invariant c.args.kind (nat_le parts.port_free parts.cycle) refl (c.is_empty.ensures.0 c.if-is_empty.true) in
+    let ends = turn_empty parts c.self.invariant c.args.kind (nat_le parts.port_free parts.cycle) refl
+    (c.is_empty.ensures.0 c.if-is_empty.true) in
     turned-none (issue_turn c.args.kind) (at_kind c.args.kind c.args.self.now.values.kinds).units c.args.self.now
     (ap (λ (h : Hardware). Ends h) (sym c.self.view_is) ∙ ends ∙ ap (issue_turn c.args.kind) c.self.view_is)
 
 pub returns-then-not-issue_one : goal.returns-then-not-issue_one
 returns-then-not-issue_one c =
     let ends = sym c.issue_one.ensures ∙ ap (λ b. turn_of b c.issue_one.new.self) c.if-not-issue_one.true in
-    turned-ends (issue_turn c.args.kind) (issue_kind c.args.kind c.args.self.now) (c.get.result.now.units - c.loop.counter) c.loop.self c.issue_one.new.self (omega (arith, c.loop-test.true)) c.loop.invariant ends
+    turned-ends (issue_turn c.args.kind) (issue_kind c.args.kind c.args.self.now)
+    (c.get.result.now.units - c.loop.counter) c.loop.self c.issue_one.new.self
+    (omega (arith, c.loop-test.true)) c.loop.invariant ends
 
 pub loop-preserved : goal.loop-preserved
 loop-preserved c =
     let goes = sym c.issue_one.ensures ∙ ap (λ b. turn_of b c.issue_one.new.self) c.if-not-issue_one.false in
-    turned-goes (issue_turn c.args.kind) (issue_kind c.args.kind c.args.self.now) (c.get.result.now.units - c.loop.counter) (c.get.result.now.units - (c.loop.counter + 1)) c.loop.self c.issue_one.new.self (omega (arith, c.loop-test.true)) c.loop.invariant goes
+    turned-goes (issue_turn c.args.kind) (issue_kind c.args.kind c.args.self.now) (c.get.result.now.units - c.loop.counter)
+    (c.get.result.now.units - (c.loop.counter + 1)) c.loop.self c.issue_one.new.self
+    (omega (arith, c.loop-test.true)) c.loop.invariant goes

@@ -1,28 +1,57 @@
 use Rattle.rv_core.proofs.Words.{◌≡◌, ◌+◌, Some, sym, ap, ◌∙◌, subst, arith, predicting, changed, Hardware, redirected, cut_from, entry_of, IsSound, hardware_of}
-use Rattle.rv_core.proofs.TiedBroadcast.{recovered-is, recovered-sound}
-use Rattle.rv_core.proofs.TiedEntries.{entry_of-from}
+use Rattle.rv_core.proofs.Ties.Broadcast.{recovered-is, recovered-sound}
+use Rattle.rv_core.proofs.Ties.Entries.{entry_of-from}
 use Rattle.rv_core.proofs.parts.Parts.recover.Goals as goal
 
 pub overflow_add-from : goal.overflow_add-from
 overflow_add-from c =
     let p = c.self.inside in
-    let held : entry_of c.args.seq p.rob.retired p.rob.entries ≡ Some c.requires.jump.0 = rw (← c.self.view_is) at c.requires.jump.1 in
+    let held : entry_of c.args.seq p.rob.retired p.rob.entries ≡ Some c.requires.jump.0 =
+    rw (← c.self.view_is) at c.requires.jump.1 in
     let sound = c.self.invariant.sound in
-    omega (arith, (entry_of-from c.args.seq p.rob.retired p.rob.entries c.requires.jump.0 held).1, sound.entries.numbers, sound.entries.within, sound.cycles, sound.legal.pipeline.rob.1)
+    omega (
+      arith,
+      (entry_of-from c.args.seq p.rob.retired p.rob.entries c.requires.jump.0 held).1,
+      sound.entries.numbers,
+      sound.entries.within,
+      sound.cycles,
+      sound.legal.pipeline.rob.1,
+    )
 
 pub invariant_of-self : goal.invariant_of-self
 invariant_of-self c =
     let p = c.self.inside in
-    let held : entry_of c.args.seq p.rob.retired p.rob.entries ≡ Some c.requires.jump.0 = rw (← c.self.view_is) at c.requires.jump.1 in
+    let held : entry_of c.args.seq p.rob.retired p.rob.entries ≡ Some c.requires.jump.0 =
+    rw (← c.self.view_is) at c.requires.jump.1 in
     let rob = c.cut.ensures ∙ ap (cut_from (c.args.seq + 1)) c.correct_prediction.ensures in
-    subst IsSound (λ i. record p { rob = sym rob i; stations = sym c.squash.ensures i; bus = sym c.squash-2.ensures i; stores = sym c.squash-3.ensures i; rename = sym c.restore.ensures i; front = sym c.redirect.ensures i })
-    (recovered-sound p c.self.invariant c.args.seq c.args.next_pc c.requires.jump.0 (rw (← c.self.view_is) at c.requires.early) held c.requires.jump.2)
+    subst IsSound (λ i. record p {
+      rob = sym rob i;
+      stations = sym c.squash.ensures i;
+      bus = sym c.squash-2.ensures i;
+      stores = sym c.squash-3.ensures i;
+      rename = sym c.restore.ensures i;
+      front = sym c.redirect.ensures i;
+    })
+    (recovered-sound p c.self.invariant c.args.seq c.args.next_pc c.requires.jump.0
+    (rw (← c.self.view_is) at c.requires.early) held c.requires.jump.2)
 
 pub returns : goal.returns
 returns c =
     let p = c.self.inside in
-    let held : entry_of c.args.seq p.rob.retired p.rob.entries ≡ Some c.requires.jump.0 = rw (← c.self.view_is) at c.requires.jump.1 in
+    let held : entry_of c.args.seq p.rob.retired p.rob.entries ≡ Some c.requires.jump.0 =
+    rw (← c.self.view_is) at c.requires.jump.1 in
     let rob = c.cut.ensures ∙ ap (cut_from (c.args.seq + 1)) c.correct_prediction.ensures in
-    (λ i. hardware_of (record p { rob = rob i; stations = c.squash.ensures i; bus = c.squash-2.ensures i; stores = c.squash-3.ensures i; rename = c.restore.ensures i; front = c.redirect.ensures i })) ∙
-    recovered-is p c.self.invariant c.args.seq c.args.next_pc c.requires.jump.0 (rw (← c.self.view_is) at c.requires.early) held c.requires.jump.2 ∙
-    ap {A = Hardware} (λ x. record x { rob = cut_from (c.args.seq + 1) (changed (predicting c.args.next_pc) c.args.seq x.rob); front = redirected c.args.next_pc x.front }) c.self.view_is
+    (λ i. hardware_of (record p {
+      rob = rob i;
+      stations = c.squash.ensures i;
+      bus = c.squash-2.ensures i;
+      stores = c.squash-3.ensures i;
+      rename = c.restore.ensures i;
+      front = c.redirect.ensures i;
+    })) ∙
+    recovered-is p c.self.invariant c.args.seq c.args.next_pc c.requires.jump.0
+    (rw (← c.self.view_is) at c.requires.early) held c.requires.jump.2 ∙
+    ap {A = Hardware} (λ x. record x {
+      rob = cut_from (c.args.seq + 1) (changed (predicting c.args.next_pc) c.args.seq x.rob);
+      front = redirected c.args.next_pc x.front;
+    }) c.self.view_is

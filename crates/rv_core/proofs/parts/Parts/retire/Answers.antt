@@ -1,8 +1,8 @@
 use Rattle.rv_core.proofs.Words.{◌≡◌, ℕ, ◌+◌, ◌*◌, ◌<◌, ◌≢◌, length, IfSome, Some, None, Option, option_map, sym, ap, ◌∙◌, subst, is_store, target_of_word, Message, Entry, Hardware, broadcast_of, with_result, StaleWords, without_checkpoint, IsHead, IsSound, hardware_of, registers_with, without_target, IsLegalWrite, IsSoundHardware, AreTied, Inside}
-use Rattle.rv_core.proofs.Closed.{closed-is, closed-sound}
-use Rattle.rv_core.proofs.RetiredHead.{IsTarget, tied_behind_head}
-use Rattle.rv_core.proofs.RetiredSound.{sound_behind_head}
-use Rattle.rv_core.proofs.RetiredWrite.{legal_write, target_written, write_is_covered}
+use Rattle.rv_core.proofs.Ties.Closed.{closed-is, closed-sound}
+use Rattle.rv_core.proofs.Retired.Head.{IsTarget, tied_behind_head}
+use Rattle.rv_core.proofs.Retired.Sound.{sound_behind_head}
+use Rattle.rv_core.proofs.Retired.Write.{legal_write, target_written, write_is_covered}
 use Rattle.rv_core.proofs.parts.Parts.retire.Goals as goal
 
 -- what the callers promise, of the parts themselves
@@ -17,7 +17,8 @@ legal p h e m sound view is known faultless =
 pub commit_store-requires : goal.commit_store-requires
 commit_store-requires c =
     write_is_covered c.self.inside.values c.self.inside.stale (is_store c.args.entry.now.instruction) c.args.message.now.store
-    (legal c.self.inside c.args.self.now c.args.entry.now c.args.message.now c.self.invariant c.self.view_is c.requires.head c.requires.known c.requires.sound)
+    (legal c.self.inside c.args.self.now c.args.entry.now c.args.message.now c.self.invariant c.self.view_is c.requires.head
+    c.requires.known c.requires.sound)
     c.self.invariant.stale_base c.self.invariant.stale_size
 
 abbrev left : goal.After-self-1 → Inside
@@ -35,10 +36,12 @@ next c = with_result c.args.entry.now c.args.message.now (hardware_of c.self.ins
 
 target : (c : goal.After-self-1) → IsTarget c.self.inside.registers (target_of_word c.args.entry.now.instruction)
 target c =
-    subst (λ (o : Option ℕ). IfSome o (λ register. (register ≢ 0) × (register < length c.self.inside.registers))) c.target_of-target.ensures.target
+    subst (λ (o : Option ℕ). IfSome o
+    (λ register. (register ≢ 0) × (register < length c.self.inside.registers))) c.target_of-target.ensures.target
     (rw c.self.told c.target_of-target.ensures.in_range)
 
-write : (c : goal.After-self-1) → IsLegalWrite c.self.inside.values (is_store c.args.entry.now.instruction) None c.args.message.now.store
+write : (c : goal.After-self-1) →
+    IsLegalWrite c.self.inside.values (is_store c.args.entry.now.instruction) None c.args.message.now.store
 write c =
     legal c.self.inside c.args.self.now c.args.entry.now c.args.message.now c.self.invariant c.self.view_is c.requires.head
     c.requires.known c.requires.sound
@@ -55,10 +58,13 @@ tied c =
     let at = head p c.args.self.now c.args.entry.now c.self.view_is c.requires.head in
     let seq = p.rob.retired in
     let behind =
-    tied_behind_head (hardware_of p) c.args.entry.now at.0 c.args.message.now p.rename p.stations p.bus p.stores c.self.invariant.tied c.self.invariant.sound.stores.each at.1 c.requires.known
+    tied_behind_head (hardware_of p) c.args.entry.now at.0 c.args.message.now p.rename p.stations p.bus p.stores
+    c.self.invariant.tied c.self.invariant.sound.stores.each at.1 c.requires.known
     (target c) (write c) in
     record {
-      renamed = c.retire_oldest.ensures.rename ∙ ap (λ (o : Option ℕ). without_checkpoint seq (without_target seq o p.rename)) c.target_of-target.ensures.target ∙ behind.renamed;
+      renamed = c.retire_oldest.ensures.rename
+          ∙ ap (λ (o : Option ℕ). without_checkpoint seq (without_target seq o p.rename)) c.target_of-target.ensures.target
+          ∙ behind.renamed;
       stationed = behind.stationed;
       pending = behind.pending;
       queued = c.commit_store.ensures.stores ∙ behind.queued;
@@ -68,13 +74,20 @@ same : (c : goal.After-self-1) → record (hardware_of (left c)) { committed = (
 same c =
     let registers =
     c.write_target.ensures
-    ∙ ap (λ (o : Option ℕ). registers_with (option_map (λ (register : ℕ). (register, c.args.message.now.value)) o) c.self.inside.registers) c.target_of-target.ensures.target
+    ∙ ap (λ (o : Option ℕ). registers_with
+    (option_map (λ (register : ℕ).
+    (register, c.args.message.now.value)) o) c.self.inside.registers) c.target_of-target.ensures.target
     ∙ target_written c.self.inside.registers (target_of_word c.args.entry.now.instruction) c.args.message.now (target c) in
-    λ i. record (next c) { registers = registers i; stale = (c.commit_store.ensures.stale i).words; rob = c.retire_oldest.ensures.rob i }
+    λ i. record (next c) {
+      registers = registers i;
+      stale = (c.commit_store.ensures.stale i).words;
+      rob = c.retire_oldest.ensures.rob i;
+    }
 
 pub invariant_of-self : goal.invariant_of-self
 invariant_of-self c =
-    closed-sound (left c) (next c) (same c) (tied c) (sound c) (ap (λ (s : StaleWords). s.base) c.commit_store.ensures.stale ∙ c.self.invariant.stale_base)
+    closed-sound (left c) (next c) (same c) (tied c) (sound c)
+    (ap (λ (s : StaleWords). s.base) c.commit_store.ensures.stale ∙ c.self.invariant.stale_base)
     (ap (λ (s : StaleWords). s.size) c.commit_store.ensures.stale ∙ c.self.invariant.stale_size)
 
 pub returns : goal.returns

@@ -1,7 +1,7 @@
 use Rattle.rv_core.proofs.Words.{◌≡◌, ◌+◌, ◌*◌, ◌<◌, [], sym, ap, ◌∙◌, subst, ReorderBuffer, head_retired, Hardware, flushed, IsHead, hardware_of, registers_with, IsSoundHardware, Inside}
-use Rattle.rv_core.proofs.Flushed.{emptied}
-use Rattle.rv_core.proofs.Serialised.{sound_behind_serial}
-use Rattle.rv_core.proofs.Squashed.{AreSquashed, squashed-is, squashed-sound}
+use Rattle.rv_core.proofs.Retired.Flushed.{emptied}
+use Rattle.rv_core.proofs.Retired.Serial.{sound_behind_serial}
+use Rattle.rv_core.proofs.Retired.Squashed.{AreSquashed, squashed-is, squashed-sound}
 use Rattle.rv_core.proofs.parts.Parts.serialise.Goals as goal
 
 abbrev left : goal.After-redirect → Inside
@@ -32,20 +32,30 @@ sound : (c : goal.After-redirect) → IsSoundHardware (next c (hardware_of c.sel
 sound c =
     let head = subst (λ (x : Hardware). IsHead x c.args.entry.now) (sym c.self.view_is) c.requires.head in
     let room = subst (λ (x : Hardware). x.rob.retired < 8 * x.cycle + 8) (sym c.self.view_is) c.requires.room in
-    sound_behind_serial (hardware_of c.self.inside) c.args.entry.now head.0 c.args.next c.args.written c.self.invariant.sound head.1 room
+    sound_behind_serial (hardware_of c.self.inside) c.args.entry.now head.0 c.args.next c.args.written c.self.invariant.sound
+    head.1 room
 
-same : (c : goal.After-redirect) → record (hardware_of (left c)) { committed = (hardware_of c.self.inside).committed } ≡ flushed (next c (hardware_of c.self.inside))
+same : (c : goal.After-redirect) →
+    record (hardware_of (left c)) { committed = (hardware_of c.self.inside).committed }
+    ≡ flushed (next c (hardware_of c.self.inside))
 same c =
-    let rob = c.squash_all.ensures.rob ∙ emptied c.pop_head.new.self ∙ ap (λ (r : ReorderBuffer). record r { entries = [] }) c.pop_head.ensures in
-    λ i. record (flushed (next c (hardware_of c.self.inside))) { registers = c.write.ensures i; rob = rob i; front = c.redirect.ensures i }
+    let rob = c.squash_all.ensures.rob ∙ emptied c.pop_head.new.self
+    ∙ ap (λ (r : ReorderBuffer). record r { entries = [] }) c.pop_head.ensures in
+    λ i. record (flushed (next c (hardware_of c.self.inside))) {
+      registers = c.write.ensures i;
+      rob = rob i;
+      front = c.redirect.ensures i;
+    }
 
 pub invariant_of-self : goal.invariant_of-self
 invariant_of-self c =
     let p = c.self.inside in
-    squashed-sound p (left c) c.self.invariant c.args.next (registers_with c.args.written p.registers) (head_retired p.rob) (squashed c) (sound c) (same c) c.self.invariant.stale_base
+    squashed-sound p (left c) c.self.invariant c.args.next (registers_with c.args.written p.registers) (head_retired p.rob)
+    (squashed c) (sound c) (same c) c.self.invariant.stale_base
     c.self.invariant.stale_size
 
 pub returns-clause-hardware : goal.returns-clause-hardware
 returns-clause-hardware c =
     let p = c.self.inside in
-    squashed-is p (left c) c.self.invariant c.args.next (registers_with c.args.written p.registers) (head_retired p.rob) (squashed c) (sound c) (same c) ∙ ap (λ h. flushed (next c h)) c.self.view_is
+    squashed-is p (left c) c.self.invariant c.args.next (registers_with c.args.written p.registers) (head_retired p.rob)
+    (squashed c) (sound c) (same c) ∙ ap (λ h. flushed (next c h)) c.self.view_is

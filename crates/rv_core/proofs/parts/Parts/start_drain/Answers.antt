@@ -1,6 +1,6 @@
 use Rattle.rv_core.proofs.Words.{◌≡◌, ◌+◌, Bool, true, false, List, length, Some, None, Option, sym, refl, ap, ◌∙◌, subst, true≢false, arith, StoreAccess, Memory, Contents, access_cost, accessed_sets, oldest_to_drain, with_oldest_draining, Store as QueuedStore, start_drain, with_drained, Hardware, stores_of, IsSome, IsTrue, IsAccess, seen_after, Queue, IsSound, hardware_of, IsDescribedCache, IsLegalAccess, IsSoundHardware, queue_of, Inside}
-use Rattle.rv_core.proofs.Drained.{below_when_draining, draining_behind, none_drains, oldest_behind, oldest_is_legal, retired_when_draining}
-use Rattle.rv_core.proofs.Stored.{sound_with_cache, parts_with_cache, view_with_cache, with_cache}
+use Rattle.rv_core.proofs.Phases.Drained.{below_when_draining, draining_behind, none_drains, oldest_behind, oldest_is_legal, retired_when_draining}
+use Rattle.rv_core.proofs.Phases.Stored.{sound_with_cache, parts_with_cache, view_with_cache, with_cache}
 use Rattle.rv_core.proofs.parts.Parts.start_drain.Goals as goal
 
 -- the queue's oldest store is the oldest retired one
@@ -10,22 +10,33 @@ oldest p before =
     ap (λ (q : Queue). oldest_to_drain q.stores) before.tied.queued
     ∙ oldest_behind h.committed (stores_of h.rob.retired h.rob.entries) (none_drains h.rob.retired h.rob.entries)
 
-nothing_starts : (h : Hardware) (found : Option StoreAccess) (can_drain : Bool) → (IsSome found → IsTrue can_drain) → can_drain ≡ false → h ≡ start_drain found h
+nothing_starts : (h : Hardware) (found : Option StoreAccess) (can_drain : Bool) → (IsSome found → IsTrue can_drain) →
+    can_drain ≡ false → h ≡ start_drain found h
 nothing_starts h None can_drain tells not = refl
 nothing_starts h (Some access) can_drain tells not = absurd (true≢false (sym (tells refl) ∙ not))
 
 pub returns-then-not-can_drain : goal.returns-then-not-can_drain
 returns-then-not-can_drain c =
     nothing_starts c.args.self.now (oldest_to_drain c.args.self.now.committed) c.can_drain.result
-    (λ some. c.can_drain.ensures.1 (subst IsSome (ap (λ (h : Hardware). oldest_to_drain h.committed) (sym c.self.view_is) ∙ sym (oldest c.self.inside c.self.invariant)) some))
+    (λ some. c.can_drain.ensures.1
+    (subst IsSome (ap (λ (h : Hardware). oldest_to_drain h.committed) (sym c.self.view_is)
+    ∙ sym (oldest c.self.inside c.self.invariant)) some))
     c.if-not-can_drain.true
 
-legal : (p : Inside) (access : StoreAccess) → IsSound p → oldest_to_drain p.stores.stores ≡ Some access → IsLegalAccess p.values access
-legal p access before is = oldest_is_legal p.values (hardware_of p).committed access before.sound.stores.each (sym (oldest p before) ∙ is)
+legal : (p : Inside) (access : StoreAccess) → IsSound p → oldest_to_drain p.stores.stores ≡ Some access →
+    IsLegalAccess p.values access
+legal p access before is =
+    oldest_is_legal p.values (hardware_of p).committed access before.sound.stores.each (sym (oldest p before) ∙ is)
 
-is_access : (p : Inside) (access : StoreAccess) → IsSound p → IsLegalAccess p.values access → IsAccess p.cache access.address (length access.bytes)
-is_access p access before legal =
-    (legal.aligned, (omega (arith, before.sound.cache.base, legal.from_base), omega (arith, before.sound.cache.base, before.sound.cache.bytes, legal.to_end)))
+is_access : (p : Inside) (access : StoreAccess) → IsSound p → IsLegalAccess p.values access →
+    IsAccess p.cache access.address (length access.bytes)
+is_access p access before legal = (
+  legal.aligned,
+  (
+    omega (arith, before.sound.cache.base, legal.from_base),
+    omega (arith, before.sound.cache.base, before.sound.cache.bytes, legal.to_end),
+  ),
+)
 
 pub write-cost-requires : goal.write-cost-requires
 write-cost-requires c = record {
@@ -34,7 +45,8 @@ write-cost-requires c = record {
       (legal c.self.inside c.start_drain-access.result c.self.invariant c.start_drain-access.ensures.access));
 }
 
-is_oldest : (p : Inside) (access : StoreAccess) → IsSound p → oldest_to_drain p.stores.stores ≡ Some access → oldest_to_drain (hardware_of p).committed ≡ Some access
+is_oldest : (p : Inside) (access : StoreAccess) → IsSound p → oldest_to_drain p.stores.stores ≡ Some access →
+    oldest_to_drain (hardware_of p).committed ≡ Some access
 is_oldest p access before is = sym (oldest p before) ∙ is
 
 -- the parts but for cache and port
@@ -42,7 +54,8 @@ abbrev draining : Inside → List QueuedStore
 draining p = with_oldest_draining (hardware_of p).committed
 
 queued : (p : Inside) (stores : Queue) (access : StoreAccess) → IsSound p → oldest_to_drain p.stores.stores ≡ Some access →
-    stores ≡ record p.stores { stores = with_oldest_draining p.stores.stores } → stores ≡ queue_of (record (hardware_of p) { committed = draining p })
+    stores ≡ record p.stores { stores = with_oldest_draining p.stores.stores } →
+    stores ≡ queue_of (record (hardware_of p) { committed = draining p })
 queued p stores access before is left =
     let h = hardware_of p in
     left
@@ -58,20 +71,26 @@ described c = record {
   layout = c.write-cost.ensures.kept ∙ c.self.invariant.sound.cache.layout;
 }
 
-sound : (c : goal.After-self-1) → IsSoundHardware (with_cache c.write-cost.new.self (draining c.self.inside) (c.self.inside.cycle + c.from.result) (hardware_of c.self.inside))
+sound : (c : goal.After-self-1) →
+    IsSoundHardware (with_cache c.write-cost.new.self (draining c.self.inside) (c.self.inside.cycle + c.from.result)
+    (hardware_of c.self.inside))
 sound c =
     let h = hardware_of c.self.inside in
-    sound_with_cache h c.write-cost.new.self (draining c.self.inside) (c.self.inside.cycle + c.from.result) c.self.invariant.sound (described c)
+    sound_with_cache h c.write-cost.new.self (draining c.self.inside) (c.self.inside.cycle + c.from.result) c.self.invariant.sound
+    (described c)
     (retired_when_draining h.values h.committed c.self.invariant.sound.stores.each)
     (below_when_draining h.rob.retired h.committed c.self.invariant.sound.stores.older)
     (omega (arith, c.self.invariant.sound.cycles, c.from.ensures, c.write-cost.type_inv))
 
-stores : (c : goal.After-self-1) → c.start_drain-access.new.self ≡ queue_of (record (hardware_of c.self.inside) { committed = draining c.self.inside })
-stores c = queued c.self.inside c.start_drain-access.new.self c.start_drain-access.result c.self.invariant c.start_drain-access.ensures.access c.start_drain-access.ensures.stores
+stores : (c : goal.After-self-1) →
+    c.start_drain-access.new.self ≡ queue_of (record (hardware_of c.self.inside) { committed = draining c.self.inside })
+stores c = queued c.self.inside c.start_drain-access.new.self c.start_drain-access.result c.self.invariant
+    c.start_drain-access.ensures.access c.start_drain-access.ensures.stores
 
 pub invariant_of-self : goal.invariant_of-self
 invariant_of-self c =
-    parts_with_cache c.self.inside c.write-cost.new.self (draining c.self.inside) c.start_drain-access.new.self (c.self.inside.cycle + c.from.result)
+    parts_with_cache c.self.inside c.write-cost.new.self (draining c.self.inside) c.start_drain-access.new.self
+    (c.self.inside.cycle + c.from.result)
     c.self.invariant (sound c) (stores c)
 
 -- the access is the definition's
@@ -88,13 +107,16 @@ accessed c =
       sets = accessed_sets p.cache access.address true;
       backing = record { layout = c.write-cost.ensures.kept i; bytes = c.write-cost.ensures.evicted i };
     }) in
-    let port : p.cycle + c.from.result ≡ p.cycle + access_cost p.cache access.address = ap (λ n. p.cycle + n) (c.from.ensures ∙ c.write-cost.ensures.cost) in
+    let port : p.cycle + c.from.result ≡ p.cycle + access_cost p.cache access.address =
+    ap (λ n. p.cycle + n) (c.from.ensures ∙ c.write-cost.ensures.cost) in
     λ i. with_cache (cache i) (draining p) (port i) (hardware_of p)
 
 pub returns : goal.returns
 returns c =
     let p = c.self.inside in
-    view_with_cache p c.write-cost.new.self (draining p) c.start_drain-access.new.self (p.cycle + c.from.result) c.self.invariant (sound c) (stores c)
+    view_with_cache p c.write-cost.new.self (draining p) c.start_drain-access.new.self (p.cycle + c.from.result) c.self.invariant
+    (sound c) (stores c)
     ∙ accessed c
-    ∙ ap (λ o. start_drain o (hardware_of p)) (sym (is_oldest p c.start_drain-access.result c.self.invariant c.start_drain-access.ensures.access))
+    ∙ ap (λ o. start_drain o (hardware_of p))
+    (sym (is_oldest p c.start_drain-access.result c.self.invariant c.start_drain-access.ensures.access))
     ∙ ap (λ (h : Hardware). start_drain (oldest_to_drain h.committed) h) c.self.view_is

@@ -1,12 +1,13 @@
 use Rattle.rv_core.proofs.Words.{◌≡◌, List, slice_get, sym, ap, ◌∙◌, commit_turn, head_turn, Hardware, Step, IsHead, committing}
 use Rattle.std.specs.FinSet as set
-use Rattle.rv_core.proofs.HeadRoles.{first_is_head, turn_of_head, turn_waits, turn_accesses}
+use Rattle.rv_core.proofs.Retired.Roles.{first_is_head, turn_of_head, turn_waits, turn_accesses}
 use Rattle.rv_core.proofs.parts.Parts.take_head.Goals as goal
 use Rattle.rv_core.proofs.parts.Parts.take_head.Goals.{After-role_of, In-Some}
 
 head : (c : In-Some) → IsHead c.args.self.now c.in-Some.head.now
 head c =
-    first_is_head c.args.self.now c.in-Some.head.now (ap (λ (h : Hardware). slice_get h.rob.entries 0) (sym c.self.view_is) ∙ sym c.in-Some.ensures)
+    first_is_head c.args.self.now c.in-Some.head.now
+    (ap (λ (h : Hardware). slice_get h.rob.entries 0) (sym c.self.view_is) ∙ sym c.in-Some.ensures)
 
 pub fence_instructions-requires-clause-head : goal.fence_instructions-requires-clause-head
 fence_instructions-requires-clause-head c = head (goal.at.fence_instructions-requires-clause-head c).In-Some
@@ -22,19 +23,22 @@ finish_head-requires-clause-head c = head (goal.at.finish_head-requires-clause-h
 
 -- a fresh head has its turn
 turn : (c : After-role_of) (at : IsHead c.args.self.now c.in-Some.head.now) (steps : List Step) →
-    commit_turn set.contains (committing c.args.self.now steps) ≡ head_turn c.in-Some.head.now c.in-Some.head.now.instruction (committing c.args.self.now steps)
+    commit_turn set.contains (committing c.args.self.now steps)
+    ≡ head_turn c.in-Some.head.now c.in-Some.head.now.instruction (committing c.args.self.now steps)
 turn c at steps = turn_of_head c.args.self.now c.in-Some.head.now steps at (c.requires.fresh c.in-Some.head.now at)
 
 pub returns-in-CsrAccess-clause-turn : goal.returns-in-CsrAccess-clause-turn
 returns-in-CsrAccess-clause-turn c steps =
     let at = goal.at.returns-in-CsrAccess-clause-turn c in
     turn at.After-role_of (head at.In-Some) steps
-    ∙ turn_accesses c.in-Some.head.now c.in-Some.head.now.instruction c.in-CsrAccess.access (committing c.args.self.now steps) (sym c.role_of.ensures ∙ c.in-CsrAccess.is)
+    ∙ turn_accesses c.in-Some.head.now c.in-Some.head.now.instruction c.in-CsrAccess.access (committing c.args.self.now steps)
+    (sym c.role_of.ensures ∙ c.in-CsrAccess.is)
     ∙ c.access_csr.ensures.turn steps
 
 pub returns-in-WaitsForResult-clause-turn : goal.returns-in-WaitsForResult-clause-turn
 returns-in-WaitsForResult-clause-turn c steps =
     let at = goal.at.returns-in-WaitsForResult-clause-turn c in
     turn at.After-role_of (head at.In-Some) steps
-    ∙ turn_waits c.in-Some.head.now c.in-Some.head.now.instruction (committing c.args.self.now steps) (sym c.role_of.ensures ∙ c.in-WaitsForResult.is)
+    ∙ turn_waits c.in-Some.head.now c.in-Some.head.now.instruction (committing c.args.self.now steps)
+    (sym c.role_of.ensures ∙ c.in-WaitsForResult.is)
     ∙ c.finish_head.ensures.turn steps

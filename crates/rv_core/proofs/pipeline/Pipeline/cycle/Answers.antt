@@ -8,7 +8,8 @@ use Rattle.rv_core.proofs.pipeline.Pipeline.cycle.Goals as goal
 
 pub returns-clause-true_cycle : goal.returns-clause-true_cycle
 returns-clause-true_cycle g c counted =
-    headline_of_cycle c.args.lines c.args.self.now (report_of_cycle c.next_cycle.result) c.next_cycle.new.self c.cycles_done.ensures.reached
+    headline_of_cycle c.args.lines c.args.self.now
+    (report_of_cycle c.next_cycle.result) c.next_cycle.new.self c.cycles_done.ensures.reached
     (any_cycle (c.next_cycle.ensures.cycled counted).cycle)
 
 if_due : {P : ℕ → Type 0} (o : Option ℕ) → ((code : ℕ) → o ≡ Some code → P code) → IfSome o P
@@ -18,7 +19,8 @@ if_due (Some code) taken = taken code refl
 pub returns-clause-due_interrupt : goal.returns-clause-due_interrupt
 returns-clause-due_interrupt g c counted =
     if_due (due c.args.self.now.csrs c.args.lines)
-    (λ code. due_interrupt_is_taken c.args.lines c.args.self.now c.next_cycle.new.self (report_of_cycle c.next_cycle.result) code (any_cycle (c.next_cycle.ensures.cycled counted).cycle))
+    (λ code. due_interrupt_is_taken c.args.lines c.args.self.now c.next_cycle.new.self (report_of_cycle c.next_cycle.result) code
+    (any_cycle (c.next_cycle.ensures.cycled counted).cycle))
 
 stalls_where : (none_dispatched : Bool) (stall : Option Stall) → IsCounted none_dispatched stall → is_some stall ≡ none_dispatched
 stalls_where true None counted = absurd counted
@@ -29,4 +31,5 @@ stalls_where false (Some reason) counted = absurd counted
 pub returns-clause-stall : goal.returns-clause-stall
 returns-clause-stall g c counted =
     let before = reachable_has_history c.cycles_done.ensures.reached in
-    stalls_where (c.next_cycle.result.dispatched == 0) c.next_cycle.result.stall (cycle_tells before.0 before.2 (any_cycle (c.next_cycle.ensures.cycled counted).cycle))
+    stalls_where (c.next_cycle.result.dispatched == 0) c.next_cycle.result.stall
+    (cycle_tells before.0 before.2 (any_cycle (c.next_cycle.ensures.cycled counted).cycle))

@@ -5,9 +5,11 @@ use Rattle.rv_core.proofs.pipeline.Pipeline.next_cycle.Goals as goal
 
 pub invariant_of-self-2 : goal.invariant_of-self-2
 invariant_of-self-2 g c =
-    let counted : nat_le (2 ^ 40) c.self.inside.parts.value.cycle ≡ false = sym c.is_exhausted.ensures.exhausted ∙ c.if-is_exhausted.false in
+    let counted : nat_le (2 ^ 40) c.self.inside.parts.value.cycle ≡ false =
+    sym c.is_exhausted.ensures.exhausted ∙ c.if-is_exhausted.false in
     record {
-      reached = by_cycle c.self.invariant.reached (leb-false _ _ counted) (any_cycle (rw c.deref_mut.ensures.value at c.advance-end.ensures.cycle.3.cycle));
+      reached = by_cycle c.self.invariant.reached (leb-false _ _ counted)
+          (any_cycle (rw c.deref_mut.ensures.value at c.advance-end.ensures.cycle.3.cycle));
       numbers = c.advance-end.ensures.numbers;
       has_room = omega (arith, c.advance-end.ensures.capacity, c.clear.ensures.capacity, c.self.invariant.has_room);
     }
@@ -16,5 +18,6 @@ pub returns-clause-cycled : goal.returns-clause-cycled
 returns-clause-cycled g c = λ counted.
     let end = c.advance-end.result in
     let done = c.advance-end.ensures.cycle in
-    let listed : c.listed.result.items ≡ done.0 = c.listed.ensures ∙ c.as_slice.ensures.value ∙ done.1 ∙ ap (λ l. l ++ done.0) c.clear.ensures.items in
+    let listed : c.listed.result.items ≡ done.0 =
+    c.listed.ensures ∙ c.as_slice.ensures.value ∙ done.1 ∙ ap (λ l. l ++ done.0) c.clear.ensures.items in
     cycle_with (ap (λ steps. report_with steps end) (sym listed)) (cycle_from (c.deref_mut.ensures.value ∙ c.self.view_is) done.3)

@@ -1,0 +1,188 @@
+-- What the execution of an instruction leaves is what the definition's start of it leaves.
+use Rattle.rv_core.proofs.Words.{◌≡◌, ℕ, ◌+◌, ◌^◌, ◌≤◌, Bool, true, false, cond, List, [], ◌∷◌, map, length, is_some, Some, None, All, Option, option_and_then, sym, refl, ap, ◌∙◌, subst, arith, All-head, is_store, kind_of_word, sources_of, bytes_of, width_of, at_kind, with_kind, modulo_word, sum, Message, Instr, Load, Issue, Lines, Kind, PerKind, CacheValues, instruction_of, Memory, State, register_of, Contents, access_cost, cost_of_access, CacheLine, Store, UnitPool, started, changed, Entry, Hardware, memory_behind, FromCache, FromStores, Path, Without, cost_of, issued, path, path_of_word, with_start, result_in, result_of_word, layout_of, seen_behind, stores_behind, All-right, IsLegalCost, kind_of, Queue, older_than, Pool, taken_from, Ready, Pending, started_unit, Renaming, path_of_load, IsBehind, LieIn, cache_after, load_path, path_cost, port_after, Reads, operand_value, IsDescribedCache, IsLegalWrite, IsSoundEntry, IsSoundHardware, AreTied}
+use Rattle.rv_units.specs.Bus.{with_result}
+use Rattle.rv_core.proofs.Issued.Found.{Leaving, test_of}
+use Rattle.rv_core.proofs.Issued.Ready.{All-left, kind_there}
+use Rattle.rv_core.proofs.Issued.Stores.{older_than-behind}
+use Rattle.rv_core.proofs.Issued.Tied.{sound_started, tied_started}
+use Rattle.rv_core.proofs.Issued.Writes.{inside_behind, result_writes}
+use Rattle.rv_core.proofs.Loads.Path.{access_is_defined, cost_is_defined, path_is_defined}
+
+-- the path that the code takes is the definition's, where it has the register's value
+load_path_defined : (h : Hardware) (older : List Entry) (s : State) (i : Instr) (first second : ℕ) →
+    map (operand_value s) (sources_of i) ≡ first ∷ second ∷ [] →
+    load_path (layout_of h.values) (stores_behind h older) first i ≡ path_of_word h older s (Some i)
+load_path_defined h older s (Load form rd rs1 offset) first second reads =
+    let count = bytes_of (width_of form) in
+    let same : register_of s rs1 ≡ first = cc in
+    path_is_defined h older (sum first (modulo_word offset)) count
+    ∙ ap (λ r. path_of_load h older (sum r (modulo_word offset)) count) (sym same)
+load_path_defined h older s i first second reads = refl
+
+word_decoded : (word : Option ℕ) (i : Instr) → option_and_then instruction_of word ≡ Some i → (w : ℕ) × (word ≡ Some w)
+word_decoded None i is = absurd (cc)
+word_decoded (Some w) i is = (w, refl)
+
+-- an access costs no more than the description allows
+cost_bound : (values : CacheValues) → IsLegalCost values → (is_hit : Bool) (dropped : Option CacheLine) →
+    cost_of_access values is_hit dropped ≤ 2016
+cost_bound values legal true dropped = omega (arith, legal.hit.1)
+cost_bound values legal false None = omega (arith, legal.hit.1, legal.miss)
+cost_bound values legal false (Some line) = evicts line.dirty where
+  evicts : (dirty : Bool) → values.hit + values.miss + cond dirty values.write_back 0 ≤ 2016
+  evicts true = omega (arith, legal.hit.1, legal.miss, legal.write_back)
+  evicts false = omega (arith, legal.hit.1, legal.miss)
+
+module _ (h : Hardware) (sound : IsSoundHardware h) where
+  port_bound : (p : Path) → port_after h.cycle h.port_free h.cache p ≤ 2 ^ 43
+  port_bound Without = sound.port
+  port_bound FromStores = sound.port
+  port_bound (FromCache address) =
+      let legal : IsLegalCost h.cache.values = subst IsLegalCost (sym sound.cache.values) sound.legal.cache.1 in
+      let cost : access_cost h.cache address ≤ 2016 = cost_bound h.cache.values legal _ _ in
+      omega (arith, cost, sound.cycles)
+
+  -- what an access keeps of the cache
+  abbrev Keeps : Contents Memory → Type 0
+  Keeps c = (c.base ≡ h.cache.base) × (c.values ≡ h.cache.values) × (c.bytes ≡ h.cache.bytes) ×
+      (c.backing.layout ≡ h.cache.backing.layout)
+
+  keeps : (p : Path) → Keeps (cache_after h.cache p)
+  keeps Without = (refl, refl, refl, refl)
+  keeps FromStores = (refl, refl, refl, refl)
+  keeps (FromCache address) = (refl, refl, refl, refl)
+
+  module _ (kind : Kind) (ready : Ready) (leaving : Leaving h kind ready) where
+    abbrev before : List Entry
+    before = leaving.before
+
+    abbrev entry : Entry
+    entry = leaving.entry
+
+    -- the state in which the instruction executes
+    abbrev s : State
+    s = seen_behind h before entry.pc
+
+    abbrev place : ℕ
+    place = h.rob.retired + length before
+
+    older : (queued : List Store) → queued ≡ stores_behind h h.rob.entries → older_than ready.seq queued ≡ stores_behind h before
+    older queued told =
+        (λ j. older_than (leaving.number j) (told j))
+        ∙ ap (λ es. older_than place (stores_behind h es)) leaving.split
+        ∙ older_than-behind h sound.stores.older before (entry ∷ leaving.rest)
+
+    module _ (queued : List Store) (told : queued ≡ stores_behind h h.rob.entries) where
+      -- the path in the code's words
+      abbrev pub code_path : Path
+      code_path = load_path h.cache.backing.layout (older_than ready.seq queued) ready.first ready.instruction
+
+      path_taken : code_path ≡ path h before entry
+      path_taken =
+          (λ j. load_path (sound.cache.layout j) (older queued told j) ready.first ready.instruction)
+          ∙ load_path_defined h before s ready.instruction ready.first ready.second leaving.operands.values
+          ∙ ap (path_of_word h before s) (sym leaving.decoded)
+
+      behind : IsBehind h.cache (older_than ready.seq queued) s
+      behind = record {
+        inside =
+            subst (LieIn h.cache.base (length h.cache.bytes)) (sym (older queued told))
+            (subst (λ b. LieIn b (length h.cache.bytes) (stores_behind h before)) (sym sound.cache.base)
+            (subst (λ n. LieIn h.values.ram_base n (stores_behind h before)) (sym sound.cache.bytes)
+            (inside_behind h before sound.stores.each
+            (All-left (IsSoundEntry h.values) before (entry ∷ leaving.rest)
+            (subst (All (IsSoundEntry h.values)) leaving.split sound.entries.each)))));
+        ram = λ j. memory_behind (sym sound.cache.base j) (sym (older queued told) j) h.cache.bytes;
+      }
+
+      module _ (message : Message) (cost port_free : ℕ) (cache : Contents Memory)
+          (costs : cost ≡ path_cost (at_kind kind h.values.kinds).latency h.values.forward h.cache code_path)
+          (ports : port_free ≡ port_after h.cycle h.port_free h.cache code_path)
+          (caches : cache ≡ cache_after h.cache code_path)
+          (gives : is_some (kind_of ready.instruction) ≡ true → (t : State) (lines : Lines) (word : ℕ) →
+          Reads t ready.pc ready.first ready.second ready.instruction → IsBehind h.cache (older_than ready.seq queued) t →
+          message ≡ result_in h.cache.backing.layout t lines word ready.instruction) where
+        own : IsSoundEntry h.values entry
+        own =
+            All-head (IsSoundEntry h.values) entry leaving.rest
+            (All-right (IsSoundEntry h.values) before (entry ∷ leaving.rest)
+            (subst (All (IsSoundEntry h.values)) leaving.split sound.entries.each))
+
+        word : (w : ℕ) × (entry.word ≡ Some w)
+        word = word_decoded entry.word ready.instruction (sym own.decoded ∙ leaving.decoded)
+
+        has_kind : is_some (kind_of ready.instruction) ≡ true
+        has_kind = ap is_some (sym (ap kind_of_word leaving.decoded) ∙ kind_there kind entry leaving.there)
+
+        gave : message ≡ result_in (layout_of h.values) s h.lines word.0 ready.instruction
+        gave = gives has_kind s h.lines word.0 leaving.operands behind
+            ∙ ap (λ l. result_in l s h.lines word.0 ready.instruction) sound.cache.layout
+
+        result : message ≡ result_of_word (layout_of h.values) s h.lines entry.word entry.instruction
+        result = gave ∙ (λ j. result_of_word (layout_of h.values) s h.lines (sym word.1 j) (sym leaving.decoded j))
+
+        legal_write : IsLegalWrite h.values (is_store entry.instruction) message.fault message.store
+        legal_write =
+            subst (λ i. IsLegalWrite h.values (is_store i) message.fault message.store) (sym leaving.decoded)
+            (subst (λ (m : Message). IsLegalWrite h.values (is_store (Some ready.instruction)) m.fault m.store) (sym gave)
+            (result_writes h.values s h.lines word.0 ready.instruction))
+
+        abbrev issue : Issue
+        issue = record { cycle = h.cycle; cost = cost }
+
+        abbrev units : PerKind UnitPool
+        units = with_kind kind (started_unit cost h.cycle (at_kind kind h.units)) h.units
+
+        -- the hardware once the instruction has started
+        abbrev pub started_hardware : Hardware
+        started_hardware = record h {
+          cache = cache;
+          port_free = port_free;
+          units = units;
+          rob = changed (started issue message) ready.seq h.rob;
+        }
+
+        -- the parts that have started it stand for the hardware that has issued it
+        pub is_issued : started_hardware ≡ issued kind h before entry
+        is_issued =
+            let p = path h before entry in
+            let same_cost : cost ≡ cost_of h kind p =
+            costs ∙ ap (path_cost (at_kind kind h.values.kinds).latency h.values.forward h.cache) path_taken
+            ∙ cost_is_defined h kind p in
+            let same_port = ports ∙ ap (port_after h.cycle h.port_free h.cache) path_taken in
+            let same_cache = caches ∙ ap (cache_after h.cache) path_taken in
+            (λ j. record h {
+              cache = same_cache j;
+              port_free = same_port j;
+              units = with_kind kind (started_unit (same_cost j) h.cycle (at_kind kind h.units)) h.units;
+              rob = changed (started (record { cycle = h.cycle; cost = same_cost j }) (result j)) (leaving.number j) h.rob;
+            })
+            ∙ ap (with_start kind place (cost_of h kind p)
+            (result_of_word (layout_of h.values) s h.lines entry.word entry.instruction)) (access_is_defined h p)
+
+        described : IsDescribedCache h.values cache
+        described =
+            let kept : Keeps cache = subst Keeps (sym caches) (keeps code_path) in
+            record {
+              base = kept.0 ∙ sound.cache.base;
+              values = kept.1 ∙ sound.cache.values;
+              bytes = ap length kept.2 ∙ sound.cache.bytes;
+              layout = kept.3 ∙ sound.cache.layout;
+            }
+
+        -- which is sound
+        pub is_sound : IsSoundHardware started_hardware
+        is_sound =
+            sound_started h kind before entry leaving.rest leaving.split leaving.there ready.seq leaving.number issue message
+            cache port_free units
+            sound described (subst (λ n. n ≤ 2 ^ 43) (sym ports) (port_bound code_path)) legal_write
+
+        -- and what the parts left of rename map, stations, bus and queue is tied to it
+        pub is_tied : (rename : Renaming) (stations : PerKind Pool) (bus : Pending) (queue : Queue) →
+            AreTied h rename stations bus queue →
+            AreTied started_hardware rename (with_kind kind (taken_from (test_of h kind) (at_kind kind stations)) stations)
+            (with_result ready.seq (h.cycle + cost) bus) queue
+        is_tied rename stations bus queue tied =
+            tied_started h kind before entry leaving.rest leaving.split leaving.there ready.seq leaving.number issue message cache
+            port_free units
+            rename stations bus queue (test_of h kind) tied (leaving.left issue message)

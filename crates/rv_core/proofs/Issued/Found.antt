@@ -1,0 +1,138 @@
+-- The instruction that leaves its station is the definition's, with what it reads.
+use Rattle.rv_core.proofs.Words.{◌≡◌, ◌+◌, Bool, true, ◌&&◌, ◌⊎◌, List, [], ◌∷◌, ◌++◌, length, nat_le, Some, None, All, Option, option_and_then, sym, refl, ap, ◌∙◌, subst, inl, inr, arith, and_parts, cases_Bool, cond-false, cond-true, Message, Issue, Kind, Values, started, Entry, is_stationed, Hardware, is_ready_entry, oldest, layout_of, seen_behind, stores_behind, Alu, Div, Mem, Mul, has_value, is_ready_station, oldest_ready, ready_of, ready_with, without_oldest_ready, Operand, Tag, Value, Ready, Station, Reads, goes, IsSoundEntry, IsSoundHardware, status_behind, values_in, waiting_from, waiting_of}
+use Rattle.rv_core.proofs.Issued.Operands.{reads, ready_parts, tells_at}
+use Rattle.rv_core.proofs.Issued.Ready.{All-left, HasTarget, accesses_agree, operations_agree, passes_by}
+use Rattle.rv_core.proofs.Issued.Search.{Agree, Found, NoneFound, search_from, station_behind}
+
+-- what a search answers is ready
+
+found_ready : (test : Station → Bool) (ws : List Station) (w : Station) → oldest_ready test ws ≡ Some w →
+    is_ready_station w ≡ true
+found_ready test [] w is = absurd (cc)
+found_ready test (v ∷ ws) w is = elim (cases_Bool (is_ready_station v && test v)) [
+  | inl passes ↦
+      let found = cond-true (is_ready_station v && test v) (Some v) (oldest_ready test ws) passes in
+      let same : v ≡ w = cc in
+      subst (λ u. is_ready_station u ≡ true) same (and_parts (is_ready_station v) (test v) passes).0
+  | inr fails ↦ found_ready test ws w (sym (cond-false (is_ready_station v && test v) (Some v) (oldest_ready test ws) fails) ∙ is)
+]
+
+ready_is_some : (w : Station) (a b : Operand) → (has_value a && has_value b) ≡ true → ready_with w a b ≡ None → ⊥
+ready_is_some w (Value x) (Value y) ready none = absurd (cc)
+ready_is_some w (Value x) (Tag t) ready none = absurd (cc)
+ready_is_some w (Tag t) b ready none = absurd (cc)
+
+sound_targets : (values : Values) (es : List Entry) → All (IsSoundEntry values) es → All HasTarget es
+sound_targets values es sound k d within = (sound k d within).target
+
+module _ (h : Hardware) (kind : Kind) where
+  -- the test that the definition has in the words of the stations
+  abbrev pub test_of : Station → Bool
+  test_of = goes kind (layout_of h.values) (stores_behind h h.rob.entries) (nat_le h.port_free h.cycle)
+
+  -- the stations of the kind, as the instructions in flight tell them
+  abbrev pub stationed_now : List Station
+  stationed_now = waiting_from kind (values_in h.registers) h.rob.retired h.rob.entries
+
+  -- an instruction that the definition starts, as it left its station
+  pub record Leaving (ready : Ready) : Type 0 where
+    pub before : List Entry
+    pub entry : Entry
+    pub rest : List Entry
+    pub split : h.rob.entries ≡ before ++ entry ∷ rest
+    pub decoded : entry.instruction ≡ Some ready.instruction
+    pub there : is_stationed kind entry ≡ true
+    pub number : ready.seq ≡ h.rob.retired + length before
+    pub found : oldest (is_ready_entry h kind) h.rob.entries ≡ Some (before, entry)
+    pub operands : Reads (seen_behind h before entry.pc) ready.pc ready.first ready.second ready.instruction
+    pub left : (issue : Issue) (message : Message) →
+        without_oldest_ready test_of stationed_now
+        ≡ waiting_from kind (values_in h.registers) h.rob.retired (before ++ started issue message entry ∷ rest)
+
+  module _ (sound : IsSoundHardware h) where
+    targets : All HasTarget h.rob.entries
+    targets = sound_targets h.values h.rob.entries sound.entries.each
+
+    agree_of : (k : Kind) → Agree k (values_in h.registers) h.rob.retired h.rob.entries
+        (goes k (layout_of h.values) (stores_behind h h.rob.entries) (nat_le h.port_free h.cycle)) (is_ready_entry h k)
+    agree_of Alu = operations_agree h Alu refl
+    agree_of Mul = operations_agree h Mul refl
+    agree_of Div = operations_agree h Div refl
+    agree_of Mem = accesses_agree h sound.registers targets sound.stores.older
+
+    searched : NoneFound kind (values_in h.registers) h.rob.retired h.rob.entries test_of
+        (is_ready_entry h kind) [] h.rob.entries ⊎
+        Found kind (values_in h.registers) h.rob.retired h.rob.entries test_of (is_ready_entry h kind) [] h.rob.entries
+    searched = search_from kind (values_in h.registers) h.rob.retired h.rob.entries test_of
+        (is_ready_entry h kind) [] h.rob.entries refl (agree_of kind) (passes_by h kind)
+
+    -- the first number, as the search counts
+    from_first : (es : List Entry) →
+        waiting_from kind (values_in h.registers) h.rob.retired es
+        ≡ waiting_from kind (values_in h.registers) (h.rob.retired + 0) es
+    from_first es = ap (λ n. waiting_from kind (values_in h.registers) n es) (omega arith)
+
+    abbrev Answer : Option Ready → Type 0
+    Answer result = result ≡ option_and_then ready_of (oldest_ready test_of stationed_now)
+
+    nothing_by : (result : Option Ready) → Answer result → result ≡ None →
+        NoneFound kind (values_in h.registers) h.rob.retired h.rob.entries test_of (is_ready_entry h kind) [] h.rob.entries ⊎
+        Found kind (values_in h.registers) h.rob.retired h.rob.entries test_of (is_ready_entry h kind) [] h.rob.entries →
+        (oldest (is_ready_entry h kind) h.rob.entries ≡ None) × (without_oldest_ready test_of stationed_now ≡ stationed_now)
+    nothing_by result answer is (inl n) =
+        (n.defined, ap (without_oldest_ready test_of) (from_first h.rob.entries) ∙ n.stays ∙ sym (from_first h.rob.entries))
+    nothing_by result answer is (inr f) =
+        let w = station_behind kind (values_in h.registers) h.rob.retired f.prior f.entry f.instruction in
+        let some : oldest_ready test_of stationed_now ≡ Some w =
+        ap (oldest_ready test_of) (from_first h.rob.entries) ∙ f.searched in
+        absurd (ready_is_some w w.first w.second (found_ready test_of stationed_now w some)
+        (sym (ap (option_and_then ready_of) some) ∙ sym answer ∙ is))
+
+    -- nothing leaves where the definition finds nothing
+    pub nothing_leaves : (result : Option Ready) → Answer result → result ≡ None →
+        (oldest (is_ready_entry h kind) h.rob.entries ≡ None) × (without_oldest_ready test_of stationed_now ≡ stationed_now)
+    nothing_leaves result answer is = nothing_by result answer is searched
+
+    leaves_by : (result : Option Ready) (ready : Ready) → Answer result → result ≡ Some ready →
+        NoneFound kind (values_in h.registers) h.rob.retired h.rob.entries test_of (is_ready_entry h kind) [] h.rob.entries ⊎
+        Found kind (values_in h.registers) h.rob.retired h.rob.entries test_of (is_ready_entry h kind) [] h.rob.entries →
+        Leaving ready
+    leaves_by result ready answer is (inl n) =
+        let none : oldest_ready test_of stationed_now ≡ None =
+        ap (oldest_ready test_of) (from_first h.rob.entries) ∙ n.searched in
+        let nothing : None ≡ Some ready = sym (ap (option_and_then ready_of) none) ∙ sym answer ∙ is in
+        absurd (cc)
+    leaves_by result ready answer is (inr f) =
+        let status = status_behind (values_in h.registers) h.rob.retired f.prior in
+        let place = h.rob.retired + length f.prior in
+        let w = waiting_of status place f.entry.pc f.instruction in
+        let some : oldest_ready test_of stationed_now ≡ Some w =
+        ap (oldest_ready test_of) (from_first h.rob.entries) ∙ f.searched in
+        let taken : ready_of w ≡ Some ready = sym (ap (option_and_then ready_of) some) ∙ sym answer ∙ is in
+        let parts = ready_parts w w.first w.second ready taken in
+        let split : h.rob.entries ≡ f.prior ++ f.entry ∷ f.rest =
+        f.split ∙ ap (λ (es : List Entry). es ++ f.entry ∷ f.rest) (sym f.behind) in
+        let tells = tells_at f.prior h.registers h.rob.retired sound.registers
+        (All-left HasTarget f.prior (f.entry ∷ f.rest) (subst (All HasTarget) split targets)) in
+        let given = reads status place f.entry.pc f.instruction (seen_behind h f.prior f.entry.pc) ready taken tells refl in
+        record {
+          before = f.prior;
+          entry = f.entry;
+          rest = f.rest;
+          split = split;
+          decoded = f.decoded ∙ ap (λ i. Some i) (sym parts.4);
+          there = f.there;
+          number = parts.2;
+          found = f.defined;
+          operands = subst (Reads (seen_behind h f.prior f.entry.pc) ready.pc ready.first ready.second) (sym parts.4) given;
+          left = λ issue message.
+              ap (without_oldest_ready test_of) (from_first h.rob.entries)
+              ∙ f.left issue message
+              ∙ sym (from_first (f.before ++ started issue message f.entry ∷ f.rest))
+              ∙ ap (λ (es : List Entry). waiting_from kind (values_in h.registers) h.rob.retired
+              (es ++ started issue message f.entry ∷ f.rest)) (sym f.behind);
+        }
+
+    -- what leaves is what the definition finds
+    pub leaves : (result : Option Ready) (ready : Ready) → Answer result → result ≡ Some ready → Leaving ready
+    leaves result ready answer is = leaves_by result ready answer is searched

@@ -1,0 +1,151 @@
+-- What the parts answer to a search in the stations is what the definition's turn finds and starts.
+use Rattle.rv_core.proofs.Words.{◌≡◌, ℕ, ◌+◌, ◌<◌, Bool, true, false, List, [], length, is_some, nat_le, Some, None, Option, option_and_then, sym, refl, ap, ◌∙◌, subst, inl, inr, cases_Bool, cond-false, cond-true, at_kind, with_kind, Message, Lines, Kind, PerKind, Memory, State, Contents, UnitPool, is_free, started, ReorderBuffer, changed, Hardware, Path, is_ready_entry, issue_oldest, issue_turn, oldest, Ends, GoesOn, result_in, stores_behind, kind_of, at_kind-by_kind, with_kind-back, Queue, older_than, Pool, taken_from, oldest_ready, ready_of, without_oldest_ready, Ready, Station, Pending, holds, started_unit, IsBehind, cache_after, load_path, path_cost, port_after, Reads, goes, IsSound, hardware_of, IsSoundHardware, AreTied, pool_of_kind, Inside}
+use Rattle.rv_units.specs.Bus.{with_result}
+use Rattle.rv_core.proofs.Issued.Executed.{is_issued, is_sound, is_tied, started_hardware}
+use Rattle.rv_core.proofs.Issued.Found.{Leaving, leaves, nothing_leaves, stationed_now, test_of}
+use Rattle.rv_core.proofs.Issued.Tied.{absent_from_bus, room_on_bus}
+
+module _ (parts : Inside) (sound : IsSound parts) (kind : Kind) (idle : Bool)
+    (port : idle ≡ nat_le parts.port_free parts.cycle) where
+  abbrev h : Hardware
+  h = hardware_of parts
+
+  -- the test that the code asks
+  abbrev pub code_test : Station → Bool
+  code_test = goes kind parts.cache.backing.layout parts.stores.stores idle
+
+  pub same_test : code_test ≡ test_of h kind
+  same_test = λ j. goes kind (sound.sound.cache.layout j) (sound.tied.queued j).stores (port j)
+
+  same_waiting : (at_kind kind parts.stations).waiting ≡ stationed_now h kind
+  same_waiting =
+      ap (λ (s : PerKind Pool). (at_kind kind s).waiting) sound.tied.stationed
+      ∙ ap (λ p. p.waiting) (at_kind-by_kind (pool_of_kind h.values h.registers h.rob) kind)
+
+  module _ (result : Option Ready)
+      (answer : result ≡ option_and_then ready_of (oldest_ready code_test (at_kind kind parts.stations).waiting)) where
+    answered : result ≡ option_and_then ready_of (oldest_ready (test_of h kind) (stationed_now h kind))
+    answered = answer ∙ (λ j. option_and_then ready_of (oldest_ready (same_test j) (same_waiting j)))
+
+    pub found : (ready : Ready) → result ≡ Some ready → Leaving h kind ready
+    found ready is = leaves h kind sound.sound result ready answered is
+
+    pub none_ready : result ≡ None → oldest (is_ready_entry h kind) h.rob.entries ≡ None
+    none_ready is = (nothing_leaves h kind sound.sound result answered is).0
+
+    pub stations_stay : result ≡ None →
+        with_kind kind (taken_from code_test (at_kind kind parts.stations)) parts.stations ≡ parts.stations
+    stations_stay is =
+        let pool = at_kind kind parts.stations in
+        let same : without_oldest_ready code_test pool.waiting ≡ pool.waiting =
+        (λ j. without_oldest_ready (same_test j) (same_waiting j)) ∙ (nothing_leaves h kind sound.sound result answered is).1
+        ∙ sym same_waiting in
+        ap (λ (ws : List Station). with_kind kind (record pool { waiting = ws }) parts.stations) same
+        ∙ with_kind-back kind parts.stations
+
+    -- the parts once an instruction has started
+    module _ (ready : Ready) (is : result ≡ Some ready) where
+      leaving : Leaving h kind ready
+      leaving = found ready is
+
+      told : parts.stores.stores ≡ stores_behind h h.rob.entries
+      told = ap (λ (q : Queue). q.stores) sound.tied.queued
+
+      -- the bus has room for its result
+      pub room : length parts.bus.results < parts.bus.capacity
+      room =
+          room_on_bus h kind leaving.before leaving.entry leaving.rest leaving.split leaving.there ready.seq leaving.number
+          parts.bus sound.tied.pending sound.sound.entries.within
+
+      -- which is not there yet
+      pub absent : holds ready.seq parts.bus.results ≡ false
+      absent =
+          absent_from_bus h kind leaving.before leaving.entry leaving.rest leaving.split leaving.there ready.seq leaving.number
+          parts.bus sound.tied.pending
+
+      -- the path of what leaves
+      abbrev pub path_now : Path
+      path_now = load_path parts.cache.backing.layout (older_than ready.seq parts.stores.stores) ready.first ready.instruction
+
+      -- what an execution is to give
+      abbrev pub Gives : Message → Type 0
+      Gives message =
+          is_some (kind_of ready.instruction) ≡ true → (t : State) (lines : Lines) (word : ℕ) →
+          Reads t ready.pc ready.first ready.second ready.instruction →
+          IsBehind parts.cache (older_than ready.seq parts.stores.stores) t →
+          message ≡ result_in parts.cache.backing.layout t lines word ready.instruction
+
+      module _ (message : Message) (cost port_free : ℕ) (cache : Contents Memory)
+          (costs : cost ≡ path_cost (at_kind kind parts.values.kinds).latency parts.values.forward parts.cache path_now)
+          (ports : port_free ≡ port_after parts.cycle parts.port_free parts.cache path_now)
+          (caches : cache ≡ cache_after parts.cache path_now)
+          (gives : Gives message)
+          (units : PerKind UnitPool) (rob : ReorderBuffer) (stations : PerKind Pool) (bus : Pending)
+          (held : units ≡ with_kind kind (started_unit cost parts.cycle (at_kind kind parts.units)) parts.units)
+          (changes : rob ≡ changed (started (record { cycle = parts.cycle; cost = cost }) message) ready.seq parts.rob)
+          (left : stations ≡ with_kind kind (taken_from code_test (at_kind kind parts.stations)) parts.stations)
+          (accepted : bus ≡ with_result ready.seq (parts.cycle + cost) parts.bus) where
+        abbrev pub after : Inside
+        after = record parts { cache = cache; port_free = port_free; units = units; stations = stations; bus = bus; rob = rob }
+
+        abbrev started_now : Hardware
+        started_now = started_hardware h sound.sound kind ready leaving parts.stores.stores told message cost port_free cache
+            costs ports caches gives
+
+        view : started_now ≡ hardware_of after
+        view = λ j. record h { cache = cache; port_free = port_free; units = sym held j; rob = sym changes j }
+
+        tied : AreTied started_now parts.rename stations bus parts.stores
+        tied =
+            subst (λ (b : Pending). AreTied started_now parts.rename stations b parts.stores) (sym accepted)
+            (subst (λ (ps : PerKind Pool). AreTied started_now parts.rename ps
+            (with_result ready.seq (parts.cycle + cost) parts.bus) parts.stores)
+            (sym (left ∙ ap (λ test. with_kind kind (taken_from test (at_kind kind parts.stations)) parts.stations) same_test))
+            (is_tied h sound.sound kind ready leaving parts.stores.stores told message cost port_free cache costs ports caches
+            gives parts.rename parts.stations parts.bus parts.stores sound.tied))
+
+        -- the parts that have started it are sound
+        pub sound_after : IsSound after
+        sound_after = record {
+          sound = subst IsSoundHardware view
+              (is_sound h sound.sound kind ready leaving parts.stores.stores told message cost port_free cache costs ports caches
+              gives);
+          tied = subst (λ (x : Hardware). AreTied x parts.rename stations bus parts.stores) view tied;
+          stale_base = sound.stale_base;
+          stale_size = sound.stale_size;
+        }
+
+        -- the hardware that they stand for is what the definition's turn goes on with
+        pub turn_after : is_free parts.cycle (at_kind kind parts.units) ≡ true → GoesOn (hardware_of after) ≡ issue_turn kind h
+        turn_after free =
+            ap (λ (x : Hardware). GoesOn x)
+            (sym view ∙ is_issued h sound.sound kind ready leaving parts.stores.stores told message cost port_free cache costs
+            ports caches gives)
+            ∙ sym (cond-true (is_free parts.cycle (at_kind kind parts.units))
+            (issue_oldest kind h (oldest (is_ready_entry h kind) h.rob.entries)) (Ends h) free
+            ∙ ap (issue_oldest kind h) leaving.found)
+
+    -- where nothing leaves
+    pub turn_ends : is_free parts.cycle (at_kind kind parts.units) ≡ true → result ≡ None → Ends h ≡ issue_turn kind h
+    turn_ends free is =
+        sym (cond-true (is_free parts.cycle (at_kind kind parts.units))
+        (issue_oldest kind h (oldest (is_ready_entry h kind) h.rob.entries)) (Ends h) free
+        ∙ ap (issue_oldest kind h) (none_ready is))
+
+    -- and the parts, of which the stations stay, are sound
+    pub sound_still : result ≡ None → (stations : PerKind Pool) →
+        stations ≡ with_kind kind (taken_from code_test (at_kind kind parts.stations)) parts.stations →
+        IsSound (record parts { stations = stations })
+    sound_still is stations left =
+        subst (λ (ps : PerKind Pool). IsSound (record parts { stations = ps })) (sym (left ∙ stations_stay is)) sound
+
+  -- where no instruction of the kind waits, a turn ends the phase and changes nothing
+  pub turn_empty : (at_kind kind parts.stations).waiting ≡ [] → Ends h ≡ issue_turn kind h
+  turn_empty empty = elim (cases_Bool (is_free parts.cycle (at_kind kind parts.units))) [
+    | inl free ↦
+        let answer : None ≡ option_and_then ready_of (oldest_ready code_test (at_kind kind parts.stations).waiting) =
+        sym (ap (λ ws. option_and_then ready_of (oldest_ready code_test ws)) empty) in
+        turn_ends None answer free refl
+    | inr held ↦ sym (cond-false (is_free parts.cycle (at_kind kind parts.units))
+        (issue_oldest kind h (oldest (is_ready_entry h kind) h.rob.entries)) (Ends h) held)
+  ]

@@ -1,0 +1,141 @@
+-- A station is ready, and passes the code's test, where the definition finds its instruction ready.
+use Rattle.rv_core.proofs.Words.{◌≡◌, ℕ, ◌+◌, ◌<◌, Bool, true, false, not, ◌&&◌, ◌||◌, List, ◌∷◌, ◌++◌, length, ℤ, IfSome, nat_le, slice_index, Some, None, All, Option, sym, refl, ap, ◌∙◌, arith, length-append, and_parts, list_all, is_same-true, is_load, is_of_kind, kind_of_word, sources_of_word, target_of_word, bytes_of, width_of, modulo_word, sum, Instr, Load, Kind, LoadForm, is_known_store, Store, Entry, is_stationed, Hardware, is_waiting, registers_behind, has_operands, has_port, is_ready_entry, may_load, path_of_word, layout_of, seen_behind, stores_behind, get_or_append_left, AreBelow, kind_of, Alu, Div, Mem, Mul, first_unknown, older_than, has_value, is_ready_station, Operand, Tag, Value, Station, path_of_load, is_operation, is_known_before, may_go, needs_port, path_of, RegisterStatus, status_behind, values_in, waiting_of}
+use Rattle.rv_core.proofs.Issued.Operands.{Tells, is_known-status, is_ready-known, tells_at}
+use Rattle.rv_core.proofs.Issued.Search.{Agree, PassBy}
+use Rattle.rv_core.proofs.Issued.Stores.{known-behind, older_than-behind}
+use Rattle.rv_core.proofs.Loads.Path.{path_is_defined, port_is_defined}
+
+-- what holds of all holds of a beginning
+pub All-left : (P : Entry → Type 0) (xs ys : List Entry) → All P (xs ++ ys) → All P xs
+All-left P xs ys all k d lt =
+    let at = get_or_append_left xs ys d k lt in
+    rw (← at) (all k d (omega (arith, length-append xs ys, lt)))
+
+agree_by : (ready goes operands may stationed : Bool) → ready ≡ operands → stationed ≡ true → (ready ≡ true → goes ≡ may) →
+    (ready && goes) ≡ ((stationed && operands) && may)
+agree_by true goes true may true r s g = g refl
+agree_by false goes false may true r s g = refl
+agree_by true goes false may true r s g = absurd (cc)
+agree_by false goes true may true r s g = absurd (cc)
+agree_by ready goes operands may false r s g = absurd (cc)
+
+away_by : (stationed operands may : Bool) → stationed ≡ false → ((stationed && operands) && may) ≡ false
+away_by false operands may s = refl
+away_by true operands may s = absurd (cc)
+
+-- an instruction in the stations of a kind is of that kind
+of_kind : (kind : Kind) (found : Option Kind) → is_of_kind kind found ≡ true → found ≡ Some kind
+of_kind kind None is = absurd (cc)
+of_kind kind (Some other) is = ap (λ (k : Kind). Some k) (sym (is_same-true kind other is))
+
+-- an instruction that has a station of a kind is of that kind
+pub kind_there : (kind : Kind) (e : Entry) → is_stationed kind e ≡ true → kind_of_word e.instruction ≡ Some kind
+kind_there kind e is =
+    of_kind kind (kind_of_word e.instruction) (and_parts (is_waiting e.stage) (is_of_kind kind (kind_of_word e.instruction)) is).1
+
+-- loads are of the memory's kind
+not_load : (kind : Kind) (i : Instr) → is_operation (Some kind) ≡ true → kind_of i ≡ Some kind → is_load (Some i) ≡ false
+not_load Alu (Load form rd rs1 offset) operation is = absurd (cc)
+not_load Mul (Load form rd rs1 offset) operation is = absurd (cc)
+not_load Div (Load form rd rs1 offset) operation is = absurd (cc)
+not_load Mem (Load form rd rs1 offset) operation is = absurd (cc)
+not_load kind _ operation is = refl
+
+-- an entry's target is a register
+abbrev pub HasTarget : Entry → Type 0
+HasTarget e = IfSome (target_of_word e.instruction) (λ register. register < 32)
+
+module _ (h : Hardware) where
+  abbrev pub status0 : RegisterStatus
+  status0 = values_in h.registers
+
+  -- the test of loads and stores
+  abbrev pub goes : Station → Bool
+  goes w = may_go (layout_of h.values) (stores_behind h h.rob.entries) (first_unknown (stores_behind h h.rob.entries))
+      (nat_le h.port_free h.cycle) w
+
+  -- in the stations of a kind that is no memory unit every ready instruction passes the test
+  pub passes_by : (kind : Kind) → PassBy kind status0 h.rob.retired h.rob.entries goes (is_ready_entry h kind)
+  passes_by kind older e away =
+      away_by (is_stationed kind e) (has_operands older (sources_of_word e.instruction)) (may_load h older e) away
+
+  module _ (older rest : List Entry) (e : Entry) where
+    abbrev status : RegisterStatus
+    status = status_behind status0 h.rob.retired older
+
+    abbrev number : ℕ
+    number = h.rob.retired + length older
+
+    abbrev may : Option Instr → Bool
+    may word = not (is_load word) ||
+        (list_all is_known_store (stores_behind h older) && has_port h (path_of_word h older (seen_behind h older e.pc) word))
+
+    agrees : (kind : Kind) (test : Station → Bool) (i : Instr) → e.instruction ≡ Some i → is_stationed kind e ≡ true →
+        (is_ready_station (waiting_of status number e.pc i) ≡ true → test (waiting_of status number e.pc i) ≡ may (Some i)) →
+        (is_ready_station (waiting_of status number e.pc i) && test (waiting_of status number e.pc i))
+        ≡ is_ready_entry h kind older e
+    agrees kind test i decoded there passes =
+        let w = waiting_of status number e.pc i in
+        agree_by (is_ready_station w) (test w) (has_operands older (sources_of_word e.instruction)) (may e.instruction)
+        (is_stationed kind e)
+        (is_ready-known status older number e.pc i (λ r. is_known-status h.registers h.rob.retired older r)
+        ∙ ap (λ word. has_operands older (sources_of_word word)) (sym decoded))
+        there (λ ready. passes ready ∙ ap may (sym decoded))
+
+    module _ (all : older ++ e ∷ rest ≡ h.rob.entries) (retired : AreBelow (λ (s : Store). s.seq) h.rob.retired h.committed)
+        (tells : Tells status (registers_behind h.registers older)) where
+      abbrev waiting_stores : List Store
+      waiting_stores = stores_behind h h.rob.entries
+
+      known : is_known_before (first_unknown waiting_stores) number ≡ list_all is_known_store (stores_behind h older)
+      known =
+          ap (λ es. is_known_before (first_unknown (stores_behind h es)) number) (sym all)
+          ∙ known-behind h retired older (e ∷ rest)
+
+      before : older_than number waiting_stores ≡ stores_behind h older
+      before = ap (λ es. older_than number (stores_behind h es)) (sym all) ∙ older_than-behind h retired older (e ∷ rest)
+
+      port : (form : LoadForm) (rs1 base offset : ℕ) → status rs1 ≡ Value base →
+          (nat_le h.port_free h.cycle || not
+          (needs_port (path_of (layout_of h.values) (older_than number waiting_stores) (sum base offset)
+          (bytes_of (width_of form)))))
+          ≡ has_port h (path_of_load h older (sum (slice_index (registers_behind h.registers older) rs1) offset)
+          (bytes_of (width_of form)))
+      port form rs1 base offset is =
+          let count = bytes_of (width_of form) in
+          ap (λ ss. nat_le h.port_free h.cycle || not
+          (needs_port (path_of (layout_of h.values) ss (sum base offset) count))) before
+          ∙ port_is_defined h (sum base offset) (path_of (layout_of h.values) (stores_behind h older) (sum base offset) count)
+          ∙ ap (has_port h) (path_is_defined h older (sum base offset) count)
+          ∙ ap (λ b. has_port h (path_of_load h older (sum b offset) count)) (sym (tells rs1 base is))
+
+      load_goes : (form : LoadForm) (rd rs1 : ℕ) (offset : ℤ) (first second : Operand) → status rs1 ≡ first →
+          has_value first ≡ true →
+          goes (record { seq = number; pc = e.pc; instruction = Load form rd rs1 offset; first = first; second = second })
+          ≡ may (Some (Load form rd rs1 offset))
+      load_goes form rd rs1 offset (Value base) second is there = λ k. known k && port form rs1 base (modulo_word offset) is k
+      load_goes form rd rs1 offset (Tag tag) second is there = absurd (cc)
+
+      all_go : (i : Instr) → is_ready_station (waiting_of status number e.pc i) ≡ true →
+          goes (waiting_of status number e.pc i) ≡ may (Some i)
+      all_go (Load form rd rs1 offset) ready =
+          load_goes form rd rs1 offset (status rs1) (Value 0) refl (and_parts (has_value (status rs1)) true ready).0
+      all_go _ ready = refl
+
+  -- an instruction that computes without memory goes when it is ready
+  pub operations_agree : (kind : Kind) → is_operation (Some kind) ≡ true →
+      Agree kind status0 h.rob.retired h.rob.entries (λ w. true) (is_ready_entry h kind)
+  operations_agree kind operation older rest e i all decoded there =
+      agrees older rest e kind (λ w. true) i decoded there
+      (λ ready. ap (λ b. not b ||
+      (list_all is_known_store (stores_behind h older) && has_port h
+      (path_of_word h older (seen_behind h older e.pc) (Some i))))
+      (sym (not_load kind i operation (ap kind_of_word (sym decoded) ∙ kind_there kind e there))))
+
+  -- in those of the memory unit it passes the test where the definition finds it ready
+  pub accesses_agree : length h.registers ≡ 32 → All HasTarget h.rob.entries →
+      AreBelow (λ (s : Store). s.seq) h.rob.retired h.committed →
+      Agree Mem status0 h.rob.retired h.rob.entries goes (is_ready_entry h Mem)
+  accesses_agree sized targets retired older rest e i all decoded there =
+      let tells = tells_at older h.registers h.rob.retired sized (All-left HasTarget older (e ∷ rest) (rw all targets)) in
+      agrees older rest e Mem goes i decoded there (all_go older rest e all retired tells i)

@@ -1,0 +1,163 @@
+-- The start of an instruction changes one of a list of entries, and what that list tells by this one alone.
+use Rattle.rv_core.proofs.Words.{◌≡◌, ℕ, suc, ◌+◌, ◌<◌, ◌≤◌, true, false, cond, ◌≢◌, List, [], ◌∷◌, ◌++◌, length, nat_eq, nat_lt, Some, None, All, Option, sym, refl, ap, ◌∙◌, append_assoc, arith, le-ltb, lt-ltb, eq-eqb, ne_eqb, cond-false, cond-true, All-cons, All-head, All-tail, is_store, Message, Instr, Issue, Kind, Store, started, with_entry, Entry, Stage, Finished, Running, Waiting, is_stationed, broadcast_of, is_waiting, store_of_broadcast, stores_of, holds, placed, PendingResult, RegisterStatus, pending_from, pending_of, status_with, waiting_at, waiting_from, waiting_of}
+use Rattle.rv_core.proofs.Issued.Search.{status_started}
+
+-- the entry of a number
+pub with_entry-at : (change : Entry → Entry) (n first : ℕ) (before : List Entry) (e : Entry) (rest : List Entry) →
+    n ≡ first + length before → with_entry change n first (before ++ e ∷ rest) ≡ before ++ change e ∷ rest
+with_entry-at change n first [] e rest at =
+    let same : n ≡ first = omega arith in cond-true (nat_eq n first) _ _ (eq-eqb n first same)
+with_entry-at change n first (x ∷ before) e rest at =
+    cond-false (nat_eq n first) _ _ (ne_eqb n first (λ same. omega (arith, same, at)))
+    ∙ ap (λ l. x ∷ l) (with_entry-at change n (first + 1) before e rest (omega arith))
+
+module _ (issue : Issue) (message : Message) (e : Entry) (rest : List Entry) where
+  abbrev e' : Entry
+  e' = started issue message e
+
+  -- what holds of each, and of the one that started
+  pub All_started : (P : Entry → Type 0) (before : List Entry) → P e' → All P (before ++ e ∷ rest) → All P (before ++ e' ∷ rest)
+  All_started P [] here all = All-cons P e' rest here (All-tail P e rest all)
+  All_started P (x ∷ before) here all =
+      All-cons P x (before ++ e' ∷ rest) (All-head P x (before ++ e ∷ rest) all)
+      (All_started P before here (All-tail P x (before ++ e ∷ rest) all))
+
+  store_staged : (n : ℕ) (stage : Stage) (ys : List Store) → is_waiting stage ≡ true →
+      cond (is_store e.instruction) (record { seq = n; state = store_of_broadcast None } ∷ ys) ys
+      ≡ cond (is_store e.instruction) (record { seq = n; state = store_of_broadcast (broadcast_of stage) } ∷ ys) ys
+  store_staged n Waiting ys waits = refl
+  store_staged n (Running at result) ys waits = absurd (cc)
+  store_staged n (Finished at cycle result) ys waits = absurd (cc)
+
+  -- the start of an instruction changes no store
+  pub stores_started : is_waiting e.stage ≡ true → (n : ℕ) (before : List Entry) →
+      stores_of n (before ++ e' ∷ rest) ≡ stores_of n (before ++ e ∷ rest)
+  stores_started waits n [] = store_staged n e.stage (stores_of (n + 1) rest) waits
+  stores_started waits n (x ∷ before) =
+      ap (λ (l : List Store). cond (is_store x.instruction)
+      (record { seq = n; state = store_of_broadcast (broadcast_of x.stage) } ∷ l) l)
+      (stores_started waits (n + 1) before)
+
+  -- the stations of another kind
+  elsewhere : (kind : Kind) (status : RegisterStatus) (n : ℕ) (x : Entry) (word : Option Instr) → is_stationed kind x ≡ false →
+      waiting_at kind status n x word ≡ []
+  elsewhere kind status n x None away = refl
+  elsewhere kind status n x (Some i) away = cond-false (is_stationed kind x) (waiting_of status n x.pc i ∷ []) [] away
+
+  -- the start of an instruction of another kind changes none of these stations
+  pub others_started : (kind : Kind) → is_waiting e.stage ≡ true → is_stationed kind e ≡ false →
+      (status : RegisterStatus) (n : ℕ) (before : List Entry) →
+      waiting_from kind status n (before ++ e' ∷ rest) ≡ waiting_from kind status n (before ++ e ∷ rest)
+  others_started kind waits away status n [] =
+      λ k. (elsewhere kind status n e' e.instruction refl
+      ∙ sym (elsewhere kind status n e e.instruction away)) k ++ waiting_from kind
+      (status_started status n e issue message waits k) (n + 1) rest
+  others_started kind waits away status n (x ∷ before) =
+      ap (λ l. waiting_at kind status n x x.instruction ++ l)
+      (others_started kind waits away (status_with status n x) (n + 1) before)
+
+-- the results in execution
+
+pending_from-append : (n : ℕ) (xs ys : List Entry) →
+    pending_from n (xs ++ ys) ≡ pending_from n xs ++ pending_from (n + length xs) ys
+pending_from-append n [] ys = ap (λ m. pending_from m ys) (omega arith)
+pending_from-append n (x ∷ xs) ys =
+    ap (λ l. pending_of n x.stage ++ l)
+    (pending_from-append (n + 1) xs ys ∙ ap (λ m. pending_from (n + 1) xs ++ pending_from m ys) (omega arith))
+    ∙ sym (append_assoc (pending_of n x.stage) (pending_from (n + 1) xs) (pending_from (n + suc (length xs)) ys))
+
+All-pending : (P : PendingResult → Type 0) (n : ℕ) (stage : Stage) (rs : List PendingResult) →
+    ((r : PendingResult) → r.seq ≡ n → P r) → All P rs → All P (pending_of n stage ++ rs)
+All-pending P n Waiting rs here rest = rest
+All-pending P n (Running issue message) rs here rest = All-cons P _ rs (here _ refl) rest
+All-pending P n (Finished issue cycle message) rs here rest = rest
+
+pending-below : (n m : ℕ) (xs : List Entry) → n + length xs ≤ m → All (λ (r : PendingResult). r.seq < m) (pending_from n xs)
+pending-below n m [] le = λ k d within. absurd (omega arith)
+pending-below n m (x ∷ xs) le =
+    All-pending (λ r. r.seq < m) n x.stage (pending_from (n + 1) xs) (λ r is. omega (arith, is, le))
+    (pending-below (n + 1) m xs (omega arith))
+
+pending-above : (n m : ℕ) (xs : List Entry) → m < n → All (λ (r : PendingResult). m < r.seq) (pending_from n xs)
+pending-above n m [] lt = λ k d within. absurd (omega arith)
+pending-above n m (x ∷ xs) lt =
+    All-pending (λ r. m < r.seq) n x.stage (pending_from (n + 1) xs) (λ r is. omega (arith, is, lt))
+    (pending-above (n + 1) m xs (omega arith))
+
+placed-between : (r : PendingResult) (xs ys : List PendingResult) → All (λ (x : PendingResult). x.seq < r.seq) xs →
+    All (λ (y : PendingResult). r.seq < y.seq) ys → placed r (xs ++ ys) ≡ xs ++ r ∷ ys
+placed-between r [] [] low high = refl
+placed-between r [] (y ∷ ys) low high =
+    cond-false (nat_lt y.seq r.seq) _ _
+    (le-ltb y.seq r.seq (omega (arith, All-head (λ (z : PendingResult). r.seq < z.seq) y ys high)))
+placed-between r (x ∷ xs) ys low high =
+    cond-true (nat_lt x.seq r.seq) _ _ (lt-ltb x.seq r.seq (All-head (λ (z : PendingResult). z.seq < r.seq) x xs low))
+    ∙ ap (λ l. x ∷ l) (placed-between r xs ys (All-tail (λ (z : PendingResult). z.seq < r.seq) x xs low) high)
+
+holds-apart : (m : ℕ) (rs : List PendingResult) → All (λ (r : PendingResult). r.seq ≢ m) rs → holds m rs ≡ false
+holds-apart m [] apart = refl
+holds-apart m (r ∷ rs) apart =
+    rw (ne_eqb r.seq m (All-head (λ (z : PendingResult). z.seq ≢ m) r rs apart))
+    (holds-apart m rs (All-tail (λ (z : PendingResult). z.seq ≢ m) r rs apart))
+
+length-pending_of : (n : ℕ) (stage : Stage) (rs : List PendingResult) → length (pending_of n stage ++ rs) ≤ 1 + length rs
+length-pending_of n Waiting rs = omega arith
+length-pending_of n (Running issue message) rs = omega arith
+length-pending_of n (Finished issue cycle message) rs = omega arith
+
+length-pending : (n : ℕ) (xs : List Entry) → length (pending_from n xs) ≤ length xs
+length-pending n [] = omega arith
+length-pending n (x ∷ xs) = omega (arith, length-pending_of n x.stage (pending_from (n + 1) xs), length-pending (n + 1) xs)
+
+pending_waiting : (n : ℕ) (stage : Stage) → is_waiting stage ≡ true → pending_of n stage ≡ []
+pending_waiting n Waiting waits = refl
+pending_waiting n (Running issue message) waits = absurd (cc)
+pending_waiting n (Finished issue cycle message) waits = absurd (cc)
+
+module _ (e : Entry) (rest : List Entry) (waits : is_waiting e.stage ≡ true) where
+  pending_split : (n : ℕ) (before : List Entry) →
+      pending_from n (before ++ e ∷ rest) ≡ pending_from n before ++ pending_from (n + length before + 1) rest
+  pending_split n before =
+      pending_from-append n before (e ∷ rest)
+      ∙ ap (λ l. pending_from n before ++ (l ++ pending_from (n + length before + 1) rest))
+      (pending_waiting (n + length before) e.stage waits)
+
+  -- there is room for the result of an instruction that waits
+  pub pending_room : (n : ℕ) (before : List Entry) → length (pending_from n (before ++ e ∷ rest)) < length (before ++ e ∷ rest)
+  pending_room n [] =
+      let none = ap (λ l. length (l ++ pending_from (n + 1) rest)) (pending_waiting n e.stage waits) in
+      omega (arith, none, length-pending (n + 1) rest)
+  pending_room n (x ∷ before) =
+      omega (arith, length-pending_of n x.stage (pending_from (n + 1) (before ++ e ∷ rest)), pending_room (n + 1) before)
+
+  module _ (n : ℕ) (before : List Entry) where
+    abbrev number : ℕ
+    number = n + length before
+
+    -- and none under its number
+    pub pending_absent : holds number (pending_from n (before ++ e ∷ rest)) ≡ false
+    pending_absent =
+        ap (holds number) (pending_split n before)
+        ∙ holds-apart number (pending_from n before ++ pending_from (number + 1) rest)
+        (All-both (pending_from n before) (pending-below n number before (omega arith)))
+      where
+        above : All (λ (r : PendingResult). number < r.seq) (pending_from (number + 1) rest)
+        above = pending-above (number + 1) number rest (omega arith)
+
+        All-both : (xs : List PendingResult) → All (λ (r : PendingResult). r.seq < number) xs →
+            All (λ (r : PendingResult). r.seq ≢ number) (xs ++ pending_from (number + 1) rest)
+        All-both [] low = λ k d within same. omega (arith, above k d within, same)
+        All-both (x ∷ xs) low =
+            All-cons (λ (r : PendingResult). r.seq ≢ number) x (xs ++ pending_from (number + 1) rest)
+            (λ same. omega (arith, same, All-head (λ (r : PendingResult). r.seq < number) x xs low))
+            (All-both xs (All-tail (λ (r : PendingResult). r.seq < number) x xs low))
+
+    -- its result goes to its place
+    pub pending_started : (issue : Issue) (message : Message) →
+        placed (record { seq = number; ready = issue.cycle + issue.cost }) (pending_from n (before ++ e ∷ rest))
+        ≡ pending_from n (before ++ started issue message e ∷ rest)
+    pending_started issue message =
+        ap (placed (record { seq = number; ready = issue.cycle + issue.cost })) (pending_split n before)
+        ∙ placed-between _ (pending_from n before) (pending_from (number + 1) rest) (pending-below n number before (omega arith))
+        (pending-above (number + 1) number rest (omega arith))
+        ∙ sym (pending_from-append n before (started issue message e ∷ rest))

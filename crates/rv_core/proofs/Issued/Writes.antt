@@ -1,0 +1,103 @@
+-- The stores older than an instruction write within RAM, and so does an instruction, or it faults.
+use Rattle.rv_core.proofs.Words.{◌≡◌, ℕ, ◌+◌, Bool, true, false, cond, List, [], ◌∷◌, length, IfSome, Some, None, All, Option, sym, refl, subst, arith, All-append, All-cons, All-head, All-tail, bytes_of_number, is_store, bytes_of, modulo_word, sum, Message, StoreAccess, Cause, Fault, Instr, Lines, Width, Values, Effect, Faults, Retires, effect, stores, State, register_of, IsAligned, Store as QueuedStore, Committed, Draining, Speculative, StoreState, Entry, Stage, Finished, Running, Waiting, Hardware, broadcast_of, store_of_broadcast, store_of_message, stores_of, effect_message, result_in, layout_of, stores_behind, Byte, Half, Word, LieIn, LiesIn, store_fault, IsLegalWrite, IsRetiredStore, IsSoundEntry, message_of}
+use Rattle.rv_stores.specs.declared.store.StoreState.TheVariants as store
+use Rattle.rv_isa.specs.declared.instructions.Instr.TheVariants.{Store}
+use Rattle.rv_core.proofs.Loads.Effect.{aligned_width, store_faults, store_gives, store_within}
+
+module _ (values : Values) where
+  abbrev base : ℕ
+  base = values.ram_base
+
+  abbrev size : ℕ
+  size = values.ram_size
+
+  pub retired_inside : (state : StoreState) → IsRetiredStore values state → LiesIn base size state
+  retired_inside store.Waiting sound = absurd sound
+  retired_inside store.Faulted sound = absurd sound
+  retired_inside (store.Filled access Speculative) sound = absurd sound
+  retired_inside (store.Filled access Committed) sound = (sound.from_base, sound.to_end)
+  retired_inside (store.Filled access Draining) sound = (sound.from_base, sound.to_end)
+
+  write_inside : (is : Bool) (fault : Option Fault) (access : Option StoreAccess) → IsLegalWrite values is fault access →
+      LiesIn base size (store_of_message access)
+  write_inside is fault None legal = tt
+  write_inside true None (Some access) legal = (legal.from_base, legal.to_end)
+  write_inside true (Some fault) (Some access) legal = absurd legal
+  write_inside false fault (Some access) legal = absurd legal
+
+  broadcast_inside : (is : Bool) (stage : Stage) →
+      IfSome (message_of stage) (λ message. IsLegalWrite values is message.fault message.store) →
+      LiesIn base size (store_of_broadcast (broadcast_of stage))
+  broadcast_inside is Waiting legal = tt
+  broadcast_inside is (Running issue message) legal = tt
+  broadcast_inside is (Finished issue cycle message) legal = write_inside is message.fault message.store legal
+
+  one_inside : (b : Bool) (s : QueuedStore) (ss : List QueuedStore) → LiesIn base size s.state → LieIn base size ss →
+      LieIn base size (cond b (s ∷ ss) ss)
+  one_inside true s ss here rest = All-cons (λ (t : QueuedStore). LiesIn base size t.state) s ss here rest
+  one_inside false s ss here rest = rest
+
+  stores_inside : (n : ℕ) (es : List Entry) → All (IsSoundEntry values) es → LieIn base size (stores_of n es)
+  stores_inside n [] sound = λ k d within. absurd (omega arith)
+  stores_inside n (e ∷ es) sound =
+      one_inside (is_store e.instruction) (record { seq = n; state = store_of_broadcast (broadcast_of e.stage) })
+      (stores_of (n + 1) es)
+      (broadcast_inside (is_store e.instruction) e.stage (All-head (IsSoundEntry values) e es sound).writes)
+      (stores_inside (n + 1) es (All-tail (IsSoundEntry values) e es sound))
+
+  -- retired stores lie in RAM
+  pub committed_inside : (ss : List QueuedStore) → All (λ (s : QueuedStore). IsRetiredStore values s.state) ss →
+      LieIn base size ss
+  committed_inside [] sound = λ k d within. absurd (omega arith)
+  committed_inside (s ∷ ss) sound =
+      All-cons (λ (t : QueuedStore). LiesIn base size t.state) s ss
+      (retired_inside s.state (All-head (λ (t : QueuedStore). IsRetiredStore values t.state) s ss sound))
+      (committed_inside ss (All-tail (λ (t : QueuedStore). IsRetiredStore values t.state) s ss sound))
+
+-- the stores older than an instruction lie in RAM
+pub inside_behind : (h : Hardware) (older : List Entry) → All (λ (s : QueuedStore). IsRetiredStore h.values s.state) h.committed →
+    All (IsSoundEntry h.values) older → LieIn h.values.ram_base h.values.ram_size (stores_behind h older)
+inside_behind h older committed sound =
+    All-append (λ (t : QueuedStore). LiesIn h.values.ram_base h.values.ram_size t.state) h.committed
+    (stores_of h.rob.retired older)
+    (committed_inside h.values h.committed committed) (stores_inside h.values h.rob.retired older sound)
+
+-- what an instruction writes
+
+length-bytes_of_number : (width : Width) (number : ℕ) → length (bytes_of_number (bytes_of width) number) ≡ bytes_of width
+length-bytes_of_number Byte number = refl
+length-bytes_of_number Half number = refl
+length-bytes_of_number Word number = refl
+
+abbrev writes_legally : Values → Bool → Message → Type 0
+writes_legally values is message = IsLegalWrite values is message.fault message.store
+
+silent : (values : Values) (e : Effect) → writes_legally values false (effect_message None e)
+silent values (Retires written next) = tt
+silent values (Faults cause value) = tt
+
+module _ (values : Values) (s : State) (width : Width) (address word : ℕ) where
+  abbrev access : StoreAccess
+  access = record { address = address; bytes = bytes_of_number (bytes_of width) word }
+
+  store_by_fault : (fault : Option Cause) → store_fault (layout_of values) address (bytes_of width) ≡ fault →
+      writes_legally values true (effect_message (Some access) (stores (layout_of values) s width address word))
+  store_by_fault (Some cause) is =
+      subst (writes_legally values true) (sym (store_faults (layout_of values) address s width word (Some access) cause is)) tt
+  store_by_fault None is =
+      let within = store_within (layout_of values) address (bytes_of width) is in
+      let long = length-bytes_of_number width word in
+      subst (writes_legally values true) (sym (store_gives (layout_of values) address s width word (Some access) is))
+      (record {
+        aligned = subst (IsAligned address) (sym long) (aligned_width width address within.0);
+        from_base = omega (arith, within.1);
+        to_end = omega (arith, within.2, long);
+      })
+
+-- what an instruction gives is a legal write
+pub result_writes : (values : Values) (s : State) (lines : Lines) (word : ℕ) (i : Instr) →
+    writes_legally values (is_store (Some i)) (result_in (layout_of values) s lines word i)
+result_writes values s lines word (Store width rs1 rs2 offset) =
+    store_by_fault values s width (sum (register_of s rs1) (modulo_word offset)) (register_of s rs2)
+    (store_fault (layout_of values) (sum (register_of s rs1) (modulo_word offset)) (bytes_of width)) refl
+result_writes values s lines word i = silent values (effect (layout_of values) s lines word i)

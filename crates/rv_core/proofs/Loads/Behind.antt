@@ -1,0 +1,87 @@
+-- A byte after stores is that of the youngest store which covers it, else the one below.
+use Rattle.rv_core.proofs.Words.{◌≡◌, ℕ, ◌+◌, ◌-◌, ◌<◌, ◌≤◌, List, [], ◌∷◌, length, slice_get, slice_index_or as get_or, Some, None, Option, unwrap_or, sym, refl, ap, ◌∙◌, inl, inr, arith, le-leb, cases_lt, cond-false, cond-true, lt-leb, All-head, All-tail, option_or, StoreAccess, overwritten, get_or-overwritten_above, get_or-overwritten_below, get_or-overwritten_in, length-overwritten, youngest_byte, byte_of_state, written_at, Store, StoreState, Faulted, Filled, memory_behind, slice_get-get_or, slice_get_past, LieIn, LiesIn}
+use Rattle.rv_stores.specs.declared.store.StoreState.TheVariants.{Waiting}
+use Rattle.rv_hardware.specs.InFlight.{with_store}
+
+unwrap_or-option_or : (a b : Option ℕ) (d : ℕ) → unwrap_or (option_or a b) d ≡ unwrap_or a (unwrap_or b d)
+unwrap_or-option_or None b d = refl
+unwrap_or-option_or (Some x) b d = refl
+
+module _ (base : ℕ) where
+  pub length-with_store : (size : ℕ) (state : StoreState) (bytes : List ℕ) → length bytes ≡ size → LiesIn base size state →
+      length (with_store base state bytes) ≡ size
+  length-with_store size Waiting bytes sized inside = sized
+  length-with_store size Faulted bytes sized inside = sized
+  length-with_store size (Filled access phase) bytes sized inside =
+      length-overwritten bytes access.bytes (access.address - base) (omega (arith, inside.0, inside.1, sized)) ∙ sized
+
+  written_before : (address : ℕ) (access : StoreAccess) → address < access.address → written_at address access ≡ None
+  written_before address access before = cond-false _ _ None (lt-leb access.address address before)
+
+  written_from : (address : ℕ) (access : StoreAccess) → access.address ≤ address →
+      written_at address access ≡ slice_get access.bytes (address - access.address)
+  written_from address access from = cond-true _ _ None (le-leb access.address address from)
+
+  get_or-with_access : (size address : ℕ) (access : StoreAccess) (bytes : List ℕ) → length bytes ≡ size → base ≤ access.address →
+      access.address + length access.bytes ≤ base + size → base ≤ address →
+      get_or (overwritten bytes (access.address - base) access.bytes) (address - base) 0
+      ≡ unwrap_or (written_at address access) (get_or bytes (address - base) 0)
+  get_or-with_access size address access bytes sized low high at =
+      let place = access.address - base in
+      let fits : place + length access.bytes ≤ length bytes = omega arith in
+      elim (cases_lt address access.address) [
+        | inl before ↦
+            get_or-overwritten_below bytes access.bytes place fits (address - base) (omega arith)
+            ∙ sym (ap (λ o. unwrap_or o (get_or bytes (address - base) 0)) (written_before address access before))
+        | inr from ↦ elim (cases_lt (address - access.address) (length access.bytes)) [
+          | inl within ↦
+              get_or-overwritten_in bytes access.bytes place fits (address - base) (omega arith) (omega arith)
+              ∙ ap (λ k. get_or access.bytes k 0) (omega arith)
+              ∙ sym (ap (λ o. unwrap_or o (get_or bytes (address - base) 0))
+              (written_from address access from ∙ slice_get-get_or access.bytes (address - access.address) 0 within))
+          | inr past ↦
+              get_or-overwritten_above bytes access.bytes place fits (address - base) (omega arith)
+              ∙ sym (ap (λ o. unwrap_or o (get_or bytes (address - base) 0))
+              (written_from address access from ∙ slice_get_past access.bytes (address - access.address) past))
+        ]
+      ]
+
+  get_or-with_store : (size address : ℕ) (state : StoreState) (bytes : List ℕ) → length bytes ≡ size → LiesIn base size state →
+      base ≤ address → get_or (with_store base state bytes) (address - base) 0
+      ≡ unwrap_or (byte_of_state address state) (get_or bytes (address - base) 0)
+  get_or-with_store size address Waiting bytes sized inside at = refl
+  get_or-with_store size address Faulted bytes sized inside at = refl
+  get_or-with_store size address (Filled access phase) bytes sized inside at =
+      get_or-with_access size address access bytes sized inside.0 inside.1 at
+
+  -- stores within RAM leave as many bytes as there were
+  pub length-memory_behind : (size : ℕ) (ss : List Store) (bytes : List ℕ) → length bytes ≡ size → LieIn base size ss →
+      length (memory_behind base ss bytes) ≡ size
+  length-memory_behind size [] bytes sized inside = sized
+  length-memory_behind size (s ∷ ss) bytes sized inside =
+      let P : Store → Type 0 = λ t. LiesIn base size t.state in
+      length-memory_behind size ss (with_store base s.state bytes)
+      (length-with_store size s.state bytes sized (All-head P s ss inside)) (All-tail P s ss inside)
+
+  -- a byte of memory after stores
+  pub get_or-memory_behind : (size address : ℕ) (ss : List Store) (bytes : List ℕ) → length bytes ≡ size → LieIn base size ss →
+      base ≤ address → get_or (memory_behind base ss bytes) (address - base) 0
+      ≡ unwrap_or (youngest_byte address ss) (get_or bytes (address - base) 0)
+  get_or-memory_behind size address [] bytes sized inside at = refl
+  get_or-memory_behind size address (s ∷ ss) bytes sized inside at =
+      let P : Store → Type 0 = λ t. LiesIn base size t.state in
+      let here = All-head P s ss inside in
+      get_or-memory_behind size address ss (with_store base s.state bytes) (length-with_store size s.state bytes sized here)
+      (All-tail P s ss inside) at
+      ∙ ap (unwrap_or (youngest_byte address ss)) (get_or-with_store size address s.state bytes sized here at)
+      ∙ sym (unwrap_or-option_or (youngest_byte address ss) (byte_of_state address s.state) (get_or bytes (address - base) 0))
+
+  -- the same where there is a byte
+  pub slice_get-memory_behind : (size address : ℕ) (ss : List Store) (bytes : List ℕ) → length bytes ≡ size → LieIn base size ss →
+      base ≤ address → address < base + size →
+      slice_get (memory_behind base ss bytes) (address - base)
+      ≡ Some (unwrap_or (youngest_byte address ss) (get_or bytes (address - base) 0))
+  slice_get-memory_behind size address ss bytes sized inside at within =
+      let long = length-memory_behind size ss bytes sized inside in
+      slice_get-get_or (memory_behind base ss bytes) (address - base) 0 (omega (arith, long))
+      ∙ ap (λ n. Some n) (get_or-memory_behind size address ss bytes sized inside at)

@@ -1,0 +1,109 @@
+-- The bytes that a load takes from the older stores and the cache are those of memory after the stores.
+use Rattle.rv_core.proofs.Words.{◌≡◌, ℕ, zero, suc, ◌+◌, ◌-◌, ◌<◌, ◌≤◌, Bool, true, ◌&&◌, List, [], ◌∷◌, ◌++◌, length, take, drop, is_some, slice_index_or as get_or, slice_range, Some, None, Option, unwrap_or, sym, refl, ap, ◌∙◌, arith, and_parts, bytes_of, Width, forwarded, youngest_byte, Store, memory_behind, drop_more, get_or_append_left, get_or-between, length-between, Byte, Half, Word, LieIn, bytes_over, is_forwarded}
+use Rattle.rv_core.proofs.Loads.Behind.{get_or-memory_behind, length-memory_behind}
+
+-- so many numbers of a list, from a place on
+abbrev numbers : ℕ → ℕ → List ℕ → List ℕ
+numbers zero i xs = []
+numbers (suc n) i xs = get_or xs i 0 ∷ numbers n (i + 1) xs
+
+take-drop : (n i : ℕ) (xs : List ℕ) → i + n ≤ length xs → take n (drop i xs) ≡ numbers n i xs
+take-drop zero i xs within = refl
+take-drop (suc n) i xs within =
+    ap (take (suc n)) (drop_more xs i 0 (omega arith))
+    ∙ ap (λ l. get_or xs i 0 ∷ l) (take-drop n (i + 1) xs (omega arith))
+
+between-numbers : (n i : ℕ) (xs : List ℕ) → i + n ≤ length xs → slice_range xs i (i + n) ≡ numbers n i xs
+between-numbers n i xs within = ap (λ k. take k (drop i xs)) (omega arith) ∙ take-drop n i xs within
+
+module _ (ram below : List ℕ) (ss : List Store) (address place : ℕ) where
+  abbrev pub IsByte : ℕ → Type 0
+  IsByte k = get_or ram (place + k) 0 ≡ unwrap_or (youngest_byte (address + k) ss) (get_or below k 0)
+
+  byte_at : (i k : ℕ) → i ≡ place + k → IsByte k → get_or ram i 0 ≡ unwrap_or (youngest_byte (address + k) ss) (get_or below k 0)
+  byte_at i k is byte = ap (λ j. get_or ram j 0) is ∙ byte
+
+  pub bytes_laid : (width : Width) → place + bytes_of width ≤ length ram → ((k : ℕ) → k < bytes_of width → IsByte k) →
+      slice_range ram place (place + bytes_of width)
+      ≡ take (bytes_of width) (bytes_over (forwarded ss address (bytes_of width)) below)
+  bytes_laid Byte within byte =
+      between-numbers 1 place ram within
+      ∙ (λ j. byte_at place 0 (omega arith) (byte 0 (omega arith)) j ∷ [])
+  bytes_laid Half within byte =
+      between-numbers 2 place ram within
+      ∙ (λ j. byte_at place 0 (omega arith) (byte 0 (omega arith)) j ∷ byte_at (place + 1) 1 refl (byte 1 (omega arith)) j ∷ [])
+  bytes_laid Word within byte =
+      between-numbers 4 place ram within
+      ∙ (λ j. byte_at place 0 (omega arith) (byte 0 (omega arith)) j ∷ byte_at (place + 1) 1 refl
+      (byte 1 (omega arith)) j ∷ byte_at (place + 1 + 1) 2 (omega arith) (byte 2 (omega arith)) j ∷ byte_at
+      (place + 1 + 1 + 1) 3 (omega arith) (byte 3 (omega arith)) j ∷ [])
+
+-- where stores forward all, what is below says nothing
+
+forwarded_some : (o : Option ℕ) (a b : ℕ) → is_some o ≡ true → unwrap_or o a ≡ unwrap_or o b
+forwarded_some None a b some = absurd (cc)
+forwarded_some (Some x) a b some = refl
+
+fourth : (a b c d : Bool) → (a && (b && (c && (d && true)))) ≡ true → d ≡ true
+fourth a b c d all =
+    (and_parts d true (and_parts c (d && true)
+    (and_parts b (c && (d && true)) (and_parts a (b && (c && (d && true))) all).1).1).1).0
+
+pub forwarded_all : (width : Width) (ss : List Store) (address : ℕ) →
+    is_forwarded (forwarded ss address (bytes_of width)) (bytes_of width) ≡ true → (k : ℕ) → k < bytes_of width →
+    is_some (youngest_byte (address + k) ss) ≡ true
+forwarded_all Byte ss address all zero lt = (and_parts _ _ all).0
+forwarded_all Byte ss address all (suc k) lt = absurd (omega arith)
+forwarded_all Half ss address all zero lt = (and_parts _ _ all).0
+forwarded_all Half ss address all (suc zero) lt = (and_parts _ _ (and_parts _ _ all).1).0
+forwarded_all Half ss address all (suc (suc k)) lt = absurd (omega arith)
+forwarded_all Word ss address all zero lt = (and_parts _ _ all).0
+forwarded_all Word ss address all (suc zero) lt = (and_parts _ _ (and_parts _ _ all).1).0
+forwarded_all Word ss address all (suc (suc zero)) lt = (and_parts _ _ (and_parts _ _ (and_parts _ _ all).1).1).0
+forwarded_all Word ss address all (suc (suc (suc zero))) lt =
+    fourth (is_some (youngest_byte (address + 0) ss)) (is_some (youngest_byte (address + 1) ss))
+    (is_some (youngest_byte (address + 2) ss)) (is_some (youngest_byte (address + 3) ss)) all
+forwarded_all Word ss address all (suc (suc (suc (suc k)))) lt = absurd (omega arith)
+
+module _ (base size : ℕ) (ss : List Store) (bytes : List ℕ) (sized : length bytes ≡ size) (inside : LieIn base size ss)
+    (address : ℕ) (width : Width) (from : base ≤ address) (to : address + bytes_of width ≤ base + size) where
+  abbrev ram : List ℕ
+  ram = memory_behind base ss bytes
+
+  abbrev place : ℕ
+  place = address - base
+
+  within : place + bytes_of width ≤ length ram
+  within = omega (arith, length-memory_behind base size ss bytes sized inside)
+
+  behind : (k : ℕ) → get_or ram (place + k) 0 ≡ unwrap_or (youngest_byte (address + k) ss) (get_or bytes (place + k) 0)
+  behind k =
+      let at : place + k ≡ address + k - base = omega arith in
+      ap (λ i. get_or ram i 0) at
+      ∙ get_or-memory_behind base size (address + k) ss bytes sized inside (omega arith)
+      ∙ ap (λ i. unwrap_or (youngest_byte (address + k) ss) (get_or bytes i 0)) (sym at)
+
+  -- the stores forward every byte
+  pub bytes_from_stores : (below : List ℕ) → is_forwarded (forwarded ss address (bytes_of width)) (bytes_of width) ≡ true →
+      slice_range ram place (place + bytes_of width)
+      ≡ take (bytes_of width) (bytes_over (forwarded ss address (bytes_of width)) below)
+  bytes_from_stores below all =
+      bytes_laid ram below ss address place width within
+      (λ k lt. behind k ∙ forwarded_some (youngest_byte (address + k) ss) (get_or bytes (place + k) 0) (get_or below k 0)
+      (forwarded_all width ss address all k lt))
+
+  -- those of the cache lie below
+  pub bytes_from_cache : (padding : List ℕ) →
+      slice_range ram place (place + bytes_of width)
+      ≡ take (bytes_of width) (bytes_over (forwarded ss address (bytes_of width))
+      (slice_range bytes place (place + bytes_of width) ++ padding))
+  bytes_from_cache padding =
+      let block = slice_range bytes place (place + bytes_of width) in
+      let long : length block ≡ bytes_of width =
+      length-between bytes place (place + bytes_of width) (omega arith) ∙ omega arith in
+      bytes_laid ram (block ++ padding) ss address place width within
+      (λ k lt.
+      behind k
+      ∙ ap (unwrap_or (youngest_byte (address + k) ss))
+      (sym (get_or_append_left block padding 0 k (omega (arith, long))
+      ∙ get_or-between bytes place (place + bytes_of width) k 0 (omega arith))))

@@ -1,0 +1,117 @@
+-- A load or a store with a fault gives that fault, and one without lies in RAM and gives what it reads or writes.
+use Rattle.rv_core.proofs.Words.{◌≡◌, ℕ, ◌+◌, ◌%◌, ◌≤◌, Bool, true, false, cond, not, List, nat_le, Some, None, Option, refl, ap, inl, inr, eqb-true, leb-true, and_parts, bytes_of, is_sign_extended, width_of, pc_plus_4, StoreAccess, Cause, LoadForm, Width, Layout, is_aligned, is_in_ram, is_writable, number_at, Effect, Faults, extended, loads, stores, State, IsAligned, effect_message, fault_message, Byte, Half, Word, writes, is_forwarded, load_fault, path_unless, store_fault}
+use Rattle.rv_core.specs.declared.load.Path.TheVariants.{Without, FromStores, FromCache}
+use Rattle.rv_core.specs.declared.load.Path.{Path}
+
+-- of two tests in turn, each with its fault
+
+abbrev fault_by : Bool → Bool → Cause → Cause → Option Cause
+fault_by aligned within misaligned outside = cond (not aligned) (Some misaligned) (cond (not within) (Some outside) None)
+
+abbrev effect_by : Bool → Bool → Cause → Cause → ℕ → Effect → Effect
+effect_by aligned within misaligned outside address effect =
+    cond (not aligned) (Faults misaligned address) (cond (not within) (Faults outside address) effect)
+
+faults_by : (aligned within : Bool) (misaligned outside cause : Cause) (access : Option StoreAccess) (address : ℕ)
+    (effect : Effect) → fault_by aligned within misaligned outside ≡ Some cause →
+    effect_message access (effect_by aligned within misaligned outside address effect) ≡ fault_message cause address
+faults_by true true misaligned outside cause access address effect is = absurd (cc)
+faults_by true false misaligned outside cause access address effect is =
+    let same : outside ≡ cause = cc in ap (λ c. fault_message c address) same
+faults_by false within misaligned outside cause access address effect is =
+    let same : misaligned ≡ cause = cc in ap (λ c. fault_message c address) same
+
+gives_by : (aligned within : Bool) (misaligned outside : Cause) (access : Option StoreAccess) (address : ℕ) (effect : Effect) →
+    fault_by aligned within misaligned outside ≡ None →
+    effect_message access (effect_by aligned within misaligned outside address effect) ≡ effect_message access effect
+gives_by true true misaligned outside access address effect is = refl
+gives_by true false misaligned outside access address effect is = absurd (cc)
+gives_by false within misaligned outside access address effect is = absurd (cc)
+
+passes_by : (aligned within : Bool) (misaligned outside : Cause) → fault_by aligned within misaligned outside ≡ None →
+    (aligned ≡ true) × (within ≡ true)
+passes_by true true misaligned outside is = (refl, refl)
+passes_by true false misaligned outside is = absurd (cc)
+passes_by false within misaligned outside is = absurd (cc)
+
+module _ (layout : Layout) (address : ℕ) where
+  -- a load with a fault gives that fault
+  pub load_faults : (s : State) (form : LoadForm) (rd : ℕ) (cause : Cause) →
+      load_fault layout address (bytes_of (width_of form)) ≡ Some cause →
+      effect_message None (loads layout s form rd address) ≡ fault_message cause address
+  load_faults s form rd cause is =
+      faults_by (is_aligned address (bytes_of (width_of form)))
+      (is_in_ram layout address (bytes_of (width_of form))) _ _ cause None address _ is
+
+  -- without a fault a load gives the number at its address, extended
+  pub load_gives : (s : State) (form : LoadForm) (rd : ℕ) → load_fault layout address (bytes_of (width_of form)) ≡ None →
+      effect_message None (loads layout s form rd address)
+      ≡ effect_message None (writes s rd
+      (extended (is_sign_extended form) (bytes_of (width_of form)) (number_at layout s.ram address (bytes_of (width_of form))))
+      (pc_plus_4 s.pc))
+  load_gives s form rd is =
+      gives_by (is_aligned address (bytes_of (width_of form)))
+      (is_in_ram layout address (bytes_of (width_of form))) _ _ None address _ is
+
+  -- and lies in RAM, at a multiple of its width
+  pub load_within : (count : ℕ) → load_fault layout address count ≡ None →
+      (address % count ≡ 0) × (layout.base ≤ address) × (address + count ≤ layout.base + layout.size)
+  load_within count is =
+      let tests = passes_by (is_aligned address count) (is_in_ram layout address count) _ _ is in
+      let bounds = and_parts (nat_le layout.base address) (nat_le (address + count) (layout.base + layout.size)) tests.1 in (
+        eqb-true (address % count) 0 tests.0,
+        leb-true layout.base address bounds.0,
+        leb-true (address + count) (layout.base + layout.size) bounds.1,
+      )
+
+  -- a store with a fault gives that fault
+  pub store_faults : (s : State) (width : Width) (word : ℕ) (access : Option StoreAccess) (cause : Cause) →
+      store_fault layout address (bytes_of width) ≡ Some cause →
+      effect_message access (stores layout s width address word) ≡ fault_message cause address
+  store_faults s width word access cause is =
+      faults_by (is_aligned address (bytes_of width)) (is_writable layout address (bytes_of width)) _ _ cause access address _ is
+
+  -- without a fault a store gives what it writes
+  pub store_gives : (s : State) (width : Width) (word : ℕ) (access : Option StoreAccess) →
+      store_fault layout address (bytes_of width) ≡ None →
+      effect_message access (stores layout s width address word)
+      ≡ record { value = 0; fault = None; next_pc = pc_plus_4 s.pc; store = access }
+  store_gives s width word access is =
+      gives_by (is_aligned address (bytes_of width)) (is_writable layout address (bytes_of width)) _ _ access address _ is
+
+  -- and lies in writable RAM, at a multiple of its width
+  pub store_within : (count : ℕ) → store_fault layout address count ≡ None →
+      (address % count ≡ 0) × (layout.base + layout.rom_bytes ≤ address) × (address + count ≤ layout.base + layout.size)
+  store_within count is =
+      let tests = passes_by (is_aligned address count) (is_writable layout address count) _ _ is in
+      let bounds = and_parts (nat_le (layout.base + layout.rom_bytes) address)
+      (nat_le (address + count) (layout.base + layout.size)) tests.1 in (
+        eqb-true (address % count) 0 tests.0,
+        leb-true (layout.base + layout.rom_bytes) address bounds.0,
+        leb-true (address + count) (layout.base + layout.size) bounds.1,
+      )
+
+-- an address that is a multiple of a width is aligned for as many bytes
+pub aligned_width : (width : Width) (address : ℕ) → address % bytes_of width ≡ 0 → IsAligned address (bytes_of width)
+aligned_width Byte address is = (inl refl, is)
+aligned_width Half address is = (inr (inl refl), is)
+aligned_width Word address is = (inr (inr refl), is)
+
+-- what is known by the path that was found
+
+-- of a path: its fault, or its bytes from the stores, which are all or not
+abbrev pub PathFacts : Option Cause → List (Option ℕ) → ℕ → Path → Type 0
+PathFacts fault overlay count (Without cause) = fault ≡ Some cause
+PathFacts fault overlay count (FromStores found) = (fault ≡ None) × (found ≡ overlay) × (is_forwarded overlay count ≡ true)
+PathFacts fault overlay count (FromCache found) = (fault ≡ None) × (found ≡ overlay)
+
+path_facts_over : (all : Bool) (overlay : List (Option ℕ)) (count : ℕ) → is_forwarded overlay count ≡ all →
+    PathFacts None overlay count (cond all (FromStores overlay) (FromCache overlay))
+path_facts_over true overlay count is = (refl, refl, is)
+path_facts_over false overlay count is = (refl, refl)
+
+-- so it is of the path that is found
+pub path_facts : (fault : Option Cause) (overlay : List (Option ℕ)) (count : ℕ) →
+    PathFacts fault overlay count (path_unless fault overlay count)
+path_facts (Some cause) overlay count = refl
+path_facts None overlay count = path_facts_over (is_forwarded overlay count) overlay count refl

@@ -1,0 +1,70 @@
+-- The value that a load takes from the older stores and the cache is that of its effect.
+use Rattle.rv_core.proofs.Words.{◌≡◌, ℕ, ◌+◌, ◌-◌, ◌≤◌, List, ◌++◌, length, take, slice_range, None, Option, sym, refl, ap, ◌∙◌, subst, arith, number_of, bytes_of, is_sign_extended, width_of, pc_plus_4, LoadForm, Memory, number_at, extended, loads, State, Contents, forwarded, Store, memory_behind, effect_message, writes, IsBehind, IsOverRam, bytes_over, load_fault, path_of}
+use Rattle.rv_core.proofs.Loads.Bytes.{bytes_from_cache, bytes_from_stores}
+use Rattle.rv_core.proofs.Loads.Effect.{PathFacts, load_gives, load_within, path_facts}
+use Rattle.rv_core.specs.declared.load.Path.TheVariants.{FromStores, FromCache}
+
+module _ (cache : Contents Memory) (ss : List Store) (over : IsOverRam cache) (s : State) (behind : IsBehind cache ss s)
+    (form : LoadForm) (rd address : ℕ) where
+  abbrev count : ℕ
+  count = bytes_of (width_of form)
+
+  abbrev place : ℕ
+  place = address - cache.base
+
+  -- a load of these bytes
+  abbrev pub value_over : List (Option ℕ) → List ℕ → ℕ
+  value_over overlay below = extended (is_sign_extended form) count (number_of (take count (bytes_over overlay below)))
+
+  module _ (fault : load_fault cache.backing.layout address count ≡ None) where
+    from : cache.base ≤ address
+    from = omega (arith, over.base, (load_within cache.backing.layout address count fault).1)
+
+    to : address + count ≤ cache.base + length cache.bytes
+    to = omega (arith, over.base, over.size, (load_within cache.backing.layout address count fault).2)
+
+    number_behind : number_at cache.backing.layout s.ram address count
+        ≡ number_of (slice_range (memory_behind cache.base ss cache.bytes) place (place + count))
+    number_behind =
+        λ j. number_of (slice_range (behind.ram j) (address - sym over.base j) (address - sym over.base j + count))
+
+    gives : (overlay : List (Option ℕ)) (below : List ℕ) → overlay ≡ forwarded ss address count →
+        slice_range (memory_behind cache.base ss cache.bytes) place (place + count)
+        ≡ take count (bytes_over (forwarded ss address count) below) →
+        effect_message None (writes s rd (value_over overlay below) (pc_plus_4 s.pc))
+        ≡ effect_message None (loads cache.backing.layout s form rd address)
+    gives overlay below same bytes =
+        let value : extended (is_sign_extended form) count (number_at cache.backing.layout s.ram address count)
+        ≡ value_over overlay below =
+        ap (extended (is_sign_extended form) count)
+        (number_behind ∙ ap number_of (bytes ∙ ap (λ o. take count (bytes_over o below)) (sym same))) in
+        ap (λ v. effect_message None (writes s rd v (pc_plus_4 s.pc))) (sym value)
+        ∙ sym (load_gives cache.backing.layout address s form rd fault)
+
+  -- a load whose bytes all come from the stores gives its effect
+  pub from_stores : (overlay : List (Option ℕ)) (below : List ℕ) →
+      path_of cache.backing.layout ss address count ≡ FromStores overlay →
+      effect_message None (writes s rd (value_over overlay below) (pc_plus_4 s.pc))
+      ≡ effect_message None (loads cache.backing.layout s form rd address)
+  from_stores overlay below is =
+      let facts : PathFacts (load_fault cache.backing.layout address count) (forwarded ss address count) count
+      (FromStores overlay) =
+      subst (λ p. PathFacts (load_fault cache.backing.layout address count) (forwarded ss address count) count p) is
+      (path_facts (load_fault cache.backing.layout address count) (forwarded ss address count) count) in
+      gives facts.0 overlay below facts.1
+      (bytes_from_stores cache.base (length cache.bytes) ss cache.bytes refl behind.inside address (width_of form) (from facts.0)
+      (to facts.0) below facts.2)
+
+  -- and so does one with bytes from the cache
+  pub from_cache : (overlay : List (Option ℕ)) (padding : List ℕ) →
+      path_of cache.backing.layout ss address count ≡ FromCache overlay →
+      effect_message None (writes s rd (value_over overlay (slice_range cache.bytes place (place + count) ++ padding))
+      (pc_plus_4 s.pc)) ≡ effect_message None (loads cache.backing.layout s form rd address)
+  from_cache overlay padding is =
+      let facts : PathFacts (load_fault cache.backing.layout address count) (forwarded ss address count) count
+      (FromCache overlay) =
+      subst (λ p. PathFacts (load_fault cache.backing.layout address count) (forwarded ss address count) count p) is
+      (path_facts (load_fault cache.backing.layout address count) (forwarded ss address count) count) in
+      gives facts.0 overlay (slice_range cache.bytes place (place + count) ++ padding) facts.1
+      (bytes_from_cache cache.base (length cache.bytes) ss cache.bytes refl behind.inside address (width_of form) (from facts.0)
+      (to facts.0) padding)

@@ -1,0 +1,47 @@
+-- The byte that programs see is the youngest retired store's, else the cache's.
+use Rattle.rv_core.proofs.Words.{◌≡◌, ℕ, ◌+◌, ◌-◌, ◌≤◌, false, nat_le, slice_get, slice_index_or as get_or, Some, None, Option, unwrap_or, sym, ap, ◌∙◌, inl, inr, arith, le-leb, and_from, cases_lt, cond-false, cond-true, false≢true, lt-leb, is_in_ram, youngest_byte, Hardware, layout_of, seen, slice_get_past, byte_seen, IsCached, LieIn, IsSoundHardware}
+use Rattle.rv_core.proofs.Loads.Behind.{length-memory_behind, slice_get-memory_behind}
+use Rattle.rv_core.proofs.Issued.Writes.{committed_inside}
+
+module _ (h : Hardware) (sound : IsSoundHardware h) (address : ℕ) where
+  inside : LieIn h.values.ram_base h.values.ram_size h.committed
+  inside = committed_inside h.values h.committed sound.stores.each
+
+  abbrev byte : Option ℕ
+  byte = byte_seen (layout_of h.values) (seen h).ram address
+
+  from_base : h.values.ram_base ≤ address → byte ≡ slice_get (seen h).ram (address - h.values.ram_base)
+  from_base from = cond-true (nat_le h.values.ram_base address) _ None (le-leb h.values.ram_base address from)
+
+  -- outside RAM there is none
+  pub none_outside : (IsCached h.cache address → ⊥) → None ≡ byte
+  none_outside outside = elim (cases_lt address h.values.ram_base) [
+    | inl below ↦ sym (cond-false (nat_le h.values.ram_base address) _ None (lt-leb h.values.ram_base address below))
+    | inr from ↦ elim (cases_lt address (h.values.ram_base + h.values.ram_size)) [
+      | inl within ↦ absurd (outside (omega (arith, sound.cache.base), omega (arith, sound.cache.base, sound.cache.bytes)))
+      | inr past ↦
+          let long = length-memory_behind h.values.ram_base h.values.ram_size h.committed h.cache.bytes sound.cache.bytes
+          inside in
+          sym (from_base from ∙ slice_get_past (seen h).ram (address - h.values.ram_base) (omega (arith, long)))
+    ]
+  ]
+
+  -- in RAM it is the youngest store's, or the cache's
+  pub some_inside : IsCached h.cache address → (n : ℕ) →
+      n ≡ unwrap_or (youngest_byte address h.committed) (get_or h.cache.bytes (address - h.cache.base) 0) → Some n ≡ byte
+  some_inside cached n is =
+      ap (λ m. Some m) (is ∙ ap
+      (λ b. unwrap_or (youngest_byte address h.committed) (get_or h.cache.bytes (address - b) 0)) sound.cache.base)
+      ∙ sym (from_base (omega (arith, cached.0, sound.cache.base))
+      ∙ slice_get-memory_behind h.values.ram_base h.values.ram_size address h.committed h.cache.bytes sound.cache.bytes inside
+      (omega (arith, cached.0, sound.cache.base)) (omega (arith, cached.1, sound.cache.base, sound.cache.bytes)))
+
+  -- no byte outside RAM is cached
+  pub outside_by : (Found : Type 0) → IsCached h.cache address → is_in_ram (layout_of h.values) address 1 ≡ false → Found
+  outside_by Found cached outside =
+      let above = le-leb h.values.ram_base address (omega (arith, cached.0, sound.cache.base)) in
+      let below = le-leb (address + 1) (h.values.ram_base + h.values.ram_size)
+      (omega (arith, cached.1, sound.cache.base, sound.cache.bytes)) in
+      absurd (false≢true (sym outside
+      ∙ and_from (nat_le h.values.ram_base address)
+      (nat_le (address + 1) (h.values.ram_base + h.values.ram_size)) above below))

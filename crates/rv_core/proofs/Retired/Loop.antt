@@ -1,0 +1,79 @@
+-- What the turns of the commit phase have taken, with what is still to come, is the definition's commit phase.
+use Rattle.rv_core.proofs.Words.{◌≡◌, ℕ, ◌+◌, ◌<◌, ◌≤◌, List, [], ◌∷◌, ◌++◌, length, Some, None, Option, sym, refl, ap, ◌∙◌, append_assoc, append-nil, arith, length-append, due, Committing, commit, commit_turn, commit_unless, Hardware, Ends, repeated, Step, IsKept, committing, turn_left, HeadTurn}
+use Rattle.std.specs.FinSet as set
+use Rattle.rv_core.proofs.Phases.Turned.{turned-ends, turned-goes}
+use Rattle.rv_core.specs.declared.head.HeadTurn.TheVariants.{GoesOn}
+
+-- after some turns, with others left to come: these lead to what all of them lead to
+pub record AreCommitted (start h : Hardware) (old new : List Step) (done left : ℕ) : Type 0 where
+  pub steps : List Step
+  pub appended : new ≡ old ++ steps
+  pub few : length steps ≤ done
+  pub to_come : repeated (commit_turn set.contains) left (committing h steps) ≡ commit set.contains start
+  pub values : h.values ≡ start.values
+  pub cycle : h.cycle ≡ start.cycle
+  pub retired : h.rob.retired ≤ start.rob.retired + done
+
+-- an interrupt that is due is all that the phase does
+pub interrupted : (h : Hardware) (code : ℕ) → Some code ≡ due h.csrs h.lines →
+    commit_unless set.contains (Some code) h ≡ commit set.contains h
+interrupted h code is = ap (λ (o : Option ℕ). commit_unless set.contains o h) is
+
+-- before the first turn, where no interrupt is due
+unfoldable pub none_committed : (h : Hardware) (old : List Step) (width : ℕ) → width ≡ h.values.commit_width →
+    due h.csrs h.lines ≡ None →
+    AreCommitted h h old old 0 width
+none_committed h old width is undisturbed = record {
+  steps = [];
+  appended = sym (append-nil old);
+  few = omega arith;
+  to_come =
+      ap (λ n. repeated (commit_turn set.contains) n (committing h [])) is
+      ∙ ap (λ (o : Option ℕ). commit_unless set.contains o h) (sym undisturbed);
+  values = refl;
+  cycle = refl;
+  retired = omega arith;
+}
+
+-- a turn that ends the phase
+pub committed_whole : (start h : Hardware) (old new : List Step) (done left : ℕ) (before : AreCommitted start h old new done left)
+    (turn : HeadTurn) (next : Hardware) (last : Committing) → 0 < left →
+    ((steps : List Step) → commit_turn set.contains (committing h steps) ≡ turn_left next steps turn) →
+    turn_left next before.steps turn ≡ Ends last →
+    last ≡ commit set.contains start
+committed_whole start h old new done left before turn next last some is ends =
+    turned-ends (commit_turn set.contains) (commit set.contains start) left (committing h before.steps) last some before.to_come
+    (is before.steps ∙ ends)
+
+-- the steps with those that were there before
+pub steps_with : (old before new : List Step) (so_far : List Step) (step : Step) → before ≡ old ++ so_far →
+    new ≡ before ++ step ∷ [] →
+    new ≡ old ++ (so_far ++ step ∷ [])
+steps_with old before new so_far step appended more =
+    more ∙ ap (λ l. l ++ step ∷ []) appended ∙ append_assoc old so_far (step ∷ [])
+
+-- a turn after which the phase goes on
+unfoldable pub committed_more : (start h : Hardware) (old new more : List Step) (done left rest : ℕ)
+    (before : AreCommitted start h old new done left)
+    (turn : HeadTurn) (next : Hardware) (step : Step) → left ≡ rest + 1 →
+    ((steps : List Step) → commit_turn set.contains (committing h steps) ≡ turn_left next steps turn) → turn ≡ GoesOn step →
+    IsKept h next → more ≡ new ++ step ∷ [] → AreCommitted start next old more (done + 1) rest
+committed_more start h old new more done left rest before turn next step another is goes kept appends = record {
+  steps = before.steps ++ step ∷ [];
+  appended = steps_with old new more before.steps step before.appended appends;
+  few = omega (arith, length-append before.steps (step ∷ []), before.few);
+  to_come =
+      turned-goes (commit_turn set.contains) (commit set.contains start) left rest (committing h before.steps)
+      (committing next (before.steps ++ step ∷ []))
+      another before.to_come (is before.steps ∙ ap (turn_left next before.steps) goes);
+  values = kept.values ∙ before.values;
+  cycle = kept.cycle ∙ before.cycle;
+  retired = omega (arith, kept.retired, before.retired);
+}
+
+-- after all turns
+pub committed_all : (start h : Hardware) (old new : List Step) (done left : ℕ) (before : AreCommitted start h old new done left) →
+    left ≡ 0 → before.steps ≡ (commit set.contains start).steps
+committed_all start h old new done left before none =
+    ap (λ (c : Committing). c.steps)
+    (ap (λ n. repeated (commit_turn set.contains) n (committing h before.steps)) (sym none) ∙ before.to_come)

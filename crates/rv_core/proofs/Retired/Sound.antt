@@ -1,0 +1,68 @@
+-- The head retires: what holds of the hardware goes on to hold.
+use Rattle.rv_core.proofs.Words.{◌≡◌, ℕ, suc, ◌+◌, ◌*◌, ◌<◌, Bool, true, false, List, ◌∷◌, ◌++◌, length, if◌then◌else◌, ◌==◌, slice_set, Some, None, All, Option, AllPairs, sym, refl, ap, ◌∙◌, subst, append-nil, arith, length-set, All-tail, is_serialising, is_store, target_of_word, Message, StoreAccess, Values, with_register, Store as QueuedStore, Committed, Filled, ReorderBuffer, head_retired, Entry, Hardware, with_value, committed_store, with_result, All-push, AreBelow-push, AreBelow-weaken, AreSoundEntries, AreSoundStores, IsLegalWrite, IsRetiredStore, IsSoundEntry, IsSoundHardware}
+use Rattle.rv_core.proofs.Retired.Head.{buffer_behind}
+use Rattle.rv_core.proofs.Retired.Stores.{AreRetired}
+
+pub register_count : (registers : List ℕ) (r value : ℕ) → length (with_register registers r value) ≡ length registers
+register_count registers r value = kept (r == 0) registers r value where
+  kept : (is_zero : Bool) (registers : List ℕ) (r value : ℕ) →
+      length (if is_zero then registers else slice_set registers r value) ≡ length registers
+  kept true registers r value = refl
+  kept false registers r value = length-set registers r value
+
+value_count : (registers : List ℕ) (target : Option ℕ) (m : Message) →
+    length (with_value registers target (Some m)) ≡ length registers
+value_count registers None m = refl
+value_count registers (Some r) m = register_count registers r m.value
+
+-- the retired stores, with what the head writes
+retired_with : (values : Values) (ss : List QueuedStore) (seq : ℕ) (is_store : Bool) (written : Option StoreAccess) →
+    AreRetired values ss → IsLegalWrite values is_store None written → AreRetired values (ss ++ committed_store seq written)
+retired_with values ss seq is_store None are legal = rw (append-nil ss) are
+retired_with values ss seq false (Some access) are legal = absurd legal
+retired_with values ss seq true (Some access) are legal =
+    All-push (λ (t : QueuedStore). IsRetiredStore values t.state) ss
+    (record { seq = seq; state = Filled access Committed }) are legal
+
+older_with : (ss : List QueuedStore) (seq : ℕ) (written : Option StoreAccess) → All (λ (s : QueuedStore). s.seq < seq) ss →
+    All (λ (s : QueuedStore). s.seq < seq + 1) (ss ++ committed_store seq written)
+older_with ss seq None are = rw (append-nil ss) (AreBelow-weaken (λ (s : QueuedStore). s.seq) seq (seq + 1) ss (omega arith) are)
+older_with ss seq (Some access) are =
+    AreBelow-push (λ (s : QueuedStore). s.seq) (seq + 1) ss (record { seq = seq; state = Filled access Committed })
+    (AreBelow-weaken (λ (s : QueuedStore). s.seq) seq (seq + 1) ss (omega arith) are) (omega arith)
+
+-- the instructions after the head
+pub entries_behind_head : (values : Values) (cycle : ℕ) (rob : ReorderBuffer) (e : Entry) (es : List Entry) →
+    AreSoundEntries values cycle rob → rob.entries ≡ e ∷ es →
+    rob.retired < 8 * cycle + 8 → AreSoundEntries values cycle (head_retired rob)
+entries_behind_head values cycle rob e es sound entries room =
+    subst (AreSoundEntries values cycle) (sym (buffer_behind rob e es entries)) (record {
+      capacity = sound.capacity;
+      within = omega (arith, ap length entries, sound.within);
+      numbers = omega (arith, room);
+      each = All-tail (IsSoundEntry values) e es (subst (All (IsSoundEntry values)) entries sound.each);
+      serial =
+          let all : AllPairs (λ (older younger : Entry). is_serialising older.instruction ≡ false) (e ∷ es) =
+          subst (λ l. AllPairs (λ (older younger : Entry). is_serialising older.instruction ≡ false) l) entries sound.serial in
+          λ i j d lt within. all (suc i) (suc j) d (omega (arith, lt)) (omega (arith, within));
+    })
+
+-- the hardware of which the head has retired is sound
+pub sound_behind_head : (h : Hardware) (e : Entry) (es : List Entry) (m : Message) → IsSoundHardware h → h.rob.entries ≡ e ∷ es →
+    h.rob.retired < 8 * h.cycle + 8 → IsLegalWrite h.values (is_store e.instruction) None m.store →
+    IsSoundHardware (with_result e m h)
+sound_behind_head h e es m sound entries room legal = record {
+  legal = sound.legal;
+  cycles = sound.cycles;
+  port = sound.port;
+  registers = value_count h.registers (target_of_word e.instruction) m ∙ sound.registers;
+  cache = sound.cache;
+  entries = entries_behind_head h.values h.cycle h.rob e es sound.entries entries room;
+  stores =
+      subst (λ (rob : ReorderBuffer). AreSoundStores h.values rob.retired (h.committed ++ committed_store h.rob.retired m.store))
+      (sym (buffer_behind h.rob e es entries)) (record {
+        each = retired_with h.values h.committed h.rob.retired (is_store e.instruction) m.store sound.stores.each legal;
+        older = older_with h.committed h.rob.retired m.store sound.stores.older;
+      });
+  fetched = sound.fetched;
+}

@@ -1,0 +1,115 @@
+-- What the commit phase teaches the predictor, turn by turn, is what its steps' lessons teach.
+use Rattle.rv_core.proofs.Words.{◌≡◌, ℕ, List, [], ◌∷◌, ◌++◌, None, Option, sym, refl, ap, ◌∙◌, subst, append_assoc, append-nil, Lines, due, State, Committing, commit_turn, commit_with, execute, with_lines, Hardware, Ends, GoesOn, Turn, Reachable, seen, pc_of, Leads as LeavesEither, fold, Lesson, AreTaught, after_lesson, DescribedPredictor, first_pc, lesson_of, lessons_of, Step, committing, turn_left, IsBegun, HeadTurn}
+use Rattle.std.specs.FinSet as set
+use Rattle.rv_hardware.proofs.Headline.Commit.{IsDone, IsGoing, begins_going, commit_done, turn_done}
+use Rattle.rv_hardware.proofs.Headline.Cycle.{always_sound, execute_kept, lines_sound}
+use Rattle.rv_hardware.proofs.Headline.Invariant.{IsSound}
+use Rattle.rv_hardware.proofs.Headline.Turn.{GoesFrom, turn_goes_from}
+use Rattle.rv_core.specs.declared.head.HeadTurn.TheVariants as head
+
+first_of_more : (steps : List Step) (s : Step) (next : ℕ) → first_pc (steps ++ s ∷ []) next ≡ first_pc steps (pc_of s)
+first_of_more [] s next = refl
+first_of_more (x ∷ steps) s next = refl
+
+-- the lessons of one step more: those before it went on at it
+lessons_push : (steps : List Step) (s : Step) (next : ℕ) →
+    lessons_of (steps ++ s ∷ []) next ≡ lessons_of steps (pc_of s) ++ lesson_of s next
+lessons_push [] s next = append-nil (lesson_of s next)
+lessons_push (x ∷ steps) s next =
+    ap (λ pc. lesson_of x pc ++ lessons_of (steps ++ s ∷ []) next) (first_of_more steps s next)
+    ∙ ap (λ l. lesson_of x (first_pc steps (pc_of s)) ++ l) (lessons_push steps s next)
+    ∙ sym (append_assoc (lesson_of x (first_pc steps (pc_of s))) (lessons_of steps (pc_of s)) (lesson_of s next))
+
+-- no lessons teach nothing
+pub none_taught : (old : Option DescribedPredictor) → AreTaught old [] old
+none_taught old = refl
+
+-- lessons after others
+fold_of_both : (old : Option DescribedPredictor) (first more : List Lesson) →
+    fold after_lesson (fold after_lesson old first) more ≡ fold after_lesson old (first ++ more)
+fold_of_both old [] more = refl
+fold_of_both old (lesson ∷ first) more = fold_of_both (after_lesson old lesson) first more
+
+taught_more : (old now new : Option DescribedPredictor) (steps : List Step) (s : Step) (pc next : ℕ) →
+    AreTaught old (lessons_of steps pc) now → pc_of s ≡ pc →
+    AreTaught now (lesson_of s next) new → AreTaught old (lessons_of (steps ++ s ∷ []) next) new
+taught_more old now new steps s pc next so_far here more =
+    let more_lessons : lessons_of steps pc ++ lesson_of s next ≡ lessons_of (steps ++ s ∷ []) next =
+    ap (λ at. lessons_of steps at ++ lesson_of s next) (sym here) ∙ sym (lessons_push steps s next) in
+    more ∙ ap (λ p. fold after_lesson p (lesson_of s next)) so_far ∙ fold_of_both old (lessons_of steps pc) (lesson_of s next)
+    ∙ ap (fold after_lesson old) more_lessons
+
+-- the phase while it goes on, and what the predictor has been taught of its steps
+pub record AreTeaching (start h : Hardware) (steps : List Step) (old now : Option DescribedPredictor) : Type 0 where
+  pub going : IsGoing start.lines (seen start) start (committing h steps)
+  pub taught : AreTaught old (lessons_of steps h.pc) now
+
+sound_begun : (h : Hardware) → IsBegun h → IsSound h
+sound_begun h begun = subst IsSound (sym begun.begun) (lines_sound begun.lines begun.before (always_sound begun.reached))
+
+-- after the last turn
+pub taught_all : (start h : Hardware) (steps : List Step) (old now : Option DescribedPredictor) →
+    AreTeaching start h steps old now → (all : List Step) → steps ≡ all → AreTaught old (lessons_of all h.pc) now
+taught_all start h steps old now so_far all is_all = subst (λ l. AreTaught old (lessons_of l h.pc) now) is_all so_far.taught
+
+-- before the first turn
+pub teaching_begins : (h : Hardware) (now : Option DescribedPredictor) → IsBegun h → due h.csrs h.lines ≡ None →
+    AreTeaching h h [] now now
+teaching_begins h now begun calm = record { going = begins_going h (sound_begun h begun) calm; taught = none_taught now }
+
+module _ (start h : Hardware) (steps : List Step) (old now : Option DescribedPredictor)
+    (so_far : AreTeaching start h steps old now)
+    (turn : HeadTurn) (next : Hardware) (is : commit_turn set.contains (committing h steps) ≡ turn_left next steps turn) where
+  abbrev Left : Turn Committing → Type 0
+  Left = LeavesEither (GoesFrom (committing h steps)) (GoesFrom (committing h steps))
+
+  left : Left (turn_left next steps turn)
+  left = subst Left is (turn_goes_from (committing h steps) so_far.going.sound)
+
+  -- a turn after which the phase goes on
+  pub teaching_goes : (s : Step) (new : Option DescribedPredictor) → turn ≡ head.GoesOn s → (pc : ℕ) → pc ≡ next.pc →
+      AreTaught now (lesson_of s pc) new → AreTeaching start next (steps ++ s ∷ []) old new
+  teaching_goes s new goes pc is_pc more =
+      let goes_on : turn_left next steps turn ≡ GoesOn (committing next (steps ++ s ∷ [])) = ap (turn_left next steps) goes in
+      let Going = IsGoing start.lines (seen start) start in
+      let Done = IsDone start.lines (seen start) start in
+      record {
+        going = subst (LeavesEither Going Done) (is ∙ goes_on)
+            (turn_done start.lines (seen start) start (committing h steps) h.rob.entries refl so_far.going);
+        taught = taught_more old now new steps s h.pc next.pc so_far.taught ((subst Left goes_on left).begins s refl)
+            (subst (λ n. AreTaught now (lesson_of s n) new) is_pc more);
+      }
+
+  -- a turn whose step ends it
+  pub taught_at_end : (s : Step) (new : Option DescribedPredictor) → turn ≡ head.Ends s → (pc : ℕ) → pc ≡ next.pc →
+      AreTaught now (lesson_of s pc) new → (all : List Step) → steps ++ s ∷ [] ≡ all → AreTaught old (lessons_of all next.pc) new
+  taught_at_end s new ends pc is_pc more all is_all =
+      subst (λ l. AreTaught old (lessons_of l next.pc) new) is_all
+      (taught_more old now new steps s h.pc next.pc so_far.taught
+      ((subst Left (ap (turn_left next steps) ends) left).begins s refl)
+      (subst (λ n. AreTaught now (lesson_of s n) new) is_pc more))
+
+  -- a turn without a step, which ends the phase
+  pub taught_whole : (last : Committing) → turn_left next steps turn ≡ Ends last → last.steps ≡ steps → (all : List Step) →
+      steps ≡ all → AreTaught old (lessons_of all last.hardware.pc) now
+  taught_whole last ends same all is_all =
+      subst (λ pc. AreTaught old (lessons_of all pc) now) (sym ((subst Left ends left).stays same))
+      (taught_all start h steps old now so_far all is_all)
+
+-- ---- the whole cycle
+-- the phases after commit leave the committed pc
+pub executed_here : (lines : Lines) (old committed : Hardware) → Reachable old →
+    committed ≡ (commit_with set.contains lines old).hardware → (execute committed).hardware.pc ≡ committed.pc
+executed_here lines old committed reached is =
+    let done : IsDone lines (seen old) (with_lines lines old) (commit_with set.contains lines old) =
+    commit_done (with_lines lines old) (lines_sound lines old (always_sound reached)) in
+    let sound : IsSound committed = subst IsSound (sym is) done.sound in
+    ap (λ (s : State). s.pc)
+    (execute_kept committed.values committed.cycle (seen committed) committed
+    (record { values_are = refl; cycle_is = refl; sees = refl; sound = sound })).sees
+
+-- lessons of the same steps, to the same pc
+pub taught_as : (old new : Option DescribedPredictor) (steps done : List Step) (pc next : ℕ) → steps ≡ done → pc ≡ next →
+    AreTaught old (lessons_of steps pc) new → AreTaught old (lessons_of done next) new
+taught_as old new steps done pc next same here taught =
+    subst (λ l. AreTaught old (lessons_of l next) new) same (subst (λ n. AreTaught old (lessons_of steps n) new) here taught)

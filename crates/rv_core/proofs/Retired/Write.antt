@@ -1,0 +1,48 @@
+-- What a head that retires writes is legal: its target lies in the registers, and its store in RAM.
+use Rattle.rv_core.proofs.Words.{◌≡◌, ℕ, ◌+◌, ◌<◌, ◌≤◌, Bool, true, false, List, ◌∷◌, IfSome, Some, None, All, Option, option_map, refl, subst, inl, inr, arith, lt-ltb, ne_eqb, le-leb, All-head, is_store, Message, StoreAccess, Fault, Values, Entry, Stage, Finished, Running, Waiting, Hardware, broadcast_of, with_value, IsTrue, StaleWords, is_covered, registers_with, IsLegalAccess, IsLegalWrite, IsSoundEntry, IsSoundHardware, message_of}
+use Rattle.rv_core.proofs.Retired.Head.{IsTarget}
+
+known_message : (stage : Stage) (m : Message) → broadcast_of stage ≡ Some m → message_of stage ≡ Some m
+known_message Waiting m known = absurd (cc)
+known_message (Running issue message) m known = absurd (cc)
+known_message (Finished issue cycle message) m known = known
+
+-- what the head of a sound hardware writes, where it does not fault
+pub legal_write : (h : Hardware) (e : Entry) (es : List Entry) (m : Message) → IsSoundHardware h → h.rob.entries ≡ e ∷ es →
+    broadcast_of e.stage ≡ Some m → m.fault ≡ None → IsLegalWrite h.values (is_store e.instruction) None m.store
+legal_write h e es m sound entries known faultless =
+    let entry = All-head (IsSoundEntry h.values) e es (subst (All (IsSoundEntry h.values)) entries sound.entries.each) in
+    let legal : IsLegalWrite h.values (is_store e.instruction) m.fault m.store =
+    subst (λ (o : Option Message). IfSome o
+    (λ message. IsLegalWrite h.values (is_store e.instruction) message.fault message.store))
+    (known_message e.stage m known) entry.writes in
+    subst (λ (o : Option Fault). IsLegalWrite h.values (is_store e.instruction) o m.store) faultless legal
+
+covered : (stale : StaleWords) (address : ℕ) → stale.base ≤ address → address < stale.base + stale.size →
+    IsTrue (is_covered stale address)
+covered stale address from to = rw (le-leb stale.base address from, lt-ltb address (stale.base + stale.size) to) refl
+
+access_is_covered : (values : Values) (stale : StaleWords) (access : StoreAccess) → IsLegalAccess values access →
+    stale.base ≡ values.ram_base → stale.size ≡ values.ram_size → IsTrue (is_covered stale access.address)
+access_is_covered values stale access legal base size =
+    covered stale access.address (omega (arith, base, legal.from_base)) (elim legal.aligned.0 [
+      | inl one ↦ omega (arith, one, base, size, legal.to_end)
+      | inr more ↦ elim more [
+        | inl two ↦ omega (arith, two, base, size, legal.to_end)
+        | inr four ↦ omega (arith, four, base, size, legal.to_end)
+      ]
+    ])
+
+-- it lies in the words that may be stale
+pub write_is_covered : (values : Values) (stale : StaleWords) (is_store : Bool) (written : Option StoreAccess) →
+    IsLegalWrite values is_store None written →
+    stale.base ≡ values.ram_base → stale.size ≡ values.ram_size → IfSome written (λ a. IsTrue (is_covered stale a.address))
+write_is_covered values stale writes None legal base size = record {}
+write_is_covered values stale false (Some access) legal base size = absurd legal
+write_is_covered values stale true (Some access) legal base size = access_is_covered values stale access legal base size
+
+-- the registers with a target's value
+pub target_written : (registers : List ℕ) (target : Option ℕ) (m : Message) → IsTarget registers target →
+    registers_with (option_map (λ (register : ℕ). (register, m.value)) target) registers ≡ with_value registers target (Some m)
+target_written registers None m ok = refl
+target_written registers (Some r) m ok = rw (ne_eqb r 0 ok.0) refl

@@ -1,0 +1,170 @@
+-- A dispatch keeps the ties of the parts and the soundness of the hardware.
+use Rattle.rv_core.proofs.Words.{◌≡◌, ℕ, zero, suc, ◌+◌, ◌-◌, ◌<◌, Bool, true, false, cond, ◌&&◌, ◌||◌, List, [], ◌∷◌, ◌++◌, length, IfSome, nat_le, slice_get, Some, None, All, Option, AllPairs, sym, refl, ap, ◌∙◌, arith, length-append, leb-false, or_parts, All-cons, list_any, is_branch_or_jump, is_serialising, is_store, kind_of_word, target_of_word, at_kind, Message, Instr, Lines, Kind, PerKind, Values, Layout, Effect, Faults, Retires, State, pushed, Entry, Finished, Fetched, mends_early, entry_of_fetched, has_full_stations, reason_of, stage_by, Hardware, effect_message, result_of_word, layout_of, seen_behind, stores_behind, All-push, all_pairs_push, at_kind-by_kind, Queue, Pool, Pending, Renaming, next_number, Stall, are_full_for, with_instruction, with_jump, with_store, with_target, IsDecoded, IsLegalWrite, IsSoundEntry, IsSoundHardware, message_of, AreTied, pool_of_kind, stations_of, status_behind, values_in}
+use Rattle.rv_isa.specs.declared.instructions.Instr.TheVariants as instruction
+use Rattle.rv_hardware.specs.declared.report.Stall.TheVariants as stall
+use Rattle.rv_rob.specs.ReorderBuffer.{youngest}
+use Rattle.rv_core.proofs.Phases.InFlight.{sound_in_flight}
+use Rattle.rv_core.proofs.Ties.Bus.{bus-push}
+use Rattle.rv_core.proofs.Ties.Queue.{stores-push}
+use Rattle.rv_core.proofs.Ties.Renaming.{renaming-push}
+use Rattle.rv_core.proofs.Ties.Stations.{stations-push, waiting-count}
+
+-- ---- the reasons to wait
+-- where an instruction does not wait, each reason fails
+pub record Goes (h : Hardware) (fetched : Fetched) : Type 0 where
+  pub serial : list_any (λ e. is_serialising e.instruction) h.rob.entries ≡ false
+  pub room : nat_le h.rob.capacity (length h.rob.entries) ≡ false
+  pub station : has_full_stations h (kind_of_word fetched.instruction) ≡ false
+  pub queue : (is_store fetched.instruction && nat_le h.values.store_queue (length (stores_behind h h.rob.entries))) ≡ false
+
+none_holds : (a b c d : Bool) (w x y z : Stall) →
+    cond a (Some w) (cond b (Some x) (cond c (Some y) (cond d (Some z) None))) ≡ None
+    → (a ≡ false) × (b ≡ false) × (c ≡ false) × (d ≡ false)
+none_holds false false false false w x y z none = (refl, refl, refl, refl)
+none_holds true b c d w x y z none = absurd (cc)
+none_holds false true c d w x y z none = absurd (cc)
+none_holds false false true d w x y z none = absurd (cc)
+none_holds false false false true w x y z none = absurd (cc)
+
+-- what holds where nothing has a fetched word wait
+pub goes : (h : Hardware) (fetched : Fetched) → reason_of h fetched ≡ None → Goes h fetched
+goes h fetched none = let each = none_holds _ _ _ _ _ _ _ _ none in record {
+  serial = each.0;
+  room = each.1;
+  station = each.2;
+  queue = each.3;
+}
+
+-- a serialising instruction in flight is the youngest
+abbrev pub serial_in : Option Entry → Bool
+serial_in None = false
+serial_in (Some e) = is_serialising e.instruction
+
+abbrev IsLast : List Entry → Type 0
+IsLast es = AllPairs (λ older younger. is_serialising older.instruction ≡ false) es
+
+pub IsLast-tail : (e : Entry) (es : List Entry) → IsLast (e ∷ es) → IsLast es
+IsLast-tail e es last i j d lt within = last (suc i) (suc j) d (omega arith) (omega arith)
+
+serial-last : (es : List Entry) (i : ℕ) → length es ≡ i + 1 → IsLast es →
+    list_any (λ e. is_serialising e.instruction) es ≡ serial_in (slice_get es i)
+serial-last [] i is last = absurd (omega arith)
+serial-last (e ∷ []) i is last =
+    let first : i ≡ 0 = omega arith in rw first (or_false (is_serialising e.instruction)) where
+      or_false : (b : Bool) → (b || false) ≡ b
+      or_false true = refl
+      or_false false = refl
+serial-last (e ∷ d ∷ es) zero is last = absurd (omega arith)
+serial-last (e ∷ d ∷ es) (suc i) is last =
+    let before : is_serialising e.instruction ≡ false = last 0 1 e (omega arith) (omega arith) in
+    rw before (serial-last (d ∷ es) i (omega arith) (IsLast-tail e (d ∷ es) last))
+
+-- one of them serialises where the youngest does
+pub serial-youngest : (es : List Entry) → IsLast es → list_any (λ e. is_serialising e.instruction) es ≡ serial_in (youngest es)
+serial-youngest [] last = refl
+serial-youngest (e ∷ es) last = serial-last (e ∷ es) (length (e ∷ es) - 1) (omega arith) last
+
+-- the stations of a kind are full where as many instructions wait as there are stations
+pub full-is : (h : Hardware) (o : Option Kind) → are_full_for o (stations_of h.values h.registers h.rob) ≡ has_full_stations h o
+full-is h None = refl
+full-is h (Some kind) =
+    ap (λ (pool : Pool). nat_le pool.capacity (length pool.waiting))
+    (at_kind-by_kind (pool_of_kind h.values h.registers h.rob) kind)
+    ∙ ap (nat_le (at_kind kind h.values.kinds).stations) (waiting-count kind (values_in h.registers) h.rob.retired h.rob.entries)
+
+-- the reason, of the four tests
+pub reason-is : (h : Hardware) (fetched : Fetched) (serial room station queue : Bool) →
+    list_any (λ e. is_serialising e.instruction) h.rob.entries ≡ serial → nat_le h.rob.capacity (length h.rob.entries) ≡ room
+    → has_full_stations h (kind_of_word fetched.instruction) ≡ station →
+    (is_store fetched.instruction && nat_le h.values.store_queue (length (stores_behind h h.rob.entries))) ≡ queue
+    → reason_of h fetched ≡ cond serial (Some stall.Serial)
+    (cond room (Some stall.Rob) (cond station (Some stall.Station) (cond queue (Some stall.Store) None)))
+reason-is h fetched serial room station queue serial_is room_is station_is queue_is = λ i.
+    cond (serial_is i) (Some stall.Serial)
+    (cond (room_is i) (Some stall.Rob) (cond (station_is i) (Some stall.Station) (cond (queue_is i) (Some stall.Store) None)))
+
+-- ---- the entry
+no_store : (fault : Effect) → (effect_message None fault).store ≡ None
+no_store (Retires written next) = refl
+no_store (Faults cause value) = refl
+
+unwritten : (values : Values) (message : Message) → message.store ≡ None → IsLegalWrite values false message.fault message.store
+unwritten values message none = rw none tt
+
+first-legal : (values : Values) (layout : Layout) (s : State) (lines : Lines) (cycle : ℕ) (word : Option ℕ) (o : Option Instr)
+    → IfSome (message_of (stage_by (kind_of_word o) (is_serialising o)
+    (Finished None cycle (result_of_word layout s lines word o))))
+    (λ message. IsLegalWrite values (is_store o) message.fault message.store)
+first-legal values layout s lines cycle None (Some instruction.Fence) = tt
+first-legal values layout s lines cycle (Some word) (Some instruction.Fence) = tt
+first-legal values layout s lines cycle None _ = tt
+first-legal values layout s lines cycle (Some word) _ = tt
+
+module _ (h : Hardware) (fetched : Fetched) where
+  abbrev new_entry : Entry
+  new_entry = entry_of_fetched h fetched
+
+  abbrev entered_hardware : Hardware
+  entered_hardware = record h { rob = pushed new_entry h.rob }
+
+  sound-entry : IsDecoded fetched → IfSome (target_of_word fetched.instruction) (λ register. register < 32) →
+      IsSoundEntry h.values new_entry
+  sound-entry decoded target = record {
+    decoded = decoded;
+    target = target;
+    writes = first-legal h.values (layout_of h.values)
+        (seen_behind h h.rob.entries fetched.pc) h.lines h.cycle fetched.word fetched.instruction;
+  }
+
+  all_fail : (es : List Entry) → list_any (λ e. is_serialising e.instruction) es ≡ false →
+      All (λ (e : Entry). is_serialising e.instruction ≡ false) es
+  all_fail [] none = λ k d lt. absurd (omega arith)
+  all_fail (e ∷ es) none =
+      let parts = or_parts (is_serialising e.instruction) (list_any (λ e. is_serialising e.instruction) es) none in
+      All-cons (λ (e : Entry). is_serialising e.instruction ≡ false) e es parts.0 (all_fail es parts.1)
+
+  -- the hardware is as sound with the instruction as without it
+  pub sound-dispatched : IsSoundHardware h → reason_of h fetched ≡ None → IsDecoded fetched →
+      IfSome (target_of_word fetched.instruction) (λ register. register < 32)
+      → IsSoundHardware entered_hardware
+  sound-dispatched sound none decoded target =
+      let fails = goes h fetched none in
+      let room = leb-false h.rob.capacity (length h.rob.entries) fails.room in
+      sound_in_flight h (h.rob.entries ++ new_entry ∷ []) h.front sound
+      (omega (arith, room, sound.entries.capacity, length-append h.rob.entries (new_entry ∷ [])))
+      (All-push (IsSoundEntry h.values) h.rob.entries new_entry sound.entries.each (sound-entry decoded target))
+      (all_pairs_push (λ (older younger : Entry). is_serialising older.instruction
+      ≡ false) h.rob.entries new_entry sound.entries.serial (all_fail h.rob.entries fails.serial))
+      sound.fetched
+
+  -- the parts are tied to the hardware with the instruction
+  pub tied-dispatched : (rename : Renaming) (stations : PerKind Pool) (bus : Pending) (queue : Queue) →
+      AreTied h rename stations bus queue
+      → AreTied entered_hardware
+      (with_jump (mends_early h.values.recovery && is_branch_or_jump fetched.instruction) (next_number h.rob)
+      (with_target (next_number h.rob) (target_of_word fetched.instruction) rename))
+      (with_instruction (status_behind (values_in h.registers) h.rob.retired h.rob.entries)
+      (next_number h.rob) fetched.pc fetched.instruction stations)
+      bus
+      (with_store (is_store fetched.instruction) (next_number h.rob) queue)
+  tied-dispatched rename stations bus queue tied =
+      let n = next_number h.rob in
+      let message = result_of_word (layout_of h.values)
+      (seen_behind h h.rob.entries fetched.pc) h.lines fetched.word fetched.instruction in
+      record {
+        renamed =
+            ap (λ m. with_jump (mends_early h.values.recovery && is_branch_or_jump fetched.instruction) n
+            (with_target n (target_of_word fetched.instruction) m)) tied.renamed ∙
+            sym (renaming-push h.values h.rob new_entry);
+        stationed =
+            ap (with_instruction (status_behind
+            (values_in h.registers) h.rob.retired h.rob.entries) n fetched.pc fetched.instruction) tied.stationed ∙
+            sym (stations-push h.values h.registers h.rob new_entry (is_serialising fetched.instruction) h.cycle message refl);
+        pending = tied.pending ∙ sym
+            (bus-push h.values h.rob new_entry (kind_of_word fetched.instruction)
+            (is_serialising fetched.instruction) h.cycle message refl);
+        queued =
+            ap (with_store (is_store fetched.instruction) n) tied.queued ∙
+            sym (stores-push h.committed h.values.store_queue h.rob new_entry
+            (is_serialising fetched.instruction) h.cycle message refl);
+      }

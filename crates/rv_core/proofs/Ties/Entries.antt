@@ -1,0 +1,119 @@
+-- A change of the entry of a number, and a cut at one, keep what holds of the entries.
+use Rattle.rv_core.proofs.Words.{◌≡◌, ℕ, suc, ◌+◌, ◌<◌, ◌≤◌, true, false, cond, List, [], ◌∷◌, length, nat_lt, ◌==◌, slice_index_or as get_or, Some, All, AllPairs, sym, refl, ap, ◌∙◌, inl, inr, arith, le-ltb, eqb-true, cases_Bool, All-cons, All-head, All-tail, AllPairs-cons, entries_below, with_entry, Entry, entry_of}
+
+-- the number of an entry that is held lies among those of the list
+pub entry_of-from : (n s : ℕ) (es : List Entry) (e : Entry) → entry_of n s es ≡ Some e → (s ≤ n) × (n < s + length es)
+entry_of-from n s [] e held = absurd (cc)
+entry_of-from n s (d ∷ es) e held = elim (cases_Bool (n == s)) [
+  | inl equal ↦ let same : n ≡ s = eqb-true n s equal in (omega (arith, same), omega (arith, same))
+  | inr other ↦
+      let is : entry_of n (s + 1) es ≡ Some e = sym (ap (λ b. cond b (Some d) (entry_of n (s + 1) es)) other) ∙ held in
+      let later = entry_of-from n (s + 1) es e is in
+      (omega (arith, later.0), omega (arith, later.1))
+]
+
+-- from the first number on nothing is older
+pub entries_below-first : (s : ℕ) (es : List Entry) → entries_below s s es ≡ []
+entries_below-first s [] = refl
+entries_below-first s (e ∷ es) = rw (le-ltb s s (omega arith)) refl
+
+-- a change of an entry leaves as many
+pub length-with_entry : (f : Entry → Entry) (n s : ℕ) (es : List Entry) → length (with_entry f n s es) ≡ length es
+length-with_entry f n s [] = refl
+length-with_entry f n s (e ∷ es) =
+    elim (n == s) as (λ b. length (cond b (f e ∷ es) (e ∷ with_entry f n (s + 1) es)) ≡ length (e ∷ es)) [
+      | true ↦ refl
+      | false ↦ omega (arith, length-with_entry f n (s + 1) es)
+    ]
+
+-- a cut leaves no more
+pub length-entries_below : (n s : ℕ) (es : List Entry) → length (entries_below n s es) ≤ length es
+length-entries_below n s [] = omega arith
+length-entries_below n s (e ∷ es) =
+    elim (nat_lt s n) as (λ b. length (cond b (e ∷ entries_below n (s + 1) es) []) ≤ length (e ∷ es)) [
+      | true ↦ omega (arith, length-entries_below n (s + 1) es)
+      | false ↦ omega arith
+    ]
+
+-- what a change leaves at its number
+pub entry_of-changed : (f : Entry → Entry) (n s : ℕ) (es : List Entry) (e : Entry) → entry_of n s es ≡ Some e →
+    entry_of n s (with_entry f n s es) ≡ Some (f e)
+entry_of-changed f n s [] e held = absurd (cc)
+entry_of-changed f n s (d ∷ es) e held = elim (cases_Bool (n == s)) [
+  | inl equal ↦
+      let is : Some d ≡ Some e = sym (ap (λ b. cond b (Some d) (entry_of n (s + 1) es)) equal) ∙ held in
+      let one : d ≡ e = cc in
+      rw (equal, equal) (ap (λ x. Some (f x)) one)
+  | inr other ↦
+      let is : entry_of n (s + 1) es ≡ Some e = sym (ap (λ b. cond b (Some d) (entry_of n (s + 1) es)) other) ∙ held in
+      rw (other, other) (entry_of-changed f n (s + 1) es e is)
+]
+
+-- ---- what holds of each entry
+module _ (P : Entry → Type 0) where
+  -- a change that keeps it of the entry of that number
+  pub All-with_entry : (f : Entry → Entry) (n s : ℕ) (es : List Entry) →
+      ((e : Entry) → entry_of n s es ≡ Some e → P e → P (f e)) → All P es → All P (with_entry f n s es)
+  All-with_entry f n s [] keeps each = each
+  All-with_entry f n s (e ∷ es) keeps each = elim (cases_Bool (n == s)) [
+    | inl equal ↦
+        let held : entry_of n s (e ∷ es) ≡ Some e = rw equal refl in
+        rw equal (All-cons P (f e) es (keeps e held (All-head P e es each)) (All-tail P e es each))
+    | inr other ↦
+        rw other (All-cons P e (with_entry f n (s + 1) es) (All-head P e es each)
+        (All-with_entry f n (s + 1) es (λ d held. keeps d (rw other held)) (All-tail P e es each)))
+  ]
+
+  -- what holds of each holds of those that a cut leaves
+  pub All-entries_below : (n s : ℕ) (es : List Entry) → All P es → All P (entries_below n s es)
+  All-entries_below n s [] each = each
+  All-entries_below n s (e ∷ es) each =
+      elim (nat_lt s n) as (λ b. All P (cond b (e ∷ entries_below n (s + 1) es) [])) [
+        | true ↦ All-cons P e (entries_below n (s + 1) es) (All-head P e es each)
+            (All-entries_below n (s + 1) es (All-tail P e es each))
+        | false ↦ λ k d lt. absurd (omega arith)
+      ]
+
+  -- the entry of a number is one of them
+  pub All-entry_of : (n s : ℕ) (es : List Entry) (e : Entry) → entry_of n s es ≡ Some e → All P es → P e
+  All-entry_of n s [] e held each = absurd (cc)
+  All-entry_of n s (d ∷ es) e held each = elim (cases_Bool (n == s)) [
+    | inl equal ↦
+        let is : Some d ≡ Some e = sym (ap (λ b. cond b (Some d) (entry_of n (s + 1) es)) equal) ∙ held in
+        let one : d ≡ e = cc in
+        rw (← one) (All-head P d es each)
+    | inr other ↦
+        let is : entry_of n (s + 1) es ≡ Some e = sym (ap (λ b. cond b (Some d) (entry_of n (s + 1) es)) other) ∙ held in
+        All-entry_of n (s + 1) es e is (All-tail P d es each)
+  ]
+
+-- ---- what holds of each entry and all later ones
+module _ (R : Entry → Entry → Type 0) where
+  pairs-head : (e : Entry) (es : List Entry) → AllPairs R (e ∷ es) → All (R e) es
+  pairs-head e es pairs k d lt = pairs 0 (suc k) d (omega arith) (omega arith)
+
+  pairs-tail : (e : Entry) (es : List Entry) → AllPairs R (e ∷ es) → AllPairs R es
+  pairs-tail e es pairs i j d lt within = pairs (suc i) (suc j) d (omega arith) (omega arith)
+
+  -- what holds of each pair holds of those that a cut leaves
+  pub pairs-entries_below : (n s : ℕ) (es : List Entry) → AllPairs R es → AllPairs R (entries_below n s es)
+  pairs-entries_below n s [] pairs = pairs
+  pairs-entries_below n s (e ∷ es) pairs =
+      elim (nat_lt s n) as (λ b. AllPairs R (cond b (e ∷ entries_below n (s + 1) es) [])) [
+        | true ↦ AllPairs-cons R e (entries_below n (s + 1) es) (All-entries_below (R e) n (s + 1) es (pairs-head e es pairs))
+            (pairs-entries_below n (s + 1) es (pairs-tail e es pairs))
+        | false ↦ λ i j d lt within. absurd (omega arith)
+      ]
+
+  -- and of those with a changed entry, where the change keeps it
+  pub pairs-with_entry : (f : Entry → Entry) → ((d e : Entry) → R d e → R (f d) e) → ((d e : Entry) → R d e → R d (f e)) →
+      (n s : ℕ) (es : List Entry) → AllPairs R es → AllPairs R (with_entry f n s es)
+  pairs-with_entry f older younger n s [] pairs = pairs
+  pairs-with_entry f older younger n s (e ∷ es) pairs =
+      elim (n == s) as (λ b. AllPairs R (cond b (f e ∷ es) (e ∷ with_entry f n (s + 1) es))) [
+        | true ↦ AllPairs-cons R (f e) es (λ k d lt. older e (get_or es k d) (pairs-head e es pairs k d lt))
+            (pairs-tail e es pairs)
+        | false ↦ AllPairs-cons R e (with_entry f n (s + 1) es)
+            (All-with_entry (R e) f n (s + 1) es (λ d held. younger e d) (pairs-head e es pairs))
+            (pairs-with_entry f older younger n (s + 1) es (pairs-tail e es pairs))
+      ]

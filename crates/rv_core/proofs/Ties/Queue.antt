@@ -1,0 +1,210 @@
+-- The store queue is what the retired stores and the instructions in flight tell, through a dispatch, a broadcast and a squash.
+use Rattle.rv_core.proofs.Words.{◌≡◌, ℕ, ◌+◌, ◌<◌, ◌≤◌, Bool, true, false, cond, List, [], ◌∷◌, ◌++◌, map, length, ◌==◌, Some, None, All, filter, Option, sym, refl, ap, ◌∙◌, inl, inr, true≢false, append_assoc, append-nil, arith, eq-eqb, ne_eqb, eqb-true, cases_Bool, eqb-false, map-append, All-cons, All-head, All-tail, filter-append, is_store, kind_of_word, Message, StoreAccess, Instr, Values, is_committed, is_committed_state, Store, StoreState, finished, predicting, ReorderBuffer, entries_below, with_entry, Entry, Stage, Finished, stage_by, Hardware, broadcast_of, store_of_broadcast, store_of_message, stores_of, AreBelow, AreBelow-append, AreBelow-weaken, below-all, below-append, CanEnter, Queue, older_than, answered, entry_of, next_number, with_store, IsRetiredStore, queue_of}
+use Rattle.rv_stores.specs.declared.store.StoreState.TheVariants as store
+use Rattle.rv_isa.specs.declared.instructions.Instr.TheVariants as instruction
+use Rattle.rv_core.proofs.Ties.Gathered.{gathered, gathered-below, gathered-cut, gathered-from, gathered-push, gathered-same}
+use Rattle.rv_core.proofs.Retired.Stores.{AreRetired, retired_is_committed}
+use Rattle.rv_core.proofs.Ties.Entries.{entry_of-from}
+
+-- ---- the stores in flight, one after another
+abbrev nothing : Unit {0} → ℕ → Entry → Unit {0}
+nothing st s e = tt
+
+abbrev store_at : ℕ → Entry → Store
+store_at s e = record { seq = s; state = store_of_broadcast (broadcast_of e.stage) }
+
+abbrev own_store : Unit {0} → ℕ → Entry → List Store
+own_store st s e = cond (is_store e.instruction) (store_at s e ∷ []) []
+
+stores-gathered : (s : ℕ) (es : List Entry) → stores_of s es ≡ gathered nothing own_store tt s es
+stores-gathered s [] = refl
+stores-gathered s (e ∷ es) =
+    elim (is_store e.instruction) as
+    (λ b. cond b (store_at s e ∷ stores_of (s + 1) es) (stores_of (s + 1) es)
+    ≡ cond b (store_at s e ∷ []) [] ++ gathered nothing own_store tt (s + 1) es) [
+      | true ↦ ap (λ ss. store_at s e ∷ ss) (stores-gathered (s + 1) es)
+      | false ↦ stores-gathered (s + 1) es
+    ]
+
+store-at_if : (b : Bool) (s : ℕ) (x : Store) → x.seq ≡ s → All (λ (x : Store). x.seq ≡ s) (cond b (x ∷ []) [])
+store-at_if true s x is = All-cons (λ x. x.seq ≡ s) x [] is (λ k d lt. absurd (omega arith))
+store-at_if false s x is = λ k d lt. absurd (omega arith)
+
+stores-from : (m s : ℕ) (es : List Entry) → m ≤ s → All (λ (x : Store). m ≤ x.seq) (stores_of s es)
+stores-from m s es le =
+    rw (stores-gathered s es)
+    (gathered-from nothing own_store (λ x. x.seq)
+    (λ st s e. store-at_if (is_store e.instruction) s (store_at s e) refl) m tt s es le)
+
+pub stores-below : (n s : ℕ) (es : List Entry) → s + length es ≤ n → AreBelow (λ (x : Store). x.seq) n (stores_of s es)
+stores-below n s es le =
+    rw (stores-gathered s es)
+    (gathered-below nothing own_store (λ x. x.seq)
+    (λ st s e. store-at_if (is_store e.instruction) s (store_at s e) refl) n tt s es le)
+
+pub stores-cut : (n s : ℕ) (es : List Entry) → older_than n (stores_of s es) ≡ stores_of s (entries_below n s es)
+stores-cut n s es =
+    ap (older_than n) (stores-gathered s es) ∙
+    gathered-cut nothing own_store (λ x. x.seq) (λ st s e. store-at_if (is_store e.instruction) s (store_at s e) refl) n tt s es ∙
+    sym (stores-gathered s (entries_below n s es))
+
+-- another prediction leaves the stores as they are
+pub stores-predicting : (next_pc n s : ℕ) (es : List Entry) →
+    stores_of s (with_entry (predicting next_pc) n s es) ≡ stores_of s es
+stores-predicting next_pc n s es =
+    stores-gathered s (with_entry (predicting next_pc) n s es) ∙
+    gathered-same nothing own_store (predicting next_pc) (λ st s e. refl) (λ st s e. refl) n tt s es ∙
+    sym (stores-gathered s es)
+
+-- ---- which of the stores have retired
+silent_state : (b : Option Message) → is_committed_state (store_of_broadcast b) ≡ false
+silent_state None = refl
+silent_state (Some message) = silent_access message.store where
+  silent_access : (access : Option StoreAccess) → is_committed_state (store_of_message access) ≡ false
+  silent_access None = refl
+  silent_access (Some access) = refl
+
+stores-uncommitted : (s : ℕ) (es : List Entry) → filter is_committed (stores_of s es) ≡ []
+stores-uncommitted s [] = refl
+stores-uncommitted s (e ∷ es) =
+    elim (is_store e.instruction) as
+    (λ b. filter is_committed (cond b (store_at s e ∷ stores_of (s + 1) es) (stores_of (s + 1) es)) ≡ []) [
+      | true ↦ rw (silent_state (broadcast_of e.stage)) (stores-uncommitted (s + 1) es)
+      | false ↦ stores-uncommitted (s + 1) es
+    ]
+
+pub all_of_retired : (values : Values) (ss : List Store) → AreRetired values ss → filter is_committed ss ≡ ss
+all_of_retired values [] are = refl
+all_of_retired values (s ∷ ss) are =
+    rw (retired_is_committed values s.seq s.state (All-head (λ (t : Store). IsRetiredStore values t.state) s ss are))
+    (ap (λ l. s ∷ l) (all_of_retired values ss (All-tail (λ (t : Store). IsRetiredStore values t.state) s ss are)))
+
+-- the retired stores of the queue are those of the hardware
+pub retired_of_queue : (h : Hardware) → AreRetired h.values h.committed → filter is_committed (queue_of h).stores ≡ h.committed
+retired_of_queue h are =
+    filter-append is_committed h.committed (stores_of h.rob.retired h.rob.entries)
+    ∙ (λ i. all_of_retired h.values h.committed are i ++ stores-uncommitted h.rob.retired h.rob.entries i)
+    ∙ append-nil h.committed
+
+-- ---- dispatch
+store-first : (o : Option Instr) (serialising : Bool) (finished : Stage) → is_store o ≡ true →
+    broadcast_of (stage_by (kind_of_word o) serialising finished) ≡ None
+store-first (Some (instruction.Store width rs1 rs2 offset)) serialising finished is = refl
+store-first _ serialising finished is = absurd (true≢false (sym is))
+
+with_store-is : (b : Bool) (n : ℕ) (state : StoreState) (queue : Queue) → (b ≡ true → state ≡ store.Waiting) →
+    with_store b n queue ≡ record queue { stores = queue.stores ++ cond b (record { seq = n; state = state } ∷ []) [] }
+with_store-is true n state queue is = let waits = is refl in rw waits refl
+with_store-is false n state queue is = ap (λ ss. record queue { stores = ss }) (sym (append-nil queue.stores))
+
+-- what a dispatch makes of the store queue
+pub stores-push : (committed : List Store) (capacity : ℕ) (rob : ReorderBuffer) (e : Entry) (serialising : Bool) (cycle : ℕ)
+    (message : Message) → e.stage ≡ stage_by (kind_of_word e.instruction) serialising (Finished None cycle message)
+    → (let before : Queue = record { stores = committed ++ stores_of rob.retired rob.entries; capacity = capacity } in
+    let after : Queue = record { stores = committed ++ stores_of rob.retired (rob.entries ++ e ∷ []); capacity = capacity } in
+    after ≡ with_store (is_store e.instruction) (next_number rob) before)
+stores-push committed capacity rob e serialising cycle message at =
+    let s = rob.retired in
+    let es = rob.entries in
+    let n = next_number rob in
+    let more : List Store = cond (is_store e.instruction) (store_at n e ∷ []) [] in
+    ap (λ ss. record { stores = ss; capacity = capacity }) (
+    ap (λ ss. committed ++ ss)
+    (stores-gathered s (es ++ e ∷ []) ∙ gathered-push nothing own_store tt s n es e refl
+    ∙ ap (λ ss. ss ++ more) (sym (stores-gathered s es))) ∙
+    sym (append_assoc committed (stores_of s es) more)
+    ) ∙
+    sym (with_store-is (is_store e.instruction) n (store_of_broadcast (broadcast_of e.stage))
+    (record { stores = committed ++ stores_of s es; capacity = capacity }) (λ is.
+    ap store_of_broadcast (ap broadcast_of at ∙ store-first e.instruction serialising (Finished None cycle message) is)))
+
+-- a further store is younger than all
+pub can_enter : (committed : List Store) (capacity : ℕ) (rob : ReorderBuffer) →
+    AreBelow (λ (x : Store). x.seq) rob.retired committed → length (committed ++ stores_of rob.retired rob.entries) < capacity
+    → CanEnter (next_number rob) (record { stores = committed ++ stores_of rob.retired rob.entries; capacity = capacity })
+can_enter committed capacity rob older room = (
+  room,
+  AreBelow-append (λ (x : Store). x.seq) (next_number rob) committed (stores_of rob.retired rob.entries)
+      (AreBelow-weaken (λ (x : Store). x.seq) rob.retired (next_number rob) committed (omega arith) older)
+      (stores-below (next_number rob) rob.retired rob.entries (omega arith)),
+)
+
+-- ---- a broadcast
+module _ (n : ℕ) (news : StoreState) where
+  answered-other : (ss : List Store) → All (λ (x : Store). (x.seq == n) ≡ false) ss → map (answered n news) ss ≡ ss
+  answered-other [] others = refl
+  answered-other (x ∷ ss) others =
+      rw (All-head (λ (x : Store). (x.seq == n) ≡ false) x ss others)
+      (ap (λ l. x ∷ l) (answered-other ss (All-tail (λ (x : Store). (x.seq == n) ≡ false) x ss others)))
+
+  pub answered-older : (ss : List Store) (m : ℕ) → m ≤ n → AreBelow (λ (x : Store). x.seq) m ss → map (answered n news) ss ≡ ss
+  answered-older ss m le older =
+      answered-other ss (λ k d lt. ne_eqb _ n (λ same. let below = older k d lt in absurd (omega (arith, same, below, le))))
+
+  answered-later : (s : ℕ) (es : List Entry) → n < s → map (answered n news) (stores_of s es) ≡ stores_of s es
+  answered-later s es lt =
+      answered-other (stores_of s es)
+      (λ k d within. ne_eqb _ n
+      (λ same. let from = stores-from s s es (omega arith) k d within in absurd (omega (arith, same, from, lt))))
+
+module _ (n cycle : ℕ) (message : Message) where
+  abbrev news : StoreState
+  news = store_of_message message.store
+
+  answered-own : (s : ℕ) (e : Entry) (b : Option Message) → (s == n) ≡ true → b ≡ None →
+      answered n news (record { seq = s; state = store_of_broadcast b }) ≡ record { seq = s; state = news }
+  answered-own s e b equal silent = rw (silent, equal) refl
+
+  answered-at : (s : ℕ) (e : Entry) → (s == n) ≡ false → answered n news (store_at s e) ≡ store_at s e
+  answered-at s e other = rw other refl
+
+  pub stores-answered : (s : ℕ) (es : List Entry) (e : Entry) → entry_of n s es ≡ Some e → broadcast_of e.stage ≡ None
+      → map (answered n news) (stores_of s es) ≡ stores_of s (with_entry (finished message cycle) n s es)
+  stores-answered s [] e held silent = absurd (cc)
+  stores-answered s (d ∷ es) e held silent = elim (cases_Bool (n == s)) [
+    | inl equal ↦
+        let number : n ≡ s = eqb-true n s equal in
+        let is : Some d ≡ Some e = sym (ap (λ b. cond b (Some d) (entry_of n (s + 1) es)) equal) ∙ held in
+        let one : d ≡ e = cc in
+        let quiet : broadcast_of d.stage ≡ None = rw one silent in
+        let later = answered-later n news (s + 1) es (omega (arith, number)) in
+        rw equal (
+        elim (is_store d.instruction) as
+        (λ b. map (answered n news) (cond b (store_at s d ∷ stores_of (s + 1) es) (stores_of (s + 1) es))
+        ≡ cond b (record { seq = s; state = news } ∷ stores_of (s + 1) es) (stores_of (s + 1) es)) [
+          | true ↦ λ i. answered-own s d (broadcast_of d.stage) (eq-eqb s n (sym number)) quiet i ∷ later i
+          | false ↦ later
+        ]
+        )
+    | inr other ↦
+        let is : entry_of n (s + 1) es ≡ Some e = sym (ap (λ b. cond b (Some d) (entry_of n (s + 1) es)) other) ∙ held in
+        let later = stores-answered (s + 1) es e is silent in
+        rw other (
+        elim (is_store d.instruction) as
+        (λ b. map (answered n news) (cond b (store_at s d ∷ stores_of (s + 1) es) (stores_of (s + 1) es))
+        ≡ cond b (store_at s d ∷ stores_of (s + 1) (with_entry (finished message cycle) n (s + 1) es))
+        (stores_of (s + 1) (with_entry (finished message cycle) n (s + 1) es))) [
+          | true ↦ λ i. answered-at s d (ne_eqb s n (λ back. eqb-false n s other (sym back))) i ∷ later i
+          | false ↦ later
+        ]
+        )
+  ]
+
+-- the queue with a broadcast told to it
+pub queue-answered : (n cycle : ℕ) (message : Message) (committed : List Store) (s : ℕ) (es : List Entry) (e : Entry) →
+    AreBelow (λ (x : Store). x.seq) s committed → entry_of n s es ≡ Some e → broadcast_of e.stage ≡ None
+    → map (answered n (store_of_message message.store)) (committed ++ stores_of s es)
+    ≡ committed ++ stores_of s (with_entry (finished message cycle) n s es)
+queue-answered n cycle message committed s es e older held silent =
+    map-append (answered n (store_of_message message.store)) committed (stores_of s es) ∙
+    (λ i. answered-older n (store_of_message message.store) committed s
+    (entry_of-from n s es e held).0 older i ++ stores-answered n cycle message s es e held silent i)
+
+-- the queue without the stores from a number on that have not retired
+pub queue-squashed : (n : ℕ) (committed : List Store) (s : ℕ) (es : List Entry) → s ≤ n →
+    AreBelow (λ (x : Store). x.seq) s committed
+    → older_than n (committed ++ stores_of s es) ≡ committed ++ stores_of s (entries_below n s es)
+queue-squashed n committed s es le older =
+    below-append (λ (x : Store). x.seq) n committed (stores_of s es) ∙
+    (λ i. below-all (λ (x : Store). x.seq) n committed
+    (AreBelow-weaken (λ (x : Store). x.seq) s n committed le older) i ++ stores-cut n s es i)
