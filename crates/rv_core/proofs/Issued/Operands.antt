@@ -1,5 +1,6 @@
 -- The operands in a station are what the definition reads after the older instructions.
-use Rattle.rv_core.proofs.Words.{◌≡◌, ℕ, ◌+◌, ◌<◌, Bool, true, false, cond, ◌&&◌, ◌≢◌, List, [], ◌∷◌, map, length, is_some, IfSome, nat_eq, slice_index, slice_index_or, Some, None, All, Option, sym, refl, ap, ◌∙◌, inl, inr, length-set, get_or-set_other, get_or-set_same, eqb-true, cases_Bool, cond-false, cond-true, eqb-false, All-head, All-tail, is_target, target_of_word, sources_of, target_of, written, Message, Instr, Auipc, Csr, Jal, Jalr, Load, Lui, Op, OpImmediate, Shift, State, with_register, Entry, broadcast_of, is_known_from, registers_behind, with_value, has_operands, and-true, has_value, is_ready_station, ready_of, ready_with, Operand, Tag, Value, Ready, Station, is_known, Reads, operand_value, RegisterStatus, operand_by, operand_of, status_behind, status_with, values_in, waiting_of}
+use Rattle.rv_core.proofs.Words.{◌≡◌, ℕ, ◌+◌, ◌<◌, Bool, true, false, cond, ◌&&◌, ◌≢◌, List, [], ◌∷◌, map, length, is_some, IfSome, nat_eq, slice_index, slice_index_or, Some, None, All, Option, sym, refl, ap, ◌∙◌, inl, inr, get_or-set_other, get_or-set_same, eqb-true, cases_Bool, cond-false, cond-true, eqb-false, All-head, All-tail, is_target, target_of_word, sources_of, target_of, written, Message, Instr, Auipc, Csr, Jal, Jalr, Load, Lui, Op, OpImmediate, Shift, State, with_register, Entry, broadcast_of, is_known_from, registers_behind, with_value, has_operands, and-true, has_value, is_ready_station, ready_of, ready_with, Operand, Tag, Value, Ready, Station, is_known, Reads, operand_value, RegisterStatus, operand_by, operand_of, status_behind, status_with, values_in, waiting_of}
+use Rattle.rv_hardware.proofs.Headline.Known.{length-with_value}
 use Rattle.rv_isa.specs.declared.instructions.CsrSource.TheVariants as source
 use Rattle.rv_hardware.specs.InFlight.{writes}
 
@@ -79,17 +80,6 @@ with_register-same registers t v positive within =
       | inl none ↦ absurd (positive (eqb-true t 0 none))
       | inr some ↦ rw some (get_or-set_same registers t v 0 within)
     ]
-
-length-with_register : (b : Bool) (registers : List ℕ) (t v : ℕ) → nat_eq t 0 ≡ b →
-    length (with_register registers t v) ≡ length registers
-length-with_register true registers t v is = rw is refl
-length-with_register false registers t v is = rw is (length-set registers t v)
-
-length-with_value : (registers : List ℕ) (target : Option ℕ) (o : Option Message) →
-    length (with_value registers target o) ≡ length registers
-length-with_value registers None o = refl
-length-with_value registers (Some t) None = refl
-length-with_value registers (Some t) (Some message) = length-with_register (nat_eq t 0) registers t message.value refl
 
 tells_by : (status : RegisterStatus) (registers : List ℕ) (seq : ℕ) (target : Option ℕ) (o : Option Message) →
     IfSome target (λ t. t < length registers) → ((t : ℕ) → target ≡ Some t → t ≢ 0) → Tells status registers → (r v : ℕ) →

@@ -1,5 +1,6 @@
 -- A station is ready, and passes the code's test, where the definition finds its instruction ready.
-use Rattle.rv_core.proofs.Words.{◌≡◌, ℕ, ◌+◌, ◌<◌, Bool, true, false, not, ◌&&◌, ◌||◌, List, ◌∷◌, ◌++◌, length, ℤ, IfSome, nat_le, slice_index, Some, None, All, Option, sym, refl, ap, ◌∙◌, arith, length-append, and_parts, list_all, is_same-true, is_load, is_of_kind, kind_of_word, sources_of_word, target_of_word, bytes_of, width_of, modulo_word, sum, Instr, Load, Kind, LoadForm, is_known_store, Store, Entry, is_stationed, Hardware, is_waiting, registers_behind, has_operands, has_port, is_ready_entry, may_load, path_of_word, layout_of, seen_behind, stores_behind, get_or_append_left, AreBelow, kind_of, Alu, Div, Mem, Mul, first_unknown, older_than, has_value, is_ready_station, Operand, Tag, Value, Station, path_of_load, is_operation, is_known_before, may_go, needs_port, path_of, RegisterStatus, status_behind, values_in, waiting_of}
+use Rattle.rv_core.proofs.Words.{◌≡◌, ℕ, ◌+◌, ◌<◌, Bool, true, false, not, ◌&&◌, ◌||◌, List, ◌∷◌, ◌++◌, length, ℤ, IfSome, nat_le, slice_index, Some, All, Option, sym, refl, ap, ◌∙◌, arith, length-append, and_parts, list_all, is_load, is_of_kind, kind_of_word, sources_of_word, target_of_word, bytes_of, width_of, modulo_word, sum, Instr, Load, Kind, LoadForm, is_known_store, Store, Entry, is_stationed, Hardware, is_waiting, registers_behind, has_operands, has_port, is_ready_entry, may_load, path_of_word, layout_of, seen_behind, stores_behind, get_or_append_left, AreBelow, kind_of, Alu, Div, Mem, Mul, first_unknown, older_than, has_value, is_ready_station, Operand, Tag, Value, Station, path_of_load, is_operation, is_known_before, may_go, needs_port, path_of, RegisterStatus, status_behind, values_in, waiting_of}
+use Rattle.rv_hardware.proofs.Marks.Sound.{is_of_kind_is}
 use Rattle.rv_core.proofs.Issued.Operands.{Tells, is_known-status, is_ready-known, tells_at}
 use Rattle.rv_core.proofs.Issued.Search.{Agree, PassBy}
 use Rattle.rv_core.proofs.Issued.Stores.{known-behind, older_than-behind}
@@ -23,15 +24,10 @@ away_by : (stationed operands may : Bool) → stationed ≡ false → ((statione
 away_by false operands may s = refl
 away_by true operands may s = absurd (cc)
 
--- an instruction in the stations of a kind is of that kind
-of_kind : (kind : Kind) (found : Option Kind) → is_of_kind kind found ≡ true → found ≡ Some kind
-of_kind kind None is = absurd (cc)
-of_kind kind (Some other) is = ap (λ (k : Kind). Some k) (sym (is_same-true kind other is))
-
 -- an instruction that has a station of a kind is of that kind
 pub kind_there : (kind : Kind) (e : Entry) → is_stationed kind e ≡ true → kind_of_word e.instruction ≡ Some kind
 kind_there kind e is =
-    of_kind kind (kind_of_word e.instruction) (and_parts (is_waiting e.stage) (is_of_kind kind (kind_of_word e.instruction)) is).1
+    is_of_kind_is kind (kind_of_word e.instruction) (and_parts (is_waiting e.stage) (is_of_kind kind (kind_of_word e.instruction)) is).1
 
 -- loads are of the memory's kind
 not_load : (kind : Kind) (i : Instr) → is_operation (Some kind) ≡ true → kind_of i ≡ Some kind → is_load (Some i) ≡ false

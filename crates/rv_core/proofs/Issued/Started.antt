@@ -1,15 +1,6 @@
 -- The start of an instruction changes one of a list of entries, and what that list tells by this one alone.
-use Rattle.rv_core.proofs.Words.{◌≡◌, ℕ, suc, ◌+◌, ◌<◌, ◌≤◌, true, false, cond, ◌≢◌, List, [], ◌∷◌, ◌++◌, length, nat_eq, nat_lt, Some, None, All, Option, sym, refl, ap, ◌∙◌, append_assoc, arith, le-ltb, lt-ltb, eq-eqb, ne_eqb, cond-false, cond-true, All-cons, All-head, All-tail, is_store, Message, Instr, Issue, Kind, Store, started, with_entry, Entry, Stage, Finished, Running, Waiting, is_stationed, broadcast_of, is_waiting, store_of_broadcast, stores_of, holds, placed, PendingResult, RegisterStatus, pending_from, pending_of, status_with, waiting_at, waiting_from, waiting_of}
+use Rattle.rv_core.proofs.Words.{◌≡◌, ℕ, suc, ◌+◌, ◌<◌, ◌≤◌, true, false, cond, ◌≢◌, List, [], ◌∷◌, ◌++◌, length, nat_lt, Some, None, All, Option, sym, refl, ap, ◌∙◌, append_assoc, arith, le-ltb, lt-ltb, ne_eqb, cond-false, cond-true, All-cons, All-head, All-tail, is_store, Message, Instr, Issue, Kind, Store, started, Entry, Stage, Finished, Running, Waiting, is_stationed, broadcast_of, is_waiting, store_of_broadcast, stores_of, holds, placed, PendingResult, RegisterStatus, pending_from, pending_of, status_with, waiting_at, waiting_from, waiting_of}
 use Rattle.rv_core.proofs.Issued.Search.{status_started}
-
--- the entry of a number
-pub with_entry-at : (change : Entry → Entry) (n first : ℕ) (before : List Entry) (e : Entry) (rest : List Entry) →
-    n ≡ first + length before → with_entry change n first (before ++ e ∷ rest) ≡ before ++ change e ∷ rest
-with_entry-at change n first [] e rest at =
-    let same : n ≡ first = omega arith in cond-true (nat_eq n first) _ _ (eq-eqb n first same)
-with_entry-at change n first (x ∷ before) e rest at =
-    cond-false (nat_eq n first) _ _ (ne_eqb n first (λ same. omega (arith, same, at)))
-    ∙ ap (λ l. x ∷ l) (with_entry-at change n (first + 1) before e rest (omega arith))
 
 module _ (issue : Issue) (message : Message) (e : Entry) (rest : List Entry) where
   abbrev e' : Entry

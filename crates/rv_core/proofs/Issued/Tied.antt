@@ -1,9 +1,10 @@
 -- After the start of an instruction the parts are still told by the instructions in flight.
 use Rattle.rv_core.proofs.Words.{◌≡◌, ℕ, ◌+◌, ◌^◌, ◌<◌, ◌≤◌, Bool, true, false, List, ◌∷◌, ◌++◌, length, All, sym, refl, ap, ◌∙◌, arith, and_right, All-head, is_of_kind, is_serialising, is_store, kind_of_word, at_kind, with_kind, Message, Issue, Kind, PerKind, Memory, Contents, UnitPool, started, ReorderBuffer, changed, Entry, is_stationed, Hardware, is_waiting, stores_of, All-right, at_kind-by_kind, with_kind-by_kind, Queue, Pool, taken_from, without_oldest_ready, Station, Pending, holds, placed, Renaming, AreSoundEntries, IsDescribedCache, IsLegalWrite, IsSoundEntry, IsSoundHardware, AreTied, bus_of, pending_from, pool_of_kind, stations_of, values_in, waiting_from}
+use Rattle.rv_hardware.proofs.Oldest.{with_entry-at}
 use Rattle.rv_units.specs.Bus.{with_result}
 use Rattle.rv_core.proofs.Issued.Ready.{kind_there}
 use Rattle.rv_core.proofs.Issued.Search.{waits}
-use Rattle.rv_core.proofs.Issued.Started.{All_started, others_started, pending_absent, pending_room, pending_started, stores_started, with_entry-at}
+use Rattle.rv_core.proofs.Issued.Started.{All_started, others_started, pending_absent, pending_room, pending_started, stores_started}
 use Rattle.rv_core.proofs.Ties.Entries.{length-with_entry, pairs-with_entry}
 use Rattle.rv_core.proofs.Ties.Renaming.{renaming-same}
 
@@ -36,7 +37,7 @@ module _ (h : Hardware) (kind : Kind) (before : List Entry) (e : Entry) (rest : 
     entries_started : rob_started.entries ≡ before ++ started issue message e ∷ rest
     entries_started =
         ap (λ es. (changed (started issue message) n (record h.rob { entries = es })).entries) split
-        ∙ with_entry-at (started issue message) n h.rob.retired before e rest at
+        ∙ with_entry-at (started issue message) n h.rob.retired before rest e at
 
     stationed : (stations : PerKind Pool) (test : Station → Bool) → stations ≡ stations_of h.values h.registers h.rob →
         without_oldest_ready test (waiting_from kind (values_in h.registers) h.rob.retired h.rob.entries)

@@ -1,19 +1,8 @@
 -- The head retires: what holds of the hardware goes on to hold.
-use Rattle.rv_core.proofs.Words.{◌≡◌, ℕ, suc, ◌+◌, ◌*◌, ◌<◌, Bool, true, false, List, ◌∷◌, ◌++◌, length, if◌then◌else◌, ◌==◌, slice_set, Some, None, All, Option, AllPairs, sym, refl, ap, ◌∙◌, subst, append-nil, arith, length-set, All-tail, is_serialising, is_store, target_of_word, Message, StoreAccess, Values, with_register, Store as QueuedStore, Committed, Filled, ReorderBuffer, head_retired, Entry, Hardware, with_value, committed_store, with_result, All-push, AreBelow-push, AreBelow-weaken, AreSoundEntries, AreSoundStores, IsLegalWrite, IsRetiredStore, IsSoundEntry, IsSoundHardware}
+use Rattle.rv_core.proofs.Words.{◌≡◌, ℕ, suc, ◌+◌, ◌*◌, ◌<◌, Bool, true, false, List, ◌∷◌, ◌++◌, length, Some, None, All, Option, AllPairs, sym, ap, ◌∙◌, subst, append-nil, arith, All-tail, is_serialising, is_store, target_of_word, Message, StoreAccess, Values, Store as QueuedStore, Committed, Filled, ReorderBuffer, head_retired, Entry, Hardware, committed_store, with_result, All-push, AreBelow-push, AreBelow-weaken, AreSoundEntries, AreSoundStores, IsLegalWrite, IsRetiredStore, IsSoundEntry, IsSoundHardware}
+use Rattle.rv_hardware.proofs.Headline.Known.{length-with_value}
 use Rattle.rv_core.proofs.Retired.Head.{buffer_behind}
 use Rattle.rv_core.proofs.Retired.Stores.{AreRetired}
-
-pub register_count : (registers : List ℕ) (r value : ℕ) → length (with_register registers r value) ≡ length registers
-register_count registers r value = kept (r == 0) registers r value where
-  kept : (is_zero : Bool) (registers : List ℕ) (r value : ℕ) →
-      length (if is_zero then registers else slice_set registers r value) ≡ length registers
-  kept true registers r value = refl
-  kept false registers r value = length-set registers r value
-
-value_count : (registers : List ℕ) (target : Option ℕ) (m : Message) →
-    length (with_value registers target (Some m)) ≡ length registers
-value_count registers None m = refl
-value_count registers (Some r) m = register_count registers r m.value
 
 -- the retired stores, with what the head writes
 retired_with : (values : Values) (ss : List QueuedStore) (seq : ℕ) (is_store : Bool) (written : Option StoreAccess) →
@@ -55,7 +44,7 @@ sound_behind_head h e es m sound entries room legal = record {
   legal = sound.legal;
   cycles = sound.cycles;
   port = sound.port;
-  registers = value_count h.registers (target_of_word e.instruction) m ∙ sound.registers;
+  registers = length-with_value h.registers (target_of_word e.instruction) (Some m) ∙ sound.registers;
   cache = sound.cache;
   entries = entries_behind_head h.values h.cycle h.rob e es sound.entries entries room;
   stores =

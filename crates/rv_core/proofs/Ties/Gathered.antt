@@ -1,6 +1,10 @@
 -- What instructions in flight give, one after another, keeps its numbers, and a cut or a push of them is one of it.
 use Rattle.rv_core.proofs.Words.{◌≡◌, ℕ, ◌+◌, ◌≤◌, true, false, cond, List, [], ◌∷◌, ◌++◌, length, ◌==◌, All, sym, refl, ap, ◌∙◌, inl, inr, append_assoc, append-nil, arith, length-append, le-ltb, lt-ltb, cases_lt, All-append, entries_below, with_entry, Entry, AreBelow, below, AreBelow-append, below-all, below-append, below-none}
 
+-- the state of what needs none
+abbrev pub nothing : Unit {0} → ℕ → Entry → Unit {0}
+nothing st s e = tt
+
 module _ {S : Type 0} (next : S → ℕ → Entry → S) where
   -- the state after some instructions, the first of which has a sequence number
   abbrev pub behind : S → ℕ → List Entry → S
