@@ -1,15 +1,12 @@
 -- What is counted of the cycles of a run is what their reports tell, with each cycle that comes.
-use Rattle.rv_core.proofs.Words.{◌≡◌, ℕ, suc, ◌+◌, ◌≤◌, max, Bool, true, false, cond, not, List, [], ◌∷◌, ◌++◌, length, ◌==◌, Some, None, Option, sym, refl, ap, ◌∙◌, append_assoc, arith, length-append, Arrival, Report, NoneStops, busy_of, counted_stall, is_silent, longest_gap_from, stalls_from, stalls_of, steps_of, le-max_left, le-max_right, max-eq_right, max-le, count_by-le-length, sum_by-append, sum_by, GuidedCycles, GuidedHardware, guided_ended as ended, Stall, StallCounts, Step, IsBounded, last_stall_of, progress_after, progress_of, silence_after, silence_from, IsRun, Progress}
+use Rattle.rv_core.proofs.Words.{◌≡◌, ℕ, suc, ◌+◌, ◌≤◌, max, Bool, true, false, cond, not, List, [], ◌∷◌, ◌++◌, length, ◌==◌, Some, None, Option, sym, refl, ap, ◌∙◌, append_assoc, append-nil, arith, length-append, Arrival, Report, NoneStops, busy_of, counted_stall, is_silent, longest_gap_from, stalls_from, stalls_of, steps_of, le-max_left, le-max_right, max-eq_right, max-le, count_by-le-length, sum_by-append, sum_by, GuidedCycles, GuidedHardware, guided_ended as ended, Stall, StallCounts, Step, IsBounded, last_stall_of, progress_after, progress_of, silence_after, silence_from, IsRun, Progress}
 use Rattle.rv_hardware.specs.declared.report.Stall.TheVariants as stall
 
 -- ---- each count, with one more report at the end
 
 -- a cycle's steps come after those before it
 pub steps_of-push : (rs : List Report) (r : Report) → steps_of (rs ++ r ∷ []) ≡ steps_of rs ++ r.steps
-steps_of-push [] r = append-none r.steps where
-  append-none : (xs : List Step) → xs ++ [] ≡ xs
-  append-none [] = refl
-  append-none (x ∷ xs) = ap (λ l. x ∷ l) (append-none xs)
+steps_of-push [] r = append-nil r.steps
 steps_of-push (x ∷ rs) r = ap (λ l. x.steps ++ l) (steps_of-push rs r) ∙ sym (append_assoc x.steps (steps_of rs) r.steps)
 
 stalls_from-push : (counts : StallCounts) (rs : List Report) (r : Report) →
