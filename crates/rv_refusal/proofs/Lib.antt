@@ -3,3 +3,4 @@ pub mod Distance
 pub mod Faulty
 pub mod Named
 pub mod Passed
+pub mod Spelled

@@ -6,7 +6,7 @@ use Rattle.rv_asm.specs.declared.fault.AsmFault.{AsmFault}
 use Rattle.rv_asm.specs.declared.fault.AsmFault.TheVariants.{BadToken}
 use Rattle.rv_refusal.specs.Culprit.{culprit_on}
 
--- How far the token is that so many tokens stand before, given what stands at the front and how far it is from behind that; nothing is
+-- How far the token is that so many tokens stand before, given what stands at the front and how far it is after that; nothing is
 -- passed over that is no token.
 abbrev pub distance_from : Option Lexeme → ℕ → (ℕ → ℕ → ℕ) → ℕ
 distance_from None before further = 0

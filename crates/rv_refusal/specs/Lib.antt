@@ -10,3 +10,4 @@ pub mod Place
 pub mod Range
 pub mod Refusal
 pub mod Statement
+pub mod Unfit

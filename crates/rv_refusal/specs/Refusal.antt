@@ -3,13 +3,14 @@ use Rattle.std.specs.Prelude.{ℕ, List, [], ◌++◌, codes}
 use Rattle.rv_asm.specs.declared.fault.{AsmError.AsmError, AsmFault.AsmFault}
 use Rattle.rv_job.specs.Parts.{parts_of}
 use Rattle.rv_job.specs.declared.errors.SimError.{SimError}
-use Rattle.rv_job.specs.declared.errors.SimError.TheVariants.{TooLong, Assembly}
+use Rattle.rv_job.specs.declared.errors.SimError.TheVariants.{TooLong, Assembly, ImageDoesNotFit}
 use Rattle.rv_refusal.specs.Caret.{caret_line}
 use Rattle.rv_refusal.specs.Expected.{expected}
 use Rattle.rv_refusal.specs.Further.{further_lines}
 use Rattle.rv_refusal.specs.Lines.{line_at, lines_before}
 use Rattle.rv_refusal.specs.Near.{nearest_line}
 use Rattle.rv_refusal.specs.Place.{place_line, shown_line}
+use Rattle.rv_refusal.specs.Unfit.{unfit_lines}
 
 -- a fault of a line with a caret below it, and what was expected there
 unfoldable pub line_text : ℕ → ℕ → AsmFault → List ℕ → List ℕ
@@ -28,4 +29,5 @@ refusal_text text TooLong = codes "expected: at most 33554432 bytes\n"
 refusal_text text (Assembly error) =
     let assembly = (parts_of text).assembly in
     assembly_text (lines_before text assembly) assembly error
+refusal_text text ImageDoesNotFit = unfit_lines text
 refusal_text text _ = []

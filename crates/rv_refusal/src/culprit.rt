@@ -1,76 +1,17 @@
-ghost use Rattle.std.specs.Prelude.{◌≡◌, ◌≤◌, IfOk, false, length, map, option_map};
-ghost use Rattle.std.specs.List.{before_first, find, list_all, position_or_len};
+ghost use Rattle.std.specs.Prelude.{◌≡◌, IfOk, false, map, option_map};
+ghost use Rattle.std.specs.List.{find, list_all};
 ghost use Rattle.std.specs.Option.{option_map_or};
 ghost use Rattle.rv_asm.specs.Layout.{body_of};
 ghost use Rattle.rv_asm.specs.Meaning.{fits_width};
-ghost use Rattle.rv_asm.specs.Operand.{is_comma};
-ghost use Rattle.rv_asm.specs.Read.{operand_of, token_of, tokens_in};
+ghost use Rattle.rv_asm.specs.Read.{operand_of, tokens_in};
 ghost use Rattle.rv_asm.specs.Statement.{is_implied};
-ghost use Rattle.rv_refusal.specs.Culprit.{culprit_among, culprit_of, culprit_on, definition_on, defines, from_register, has_base, has_unknown_register, holds_register, holds_value, is_culprit, is_misfit, is_of_definition, is_of_operands, is_of_register, is_of_shape, is_past_csrs, is_too_wide, is_unnamed, is_wrong_value, marked, may_be_out_of_range, only, operand_at, operand_of_fault, operands_on, unless_empty};
+ghost use Rattle.rv_refusal.specs.Culprit.{culprit_among, culprit_of, culprit_on, definition_on, defines, has_unknown_register, holds_register, holds_value, is_culprit, is_misfit, is_of_definition, is_of_operands, is_of_register, is_of_shape, is_past_csrs, is_too_wide, is_unnamed, is_wrong_value, marked, may_be_out_of_range, only, operand_at, operand_of_fault, unless_empty};
 
+use crate::operand_tokens::{from_register, operand_at, operands_on};
 use crate::statement::behind_labels;
-use rv_asm::{
-    AsmFault, Expression, Form, Operand, Place, Token, form_named, read_operand, register_named,
-};
+use rv_asm::{AsmFault, Expression, Form, Operand, Place, Token, form_named, register_named};
 use rv_isa::Width;
 use std::alloc::{AllocError, Global};
-
-fn is_comma(token: &Token<'_>) -> bool
-    ensures { result ≡ is_comma (token_of token.now) }
-{
-    matches!(*token, Token::Comma)
-}
-
-// The tokens from each operand on.
-fn operands_on<'t, 'a>(
-    alloc: Global,
-    tokens: &'t [Token<'a>],
-) -> Result<Vec<&'t [Token<'a>]>, AllocError>
-    ensures { IfOk result (λ operands. map (λ operand. tokens_in operand.now) operands.items ≡ operands_on (tokens_in tokens.entry.now)) }
-{
-    let mut operands = Vec::new(alloc);
-    if tokens.is_empty() {
-        return Ok(operands);
-    }
-    operands.push(tokens)?;
-    let mut rest = tokens;
-    while let [first, others @ ..] = rest {
-        if is_comma(first) {
-            operands.push(others)?;
-        }
-        rest = others;
-    }
-    Ok(operands)
-}
-
-// How many tokens stand before the first comma.
-fn own_count(tokens: &[Token<'_>]) -> usize
-    ensures count { result ≡ position_or_len is_comma (tokens_in tokens.now) }
-    ensures in_range { result ≤ length tokens.now }
-{
-    for (count, token) in tokens.iter().enumerate() {
-        if is_comma(token) {
-            return count;
-        }
-    }
-    tokens.len()
-}
-
-// The tokens before the first comma.
-fn own_tokens<'t, 'a>(tokens: &'t [Token<'a>]) -> &'t [Token<'a>]
-    ensures own { tokens_in result.now ≡ before_first is_comma (tokens_in tokens.entry.now) }
-    ensures size { length result.now ≤ length tokens.entry.now }
-{
-    let (own, _) = tokens.split_at(own_count(tokens));
-    own
-}
-
-// The operand that tokens begin with, if it is one.
-fn operand_at<'a>(tokens: &[Token<'a>]) -> Option<Operand<'a>>
-    ensures { option_map operand_of result ≡ operand_at (tokens_in tokens.now) }
-{
-    read_operand(own_tokens(tokens))
-}
 
 fn holds_value(place: Place) -> bool
     ensures { result ≡ holds_value place }
@@ -317,27 +258,6 @@ fn is_of_operands(fault: AsmFault) -> bool
             | AsmFault::UnknownSymbol
             | AsmFault::OutOfRange
     )
-}
-
-// Whether an operand has a register in parentheses.
-fn has_base(written: Option<Operand<'_>>) -> bool
-    ensures { result ≡ option_map_or has_base (option_map operand_of written.entry) false }
-{
-    match written {
-        Some(Operand::Indirect(_, _)) => true,
-        _ => false,
-    }
-}
-
-// An operand with a register in parentheses from the register's name on.
-fn from_register<'t, 'a>(tokens: &'t [Token<'a>]) -> &'t [Token<'a>]
-    ensures { tokens_in result.now ≡ from_register (tokens_in tokens.entry.now) }
-{
-    if !has_base(operand_at(tokens)) {
-        return tokens;
-    }
-    let (_, from) = tokens.split_at(own_count(tokens).saturating_sub(2));
-    from
 }
 
 fn is_of_register(fault: AsmFault) -> bool

@@ -10,6 +10,7 @@ mod further;
 mod lines;
 mod names;
 mod near;
+mod operand_tokens;
 mod operands;
 mod place;
 mod ranges;
@@ -17,6 +18,7 @@ mod refusal;
 mod statement;
 mod symbols;
 mod text;
+mod unfit;
 mod unknown;
 
 pub use refusal::write_refusal;

@@ -4,6 +4,7 @@ ghost use Rattle.rv_text.specs.IsText.{IsText};
 
 use crate::assembly::add_assembly;
 use crate::lines::lines_before;
+use crate::unfit::add_unfit;
 use rv_job::{SimError, cut_into_parts};
 use rv_text::{ReportError, TextError, put};
 use std::alloc::{AllocError, Global};
@@ -24,6 +25,7 @@ fn refusal(alloc: Global, text: &[u8], error: SimError) -> Result<Vec<u8>, Alloc
             let before = lines_before(text, assembly);
             add_assembly(alloc, &mut out, before, assembly, error)?;
         }
+        SimError::ImageDoesNotFit => add_unfit(alloc, &mut out, text)?,
         _ => {}
     }
     Ok(out)

@@ -1,3 +1,5 @@
+mod parts;
+
 use crate::checks::check_bytes;
 use rv_job::{SimError, read_job};
 use rv_refusal::write_refusal;
@@ -7,9 +9,9 @@ use std::test::Fail;
 
 // A job that is refused, and why.
 #[derive(Clone, Copy, Debug)]
-struct Refused {
-    job: &'static [u8],
-    why: &'static [u8],
+pub(crate) struct Refused {
+    pub(crate) job: &'static [u8],
+    pub(crate) why: &'static [u8],
 }
 
 const REFUSED: [Refused; 15] = [
@@ -178,18 +180,23 @@ and 1 more
     },
 ];
 
-#[test]
-fn a_refusal_shows_the_line_and_what_was_expected(rt: HostRuntime) -> Result<(), Fail> {
-    for it in &REFUSED {
-        let Err(error) = read_job(rt.alloc(), it.job) else {
+// Checks that this is shown of each job.
+pub(crate) fn check_whole(rt: &impl Abort, alloc: Global, cases: &[Refused]) -> Result<(), Fail> {
+    for it in cases {
+        let mut shown = Vec::new(alloc);
+        let Err(error) = read_job(alloc, it.job) else {
             assert!(rt; false, "a job that is refused");
             return Ok(());
         };
-        let mut shown = Vec::new(rt.alloc());
-        write_refusal(rt.alloc(), it.job, error, &mut shown)?;
-        check_bytes(&rt, shown.as_slice(), it.why);
+        write_refusal(alloc, it.job, error, &mut shown)?;
+        check_bytes(rt, shown.as_slice(), it.why);
     }
     Ok(())
+}
+
+#[test]
+fn a_refusal_shows_the_line_and_what_was_expected(rt: HostRuntime) -> Result<(), Fail> {
+    check_whole(&rt, rt.alloc(), &REFUSED)
 }
 
 const JUMP: &str = "\nexpected: a target from -1048576 to 1048574 bytes away\n";

@@ -1,7 +1,7 @@
 use Rattle.std.proofs.Common.{◌≡◌, ◌++◌, length, map}
 use Rattle.rv_asm.specs.Read.{tokens_in}
 use Rattle.rv_refusal.specs.Culprit.{later_operands, operands_on}
-use Rattle.rv_refusal.proofs.culprit.operands_on.Given as goal
+use Rattle.rv_refusal.proofs.operand_tokens.operands_on.Given as goal
 
 -- the operands so far, and those of the rest
 abbrev pub invariant-loop-rest : goal.invariant-loop-rest

@@ -1,0 +1,84 @@
+ghost use Rattle.std.specs.Prelude.{◌≡◌, ◌++◌, IfOk, OnOk};
+ghost use Rattle.std.specs.Result.{result_ok};
+ghost use Rattle.rv_describe.specs.Description.{description_of};
+ghost use Rattle.rv_refusal.specs.Unfit.{image_size, sizes_lines, unfit_lines, unfit_on};
+
+use crate::text::add_all;
+use itoa::Buffer;
+use rv_asm::{AsmFault, assemble};
+use rv_describe::{DescriptionError, read_description};
+use rv_isa::Description;
+use rv_job::cut_into_parts;
+use std::alloc::{AllocError, Global};
+
+// The machine that a part of a job describes, if it has no fault.
+fn described(alloc: Global, part: &[u8]) -> Result<Option<Description>, AllocError>
+    ensures { IfOk result (λ machine. machine ≡ result_ok (description_of part.now)) }
+{
+    match read_description(alloc, part) {
+        Ok(machine) => Ok(Some(machine)),
+        Err(DescriptionError::Memory) => Err(AllocError),
+        Err(_) => Ok(None),
+    }
+}
+
+// How many bytes the image of an assembly has, where RAM begins at a base, if the assembly has no fault.
+#[tactic(auto, unfolding(crate::specs::Unfit::image_size))]
+fn image_size(alloc: Global, base: u32, assembly: &[u8]) -> Result<Option<usize>, AllocError>
+    ensures { IfOk result (λ size. size ≡ image_size base assembly.now) }
+{
+    match assemble(alloc, assembly, base) {
+        Ok(image) => Ok(Some(image.bytes.len())),
+        Err(error) if error.fault == AsmFault::Memory => Err(AllocError),
+        Err(_) => Ok(None),
+    }
+}
+
+// Appends the lines on an image of so many bytes, where RAM has so many.
+#[tactic(auto, unfolding(crate::specs::Unfit::sizes_lines))]
+fn add_sizes(out: &mut Vec<u8>, ram: u32, image: usize) -> Result<(), AllocError>
+    ensures { OnOk result (out.new.items ≡ out.old.items ++ sizes_lines ram image) }
+{
+    let mut of_ram = Buffer::new();
+    let ram = of_ram.format(ram).as_bytes();
+    let mut of_image = Buffer::new();
+    let image = of_image.format(image).as_bytes();
+    add_all(
+        out,
+        &[
+            b"the image has ",
+            image,
+            b" bytes, the RAM that is described ",
+            ram,
+            b" bytes\nexpected: a shorter program, or a greater ram_size\n",
+        ],
+    )
+}
+
+// Appends the lines on the image of an assembly on a machine.
+fn add_unfit_on(
+    alloc: Global,
+    out: &mut Vec<u8>,
+    assembly: &[u8],
+    machine: &Description,
+) -> Result<(), AllocError>
+    ensures { OnOk result (out.new.items ≡ out.old.items ++ unfit_on assembly.now machine.now) }
+{
+    let values = machine.values();
+    match image_size(alloc, values.ram_base, assembly)? {
+        Some(size) => add_sizes(out, values.ram_size, size),
+        None => Ok(()),
+    }
+}
+
+/// Appends the lines on the image of a job, where its description and its assembly have no fault.
+#[tactic(auto, unfolding(crate::specs::Unfit::unfit_lines))]
+pub(crate) fn add_unfit(alloc: Global, out: &mut Vec<u8>, text: &[u8]) -> Result<(), AllocError>
+    ensures { OnOk result (out.new.items ≡ out.old.items ++ unfit_lines text.now) }
+{
+    let parts = cut_into_parts(text);
+    match described(alloc, parts.description)? {
+        Some(machine) => add_unfit_on(alloc, out, parts.assembly, &machine),
+        None => Ok(()),
+    }
+}
