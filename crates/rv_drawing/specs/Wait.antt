@@ -26,17 +26,17 @@ result_text register pc =
 unfoldable pub producer_text : List ℕ → Producer → List ℕ
 producer_text before producer = before ++ result_text producer.register producer.pc
 
--- where it waits for no result
-unfoldable pub unit_wait : Option Kind → List ℕ
-unit_wait None = codes "wait for the head"
-unit_wait (Some kind.Alu) = codes "wait for a unit"
-unit_wait (Some kind.Mul) = codes "wait for a unit"
-unit_wait (Some kind.Div) = codes "wait for a unit"
-unit_wait (Some kind.Mem) = codes "wait for a unit, the port or older stores"
+-- what an instruction of a kind waits for until its issue where it waits for no result; of no kind it waits for its end
+unfoldable pub unit_text : Option Kind → List ℕ
+unit_text None = codes "the head"
+unit_text (Some kind.Alu) = codes "a unit"
+unit_text (Some kind.Mul) = codes "a unit"
+unit_text (Some kind.Div) = codes "a unit"
+unit_text (Some kind.Mem) = codes "a unit, the port or older stores"
 
 -- where it may wait for one result alone
 unfoldable pub one_wait : Option Kind → Option Producer → List ℕ
-one_wait kind None = unit_wait kind
+one_wait kind None = codes "wait for " ++ unit_text kind
 one_wait kind (Some producer) = producer_text (codes "wait for ") producer
 
 -- a second result

@@ -24,4 +24,6 @@ mod window;
 
 pub use svg::write_picture_svg;
 pub use text::write_picture_text;
+pub use title::write_correction;
+pub use wait::{unit_name, write_result};
 pub use window::Window;

@@ -11,8 +11,12 @@ use rv_passage::{Ending, Passage};
 use rv_text::{ReportError, hexadecimal, put, put_all};
 use std::io::Write;
 
+/// Writes where the program went on after a branch or a jump, if not where that was predicted.
 #[tactic(auto, unfolding(crate::specs::Title::correction_text))]
-fn write_correction<W: Write>(writer: &mut W, correction: Option<u32>) -> Result<(), ReportError>
+pub fn write_correction<W: Write>(
+    writer: &mut W,
+    correction: Option<u32>,
+) -> Result<(), ReportError>
     ensures { IsWritten result (W.contents writer.old) (W.contents writer.new) (correction_text correction) }
 {
     match correction {

@@ -1,6 +1,6 @@
 ghost use Rattle.std.specs.Prelude.{◌≡◌, ◌++◌, Some, codes};
 ghost use Rattle.rv_isa.specs.Instruction.{kind_of_word};
-ghost use Rattle.rv_drawing.specs.Wait.{awaited, issue_wait, one_wait, operand_wait, producer_text, result_text, second_wait, tip_of, unit_wait};
+ghost use Rattle.rv_drawing.specs.Wait.{awaited, issue_wait, one_wait, operand_wait, producer_text, result_text, second_wait, tip_of, unit_text};
 ghost use Rattle.rv_text.specs.Written.{IsWritten};
 
 use crate::cell::{Cell, is_past};
@@ -39,8 +39,9 @@ fn unless_past(producer: Producer, cycle: u64) -> Option<Producer>
     }
 }
 
+/// Writes which result an instruction waits for: a register, and the address of the instruction that writes it.
 #[tactic(auto, unfolding(crate::specs::Wait::result_text))]
-fn write_result<W: Write>(writer: &mut W, register: Reg, pc: u32) -> Result<(), ReportError>
+pub fn write_result<W: Write>(writer: &mut W, register: Reg, pc: u32) -> Result<(), ReportError>
     ensures { IsWritten result (W.contents writer.old) (W.contents writer.new) (result_text register pc) }
 {
     let mut buffer = Buffer::new();
@@ -64,15 +65,16 @@ fn write_producer<W: Write>(
     write_result(writer, producer.register, producer.pc)
 }
 
-// What an instruction of a kind waits for that waits for no result.
-#[tactic(auto, unfolding(crate::specs::Wait::unit_wait))]
-fn unit_wait(kind: Option<Kind>) -> &'static [u8]
-    ensures { result.now ≡ unit_wait kind }
+/// What an instruction of a kind waits for after its dispatch, where it waits for no result: a unit, and where it reads or writes
+/// memory the port or older stores too. One of no kind, which uses no unit, waits for the head.
+#[tactic(auto, unfolding(crate::specs::Wait::unit_text))]
+pub fn unit_name(kind: Option<Kind>) -> &'static [u8]
+    ensures { result.now ≡ unit_text kind }
 {
     match kind {
-        None => b"wait for the head",
-        Some(Kind::Mem) => b"wait for a unit, the port or older stores",
-        Some(Kind::Alu | Kind::Mul | Kind::Div) => b"wait for a unit",
+        None => b"the head",
+        Some(Kind::Mem) => b"a unit, the port or older stores",
+        Some(Kind::Alu | Kind::Mul | Kind::Div) => b"a unit",
     }
 }
 
@@ -86,7 +88,7 @@ fn write_one_wait<W: Write>(
 {
     match producer {
         Some(producer) => write_producer(writer, b"wait for ", producer),
-        None => put(writer, unit_wait(kind)),
+        None => put_all(writer, &[b"wait for ", unit_name(kind)]),
     }
 }
 

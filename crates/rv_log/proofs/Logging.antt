@@ -32,10 +32,10 @@ log-none : (listing : Listed) (first : Hardware) → begin_text listing first.cy
 unfolding log_text
 log-none listing first = sym (append-nil (begin_text listing first.cycle (table_at first).rows))
 
-log-more : (listing : Listed) (first : Hardware) (moments : List Moment) (last : Moment) → log_text listing first moments ++ cycle_text listing last.cycle last.rows ≡ log_text listing first (moments ++ last ∷ [])
+log-more : (listing : Listed) (first : Hardware) (moments : List Moment) (last : Moment) → log_text listing first moments ++ cycle_text listing first.cycle last.cycle last.rows ≡ log_text listing first (moments ++ last ∷ [])
 unfolding log_text
 log-more listing first moments last =
-    let text : Moment → List ℕ = λ moment. cycle_text listing moment.cycle moment.rows in
+    let text : Moment → List ℕ = λ moment. cycle_text listing first.cycle moment.cycle moment.rows in
     let front = begin_text listing first.cycle (table_at first).rows in
     append_assoc front (flat_map text moments) (text last)
     ∙ ap (λ rest. front ++ (flat_map text moments ++ rest)) (sym (append-nil (text last)))
@@ -54,12 +54,13 @@ roomy_again table full opened few rows interrupts = record {
 -- the log of no cycle
 pub logging_nothing : {T E : Type 0} (arrivals : List Arrival) (h : GuidedHardware) (listing : Listed) (table : Table) (written : Result T E) (before now : Option (List ℕ)) (cycle : ℕ) (rows : List Passage)
     → passages_of table ≡ table_at h.hardware → IsRoomy table → length table.rows.items ≤ 288 → cycle ≡ h.hardware.cycle → rows ≡ table.rows.items
-    → IsWritten written before now (begin_text listing cycle rows) → IsLogging listing listing table written (watched arrivals h [] h) before now
+    → IsWritten written before now (begin_text listing cycle rows) → IsLogging listing listing cycle table written (watched arrivals h [] h) before now
 logging_nothing arrivals h listing table written before now cycle rows is roomy few cycle_is rows_are wrote =
     let here : length (numbered_from 0 (in_flight h.hardware)) ≤ 288 = subst (λ (t : Passages). length t.rows ≤ 288) is few in
     let all_rows : rows ≡ (table_at h.hardware).rows = rows_are ∙ ap (λ (t : Passages). t.rows) is in
     record {
       same = refl;
+      began = cycle_is;
       moments = [];
       passes = subst (λ (t : Passages). Passes arrivals h [] [] h t) (sym is) begun;
       room = roomy;
@@ -69,7 +70,7 @@ logging_nothing arrivals h listing table written before now cycle rows is roomy 
     }
 
 module _ {T E : Type 0} {seen : Watched} {cycle : ℕ} {steps : List Step} {after : Hardware} {progress : Progress} (shown : IsShown seen cycle steps after progress)
-    {listing listing' : Listed} {table : Table} {written : Result T E} {before mid : Option (List ℕ)} (logging : IsLogging listing listing' table written seen before mid) where
+    {listing listing' : Listed} {first : ℕ} {table : Table} {written : Result T E} {before mid : Option (List ℕ)} (logging : IsLogging listing listing' first table written seen before mid) where
   -- the counts of the table can go on
   pub can_count : CanCount (passages_of table)
   can_count = record { fetched = omega (arith, logging.fetched, shown.number, shown.counted); retired = omega (arith, logging.retired, shown.number, shown.counted) }
@@ -92,18 +93,19 @@ module _ {T E : Type 0} {seen : Watched} {cycle : ℕ} {steps : List Step} {afte
         (subst (λ reports. Passes seen.arrivals seen.first reports (logging.moments ++ moment ∷ []) (guided after shown.predictor) (still_open table_now)) (sym (reports_of-push seen.moments _))
         (passed logging.passes shown.cycled))
 
-    text_now : (rows : List Passage) → rows ≡ full.rows.items → log_text listing seen.first.hardware logging.moments ++ cycle_text listing' cycle rows ≡ log_text listing seen.first.hardware (logging.moments ++ moment ∷ [])
+    text_now : (rows : List Passage) → rows ≡ full.rows.items → log_text listing seen.first.hardware logging.moments ++ cycle_text listing' first cycle rows ≡ log_text listing seen.first.hardware (logging.moments ++ moment ∷ [])
     text_now rows rows_are =
         let rows_now : rows ≡ table_now.rows = rows_are ∙ ap (λ (t : Passages). t.rows) full_is in
-        (λ i. log_text listing seen.first.hardware logging.moments ++ cycle_text (logging.same i) (shown.number i) (rows_now i)) ∙ log-more listing seen.first.hardware logging.moments moment
+        (λ i. log_text listing seen.first.hardware logging.moments ++ cycle_text (logging.same i) (logging.began i) (shown.number i) (rows_now i)) ∙ log-more listing seen.first.hardware logging.moments moment
 
-    pub logging_on : (kept : Table) (listing'' : Listed) (written' : Result T E) (now : Option (List ℕ)) (rows : List Passage) → passages_of kept ≡ still_open (passages_of full)
-        → full.fetched ≤ table.fetched + 288 → full.retired ≤ table.retired + 8 → IsRoomy kept → listing'' ≡ listing' → rows ≡ full.rows.items
-        → IsWritten written' before now (log_text listing seen.first.hardware logging.moments ++ cycle_text listing' cycle rows) → IsLogging listing listing'' kept written' (with_shown seen shown) before now
-    logging_on kept listing'' written' now rows opened fetched retired roomy same rows_are wrote =
+    pub logging_on : (kept : Table) (listing'' : Listed) (first' : ℕ) (written' : Result T E) (now : Option (List ℕ)) (rows : List Passage) → passages_of kept ≡ still_open (passages_of full)
+        → full.fetched ≤ table.fetched + 288 → full.retired ≤ table.retired + 8 → IsRoomy kept → listing'' ≡ listing' → first' ≡ first → rows ≡ full.rows.items
+        → IsWritten written' before now (log_text listing seen.first.hardware logging.moments ++ cycle_text listing' first cycle rows) → IsLogging listing listing'' first' kept written' (with_shown seen shown) before now
+    logging_on kept listing'' first' written' now rows opened fetched retired roomy same began rows_are wrote =
         let one_more = cycle_counts shown.cycled in
         record {
           same = same ∙ logging.same;
+          began = began ∙ logging.began;
           moments = logging.moments ++ moment ∷ [];
           passes = passes_now (passages_of kept) opened;
           room = roomy;
@@ -113,8 +115,8 @@ module _ {T E : Type 0} {seen : Watched} {cycle : ℕ} {steps : List Step} {afte
         }
 
 -- the log of a run that ended
-pub logged_to_the_end : {T E : Type 0} {arrivals : List Arrival} {limit : ℕ} {listing listing' : Listed} {old new : GuidedHardware} {moments : List HistoryMoment} {table : Table} {written : Result T E} {before after : Option (List ℕ)} {stop : Stop}
-    → History arrivals old moments new → IsStop limit (reports_of moments) new.hardware stop → IsLogging listing listing' table written (watched arrivals old moments new) before after
+pub logged_to_the_end : {T E : Type 0} {arrivals : List Arrival} {limit : ℕ} {listing listing' : Listed} {first : ℕ} {old new : GuidedHardware} {moments : List HistoryMoment} {table : Table} {written : Result T E} {before after : Option (List ℕ)} {stop : Stop}
+    → History arrivals old moments new → IsStop limit (reports_of moments) new.hardware stop → IsLogging listing listing' first table written (watched arrivals old moments new) before after
     → WritesLog arrivals limit listing old new stop written before after
 logged_to_the_end {listing = listing} {old = old} {moments = moments} {table = table} passes stops logging = (
   log_text listing old.hardware logging.moments,

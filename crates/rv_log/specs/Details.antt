@@ -1,6 +1,7 @@
 -- What a viewer's pane of details shows of an instruction that left the hardware: how, what it wrote, what its
--- execution cost, and what was predicted after a branch or a jump.
+-- execution cost, what was predicted after a branch or a jump, and what it waited for.
 use Rattle.std.specs.Prelude.{ℕ, List, [], ◌++◌, codes, decimal, Option, Some, None}
+use Rattle.rv_drawing.specs.Title.{correction_text}
 use Rattle.rv_isa.specs.Cause.{code_of}
 use Rattle.rv_isa.specs.declared.{causes.Cause.Cause, issues.Issue.Issue}
 use Rattle.rv_passage.specs.Names.{register_name}
@@ -8,6 +9,7 @@ use Rattle.rv_passage.specs.Prediction.{correction_of, prediction_of}
 use Rattle.rv_passage.specs.declared.passage.{Ending.Ending, Passage.Passage}
 use Rattle.rv_passage.specs.declared.passage.Ending.TheVariants.{InFlight, Retired, Trapped, Squashed}
 use Rattle.rv_text.specs.Line.{word_text}
+use Rattle.rv_log.specs.Waited.{waited_text}
 
 -- the register that was written, with its value
 unfoldable pub written_text : Option (ℕ × ℕ) → List ℕ
@@ -26,11 +28,6 @@ ending_text (Retired order cycle written next) = codes "retired" ++ written_text
 ending_text (Trapped cycle cause) = cause_text cause
 ending_text (Squashed cycle) = codes "squashed"
 
--- where the program went on, if not where that was predicted
-unfoldable pub correction_text : Option ℕ → List ℕ
-correction_text None = []
-correction_text (Some next) = codes ", but went on at " ++ word_text next
-
 -- the prediction after an instruction
 unfoldable pub predicted_text : Option ℕ → Option ℕ → List ℕ
 predicted_text None correction = []
@@ -45,8 +42,8 @@ unfoldable pub cost_text : Option Issue → List ℕ
 cost_text None = []
 cost_text (Some issue) = codes ", cost " ++ decimal issue.cost
 
--- the label (L) of that pane
-unfoldable pub details_line : Passage → List ℕ
-details_line passage =
+-- the label (L) of that pane, in a log from some cycle on
+unfoldable pub details_line : ℕ → Passage → List ℕ
+details_line first passage =
     (codes "L\t" ++ (decimal passage.number ++ codes "\t1\t")) ++
-    (ending_text passage.ending ++ (cost_text passage.issue ++ (prediction_text passage ++ codes "\n")))
+    (ending_text passage.ending ++ (cost_text passage.issue ++ (prediction_text passage ++ (waited_text first passage ++ codes "\n"))))

@@ -58,10 +58,10 @@ end_line number (Retired order cycle written next) = retirement_line number orde
 end_line number (Trapped cycle cause) = flush_line number
 end_line number (Squashed cycle) = flush_line number
 
--- the details of what ended stand before that
-unfoldable pub ended_text : Passage → List ℕ
-ended_text passage = details_line passage ++ end_line passage.number passage.ending
+-- the details of what ended stand before that, in a log from some cycle on
+unfoldable pub ended_text : ℕ → Passage → List ℕ
+ended_text first passage = details_line first passage ++ end_line passage.number passage.ending
 
 -- how an instruction left the hardware in a cycle
-unfoldable pub left_at : ℕ → Passage → List ℕ
-left_at cycle passage = if is_at cycle (left_in passage.ending) then ended_text passage else []
+unfoldable pub left_at : ℕ → ℕ → Passage → List ℕ
+left_at first cycle passage = if is_at cycle (left_in passage.ending) then ended_text first passage else []

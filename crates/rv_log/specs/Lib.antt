@@ -4,4 +4,5 @@ pub mod Details
 pub mod Event
 pub mod Log
 pub mod Statement
+pub mod Waited
 pub mod Logging

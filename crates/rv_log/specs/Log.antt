@@ -24,11 +24,11 @@ head_text cycle = codes "Kanata\t0004\nC=\t" ++ (decimal cycle ++ codes "\n")
 unfoldable pub begin_text : Listed → ℕ → List Passage → List ℕ
 begin_text listing cycle rows = head_text cycle ++ flat_map (appearance_text listing) rows
 
--- a cycle: what became of each instruction in it and whose results woke it, that it passes, and then what left the hardware in it, whose last stage lasts to its
--- end
-unfoldable pub cycle_text : Listed → ℕ → List Passage → List ℕ
-cycle_text listing cycle rows =
-    flat_map (row_at listing cycle) rows ++ (codes "C\t1\n" ++ flat_map (left_at cycle) rows)
+-- a cycle of a log from some cycle on: what became of each instruction in it and whose results woke it, that it passes, and then what left the hardware in it,
+-- whose last stage lasts to its end
+unfoldable pub cycle_text : Listed → ℕ → ℕ → List Passage → List ℕ
+cycle_text listing first cycle rows =
+    flat_map (row_at listing cycle) rows ++ (codes "C\t1\n" ++ flat_map (left_at first cycle) rows)
 
 -- the number of a cycle, and the instructions at its end, those that left the hardware in it among them
 pub record Moment : Type 0 where
@@ -38,7 +38,7 @@ pub record Moment : Type 0 where
 -- the cycles from some hardware on, one after the other
 unfoldable pub log_text : Listed → Hardware → List Moment → List ℕ
 log_text listing first moments =
-    begin_text listing first.cycle (table_at first).rows ++ flat_map (λ moment. cycle_text listing moment.cycle moment.rows) moments
+    begin_text listing first.cycle (table_at first).rows ++ flat_map (λ moment. cycle_text listing first.cycle moment.cycle moment.rows) moments
 
 -- a cycle by its number, and the passages after it
 abbrev pub moment_of : ℕ → Passages → Moment

@@ -14,9 +14,11 @@ pub record IsRoomy (table : Table) : Type 0 where
   pub rows : 576 ≤ vec_capacity table.rows
   pub interrupts : 8 ≤ vec_capacity table.interrupts
 
--- the cycles so far, with what became of the instructions in them, and their log written, by the listing that there was at first
-pub record IsLogging {T E : Type 0} (listing listing' : Listed) (table : Table) (written : Result T E) (seen : Watched) (before now : Option (List ℕ)) : Type 0 where
+-- the cycles so far, with what became of the instructions in them, and their log written, by the listing that there was at first and from the cycle that was
+-- the first
+pub record IsLogging {T E : Type 0} (listing listing' : Listed) (first : ℕ) (table : Table) (written : Result T E) (seen : Watched) (before now : Option (List ℕ)) : Type 0 where
   pub same : listing' ≡ listing
+  pub began : first ≡ seen.first.hardware.cycle
   pub moments : List Moment
   pub passes : Passes seen.arrivals seen.first (reports_of seen.moments) moments seen.now (passages_of table)
   pub room : IsRoomy table

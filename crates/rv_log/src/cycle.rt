@@ -63,25 +63,32 @@ fn write_rows<W: Write>(
     Ok(())
 }
 
-fn write_leaving<W: Write>(writer: &mut W, cycle: u64, rows: &[Passage]) -> Result<(), ReportError>
-    ensures { IsWritten result (W.contents writer.old) (W.contents writer.new) (flat_map (left_at cycle) rows.now) }
+fn write_leaving<W: Write>(
+    writer: &mut W,
+    first: u64,
+    cycle: u64,
+    rows: &[Passage],
+) -> Result<(), ReportError>
+    ensures { IsWritten result (W.contents writer.old) (W.contents writer.new) (flat_map (left_at first cycle) rows.now) }
 {
     for row in rows {
-        write_left(writer, cycle, row)?;
+        write_left(writer, first, cycle, row)?;
     }
     Ok(())
 }
 
-/// Writes what a cycle did, where these are the instructions at its end, those that left the hardware in it among them.
+/// Writes what a cycle of a log from a first one on did, where these are the instructions at its end, those that left the
+/// hardware in it among them.
 pub(crate) fn write_cycle<W: Write>(
     writer: &mut W,
     listing: &Listing,
+    first: u64,
     cycle: u64,
     rows: &[Passage],
 ) -> Result<(), ReportError>
-    ensures { IsWritten result (W.contents writer.old) (W.contents writer.new) (cycle_text listing.now cycle rows.now) }
+    ensures { IsWritten result (W.contents writer.old) (W.contents writer.new) (cycle_text listing.now first cycle rows.now) }
 {
     write_rows(writer, listing, cycle, rows)?;
     put(writer, b"C\t1\n")?;
-    write_leaving(writer, cycle, rows)
+    write_leaving(writer, first, cycle, rows)
 }

@@ -1,9 +1,12 @@
 ghost use Rattle.std.specs.Prelude.{◌≡◌, ◌++◌, codes, decimal};
-ghost use Rattle.rv_log.specs.Details.{written_text, cause_text, correction_text, ending_text, cost_text, details_line, predicted_text, prediction_text};
+ghost use Rattle.rv_log.specs.Details.{written_text, cause_text, ending_text, cost_text, details_line, predicted_text, prediction_text};
+ghost use Rattle.rv_drawing.specs.Title.{correction_text};
 ghost use Rattle.rv_text.specs.Line.{word_text};
 ghost use Rattle.rv_text.specs.Written.{IsWritten};
 
+use crate::waited::write_waited;
 use itoa::Buffer;
+use rv_drawing::write_correction;
 use rv_isa::{Cause, Issue, Reg};
 use rv_passage::{Ending, Passage, register_name};
 use rv_text::{ReportError, hexadecimal, put, put_all};
@@ -69,19 +72,6 @@ fn write_cost<W: Write>(writer: &mut W, issue: Option<Issue>) -> Result<(), Repo
     }
 }
 
-#[tactic(auto, unfolding(crate::specs::Details::correction_text))]
-fn write_correction<W: Write>(writer: &mut W, correction: Option<u32>) -> Result<(), ReportError>
-    ensures { IsWritten result (W.contents writer.old) (W.contents writer.new) (correction_text correction) }
-{
-    match correction {
-        Some(next) => {
-            let next = hexadecimal(next);
-            put_all(writer, &[b", but went on at ", next.as_slice()])
-        }
-        None => Ok(()),
-    }
-}
-
 fn write_predicted_pc<W: Write>(writer: &mut W, predicted: u32) -> Result<(), ReportError>
     ensures { IsWritten result (W.contents writer.old) (W.contents writer.new) (codes ", predicted " ++ word_text predicted) }
 {
@@ -130,13 +120,18 @@ fn write_begin<W: Write>(writer: &mut W, number: u64) -> Result<(), ReportError>
     put_all(writer, &[b"L\t", id, b"\t1\t"])
 }
 
-/// Writes the label of the pane of details of an instruction that left the hardware.
-pub(crate) fn write_details<W: Write>(writer: &mut W, row: &Passage) -> Result<(), ReportError>
-    ensures { IsWritten result (W.contents writer.old) (W.contents writer.new) (details_line row.now) }
+/// Writes the label of the pane of details of an instruction that left the hardware, in a log from a cycle on.
+pub(crate) fn write_details<W: Write>(
+    writer: &mut W,
+    first: u64,
+    row: &Passage,
+) -> Result<(), ReportError>
+    ensures { IsWritten result (W.contents writer.old) (W.contents writer.new) (details_line first row.now) }
 {
     write_begin(writer, row.number)?;
     write_ending(writer, row.ending)?;
     write_cost(writer, row.issue)?;
     write_prediction(writer, row)?;
+    write_waited(writer, first, row)?;
     put(writer, b"\n")
 }

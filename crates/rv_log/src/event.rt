@@ -118,10 +118,10 @@ fn write_end<W: Write>(writer: &mut W, number: u64, ending: Ending) -> Result<()
     }
 }
 
-fn write_ended<W: Write>(writer: &mut W, row: &Passage) -> Result<(), ReportError>
-    ensures { IsWritten result (W.contents writer.old) (W.contents writer.new) (ended_text row.now) }
+fn write_ended<W: Write>(writer: &mut W, first: u64, row: &Passage) -> Result<(), ReportError>
+    ensures { IsWritten result (W.contents writer.old) (W.contents writer.new) (ended_text first row.now) }
 {
-    write_details(writer, row)?;
+    write_details(writer, first, row)?;
     write_end(writer, row.number, row.ending)
 }
 
@@ -148,17 +148,18 @@ pub(crate) fn write_events<W: Write>(
     )
 }
 
-/// Writes how an instruction left the hardware, where it did in a cycle.
+/// Writes how an instruction left the hardware, where it did in a cycle of a log from a first one on.
 #[tactic(auto, unfolding(crate::specs::Event::left_at))]
 pub(crate) fn write_left<W: Write>(
     writer: &mut W,
+    first: u64,
     cycle: u64,
     row: &Passage,
 ) -> Result<(), ReportError>
-    ensures { IsWritten result (W.contents writer.old) (W.contents writer.new) (left_at cycle row.now) }
+    ensures { IsWritten result (W.contents writer.old) (W.contents writer.new) (left_at first cycle row.now) }
 {
     if is_at(row.ending.left(), cycle) {
-        write_ended(writer, row)
+        write_ended(writer, first, row)
     } else {
         Ok(())
     }

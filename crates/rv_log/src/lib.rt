@@ -10,6 +10,8 @@ mod event;
 mod running;
 mod stage;
 mod statement;
+mod wait;
+mod waited;
 mod written;
 
 pub use written::write_log;

@@ -23,10 +23,12 @@ pub(crate) struct Logged {
     pub(crate) written: Result<(), ReportError>,
 }
 
-// The watcher that writes a log: what became of the instructions that may still go on, and whether all was written so far.
+// The watcher that writes a log: its first cycle, what became of the instructions that may still go on, and whether all was
+// written so far.
 #[derive(Drop)]
 struct Logger<'a> {
     listing: &'a Listing,
+    first: u64,
     table: Table,
     written: Result<(), ReportError>,
 }
@@ -36,7 +38,7 @@ impl Watcher for Logger<'_> {
 
     type Refusal = Infallible;
 
-    ghost has_seen = { λ start logger seen before now. IsLogging start.listing.now logger.listing.now logger.table logger.written seen before now };
+    ghost has_seen = { λ start logger seen before now. IsLogging start.listing.now logger.listing.now logger.first logger.table logger.written seen before now };
 
     ghost has_room = { λ _. Unit {0} };
 
@@ -58,7 +60,14 @@ impl Watcher for Logger<'_> {
         let pc = pipeline.observe().pc;
         self.table
             .follow(cycle, steps, buffer, pipeline.front(), pc);
-        self.written = write_next(self.written, output, self.listing, cycle, self.table.rows());
+        self.written = write_next(
+            self.written,
+            output,
+            self.listing,
+            self.first,
+            cycle,
+            self.table.rows(),
+        );
         self.table.drop_ended();
     }
 }
@@ -68,13 +77,14 @@ fn write_next<W: Write>(
     written: Result<(), ReportError>,
     writer: &mut W,
     listing: &Listing,
+    first: u64,
     cycle: u64,
     rows: &[Passage],
 ) -> Result<(), ReportError>
-    ensures { (before : Option (List ℕ)) (text : List ℕ) → IsWritten written before (W.contents writer.old) text → IsWritten result before (W.contents writer.new) (text ++ cycle_text listing.now cycle rows.now) }
+    ensures { (before : Option (List ℕ)) (text : List ℕ) → IsWritten written before (W.contents writer.old) text → IsWritten result before (W.contents writer.new) (text ++ cycle_text listing.now first cycle rows.now) }
 {
     match written {
-        Ok(()) => write_cycle(writer, listing, cycle, rows),
+        Ok(()) => write_cycle(writer, listing, first, cycle, rows),
         Err(error) => Err(error),
     }
 }
@@ -99,9 +109,11 @@ pub(crate) fn run_logged<W: Write>(
     requires steps { 8 ≤ vec_capacity steps }
     ensures { WritesLog arrivals.now limit listing.now (guided pipeline.old (known predictor.old)) (guided pipeline.new (known predictor.new)) result.stop result.written (W.contents writer.old) (W.contents writer.new) }
 {
-    let written = write_begin(writer, listing, pipeline.cycles_done(), table.rows());
+    let first = pipeline.cycles_done();
+    let written = write_begin(writer, listing, first, table.rows());
     let mut logger = Logger {
         listing,
+        first,
         table,
         written,
     };

@@ -1,3 +1,4 @@
 mod addition;
 mod branch;
 mod bus;
+mod waits;

@@ -44,9 +44,9 @@ I\t5\t5\t0
 L\t5\t0\t00000000: -
 S\t5\t0\tF
 C\t1
-L\t1\t1\ttrapped, cause 3
+L\t1\t1\ttrapped, cause 3, waited 2 for the head
 R\t1\t1\t1
-L\t2\t1\tsquashed
+L\t2\t1\tsquashed, waited 1 for the head
 R\t2\t2\t1
 L\t3\t1\tsquashed
 R\t3\t3\t1

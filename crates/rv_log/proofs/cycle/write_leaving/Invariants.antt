@@ -6,4 +6,4 @@ use Rattle.rv_log.proofs.cycle.write_leaving.Given as goal
 
 -- what comes before is written
 abbrev pub invariant-loop-row : goal.invariant-loop-row
-invariant-loop-row g l = Appends (g.W.Write.contents l.initial.writer) (g.W.Write.contents l.writer) (flat_map (left_at l.cycle) (take l.row-index l.rows))
+invariant-loop-row g l = Appends (g.W.Write.contents l.initial.writer) (g.W.Write.contents l.writer) (flat_map (left_at l.first l.cycle) (take l.row-index l.rows))

@@ -22,7 +22,12 @@ unfolding details_line
 returns-in_err-write_prediction g c =
     handed_on _ _ _ _ _ c.from_residual-in_err-write_prediction.ensures.1 (beginning-both _ _ _ _ _ c.in_ok-write_begin.ensures (beginning-both _ _ _ _ _ c.in_ok-write_ending.ensures (beginning-both _ _ _ _ _ c.in_ok-write_cost.ensures (beginning-longer _ _ _ _ c.in_err-write_prediction.ensures))))
 
+pub returns-in_err-write_waited : goal.returns-in_err-write_waited
+unfolding details_line
+returns-in_err-write_waited g c =
+    handed_on _ _ _ _ _ c.from_residual-in_err-write_waited.ensures.1 (beginning-both _ _ _ _ _ c.in_ok-write_begin.ensures (beginning-both _ _ _ _ _ c.in_ok-write_ending.ensures (beginning-both _ _ _ _ _ c.in_ok-write_cost.ensures (beginning-both _ _ _ _ _ c.in_ok-write_prediction.ensures (beginning-longer _ _ _ _ c.in_err-write_waited.ensures)))))
+
 pub returns : goal.returns
 unfolding details_line
 returns g c =
-    written_behind _ _ _ _ _ _ c.in_ok-write_begin.ensures (written_behind _ _ _ _ _ _ c.in_ok-write_ending.ensures (written_behind _ _ _ _ _ _ c.in_ok-write_cost.ensures (written_behind _ _ _ _ _ _ c.in_ok-write_prediction.ensures c.put.ensures)))
+    written_behind _ _ _ _ _ _ c.in_ok-write_begin.ensures (written_behind _ _ _ _ _ _ c.in_ok-write_ending.ensures (written_behind _ _ _ _ _ _ c.in_ok-write_cost.ensures (written_behind _ _ _ _ _ _ c.in_ok-write_prediction.ensures (written_behind _ _ _ _ _ _ c.in_ok-write_waited.ensures c.put.ensures))))

@@ -1,5 +1,5 @@
 use Rattle.rv_log.specs.Event.{ended_text}
-use Rattle.rv_text.proofs.Writing.{beginning-both, beginning-longer, handed_on, written_behind}
+use Rattle.rv_text.proofs.Writing.{beginning-longer, handed_on, written_behind}
 use Rattle.rv_log.proofs.event.write_ended.Goals as goal
 
 pub returns-in_err-write_details : goal.returns-in_err-write_details

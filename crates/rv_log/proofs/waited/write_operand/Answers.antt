@@ -1,0 +1,10 @@
+use Rattle.rv_text.proofs.Writing.{beginning-longer, handed_on, written_behind}
+use Rattle.rv_log.proofs.waited.write_operand.Goals as goal
+
+pub returns-in_err-put : goal.returns-in_err-put
+returns-in_err-put g c =
+    handed_on _ _ _ _ _ c.from_residual.ensures.1 (beginning-longer _ _ _ _ c.in_err-put.ensures)
+
+pub returns : goal.returns
+returns g c =
+    written_behind _ _ _ _ _ _ c.in_ok-put.ensures c.write_result.ensures

@@ -1,0 +1,13 @@
+use Rattle.rv_log.specs.Waited.{wait_text}
+use Rattle.rv_text.proofs.Writing.{beginning-longer, handed_on, written_behind}
+use Rattle.rv_log.proofs.waited.write_wait.Goals as goal
+
+pub returns-in_err-write_cycles : goal.returns-in_err-write_cycles
+unfolding wait_text
+returns-in_err-write_cycles g c =
+    handed_on _ _ _ _ _ c.from_residual.ensures.1 (beginning-longer _ _ _ _ c.in_err-write_cycles.ensures)
+
+pub returns : goal.returns
+unfolding wait_text
+returns g c =
+    written_behind _ _ _ _ _ _ c.in_ok-write_cycles.ensures c.write_awaited.ensures

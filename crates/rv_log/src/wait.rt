@@ -1,0 +1,178 @@
+ghost use Rattle.std.specs.Prelude.{◌≡◌};
+ghost use Rattle.rv_isa.specs.Instruction.{kind_of_word};
+ghost use Rattle.rv_log.specs.Waited.{after_or_left, cycles_of, is_later, issue_awaited, last_of, operand_wait, or_left, waits_of};
+ghost use Rattle.rv_drawing.specs.Cell.{is_past};
+ghost use Rattle.rv_passage.specs.Result.{ready_in};
+
+use rv_isa::{Instr, Kind, kind};
+use rv_passage::{Passage, Producer};
+
+/// What an instruction waits for.
+#[derive(Clone, Copy, Debug)]
+pub(crate) enum Awaited {
+    /// Its dispatch, for room or its turn.
+    Dispatch,
+    /// A result.
+    Operand(Producer),
+    /// A unit of its kind; of no kind, the head.
+    Unit(Option<Kind>),
+    /// Operands, a unit or the head.
+    Unknown,
+    /// The common data bus, for its result.
+    Bus,
+    /// The head of the reorder buffer, once its result was broadcast.
+    Head,
+}
+
+/// A wait of an instruction.
+#[derive(Clone, Copy, Debug)]
+pub(crate) struct Wait {
+    /// The first cycle of the wait.
+    pub(crate) from: u128,
+    /// The first cycle after it.
+    pub(crate) until: u128,
+    pub(crate) awaited: Awaited,
+}
+
+impl Wait {
+    /// How many cycles it lasts.
+    pub(crate) fn cycles(&self) -> u128
+        ensures { result ≡ cycles_of self.now }
+    {
+        self.until.saturating_sub(self.from)
+    }
+}
+
+fn kind_of(instruction: &Option<Instr>) -> Option<Kind>
+    ensures { result ≡ kind_of_word instruction.now }
+{
+    kind(instruction.as_ref()?)
+}
+
+// Whether a stamp came before a cycle.
+fn is_past(stamp: Option<u64>, cycle: u64) -> bool
+    ensures { result ≡ is_past cycle stamp }
+{
+    match stamp {
+        Some(stamp) => stamp < cycle,
+        None => false,
+    }
+}
+
+// A stamp; where it did not come, the cycle in which the instruction left.
+fn or_left(stamp: Option<u64>, left: u64) -> u128
+    ensures { result ≡ or_left left stamp }
+{
+    match stamp {
+        Some(stamp) => u128::from(stamp),
+        None => u128::from(left),
+    }
+}
+
+// The cycle after a stamp; where it did not come, the cycle in which the instruction left.
+fn after_or_left(stamp: Option<u64>, left: u64) -> u128
+    ensures { result ≡ after_or_left left stamp }
+{
+    match stamp {
+        Some(stamp) => u128::from(stamp) + 1,
+        None => u128::from(left),
+    }
+}
+
+// The first cycle in which its result can be broadcast; where its execution did not begin, the cycle in which it left.
+fn ready_or_left(row: &Passage, left: u64) -> u128
+    ensures { result ≡ or_left left (ready_in row.now) }
+{
+    match row.ready() {
+        Some(ready) => ready,
+        None => u128::from(left),
+    }
+}
+
+// Whether a broadcast came after another one, or did not come where that came.
+fn is_later(broadcast: Option<u64>, other: Option<u64>) -> bool
+    ensures { result ≡ is_later broadcast other }
+{
+    match (broadcast, other) {
+        (Some(broadcast), Some(other)) => other < broadcast,
+        (None, Some(_)) => true,
+        (_, None) => false,
+    }
+}
+
+// The producer whose broadcast came last.
+fn last_of(first: Option<Producer>, second: Option<Producer>) -> Option<Producer>
+    ensures { result ≡ last_of first second }
+{
+    match (first, second) {
+        (Some(first), Some(second)) => {
+            if is_later(second.broadcast, first.broadcast) {
+                Some(second)
+            } else {
+                Some(first)
+            }
+        }
+        (Some(first), None) => Some(first),
+        (None, second) => second,
+    }
+}
+
+// From a cycle on the wait for a result, if any.
+fn operand_wait(from: u128, left: u64, last: Option<Producer>) -> Wait
+    ensures { result ≡ operand_wait from left last }
+{
+    match last {
+        Some(producer) => Wait {
+            from,
+            until: after_or_left(producer.broadcast, left),
+            awaited: Awaited::Operand(producer),
+        },
+        None => Wait {
+            from,
+            until: from,
+            awaited: Awaited::Unknown,
+        },
+    }
+}
+
+// What an instruction waits for until its issue in a log from a cycle on, once its operands came.
+fn issue_awaited(row: &Passage, first: u64) -> Awaited
+    ensures { result ≡ issue_awaited first row.now }
+{
+    if is_past(row.dispatched, first) {
+        Awaited::Unknown
+    } else {
+        Awaited::Unit(kind_of(&row.instruction))
+    }
+}
+
+/// The waits of an instruction that left the hardware in a cycle, in their order, in a log from a cycle on.
+pub(crate) fn waits_of(row: &Passage, first: u64, left: u64) -> [Wait; 5]
+    ensures { result ≡ waits_of first left row.now }
+{
+    let last = last_of(row.producers.first, row.producers.second);
+    let operand = operand_wait(after_or_left(row.dispatched, left), left, last);
+    [
+        Wait {
+            from: u128::from(row.fetched) + 1,
+            until: or_left(row.dispatched, left),
+            awaited: Awaited::Dispatch,
+        },
+        operand,
+        Wait {
+            from: operand.until,
+            until: or_left(row.issued(), left),
+            awaited: issue_awaited(row, first),
+        },
+        Wait {
+            from: ready_or_left(row, left),
+            until: or_left(row.broadcast, left),
+            awaited: Awaited::Bus,
+        },
+        Wait {
+            from: after_or_left(row.broadcast, left),
+            until: u128::from(left),
+            awaited: Awaited::Head,
+        },
+    ]
+}
