@@ -23,13 +23,6 @@ is_retirement ending.InFlight = false
 is_retirement (ending.Trapped cycle cause) = false
 is_retirement (ending.Squashed cycle) = false
 
--- it was squashed
-abbrev pub is_squash : Ending → Bool
-is_squash (ending.Squashed cycle) = true
-is_squash ending.InFlight = false
-is_squash (ending.Retired order cycle written next) = false
-is_squash (ending.Trapped cycle cause) = false
-
 -- the cycles from one stage to a later one, of what came to both
 abbrev pub cycles_between : Option ℕ → Option ℕ → Option ℕ
 cycles_between (Some from) (Some to) = Some (to - from)

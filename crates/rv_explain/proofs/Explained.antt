@@ -1,5 +1,5 @@
 -- A run that is told is explained by its sentences.
-use Rattle.std.proofs.Common.{ℕ, ◌≤◌, List, ap, arith}
+use Rattle.std.proofs.Common.{ℕ, ◌≤◌, List, ap, arith, length-append}
 use Rattle.std.specs.Prelude.{sum}
 use Rattle.rv_isa.specs.declared.lines.Arrival.{Arrival}
 use Rattle.rv_isa.specs.declared.values.Values.{Values}
@@ -8,10 +8,11 @@ use Rattle.rv_core.specs.declared.outcome.Progress.{Progress}
 use Rattle.rv_hardware.specs.Guided.{GuidedHardware}
 use Rattle.rv_source.specs.Listing.{Listed}
 use Rattle.rv_explain.specs.Explanation.{IsExplanation, IsTold, explanation}
-use Rattle.rv_explain.specs.Hotspot.{counts_of}
-use Rattle.rv_explain.specs.LastStore.{last_store_to, stores_of}
+use Rattle.rv_explain.specs.Head.{head_after}
+use Rattle.rv_explain.specs.Work.{word_in}
 use Rattle.rv_explain.specs.declared.tale.Tale.{Tale}
-use Rattle.rv_explain.proofs.HeadSum.{heads_within_cycles}
+use Rattle.rv_explain.specs.declared.work.Class.TheVariants.{Branch, Mispredicted}
+use Rattle.rv_explain.proofs.CountSums.{counted_within}
 use Rattle.rv_explain.proofs.Telling.{length-reports}
 
 pub explained : (arrivals : List Arrival) (limit : ℕ) (values : Values) (listing : Listed) (old new : GuidedHardware) (stop : Stop) (progress : Progress) (fetched : ℕ) (tale : Tale)
@@ -28,7 +29,20 @@ explained arrivals limit values listing old new stop progress fetched tale told 
 
 -- no more cycles left the words of RAM at the head than there were
 pub heads_counted : (arrivals : List Arrival) (limit : ℕ) (values : Values) (old new : GuidedHardware) (stop : Stop) (progress : Progress) (fetched : ℕ) (tale : Tale)
-    → IsTold arrivals limit values old new stop progress fetched tale → sum (counts_of tale.words) ≤ progress.cycles
+    → IsTold arrivals limit values old new stop progress fetched tale → sum tale.heads.words ≤ progress.cycles
 heads_counted arrivals limit values old new stop progress fetched tale told =
-    let heads = heads_within_cycles values (last_store_to (stores_of old.hardware told.moments)) told.moments in
-    omega (arith, heads, ap (λ (t : Tale). sum (counts_of t.words)) told.kept, ap (λ (p : Progress). p.cycles) told.counted, length-reports told.moments)
+    let heads = counted_within head_after values told.moments in
+    omega (arith, heads, ap (λ (t : Tale). sum t.heads.words) told.kept, ap (λ (p : Progress). p.cycles) told.counted, length-reports told.moments)
+
+-- no more branches and jumps retired, and were mispredicted, than words were fetched
+pub branches_counted : (arrivals : List Arrival) (limit : ℕ) (values : Values) (old new : GuidedHardware) (stop : Stop) (progress : Progress) (fetched : ℕ) (tale : Tale)
+    → IsTold arrivals limit values old new stop progress fetched tale → sum tale.branches.words ≤ fetched
+branches_counted arrivals limit values old new stop progress fetched tale told =
+    let few = counted_within (word_in Branch) values told.left in
+    omega (arith, few, ap (λ (t : Tale). sum t.branches.words) told.kept, told.fetched_are, length-append told.table.rows told.left)
+
+pub mispredicted_counted : (arrivals : List Arrival) (limit : ℕ) (values : Values) (old new : GuidedHardware) (stop : Stop) (progress : Progress) (fetched : ℕ) (tale : Tale)
+    → IsTold arrivals limit values old new stop progress fetched tale → sum tale.mispredicted.words ≤ fetched
+mispredicted_counted arrivals limit values old new stop progress fetched tale told =
+    let few = counted_within (word_in Mispredicted) values told.left in
+    omega (arith, few, ap (λ (t : Tale). sum t.mispredicted.words) told.kept, told.fetched_are, length-append told.table.rows told.left)

@@ -1,11 +1,9 @@
 -- The counts of words, line by line.
-use Rattle.std.proofs.Common.{◌≡◌, ◌∙◌, ℕ, zero, suc, ◌+◌, ◌-◌, ◌^◌, ◌≤◌, ◌<◌, Bool, true, false, if◌then◌else◌, List, [], ◌∷◌, length, map, refl, ap, sym, arith}
+use Rattle.std.proofs.Common.{◌≡◌, ◌∙◌, ℕ, zero, suc, ◌+◌, ◌-◌, ◌^◌, ◌≤◌, ◌<◌, Bool, true, false, if◌then◌else◌, List, [], ◌∷◌, length, refl, ap, sym, arith}
 use Rattle.std.specs.Prelude.{get_or, slice_set, sum}
-use Rattle.std.proofs.lemmas.List.{get_or-map, length-map, map-set}
 use Rattle.std.proofs.lemmas.List.Sums.{sum_by-cons}
-use Rattle.rv_explain.specs.declared.word_note.WordNote.{WordNote}
 use Rattle.rv_source.specs.Listing.{Listed}
-use Rattle.rv_explain.specs.Hotspot.{by_line, is_one_line, number_of, with_next, with_next_at}
+use Rattle.rv_explain.specs.Spot.{by_line, is_one_line, number_of, with_next, with_next_at}
 
 -- the counts from a place on are line by line, those before it word by word
 abbrev pub lines_from : Listed → ℕ → ℕ → List ℕ → List ℕ
@@ -88,43 +86,19 @@ both_within [] place = omega arith
 both_within (count ∷ counts) zero = omega (arith, sum_cons count counts, one_within counts)
 both_within (count ∷ counts) (suc place) = omega (arith, sum_cons count counts, both_within counts place)
 
--- ---- the same of what is kept of the words
+pub both_fit : (counts : List ℕ) (place next : ℕ) → next ≡ suc place → sum counts < 2 ^ 64 → get_or counts place 0 + get_or counts next 0 < 2 ^ 64
+both_fit counts place next is room = omega (arith, both_within counts place, room, ap (λ n. get_or counts n 0) is)
 
-abbrev pub heads_of : List WordNote → List ℕ
-heads_of words = map (λ (note : WordNote). note.head_cycles) words
-
-module _ (words : List WordNote) (place next : ℕ) (other : WordNote) (is : next ≡ suc place) (within : next < length words) where
-  first_head : get_or (heads_of words) place 0 ≡ (get_or words place other).head_cycles
-  first_head = get_or-map (λ (note : WordNote). note.head_cycles) words place other 0 (omega (arith, is, within))
-
-  next_head : get_or (heads_of words) (suc place) 0 ≡ (get_or words next other).head_cycles
-  next_head = ap (λ n. get_or (heads_of words) n 0) (sym is) ∙ get_or-map (λ (note : WordNote). note.head_cycles) words next other 0 within
-
-  pub both_fit : sum (heads_of words) < 2 ^ 64 → (get_or words place other).head_cycles + (get_or words next other).head_cycles < 2 ^ 64
-  both_fit room = omega (arith, first_head, next_head, both_within (heads_of words) place, room)
-
-  pub joined_next : (both none : WordNote) → both.head_cycles ≡ (get_or words place other).head_cycles + (get_or words next other).head_cycles → none.head_cycles ≡ 0
-      → heads_of (slice_set (slice_set words place both) next none) ≡ with_next_at place (heads_of words)
-  joined_next both none sum_is none_is =
-      let count : length (heads_of words) ≡ length words = simp length-map in
-      let head : WordNote → ℕ = λ note. note.head_cycles in
-      let total : both.head_cycles ≡ get_or (heads_of words) place 0 + get_or (heads_of words) (suc place) 0 = omega (arith, sum_is, first_head, next_head) in
-      map-set head (slice_set words place both) next none ∙ ap (λ l. slice_set l next (head none)) (map-set head words place both) ∙
-      (λ i. slice_set (slice_set (heads_of words) place (total i)) (is i) (none_is i)) ∙ set_both (heads_of words) place (omega (arith, is, within, count))
-
--- the loop begins with all words word by word
-pub nothing_joined : (listing : Listed) (first : ℕ) (words : List WordNote) → 0 < length words → heads_of words ≡ lines_from listing first (length words - 1) (heads_of words)
-nothing_joined listing first words some =
-    let count : length (heads_of words) ≡ length words = simp length-map in
-    sym (lines_from_last listing first (length words - 1) (heads_of words) (omega (arith, count, some)))
+-- the loop begins with all counts word by word
+pub nothing_joined : (listing : Listed) (first : ℕ) (counts : List ℕ) → 0 < length counts → counts ≡ lines_from listing first (length counts - 1) counts
+nothing_joined listing first counts some = sym (lines_from_last listing first (length counts - 1) counts (omega (arith, some)))
 
 -- and joins one place more
-pub one_place_more : (listing : Listed) (first place : ℕ) (words : List WordNote) (now : List ℕ) (one : Bool) → 0 < place → place < length words
-    → now ≡ lines_from listing first place (heads_of words) → one ≡ is_one_line (number_of listing (first + (place - 1))) (number_of listing (first + (place - 1) + 1))
-    → (if one then with_next_at (place - 1) now else now) ≡ lines_from listing first (place - 1) (heads_of words)
-one_place_more listing first place words now one some within now_is one_is =
-    let count : length (heads_of words) ≡ length words = simp length-map in
+pub one_place_more : (listing : Listed) (first place : ℕ) (counts now : List ℕ) (one : Bool) → 0 < place → place < length counts
+    → now ≡ lines_from listing first place counts → one ≡ is_one_line (number_of listing (first + (place - 1))) (number_of listing (first + (place - 1) + 1))
+    → (if one then with_next_at (place - 1) now else now) ≡ lines_from listing first (place - 1) counts
+one_place_more listing first place counts now one some within now_is one_is =
     let same : place ≡ suc (place - 1) = omega arith in
-    let whole : now ≡ lines_from listing first (suc (place - 1)) (heads_of words) = now_is ∙ ap (λ p. lines_from listing first p (heads_of words)) same in
+    let whole : now ≡ lines_from listing first (suc (place - 1)) counts = now_is ∙ ap (λ p. lines_from listing first p counts) same in
     (λ i. if one_is i then with_next_at (place - 1) (whole i) else whole i) ∙
-    sym (lines_before listing first (place - 1) (heads_of words) (omega (arith, count, some, within)))
+    sym (lines_before listing first (place - 1) counts (omega (arith, some, within)))

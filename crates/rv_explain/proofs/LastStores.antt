@@ -7,11 +7,10 @@ use Rattle.rv_memory.specs.Memory.{word_of}
 use Rattle.rv_hardware.specs.Guided.{GuidedHardware}
 use Rattle.rv_hardware.specs.History.{History, Moment, ended, cycled}
 use Rattle.rv_explain.specs.LastStore.{last_store_to, store_to, stores_in, stores_of, with_stores}
-use Rattle.rv_explain.specs.WordNotes.{notes_of, stored_by}
+use Rattle.rv_explain.specs.WordNotes.{notes_of}
 use Rattle.rv_explain.specs.declared.stored.Stored.{Stored}
-use Rattle.rv_explain.specs.declared.word_note.WordNote.{WordNote}
 use Rattle.rv_explain.proofs.Options.{option_or-assoc, option_or-none}
-use Rattle.rv_explain.proofs.WordTable.{change_one}
+use Rattle.rv_explain.proofs.WordTable.{set_one}
 
 -- one more store comes last
 last_store_to-push : (stores : List Stored) (store : Stored) (word : ℕ) → last_store_to (stores ++ store ∷ []) word ≡ option_or (store_to store word) (last_store_to stores word)
@@ -27,23 +26,17 @@ store_to-own store word is = rw (eq-eqb (word_of store.address) word (sym is)) r
 store_to-other : (store : Stored) (word : ℕ) → (word ≡ word_of store.address → ⊥) → store_to store word ≡ None
 store_to-other store word is_not = rw (ne_eqb (word_of store.address) word (λ is. is_not (sym is))) refl
 
-module _ (values : Values) (heads : ℕ → ℕ) where
-  abbrev note_by : List Stored → ℕ → WordNote
-  note_by stores word = record { last_store = last_store_to stores word; head_cycles = heads word }
-
-  -- what is kept of the words, once more stores retired
-  pub with_stores_of : (new old : List Stored) → with_stores new (notes_of values (note_by old)) ≡ notes_of values (note_by (old ++ new))
-  with_stores_of [] old = ap (λ stores. notes_of values (note_by stores)) (sym (append-nil old))
-  with_stores_of (store ∷ new) old =
-      let own = store_to-own store (word_of store.address) refl in
-      let here : last_store_to (old ++ store ∷ []) (word_of store.address) ≡ Some store.pc =
-      last_store_to-push old store (word_of store.address) ∙ ap (λ last. option_or last (last_store_to old (word_of store.address))) own in
-      let others : (w : ℕ) → (w ≡ word_of store.address → ⊥) → last_store_to old w ≡ last_store_to (old ++ store ∷ []) w =
-      λ w is_not. sym (last_store_to-push old store w ∙ ap (λ last. option_or last (last_store_to old w)) (store_to-other store w is_not)) in
-      ap (with_stores new) (change_one values (stored_by store.pc) (note_by old) (note_by (old ++ store ∷ [])) (word_of store.address)
-      (λ i. record { last_store = sym here i; head_cycles = heads (word_of store.address) })
-      (λ w is_not i. record { last_store = others w is_not i; head_cycles = heads w })) ∙
-      with_stores_of new (old ++ store ∷ []) ∙ ap (λ stores. notes_of values (note_by stores)) (append_assoc old (store ∷ []) new)
+-- the last store to each word, once more stores retired
+pub with_stores_of : (values : Values) (new old : List Stored) → with_stores new (notes_of values (last_store_to old)) ≡ notes_of values (last_store_to (old ++ new))
+with_stores_of values [] old = ap (λ stores. notes_of values (last_store_to stores)) (sym (append-nil old))
+with_stores_of values (store ∷ new) old =
+    let own = store_to-own store (word_of store.address) refl in
+    let here : last_store_to (old ++ store ∷ []) (word_of store.address) ≡ Some store.pc =
+    last_store_to-push old store (word_of store.address) ∙ ap (λ last. option_or last (last_store_to old (word_of store.address))) own in
+    let others : (w : ℕ) → (w ≡ word_of store.address → ⊥) → last_store_to old w ≡ last_store_to (old ++ store ∷ []) w =
+    λ w is_not. sym (last_store_to-push old store w ∙ ap (λ last. option_or last (last_store_to old w)) (store_to-other store w is_not)) in
+    ap (with_stores new) (set_one values (last_store_to old) (last_store_to (old ++ store ∷ [])) (word_of store.address) (Some store.pc) (sym here) others) ∙
+    with_stores_of values new (old ++ store ∷ []) ∙ ap (λ stores. notes_of values (last_store_to stores)) (append_assoc old (store ∷ []) new)
 
 -- the stores of one cycle more
 pub stores_of-push : {arrivals : List Arrival} {old now : GuidedHardware} {moments : List Moment} (moment : Moment) → History arrivals old moments now

@@ -1,10 +1,10 @@
 mod Cases
+mod CountSums
+mod CountsGrow
 mod DrainBegins
 mod DrainCounts
 mod Explained
-mod HeadSum
 mod Growing
-mod Heads
 mod LastStores
 mod InterruptsGrow
 mod Joined
@@ -16,4 +16,5 @@ mod Tales
 mod Telling
 mod WordTable
 mod Works
+mod WorstLines
 mod OutcomesGrow

@@ -1,5 +1,5 @@
 -- What is kept of a run, with one cycle more.
-use Rattle.std.proofs.Common.{◌≡◌, ◌∙◌, ℕ, ◌+◌, ◌*◌, ◌^◌, ◌<◌, ◌≤◌, ◌==◌, List, [], ◌∷◌, ◌++◌, length, count_by, filter, Option, Some, None, cond, Bool, true, false, refl, sym, ap, arith, append-nil}
+use Rattle.std.proofs.Common.{◌≡◌, ◌∙◌, ℕ, ◌+◌, ◌*◌, ◌^◌, ◌≤◌, ◌==◌, List, [], ◌∷◌, ◌++◌, length, count_by, filter, Option, Some, None, cond, Bool, true, false, refl, sym, ap, arith, append-nil}
 use Rattle.std.specs.Prelude.{is_some}
 use Rattle.std.specs.List.{cons_option, filter_map}
 use Rattle.std.specs.Option.{option_to_list}
@@ -15,32 +15,35 @@ use Rattle.rv_hardware.specs.Run.{steps_of}
 use Rattle.rv_hardware.specs.Step.{is_retirement}
 use Rattle.rv_hardware.specs.declared.step.Step.{Step}
 use Rattle.rv_hardware.specs.declared.step.Step.TheVariants.{Retired, Trap, Interrupt}
+use Rattle.rv_passage.specs.Passage.{is_squash}
 use Rattle.rv_passage.specs.declared.passage.Passage.{Passage}
 use Rattle.rv_counts.specs.Load.{costs_of, is_hit}
-use Rattle.rv_counts.specs.Passing.{has_left, is_squash}
+use Rattle.rv_counts.specs.Passing.{has_left}
 use Rattle.rv_explain.specs.Dispatch.{dispatched_after, dispatched_with, is_last, none_dispatched, with_cycle}
 use Rattle.rv_explain.specs.Drain.{drain_in, drains_by, drains_of}
 use Rattle.rv_explain.specs.Exception.{exception_of_cycle, exceptions_of}
-use Rattle.rv_explain.specs.Head.{head_cycles}
+use Rattle.rv_explain.specs.Head.{head_after}
 use Rattle.rv_hardware.specs.History.{History, Moment, reports_of}
 use Rattle.rv_explain.specs.Interrupt.{by_line, interruption_of_cycle, interruptions_of, interrupts_after}
 use Rattle.rv_explain.specs.Kinds.{kept_after, kept_of}
-use Rattle.rv_explain.specs.LastStore.{last_store_to, stores_in, stores_of, with_stores}
+use Rattle.rv_explain.specs.LastStore.{last_store_to, stores_in, stores_of}
 use Rattle.rv_explain.specs.Load.{retired_load_cost}
 use Rattle.rv_explain.specs.Tale.{HasRoom, tale_after, tale_of}
 use Rattle.rv_explain.specs.Unit.{arrivals_after, arrivals_by, none_came, unit_wait_in, unit_waits}
 use Rattle.rv_explain.specs.Wait.{CanGrow, both_waits, bus_wait, bus_waits}
+use Rattle.rv_explain.specs.WordCount.{count_at}
 use Rattle.rv_explain.specs.WordNotes.{notes_of}
-use Rattle.rv_explain.specs.Work.{is_mispredicted_branch, is_retired_branch}
+use Rattle.rv_explain.specs.Work.{is_mispredicted_branch, is_retired_branch, word_in}
 use Rattle.rv_explain.specs.declared.{dispatches.Dispatches.Dispatches, exception.Exception.Exception, interruption.Interruption.Interruption}
+use Rattle.rv_explain.specs.declared.work.Class.TheVariants.{Branch, Mispredicted}
 use Rattle.rv_explain.proofs.DrainCounts.{drains_by-append, drains_of-le, drains_of-push}
-use Rattle.rv_explain.proofs.Heads.{head_cycles-le, with_head_of}
+use Rattle.rv_explain.proofs.CountSums.{counted_within}
+use Rattle.rv_explain.proofs.CountsGrow.{heads-push, with_all_at}
 use Rattle.rv_explain.proofs.LastStores.{stores_of-push, with_stores_of}
 use Rattle.rv_explain.proofs.InterruptsGrow.{by_line-push, lines_counted}
 use Rattle.rv_explain.proofs.KindsGrow.{kept-push, kept_counted}
 use Rattle.rv_explain.proofs.OutcomesGrow.{can_take, outcomes-left}
-use Rattle.rv_explain.proofs.WordTable.{note_of}
-use Rattle.rv_explain.proofs.Works.{loads-left, work-left}
+use Rattle.rv_explain.proofs.Works.{branch_words-left, loads-left, mispredicted_words-left, work-left}
 
 kept_after-push : (es : List Exception) (o : Option Exception) → kept_after o (kept_of es) ≡ kept_of (es ++ cons_option o [])
 kept_after-push es None = sym (ap kept_of (append-nil es))
@@ -125,8 +128,7 @@ module _ (values : Values) where
       let steps = shown_steps-push moments moment in
       let exceptions = exceptions-push moments moment in
       let interrupts = interrupts-push moments moment in
-      let heads = ap (with_stores (stores_in now.hardware.registers moment.report.steps)) (with_head_of values (last_store_to (stores_of old.hardware moments)) moments moment) in
-      let stores = with_stores_of values (head_cycles (moments ++ moment ∷ [])) (stores_in now.hardware.registers moment.report.steps) (stores_of old.hardware moments) in
+      let stores = with_stores_of values (stores_in now.hardware.registers moment.report.steps) (stores_of old.hardware moments) in
       let stored = sym (stores_of-push moment passes) in
       let retired = sym (ap (count_by is_retirement) steps ∙ sum_by-append (λ (step : Step). cond (is_retirement step) 1 0) (steps_of (reports_of moments)) moment.report.steps) in
       let dispatches = sym (ap (λ (all : List Step). dispatched_after all none_dispatched) steps ∙ dispatched_after-append (steps_of (reports_of moments)) moment.report.steps none_dispatched) in
@@ -137,7 +139,10 @@ module _ (values : Values) where
       let loads = loads-left (costs_of values) rows left in
       let outcomes = outcomes-left values (costs_of values) (filter has_left rows) left in
       let drains = sym (ap (drains_by values.cache.hit) (drains_of-push moment passes) ∙ drains_by-append values.cache.hit (drains_of arrivals old.hardware moments) (option_to_list (drain_in arrivals now.hardware))) in
-      let words = heads ∙ stores ∙ (λ i. notes_of values (λ word. record { last_store = last_store_to (stored i) word; head_cycles = head_cycles (moments ++ moment ∷ []) word })) in
+      let last_stores = stores ∙ (λ i. notes_of values (last_store_to (stored i))) in
+      let heads = heads-push values moments moment in
+      let branches = with_all_at values (word_in Branch) rows (count_at (word_in Branch) left) (count_at (word_in Branch) (filter has_left rows ++ left)) (branch_words-left rows left) in
+      let mispredicted = with_all_at values (word_in Mispredicted) rows (count_at (word_in Mispredicted) left) (count_at (word_in Mispredicted) (filter has_left rows ++ left)) (mispredicted_words-left rows left) in
       λ i. record {
         retired = retired i;
         exceptions = exceptions i;
@@ -150,7 +155,10 @@ module _ (values : Values) where
         costs = costs_of values;
         loads = loads i;
         drains = drains i;
-        words = words i;
+        last_stores = last_stores i;
+        heads = heads i;
+        branches = branches i;
+        mispredicted = mispredicted i;
         outcomes = outcomes i;
       }
 
@@ -174,5 +182,7 @@ module _ (values : Values) where
     drains = omega (arith, drains_of-le arrivals h moments, within);
     hits = omega (arith, drains_of-le arrivals h moments, count_by-le-length (λ (cost : ℕ). cost == values.cache.hit) (drains_of arrivals h moments), within);
     outcomes = can_take values (costs_of values) left rows (omega (arith, fewer, some));
-    heads = note_of values (λ word. record { last_store = last_store_to (stores_of h moments) word; head_cycles = head_cycles moments word }) (λ note. note.head_cycles + 1 < 2 ^ 64) (λ word. omega (arith, head_cycles-le moments word, within));
+    heads = omega (arith, counted_within head_after values moments, within);
+    branch_words = omega (arith, counted_within (word_in Branch) values left, fewer, some);
+    mispredicted_words = omega (arith, counted_within (word_in Mispredicted) values left, fewer, some);
   }

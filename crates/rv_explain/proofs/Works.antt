@@ -1,16 +1,19 @@
 -- What became of the fetched words, as instructions leave the hardware.
-use Rattle.std.proofs.Common.{◌≡◌, ◌∙◌, ◌+◌, Bool, true, false, List, [], ◌∷◌, ◌++◌, length, filter, count_by, cond, refl, ap, sym, arith, length-append}
+use Rattle.std.proofs.Common.{◌≡◌, ◌∙◌, ℕ, ◌+◌, Bool, true, false, List, [], ◌∷◌, ◌++◌, length, filter, count_by, cond, refl, ap, sym, arith, length-append}
 use Rattle.std.specs.Prelude.{is_some, not}
 use Rattle.std.proofs.lemmas.List.Sums.{sum_by-append, sum_by-cons}
-use Rattle.rv_passage.specs.Passage.{is_running}
+use Rattle.rv_passage.specs.Passage.{is_running, is_squash}
 use Rattle.rv_passage.specs.declared.passage.{Ending.Ending, Passage.Passage}
 use Rattle.rv_passage.specs.declared.passage.Ending.TheVariants as ending
 use Rattle.rv_counts.specs.Load.{is_hit}
-use Rattle.rv_counts.specs.Passing.{has_left, is_retirement, is_squash}
+use Rattle.rv_counts.specs.Passing.{has_left, is_retirement}
 use Rattle.rv_counts.specs.declared.loads.LoadCosts.{LoadCosts}
 use Rattle.rv_explain.specs.Access.{both}
 use Rattle.rv_explain.specs.Load.{loads_of, retired_load_cost}
-use Rattle.rv_explain.specs.Work.{both_work, is_mispredicted_branch, is_retired_branch, work_of}
+use Rattle.rv_explain.specs.WordCount.{count_at, is_word}
+use Rattle.rv_explain.specs.Work.{both_work, is_mispredicted_branch, is_of, is_retired_branch, word_in, work_of}
+use Rattle.rv_explain.specs.declared.work.Class.{Class}
+use Rattle.rv_explain.specs.declared.work.Class.TheVariants.{Branch, Mispredicted}
 
 -- what did not leave the hardware neither retired nor was squashed
 unretired_by : (e : Ending) → not (is_running e) ≡ false → is_retirement e ≡ false
@@ -77,3 +80,18 @@ loads-left costs rows old =
     let all = count-behind (λ p. is_some (retired_load_cost p)) (filter has_left rows) old in
     let quick = count-behind (λ p. is_hit costs (retired_load_cost p)) (filter has_left rows) old in
     ap (both (loads_of costs old)) (loads_left costs rows) ∙ (λ i. record { all = all i; quick = quick i })
+
+-- the words of RAM of those of a class
+words-left : (class : Class) (none : (p : Passage) → has_left p ≡ false → is_of class p ≡ false) (rows old : List Passage) (word : ℕ)
+    → count_at (word_in class) (filter has_left rows ++ old) word ≡ count_at (word_in class) old word + count_at (word_in class) rows word
+words-left class none rows old word =
+    let test : Passage → Bool = λ p. is_word word (word_in class p) in
+    sym (count-behind test (filter has_left rows) old) ∙ ap (λ n. count_at (word_in class) old word + n) (count-left test (λ p is. rw (none p is) refl) rows)
+
+pub branch_words-left : (rows old : List Passage) (word : ℕ)
+    → count_at (word_in Branch) (filter has_left rows ++ old) word ≡ count_at (word_in Branch) old word + count_at (word_in Branch) rows word
+branch_words-left = words-left Branch (λ p is. rw (unretired p is) refl)
+
+pub mispredicted_words-left : (rows old : List Passage) (word : ℕ)
+    → count_at (word_in Mispredicted) (filter has_left rows ++ old) word ≡ count_at (word_in Mispredicted) old word + count_at (word_in Mispredicted) rows word
+mispredicted_words-left = words-left Mispredicted (λ p is. rw (unretired p is) refl)

@@ -8,7 +8,6 @@ use Rattle.rv_hardware.specs.Hardware.{Hardware}
 use Rattle.rv_source.specs.Listing.{Listed}
 use Rattle.rv_explain.specs.Place.{place_text}
 use Rattle.rv_explain.specs.WordNotes.{Notes, note_at}
-use Rattle.rv_explain.specs.declared.word_note.WordNote.{WordNote}
 
 -- why a run ended
 unfoldable pub reason_text : Stop → List ℕ
@@ -31,13 +30,12 @@ last_store_text listing (Some pc) = codes "The last store to that word was the o
 last_store_text listing None = []
 
 -- the last store to the word at which a run ended, if that is stale
-abbrev pub stale_text : Listed → Stop → Notes WordNote → List ℕ
-stale_text listing (Stale pc) notes =
-    last_store_text listing (option_and_then (λ (note : WordNote). note.last_store) (note_at notes (word_of pc)))
-stale_text listing Breakpoint notes = []
-stale_text listing Limit notes = []
-stale_text listing Exhausted notes = []
+abbrev pub stale_text : Listed → Stop → Notes (Option ℕ) → List ℕ
+stale_text listing (Stale pc) last_stores = last_store_text listing (option_and_then (λ last. last) (note_at last_stores (word_of pc)))
+stale_text listing Breakpoint last_stores = []
+stale_text listing Limit last_stores = []
+stale_text listing Exhausted last_stores = []
 
 -- how a run ended, and where
-unfoldable pub ending_text : Listed → Stop → Hardware → Notes WordNote → List ℕ
-ending_text listing stop h notes = reason_text stop ++ (place_text listing (place_of stop h) ++ stale_text listing stop notes)
+unfoldable pub ending_text : Listed → Stop → Hardware → Notes (Option ℕ) → List ℕ
+ending_text listing stop h last_stores = reason_text stop ++ (place_text listing (place_of stop h) ++ stale_text listing stop last_stores)

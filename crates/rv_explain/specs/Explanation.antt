@@ -24,6 +24,7 @@ use Rattle.rv_explain.specs.Stack.{count_text, stall_text}
 use Rattle.rv_explain.specs.Tale.{tale_of}
 use Rattle.rv_explain.specs.Wait.{waits_text}
 use Rattle.rv_explain.specs.Work.{work_text}
+use Rattle.rv_explain.specs.Worst.{worst_text}
 use Rattle.rv_explain.specs.declared.tale.Tale.{Tale}
 
 -- cycles, with the hardware that each left, up to the end of a run, the instructions that left the hardware in them and those in
@@ -55,13 +56,13 @@ waited_text tale =
 unfoldable pub cost_text : Listed → Progress → ℕ → Tale → List ℕ
 cost_text listing progress fetched tale =
     cycle_text progress tale.retired ++ (dispatches_text progress.busy tale.dispatches.cycles ++
-    (work_text fetched tale.work ++ (waited_text tale ++
-    hotspots_text listing progress.cycles tale.words tale.outcomes)))
+    (work_text fetched tale.work ++ (worst_text listing tale.branches tale.mispredicted ++ (waited_text tale ++
+    hotspots_text listing progress.cycles tale.heads tale.outcomes))))
 
 -- the sentences, by how many words were fetched among others
 unfoldable pub explanation : Listed → Stop → Hardware → Progress → ℕ → Tale → List ℕ
 explanation listing stop h progress fetched tale =
-    ending_text listing stop h tale.words ++ (exceptions_text listing tale.exceptions.all tale.exceptions.kinds ++
+    ending_text listing stop h tale.last_stores ++ (exceptions_text listing tale.exceptions.all tale.exceptions.kinds ++
     (interrupts_text listing tale.interrupts ++ cost_text listing progress fetched tale))
 
 -- A text explains a run that ended for a reason, by the instructions that left the hardware in it and those in flight at its end.

@@ -11,8 +11,8 @@ use Rattle.rv_hardware.specs.Hardware.{Hardware}
 use Rattle.rv_hardware.specs.declared.step.Step.{Step}
 use Rattle.rv_hardware.specs.declared.step.Step.TheVariants.{Retired, Trap, Interrupt}
 use Rattle.rv_hardware.specs.History.{Moment}
-use Rattle.rv_explain.specs.WordNotes.{Notes, stored_by, with_change}
-use Rattle.rv_explain.specs.declared.{stored.Stored.Stored, word_note.WordNote.WordNote}
+use Rattle.rv_explain.specs.WordNotes.{Notes, with_note}
+use Rattle.rv_explain.specs.declared.stored.Stored.{Stored}
 
 -- the registers once an instruction retired
 abbrev pub with_written : List ℕ → Option (ℕ × ℕ) → List ℕ
@@ -56,7 +56,7 @@ abbrev pub last_store_to : List Stored → ℕ → Option ℕ
 last_store_to [] word = None
 last_store_to (store ∷ stores) word = option_or (last_store_to stores word) (store_to store word)
 
--- what is kept of the words once some stores retired
-abbrev pub with_stores : List Stored → Notes WordNote → Notes WordNote
-with_stores [] notes = notes
-with_stores (store ∷ stores) notes = with_stores stores (with_change (stored_by store.pc) notes (word_of store.address))
+-- the last store to each word once some stores retired
+abbrev pub with_stores : List Stored → Notes (Option ℕ) → Notes (Option ℕ)
+with_stores [] last_stores = last_stores
+with_stores (store ∷ stores) last_stores = with_stores stores (with_note last_stores (word_of store.address) (Some store.pc))

@@ -1,5 +1,6 @@
 pub mod Place
 pub mod WordNotes
+pub mod WordCount
 pub mod LastStore
 pub mod Head
 pub mod Access
@@ -8,7 +9,9 @@ pub mod Drain
 pub mod Stack
 pub mod Work
 pub mod Outcome
+pub mod Spot
 pub mod Hotspot
+pub mod Worst
 pub mod Ending
 pub mod Series
 pub mod Kinds

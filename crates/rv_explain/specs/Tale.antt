@@ -1,5 +1,5 @@
 -- What is kept of a run, cycle by cycle.
-use Rattle.std.specs.Prelude.{◌≡◌, ℕ, ◌+◌, ◌^◌, ◌<◌, ◌≤◌, List, [], count_by, filter, length, Option, IfSome}
+use Rattle.std.specs.Prelude.{◌≡◌, ℕ, ◌+◌, ◌^◌, ◌<◌, ◌≤◌, List, [], count_by, filter, length, sum, Option}
 use Rattle.std.specs.Option.{option_to_list}
 use Rattle.rv_isa.specs.declared.{lines.Arrival.Arrival, values.Values.Values}
 use Rattle.rv_core.specs.Watching.{Watched}
@@ -16,7 +16,7 @@ use Rattle.rv_explain.specs.Access.{both}
 use Rattle.rv_explain.specs.Dispatch.{dispatched_after, none_dispatched}
 use Rattle.rv_explain.specs.Drain.{drains_by, drains_of}
 use Rattle.rv_explain.specs.Exception.{exception_in, exceptions_of}
-use Rattle.rv_explain.specs.Head.{head_cycles, head_word, with_head}
+use Rattle.rv_explain.specs.Head.{head_cycles, head_word}
 use Rattle.rv_hardware.specs.History.{Moment, reports_of}
 use Rattle.rv_explain.specs.Interrupt.{AreCountable, by_line, interruption_in, interruptions_of, interrupts_after}
 use Rattle.rv_explain.specs.Kinds.{IsCountable, kept_after, kept_of}
@@ -25,9 +25,11 @@ use Rattle.rv_explain.specs.Load.{loads_of}
 use Rattle.rv_explain.specs.Outcome.{CanTake, outcomes_at, with_passages}
 use Rattle.rv_explain.specs.Unit.{arrivals_after, none_came, unit_waits}
 use Rattle.rv_explain.specs.Wait.{CanGrow, both_waits, bus_waits}
-use Rattle.rv_explain.specs.WordNotes.{note_at, notes_of}
-use Rattle.rv_explain.specs.Work.{both_work, work_of}
+use Rattle.rv_explain.specs.WordCount.{count_at, with_all, with_one}
+use Rattle.rv_explain.specs.WordNotes.{notes_of}
+use Rattle.rv_explain.specs.Work.{both_work, word_in, work_of}
 use Rattle.rv_explain.specs.declared.tale.Tale.{Tale}
+use Rattle.rv_explain.specs.declared.work.Class.TheVariants.{Branch, Mispredicted}
 
 -- what is kept of some cycles that began with such hardware, by the arrivals at the interrupt lines, and of the instructions that
 -- left the hardware in them
@@ -44,7 +46,10 @@ tale_of values arrivals h moments left = record {
   costs = costs_of values;
   loads = loads_of (costs_of values) left;
   drains = drains_by values.cache.hit (drains_of arrivals h moments);
-  words = notes_of values (λ word. record { last_store = last_store_to (stores_of h moments) word; head_cycles = head_cycles moments word });
+  last_stores = notes_of values (last_store_to (stores_of h moments));
+  heads = notes_of values (head_cycles moments);
+  branches = notes_of values (count_at (word_in Branch) left);
+  mispredicted = notes_of values (count_at (word_in Mispredicted) left);
   outcomes = notes_of values (outcomes_at (costs_of values) left);
 }
 
@@ -63,7 +68,10 @@ tale_after registers steps drain after rows tale = record {
   costs = tale.costs;
   loads = both tale.loads (loads_of tale.costs rows);
   drains = both tale.drains (drains_by tale.costs.hit (option_to_list drain));
-  words = with_stores (stores_in registers steps) (with_head (head_word after) tale.words);
+  last_stores = with_stores (stores_in registers steps) tale.last_stores;
+  heads = with_one (head_word after) tale.heads;
+  branches = with_all (word_in Branch) rows tale.branches;
+  mispredicted = with_all (word_in Mispredicted) rows tale.mispredicted;
   outcomes = with_passages tale.costs (filter has_left rows) tale.outcomes;
 }
 
@@ -97,4 +105,6 @@ pub record HasRoom (tale : Tale) (more rows : ℕ) : Type 0 where
   pub drains : tale.drains.all + 1 < 2 ^ 64
   pub hits : tale.drains.quick + 1 < 2 ^ 64
   pub outcomes : CanTake tale.outcomes rows
-  pub heads : (word : ℕ) → IfSome (note_at tale.words word) (λ note. note.head_cycles + 1 < 2 ^ 64)
+  pub heads : sum tale.heads.words + 1 < 2 ^ 64
+  pub branch_words : sum tale.branches.words + rows < 2 ^ 64
+  pub mispredicted_words : sum tale.mispredicted.words + rows < 2 ^ 64

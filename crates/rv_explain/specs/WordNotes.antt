@@ -1,9 +1,8 @@
 -- What is kept of each word of RAM.
-use Rattle.std.specs.Prelude.{ℕ, ◌+◌, ◌-◌, nat_lt, if◌then◌else◌, List, map, Option, Some, None, slice_set}
+use Rattle.std.specs.Prelude.{ℕ, ◌-◌, nat_lt, if◌then◌else◌, List, map, Option, Some, None, slice_set}
 use Rattle.std.specs.List.{range_with_len, slice_get}
 use Rattle.rv_isa.specs.declared.values.Values.{Values}
 use Rattle.rv_memory.specs.Memory.{word_of}
-use Rattle.rv_explain.specs.declared.word_note.WordNote.{WordNote}
 
 -- the number of RAM's first word, and what is kept of that word and of the others, in order
 pub record Notes (X : Type 0) : Type 0 where
@@ -34,11 +33,3 @@ changed change notes word (Some note) = with_note notes word (change note)
 -- a change of what is kept of a word; of a word outside RAM nothing is
 abbrev pub with_change : {X : Type 0} → (X → X) → Notes X → ℕ → Notes X
 with_change change notes word = changed change notes word (note_at notes word)
-
--- the instruction at an address stored to a word
-abbrev pub stored_by : ℕ → WordNote → WordNote
-stored_by pc note = record note { last_store = Some pc }
-
--- the instruction in a word stood at the head for one more cycle
-abbrev pub once_more_at_head : WordNote → WordNote
-once_more_at_head note = record note { head_cycles = note.head_cycles + 1 }

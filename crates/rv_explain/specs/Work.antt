@@ -1,9 +1,11 @@
 -- What became of the fetched words, and how many of the branches and jumps among them were mispredicted.
-use Rattle.std.specs.Prelude.{ℕ, ◌+◌, ◌/◌, ◌%◌, ◌==◌, ◌&&◌, Bool, if◌then◌else◌, List, ◌++◌, codes, count_by, decimal, is_some, length}
+use Rattle.std.specs.Prelude.{ℕ, ◌+◌, ◌/◌, ◌%◌, ◌==◌, ◌&&◌, Bool, if◌then◌else◌, List, ◌++◌, codes, count_by, decimal, is_some, length, Option, Some, None}
 use Rattle.rv_isa.specs.Instruction.{is_branch_or_jump}
+use Rattle.rv_memory.specs.Memory.{word_of}
+use Rattle.rv_passage.specs.Passage.{is_squash}
 use Rattle.rv_passage.specs.Prediction.{is_mispredicted}
 use Rattle.rv_passage.specs.declared.passage.Passage.{Passage}
-use Rattle.rv_counts.specs.Passing.{has_left, is_retirement, is_squash}
+use Rattle.rv_counts.specs.Passing.{has_left, is_retirement}
 use Rattle.rv_explain.specs.Load.{retired_load_cost}
 use Rattle.rv_explain.specs.Stack.{parts_of}
 use Rattle.rv_explain.specs.declared.work.{Class.Class, Work.Work}
@@ -24,6 +26,10 @@ is_of Squashed p = is_squash p.ending
 is_of Branch p = is_retired_branch p
 is_of Mispredicted p = is_mispredicted_branch p
 is_of Load p = is_some (retired_load_cost p)
+
+-- the word of RAM that a fetched word is, if it is of a class
+abbrev pub word_in : Class → Passage → Option ℕ
+word_in class p = if is_of class p then Some (word_of p.pc) else None
 
 -- of some instructions that left the hardware
 abbrev pub work_of : List Passage → Work

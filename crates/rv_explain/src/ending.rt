@@ -68,12 +68,12 @@ fn write_stale<W: Write>(
     writer: &mut W,
     listing: &Listing,
     stop: Stop,
-    words: &WordNotes,
+    last_stores: &WordNotes<Option<u32>>,
 ) -> Result<(), ReportError>
-    ensures { IsWritten result (W.contents writer.old) (W.contents writer.new) (stale_text listing.now stop words.now) }
+    ensures { IsWritten result (W.contents writer.old) (W.contents writer.new) (stale_text listing.now stop last_stores.now) }
 {
     match stop {
-        Stop::Stale(pc) => write_last_store(writer, listing, words.last_store(pc / 4)),
+        Stop::Stale(pc) => write_last_store(writer, listing, last_stores.at(pc / 4).flatten()),
         Stop::Breakpoint | Stop::Limit | Stop::Exhausted => Ok(()),
     }
 }
@@ -84,11 +84,11 @@ pub(crate) fn write_ending<W: Write>(
     listing: &Listing,
     stop: Stop,
     pipeline: &Pipeline,
-    words: &WordNotes,
+    last_stores: &WordNotes<Option<u32>>,
 ) -> Result<(), ReportError>
-    ensures { IsWritten result (W.contents writer.old) (W.contents writer.new) (ending_text listing.now stop pipeline.now words.now) }
+    ensures { IsWritten result (W.contents writer.old) (W.contents writer.new) (ending_text listing.now stop pipeline.now last_stores.now) }
 {
     put(writer, reason(stop))?;
     write_place(writer, listing, place(stop, pipeline))?;
-    write_stale(writer, listing, stop, words)
+    write_stale(writer, listing, stop, last_stores)
 }

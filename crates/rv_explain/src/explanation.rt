@@ -1,6 +1,5 @@
-ghost use Rattle.std.specs.Prelude.{◌≡◌, ◌≤◌, Err, List, [], length, sum, vec_capacity, IfOk};
+ghost use Rattle.std.specs.Prelude.{◌≡◌, ◌≤◌, ◌<◌, ◌^◌, Err, List, [], length, sum, vec_capacity, IfOk};
 ghost use Rattle.rv_explain.specs.Explanation.{IsExplanation, cost_text, cycle_text, explanation, waited_text};
-ghost use Rattle.rv_explain.specs.Hotspot.{counts_of};
 ghost use Rattle.rv_hardware.specs.Guided.{guided};
 ghost use Rattle.rv_hardware.specs.Hardware.{Hardware};
 ghost use Rattle.rv_isa.specs.declared.lines.Arrival.{Arrival};
@@ -21,6 +20,7 @@ use crate::stack::{write_counts, write_stalls};
 use crate::tale::Tale;
 use crate::waits::write_waits;
 use crate::work::write_work;
+use crate::worst::write_worst;
 use rv_arch::Stop;
 use rv_core::{Pipeline, Progress};
 use rv_front::Predictor;
@@ -104,19 +104,22 @@ fn write_costs<W: Write>(
     fetched: u64,
     tale: &mut Tale,
 ) -> Result<(), ReportError>
-    requires heads { sum (counts_of tale.old.words) ≤ progress.now.cycles }
+    requires heads { sum tale.old.heads.words ≤ progress.now.cycles }
+    requires branches { sum tale.old.branches.words < 2 ^ 64 }
+    requires mispredicted { sum tale.old.mispredicted.words < 2 ^ 64 }
     ensures { IsWritten result (W.contents writer.old) (W.contents writer.new) (cost_text listing.now progress.now fetched tale.old) }
 {
     write_cycles(writer, progress, tale.retired)?;
     write_dispatches(writer, progress.busy, &tale.dispatches)?;
     write_work(writer, fetched, &tale.work)?;
+    write_worst(writer, listing, &mut tale.branches, &mut tale.mispredicted)?;
     write_waited(writer, tale)?;
     write_hotspots(
         writer,
         listing,
         progress.cycles,
         &tale.outcomes,
-        &mut tale.words,
+        &mut tale.heads,
     )
 }
 
@@ -130,10 +133,12 @@ fn write_told<W: Write>(
     fetched: u64,
     tale: &mut Tale,
 ) -> Result<(), ReportError>
-    requires heads { sum (counts_of tale.old.words) ≤ progress.now.cycles }
+    requires heads { sum tale.old.heads.words ≤ progress.now.cycles }
+    requires branches { sum tale.old.branches.words < 2 ^ 64 }
+    requires mispredicted { sum tale.old.mispredicted.words < 2 ^ 64 }
     ensures { IsWritten result (W.contents writer.old) (W.contents writer.new) (explanation listing.now stop pipeline.now progress.now fetched tale.old) }
 {
-    write_ending(writer, listing, stop, pipeline, &tale.words)?;
+    write_ending(writer, listing, stop, pipeline, &tale.last_stores)?;
     write_exceptions(writer, listing, &tale.exceptions)?;
     write_interrupts(writer, listing, &tale.interrupts)?;
     write_costs(writer, listing, progress, fetched, tale)
@@ -143,7 +148,7 @@ fn write_told<W: Write>(
 /// exhaustion or so many cycles, and then writes what the run came to, in plain sentences: how it ended, where and why,
 /// and for a stale word the last store to it; its exceptions and interrupts; where the cycles went; how many dispatched only
 /// what did not retire; how many words were fetched and how many of them squashed; how many branches and jumps retired, and how
-/// many of them were mispredicted; what results waited for the bus, and instructions for a unit; what its loads and the drains of
+/// many of them were mispredicted, with the three lines that most of those come from; what results waited for the bus, and instructions for a unit; what its loads and the drains of
 /// its stores cost; and the five lines that most cycles left at the head of the reorder buffer, with their loads. The description tells where RAM lies, whose words are counted, and what loads and drains
 /// cost. The listing is that of the program, whose lines are shown.
 /// Answers why the run ended.

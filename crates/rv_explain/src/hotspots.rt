@@ -1,38 +1,27 @@
-ghost use Rattle.std.specs.Prelude.{◌≡◌, ◌+◌, ◌≤◌, ◌<◌, ◌^◌, ℕ, IfSome, sum};
+ghost use Rattle.std.specs.Prelude.{◌≡◌, ◌≤◌, sum};
 ghost use Rattle.std.specs.List.{flat_map};
-ghost use Rattle.rv_explain.specs.Head.{head_word, with_head};
-ghost use Rattle.rv_explain.specs.Hotspot.{counts_of, hotspot_text, has_loads, hotspots, hotspots_text, load_counts, loads_there};
-ghost use Rattle.rv_explain.specs.WordNotes.{note_at};
+ghost use Rattle.rv_explain.specs.Head.{head_word};
+ghost use Rattle.rv_explain.specs.Hotspot.{has_loads, hotspot_text, hotspots_text, load_counts, loads_there};
 ghost use Rattle.rv_text.specs.Written.{IsWritten};
 
-use crate::hotspot::Hotspot;
+use crate::greatest_lines::greatest_lines;
 use crate::outcomes::Outcomes;
 use crate::place::write_place;
+use crate::spot::Spot;
 use crate::stack::write_share;
 use crate::word_notes::WordNotes;
-use crate::word_outcomes::WordOutcomes;
 use itoa::Buffer;
 use rv_core::Pipeline;
 use rv_source::Listing;
 use rv_text::{ReportError, put, put_all};
 use std::io::Write;
 
-// The word of the instruction at the head of the reorder buffer.
-fn head_word(pipeline: &Pipeline) -> Option<u32>
+/// The word of the instruction at the head of the reorder buffer.
+pub(crate) fn head_word(pipeline: &Pipeline) -> Option<u32>
     ensures { result ≡ head_word pipeline.now }
 {
     let head = pipeline.reorder_buffer().head()?;
     Some(head.pc / 4)
-}
-
-/// Keeps which instruction a cycle left at the head of the reorder buffer.
-pub(crate) fn note_head(words: &mut WordNotes, pipeline: &Pipeline)
-    requires room { (word : ℕ) → IfSome (note_at words.old word) (λ note. note.head_cycles + 1 < 2 ^ 64) }
-    ensures { words.new ≡ with_head (head_word pipeline.now) words.old }
-{
-    if let Some(word) = head_word(pipeline) {
-        words.note_head(word);
-    }
 }
 
 fn has_loads(outcomes: &Outcomes) -> bool
@@ -89,54 +78,47 @@ fn write_hotspot<W: Write>(
     writer: &mut W,
     listing: &Listing,
     all: u64,
-    outcomes: &WordOutcomes,
-    hotspot: &Hotspot,
+    outcomes: &WordNotes<Outcomes>,
+    hotspot: &Spot,
 ) -> Result<(), ReportError>
     ensures { IsWritten result (W.contents writer.old) (W.contents writer.new) (hotspot_text listing.now all outcomes.now hotspot.now) }
 {
     write_place(writer, listing, hotspot.address)?;
-    write_share(writer, "       ", hotspot.cycles, all)?;
+    write_share(writer, "       ", hotspot.count, all)?;
     write_loads_there(writer, outcomes.at(hotspot.address / 4))
 }
 
-// Writes at most so many of the places with the most cycles.
-fn write_most<W: Write>(
+fn write_each<W: Write>(
     writer: &mut W,
     listing: &Listing,
     all: u64,
-    outcomes: &WordOutcomes,
-    words: &mut WordNotes,
-    most: u32,
+    outcomes: &WordNotes<Outcomes>,
+    hotspots: &[Spot],
 ) -> Result<(), ReportError>
-    ensures { IsWritten result (W.contents writer.old) (W.contents writer.new) (flat_map (hotspot_text listing.now all outcomes.now) (hotspots most words.old.first (counts_of words.old))) }
+    ensures { IsWritten result (W.contents writer.old) (W.contents writer.new) (flat_map (hotspot_text listing.now all outcomes.now) hotspots.now) }
 {
-    if most == 0 {
-        return Ok(());
+    for hotspot in hotspots {
+        write_hotspot(writer, listing, all, outcomes, hotspot)?;
     }
-    let hotspot = words.take_hotspot();
-    if hotspot.cycles == 0 {
-        return Ok(());
-    }
-    write_hotspot(writer, listing, all, outcomes, &hotspot)?;
-    write_most(writer, listing, all, outcomes, words, most - 1)
+    Ok(())
 }
 
-/// Writes the five lines that stood longest at the head, each with its loads, and leaves no count of theirs. No more cycles left a word at the head
-/// than there were.
+/// Writes the five lines that stood longest at the head, by the cycles that left each word there, each with its loads, and leaves no
+/// count of theirs. The cycles of all words are no more than there were.
 pub(crate) fn write_hotspots<W: Write>(
     writer: &mut W,
     listing: &Listing,
     all: u64,
-    outcomes: &WordOutcomes,
-    words: &mut WordNotes,
+    outcomes: &WordNotes<Outcomes>,
+    heads: &mut WordNotes<u64>,
 ) -> Result<(), ReportError>
-    requires heads { sum (counts_of words.old) ≤ all }
-    ensures { IsWritten result (W.contents writer.old) (W.contents writer.new) (hotspots_text listing.now all words.old outcomes.now) }
+    requires heads { sum heads.old.words ≤ all }
+    ensures { IsWritten result (W.contents writer.old) (W.contents writer.new) (hotspots_text listing.now all heads.old outcomes.now) }
 {
     put(
         writer,
         b"The lines that stood longest at the head of the reorder buffer, in cycles:\n",
     )?;
-    words.join_lines(listing);
-    write_most(writer, listing, all, outcomes, words, 5)
+    let hotspots = greatest_lines(heads, listing, 5);
+    write_each(writer, listing, all, outcomes, hotspots.as_slice())
 }

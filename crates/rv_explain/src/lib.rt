@@ -1,6 +1,7 @@
 //! What a run of the core came to, in plain sentences: how it ended and why, its exceptions and interrupts, where its cycles went, what
-//! became of the fetched words and of the predictions, what its loads and the drains of its stores cost, and the lines that stood longest at the head of the reorder buffer. The text is a
-//! function of the run and of the listing of its program.
+//! became of the fetched words and of the predictions, the lines with the most wrong ones, what its loads and the drains of its stores
+//! cost, and the lines that stood longest at the head of the reorder buffer. The text is a function of the run and of the listing of its
+//! program.
 #![tactic(auto)]
 
 mod accesses;
@@ -10,7 +11,7 @@ mod ending;
 mod exception;
 mod exceptions;
 mod explanation;
-mod hotspot;
+mod greatest_lines;
 mod hotspots;
 mod interrupt_lines;
 mod interruption;
@@ -23,15 +24,15 @@ mod outcomes;
 mod place;
 mod running;
 mod series;
+mod spot;
 mod stack;
 mod stored;
 mod stores;
 mod tale;
 mod unit_waits;
 mod waits;
-mod word_note;
 mod word_notes;
-mod word_outcomes;
 mod work;
+mod worst;
 
 pub use explanation::write_explanation;

@@ -1,7 +1,6 @@
-ghost use Rattle.std.specs.Prelude.{◌≡◌, ◌+◌, ◌≤◌, ◌<◌, ◌^◌, length, map, sum};
-ghost use Rattle.rv_explain.specs.Hotspot.{by_line, is_one_line, number_of, with_next_at};
+ghost use Rattle.std.specs.Prelude.{◌≡◌, ◌+◌, ◌≤◌, ◌<◌, ◌^◌, length, sum};
+ghost use Rattle.rv_explain.specs.Spot.{by_line, is_one_line, number_of, with_next_at};
 
-use crate::word_note::WordNote;
 use rv_source::Listing;
 
 // Whether two words come from one line.
@@ -16,32 +15,32 @@ fn is_one_line(listing: &Listing, word: u32, other: u32) -> bool
     }
 }
 
-// Gives the cycles at the head of the word after a place to the word there.
-fn join_next(words: &mut [WordNote], place: usize)
-    requires within { place + 1 < length words.old }
-    requires room { sum (map (λ note. note.head_cycles) words.old) < 2 ^ 64 }
-    ensures counts { map (λ note. note.head_cycles) words.new ≡ with_next_at place (map (λ note. note.head_cycles) words.old) }
-    ensures len { length words.new ≡ length words.old }
+// Gives the count after a place to the place.
+fn join_next(counts: &mut [u64], place: usize)
+    requires within { place + 1 < length counts.old }
+    requires room { sum counts.old < 2 ^ 64 }
+    ensures counts { counts.new ≡ with_next_at place counts.old }
+    ensures len { length counts.new ≡ length counts.old }
 {
-    let next = words[place + 1].head_cycles;
-    words[place].head_cycles += next;
-    words[place + 1].head_cycles = 0;
+    let next = counts[place + 1];
+    counts[place] += next;
+    counts[place + 1] = 0;
 }
 
-/// Gives the cycles at the head of all words of a line to its first word. The number of the first of all words is given.
-pub(crate) fn join_lines(words: &mut [WordNote], first: u32, listing: &Listing)
-    requires some { 0 < length words.old }
-    requires reach { first + length words.old ≤ 2 ^ 30 }
-    requires room { sum (map (λ note. note.head_cycles) words.old) < 2 ^ 64 }
-    ensures counts { map (λ note. note.head_cycles) words.new ≡ by_line listing.now first (map (λ note. note.head_cycles) words.old) }
-    ensures len { length words.new ≡ length words.old }
+/// Gives the counts of all words of a line to its first word. The number of the first of all words is given.
+pub(crate) fn join_lines(counts: &mut [u64], first: u32, listing: &Listing)
+    requires some { 0 < length counts.old }
+    requires reach { first + length counts.old ≤ 2 ^ 30 }
+    requires room { sum counts.old < 2 ^ 64 }
+    ensures counts { counts.new ≡ by_line listing.now first counts.old }
+    ensures len { length counts.new ≡ length counts.old }
 {
-    let mut place = words.len() - 1;
+    let mut place = counts.len() - 1;
     while place > 0 {
         place -= 1;
         let word = first + place as u32;
         if is_one_line(listing, word, word + 1) {
-            join_next(words, place);
+            join_next(counts, place);
         }
     }
 }

@@ -1,10 +1,13 @@
-ghost use Rattle.std.specs.Prelude.{◌≡◌, ◌+◌, ◌<◌, ◌^◌};
+ghost use Rattle.std.specs.Prelude.{◌≡◌, ◌+◌, ◌<◌, ◌^◌, IfSome, filter, length};
 ghost use Rattle.rv_counts.specs.Counts.{one_more};
 ghost use Rattle.rv_counts.specs.Load.{is_hit, is_miss};
+ghost use Rattle.rv_counts.specs.Passing.{has_left};
 ghost use Rattle.rv_explain.specs.Load.{retired_load_cost};
-ghost use Rattle.rv_explain.specs.Outcome.{CanCount, is_write_back, nothing_came, outcomes_with};
+ghost use Rattle.rv_explain.specs.Outcome.{CanCount, CanTake, is_write_back, nothing_came, outcomes_with, with_passages};
+ghost use Rattle.rv_explain.specs.WordNotes.{note_at, with_change};
 
 use crate::loads::{is_quick, retired_load_cost};
+use crate::word_notes::WordNotes;
 use rv_counts::LoadCosts;
 use rv_passage::Passage;
 
@@ -64,6 +67,29 @@ impl Outcomes {
             hits: one_more(is_quick(costs, passage), self.hits),
             misses: one_more(is_miss(costs, passage), self.misses),
             write_backs: one_more(is_write_back(costs, passage), self.write_backs),
+        }
+    }
+}
+
+// Counts an instruction in a word.
+fn count_in(words: &mut WordNotes<Outcomes>, costs: &LoadCosts, word: u32, passage: &Passage)
+    requires room { IfSome (note_at words.old word) CanCount }
+    ensures { words.new ≡ with_change (outcomes_with costs.now passage.now) words.old word }
+{
+    if let Some(outcomes) = words.at(word) {
+        words.set(word, outcomes.with(costs, passage));
+    }
+}
+
+/// Counts those of some instructions that left the hardware.
+pub(crate) fn count_left(words: &mut WordNotes<Outcomes>, costs: &LoadCosts, rows: &[Passage])
+    requires room { CanTake words.old (length rows.now) }
+    ensures { words.new ≡ with_passages costs.now (filter has_left rows.now) words.old }
+{
+    if let [row, rest @ ..] = rows {
+        count_left(words, costs, rest);
+        if !row.is_in_flight() {
+            count_in(words, costs, row.pc / 4, row);
         }
     }
 }

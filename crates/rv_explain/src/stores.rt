@@ -69,24 +69,28 @@ fn write_register(registers: &mut [u32; 32], step: &Step)
     }
 }
 
-fn note_store(words: &mut WordNotes, store: Option<Stored>)
-    ensures { words.new ≡ with_stores (option_to_list store) words.old }
+fn note_store(last_stores: &mut WordNotes<Option<u32>>, store: Option<Stored>)
+    ensures { last_stores.new ≡ with_stores (option_to_list store) last_stores.old }
 {
     if let Some(store) = store {
-        words.note_store(store.address / 4, store.pc);
+        last_stores.set(store.address / 4, Some(store.pc));
     }
 }
 
 /// Keeps the stores that retired in some steps, by the registers before them.
-pub(crate) fn note_stores(words: &mut WordNotes, registers: &mut [u32; 32], steps: &[Step])
-    ensures { words.new ≡ with_stores (stores_in registers.old steps.now) words.old }
+pub(crate) fn note_stores(
+    last_stores: &mut WordNotes<Option<u32>>,
+    registers: &mut [u32; 32],
+    steps: &[Step],
+)
+    ensures { last_stores.new ≡ with_stores (stores_in registers.old steps.now) last_stores.old }
 {
     match steps {
         [] => {}
         [step, rest @ ..] => {
-            note_store(words, store_of(registers, step));
+            note_store(last_stores, store_of(registers, step));
             write_register(registers, step);
-            note_stores(words, registers, rest);
+            note_stores(last_stores, registers, rest);
         }
     }
 }

@@ -9,16 +9,16 @@ use crate::accesses::Accesses;
 use crate::dispatches::Dispatches;
 use crate::drains::add_drain;
 use crate::exceptions::exception_in;
-use crate::hotspots::note_head;
+use crate::hotspots::head_word;
 use crate::interrupts::{Interrupts, interruption_in};
 use crate::kinds::Exceptions;
 use crate::loads::add_loads;
+use crate::outcomes::{Outcomes, count_left};
 use crate::stores::note_stores;
 use crate::unit_waits::add_unit_waits;
 use crate::waits::{add_waits, no_waits};
-use crate::word_notes::WordNotes;
-use crate::word_outcomes::WordOutcomes;
-use crate::work::Work;
+use crate::word_notes::{WordNotes, count_one};
+use crate::work::{Class, Work, count_words};
 use rv_core::Pipeline;
 use rv_counts::LoadCosts;
 use rv_hardware::Step;
@@ -43,8 +43,16 @@ pub(crate) struct Tale {
     pub(crate) costs: LoadCosts,
     pub(crate) loads: Accesses,
     pub(crate) drains: Accesses,
-    pub(crate) words: WordNotes,
-    pub(crate) outcomes: WordOutcomes,
+    /// The address of the last store to each word that retired.
+    pub(crate) last_stores: WordNotes<Option<u32>>,
+    /// The cycles that left the instruction in each word at the head of the reorder buffer.
+    pub(crate) heads: WordNotes<u64>,
+    /// How often a branch or jump in each word retired.
+    pub(crate) branches: WordNotes<u64>,
+    /// How often one of them was mispredicted.
+    pub(crate) mispredicted: WordNotes<u64>,
+    /// The loads in each word that retired.
+    pub(crate) outcomes: WordNotes<Outcomes>,
 }
 
 fn count_retired(steps: &[Step]) -> usize
@@ -73,8 +81,11 @@ impl Tale {
             costs: LoadCosts::new(description),
             loads: Accesses { all: 0, quick: 0 },
             drains: Accesses { all: 0, quick: 0 },
-            words: WordNotes::new(alloc, description)?,
-            outcomes: WordOutcomes::new(alloc, description)?,
+            last_stores: WordNotes::new(alloc, description, None)?,
+            heads: WordNotes::new(alloc, description, 0)?,
+            branches: WordNotes::new(alloc, description, 0)?,
+            mispredicted: WordNotes::new(alloc, description, 0)?,
+            outcomes: WordNotes::new(alloc, description, Outcomes::NONE)?,
         })
     }
 
@@ -102,8 +113,10 @@ impl Tale {
         self.work.add(rows);
         add_loads(&mut self.loads, &self.costs, rows);
         add_drain(&mut self.drains, self.costs.hit, drain);
-        note_head(&mut self.words, pipeline);
-        note_stores(&mut self.words, registers, steps);
-        self.outcomes.add_left(&self.costs, rows);
+        note_stores(&mut self.last_stores, registers, steps);
+        count_one(&mut self.heads, head_word(pipeline));
+        count_words(&mut self.branches, rows, Class::Branch);
+        count_words(&mut self.mispredicted, rows, Class::Mispredicted);
+        count_left(&mut self.outcomes, &self.costs, rows);
     }
 }

@@ -1,11 +1,13 @@
-ghost use Rattle.std.specs.Prelude.{◌≡◌, ◌+◌, ◌<◌, ◌^◌, count_by, filter, length};
+ghost use Rattle.std.specs.Prelude.{◌≡◌, ◌+◌, ◌<◌, ◌^◌, count_by, filter, length, sum};
 ghost use Rattle.rv_counts.specs.Passing.{has_left};
-ghost use Rattle.rv_explain.specs.Work.{both_work, branches_text, is_mispredicted_branch, is_of, is_retired_branch, part_text, work_of, work_text};
+ghost use Rattle.rv_explain.specs.Work.{both_work, branches_text, is_mispredicted_branch, is_of, is_retired_branch, part_text, word_in, work_of, work_text};
+ghost use Rattle.rv_explain.specs.WordCount.{with_all};
 ghost use Rattle.rv_isa.specs.Instruction.{is_branch_or_jump};
 ghost use Rattle.rv_text.specs.Written.{IsWritten};
 
 use crate::loads::retired_load_cost;
 use crate::stack::parts_of;
+use crate::word_notes::{WordNotes, count_one};
 use itoa::Buffer;
 use rv_counts::{has_retired, was_squashed};
 use rv_isa::Instr;
@@ -80,6 +82,28 @@ pub(crate) fn count(rows: &[Passage], class: Class) -> usize
     rows.iter().filter(|row| is_of(class, row)).count()
 }
 
+// The word of RAM that a fetched word is, if it is of a class.
+fn word_in(class: Class, passage: &Passage) -> Option<u32>
+    ensures { result ≡ word_in class passage.now }
+{
+    if is_of(class, passage) {
+        Some(passage.pc / 4)
+    } else {
+        None
+    }
+}
+
+/// Counts the fetched words that are of a class, each at its word of RAM.
+pub(crate) fn count_words(counts: &mut WordNotes<u64>, rows: &[Passage], class: Class)
+    requires room { sum counts.old.words + length rows.now < 2 ^ 64 }
+    ensures { counts.new ≡ with_all (word_in class) rows.now counts.old }
+{
+    if let [row, rest @ ..] = rows {
+        count_words(counts, rest, class);
+        count_one(counts, word_in(class, row));
+    }
+}
+
 impl Work {
     /// Of no instruction.
     pub(crate) const NONE: Work = Work {
@@ -104,8 +128,8 @@ impl Work {
     }
 }
 
-// Writes how many there were of something, how many of them were something more, and what part that is.
-fn write_part<W: Write>(
+/// Writes how many there were of something, how many of them were something more, and what part that is.
+pub(crate) fn write_part<W: Write>(
     writer: &mut W,
     name: &[u8],
     all: u64,

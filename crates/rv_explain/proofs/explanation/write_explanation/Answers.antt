@@ -1,4 +1,5 @@
-use Rattle.rv_explain.proofs.Explained.{explained, heads_counted}
+use Rattle.std.proofs.Common.{arith}
+use Rattle.rv_explain.proofs.Explained.{branches_counted, explained, heads_counted, mispredicted_counted}
 use Rattle.rv_explain.proofs.explanation.write_explanation.Goals as goal
 
 pub run_told-told-requires-clause-untold : goal.run_told-told-requires-clause-untold
@@ -11,7 +12,11 @@ run_told-told-requires-clause-room g c =
 pub write_told-requires : goal.write_told-requires
 write_told-requires g c =
     let told = c.run_told-told.result in
-    record { heads = heads_counted _ c.args.limit c.args.description.now _ _ told.stop told.progress told.fetched told.tale c.run_told-told.ensures }
+    record {
+      heads = heads_counted _ c.args.limit c.args.description.now _ _ told.stop told.progress told.fetched told.tale c.run_told-told.ensures;
+      branches = omega (arith, branches_counted _ c.args.limit c.args.description.now _ _ told.stop told.progress told.fetched told.tale c.run_told-told.ensures);
+      mispredicted = omega (arith, mispredicted_counted _ c.args.limit c.args.description.now _ _ told.stop told.progress told.fetched told.tale c.run_told-told.ensures);
+    }
 
 pub returns-in-Ok-write_told-clause-written : goal.returns-in-Ok-write_told-clause-written
 returns-in-Ok-write_told-clause-written g c =

@@ -1,5 +1,6 @@
+use Rattle.std.proofs.Common.{◌∙◌, ap}
 use Rattle.std.specs.List.{flat_map}
-use Rattle.rv_explain.specs.Hotspot.{hotspot_text, hotspots, hotspots_text}
+use Rattle.rv_explain.specs.Hotspot.{hotspot_text, hotspots_text}
 use Rattle.rv_text.proofs.Writing.{handed_on, written_behind, written_same, beginning-longer}
 use Rattle.rv_explain.proofs.hotspots.write_hotspots.Goals as goal
 
@@ -11,6 +12,5 @@ returns-in_err-put g c =
 pub returns : goal.returns
 unfolding hotspots_text
 returns g c =
-    let joined = c.join_lines.ensures in
     written_behind _ _ _ _ _ _ c.in_ok-put.ensures
-    (written_same _ _ _ _ _ (λ i. flat_map (hotspot_text c.args.listing.now c.args.all c.args.outcomes.now) (hotspots 5 (joined.first i) (joined.counts i))) c.write_most.ensures)
+    (written_same _ _ _ _ _ (ap (flat_map (hotspot_text c.args.listing.now c.args.all c.args.outcomes.now)) (c.as_slice.ensures.value ∙ c.greatest_lines-hotspots.ensures)) c.write_each.ensures)

@@ -1,12 +1,14 @@
-use Rattle.std.proofs.Common.{◌+◌, None, refl, arith}
-use Rattle.rv_explain.proofs.Joined.{both_fit, joined_next}
+use Rattle.std.proofs.Common.{◌≡◌, ◌∙◌, suc, ◌+◌, arith}
+use Rattle.std.specs.Prelude.{get_or, slice_set}
+use Rattle.rv_explain.proofs.Joined.{both_fit, set_both}
 use Rattle.rv_explain.proofs.lines.join_next.Goals as goal
 
-pub overflow_add-words : goal.overflow_add-words
-overflow_add-words c =
-    let fit = both_fit c.args.words.now c.args.place (c.args.place + 1) (record { last_store = None; head_cycles = 0 }) (omega arith) c.requires.within c.requires.room in
-    omega (arith, fit)
+pub overflow_add-counts : goal.overflow_add-counts
+overflow_add-counts c = omega (arith, both_fit c.args.counts.now c.args.place (c.args.place + 1) (omega arith) c.requires.room)
 
 pub returns-clause-counts : goal.returns-clause-counts
 returns-clause-counts c =
-    joined_next c.args.words.now c.args.place (c.args.place + 1) (record { last_store = None; head_cycles = 0 }) (omega arith) c.requires.within _ _ refl refl
+    let counts = c.args.counts.now in
+    let place = c.args.place in
+    let next : place + 1 ≡ suc place = omega arith in
+    (λ i. slice_set (slice_set counts place (get_or counts place 0 + get_or counts (next i) 0)) (next i) 0) ∙ set_both counts place (omega (arith, c.requires.within))

@@ -1,5 +1,0 @@
-use Rattle.std.proofs.Common.{length}
-use Rattle.rv_explain.proofs.word_outcomes.WordOutcomes.+add_left.Given as goal
-
-abbrev pub decreases-add_left : goal.decreases-add_left
-decreases-add_left l = length l.rows.now
