@@ -22,6 +22,7 @@ mod title;
 mod wait;
 mod window;
 
+pub use room::room_name;
 pub use svg::write_picture_svg;
 pub use text::write_picture_text;
 pub use title::write_correction;

@@ -22,9 +22,9 @@ fn has_older_wait(rows: &[Passage], number: u64, cycle: u64) -> bool
     rows.iter().any(|row| is_older_wait(row, number, cycle))
 }
 
-// What the oldest fetched word waits for.
+/// What the oldest fetched word waits for in a cycle that dispatched nothing for a reason.
 #[tactic(auto, unfolding(crate::specs::Room::room_text))]
-fn room(stall: Option<Stall>) -> &'static [u8]
+pub fn room_name(stall: Option<Stall>) -> &'static [u8]
     ensures { result.now ≡ room_text stall }
 {
     match stall {
@@ -49,6 +49,6 @@ pub(crate) fn dispatch_wait(
     if has_older_wait(rows, number, cycle) {
         b"wait for older ones to dispatch"
     } else {
-        room(stall)
+        room_name(stall)
     }
 }

@@ -3,6 +3,7 @@ pub mod Dependence
 pub mod Details
 pub mod Event
 pub mod Log
+pub mod Room
 pub mod Statement
 pub mod Waited
 pub mod Logging

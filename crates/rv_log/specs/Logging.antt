@@ -1,6 +1,7 @@
 -- What a log keeps while it is written.
-use Rattle.std.specs.Prelude.{◌≡◌, ℕ, ◌+◌, ◌*◌, ◌≤◌, List, Option, Result, vec_capacity}
+use Rattle.std.specs.Prelude.{◌≡◌, ℕ, ◌+◌, ◌*◌, ◌≤◌, List, [], ◌∷◌, Option, None, Result, vec_capacity}
 use Rattle.rv_hardware.specs.History.{reports_of}
+use Rattle.rv_hardware.specs.declared.report.Stall.{Stall}
 use Rattle.rv_core.specs.Watching.{Watched}
 use Rattle.rv_log.specs.Log.{Moment, Passes, log_text}
 use Rattle.rv_passage.specs.Table.{HasRoom, passages_of}
@@ -14,12 +15,18 @@ pub record IsRoomy (table : Table) : Type 0 where
   pub rows : 576 ≤ vec_capacity table.rows
   pub interrupts : 8 ≤ vec_capacity table.interrupts
 
--- the cycles so far, with what became of the instructions in them, and their log written, by the listing that there was at first and from the cycle that was
--- the first
-pub record IsLogging {T E : Type 0} (listing listing' : Listed) (first : ℕ) (table : Table) (written : Result T E) (seen : Watched) (before now : Option (List ℕ)) : Type 0 where
+-- why the last of some cycles dispatched nothing, or of none the cycle before
+abbrev pub last_stall : Option Stall → List Moment → Option Stall
+last_stall before [] = before
+last_stall before (moment ∷ moments) = last_stall moment.stall moments
+
+-- the cycles so far, with what became of the instructions in them, and their log written, by the listing that there was at first, from the cycle that was the
+-- first, and with the reason of the last one
+pub record IsLogging {T E : Type 0} (listing listing' : Listed) (first : ℕ) (stall : Option Stall) (table : Table) (written : Result T E) (seen : Watched) (before now : Option (List ℕ)) : Type 0 where
   pub same : listing' ≡ listing
   pub began : first ≡ seen.first.hardware.cycle
   pub moments : List Moment
+  pub stalled : stall ≡ last_stall None moments
   pub passes : Passes seen.arrivals seen.first (reports_of seen.moments) moments seen.now (passages_of table)
   pub room : IsRoomy table
   pub fetched : table.fetched ≤ 288 * (seen.now.hardware.cycle + 1)

@@ -8,6 +8,7 @@ ghost use Rattle.rv_text.specs.Written.{IsWritten};
 use crate::command::write_appearance;
 use crate::dependence::write_row;
 use crate::event::write_left;
+use crate::room::{Stalled, write_room};
 use itoa::Buffer;
 use rv_passage::Passage;
 use rv_source::Listing;
@@ -84,11 +85,13 @@ pub(crate) fn write_cycle<W: Write>(
     listing: &Listing,
     first: u64,
     cycle: u64,
+    stalled: Stalled,
     rows: &[Passage],
 ) -> Result<(), ReportError>
-    ensures { IsWritten result (W.contents writer.old) (W.contents writer.new) (cycle_text listing.now first cycle rows.now) }
+    ensures { IsWritten result (W.contents writer.old) (W.contents writer.new) (cycle_text listing.now first cycle stalled rows.now) }
 {
     write_rows(writer, listing, cycle, rows)?;
+    write_room(writer, cycle, stalled, rows)?;
     put(writer, b"C\t1\n")?;
     write_leaving(writer, first, cycle, rows)
 }

@@ -5,10 +5,11 @@ ghost use Rattle.rv_passage.specs.Table.{HasRoom, passages_of, table_at};
 ghost use Rattle.rv_text.specs.Written.{IsWritten};
 
 use crate::cycle::{write_begin, write_cycle};
+use crate::room::Stalled;
 use rv_arch::Stop;
 use rv_core::{Pipeline, Progress, Watcher, watch};
 use rv_front::Predictor;
-use rv_hardware::Step;
+use rv_hardware::{Stall, Step};
 use rv_isa::Arrivals;
 use rv_passage::{Passage, Table};
 use rv_source::Listing;
@@ -23,12 +24,13 @@ pub(crate) struct Logged {
     pub(crate) written: Result<(), ReportError>,
 }
 
-// The watcher that writes a log: its first cycle, what became of the instructions that may still go on, and whether all was
-// written so far.
+// The watcher that writes a log: its first cycle, why the last cycle dispatched nothing, what became of the instructions that
+// may still go on, and whether all was written so far.
 #[derive(Drop)]
 struct Logger<'a> {
     listing: &'a Listing,
     first: u64,
+    stall: Option<Stall>,
     table: Table,
     written: Result<(), ReportError>,
 }
@@ -38,7 +40,7 @@ impl Watcher for Logger<'_> {
 
     type Refusal = Infallible;
 
-    ghost has_seen = { λ start logger seen before now. IsLogging start.listing.now logger.listing.now logger.first logger.table logger.written seen before now };
+    ghost has_seen = { λ start logger seen before now. IsLogging start.listing.now logger.listing.now logger.first logger.stall logger.table logger.written seen before now };
 
     ghost has_room = { λ _. Unit {0} };
 
@@ -51,7 +53,7 @@ impl Watcher for Logger<'_> {
         cycle: u64,
         steps: &[Step],
         pipeline: &Pipeline,
-        _: &Progress,
+        progress: &Progress,
         output: &mut W,
     ) {
         // Of hardware that a reset and cycles lead to, the buffers are as long as described.
@@ -60,14 +62,20 @@ impl Watcher for Logger<'_> {
         let pc = pipeline.observe().pc;
         self.table
             .follow(cycle, steps, buffer, pipeline.front(), pc);
+        let stalled = Stalled {
+            before: self.stall,
+            reason: progress.stall,
+        };
         self.written = write_next(
             self.written,
             output,
             self.listing,
             self.first,
             cycle,
+            stalled,
             self.table.rows(),
         );
+        self.stall = progress.stall;
         self.table.drop_ended();
     }
 }
@@ -79,12 +87,13 @@ fn write_next<W: Write>(
     listing: &Listing,
     first: u64,
     cycle: u64,
+    stalled: Stalled,
     rows: &[Passage],
 ) -> Result<(), ReportError>
-    ensures { (before : Option (List ℕ)) (text : List ℕ) → IsWritten written before (W.contents writer.old) text → IsWritten result before (W.contents writer.new) (text ++ cycle_text listing.now first cycle rows.now) }
+    ensures { (before : Option (List ℕ)) (text : List ℕ) → IsWritten written before (W.contents writer.old) text → IsWritten result before (W.contents writer.new) (text ++ cycle_text listing.now first cycle stalled rows.now) }
 {
     match written {
-        Ok(()) => write_cycle(writer, listing, first, cycle, rows),
+        Ok(()) => write_cycle(writer, listing, first, cycle, stalled, rows),
         Err(error) => Err(error),
     }
 }
@@ -114,6 +123,7 @@ pub(crate) fn run_logged<W: Write>(
     let mut logger = Logger {
         listing,
         first,
+        stall: None,
         table,
         written,
     };

@@ -20,7 +20,8 @@ use std::io::Write;
 /// and retired (C), or that it was flushed, which a trap is too; and on whose results it depends, at their broadcast. An
 /// instruction's number counts from 0 in order of fetch; its label is its address and its statement by the listing; its
 /// details are how it ended, what it wrote, what its execution cost, what was predicted after a branch or a jump, and what it
-/// waited for, and in how many cycles each. Asks for no memory once it has written. Answers why the run ended.
+/// waited for, and in how many cycles each; before them, for what room it waited as the oldest in the fetch buffer. Asks for no
+/// memory once it has written. Answers why the run ended.
 ///
 /// # Errors
 ///

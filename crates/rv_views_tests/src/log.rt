@@ -1,4 +1,5 @@
 mod addition;
 mod branch;
 mod bus;
+mod rooms;
 mod waits;

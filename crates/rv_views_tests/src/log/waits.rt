@@ -7,7 +7,7 @@ use std::alloc::Global;
 use std::process::Abort;
 
 // The log of some cycles of a program, from a cycle on.
-fn log_of(
+pub(crate) fn log_of(
     rt: &impl Abort,
     alloc: Global,
     values: Values,
@@ -88,6 +88,7 @@ W\t3\t0\t0
 I\t5\t5\t0
 L\t5\t0\t80000014: 00000000
 S\t5\t0\tF
+L\t4\t1\twait for room in the reorder buffer from cycle 5; 
 C\t1
 S\t0\t0\tC
 S\t1\t0\tX
@@ -104,6 +105,7 @@ S\t3\t0\tX
 I\t7\t7\t0
 L\t7\t0\t8000001c: 00000000
 S\t7\t0\tF
+L\t5\t1\twait for room in the reorder buffer from cycle 7; 
 C\t1
 S\t1\t0\tC
 S\t3\t0\tB
@@ -293,7 +295,7 @@ fn a_squashed_instruction_waited_for_what_did_not_come(rt: HostRuntime) {
 }
 
 // div x5,x6,x7; csrrw x0,mscratch,x0; and what comes after that, which is flushed once that retires.
-const SERIAL: &[u8] = &[0xb3, 0x42, 0x73, 0x02, 0x73, 0x10, 0x00, 0x34];
+pub(crate) const SERIAL: &[u8] = &[0xb3, 0x42, 0x73, 0x02, 0x73, 0x10, 0x00, 0x34];
 
 #[test]
 fn an_instruction_without_a_unit_waits_for_the_head(rt: HostRuntime) {

@@ -20,5 +20,5 @@ pub returns : goal.returns
 returns g c start seen before shown logging =
     let roomy = roomy_again c.drop_ended.new.self (passages_of c.follow.new.self) c.drop_ended.ensures.opened c.follow.ensures.open
     (omega (arith, logging.room.rows, c.follow.ensures.rows, c.drop_ended.ensures.rows)) (omega (arith, logging.room.interrupts, c.follow.ensures.interrupts, c.drop_ended.ensures.interrupts)) in
-    logging_on shown logging c.follow.new.self (c.follow.ensures.followed ∙ (λ i. after_steps c.args.cycle c.args.steps.now (c.reorder_buffer-buffer.ensures i) (c.front.ensures i) (c.observe-pc.ensures.pc i) (passages_of c.args.self.now.table))) c.drop_ended.new.self _ _ c.write_next-self.result _ c.rows.result.now c.drop_ended.ensures.opened
-    c.follow.ensures.fetched c.follow.ensures.retired roomy refl refl c.rows.ensures (c.write_next-self.ensures _ _ logging.wrote)
+    logging_on shown logging c.follow.new.self (c.follow.ensures.followed ∙ (λ i. after_steps c.args.cycle c.args.steps.now (c.reorder_buffer-buffer.ensures i) (c.front.ensures i) (c.observe-pc.ensures.pc i) (passages_of c.args.self.now.table))) c.drop_ended.new.self _ _ _ c.write_next-self.result _ c.rows.result.now c.drop_ended.ensures.opened
+    c.follow.ensures.fetched c.follow.ensures.retired roomy refl refl refl c.rows.ensures (c.write_next-self.ensures _ _ logging.wrote)

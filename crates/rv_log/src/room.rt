@@ -1,0 +1,137 @@
+ghost use Rattle.std.specs.Prelude.{◌≡◌};
+ghost use Rattle.std.specs.List.{find};
+ghost use Rattle.std.specs.Option.{option_copied};
+ghost use Rattle.rv_log.specs.Room.{is_as_before, is_fetched_word, is_for_room, oldest_fetched, room_at, room_for, room_line, room_of};
+ghost use Rattle.rv_text.specs.Written.{IsWritten};
+
+use itoa::Buffer;
+use rv_drawing::room_name;
+use rv_hardware::Stall;
+use rv_passage::Passage;
+use rv_text::{ReportError, put_all};
+use std::io::Write;
+
+/// Why a cycle dispatched nothing, and why the cycle before did not; None where it did.
+#[derive(Clone, Copy, Debug)]
+pub(crate) struct Stalled {
+    pub(crate) before: Option<Stall>,
+    pub(crate) reason: Option<Stall>,
+}
+
+// Whether an instruction is in the fetch buffer.
+fn is_fetched_word(row: &Passage) -> bool
+    ensures { result ≡ is_fetched_word row.now }
+{
+    row.is_in_flight() && row.dispatched.is_none()
+}
+
+fn oldest_row(rows: &[Passage]) -> Option<&Passage>
+    ensures { option_copied result ≡ find is_fetched_word rows.now }
+{
+    rows.iter().find(|row| is_fetched_word(row))
+}
+
+// The number of the oldest instruction in the fetch buffer.
+fn oldest_fetched(rows: &[Passage]) -> Option<u64>
+    ensures { result ≡ oldest_fetched rows.now }
+{
+    Some(oldest_row(rows)?.number)
+}
+
+// Whether words wait for room, and not that there are any.
+fn is_for_room(reason: Stall) -> bool
+    ensures { result ≡ is_for_room reason }
+{
+    match reason {
+        Stall::Rob | Stall::Station | Stall::Store | Stall::Serial => true,
+        Stall::Fetch => false,
+    }
+}
+
+// Whether the cycle before had the same reason.
+fn is_as_before(reason: Stall, before: Option<Stall>) -> bool
+    ensures { result ≡ is_as_before reason before }
+{
+    matches!(
+        (reason, before),
+        (Stall::Rob, Some(Stall::Rob))
+            | (Stall::Station, Some(Stall::Station))
+            | (Stall::Store, Some(Stall::Store))
+            | (Stall::Serial, Some(Stall::Serial))
+            | (Stall::Fetch, Some(Stall::Fetch))
+    )
+}
+
+#[tactic(auto, unfolding(crate::specs::Room::room_line))]
+fn write_room_line<W: Write>(
+    writer: &mut W,
+    cycle: u64,
+    reason: Stall,
+    number: u64,
+) -> Result<(), ReportError>
+    ensures { IsWritten result (W.contents writer.old) (W.contents writer.new) (room_line cycle reason number) }
+{
+    let mut buffer = Buffer::new();
+    let id = buffer.format(number).as_bytes();
+    let mut cycle_buffer = Buffer::new();
+    let cycle = cycle_buffer.format(cycle).as_bytes();
+    put_all(
+        writer,
+        &[
+            b"L\t",
+            id,
+            b"\t1\t",
+            room_name(Some(reason)),
+            b" from cycle ",
+            cycle,
+            b"; \n",
+        ],
+    )
+}
+
+// Writes what the oldest fetched word waits for, where there is one.
+#[tactic(auto, unfolding(crate::specs::Room::room_of))]
+fn write_room_of<W: Write>(
+    writer: &mut W,
+    cycle: u64,
+    reason: Stall,
+    oldest: Option<u64>,
+) -> Result<(), ReportError>
+    ensures { IsWritten result (W.contents writer.old) (W.contents writer.new) (room_of cycle reason oldest) }
+{
+    match oldest {
+        Some(oldest) => write_room_line(writer, cycle, reason, oldest),
+        None => Ok(()),
+    }
+}
+
+#[tactic(auto, unfolding(crate::specs::Room::room_for))]
+fn write_room_for<W: Write>(
+    writer: &mut W,
+    cycle: u64,
+    stalled: Stalled,
+    oldest: Option<u64>,
+) -> Result<(), ReportError>
+    ensures { IsWritten result (W.contents writer.old) (W.contents writer.new) (room_for cycle stalled.before stalled.reason oldest) }
+{
+    match stalled.reason {
+        Some(reason) if is_for_room(reason) && !is_as_before(reason, stalled.before) => {
+            write_room_of(writer, cycle, reason, oldest)
+        }
+        _ => Ok(()),
+    }
+}
+
+/// Writes what the oldest fetched word among the instructions at the end of a cycle waits for, where that is a reason that the
+/// cycle before had not.
+#[tactic(auto, unfolding(crate::specs::Room::room_at))]
+pub(crate) fn write_room<W: Write>(
+    writer: &mut W,
+    cycle: u64,
+    stalled: Stalled,
+    rows: &[Passage],
+) -> Result<(), ReportError>
+    ensures { IsWritten result (W.contents writer.old) (W.contents writer.new) (room_at cycle stalled rows.now) }
+{
+    write_room_for(writer, cycle, stalled, oldest_fetched(rows))
+}
