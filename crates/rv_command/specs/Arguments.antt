@@ -67,11 +67,12 @@ run_arguments = with_rule (with_rule (new_app (codes "run")) (flag_rule (codes "
 abbrev pub check_arguments : App
 check_arguments = new_app (codes "check")
 
--- `rv_sim picture [--text]`
+-- `rv_sim picture [--text] [--retired]`
 abbrev pub bare_picture_arguments : App
-bare_picture_arguments = with_rule (new_app (codes "picture")) (flag_rule (codes "text"))
+bare_picture_arguments =
+    with_rule (with_rule (new_app (codes "picture")) (flag_rule (codes "text"))) (flag_rule (codes "retired"))
 
--- `rv_sim picture [--text] [--from N] [--cycles N]`
+-- `rv_sim picture [--text] [--retired] [--from N] [--cycles N]`
 abbrev pub picture_arguments : App
 picture_arguments = with_rule (with_rule bare_picture_arguments from_rule) cycles_rule
 

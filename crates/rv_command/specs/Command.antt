@@ -28,7 +28,7 @@ abbrev pub HasLegalNumbers : Command → Type 0
 HasLegalNumbers (Run trace limit) = IsLegalLimit limit
 HasLegalNumbers (Reference limit) = IsLegalLimit limit
 HasLegalNumbers Check = ⊤
-HasLegalNumbers (Picture text from cycles) = IsLegalWindow from cycles
+HasLegalNumbers (Picture text retired from cycles) = IsLegalWindow from cycles
 HasLegalNumbers (Log limit) = IsLegalLimit limit
 HasLegalNumbers (States from limit) = IsLegalStretch from limit
 HasLegalNumbers (Page from limit) = IsLegalStretch from limit
@@ -85,7 +85,8 @@ run_in rows = option_map (Run (flag_in (codes "trace") rows)) (limit_in rows)
 
 -- what the matches of `picture` ask for
 abbrev pub picture_in : List Row → Option Command
-picture_in rows = option_and_then (λ from. option_map (Picture (flag_in (codes "text") rows) from) (cycles_in rows))
+picture_in rows =
+    option_and_then (λ from. option_map (Picture (flag_in (codes "text") rows) (flag_in (codes "retired") rows) from) (cycles_in rows))
     (from_in rows)
 
 -- ---- what the words ask for

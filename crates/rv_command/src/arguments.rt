@@ -89,15 +89,17 @@ fn check_command<'a>(alloc: Global) -> Command<'a>
     described(alloc, "check", help::CHECK)
 }
 
-// `picture` with its flag, and no number yet.
+// `picture` with its flags, and no number yet.
 fn bare_picture_command<'a>(alloc: Global) -> Result<Command<'a>, AllocError>
     ensures arguments { IfOk result (IsParserOf bare_picture_arguments) }
 {
-    described(alloc, "picture", help::PICTURE).arg(flag_argument(
-        alloc,
-        "text",
-        "Draws in characters, and not as SVG",
-    ))
+    described(alloc, "picture", help::PICTURE)
+        .arg(flag_argument(alloc, "text", "Draws in characters, and not as SVG"))?
+        .arg(flag_argument(
+            alloc,
+            "retired",
+            "Leaves out the rows of squashed instructions",
+        ))
 }
 
 fn picture_command<'a>(alloc: Global) -> Result<Command<'a>, AllocError>

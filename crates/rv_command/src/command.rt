@@ -25,29 +25,53 @@ pub const MOST_CYCLES_TOLD: u64 = 10_000;
 pub enum Command {
     /// Run a job on the core, with at most so many cycles, and with a line for each step where a trace
     /// is asked for.
-    Run { trace: bool, limit: u64 },
+    Run {
+        trace: bool,
+        limit: u64,
+    },
     /// Run a job on the machine that takes one step at a time, with at most so many steps.
-    Reference { limit: u64 },
+    Reference {
+        limit: u64,
+    },
     /// Say which image a job makes, or what is wrong with it.
     Check,
     /// Draw the picture of so many cycles, from one on, of a run of a job on the core: in characters where
-    /// `text` says so, and else as SVG.
-    Picture { text: bool, from: u64, cycles: u64 },
+    /// `text` says so, and else as SVG; without the rows of squashed instructions where `retired` says so.
+    Picture {
+        text: bool,
+        retired: bool,
+        from: u64,
+        cycles: u64,
+    },
     /// Write a run of a job on the core, of at most so many cycles, as a log that pipeline viewers read
     /// (Konata).
-    Log { limit: u64 },
+    Log {
+        limit: u64,
+    },
     /// Write the states of a run of a job on the core, of at most `limit` cycles, line by line, but for the first `from` of
     /// them.
-    States { from: u64, limit: u64 },
+    States {
+        from: u64,
+        limit: u64,
+    },
     /// The same as a page for a browser.
-    Page { from: u64, limit: u64 },
+    Page {
+        from: u64,
+        limit: u64,
+    },
     /// Say in sentences how a run of a job on the core went, of at most so many cycles.
-    Explain { limit: u64 },
+    Explain {
+        limit: u64,
+    },
     /// Say of each line of a job's program, in a table, what its instructions cost in a run on the core, of at most so
     /// many cycles.
-    Profile { limit: u64 },
+    Profile {
+        limit: u64,
+    },
     /// Compare machines by the totals of one program's run on each, of at most so many cycles.
-    Compare { limit: u64 },
+    Compare {
+        limit: u64,
+    },
 }
 
 fn flag_given(given: &ArgMatches, name: &str) -> bool
@@ -89,9 +113,15 @@ fn picture_given(given: &ArgMatches) -> Option<Command>
     ensures legal { IfSome result HasLegalNumbers }
 {
     let text = flag_given(given, "text");
+    let retired = flag_given(given, "retired");
     let from = number_given(given, "from", 0, LAST_CYCLE)?;
     let cycles = number_given(given, "cycles", 1, MOST_CYCLES_SHOWN)?;
-    Some(Command::Picture { text, from, cycles })
+    Some(Command::Picture {
+        text,
+        retired,
+        from,
+        cycles,
+    })
 }
 
 // The first of some cycles, and the limit of a run that ends with the last of them.

@@ -31,7 +31,7 @@ fn write_sentence<W: Write>(
 }
 
 /// Writes that the run ended before the window, where it did, between two texts.
-#[tactic(auto, unfolding(crate::specs::Over::over_note))]
+#[tactic(auto, unfolding(crate::specs::Over::over_text))]
 pub(crate) fn write_over<W: Write>(
     writer: &mut W,
     before: &[u8],
@@ -40,9 +40,8 @@ pub(crate) fn write_over<W: Write>(
 ) -> Result<(), ReportError>
     ensures { IsWritten result (W.contents writer.old) (W.contents writer.new) (over_note before.now after.now window) }
 {
-    if window.cycles == 0 {
-        write_sentence(writer, before, window.first, after)
-    } else {
-        Ok(())
+    match window.over() {
+        Some(cycles) => write_sentence(writer, before, cycles, after),
+        None => Ok(()),
     }
 }

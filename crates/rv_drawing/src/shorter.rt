@@ -64,8 +64,8 @@ fn with_label_cut<'a>(room: &'a mut ArrayVec<u8, 32>, text: &[u8], label: usize)
     ensures { result.now ≡ with_label_cut label text.now }
 {
     let left = label_left(label, text.len());
-    let (_, behind) = text.split_at(label);
-    fill(room, front(text, left), front(behind, 30 - left));
+    let (_, rest) = text.split_at(label);
+    fill(room, front(text, left), front(rest, 30 - left));
     room.as_slice()
 }
 

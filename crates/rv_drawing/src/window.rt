@@ -1,4 +1,5 @@
 ghost use Rattle.std.specs.Prelude.{◌≡◌};
+ghost use Rattle.rv_drawing.specs.Over.{over_of};
 ghost use Rattle.rv_drawing.specs.Stopped.{is_number, is_stopped};
 
 use rv_passage::Passage;
@@ -29,5 +30,16 @@ impl Window {
         ensures { result ≡ is_stopped self row.now }
     {
         is_number(self.stopped, row.number)
+    }
+
+    /// After how many cycles the run ended, where that was before those of the window: it has none then.
+    pub fn over(self) -> Option<u64>
+        ensures { result ≡ over_of self }
+    {
+        if self.cycles == 0 {
+            Some(self.first)
+        } else {
+            None
+        }
     }
 }

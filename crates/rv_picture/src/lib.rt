@@ -6,5 +6,5 @@ mod picture;
 mod recording;
 mod written;
 
-pub use picture::Form;
+pub use picture::{Form, Rows, RunEnd, View};
 pub use written::write_picture;

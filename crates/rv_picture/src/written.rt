@@ -1,26 +1,27 @@
 ghost use Rattle.std.specs.Prelude.{◌≡◌, ◌+◌, ◌<◌, ◌^◌, Err};
 ghost use Rattle.rv_hardware.specs.Guided.{guided};
 ghost use Rattle.rv_passage.specs.Table.{passages_of};
-ghost use Rattle.rv_picture.specs.Picture.{IsPicture, picture_of};
+ghost use Rattle.rv_drawing.specs.Over.{over_of};
+ghost use Rattle.rv_picture.specs.Picture.{IsPicture, picture_of, with_rows};
 ghost use Rattle.rv_picture.specs.Recording.{HasRun};
 ghost use Rattle.rv_text.specs.IsText.{IsText};
 ghost use Rattle.rv_text.specs.Written.{IsWritten};
 
-use crate::picture::Form;
+use crate::picture::{Form, Rows, RunEnd, View};
 use crate::recording::{Recording, record_window};
-use rv_arch::Stop;
 use rv_core::Pipeline;
 use rv_drawing::{write_picture_svg, write_picture_text};
 use rv_front::Predictor;
 use rv_isa::Arrivals;
+use rv_passage::Table;
 use rv_source::Listing;
 use rv_text::{ReportError, TextError};
 use std::alloc::Global;
 use std::io::Write;
 
-/// Runs a pipeline that a predictor guides for `from` cycles, each with the lines of its number, and then up to `limit`
-/// cycles, and writes the picture of these, with the texts of a listing. A breakpoint, a stale word or exhaustion ends the
-/// run; where that is before the window begins, no cycle is shown. Answers why the run ended.
+/// Runs a pipeline that a predictor guides up to the cycles in view, each with the lines of its number, and then through
+/// these, and writes the picture of them, with the texts of a listing. A breakpoint, a stale word or exhaustion ends the
+/// run; where that is before the cycles in view, none is shown. Answers how the run ended.
 ///
 /// # Errors
 ///
@@ -31,23 +32,43 @@ pub fn write_picture<W: Write>(
     pipeline: &mut Pipeline,
     predictor: &mut dyn Predictor,
     arrivals: &Arrivals,
-    from: u64,
-    limit: u64,
-    form: Form,
+    view: View,
     listing: &Listing,
     writer: &mut W,
-) -> Result<Stop, TextError>
-    ensures written { IsText (IsPicture arrivals.now from limit form listing.now (guided pipeline.old (known predictor.old)) (guided pipeline.new (known predictor.new))) result (W.contents writer.old) (W.contents writer.new) }
+) -> Result<RunEnd, TextError>
+    ensures written { IsText (IsPicture arrivals.now view listing.now (guided pipeline.old (known predictor.old)) (guided pipeline.new (known predictor.new))) result (W.contents writer.old) (W.contents writer.new) }
     ensures run { result ≡ Err TextError.Memory → HasRun arrivals.now (guided pipeline.old (known predictor.old)) (guided pipeline.new (known predictor.new)) }
 {
-    let Ok(recording) = record_window(alloc, pipeline, predictor, arrivals, from, limit) else {
+    let View { from, cycles, .. } = view;
+    let Ok(recording) = record_window(alloc, pipeline, predictor, arrivals, from, cycles) else {
         return Err(TextError::Memory);
     };
     // No pipeline counts more cycles than a window can number.
     let _ = pipeline.is_exhausted();
-    match write_recording(&recording, form, listing, writer) {
-        Ok(()) => Ok(recording.stop),
+    let mut recording = recording;
+    choose_rows(view.rows, &mut recording.table);
+    let end = end_of(&recording);
+    match write_recording(&recording, view.form, listing, writer) {
+        Ok(()) => Ok(end),
         Err(ReportError::WriteFailed) => Err(TextError::WriteFailed),
+    }
+}
+
+fn choose_rows(rows: Rows, table: &mut Table)
+    ensures { passages_of table.new ≡ with_rows rows (passages_of table.old) }
+{
+    match rows {
+        Rows::All => {}
+        Rows::Unsquashed => table.drop_squashed(),
+    }
+}
+
+fn end_of(recording: &Recording) -> RunEnd
+    ensures { result ≡ record { stop = recording.now.stop; over = over_of recording.now.window } }
+{
+    RunEnd {
+        stop: recording.stop,
+        over: recording.window.over(),
     }
 }
 

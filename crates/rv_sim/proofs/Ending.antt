@@ -2,32 +2,32 @@
 use Rattle.std.proofs.Common.{◌≡◌, ℕ, List, Option, Some, inr, refl, subst}
 use Rattle.std.specs.Prelude.{Err, Result}
 use Rattle.rv_front.specs.declared.predictors.DescribedPredictor.{DescribedPredictor}
-use Rattle.rv_job.specs.Fault.{exit_status}
-use Rattle.rv_job.specs.FaultStream.{FaultStream, TellsOf}
+use Rattle.rv_job.specs.FaultStream.{FaultStream}
 use Rattle.rv_job.specs.declared.errors.SimError.{SimError}
 use Rattle.rv_job.specs.declared.errors.SimError.TheVariants.{Memory, WriteFailed}
 use Rattle.rv_sim.specs.Answer.{IsAnswer}
 use Rattle.rv_sim.specs.CoreReport.{untaught_of}
+use Rattle.rv_sim.specs.Ended.{ReportsEnding, exit_status}
 use Rattle.rv_sim.specs.Output.{PassesOn}
 use Rattle.rv_sim.specs.Program.{EndsWithin}
 use Rattle.rv_sim.specs.Task.{AsksForMemory, Ends, Shows, predictor_of}
-use Rattle.rv_sim.specs.declared.task.Task.{Task}
+use Rattle.rv_sim.specs.declared.{ended.Ended.Ended, task.Task.Task}
 use Rattle.rv_sim.proofs.Answered.{Keeps-same}
 use Rattle.rv_sim.proofs.PassedOn.{ended_behind}
 
--- by the error of a call that answers with the text, each answer of which has its exit status
-pub Ends-by_error : {T : Type 0} (task : Task) (predictor : Option DescribedPredictor) (Is : T → List ℕ → Type 0) (status : T → ℕ) (error : SimError) (old new : Option (List ℕ))
-    → AsksForMemory task → ((answer : T) (text : List ℕ) → Is answer text → Shows task predictor text (status answer)) → IsAnswer Is (Err error) old new
+-- by the error of a call that answers with the text, after each answer of which the task ends so
+pub Ends-by_error : {T : Type 0} (task : Task) (predictor : Option DescribedPredictor) (Is : T → List ℕ → Type 0) (ended : T → Ended) (error : SimError) (old new : Option (List ℕ))
+    → AsksForMemory task → ((answer : T) (text : List ℕ) → Is answer text → Shows task predictor text (ended answer)) → IsAnswer Is (Err error) old new
     → Ends task predictor old new (Err error)
-Ends-by_error task predictor Is status Memory old new asks shows nothing = (asks, Keeps-same old new nothing)
-Ends-by_error task predictor Is status WriteFailed old new asks shows (answer, text, is, beginning) = (text, status answer, shows answer text is, beginning)
-Ends-by_error task predictor Is status _ old new asks shows never = absurd never
+Ends-by_error task predictor Is ended Memory old new asks shows nothing = (asks, Keeps-same old new nothing)
+Ends-by_error task predictor Is ended WriteFailed old new asks shows (answer, text, is, beginning) = (text, ended answer, shows answer text is, beginning)
+Ends-by_error task predictor Is ended _ old new asks shows never = absurd never
 
 -- a task that was done with the predictor of its machine, and whose output the buffer handed back
 pub ended_with : {W : Type 0} (contents : W → Option (List ℕ)) (task : Task) {predictor : Option DescribedPredictor} (given output : W) (held : Option (List ℕ))
-    (ended outcome : Result ℕ SimError) {old new : FaultStream} {status : ℕ}
+    (ended outcome : Result Ended SimError) {old new : FaultStream} {status : ℕ}
     → Ends task predictor (contents given) held ended → predictor ≡ untaught_of (predictor_of task) → PassesOn ended outcome held (contents output)
-    → TellsOf old new outcome → status ≡ exit_status outcome → EndsWithin contents task given (Some output) old new status
-ended_with contents task given output held ended outcome ends described passed tells is =
+    → ReportsEnding old new outcome → status ≡ exit_status outcome → EndsWithin contents task given (Some output) old new status
+ended_with contents task given output held ended outcome ends described passed reports is =
     let own = subst (λ p. Ends task p (contents given) held ended) described ends in
-    inr (output, refl, outcome, ended_behind task _ (contents given) held (contents output) ended outcome own passed, tells, is)
+    inr (output, refl, outcome, ended_behind task _ (contents given) held (contents output) ended outcome own passed, reports, is)

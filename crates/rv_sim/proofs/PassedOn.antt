@@ -14,7 +14,7 @@ use Rattle.rv_text.specs.Written.{AppendsBeginning}
 use Rattle.rv_sim.specs.Output.{HoldsBeginning, PassesOn}
 use Rattle.rv_sim.specs.Program.{EndsBehind}
 use Rattle.rv_sim.specs.Task.{Ends}
-use Rattle.rv_sim.specs.declared.task.Task.{Task}
+use Rattle.rv_sim.specs.declared.{ended.Ended.Ended, task.Task.Task}
 
 -- an empty buffer adds nothing to what its output holds
 pub begun : {W A : Type 0} (contents : W → Option (List ℕ)) (buffer : BufWriter W A) (output : W)
@@ -63,29 +63,29 @@ grown_left (Some old) (Some held) (Some new) text (n, within, grown) (rest, is) 
 )
 
 -- what passes on what was kept passes on what it was kept from
-pub kept_on : (status : ℕ) (outcome : Result ℕ SimError) (held between new : Option (List ℕ))
-    → Keeps held between → PassesOn (Ok status) outcome between new → PassesOn (Ok status) outcome held new
-kept_on status (Ok _) held between new kept (same, passed) = (same, both held between new kept passed)
+pub kept_on : (ended : Ended) (outcome : Result Ended SimError) (held between new : Option (List ℕ))
+    → Keeps held between → PassesOn (Ok ended) outcome between new → PassesOn (Ok ended) outcome held new
+kept_on ended (Ok _) held between new kept (same, passed) = (same, both held between new kept passed)
   where
     both : (a b c : Option (List ℕ)) → Keeps a b → Keeps b c → Keeps a c
     both None b c first second = tt
     both (Some a) None c first second = absurd first
     both (Some a) (Some b) None first second = absurd second
     both (Some a) (Some b) (Some c) first second = second ∙ first
-kept_on status (Err WriteFailed) held between new kept left = kept_left held between new kept left
-kept_on status (Err _) held between new kept never = absurd never
+kept_on ended (Err WriteFailed) held between new kept left = kept_left held between new kept left
+kept_on ended (Err _) held between new kept never = absurd never
 
 -- a task that ended into a buffer, which was passed on
-pub ended_behind : (task : Task) (predictor : Option DescribedPredictor) (old held new : Option (List ℕ)) (ended outcome : Result ℕ SimError)
+pub ended_behind : (task : Task) (predictor : Option DescribedPredictor) (old held new : Option (List ℕ)) (ended outcome : Result Ended SimError)
     → Ends task predictor old held ended → PassesOn ended outcome held new → EndsBehind task predictor old new outcome
-ended_behind task predictor old held new (Ok status) (Ok _) (text, shows, appended) (same, kept) =
+ended_behind task predictor old held new (Ok ended) (Ok _) (text, shows, appended) (same, kept) =
     subst (λ s. EndsBehind task predictor old new (Ok s)) (sym same) (text, shows, Appends-kept old held new text appended kept)
-ended_behind task predictor old held new (Ok status) (Err WriteFailed) (text, shows, appended) left =
-    (text, status, shows, grown_left old held new text (length text, omega arith, Appends-same old held _ _ (sym (take-length text)) appended) left)
-ended_behind task predictor old held new (Ok status) (Err _) ends never = absurd never
+ended_behind task predictor old held new (Ok ended) (Err WriteFailed) (text, shows, appended) left =
+    (text, ended, shows, grown_left old held new text (length text, omega arith, Appends-same old held _ _ (sym (take-length text)) appended) left)
+ended_behind task predictor old held new (Ok ended) (Err _) ends never = absurd never
 ended_behind task predictor old held new (Err error) (Ok _) ends never = absurd never
-ended_behind task predictor old held new (Err WriteFailed) (Err outcome) (text, status, shows, grown) (same, left) =
-    subst (λ e. EndsBehind task predictor old new (Err e)) (sym same) (text, status, shows, grown_left old held new text grown left)
+ended_behind task predictor old held new (Err WriteFailed) (Err outcome) (text, ended, shows, grown) (same, left) =
+    subst (λ e. EndsBehind task predictor old new (Err e)) (sym same) (text, ended, shows, grown_left old held new text grown left)
 ended_behind task predictor old held new (Err Memory) (Err outcome) (asks, kept) (same, left) =
     subst (λ e. EndsBehind task predictor old new (Err e)) (sym same) (asks, kept_left old held new kept left)
 ended_behind task predictor old held new (Err _) (Err outcome) never passes = absurd never

@@ -16,7 +16,8 @@ use Rattle.rv_sim.specs.LogReport.{IsLogOf}
 use Rattle.rv_sim.specs.PictureReport.{IsPictureOf}
 use Rattle.rv_sim.specs.ProfileReport.{IsProfileOf}
 use Rattle.rv_sim.specs.StatesReport.{IsStatesOf}
-use Rattle.rv_sim.specs.declared.{picture.View.View, states.Stretch.Stretch}
+use Rattle.rv_picture.specs.declared.picture.{RunEnd.RunEnd, View.View}
+use Rattle.rv_sim.specs.declared.states.Stretch.{Stretch}
 
 module _ (listed : ListedJob) {predictor : Option DescribedPredictor} {h : Hardware} {end : GuidedHardware} (made : h ≡ hardware_of listed.job) where
   -- the log
@@ -25,9 +26,9 @@ module _ (listed : ListedJob) {predictor : Option DescribedPredictor} {h : Hardw
       record { end = end; logs = subst (λ x. IsLog listed.job.arrivals limit listed.listing (guided x predictor) end stop text) made logs }
 
   -- the picture
-  pub picture_of_job : (view : View) {stop : Stop} {text : List ℕ} → IsPicture listed.job.arrivals view.from view.cycles view.form listed.listing (guided h predictor) end stop text → IsPictureOf listed predictor view stop text
-  picture_of_job view {stop} {text} shows =
-      record { end = end; shows = subst (λ x. IsPicture listed.job.arrivals view.from view.cycles view.form listed.listing (guided x predictor) end stop text) made shows }
+  pub picture_of_job : (view : View) {ended : RunEnd} {text : List ℕ} → IsPicture listed.job.arrivals view listed.listing (guided h predictor) end ended text → IsPictureOf listed predictor view ended text
+  picture_of_job view {ended} {text} shows =
+      record { end = end; shows = subst (λ x. IsPicture listed.job.arrivals view listed.listing (guided x predictor) end ended text) made shows }
 
   -- the sentences
   pub explanation_of : {limit : ℕ} {stop : Stop} {text : List ℕ} → IsExplanation listed.job.arrivals limit listed.job.description listed.listing (guided h predictor) end stop text → IsExplanationOf listed predictor limit stop text

@@ -2,17 +2,18 @@
 use Rattle.std.specs.Prelude.{◌≡◌, ◌⊎◌, ℕ, List, [], Option, None, Some, Result, Ok, Err}
 use Rattle.std.specs.Io.KnownBytes.{Appends}
 use Rattle.rv_front.specs.declared.predictors.DescribedPredictor.{DescribedPredictor}
-use Rattle.rv_job.specs.Fault.{exit_status, fault_line, fault_status, input_fault_line, input_fault_status}
-use Rattle.rv_job.specs.FaultStream.{FaultStream, Tells, TellsError, TellsOf}
+use Rattle.rv_job.specs.Fault.{fault_line, fault_status, input_fault_line, input_fault_status}
+use Rattle.rv_job.specs.FaultStream.{FaultStream, Tells, TellsError}
 use Rattle.rv_job.specs.Input.{IsInputOf}
 use Rattle.rv_sim.specs.CoreReport.{untaught_of}
+use Rattle.rv_sim.specs.Ended.{ReportsEnding, exit_status}
 use Rattle.rv_sim.specs.Output.{HoldsBeginning}
 use Rattle.rv_sim.specs.Refused.{HandsBack}
 use Rattle.rv_sim.specs.Task.{Asks, AsksForMemory, Refuses, Shows, predictor_of}
 use Rattle.rv_command.specs.declared.command.Command.{Command}
 use Rattle.rv_job.specs.declared.{errors.SimError.SimError, input.InputError.InputError}
 use Rattle.rv_job.specs.declared.errors.SimError.TheVariants.{Memory, WriteFailed}
-use Rattle.rv_sim.specs.declared.task.Task.{Task}
+use Rattle.rv_sim.specs.declared.{ended.Ended.Ended, task.Task.Task}
 
 -- the input could not be read, which is told
 abbrev pub IsUnread : FaultStream → FaultStream → ℕ → Type 0
@@ -26,9 +27,9 @@ IsRefused contents command input given handed old new status =
 
 -- A task ended so, with a predictor, and its output was handed back by the buffer before it. The output has got the text whole. Where a
 -- write failed it holds a beginning of what it held and of the text; when out of memory, of what it held.
-abbrev pub EndsBehind : Task → Option DescribedPredictor → Option (List ℕ) → Option (List ℕ) → Result ℕ SimError → Type 0
-EndsBehind task predictor old new (Ok status) = (text : List ℕ) × Shows task predictor text status × Appends old new text
-EndsBehind task predictor old new (Err WriteFailed) = (text : List ℕ) × (status : ℕ) × Shows task predictor text status × HoldsBeginning old new text
+abbrev pub EndsBehind : Task → Option DescribedPredictor → Option (List ℕ) → Option (List ℕ) → Result Ended SimError → Type 0
+EndsBehind task predictor old new (Ok ended) = (text : List ℕ) × Shows task predictor text ended × Appends old new text
+EndsBehind task predictor old new (Err WriteFailed) = (text : List ℕ) × (ended : Ended) × Shows task predictor text ended × HoldsBeginning old new text
 EndsBehind task predictor old new (Err Memory) = AsksForMemory task × HoldsBeginning old new []
 EndsBehind task predictor old new (Err _) = ⊥
 
@@ -36,14 +37,14 @@ EndsBehind task predictor old new (Err _) = ⊥
 abbrev pub IsUnbegun : {W : Type 0} → W → Option W → FaultStream → FaultStream → ℕ → Type 0
 IsUnbegun given handed old new status = ((handed ≡ Some given) ⊎ (handed ≡ None)) × TellsError Memory old new status
 
--- A task was done with the predictor of its machine, or failed, which is told, and its output was handed back, whose known bytes are its
+-- A task was done with the predictor of its machine, or failed. How it ended is reported, and its output was handed back, whose known bytes are its
 -- contents; or memory was refused before it.
 abbrev pub EndsWithin : {W : Type 0} → (W → Option (List ℕ)) → Task → W → Option W → FaultStream → FaultStream → ℕ → Type 0
 EndsWithin {W} contents task given handed old new status =
     IsUnbegun given handed old new status
-    ⊎ ((output : W) × (handed ≡ Some output) × (outcome : Result ℕ SimError)
+    ⊎ ((output : W) × (handed ≡ Some output) × (outcome : Result Ended SimError)
     × EndsBehind task (untaught_of (predictor_of task)) (contents given) (contents output) outcome
-    × TellsOf old new outcome × (status ≡ exit_status outcome))
+    × ReportsEnding old new outcome × (status ≡ exit_status outcome))
 
 -- what the command asks of the input was done, or failed
 abbrev pub IsEnded : {W : Type 0} → (W → Option (List ℕ)) → Command → List ℕ → W → Option W → FaultStream → FaultStream → ℕ → Type 0

@@ -1,5 +1,5 @@
 -- What a command asks of an input, and how that ends.
-use Rattle.std.specs.Prelude.{◌≡◌, ℕ, Bool, List, length, true, false, ⊤, Option, Result, Ok, Err}
+use Rattle.std.specs.Prelude.{◌≡◌, ℕ, Bool, List, length, true, false, ⊤, Option, None, Result, Ok, Err}
 use Rattle.std.specs.Io.KnownBytes.{Appends, Keeps}
 use Rattle.rv_arch.specs.declared.outcome.Stop.{Stop}
 use Rattle.rv_arch.specs.declared.outcome.Stop.TheVariants.{Stale}
@@ -16,8 +16,9 @@ use Rattle.rv_job.specs.JobText.{IsJobOf}
 use Rattle.rv_job.specs.ListedJob.{IsListedJobOf}
 use Rattle.rv_job.specs.declared.errors.SimError.{SimError}
 use Rattle.rv_job.specs.declared.errors.SimError.TheVariants.{Memory, WriteFailed}
-use Rattle.rv_picture.specs.declared.picture.Form.{Form}
+use Rattle.rv_picture.specs.declared.picture.{Form.Form, Rows.Rows, RunEnd.RunEnd, View.View}
 use Rattle.rv_picture.specs.declared.picture.Form.TheVariants.{Text, Svg}
+use Rattle.rv_picture.specs.declared.picture.Rows.TheVariants.{All, Unsquashed}
 use Rattle.rv_report.specs.declared.options.Options.{Options}
 use Rattle.rv_states.specs.declared.form.Form.{Form as StatesForm}
 use Rattle.rv_states.specs.declared.form.Form.TheVariants.{Lines, Page}
@@ -30,7 +31,7 @@ use Rattle.rv_sim.specs.PictureReport.{IsPictureOf}
 use Rattle.rv_sim.specs.ProfileReport.{IsProfileOf}
 use Rattle.rv_sim.specs.ReferenceReport.{IsReferenceReport}
 use Rattle.rv_sim.specs.StatesReport.{IsStatesOf}
-use Rattle.rv_sim.specs.declared.{picture.View.View, states.Stretch.Stretch, task.Task.Task}
+use Rattle.rv_sim.specs.declared.{ended.Ended.Ended, states.Stretch.Stretch, task.Task.Task}
 use Rattle.rv_sim.specs.declared.task.Task.TheVariants.{Run, Reference, Check, Picture, Log, States, Explain, Profile, Compare}
 
 -- the options of a command; which words of memory a report shows is the job's to say
@@ -42,9 +43,14 @@ abbrev pub form_of : Bool → Form
 form_of true = Text
 form_of false = Svg
 
+-- a picture has no rows of squashed instructions where that is asked for
+abbrev pub rows_of : Bool → Rows
+rows_of true = Unsquashed
+rows_of false = All
+
 -- the view of a command
-abbrev pub viewed : Bool → ℕ → ℕ → View
-viewed text from cycles = record { form = form_of text; from = from; cycles = cycles }
+abbrev pub viewed : Bool → Bool → ℕ → ℕ → View
+viewed text retired from cycles = record { form = form_of text; rows = rows_of retired; from = from; cycles = cycles }
 
 -- the cycles whose states are written in a form
 abbrev pub stretch_of : StatesForm → ℕ → ℕ → Stretch
@@ -60,7 +66,8 @@ abbrev pub Asks : Command → List ℕ → Task → Type 0
 Asks (command.Run trace limit) input (Run job options) = IsJobOf input job × (options ≡ asked trace limit)
 Asks (command.Reference limit) input (Reference job options) = IsJobOf input job × (options ≡ asked false limit)
 Asks command.Check input (Check made) = IsDescribedImageOf input made
-Asks (command.Picture text from cycles) input (Picture listed view) = IsListedJobOf input listed × (view ≡ viewed text from cycles)
+Asks (command.Picture text retired from cycles) input (Picture listed view) =
+    IsListedJobOf input listed × (view ≡ viewed text retired from cycles)
 Asks (command.Log limit) input (Log listed asked_limit) = IsListedJobOf input listed × (asked_limit ≡ limit)
 Asks (command.States from limit) input task = AsksForStates Lines from limit input task
 Asks (command.Page from limit) input task = AsksForStates Page from limit input task
@@ -74,7 +81,7 @@ abbrev pub Refuses : Command → List ℕ → SimError → Type 0
 Refuses (command.Run trace limit) input error = RefusesJob input error
 Refuses (command.Reference limit) input error = RefusesJob input error
 Refuses command.Check input error = RefusesImage input error
-Refuses (command.Picture text from cycles) input error = RefusesJob input error
+Refuses (command.Picture text retired from cycles) input error = RefusesJob input error
 Refuses (command.Log limit) input error = RefusesJob input error
 Refuses (command.States from limit) input error = RefusesJob input error
 Refuses (command.Page from limit) input error = RefusesJob input error
@@ -99,33 +106,41 @@ unfoldable pub stop_status : Stop → ℕ
 stop_status (Stale pc) = 3
 stop_status _ = 0
 
--- the text of a task that was done with a predictor, and the exit status
-abbrev pub Shows : Task → Option DescribedPredictor → List ℕ → ℕ → Type 0
-Shows (Run job options) predictor text status =
-    (stop : Stop) × IsSimulation job predictor options stop text × (status ≡ stop_status stop)
-Shows (Reference job options) predictor text status =
-    (stop : Stop) × IsReferenceReport job options stop text × (status ≡ stop_status stop)
-Shows (Check made) predictor text status = (text ≡ image_line (length made.image.bytes) made.image.start) × (status ≡ 0)
-Shows (Picture listed view) predictor text status =
-    (stop : Stop) × IsPictureOf listed predictor view stop text × (status ≡ stop_status stop)
-Shows (Log listed limit) predictor text status =
-    (stop : Stop) × IsLogOf listed predictor limit stop text × (status ≡ stop_status stop)
-Shows (States listed stretch) predictor text status =
-    (stop : Stop) × IsStatesOf listed predictor stretch stop text × (status ≡ stop_status stop)
-Shows (Explain listed limit) predictor text status =
-    (stop : Stop) × IsExplanationOf listed predictor limit stop text × (status ≡ stop_status stop)
-Shows (Profile listed limit) predictor text status =
-    (stop : Stop) × IsProfileOf listed predictor limit stop text × (status ≡ stop_status stop)
-Shows (Compare comparison limit) predictor text status = IsComparisonTable comparison limit text × (status ≡ 0)
+-- how a task ended whose run ended for a reason, and after so many cycles, where that was before those of a picture
+abbrev pub ended_by : Stop → Option ℕ → Ended
+ended_by stop over = record { status = stop_status stop; over = over }
+
+-- how a task ended that has no run of its own
+abbrev pub done : Ended
+done = record { status = 0; over = None }
+
+-- the text of a task that was done with a predictor, and how that ended
+abbrev pub Shows : Task → Option DescribedPredictor → List ℕ → Ended → Type 0
+Shows (Run job options) predictor text ended =
+    (stop : Stop) × IsSimulation job predictor options stop text × (ended ≡ ended_by stop None)
+Shows (Reference job options) predictor text ended =
+    (stop : Stop) × IsReferenceReport job options stop text × (ended ≡ ended_by stop None)
+Shows (Check made) predictor text ended = (text ≡ image_line (length made.image.bytes) made.image.start) × (ended ≡ done)
+Shows (Picture listed view) predictor text ended =
+    (end : RunEnd) × IsPictureOf listed predictor view end text × (ended ≡ ended_by end.stop end.over)
+Shows (Log listed limit) predictor text ended =
+    (stop : Stop) × IsLogOf listed predictor limit stop text × (ended ≡ ended_by stop None)
+Shows (States listed stretch) predictor text ended =
+    (stop : Stop) × IsStatesOf listed predictor stretch stop text × (ended ≡ ended_by stop None)
+Shows (Explain listed limit) predictor text ended =
+    (stop : Stop) × IsExplanationOf listed predictor limit stop text × (ended ≡ ended_by stop None)
+Shows (Profile listed limit) predictor text ended =
+    (stop : Stop) × IsProfileOf listed predictor limit stop text × (ended ≡ ended_by stop None)
+Shows (Compare comparison limit) predictor text ended = IsComparisonTable comparison limit text × (ended ≡ done)
 
 -- a task asks for memory, but for one that only says which image a job makes
 abbrev pub AsksForMemory : Task → Type 0
 AsksForMemory (Check made) = ⊥
 AsksForMemory _ = ⊤
 
--- A task ended so, with a predictor: with an exit status and its text whole, or by an error. The known bytes of its output go from old to new.
-abbrev pub Ends : Task → Option DescribedPredictor → Option (List ℕ) → Option (List ℕ) → Result ℕ SimError → Type 0
-Ends task predictor old new (Ok status) = (text : List ℕ) × Shows task predictor text status × Appends old new text
-Ends task predictor old new (Err WriteFailed) = (text : List ℕ) × (status : ℕ) × Shows task predictor text status × AppendsBeginning old new text
+-- A task ended so, with a predictor: with its text whole, or by an error. The known bytes of its output go from old to new.
+abbrev pub Ends : Task → Option DescribedPredictor → Option (List ℕ) → Option (List ℕ) → Result Ended SimError → Type 0
+Ends task predictor old new (Ok ended) = (text : List ℕ) × Shows task predictor text ended × Appends old new text
+Ends task predictor old new (Err WriteFailed) = (text : List ℕ) × (ended : Ended) × Shows task predictor text ended × AppendsBeginning old new text
 Ends task predictor old new (Err Memory) = AsksForMemory task × Keeps old new
 Ends task predictor old new (Err _) = ⊥

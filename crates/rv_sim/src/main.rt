@@ -5,6 +5,7 @@
 mod answer;
 mod boxed_predictor;
 mod compare;
+mod ended;
 mod explain;
 mod log;
 mod output;

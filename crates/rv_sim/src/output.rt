@@ -3,6 +3,7 @@ ghost use Rattle.std.specs.Prelude.{[], Ok};
 ghost use Rattle.std.specs.Io.Buffered.{writer_contents};
 ghost use Rattle.rv_sim.specs.Output.{HoldsBeginning, PassesOn};
 
+use crate::ended::Ended;
 use rv_job::SimError;
 use std::io::{BufWriter, Write};
 
@@ -14,12 +15,12 @@ fn cut_off<W: Write + Drop>(buffer: BufWriter<W>) -> W
     output
 }
 
-// Has an output pass on what it holds back itself, after what ended with a status.
-fn flush<W: Write>(status: u8, output: &mut W) -> Result<u8, SimError>
-    ensures { PassesOn (Ok status) result (W.contents output.old) (W.contents output.new) }
+// Has an output pass on what it holds back itself, after what ended so.
+fn flush<W: Write>(ended: Ended, output: &mut W) -> Result<Ended, SimError>
+    ensures { PassesOn (Ok ended) result (W.contents output.old) (W.contents output.new) }
 {
     match output.flush() {
-        Ok(()) => Ok(status),
+        Ok(()) => Ok(ended),
         Err(_) => Err(SimError::WriteFailed),
     }
 }
@@ -28,16 +29,16 @@ fn flush<W: Write>(status: u8, output: &mut W) -> Result<u8, SimError>
 /// gets all that the buffer holds, and is flushed; a write that fails then is answered. Else it gets nothing more, since
 /// what a failed write left in the buffer is not to follow after the line that reports it.
 pub(crate) fn pass_on<W: Write + Drop>(
-    ended: Result<u8, SimError>,
+    ended: Result<Ended, SimError>,
     buffer: BufWriter<W>,
-) -> (Result<u8, SimError>, W)
+) -> (Result<Ended, SimError>, W)
     ensures { PassesOn ended result.0 (writer_contents W.contents buffer) (W.contents result.1) }
 {
     match ended {
-        Ok(status) => match buffer.into_inner() {
+        Ok(ended) => match buffer.into_inner() {
             Ok(output) => {
                 let mut output = output;
-                let ended = flush(status, &mut output);
+                let ended = flush(ended, &mut output);
                 (ended, output)
             }
             Err(failed) => (Err(SimError::WriteFailed), cut_off(failed.into_inner())),

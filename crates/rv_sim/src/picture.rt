@@ -3,27 +3,15 @@ ghost use Rattle.rv_sim.specs.PictureReport.{IsPictureOf};
 
 use crate::answer::answer;
 use crate::boxed_predictor::BoxedPredictor;
-use rv_arch::Stop;
 use rv_core::Pipeline;
 use rv_job::{ListedJob, SimError};
-use rv_picture::{Form, write_picture};
+use rv_picture::{RunEnd, View, write_picture};
 use std::alloc::Global;
 use std::io::Write;
 
-/// Which cycles of a run a picture shows, and how it is written.
-#[derive(Clone, Copy, Debug, PartialEq, Eq)]
-pub struct View {
-    /// How it is written.
-    pub form: Form,
-    /// The first cycle that it shows.
-    pub from: u64,
-    /// How many cycles it shows at most.
-    pub cycles: u64,
-}
-
 /// Simulates a job on the core that it describes, with the job's arrivals at the numbers of the cycles, up to a breakpoint,
 /// a stale word or the end of the view, and writes the picture of the cycles of the view, with the lines of the job's
-/// program. Where the run ends before the view begins, no cycle is shown. Answers why the run ended.
+/// program. Where the run ends before the view begins, no cycle is shown. Answers how the run ended.
 ///
 /// Fails by `Memory`, and has written nothing then, or by `WriteFailed`, and has written a beginning of the picture.
 pub fn picture<W: Write>(
@@ -32,7 +20,7 @@ pub fn picture<W: Write>(
     predictor: BoxedPredictor,
     view: &View,
     writer: &mut W,
-) -> Result<Stop, SimError>
+) -> Result<RunEnd, SimError>
     ensures { IsAnswer (IsPictureOf listed.now (known predictor.predictor) view.now) result (W.contents writer.old) (W.contents writer.new) }
 {
     let job = &listed.job;
@@ -46,9 +34,7 @@ pub fn picture<W: Write>(
         &mut pipeline,
         &mut *predictor.predictor,
         &job.arrivals,
-        view.from,
-        view.cycles,
-        view.form,
+        *view,
         &listed.listing,
         writer,
     );

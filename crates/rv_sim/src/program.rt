@@ -1,6 +1,6 @@
 ghost use Rattle.std.specs.Prelude.{◌≡◌, IfOk, OnOk, IfErr};
-ghost use Rattle.rv_job.specs.Fault.{exit_status, input_fault_line, input_fault_status};
-ghost use Rattle.rv_job.specs.FaultStream.{Tells, TellsOf};
+ghost use Rattle.rv_job.specs.Fault.{input_fault_line, input_fault_status};
+ghost use Rattle.rv_job.specs.FaultStream.{Tells};
 ghost use Rattle.rv_job.specs.Input.{IsInputOf};
 ghost use Rattle.rv_sim.specs.CoreReport.{untaught_of};
 ghost use Rattle.rv_sim.specs.Program.{EndsWithin, Runs};
@@ -8,6 +8,7 @@ ghost use Rattle.rv_sim.specs.Task.{predictor_of};
 ghost use Rattle.rv_job.specs.declared.input.InputError.{InputError as OneError};
 
 use crate::boxed_predictor::{BoxedPredictor, boxed};
+use crate::ended::report;
 use crate::output::pass_on;
 use crate::refusal::hand_back;
 use crate::task::{Task, begin, finish};
@@ -43,17 +44,6 @@ fn take_input<R: Read, E: Write>(
     }
 }
 
-// The exit status of what ended so; an error is told.
-fn status_of<E: Write>(ended: Result<u8, SimError>, errors: &mut FaultLines<E>) -> u8
-    ensures told { TellsOf errors.old errors.new ended }
-    ensures status { result ≡ exit_status ended }
-{
-    match ended {
-        Ok(status) => status,
-        Err(error) => errors.tell(error),
-    }
-}
-
 // Does a task with a predictor that is the one of its machine.
 fn finish_guided<W: Write + Drop, E: Write>(
     alloc: Global,
@@ -74,7 +64,7 @@ fn finish_guided<W: Write + Drop, E: Write>(
     };
     let ended = finish(alloc, task, predictor, &mut buffer);
     let (ended, output) = pass_on(ended, buffer);
-    let status = status_of(ended, errors);
+    let status = report(ended, errors);
     let output = Some(output);
     Exit { status, output }
 }
@@ -103,7 +93,8 @@ fn finish_task<W: Write + Drop, E: Write>(
 }
 
 /// Does what a command asks of an input: reads it from `reader`, and writes the report, picture, log, sentences or table, or
-/// the line that says which image it makes, to `output`, in blocks, and flushes it. A fault is told on `errors`; where a job was
+/// the line that says which image it makes, to `output`, in blocks, and flushes it. A fault is reported on `errors`, and that the run of a
+/// picture ended before the cycles of the picture; where a job was
 /// to be explained and is refused, `output` gets why, as far as memory and the writes allow. The exit status is 0 for what was done, 1 for a refused job, 3 for a run that a stale word ended, 4 where input or output failed, 5
 /// when out of memory.
 pub fn run<R: Read, W: Write + Drop, E: Write>(

@@ -3,13 +3,14 @@ ghost use Rattle.rv_isa.specs.Description.{IsLegalPredictor};
 ghost use Rattle.rv_job.specs.Fault.{fault_line, fault_status};
 ghost use Rattle.rv_job.specs.FaultStream.{Tells};
 ghost use Rattle.rv_job.specs.JobRefusal.{RefusesJob};
-ghost use Rattle.rv_sim.specs.Task.{Asks, AsksForStates, Refuses, Ends, asked, form_of, predictor_of, stop_status};
+ghost use Rattle.rv_sim.specs.Task.{Asks, AsksForStates, Refuses, Ends, asked, ended_by, form_of, predictor_of, rows_of, stop_status};
 
 use crate::boxed_predictor::BoxedPredictor;
 use crate::compare::compare;
+use crate::ended::Ended;
 use crate::explain::explain;
 use crate::log::log;
-use crate::picture::{View, picture};
+use crate::picture::picture;
 use crate::profile::profile;
 use crate::reference::reference;
 use crate::simulate::simulate;
@@ -21,7 +22,7 @@ use rv_job::{
     Comparison, DescribedImage, FaultLines, Job, ListedJob, SimError, read_comparison,
     read_image_text, read_job, read_listed_job, write_image_line,
 };
-use rv_picture::Form;
+use rv_picture::{Form, Rows, View};
 use rv_report::Options;
 use rv_states::Form as StatesForm;
 use std::alloc::Global;
@@ -91,6 +92,16 @@ const fn form(is_text: bool) -> Form
     if is_text { Form::Text } else { Form::Svg }
 }
 
+const fn rows(are_unsquashed: bool) -> Rows
+    ensures { result ≡ rows_of are_unsquashed }
+{
+    if are_unsquashed {
+        Rows::Unsquashed
+    } else {
+        Rows::All
+    }
+}
+
 // Reads a job of which the states of some cycles are to be written in a form.
 fn read_states(
     alloc: Global,
@@ -126,10 +137,16 @@ fn read_task(alloc: Global, command: &Command, input: &[u8]) -> Result<Task, Sim
             let made = read_image_text(alloc, input)?;
             Ok(Task::Check { made })
         }
-        Command::Picture { text, from, cycles } => {
+        Command::Picture {
+            text,
+            retired,
+            from,
+            cycles,
+        } => {
             let listed = read_listed_job(alloc, input)?;
             let view = View {
                 form: form(*text),
+                rows: rows(*retired),
                 from: *from,
                 cycles: *cycles,
             };
@@ -207,8 +224,16 @@ fn stop_status(stop: Stop) -> u8
     }
 }
 
+// How a task ended whose run ended for a reason, and after so many cycles, where that was before those of a picture.
+fn ended_by(stop: Stop, over: Option<u64>) -> Ended
+    ensures { result ≡ ended_by stop over }
+{
+    let status = stop_status(stop);
+    Ended { status, over }
+}
+
 /// Does the task: writes its report, picture, log, states, sentences or table, or the line that says which image
-/// the job makes, to `output`, and answers the exit status. Only a run of one job on the core asks the predictor.
+/// the job makes, to `output`, and answers how it ended. Only a run of one job on the core asks the predictor.
 ///
 /// Fails by `Memory`, and has written nothing then, or by `WriteFailed`, and has written a beginning of the text.
 pub fn finish<W: Write>(
@@ -216,45 +241,51 @@ pub fn finish<W: Write>(
     task: &Task,
     predictor: BoxedPredictor,
     output: &mut W,
-) -> Result<u8, SimError>
+) -> Result<Ended, SimError>
     ensures { Ends task.now (known predictor.predictor) (W.contents output.old) (W.contents output.new) result }
 {
     match task {
         Task::Run { job, options } => {
             let stop = simulate(alloc, job, predictor, options, output)?;
-            Ok(stop_status(stop))
+            Ok(ended_by(stop, None))
         }
         Task::Reference { job, options } => {
             let stop = reference(alloc, job, options, output)?;
-            Ok(stop_status(stop))
+            Ok(ended_by(stop, None))
         }
         Task::Check { made } => {
             write_image_line(output, &made.image)?;
-            Ok(0)
+            Ok(Ended {
+                status: 0,
+                over: None,
+            })
         }
         Task::Picture { listed, view } => {
-            let stop = picture(alloc, listed, predictor, view, output)?;
-            Ok(stop_status(stop))
+            let end = picture(alloc, listed, predictor, view, output)?;
+            Ok(ended_by(end.stop, end.over))
         }
         Task::Log { listed, limit } => {
             let stop = log(alloc, listed, predictor, *limit, output)?;
-            Ok(stop_status(stop))
+            Ok(ended_by(stop, None))
         }
         Task::States { listed, stretch } => {
             let stop = states(alloc, listed, predictor, stretch, output)?;
-            Ok(stop_status(stop))
+            Ok(ended_by(stop, None))
         }
         Task::Explain { listed, limit } => {
             let stop = explain(alloc, listed, predictor, *limit, output)?;
-            Ok(stop_status(stop))
+            Ok(ended_by(stop, None))
         }
         Task::Profile { listed, limit } => {
             let stop = profile(alloc, listed, predictor, *limit, output)?;
-            Ok(stop_status(stop))
+            Ok(ended_by(stop, None))
         }
         Task::Compare { comparison, limit } => {
             compare(alloc, comparison, *limit, output)?;
-            Ok(0)
+            Ok(Ended {
+                status: 0,
+                over: None,
+            })
         }
     }
 }

@@ -1,4 +1,5 @@
 mod labels;
+mod places;
 mod rows;
 mod tips;
 mod words;

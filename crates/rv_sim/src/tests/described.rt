@@ -10,6 +10,7 @@ const COMMANDS: [Command; 5] = [
     Command::Check,
     Command::Picture {
         text: true,
+        retired: false,
         from: 0,
         cycles: 1,
     },

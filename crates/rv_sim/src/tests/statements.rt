@@ -11,11 +11,13 @@ const TABBED: &[u8] = b"alu.units = 1
 const COMMANDS: [Command; 4] = [
     Command::Picture {
         text: true,
+        retired: false,
         from: 0,
         cycles: 9,
     },
     Command::Picture {
         text: false,
+        retired: false,
         from: 0,
         cycles: 9,
     },

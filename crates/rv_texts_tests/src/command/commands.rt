@@ -76,36 +76,53 @@ fn a_run_has_a_trace_where_the_flag_is_given_once(rt: HostRuntime) -> Result<(),
 fn a_picture_shows_sixty_cycles_from_the_first_on_unless_others_are_asked_for(
     rt: HostRuntime,
 ) -> Result<(), Fail> {
-    const CASES: [(&[&str], bool, u64, u64); 6] = [
-        (&["rv_sim", "picture"], false, 0, 60),
-        (&["rv_sim", "picture", "--text"], true, 0, 60),
-        (&["rv_sim", "picture", "--from", "7"], false, 7, 60),
-        (&["rv_sim", "picture", "--cycles", "1"], false, 0, 1),
+    const CASES: [(&[&str], bool, bool, u64, u64); 8] = [
+        (&["rv_sim", "picture"], false, false, 0, 60),
+        (&["rv_sim", "picture", "--text"], true, false, 0, 60),
+        (&["rv_sim", "picture", "--retired"], false, true, 0, 60),
+        (
+            &["rv_sim", "picture", "--retired", "--text"],
+            true,
+            true,
+            0,
+            60,
+        ),
+        (&["rv_sim", "picture", "--from", "7"], false, false, 7, 60),
+        (&["rv_sim", "picture", "--cycles", "1"], false, false, 0, 1),
         (
             &["rv_sim", "picture", "--cycles=9", "--text", "--from=8"],
             true,
+            false,
             8,
             9,
         ),
         (
             &["rv_sim", "picture", "--from=999999", "--cycles=1000"],
             false,
+            false,
             999_999,
             1_000,
         ),
     ];
-    const REFUSED: [&[&str]; 6] = [
+    const REFUSED: [&[&str]; 8] = [
         &["rv_sim", "picture", "--from", "1000000"],
         &["rv_sim", "picture", "--from", "-1"],
         &["rv_sim", "picture", "--cycles", "0"],
         &["rv_sim", "picture", "--cycles", "1001"],
         &["rv_sim", "picture", "--limit", "7"],
         &["rv_sim", "picture", "--text", "--text"],
+        &["rv_sim", "picture", "--retired", "--retired"],
+        &["rv_sim", "states", "--retired"],
     ];
     let alloc = rt.alloc();
-    for (texts, text, from, cycles) in &CASES {
-        let (text, from, cycles) = (*text, *from, *cycles);
-        is_taken(&rt, alloc, texts, Command::Picture { text, from, cycles })?;
+    for (texts, text, retired, from, cycles) in &CASES {
+        let asked = Command::Picture {
+            text: *text,
+            retired: *retired,
+            from: *from,
+            cycles: *cycles,
+        };
+        is_taken(&rt, alloc, texts, asked)?;
     }
     each_is_refused(&rt, alloc, &REFUSED)
 }

@@ -106,6 +106,7 @@ Usage: rv_sim picture [OPTIONS]
 
 Options:
       --text        Draws in characters, and not as SVG
+      --retired     Leaves out the rows of squashed instructions
       --from <N>    The first cycle, 0 to 999999 [default: 0]
       --cycles <N>  How many cycles, 1 to 1000 [default: 60]
   -h, --help        Print help

@@ -142,18 +142,18 @@ const BOXES: [(&str, u32, &str, u32, &str); 10] = [
     ("x", 512, "squash", 14, "x"),
 ];
 
-// A class, a letter, and what the legend says of them.
-const MEANINGS: [(&str, &str, &str); 10] = [
-    ("f", "F", "fetch"),
-    ("d", "D", "dispatch"),
-    ("i", "I", "issue"),
-    ("e", "=", "execution"),
-    ("r", "~", "wait for the bus"),
-    ("b", "B", "broadcast"),
-    ("w", ".", "wait"),
-    ("c", "C", "retirement"),
-    ("t", "T", "trap"),
-    ("x", "x", "squash"),
+// Where in the legend a class and a letter stand, and what it says of them.
+const MEANINGS: [(&str, &str, &str, &str); 10] = [
+    ("0 0", "f", "F", "fetch"),
+    ("150 0", "d", "D", "dispatch"),
+    ("300 0", "i", "I", "issue"),
+    ("450 0", "e", "=", "execution"),
+    ("0 22", "r", "~", "wait for the bus"),
+    ("150 22", "b", "B", "broadcast"),
+    ("300 22", "c", "C", "retirement"),
+    ("450 22", "t", "T", "trap"),
+    ("0 44", "x", "x", "squash"),
+    ("150 44", "w", ".", "wait"),
 ];
 
 // What stands around ten columns and six rows: the last row ends at 44 + 6 * 18 = 152.
@@ -163,7 +163,7 @@ const FRAME: [&str; 9] = [
     "<g class='v' transform='translate(456 0)'><title>cycle 10, interrupt</title><path d='M0 38V152'/><text x='7' y='34'>!</text></g>\n",
     "<g class='v' transform='translate(498 0)'><title>cycle 13, interrupt</title><path d='M0 38V152'/><text x='7' y='34'>!</text></g>\n",
     "<g class='v' transform='translate(582 0)'><title>cycle 19, interrupt</title><path d='M0 38V152'/><text x='7' y='34'>!</text></g>\n</g>\n</svg>\n",
-    "<text x='7' y='13'>!</text></g><text x='20' y='13'>interrupt</text></g>\n</g>\n<g transform='translate(0 76)'>\n",
+    "<g transform='translate(300 44)'><g class='v'><text x='7' y='13'>!</text></g><text x='20' y='13'>interrupt</text></g>\n</g>\n<g transform='translate(0 76)'>\n",
     "</text><text x='328' y='13'>x1/ra=00000005</text>\n<g class='p f' transform='translate(456 0)'>",
     "\n.out text{fill:#888}\n",
     "\n.trap text{fill:#a00}\n",
@@ -237,10 +237,10 @@ fn check_meaning(
     rt: &impl Abort,
     alloc: Global,
     svg: &str,
-    (class, letter, name): (&str, &str, &str),
+    (place, class, letter, name): (&str, &str, &str, &str),
 ) -> Result<(), Fail> {
     let meaning = format!(in alloc;
-        "<g class='p {class}'><rect width='14' height='18'/><text x='7' y='13'>{letter}</text></g><text x='20' y='13'>{name}</text></g>\n"
+        "<g transform='translate({place})'><g class='p {class}'><rect width='14' height='18'/><text x='7' y='13'>{letter}</text></g><text x='20' y='13'>{name}</text></g>\n"
     )?;
     check_shown(rt, svg, meaning.as_str());
     Ok(())
@@ -266,10 +266,10 @@ fn colour_of<'a>(
     class: &str,
 ) -> Result<&'a str, Fail> {
     let rule = format!(in alloc; "\n.{class} rect{{fill:")?;
-    let (_, behind) = svg
+    let (_, after) = svg
         .split_once(rule.as_str())
         .expect(rt, "a rule for the class");
-    let (colour, _) = behind.split_once("}").expect(rt, "the end of the rule");
+    let (colour, _) = after.split_once("}").expect(rt, "the end of the rule");
     Ok(colour)
 }
 

@@ -86,10 +86,10 @@ fn the_tip_of_a_row_says_what_was_predicted_or_the_cause_of_a_trap(rt: HostRunti
     ];
     for (row, tip) in cases {
         let svg = drawn(&rt, rt.alloc(), &[row], &[]);
-        let (_, behind) = svg
+        let (_, after) = svg
             .split_once("</g>\n<title>")
             .expect(&rt, "a tip of the row");
-        let (shown, rest) = behind.split_once("</title>\n</g>\n").expect(&rt, "its end");
+        let (shown, rest) = after.split_once("</title>\n</g>\n").expect(&rt, "its end");
         assert_eq!(&rt; shown, tip);
         assert!(&rt; !rest.contains("<title>"));
     }

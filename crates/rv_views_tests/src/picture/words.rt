@@ -2,7 +2,7 @@ use crate::machine::{described, listing, no_arrivals, pipeline};
 use rv_arch::Stop;
 use rv_front::NotTaken;
 use rv_isa::Values;
-use rv_picture::{Form, write_picture};
+use rv_picture::{Form, Rows, RunEnd, View, write_picture};
 use std::alloc::Global;
 use std::process::Abort;
 
@@ -14,8 +14,24 @@ const EXPECTED: &str = "                                                        
 00000000 -                                -                    F\n\
 F fetch  D dispatch  I issue  = execution  ~ wait for the bus  B broadcast  C retirement  T trap  x squash  . wait  ! interrupt\n";
 
+// The same without the two words that are squashed.
+const UNSQUASHED: &str = "                                                           0         \n\
+80000000 00500093                         x1/ra=00000005   FDIBC\n\
+80000004 00100073                         -                 FD.T\n\
+00000000 -                                -                    F\n\
+F fetch  D dispatch  I issue  = execution  ~ wait for the bus  B broadcast  C retirement  T trap  x squash  . wait  ! interrupt\n";
+
 // addi x1,x0,5 and ebreak.
 const PROGRAM: [u8; 8] = [0x93, 0x00, 0x50, 0x00, 0x73, 0x00, 0x10, 0x00];
+
+// All cycles but the first.
+const FROM_THE_SECOND: &str = "                                                               \n\
+80000000 00500093                         x1/ra=00000005   DIBC\n\
+80000004 00100073                         -                FD.T\n\
+80000008 00000000                         -                 FDx\n\
+8000000c 00000000                         -                  Fx\n\
+00000000 -                                -                   F\n\
+F fetch  D dispatch  I issue  = execution  ~ wait for the bus  B broadcast  C retirement  T trap  x squash  . wait  ! interrupt\n";
 
 // The last cycle, in which each instruction but the one that was fetched leaves the hardware.
 const LAST_CYCLE: &str = "                                                            \n\
@@ -30,8 +46,14 @@ const NOTHING: &str = "                                                         
 The run ended after 5 cycles, before those of this picture.\n\
 F fetch  D dispatch  I issue  = execution  ~ wait for the bus  B broadcast  C retirement  T trap  x squash  . wait  ! interrupt\n";
 
-// The picture of at most sixty cycles from one on, and why the run ended.
-fn picture_of(rt: &impl Abort, alloc: Global, program: &[u8], from: u64) -> (Stop, Vec<u8>) {
+// The picture of at most sixty cycles from one on, with some rows, and how the run ended.
+fn picture_of(
+    rt: &impl Abort,
+    alloc: Global,
+    program: &[u8],
+    from: u64,
+    rows: Rows,
+) -> (RunEnd, Vec<u8>) {
     let mut values = Values::standard();
     values.fetch_width = 1;
     let arrivals = no_arrivals(rt, alloc);
@@ -39,37 +61,52 @@ fn picture_of(rt: &impl Abort, alloc: Global, program: &[u8], from: u64) -> (Sto
     let mut text = Vec::new(alloc);
     let mut pipeline = pipeline(rt, alloc, &described(rt, values), program);
     let mut predictor = NotTaken;
-    let stop = write_picture(
+    let view = View {
+        form: Form::Text,
+        rows,
+        from,
+        cycles: 60,
+    };
+    let end = write_picture(
         alloc,
         &mut pipeline,
         &mut predictor,
         &arrivals,
-        from,
-        60,
-        Form::Text,
+        view,
         &listing,
         &mut text,
     );
-    (stop.expect(rt, "a picture"), text)
+    (end.expect(rt, "a picture"), text)
 }
 
-fn picture_from(rt: &impl Abort, alloc: Global, from: u64) -> (Stop, Vec<u8>) {
-    picture_of(rt, alloc, &PROGRAM, from)
+// How a run ended that a breakpoint ended.
+fn at_breakpoint(over: Option<u64>) -> RunEnd {
+    RunEnd {
+        stop: Stop::Breakpoint,
+        over,
+    }
 }
 
 #[test]
 fn two_words_in_characters(rt: HostRuntime) {
-    let (stop, text) = picture_from(&rt, rt.alloc(), 0);
-    assert_eq!(rt; stop, Stop::Breakpoint);
-    assert_eq!(rt; text.as_slice(), EXPECTED.as_bytes());
+    for (rows, expected) in [(Rows::All, EXPECTED), (Rows::Unsquashed, UNSQUASHED)] {
+        let (end, text) = picture_of(&rt, rt.alloc(), &PROGRAM, 0, rows);
+        assert_eq!(rt; end, at_breakpoint(None));
+        assert_eq!(rt; text.as_slice(), expected.as_bytes());
+    }
 }
 
 // The breakpoint is taken in cycle 4.
 #[test]
-fn behind_the_end_of_a_run_nothing_is_shown(rt: HostRuntime) {
-    for (from, shown) in [(4, LAST_CYCLE), (5, NOTHING), (6, NOTHING)] {
-        let (stop, text) = picture_from(&rt, rt.alloc(), from);
-        assert_eq!(rt; stop, Stop::Breakpoint);
+fn the_cycles_from_one_on_are_shown_and_after_the_end_of_a_run_nothing(rt: HostRuntime) {
+    for (from, shown, over) in [
+        (1, FROM_THE_SECOND, None),
+        (4, LAST_CYCLE, None),
+        (5, NOTHING, Some(5)),
+        (6, NOTHING, Some(5)),
+    ] {
+        let (end, text) = picture_of(&rt, rt.alloc(), &PROGRAM, from, Rows::All);
+        assert_eq!(rt; end, at_breakpoint(over));
         assert_eq!(rt; text.as_slice(), shown.as_bytes());
     }
 }
@@ -81,11 +118,11 @@ const STALE: [u8; 12] = [
 
 #[test]
 fn the_row_whose_stale_word_ended_the_run_says_so(rt: HostRuntime) {
-    let (stop, text) = picture_of(&rt, rt.alloc(), &STALE, 0);
-    assert_eq!(rt; stop, Stop::Stale(0x8000_0008));
+    let (end, text) = picture_of(&rt, rt.alloc(), &STALE, 0, Rows::Unsquashed);
+    assert_eq!(rt; end.stop, Stop::Stale(0x8000_0008));
     let text = String::from_utf8(text).expect(&rt, "ASCII");
     let row = "\n80000008 00100113                         stale            ";
-    let (before, behind) = text.split_once(row).expect(&rt, "the row");
+    let (before, after) = text.split_once(row).expect(&rt, "the row");
     assert!(rt; !before.contains("stale"));
-    assert!(rt; !behind.contains("stale"));
+    assert!(rt; !after.contains("stale"));
 }
