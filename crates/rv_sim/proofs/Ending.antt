@@ -5,6 +5,7 @@ use Rattle.rv_front.specs.declared.predictors.DescribedPredictor.{DescribedPredi
 use Rattle.rv_job.specs.FaultStream.{FaultStream}
 use Rattle.rv_job.specs.declared.errors.SimError.{SimError}
 use Rattle.rv_job.specs.declared.errors.SimError.TheVariants.{Memory, WriteFailed}
+use Rattle.rv_text.specs.Written.{AppendsBeginning}
 use Rattle.rv_sim.specs.Answer.{IsAnswer}
 use Rattle.rv_sim.specs.CoreReport.{untaught_of}
 use Rattle.rv_sim.specs.Ended.{ReportsEnding, exit_status}
@@ -22,6 +23,11 @@ pub Ends-by_error : {T : Type 0} (task : Task) (predictor : Option DescribedPred
 Ends-by_error task predictor Is ended Memory old new asks shows nothing = (asks, Keeps-same old new nothing)
 Ends-by_error task predictor Is ended WriteFailed old new asks shows (answer, text, is, beginning) = (text, ended answer, shows answer text is, beginning)
 Ends-by_error task predictor Is ended _ old new asks shows never = absurd never
+
+-- by a write that failed, of the text that the task has
+pub Ends-by_write : (task : Task) (predictor : Option DescribedPredictor) (ended : Ended) (text : List ℕ) (old new : Option (List ℕ))
+    → Shows task predictor text ended → AppendsBeginning old new text → Ends task predictor old new (Err WriteFailed)
+Ends-by_write task predictor ended text old new shows beginning = (text, ended, shows, beginning)
 
 -- a task that was done with the predictor of its machine, and whose output the buffer handed back
 pub ended_with : {W : Type 0} (contents : W → Option (List ℕ)) (task : Task) {predictor : Option DescribedPredictor} (given output : W) (held : Option (List ℕ))

@@ -10,5 +10,5 @@ write_recording-requires g c =
     let recording = c.in-Ok.recording in
     let way = c.in-Ok.ensures.recording in
     let new = guided c.record_window.new.pipeline ((goal.Predictor-dyn g (c.args.predictor.now.0, c.record_window.new.predictor)).known c.record_window.new.predictor) in
-    let end = shown_to_the_end c.args.arrivals.now (is_limit way.reason) c.args.limit way.reason way.start new (passages_of recording.table) recording.window recording.stalls.items recording.stop way.shown in
+    let end = shown_to_the_end c.args.arrivals.now (is_limit way.reason) c.args.view.cycles way.reason way.start new (passages_of recording.table) recording.window recording.stalls.items recording.stop way.shown in
     omega (arith, end, c.is_exhausted.ensures.within)

@@ -9,8 +9,8 @@ use Rattle.rv_sim.specs.ProfileReport.{IsProfileOf}
 use Rattle.rv_sim.specs.ReferenceReport.{IsReferenceReport}
 use Rattle.rv_sim.specs.StatesReport.{IsStatesOf}
 use Rattle.rv_sim.specs.Task.{done, ended_by}
-use Rattle.rv_sim.specs.declared.task.Task.TheVariants.{Run, Reference, Picture, Log, States, Explain, Profile, Compare}
-use Rattle.rv_sim.proofs.Ending.{Ends-by_error}
+use Rattle.rv_sim.specs.declared.task.Task.TheVariants.{Run, Reference, Check, Picture, Log, States, Explain, Profile, Compare}
+use Rattle.rv_sim.proofs.Ending.{Ends-by_error, Ends-by_write}
 use Rattle.rv_sim.proofs.task.finish.Goals as goal
 
 pub returns-in_err-stop-in-Run : goal.returns-in_err-stop-in-Run
@@ -25,11 +25,17 @@ returns-in_err-stop-in-Reference g c =
     let ended = Ends-by_error (Reference c.in-Reference.job c.in-Reference.options) predictor (IsReferenceReport c.in-Reference.job c.in-Reference.options) (λ stop. ended_by stop None) _ _ _ tt (λ stop text is. (stop, is, refl)) c.in_err-stop-in-Reference.ensures in
     rw (c.in-Reference.is, handed_on _ _ c.from_residual-in_err-stop-in-Reference.ensures.1) ended
 
-pub returns-in_err-stop-in-Picture : goal.returns-in_err-stop-in-Picture
-returns-in_err-stop-in-Picture g c =
+pub returns-in_err-write_image_line-in-Check : goal.returns-in_err-write_image_line-in-Check
+returns-in_err-write_image_line-in-Check g c =
     let predictor = (goal.Predictor-dyn g (c.args.predictor.predictor.vtable, c.args.predictor.predictor.value)).known c.args.predictor.predictor.value in
-    let ended = Ends-by_error (Picture c.in-Picture.listed c.in-Picture.view) predictor (IsPictureOf c.in-Picture.listed predictor c.in-Picture.view) (λ end. ended_by end.stop end.over) _ _ _ tt (λ end text is. (end, is, refl)) c.in_err-stop-in-Picture.ensures in
-    rw (c.in-Picture.is, handed_on _ _ c.from_residual-in_err-stop-in-Picture.ensures.1) ended
+    let ended = Ends-by_write (Check c.in-Check.made) predictor done _ _ _ (refl, refl) c.in_err-write_image_line-in-Check.ensures in
+    rw (c.in-Check.is, handed_on _ _ c.from_residual-in_err-write_image_line-in-Check.ensures.1) ended
+
+pub returns-in_err-end-in-Picture : goal.returns-in_err-end-in-Picture
+returns-in_err-end-in-Picture g c =
+    let predictor = (goal.Predictor-dyn g (c.args.predictor.predictor.vtable, c.args.predictor.predictor.value)).known c.args.predictor.predictor.value in
+    let ended = Ends-by_error (Picture c.in-Picture.listed c.in-Picture.view) predictor (IsPictureOf c.in-Picture.listed predictor c.in-Picture.view) (λ end. ended_by end.stop end.over) _ _ _ tt (λ end text is. (end, is, refl)) c.in_err-end-in-Picture.ensures in
+    rw (c.in-Picture.is, handed_on _ _ c.from_residual-in_err-end-in-Picture.ensures.1) ended
 
 pub returns-in_err-stop-in-Log : goal.returns-in_err-stop-in-Log
 returns-in_err-stop-in-Log g c =
