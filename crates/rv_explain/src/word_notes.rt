@@ -31,6 +31,23 @@ impl<X> Model for WordNotes<X> {
 }
 
 impl<X: Copy + Drop> WordNotes<X> {
+    /// The same of each word. The only error is out of memory.
+    pub(crate) fn new(
+        alloc: Global,
+        description: &Description,
+        note: X,
+    ) -> Result<WordNotes<X>, AllocError>
+        requires clones { (x y : X) → X.is_clone x y → y ≡ x }
+        ensures { IfOk result (λ notes. notes ≡ notes_of description.now (λ _. note)) }
+    {
+        let values = description.values();
+        let words = vec![in alloc; note; (values.ram_size / 4) as usize]?;
+        Ok(WordNotes {
+            first: values.ram_base / 4,
+            words,
+        })
+    }
+
     /// What is kept of a word, if it lies in RAM.
     pub(crate) fn at(&self, word: u32) -> Option<X>
         ensures { result ≡ note_at self.now word }
@@ -49,25 +66,6 @@ impl<X: Copy + Drop> WordNotes<X> {
         if (place as usize) < self.words.len() {
             self.words[place as usize] = note;
         }
-    }
-}
-
-impl<X: Copy + Drop> WordNotes<X> {
-    /// The same of each word. The only error is out of memory.
-    pub(crate) fn new(
-        alloc: Global,
-        description: &Description,
-        note: X,
-    ) -> Result<WordNotes<X>, AllocError>
-        requires clones { (x y : X) → X.is_clone x y → y ≡ x }
-        ensures { IfOk result (λ notes. notes ≡ notes_of description.now (λ _. note)) }
-    {
-        let values = description.values();
-        let words = vec![in alloc; note; (values.ram_size / 4) as usize]?;
-        Ok(WordNotes {
-            first: values.ram_base / 4,
-            words,
-        })
     }
 }
 
