@@ -3,4 +3,5 @@ pub mod Distance
 pub mod Faulty
 pub mod Named
 pub mod Passed
+pub mod OutOfRange
 pub mod Spelled

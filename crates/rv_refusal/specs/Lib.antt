@@ -1,8 +1,14 @@
 pub mod Caret
 pub mod Culprit
+pub mod Described
 pub mod Expected
 pub mod Further
+pub mod HeldName
+pub mod KeyLine
+pub mod KeyNames
+pub mod KeyRange
 pub mod Lines
+pub mod NameOn
 pub mod Names
 pub mod Near
 pub mod Operands

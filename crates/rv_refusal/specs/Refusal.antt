@@ -3,8 +3,9 @@ use Rattle.std.specs.Prelude.{ℕ, List, [], ◌++◌, codes}
 use Rattle.rv_asm.specs.declared.fault.{AsmError.AsmError, AsmFault.AsmFault}
 use Rattle.rv_job.specs.Parts.{parts_of}
 use Rattle.rv_job.specs.declared.errors.SimError.{SimError}
-use Rattle.rv_job.specs.declared.errors.SimError.TheVariants.{TooLong, Assembly, ImageDoesNotFit}
+use Rattle.rv_job.specs.declared.errors.SimError.TheVariants.{TooLong, Description, Assembly, ImageDoesNotFit}
 use Rattle.rv_refusal.specs.Caret.{caret_line}
+use Rattle.rv_refusal.specs.Described.{description_lines}
 use Rattle.rv_refusal.specs.Expected.{expected}
 use Rattle.rv_refusal.specs.Further.{further_lines}
 use Rattle.rv_refusal.specs.Lines.{line_at, lines_before}
@@ -26,6 +27,7 @@ assembly_text before assembly error =
 -- why a job is refused
 unfoldable pub refusal_text : List ℕ → SimError → List ℕ
 refusal_text text TooLong = codes "expected: at most 33554432 bytes\n"
+refusal_text text (Description error) = description_lines (parts_of text).description error
 refusal_text text (Assembly error) =
     let assembly = (parts_of text).assembly in
     assembly_text (lines_before text assembly) assembly error

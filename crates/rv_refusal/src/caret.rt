@@ -94,9 +94,9 @@ fn add_blanks(out: &mut Vec<u8>, count: usize) -> Result<(), AllocError>
     Ok(())
 }
 
-// Appends a caret below a byte of a line that is shown.
+/// Appends a caret below a byte of a line that is shown.
 #[tactic(auto, unfolding(crate::specs::Caret::caret_below))]
-fn add_caret_below(out: &mut Vec<u8>, place: usize) -> Result<(), AllocError>
+pub(crate) fn add_caret_below(out: &mut Vec<u8>, place: usize) -> Result<(), AllocError>
     ensures { OnOk result (out.new.items ≡ out.old.items ++ caret_below place) }
 {
     out.extend_from_slice(b"    ")?;

@@ -2,7 +2,7 @@ ghost use Rattle.std.specs.Prelude.{◌≡◌, ◌++◌, OnOk};
 ghost use Rattle.rv_refusal.specs.Expected.{expected, form_lines, general_line, statement_lines};
 
 use crate::operands::add_shapes;
-use crate::ranges::range_line;
+use crate::ranges::add_range_line;
 use crate::statement::name_on;
 use rv_asm::{AsmFault, Form, form_named};
 use std::alloc::{AllocError, Global};
@@ -19,7 +19,7 @@ fn add_form_lines(
 {
     match fault {
         AsmFault::BadOperands => add_shapes(out, name, form),
-        AsmFault::OutOfRange => out.extend_from_slice(range_line(form)),
+        AsmFault::OutOfRange => add_range_line(out, form),
         _ => Ok(()),
     }
 }

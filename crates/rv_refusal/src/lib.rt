@@ -5,9 +5,14 @@
 mod assembly;
 mod caret;
 mod culprit;
+mod described;
 mod expected;
 mod further;
+mod key_line;
+mod key_names;
+mod key_range;
 mod lines;
+mod name_on;
 mod names;
 mod near;
 mod operand_tokens;

@@ -3,6 +3,7 @@ ghost use Rattle.rv_refusal.specs.Refusal.{refusal_text};
 ghost use Rattle.rv_text.specs.IsText.{IsText};
 
 use crate::assembly::add_assembly;
+use crate::described::add_description;
 use crate::lines::lines_before;
 use crate::unfit::add_unfit;
 use rv_job::{SimError, cut_into_parts};
@@ -20,6 +21,10 @@ fn refusal(alloc: Global, text: &[u8], error: SimError) -> Result<Vec<u8>, Alloc
         SimError::TooLong => {
             out.extend_from_slice(b"expected: at most 33554432 bytes\n")?;
         }
+        SimError::Description(error) => {
+            let description = cut_into_parts(text).description;
+            add_description(alloc, &mut out, description, error)?;
+        }
         SimError::Assembly(error) => {
             let assembly = cut_into_parts(text).assembly;
             let before = lines_before(text, assembly);
@@ -31,9 +36,9 @@ fn refusal(alloc: Global, text: &[u8], error: SimError) -> Result<Vec<u8>, Alloc
     Ok(out)
 }
 
-/// Writes why a job is refused, for its reader: the line at fault with its numbers in the job and in the assembly, and what was
-/// expected there. `text` is the job, and `error` its fault. Of a fault that needs no more words, and where memory or the output
-/// failed, nothing is written.
+/// Writes why a job is refused, for its reader: the line at fault with its numbers in the job and in its assembly or description, and
+/// what was expected there; of an image that does not fit, its size and that of the RAM. `text` is the job, and `error` its fault. Of
+/// a fault that needs no more words, and where memory or the output failed, nothing is written.
 ///
 /// Fails by `Memory`, and has written nothing then, or by `WriteFailed`, and has written a beginning of the text.
 pub fn write_refusal<W: Write>(

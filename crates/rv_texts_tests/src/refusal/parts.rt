@@ -1,6 +1,142 @@
 use crate::refusal::{Refused, check_whole};
 use std::test::Fail;
 
+// Descriptions that are refused by the value at a key, and why.
+const VALUES: [Refused; 10] = [
+    Refused {
+        job: b"rob = 0\n%%\nebreak\n",
+        why: b"\
+line 1 of the job, line 1 of its description
+    rob = 0
+    ^
+expected: rob is a number from 1 to 256, by default 16
+",
+    },
+    Refused {
+        job: b"# a machine\nrob = 8\n\n[ cache ]\n\tsets = 3\n%%\nebreak\n",
+        why: b"\
+line 5 of the job, line 5 of its description
+     sets = 3
+     ^
+expected: cache.sets is a power of two from 1 to 256, by default 16
+",
+    },
+    Refused {
+        job: b"alu.units = 2\ncache.line = \"x\"\n%%\n",
+        why: b"\
+line 2 of the job, line 2 of its description
+    cache.line = \"x\"
+    ^
+expected: cache.line is a power of two from 4 to 128, by default 16
+",
+    },
+    Refused {
+        job: b"cache = 3\n%%\n",
+        why: b"\
+line 1 of the job, line 1 of its description
+    cache = 3
+    ^
+expected: cache.sets is a power of two from 1 to 256, by default 16
+",
+    },
+    Refused {
+        job: b"ram_size = 5000\n%%\n",
+        why: b"\
+line 1 of the job, line 1 of its description
+    ram_size = 5000
+    ^
+expected: ram_size is a multiple of 4096 from 4096 to 16777216, by default 65536
+",
+    },
+    Refused {
+        job: b"rob = 8\nrom_bytes = 1\r\n%%\n",
+        why: b"\
+line 2 of the job, line 2 of its description
+    rom_bytes = 1?
+    ^
+expected: rom_bytes is a multiple of 4096 from 0 to ram_size, by default 0
+",
+    },
+    Refused {
+        job: b"[report]\ndump_address = 2\n%%\n",
+        why: b"\
+line 2 of the job, line 2 of its description
+    dump_address = 2
+    ^
+expected: report.dump_address is a multiple of 4 from 0 to 4294967292, by default 0
+",
+    },
+    Refused {
+        job: b"recovery = \"late\"\n%%\n",
+        why: b"\
+line 1 of the job, line 1 of its description
+    recovery = \"late\"
+    ^
+expected: recovery is \"commit\" or \"early\", by default \"commit\"
+",
+    },
+    Refused {
+        job: b"[alu]\nunits = 1\n[div]\nunits = 1\npipelined = 1\n%%\n",
+        why: b"\
+line 5 of the job, line 5 of its description
+    pipelined = 1
+    ^
+expected: div.pipelined is true or false, by default false
+",
+    },
+    Refused {
+        job: b"[predictor]\nkind = \"gshare\"\n%%\n",
+        why: b"\
+line 2 of the job, line 2 of its description
+    kind = \"gshare\"
+    ^
+expected: predictor.kind is \"not_taken\", \"backward_taken\" or \"bimodal\", by default \"bimodal\"
+",
+    },
+];
+
+// Descriptions with names that are not known, one without the line's name, and one that is no TOML.
+const NAMES: [Refused; 5] = [
+    Refused {
+        job: b"rob = 8\nrbo = 8\n%%\n",
+        why: b"\
+line 2 of the job, line 2 of its description
+    rbo = 8
+    ^
+expected: a key or a table of a description
+nearest: rob
+",
+    },
+    Refused {
+        job: b"[cahce]\nsets = 4\n%%\n",
+        why: b"\
+line 1 of the job, line 1 of its description
+    [cahce]
+     ^
+expected: a key or a table of a description
+nearest: cache
+",
+    },
+    Refused {
+        job: b"[cache]\n  set = 4\n%%\n",
+        why: b"\
+line 2 of the job, line 2 of its description
+      set = 4
+      ^
+expected: a key or a table of a description
+nearest: cache.sets, cache.hit
+",
+    },
+    Refused {
+        job: b"cache = { set = 4 }\n%%\n",
+        why: b"expected: keys and tables of a description\n",
+    },
+    Refused {
+        job: b"rob 8\n%%\n",
+        why: b"expected: a TOML document, as in 'rob = 8'\n",
+    },
+];
+
 // Images that do not fit.
 const IMAGES: [Refused; 2] = [
     Refused {
@@ -18,6 +154,16 @@ expected: a shorter program, or a greater ram_size
 ",
     },
 ];
+
+#[test]
+fn a_refusal_shows_the_line_of_a_key_and_its_range(rt: HostRuntime) -> Result<(), Fail> {
+    check_whole(&rt, rt.alloc(), &VALUES)
+}
+
+#[test]
+fn a_refusal_shows_the_line_of_an_unknown_name(rt: HostRuntime) -> Result<(), Fail> {
+    check_whole(&rt, rt.alloc(), &NAMES)
+}
 
 #[test]
 fn a_refusal_shows_both_sizes_of_an_image(rt: HostRuntime) -> Result<(), Fail> {

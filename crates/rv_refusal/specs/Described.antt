@@ -1,0 +1,63 @@
+-- Why a description is refused.
+use Rattle.std.specs.Prelude.{ℕ, ◌-◌, ◌==◌, List, [], ◌++◌, codes, decimal, if◌then◌else◌, Option, None, unwrap_or}
+use Rattle.std.specs.{List.slice_get, Option.option_map_or, Option.option_or, Str.bytes_eq}
+use Rattle.rv_isa.specs.declared.keys.Key.{Key}
+use Rattle.rv_isa.specs.Key.{key_place, order, text_of}
+use Rattle.rv_describe.specs.Fault.{place_of}
+use Rattle.rv_describe.specs.declared.description_error.DescriptionError.{DescriptionError}
+use Rattle.rv_describe.specs.declared.description_error.DescriptionError.TheVariants.{NotToml, UnknownKey}
+use Rattle.rv_refusal.specs.Caret.{caret_below}
+use Rattle.rv_refusal.specs.KeyLine.{KeyLine, first_named, is_none_of}
+use Rattle.rv_refusal.specs.KeyNames.{key_names}
+use Rattle.rv_refusal.specs.KeyRange.{values_line}
+use Rattle.rv_refusal.specs.Near.{names_line, nearest}
+use Rattle.rv_refusal.specs.Place.{shown_line}
+
+-- where a line of a description stands, with which a job begins
+unfoldable pub described_place : ℕ → List ℕ
+described_place number = codes "line " ++ (decimal number ++ (codes " of the job, line " ++ (decimal number ++ codes " of its description\n")))
+
+-- a line at fault, with a caret below its name
+unfoldable pub key_line_text : KeyLine → List ℕ
+key_line_text found = described_place found.number ++ (shown_line found.line ++ caret_below found.before)
+
+-- the key at a place, from 1
+abbrev pub key_at : ℕ → Option Key
+key_at place = if place == 0 then None else slice_get order (place - 1)
+
+-- the first line of a description on which a key stands, or else its table
+unfoldable pub line_of_key : Key → List ℕ → Option KeyLine
+line_of_key key part =
+    option_or (first_named (λ name. bytes_eq name (text_of key)) part)
+    (first_named (λ name. bytes_eq name (unwrap_or (key_place key).table [])) part)
+
+-- why a description is refused by the value at a key: the line at fault, and which values the key takes
+unfoldable pub value_lines : List ℕ → Key → List ℕ
+value_lines part key = option_map_or key_line_text (line_of_key key part) [] ++ values_line key
+
+-- what was expected in place of an unknown name
+unfoldable pub known_expected : List ℕ
+known_expected = codes "expected: a key or a table of a description\n"
+
+-- what was expected in place of an unknown name, and the known names that are nearest to it
+unfoldable pub known_lines : List (List ℕ) → List ℕ → List ℕ
+known_lines known name = known_expected ++ names_line (nearest name known)
+
+-- a line with an unknown name, and what was expected there
+unfoldable pub unknown_line : List (List ℕ) → KeyLine → List ℕ
+unknown_line known found = key_line_text found ++ known_lines known found.name
+
+-- the first line of a description with a name that is none of these
+unfoldable pub unknown_among : List (List ℕ) → List ℕ → List ℕ
+unknown_among known part =
+    option_map_or (unknown_line known) (first_named (is_none_of known) part) (codes "expected: keys and tables of a description\n")
+
+-- the first line of a description with a name that is no key's and no table's
+abbrev pub unknown_lines : List ℕ → List ℕ
+unknown_lines part = unknown_among key_names part
+
+-- why a description is refused
+unfoldable pub description_lines : List ℕ → DescriptionError → List ℕ
+description_lines part NotToml = codes "expected: a TOML document, as in 'rob = 8'\n"
+description_lines part UnknownKey = unknown_lines part
+description_lines part error = option_map_or (value_lines part) (key_at (place_of error)) []

@@ -1,0 +1,19 @@
+-- The names that a description may have: its keys and its tables.
+use Rattle.std.specs.Prelude.{ℕ, List, [], ◌∷◌, ◌++◌, map, if◌then◌else◌, Option, None}
+use Rattle.std.specs.Option.{option_to_list}
+use Rattle.rv_isa.specs.declared.keys.Key.{Key}
+use Rattle.rv_isa.specs.Key.{key_place, order, text_of}
+use Rattle.rv_describe.specs.Unknown.{same_table}
+
+-- the table of a key, but for that of the key before
+abbrev pub new_table : Option (List ℕ) → Option (List ℕ) → List (List ℕ)
+new_table table last = if same_table table last then [] else option_to_list table
+
+-- the tables of keys, but for those of the key before
+abbrev pub tables_from : Option (List ℕ) → List Key → List (List ℕ)
+tables_from last [] = []
+tables_from last (key ∷ others) = new_table (key_place key).table last ++ tables_from (key_place key).table others
+
+-- the keys with their tables' names before them, and then the tables
+abbrev pub key_names : List (List ℕ)
+key_names = map text_of order ++ tables_from None order

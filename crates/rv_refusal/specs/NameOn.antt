@@ -1,0 +1,49 @@
+-- The names on the lines of a text in TOML: a table's in brackets, and a key before `=`. A name is of bare keys with dots between them.
+use Rattle.std.specs.Prelude.{ℕ, ◌+◌, ◌==◌, ◌||◌, Bool, false, List, [], ◌∷◌, drop, take, if◌then◌else◌, Option, Some, None}
+use Rattle.std.specs.{Char.is_ascii_alphanumeric, List.prefix_len}
+
+-- a blank or a tab
+abbrev pub is_blank : ℕ → Bool
+is_blank byte = byte == 32 || byte == 9
+
+-- how many blanks a text begins with
+abbrev pub blanks : List ℕ → ℕ
+blanks text = prefix_len is_blank text
+
+-- a letter, a digit, an underscore, a hyphen or a dot
+abbrev pub is_name_byte : ℕ → Bool
+is_name_byte byte = is_ascii_alphanumeric byte || (byte == 95 || (byte == 45 || byte == 46))
+
+-- a text begins with a byte
+abbrev pub begins_with : ℕ → List ℕ → Bool
+begins_with mark [] = false
+begins_with mark (byte ∷ others) = byte == mark
+
+-- a text begins with a byte, after blanks
+abbrev pub goes_on_with : ℕ → List ℕ → Bool
+goes_on_with mark text = begins_with mark (drop (blanks text) text)
+
+-- a name on a line, and how many bytes stand before it
+pub record NameOn : Type 0 where
+  pub before : ℕ
+  pub name : List ℕ
+
+-- the name that stands at the front of what follows so many bytes of a line, if a mark stands after it
+unfoldable pub name_at : ℕ → ℕ → List ℕ → Option NameOn
+name_at before mark rest =
+    let size = prefix_len is_name_byte rest in
+    if goes_on_with mark (drop size rest) then Some (record { before = before; name = take size rest }) else None
+
+-- the same after blanks
+unfoldable pub name_after : ℕ → ℕ → List ℕ → Option NameOn
+name_after before mark text = name_at (before + blanks text) mark (drop (blanks text) text)
+
+-- the table that a line names: its name stands in brackets
+unfoldable pub table_on : List ℕ → Option NameOn
+table_on line =
+    let before = blanks line in
+    if begins_with 91 (drop before line) then name_after (before + 1) 93 (drop (before + 1) line) else None
+
+-- the key that a line gives a value: its name stands before `=`
+abbrev pub key_on : List ℕ → Option NameOn
+key_on line = name_after 0 61 line

@@ -1,0 +1,194 @@
+ghost use Rattle.std.specs.Prelude.{◌≡◌, ◌++◌, IfOk, OnOk, [], map, option_map, unwrap_or};
+ghost use Rattle.std.specs.Option.{option_map_or};
+ghost use Rattle.rv_isa.specs.Key.{key_place};
+ghost use Rattle.rv_refusal.specs.Described.{described_place, description_lines, key_at, key_line_text, known_expected, known_lines, line_of_key, unknown_among, unknown_line, unknown_lines, value_lines};
+ghost use Rattle.rv_refusal.specs.KeyLine.{key_line};
+
+use crate::caret::add_caret_below;
+use crate::key_line::{KeyLine, Wanted, first_named};
+use crate::key_names::{key_names, text_of};
+use crate::key_range::add_values_line;
+use crate::near::add_nearest;
+use crate::place::add_line;
+use crate::text::add_all;
+use itoa::Buffer;
+use rv_describe::DescriptionError;
+use rv_isa::{Key, all_keys};
+use std::alloc::{AllocError, Global};
+
+// Appends where a line of a description stands, with which a job begins.
+#[tactic(auto, unfolding(crate::specs::Described::described_place))]
+fn add_described_place(out: &mut Vec<u8>, number: usize) -> Result<(), AllocError>
+    ensures { OnOk result (out.new.items ≡ out.old.items ++ described_place number) }
+{
+    let mut buffer = Buffer::new();
+    let number = buffer.format(number).as_bytes();
+    add_all(
+        out,
+        &[
+            b"line ",
+            number,
+            b" of the job, line ",
+            number,
+            b" of its description\n",
+        ],
+    )
+}
+
+// Appends a line at fault, with a caret below its name.
+#[tactic(auto, unfolding(crate::specs::Described::key_line_text))]
+fn add_key_line(out: &mut Vec<u8>, found: &KeyLine<'_>) -> Result<(), AllocError>
+    ensures { OnOk result (out.new.items ≡ out.old.items ++ key_line_text (key_line found.now)) }
+{
+    add_described_place(out, found.number)?;
+    add_line(out, found.line)?;
+    add_caret_below(out, found.before)
+}
+
+// The key at a place, from 1.
+fn key_at(place: usize) -> Option<Key>
+    ensures { result ≡ key_at place }
+{
+    if place == 0 {
+        return None;
+    }
+    all_keys().get(place - 1).copied()
+}
+
+// The name of the table that a key stands in, empty at top level.
+fn table_of(key: Key) -> &'static [u8]
+    ensures { result.now ≡ unwrap_or (key_place key).table [] }
+{
+    match key.place().table {
+        Some(table) => table.as_bytes(),
+        None => b"",
+    }
+}
+
+// The first line of a description on which a key stands, or else its table.
+#[tactic(auto, unfolding(crate::specs::Described::line_of_key))]
+fn line_of_key(alloc: Global, key: Key, part: &[u8]) -> Result<Option<KeyLine<'_>>, AllocError>
+    ensures { IfOk result (λ found. option_map key_line found ≡ line_of_key key part.entry.now) }
+{
+    let name = text_of(key);
+    if let Some(found) = first_named(alloc, Wanted::Named(name), part)? {
+        return Ok(Some(found));
+    }
+    first_named(alloc, Wanted::Named(table_of(key)), part)
+}
+
+// Appends the line at fault of a key, if it is found.
+fn add_line_of_key(
+    alloc: Global,
+    out: &mut Vec<u8>,
+    part: &[u8],
+    key: Key,
+) -> Result<(), AllocError>
+    ensures { OnOk result (out.new.items ≡ out.old.items ++ option_map_or key_line_text (line_of_key key part.now) []) }
+{
+    match line_of_key(alloc, key, part)? {
+        Some(found) => add_key_line(out, &found),
+        None => Ok(()),
+    }
+}
+
+// Appends why a description is refused by the value at a key: the line at fault, and which values the key takes.
+#[tactic(auto, unfolding(crate::specs::Described::value_lines))]
+fn add_value_lines(
+    alloc: Global,
+    out: &mut Vec<u8>,
+    part: &[u8],
+    key: Key,
+) -> Result<(), AllocError>
+    ensures { OnOk result (out.new.items ≡ out.old.items ++ value_lines part.now key) }
+{
+    add_line_of_key(alloc, out, part, key)?;
+    add_values_line(out, key)
+}
+
+// What was expected in place of an unknown name.
+#[tactic(auto, unfolding(crate::specs::Described::known_expected))]
+fn known_expected() -> &'static [u8]
+    ensures { result.now ≡ known_expected }
+{
+    b"expected: a key or a table of a description\n"
+}
+
+// Appends what was expected in place of an unknown name, and the known names that are nearest to it.
+#[tactic(auto, unfolding(crate::specs::Described::known_lines))]
+fn add_known_lines(
+    alloc: Global,
+    out: &mut Vec<u8>,
+    known: &[&[u8]],
+    name: &[u8],
+) -> Result<(), AllocError>
+    ensures { OnOk result (out.new.items
+        ≡ out.old.items ++ known_lines (map (λ name. name.now) known.now) name.now) }
+{
+    out.extend_from_slice(known_expected())?;
+    add_nearest(alloc, out, name, known)
+}
+
+// Appends a line with an unknown name, and what was expected there.
+#[tactic(auto, unfolding(crate::specs::Described::unknown_line))]
+fn add_unknown_line(
+    alloc: Global,
+    out: &mut Vec<u8>,
+    known: &[&[u8]],
+    found: &KeyLine<'_>,
+) -> Result<(), AllocError>
+    ensures { OnOk result (out.new.items
+        ≡ out.old.items ++ unknown_line (map (λ name. name.now) known.now) (key_line found.now)) }
+{
+    add_key_line(out, found)?;
+    add_known_lines(alloc, out, known, found.name.as_slice())
+}
+
+// Appends the first line of a description with a name that is none of these.
+#[tactic(auto, unfolding(crate::specs::Described::unknown_among))]
+fn add_unknown_among(
+    alloc: Global,
+    out: &mut Vec<u8>,
+    known: &[&[u8]],
+    part: &[u8],
+) -> Result<(), AllocError>
+    ensures { OnOk result (out.new.items ≡ out.old.items ++ unknown_among (map (λ name. name.now) known.now) part.now) }
+{
+    match first_named(alloc, Wanted::Unknown(known), part)? {
+        Some(found) => add_unknown_line(alloc, out, known, &found),
+        None => out.extend_from_slice(b"expected: keys and tables of a description\n"),
+    }
+}
+
+// Appends the first line of a description with a name that is no key's and no table's.
+fn add_unknown_lines(alloc: Global, out: &mut Vec<u8>, part: &[u8]) -> Result<(), AllocError>
+    ensures { OnOk result (out.new.items ≡ out.old.items ++ unknown_lines part.now) }
+{
+    let known = key_names(alloc)?;
+    add_unknown_among(alloc, out, known.as_slice(), part)
+}
+
+/// Appends why a description is refused.
+#[tactic(auto, unfolding(crate::specs::Described::description_lines))]
+pub(crate) fn add_description(
+    alloc: Global,
+    out: &mut Vec<u8>,
+    part: &[u8],
+    error: DescriptionError,
+) -> Result<(), AllocError>
+    ensures { OnOk result (out.new.items ≡ out.old.items ++ description_lines part.now error) }
+{
+    match error {
+        DescriptionError::NotToml => {
+            out.extend_from_slice(b"expected: a TOML document, as in 'rob = 8'\n")
+        }
+        DescriptionError::UnknownKey => add_unknown_lines(alloc, out, part),
+        DescriptionError::WrongKind { .. }
+        | DescriptionError::OutOfRange { .. }
+        | DescriptionError::NotPowerOfTwo { .. }
+        | DescriptionError::Memory => match key_at(error.place()) {
+            Some(key) => add_value_lines(alloc, out, part, key),
+            None => Ok(()),
+        },
+    }
+}

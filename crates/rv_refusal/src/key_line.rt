@@ -1,0 +1,143 @@
+ghost use Rattle.std.specs.Prelude.{◌≡◌, ◌+◌, ◌≤◌, ◌==◌, ◌^◌, IfOk, length, map, option_copied, option_map};
+ghost use Rattle.std.specs.{List.list_any, List.slice_split, Str.bytes_eq};
+ghost use Rattle.rv_isa.specs.Key.{joined};
+ghost use Rattle.rv_refusal.specs.KeyLine.{first_named, is_wanted, key_line, named_line, table_after, wanted_line};
+
+use crate::name_on::{key_on, table_on};
+use rv_asm::first_line;
+use std::alloc::{AllocError, Global};
+
+/// A line of a description with its number, the name that stands there with its table's before it, and how many bytes stand before it.
+#[derive(Drop)]
+pub(crate) struct KeyLine<'a> {
+    pub(crate) number: usize,
+    pub(crate) line: &'a [u8],
+    pub(crate) before: usize,
+    pub(crate) name: Vec<u8>,
+}
+
+/// Which name is looked for.
+#[derive(Clone, Copy)]
+pub(crate) enum Wanted<'a> {
+    /// One that is none of these.
+    Unknown(&'a [&'a [u8]]),
+    /// This one.
+    Named(&'a [u8]),
+}
+
+// Whether a name is one of these.
+fn is_among(name: &[u8], names: &[&[u8]]) -> bool
+    ensures { result ≡ list_any (bytes_eq name.now) (map (λ other. other.now) names.now) }
+{
+    for other in names {
+        if name == *other {
+            return true;
+        }
+    }
+    false
+}
+
+fn is_wanted(wanted: Wanted<'_>, name: &[u8]) -> bool
+    ensures { result ≡ is_wanted wanted.entry name.now }
+{
+    match wanted {
+        Wanted::Unknown(known) => !is_among(name, known),
+        Wanted::Named(other) => name == other,
+    }
+}
+
+// A name with its table's before it.
+fn joined(alloc: Global, table: Option<&[u8]>, name: &[u8]) -> Result<Vec<u8>, AllocError>
+    ensures { IfOk result (λ full. full.items ≡ joined (option_copied table.entry) name.now) }
+{
+    let mut full = Vec::new(alloc);
+    if let Some(table) = table {
+        full.extend_from_slice(table)?;
+        full.extend_from_slice(b".")?;
+    }
+    full.extend_from_slice(name)?;
+    Ok(full)
+}
+
+// The line with a number, if a name stands on it: a table's, or a key's in the table that the line stands in.
+#[tactic(auto, unfolding(crate::specs::KeyLine::named_line))]
+fn named_line<'a>(
+    alloc: Global,
+    number: usize,
+    table: Option<&[u8]>,
+    line: &'a [u8],
+) -> Result<Option<KeyLine<'a>>, AllocError>
+    ensures { IfOk result (λ found. option_map key_line found ≡ named_line number (option_copied table.entry) line.entry.now) }
+{
+    if let Some(on) = table_on(line) {
+        return Ok(Some(KeyLine {
+            number,
+            line,
+            before: on.before,
+            name: joined(alloc, None, on.name)?,
+        }));
+    }
+    let Some(on) = key_on(line) else {
+        return Ok(None);
+    };
+    Ok(Some(KeyLine {
+        number,
+        line,
+        before: on.before,
+        name: joined(alloc, table, on.name)?,
+    }))
+}
+
+// The table that the lines after a line stand in.
+fn table_after<'a>(table: Option<&'a [u8]>, line: &'a [u8]) -> Option<&'a [u8]>
+    ensures { option_copied result ≡ table_after (option_copied table.entry) line.entry.now }
+{
+    match table_on(line) {
+        Some(on) => Some(on.name),
+        None => table,
+    }
+}
+
+// The line with a number, if a name stands on it that is looked for.
+fn wanted_line<'a>(
+    alloc: Global,
+    wanted: Wanted<'_>,
+    number: usize,
+    table: Option<&[u8]>,
+    line: &'a [u8],
+) -> Result<Option<KeyLine<'a>>, AllocError>
+    ensures { IfOk result (λ found. option_map key_line found
+        ≡ wanted_line (is_wanted wanted.entry) number (option_copied table.entry) line.entry.now) }
+{
+    let Some(found) = named_line(alloc, number, table, line)? else {
+        return Ok(None);
+    };
+    if is_wanted(wanted, found.name.as_slice()) {
+        return Ok(Some(found));
+    }
+    Ok(None)
+}
+
+/// The first line of a text on which a name stands that is looked for.
+#[tactic(auto, unfolding(crate::specs::KeyLine::first_named))]
+pub(crate) fn first_named<'a>(
+    alloc: Global,
+    wanted: Wanted<'_>,
+    text: &'a [u8],
+) -> Result<Option<KeyLine<'a>>, AllocError>
+    ensures { IfOk result (λ found. option_map key_line found ≡ first_named (is_wanted wanted.entry) text.entry.now) }
+{
+    let mut number = 1;
+    let mut table = None;
+    let mut rest = Some(text);
+    while let Some(unread) = rest {
+        let (line, behind) = first_line(unread);
+        if let Some(found) = wanted_line(alloc, wanted, number, table, line)? {
+            return Ok(Some(found));
+        }
+        table = table_after(table, line);
+        number += 1;
+        rest = behind;
+    }
+    Ok(None)
+}

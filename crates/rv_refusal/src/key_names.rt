@@ -1,0 +1,75 @@
+ghost use Rattle.std.specs.Prelude.{◌≡◌, IfOk, None, map, option_copied};
+ghost use Rattle.std.specs.Option.{option_to_list};
+ghost use Rattle.rv_isa.specs.Key.{text_of};
+ghost use Rattle.rv_describe.specs.Unknown.{same_table};
+ghost use Rattle.rv_refusal.specs.KeyNames.{key_names, new_table, tables_from};
+
+use rv_isa::{Key, all_keys};
+use std::alloc::{AllocError, Global};
+
+fn same_table(table: Option<&str>, other: Option<&str>) -> bool
+    ensures { result ≡ same_table (option_copied table.entry) (option_copied other.entry) }
+{
+    match (table, other) {
+        (Some(table), Some(other)) => table == other,
+        (None, None) => true,
+        _ => false,
+    }
+}
+
+/// A key with its table's name before it.
+pub(crate) fn text_of(key: Key) -> &'static [u8]
+    ensures { result.now ≡ text_of key }
+{
+    key.place().text.as_bytes()
+}
+
+// The keys, each with its table's name before it.
+fn keys_of(alloc: Global, keys: &[Key]) -> Result<Vec<&'static [u8]>, AllocError>
+    ensures { IfOk result (λ names. map (λ name. name.now) names.items ≡ map text_of keys.now) }
+{
+    let mut names = Vec::new(alloc);
+    for key in keys {
+        names.push(text_of(*key))?;
+    }
+    Ok(names)
+}
+
+// The table of a key, but for that of the key before.
+fn new_table(table: Option<&'static str>, last: Option<&'static str>) -> Option<&'static [u8]>
+    ensures { option_to_list (option_copied result) ≡ new_table (option_copied table.entry) (option_copied last.entry) }
+{
+    if same_table(table, last) {
+        return None;
+    }
+    match table {
+        Some(name) => Some(name.as_bytes()),
+        None => None,
+    }
+}
+
+// The tables of keys, but for those of the key before.
+fn tables_of(alloc: Global, keys: &[Key]) -> Result<Vec<&'static [u8]>, AllocError>
+    ensures { IfOk result (λ names. map (λ name. name.now) names.items ≡ tables_from None keys.now) }
+{
+    let mut names = Vec::new(alloc);
+    let mut last = None;
+    for key in keys {
+        let table = key.place().table;
+        if let Some(name) = new_table(table, last) {
+            names.push(name)?;
+        }
+        last = table;
+    }
+    Ok(names)
+}
+
+/// The names that a description may have: its keys with their tables' names before them, and then its tables.
+pub(crate) fn key_names(alloc: Global) -> Result<Vec<&'static [u8]>, AllocError>
+    ensures { IfOk result (λ names. map (λ name. name.now) names.items ≡ key_names) }
+{
+    let mut names = keys_of(alloc, all_keys())?;
+    let tables = tables_of(alloc, all_keys())?;
+    names.extend_from_slice(tables.as_slice())?;
+    Ok(names)
+}

@@ -1,0 +1,166 @@
+ghost use Rattle.std.specs.Prelude.{◌≡◌, ◌++◌, OnOk, Some, decimal};
+ghost use Rattle.rv_isa.specs.Choice.{predictor_named, recovery_named};
+ghost use Rattle.rv_refusal.specs.KeyRange.{bounds_text, default_mark, default_words, key_default, key_range, key_words, predictor_word, predictors, quoted, range_text, recoveries, recovery_word, truth_word, values_line};
+
+use crate::key_names::text_of;
+use crate::text::add_all;
+use itoa::Buffer;
+use rv_isa::{Bounds, Key, PredictorKind, Recovery, Values};
+use std::alloc::AllocError;
+
+// Appends a number.
+fn add_number(out: &mut Vec<u8>, number: u32) -> Result<(), AllocError>
+    ensures { OnOk result (out.new.items ≡ out.old.items ++ decimal number) }
+{
+    let mut buffer = Buffer::new();
+    out.extend_from_slice(buffer.format(number).as_bytes())
+}
+
+// Appends a range of numbers after a word.
+fn add_range(out: &mut Vec<u8>, word: &[u8], low: u32, high: u32) -> Result<(), AllocError>
+    ensures { OnOk result (out.new.items ≡ out.old.items ++ range_text word.now low high) }
+{
+    add_all(out, &[word, b" from "])?;
+    add_number(out, low)?;
+    out.extend_from_slice(b" to ")?;
+    add_number(out, high)
+}
+
+// Appends the numbers of bounds.
+#[tactic(auto, unfolding(crate::specs::KeyRange::bounds_text))]
+fn add_bounds(out: &mut Vec<u8>, bounds: Bounds) -> Result<(), AllocError>
+    ensures { OnOk result (out.new.items ≡ out.old.items ++ bounds_text bounds) }
+{
+    match bounds {
+        Bounds::Whole(low, high) => add_range(out, b"a number", low, high),
+        Bounds::Pages(low, high) => add_range(out, b"a multiple of 4096", low, high),
+        Bounds::Powers(low, high) => add_range(out, b"a power of two", low, high),
+        Bounds::Words => out.extend_from_slice(b"a multiple of 4 from 0 to 4294967292"),
+        Bounds::Front => out.extend_from_slice(b"a multiple of 4096 from 0 to ram_size"),
+    }
+}
+
+// The word of a way to mend wrong predictions.
+#[tactic(auto, unfolding(crate::specs::KeyRange::recovery_word))]
+fn recovery_word(recovery: Recovery) -> &'static [u8]
+    ensures word { result.now ≡ recovery_word recovery }
+    ensures named { recovery_named result.now ≡ Some recovery }
+{
+    match recovery {
+        Recovery::Commit => b"commit",
+        Recovery::Early => b"early",
+    }
+}
+
+// The word of a predictor.
+#[tactic(auto, unfolding(crate::specs::KeyRange::predictor_word))]
+fn predictor_word(predictor: PredictorKind) -> &'static [u8]
+    ensures word { result.now ≡ predictor_word predictor }
+    ensures named { predictor_named result.now ≡ Some predictor }
+{
+    match predictor {
+        PredictorKind::NotTaken => b"not_taken",
+        PredictorKind::BackwardTaken => b"backward_taken",
+        PredictorKind::Bimodal => b"bimodal",
+    }
+}
+
+#[tactic(auto, unfolding(crate::specs::KeyRange::truth_word))]
+fn truth_word(value: bool) -> &'static [u8]
+    ensures { result.now ≡ truth_word value }
+{
+    if value { b"true" } else { b"false" }
+}
+
+// Appends a word in quotes.
+fn add_quoted(out: &mut Vec<u8>, word: &[u8]) -> Result<(), AllocError>
+    ensures { OnOk result (out.new.items ≡ out.old.items ++ quoted word.now) }
+{
+    add_all(out, &[b"\"", word, b"\""])
+}
+
+// Appends the words of the ways to mend wrong predictions.
+fn add_recoveries(out: &mut Vec<u8>) -> Result<(), AllocError>
+    ensures { OnOk result (out.new.items ≡ out.old.items ++ recoveries) }
+{
+    add_quoted(out, recovery_word(Recovery::Commit))?;
+    out.extend_from_slice(b" or ")?;
+    add_quoted(out, recovery_word(Recovery::Early))
+}
+
+// Appends the words of the predictors.
+fn add_predictors(out: &mut Vec<u8>) -> Result<(), AllocError>
+    ensures { OnOk result (out.new.items ≡ out.old.items ++ predictors) }
+{
+    add_quoted(out, predictor_word(PredictorKind::NotTaken))?;
+    out.extend_from_slice(b", ")?;
+    add_quoted(out, predictor_word(PredictorKind::BackwardTaken))?;
+    out.extend_from_slice(b" or ")?;
+    add_quoted(out, predictor_word(PredictorKind::Bimodal))
+}
+
+// Appends the values that a key takes.
+#[tactic(auto, unfolding(crate::specs::KeyRange::key_range))]
+fn add_key_range(out: &mut Vec<u8>, key: Key) -> Result<(), AllocError>
+    ensures { OnOk result (out.new.items ≡ out.old.items ++ key_range key) }
+{
+    match key {
+        Key::Number(key) => add_bounds(out, key.bounds()),
+        Key::Recovery => add_recoveries(out),
+        Key::Pipelined(_) => out.extend_from_slice(b"true or false"),
+        Key::PredictorKind => add_predictors(out),
+    }
+}
+
+// Appends the value of a key that is missing.
+#[tactic(auto, unfolding(crate::specs::KeyRange::key_default))]
+fn add_key_default(out: &mut Vec<u8>, key: Key) -> Result<(), AllocError>
+    ensures { OnOk result (out.new.items ≡ out.old.items ++ key_default key) }
+{
+    let standard = Values::standard();
+    match key {
+        Key::Number(key) => add_number(out, standard.number(key)),
+        Key::Recovery => add_quoted(out, recovery_word(standard.recovery)),
+        Key::Pipelined(kind) => {
+            out.extend_from_slice(truth_word(standard.kinds.get(kind).pipelined))
+        }
+        Key::PredictorKind => add_quoted(out, predictor_word(standard.predictor.kind)),
+    }
+}
+
+// Appends a key, before the values that it takes.
+#[tactic(auto, unfolding(crate::specs::KeyRange::key_words))]
+fn add_key_words(out: &mut Vec<u8>, key: Key) -> Result<(), AllocError>
+    ensures { OnOk result (out.new.items ≡ out.old.items ++ key_words key) }
+{
+    out.extend_from_slice(b"expected: ")?;
+    out.extend_from_slice(text_of(key))?;
+    out.extend_from_slice(b" is ")
+}
+
+#[tactic(auto, unfolding(crate::specs::KeyRange::default_mark))]
+fn default_mark() -> &'static [u8]
+    ensures { result.now ≡ default_mark }
+{
+    b", by default "
+}
+
+// Appends the value of a key that is missing, after those that it takes.
+#[tactic(auto, unfolding(crate::specs::KeyRange::default_words))]
+fn add_default_words(out: &mut Vec<u8>, key: Key) -> Result<(), AllocError>
+    ensures { OnOk result (out.new.items ≡ out.old.items ++ default_words key) }
+{
+    out.extend_from_slice(default_mark())?;
+    add_key_default(out, key)?;
+    out.extend_from_slice(b"\n")
+}
+
+/// Appends the line on the values that a key takes, and the one that it has where it is missing.
+#[tactic(auto, unfolding(crate::specs::KeyRange::values_line))]
+pub(crate) fn add_values_line(out: &mut Vec<u8>, key: Key) -> Result<(), AllocError>
+    ensures { OnOk result (out.new.items ≡ out.old.items ++ values_line key) }
+{
+    add_key_words(out, key)?;
+    add_key_range(out, key)?;
+    add_default_words(out, key)
+}

@@ -1,0 +1,111 @@
+ghost use Rattle.std.specs.Prelude.{◌≡◌, ◌≤◌, ◌^◌, length, option_map};
+ghost use Rattle.std.specs.List.{prefix_len};
+ghost use Rattle.rv_refusal.specs.HeldName.{name_in};
+ghost use Rattle.rv_refusal.specs.NameOn.{begins_with, blanks, goes_on_with, is_blank, is_name_byte, key_on, name_after, name_at, table_on};
+
+/// A name on a line, and how many bytes stand before it.
+#[derive(Clone, Copy)]
+pub(crate) struct NameOn<'a> {
+    pub(crate) before: usize,
+    pub(crate) name: &'a [u8],
+}
+
+fn is_blank(byte: u8) -> bool
+    ensures { result ≡ is_blank byte }
+{
+    byte == b' ' || byte == b'\t'
+}
+
+fn is_name_byte(byte: u8) -> bool
+    ensures { result ≡ is_name_byte byte }
+{
+    byte.is_ascii_alphanumeric() || byte == b'_' || byte == b'-' || byte == b'.'
+}
+
+// How many blanks a text begins with.
+fn blanks(text: &[u8]) -> usize
+    ensures count { result ≡ blanks text.now }
+    ensures in_range { result ≤ length text.now }
+{
+    for (count, byte) in text.iter().enumerate() {
+        if !is_blank(*byte) {
+            return count;
+        }
+    }
+    text.len()
+}
+
+// How many bytes of a name a text begins with.
+fn name_size(text: &[u8]) -> usize
+    ensures count { result ≡ prefix_len is_name_byte text.now }
+    ensures in_range { result ≤ length text.now }
+{
+    for (count, byte) in text.iter().enumerate() {
+        if !is_name_byte(*byte) {
+            return count;
+        }
+    }
+    text.len()
+}
+
+fn begins_with(mark: u8, text: &[u8]) -> bool
+    ensures { result ≡ begins_with mark text.now }
+{
+    match text {
+        [byte, ..] => *byte == mark,
+        [] => false,
+    }
+}
+
+// Whether a text begins with a byte, after blanks.
+fn goes_on_with(mark: u8, text: &[u8]) -> bool
+    ensures { result ≡ goes_on_with mark text.now }
+{
+    let (_, rest) = text.split_at(blanks(text));
+    begins_with(mark, rest)
+}
+
+// The name that stands at the front of what follows so many bytes of a line, if a mark stands after it.
+#[tactic(auto, unfolding(crate::specs::NameOn::name_at))]
+fn name_at(before: usize, mark: u8, rest: &[u8]) -> Option<NameOn<'_>>
+    ensures { option_map name_in result ≡ name_at before mark rest.entry.now }
+{
+    let (name, others) = rest.split_at(name_size(rest));
+    if goes_on_with(mark, others) {
+        Some(NameOn { before, name })
+    } else {
+        None
+    }
+}
+
+// The same after blanks.
+#[tactic(auto, unfolding(crate::specs::NameOn::name_after))]
+fn name_after(before: usize, mark: u8, text: &[u8]) -> Option<NameOn<'_>>
+    requires { before ≤ 2 ^ 63 }
+    ensures { option_map name_in result ≡ name_after before mark text.entry.now }
+{
+    let blank = blanks(text);
+    let (_, rest) = text.split_at(blank);
+    name_at(before + blank, mark, rest)
+}
+
+/// The table that a line names: its name stands in brackets.
+#[tactic(auto, unfolding(crate::specs::NameOn::table_on))]
+pub(crate) fn table_on(line: &[u8]) -> Option<NameOn<'_>>
+    ensures { option_map name_in result ≡ table_on line.entry.now }
+{
+    let before = blanks(line);
+    let (_, rest) = line.split_at(before);
+    if !begins_with(b'[', rest) {
+        return None;
+    }
+    let (_, inner) = line.split_at(before + 1);
+    name_after(before + 1, b']', inner)
+}
+
+/// The key that a line gives a value: its name stands before `=`.
+pub(crate) fn key_on(line: &[u8]) -> Option<NameOn<'_>>
+    ensures { option_map name_in result ≡ key_on line.entry.now }
+{
+    name_after(0, b'=', line)
+}
