@@ -96,7 +96,7 @@ expected: predictor.kind is \"not_taken\", \"backward_taken\" or \"bimodal\", by
 ];
 
 // Descriptions with names that are not known, one without the line's name, and one that is no TOML.
-const NAMES: [Refused; 5] = [
+const NAMES: [Refused; 6] = [
     Refused {
         job: b"rob = 8\nrbo = 8\n%%\n",
         why: b"\
@@ -105,6 +105,15 @@ line 2 of the job, line 2 of its description
     ^
 expected: a key or a table of a description
 nearest: rob
+",
+    },
+    Refused {
+        job: b"l2-cache = 1\nfoo = 2\n%%\n",
+        why: b"\
+line 1 of the job, line 1 of its description
+    l2-cache = 1
+    ^
+expected: a key or a table of a description
 ",
     },
     Refused {
