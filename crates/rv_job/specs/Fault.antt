@@ -1,5 +1,5 @@
 -- What is reported of a fault, and the status that the program ends with.
-use Rattle.std.specs.Prelude.{ℕ, ◌==◌, if◌then◌else◌, List, [], ◌++◌, codes, decimal, Result, Ok, Err}
+use Rattle.std.specs.Prelude.{ℕ, ◌==◌, if◌then◌else◌, List, [], ◌++◌, codes, decimal}
 use Rattle.rv_asm.specs.declared.fault.AsmFault.{AsmFault}
 use Rattle.rv_asm.specs.declared.fault.AsmFault.TheVariants as asm
 use Rattle.rv_describe.specs.Entries.{entry_of}
@@ -92,8 +92,3 @@ input_fault_line unread.Memory = fault_line Memory
 unfoldable pub input_fault_status : InputError → ℕ
 input_fault_status unread.Failed = 4
 input_fault_status unread.Memory = fault_status Memory
-
--- the exit status of what has one, or of a fault
-abbrev pub exit_status : Result ℕ SimError → ℕ
-exit_status (Ok status) = status
-exit_status (Err error) = fault_status error

@@ -1,5 +1,5 @@
 -- Where the lines that report faults go.
-use Rattle.std.specs.Prelude.{◌≡◌, ◌⊎◌, ℕ, List, Bool, true, Option, Result, Ok, Err}
+use Rattle.std.specs.Prelude.{◌≡◌, ◌⊎◌, ℕ, List, Bool, true, Option}
 use Rattle.std.specs.Io.KnownBytes.{Appends}
 use Rattle.rv_job.specs.Fault.{fault_line, fault_status}
 use Rattle.rv_text.specs.Written.{AppendsBeginning}
@@ -15,11 +15,6 @@ pub record FaultStream : Type 0 where
 abbrev pub Tells : FaultStream → FaultStream → List ℕ → Type 0
 Tells old new line =
     (Appends old.known new.known line × (new.has_failed ≡ old.has_failed)) ⊎ (AppendsBeginning old.known new.known line × (new.has_failed ≡ true))
-
--- an error is reported, and else nothing
-abbrev pub TellsOf : {T : Type 0} → FaultStream → FaultStream → Result T SimError → Type 0
-TellsOf old new (Ok value) = new ≡ old
-TellsOf old new (Err error) = Tells old new (fault_line error)
 
 -- the line of an error is reported, with its exit status
 abbrev pub TellsError : SimError → FaultStream → FaultStream → ℕ → Type 0
