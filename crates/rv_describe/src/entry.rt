@@ -48,7 +48,7 @@ fn arrival_with(cycle: Option<u64>, line: Option<Line>, level: Option<bool>) -> 
 }
 
 /// The line of a name.
-fn line_named(name: &str) -> Option<Line>
+pub fn line_named(name: &str) -> Option<Line>
     ensures { result ≡ line_named name.now }
 {
     match name {
@@ -60,7 +60,7 @@ fn line_named(name: &str) -> Option<Line>
 }
 
 /// A cycle from 0 to 1,000,000.
-fn cycle_of(number: i64) -> Option<u64>
+pub fn cycle_of(number: i64) -> Option<u64>
     ensures { result ≡ cycle_of number }
 {
     match u64::try_from(number) {
@@ -70,7 +70,7 @@ fn cycle_of(number: i64) -> Option<u64>
 }
 
 /// A level, 0 or 1.
-fn level_of(number: i64) -> Option<bool>
+pub fn level_of(number: i64) -> Option<bool>
     ensures { result ≡ level_of number }
 {
     match number {

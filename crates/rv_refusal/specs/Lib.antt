@@ -1,6 +1,8 @@
+pub mod Arrivals
 pub mod Caret
 pub mod Culprit
 pub mod Described
+pub mod EntryLine
 pub mod Expected
 pub mod Further
 pub mod HeldName

@@ -3,7 +3,8 @@ use Rattle.std.specs.Prelude.{ℕ, List, [], ◌++◌, codes}
 use Rattle.rv_asm.specs.declared.fault.{AsmError.AsmError, AsmFault.AsmFault}
 use Rattle.rv_job.specs.Parts.{parts_of}
 use Rattle.rv_job.specs.declared.errors.SimError.{SimError}
-use Rattle.rv_job.specs.declared.errors.SimError.TheVariants.{TooLong, Description, Assembly, ImageDoesNotFit}
+use Rattle.rv_job.specs.declared.errors.SimError.TheVariants.{TooLong, Description, Arrivals, Assembly, ImageDoesNotFit}
+use Rattle.rv_refusal.specs.Arrivals.{arrivals_lines}
 use Rattle.rv_refusal.specs.Caret.{caret_line}
 use Rattle.rv_refusal.specs.Described.{description_lines}
 use Rattle.rv_refusal.specs.Expected.{expected}
@@ -28,6 +29,7 @@ assembly_text before assembly error =
 unfoldable pub refusal_text : List ℕ → SimError → List ℕ
 refusal_text text TooLong = codes "expected: at most 33554432 bytes\n"
 refusal_text text (Description error) = description_lines (parts_of text).description error
+refusal_text text (Arrivals error) = arrivals_lines (parts_of text) error
 refusal_text text (Assembly error) =
     let assembly = (parts_of text).assembly in
     assembly_text (lines_before text assembly) assembly error

@@ -25,8 +25,8 @@ pub(crate) enum Wanted<'a> {
     Named(&'a [u8]),
 }
 
-// Whether a name is one of these.
-fn is_among(name: &[u8], names: &[&[u8]]) -> bool
+/// Whether a name is one of these.
+pub(crate) fn is_among(name: &[u8], names: &[&[u8]]) -> bool
     ensures { result ≡ list_any (bytes_eq name.now) (map (λ other. other.now) names.now) }
 {
     for other in names {

@@ -2,10 +2,12 @@
 //! that text, as a function of the job's bytes and of its fault. The program shows it where a job is to be explained.
 #![tactic(auto)]
 
+mod arrivals;
 mod assembly;
 mod caret;
 mod culprit;
 mod described;
+mod entry_line;
 mod expected;
 mod further;
 mod key_line;

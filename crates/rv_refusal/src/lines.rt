@@ -22,8 +22,8 @@ pub(crate) fn line_at(number: usize, text: &[u8]) -> &[u8]
     }
 }
 
-// How many line feeds a text has.
-fn line_feeds(text: &[u8]) -> usize
+/// How many line feeds a text has.
+pub(crate) fn line_feeds(text: &[u8]) -> usize
     ensures { result ≡ line_feeds text.now }
 {
     text.iter().filter(|byte| **byte == b'\n').count()

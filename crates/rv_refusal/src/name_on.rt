@@ -22,8 +22,8 @@ fn is_name_byte(byte: u8) -> bool
     byte.is_ascii_alphanumeric() || byte == b'_' || byte == b'-' || byte == b'.'
 }
 
-// How many blanks a text begins with.
-fn blanks(text: &[u8]) -> usize
+/// How many blanks a text begins with.
+pub(crate) fn blanks(text: &[u8]) -> usize
     ensures count { result ≡ blanks text.now }
     ensures in_range { result ≤ length text.now }
 {
@@ -48,7 +48,8 @@ fn name_size(text: &[u8]) -> usize
     text.len()
 }
 
-fn begins_with(mark: u8, text: &[u8]) -> bool
+/// Whether a text begins with a byte.
+pub(crate) fn begins_with(mark: u8, text: &[u8]) -> bool
     ensures { result ≡ begins_with mark text.now }
 {
     match text {
@@ -78,9 +79,9 @@ fn name_at(before: usize, mark: u8, rest: &[u8]) -> Option<NameOn<'_>>
     }
 }
 
-// The same after blanks.
+/// The name that stands at the front of a text after blanks, which follows so many bytes of a line, if a mark stands after it.
 #[tactic(auto, unfolding(crate::specs::NameOn::name_after))]
-fn name_after(before: usize, mark: u8, text: &[u8]) -> Option<NameOn<'_>>
+pub(crate) fn name_after(before: usize, mark: u8, text: &[u8]) -> Option<NameOn<'_>>
     requires { before ≤ 2 ^ 63 }
     ensures { option_map name_in result ≡ name_after before mark text.entry.now }
 {

@@ -2,6 +2,7 @@ ghost use Rattle.std.specs.Prelude.{◌≡◌, IfOk};
 ghost use Rattle.rv_refusal.specs.Refusal.{refusal_text};
 ghost use Rattle.rv_text.specs.IsText.{IsText};
 
+use crate::arrivals::add_arrivals;
 use crate::assembly::add_assembly;
 use crate::described::add_description;
 use crate::lines::lines_before;
@@ -25,6 +26,9 @@ fn refusal(alloc: Global, text: &[u8], error: SimError) -> Result<Vec<u8>, Alloc
             let description = cut_into_parts(text).description;
             add_description(alloc, &mut out, description, error)?;
         }
+        SimError::Arrivals(error) => {
+            add_arrivals(alloc, &mut out, cut_into_parts(text), error)?;
+        }
         SimError::Assembly(error) => {
             let assembly = cut_into_parts(text).assembly;
             let before = lines_before(text, assembly);
@@ -36,7 +40,7 @@ fn refusal(alloc: Global, text: &[u8], error: SimError) -> Result<Vec<u8>, Alloc
     Ok(out)
 }
 
-/// Writes why a job is refused, for its reader: the line at fault with its numbers in the job and in its assembly or description, and
+/// Writes why a job is refused, for its reader: the line at fault with its numbers in the job and in its part, and
 /// what was expected there; of an image that does not fit, its size and that of the RAM. `text` is the job, and `error` its fault. Of
 /// a fault that needs no more words, and where memory or the output failed, nothing is written.
 ///

@@ -1,3 +1,4 @@
+mod arrivals;
 mod parts;
 
 use crate::checks::check_bytes;

@@ -1,14 +1,9 @@
-use Rattle.std.proofs.Common.{◌≡◌, ◌∙◌, List, [], ◌∷◌, refl, ap, sym, map, Ok}
-use Rattle.toml.specs.Data.{Data}
-use Rattle.toml.specs.View.{items_of, view}
-use Rattle.rv_describe.specs.ArrivalList.{item_list, table_meaning}
+use Rattle.std.proofs.Common.{◌∙◌, ap, sym, map, Ok}
+use Rattle.toml.specs.View.{view}
+use Rattle.rv_describe.specs.ArrivalList.{table_meaning}
 use Rattle.rv_describe.specs.Entries.{entries_meaning}
+use Rattle.rv_describe.proofs.Items.{item_list-items_of}
 use Rattle.rv_describe.proofs.arrival_list.read_table.Goals as goal
-
--- the items of an array are the list that they were made of
-item_list-items_of : (items : List Data) → item_list (items_of items) ≡ items
-item_list-items_of [] = refl
-item_list-items_of (item ∷ later) = ap (λ others. item ∷ others) (item_list-items_of later)
 
 pub returns-in_default-clause-read : goal.returns-in_default-clause-read
 unfolding table_meaning entries_meaning

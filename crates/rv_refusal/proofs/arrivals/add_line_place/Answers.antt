@@ -1,0 +1,10 @@
+use Rattle.std.proofs.Common.{◌∙◌}
+use Rattle.rv_refusal.specs.Arrivals.{line_place}
+use Rattle.rv_refusal.proofs.arrivals.add_line_place.Goals as goal
+
+pub returns : goal.returns
+unfolding line_place
+returns c =
+    let in_job = c.as_bytes-in_job.ensures.value ∙ c.format.ensures.text in
+    let in_part = c.as_bytes-in_part.ensures.value ∙ c.format-2.ensures.text in
+    rw (← in_job, ← in_part) c.add_all.ensures

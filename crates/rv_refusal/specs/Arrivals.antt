@@ -1,0 +1,88 @@
+-- Why a list of arrivals is refused.
+use Rattle.std.specs.Prelude.{ℕ, ◌+◌, ◌==◌, List, [], ◌∷◌, ◌++◌, codes, decimal, if◌then◌else◌, Option}
+use Rattle.std.specs.{Option.option_map_or, Option.option_or}
+use Rattle.rv_describe.specs.Entries.{entry_of}
+use Rattle.rv_describe.specs.Field.{field_at_fault}
+use Rattle.rv_describe.specs.declared.{arrivals_error.ArrivalsError.ArrivalsError, field.Field.Field}
+use Rattle.rv_describe.specs.declared.arrivals_error.ArrivalsError.TheVariants.{NotToml, UnknownKey, Memory}
+use Rattle.rv_describe.specs.declared.field.Field.TheVariants.{Cycle, Line, Level}
+use Rattle.rv_job.specs.Parts.{Parts}
+use Rattle.rv_refusal.specs.Caret.{caret_below}
+use Rattle.rv_refusal.specs.EntryLine.{EntryLine, anywhere, entry_on, field_on, first_sought, in_entry, unknown_on}
+use Rattle.rv_refusal.specs.Lines.{line_feeds}
+use Rattle.rv_refusal.specs.Near.{names_line, nearest}
+use Rattle.rv_refusal.specs.Place.{shown_line}
+
+-- where a line of the arrivals stands that so many lines of the job stand before
+unfoldable pub line_place : ℕ → ℕ → List ℕ
+line_place before number =
+    codes "line " ++ (decimal (before + number) ++ (codes " of the job, line " ++ (decimal number ++ codes " of its arrivals")))
+
+-- the entry that a line stands in, if one has begun
+unfoldable pub in_entry_text : ℕ → List ℕ
+in_entry_text entry = if entry == 0 then [] else codes ", entry " ++ decimal entry
+
+-- a line at fault that so many lines of the job stand before, with a caret below its name
+unfoldable pub entry_line_text : ℕ → EntryLine → List ℕ
+entry_line_text before found =
+    line_place before found.number ++ (in_entry_text found.entry ++ (codes "\n" ++ (shown_line found.line ++ caret_below found.before)))
+
+-- an entry that no line is found of
+unfoldable pub entry_text : ℕ → List ℕ
+entry_text entry = codes "entry " ++ (decimal entry ++ codes " of the arrivals\n")
+
+-- the name of a field
+unfoldable pub field_name : Field → List ℕ
+field_name Cycle = codes "cycle"
+field_name Line = codes "line"
+field_name Level = codes "level"
+
+-- the line on the values that a field takes
+unfoldable pub field_line : Field → List ℕ
+field_line Cycle = codes "expected: cycle is a number from 0 to 1000000, no less than that of the entry before\n"
+field_line Line = codes "expected: line is \"software\", \"timer\" or \"external\"\n"
+field_line Level = codes "expected: level is 0 or 1, by default 1\n"
+
+-- the line of a field of an entry, or else the one on which the entry begins
+unfoldable pub line_of_field : Field → ℕ → List ℕ → Option EntryLine
+line_of_field field entry part =
+    option_or (first_sought (in_entry entry (field_on (field_name field))) part) (first_sought (in_entry entry entry_on) part)
+
+-- why arrivals are refused by a field of an entry: the line at fault, and which values the field takes
+unfoldable pub field_lines : ℕ → List ℕ → ℕ → Field → List ℕ
+field_lines before part entry field =
+    option_map_or (entry_line_text before) (line_of_field field entry part) (entry_text entry) ++ field_line field
+
+-- why arrivals are refused by an entry: by the first field with this fault, or by the list
+unfoldable pub entry_lines : ℕ → List ℕ → ArrivalsError → List ℕ
+entry_lines before part error =
+    option_map_or (field_lines before part (entry_of error)) (field_at_fault error part) (codes "expected: at most 100000 entries [[arrival]]\n")
+
+-- the names that a list of arrivals may have
+unfoldable pub arrival_names : List (List ℕ)
+arrival_names = codes "arrival" ∷ codes "cycle" ∷ codes "line" ∷ codes "level" ∷ []
+
+-- what was expected in place of an unknown name
+unfoldable pub arrival_expected : List ℕ
+arrival_expected = codes "expected: entries [[arrival]], each with cycle, line and level\n"
+
+-- a line with an unknown name, what was expected there, and the known names that are nearest to it
+unfoldable pub unknown_line : ℕ → EntryLine → List ℕ
+unknown_line before found =
+    entry_line_text before found ++ (arrival_expected ++ names_line (nearest found.name arrival_names))
+
+-- the first line of a list of arrivals with a name that is not known
+unfoldable pub unknown_lines : ℕ → List ℕ → List ℕ
+unknown_lines before part =
+    option_map_or (unknown_line before) (first_sought (anywhere (unknown_on arrival_names)) part) arrival_expected
+
+-- why arrivals are refused that so many lines of the job stand before
+unfoldable pub part_lines : ℕ → List ℕ → ArrivalsError → List ℕ
+part_lines before part NotToml = codes "expected: a TOML document, as in '[[arrival]]'\n"
+part_lines before part UnknownKey = unknown_lines before part
+part_lines before part Memory = []
+part_lines before part error = entry_lines before part error
+
+-- why the arrivals of these parts are refused; the description and a line `%%` stand before them
+unfoldable pub arrivals_lines : Parts → ArrivalsError → List ℕ
+arrivals_lines parts error = part_lines (line_feeds parts.description + 1) parts.arrivals error

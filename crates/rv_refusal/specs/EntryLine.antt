@@ -1,0 +1,82 @@
+-- The lines on which the entries of a list of arrivals stand, and their fields.
+use Rattle.std.specs.Prelude.{ℕ, ◌+◌, ◌==◌, ◌&&◌, Bool, is_some, List, [], ◌∷◌, drop, map, take, if◌then◌else◌, Option, Some, None, option_map, option_and_then, codes}
+use Rattle.std.specs.{List.slice_split, Option.option_or, Str.bytes_eq}
+use Rattle.rv_refusal.specs.KeyLine.{is_none_of}
+use Rattle.rv_refusal.specs.NameOn.{NameOn, begins_with, blanks, key_on, name_after}
+use Rattle.rv_refusal.specs.declared.entry_line.{EntryLine.EntryLine as Found, Sought.Sought}
+use Rattle.rv_refusal.specs.declared.entry_line.Sought.TheVariants.{Entry, Field, Unknown}
+
+-- a line with its number, how many entries have begun up to it, a name on it, and how many bytes stand before the name
+pub record EntryLine : Type 0 where
+  pub number : ℕ
+  pub entry : ℕ
+  pub line : List ℕ
+  pub before : ℕ
+  pub name : List ℕ
+
+-- the bytes of the line that the program holds
+abbrev pub entry_line : Found → EntryLine
+entry_line found = record { number = found.number; entry = found.entry; line = found.line.now; before = found.before; name = found.name.now }
+
+-- the element of an array of tables that a line begins: the array's name stands in two brackets
+unfoldable pub element_on : List ℕ → Option NameOn
+element_on line =
+    let before = blanks line in
+    if begins_with 91 (drop before line) && begins_with 91 (drop (before + 1) line)
+    then name_after (before + 2) 93 (drop (before + 2) line) else None
+
+-- a name on a line, if it passes a test
+abbrev pub if_passes : (List ℕ → Bool) → NameOn → Option NameOn
+if_passes test on = if test on.name then Some on else None
+
+-- the name of an entry that a line begins
+abbrev pub entry_on : List ℕ → Option NameOn
+entry_on line = option_and_then (if_passes (λ name. bytes_eq name (codes "arrival"))) (element_on line)
+
+-- the name of a field to which a line gives a value, if it is this one
+abbrev pub field_on : List ℕ → List ℕ → Option NameOn
+field_on field line = option_and_then (if_passes (λ name. bytes_eq name field)) (key_on line)
+
+-- the name on a line, if it is none of these
+abbrev pub unknown_on : List (List ℕ) → List ℕ → Option NameOn
+unknown_on known line = option_and_then (if_passes (is_none_of known)) (option_or (element_on line) (key_on line))
+
+-- how many entries have begun up to a line, of which so many have before it
+abbrev pub count_after : ℕ → List ℕ → ℕ
+count_after count line = if is_some (entry_on line) then count + 1 else count
+
+-- what is looked for on the lines of an entry alone, given how many entries have begun up to a line
+abbrev pub in_entry : ℕ → (List ℕ → Option NameOn) → ℕ → List ℕ → Option NameOn
+in_entry entry on count line = if count == entry then on line else None
+
+-- what is looked for on each line
+abbrev pub anywhere : (List ℕ → Option NameOn) → ℕ → List ℕ → Option NameOn
+anywhere on count line = on line
+
+-- what is looked for
+abbrev pub sought_on : Sought → ℕ → List ℕ → Option NameOn
+sought_on (Entry entry) count line = in_entry entry entry_on count line
+sought_on (Field entry name) count line = in_entry entry (field_on name.now) count line
+sought_on (Unknown known) count line = anywhere (unknown_on (map (λ name. name.now) known.now)) count line
+
+-- the line with a number, up to which so many entries have begun, with a name on it
+abbrev pub line_of : ℕ → ℕ → List ℕ → NameOn → EntryLine
+line_of number entry line on = record { number = number; entry = entry; line = line; before = on.before; name = on.name }
+
+-- the line with a number, up to which so many entries have begun, if what is looked for stands on it
+abbrev pub sought_line : (ℕ → List ℕ → Option NameOn) → ℕ → ℕ → List ℕ → Option EntryLine
+sought_line on number count line = option_map (line_of number count line) (on count line)
+
+-- the first line on which that stands which is looked for, of lines that are numbered from here on and that so many entries begin before
+abbrev pub first_from : (ℕ → List ℕ → Option NameOn) → ℕ → ℕ → List (List ℕ) → Option EntryLine
+first_from on number count [] = None
+first_from on number count (line ∷ others) =
+    option_or (sought_line on number (count_after count line) line) (first_from on (number + 1) (count_after count line) others)
+
+-- a text without the byte order mark that may stand before it
+unfoldable pub without_mark : List ℕ → List ℕ
+without_mark text = if bytes_eq (take 3 text) (239 ∷ 187 ∷ 191 ∷ []) then drop 3 text else text
+
+-- the first line of a text on which that stands which is looked for
+unfoldable pub first_sought : (ℕ → List ℕ → Option NameOn) → List ℕ → Option EntryLine
+first_sought on text = first_from on 1 0 (slice_split (λ byte. byte == 10) (without_mark text))

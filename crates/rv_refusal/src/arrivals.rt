@@ -1,0 +1,244 @@
+ghost use Rattle.std.specs.Prelude.{◌≡◌, ◌++◌, OnOk, map, option_map};
+ghost use Rattle.std.specs.Option.{option_map_or};
+ghost use Rattle.rv_job.specs.ReadParts.{parts_in};
+ghost use Rattle.rv_refusal.specs.Arrivals.{arrival_expected, arrival_names, arrivals_lines, entry_line_text, entry_lines, entry_text, field_line, field_lines, field_name, in_entry_text, line_of_field, line_place, part_lines, unknown_line, unknown_lines};
+ghost use Rattle.rv_refusal.specs.EntryLine.{entry_line};
+
+use crate::caret::add_caret_below;
+use crate::entry_line::{EntryLine, Sought, first_sought};
+use crate::lines::line_feeds;
+use crate::near::add_nearest;
+use crate::place::add_line;
+use crate::text::add_all;
+use itoa::Buffer;
+use rv_describe::{ArrivalsError, Field, field_at_fault};
+use rv_job::Parts;
+use std::alloc::{AllocError, Global};
+
+// Appends where a line of the arrivals stands that so many lines of the job stand before.
+#[tactic(auto, unfolding(crate::specs::Arrivals::line_place))]
+fn add_line_place(out: &mut Vec<u8>, before: usize, number: usize) -> Result<(), AllocError>
+    ensures { OnOk result (out.new.items ≡ out.old.items ++ line_place before number) }
+{
+    let mut whole = Buffer::new();
+    let in_job = whole.format(before as u128 + number as u128).as_bytes();
+    let mut part = Buffer::new();
+    let in_part = part.format(number).as_bytes();
+    add_all(
+        out,
+        &[
+            b"line ",
+            in_job,
+            b" of the job, line ",
+            in_part,
+            b" of its arrivals",
+        ],
+    )
+}
+
+// Appends the entry that a line stands in, if one has begun.
+#[tactic(auto, unfolding(crate::specs::Arrivals::in_entry_text))]
+fn add_in_entry(out: &mut Vec<u8>, entry: usize) -> Result<(), AllocError>
+    ensures { OnOk result (out.new.items ≡ out.old.items ++ in_entry_text entry) }
+{
+    if entry == 0 {
+        return Ok(());
+    }
+    let mut buffer = Buffer::new();
+    out.extend_from_slice(b", entry ")?;
+    out.extend_from_slice(buffer.format(entry).as_bytes())
+}
+
+// Appends a line at fault that so many lines of the job stand before, with a caret below its name.
+#[tactic(auto, unfolding(crate::specs::Arrivals::entry_line_text))]
+fn add_entry_line(out: &mut Vec<u8>, before: usize, found: EntryLine<'_>) -> Result<(), AllocError>
+    ensures { OnOk result (out.new.items ≡ out.old.items ++ entry_line_text before (entry_line found.entry)) }
+{
+    add_line_place(out, before, found.number)?;
+    add_in_entry(out, found.entry)?;
+    out.extend_from_slice(b"\n")?;
+    add_line(out, found.line)?;
+    add_caret_below(out, found.before)
+}
+
+// Appends an entry that no line is found of.
+#[tactic(auto, unfolding(crate::specs::Arrivals::entry_text))]
+fn add_entry(out: &mut Vec<u8>, entry: usize) -> Result<(), AllocError>
+    ensures { OnOk result (out.new.items ≡ out.old.items ++ entry_text entry) }
+{
+    let mut buffer = Buffer::new();
+    out.extend_from_slice(b"entry ")?;
+    out.extend_from_slice(buffer.format(entry).as_bytes())?;
+    out.extend_from_slice(b" of the arrivals\n")
+}
+
+#[tactic(auto, unfolding(crate::specs::Arrivals::field_name))]
+fn field_name(field: Field) -> &'static [u8]
+    ensures { result.now ≡ field_name field }
+{
+    match field {
+        Field::Cycle => b"cycle",
+        Field::Line => b"line",
+        Field::Level => b"level",
+    }
+}
+
+// The line on the values that a field takes.
+#[tactic(auto, unfolding(crate::specs::Arrivals::field_line))]
+fn field_line(field: Field) -> &'static [u8]
+    ensures { result.now ≡ field_line field }
+{
+    match field {
+        Field::Cycle => {
+            b"expected: cycle is a number from 0 to 1000000, no less than that of the entry before\n"
+        }
+        Field::Line => b"expected: line is \"software\", \"timer\" or \"external\"\n",
+        Field::Level => b"expected: level is 0 or 1, by default 1\n",
+    }
+}
+
+// The line of a field of an entry, or else the one on which the entry begins.
+#[tactic(auto, unfolding(crate::specs::Arrivals::line_of_field))]
+fn line_of_field(field: Field, entry: usize, part: &[u8]) -> Option<EntryLine<'_>>
+    ensures { option_map entry_line result ≡ line_of_field field entry part.entry.now }
+{
+    match first_sought(Sought::Field(entry, field_name(field)), part) {
+        Some(found) => Some(found),
+        None => first_sought(Sought::Entry(entry), part),
+    }
+}
+
+// Appends the line of a field of an entry, or else the entry's number.
+fn add_line_of_field(
+    out: &mut Vec<u8>,
+    before: usize,
+    part: &[u8],
+    entry: usize,
+    field: Field,
+) -> Result<(), AllocError>
+    ensures { OnOk result (out.new.items
+        ≡ out.old.items ++ option_map_or (entry_line_text before) (line_of_field field entry part.now) (entry_text entry)) }
+{
+    match line_of_field(field, entry, part) {
+        Some(found) => add_entry_line(out, before, found),
+        None => add_entry(out, entry),
+    }
+}
+
+// Appends why arrivals are refused by a field of an entry: the line at fault, and which values the field takes.
+#[tactic(auto, unfolding(crate::specs::Arrivals::field_lines))]
+fn add_field_lines(
+    out: &mut Vec<u8>,
+    before: usize,
+    part: &[u8],
+    entry: usize,
+    field: Field,
+) -> Result<(), AllocError>
+    ensures { OnOk result (out.new.items ≡ out.old.items ++ field_lines before part.now entry field) }
+{
+    add_line_of_field(out, before, part, entry, field)?;
+    out.extend_from_slice(field_line(field))
+}
+
+// Appends why arrivals are refused by an entry: by the first field with this fault, or by the list.
+#[tactic(auto, unfolding(crate::specs::Arrivals::entry_lines))]
+fn add_entry_lines(
+    alloc: Global,
+    out: &mut Vec<u8>,
+    before: usize,
+    part: &[u8],
+    error: ArrivalsError,
+) -> Result<(), AllocError>
+    ensures { OnOk result (out.new.items ≡ out.old.items ++ entry_lines before part.now error) }
+{
+    match field_at_fault(alloc, part, error)? {
+        Some(field) => add_field_lines(out, before, part, error.entry(), field),
+        None => out.extend_from_slice(b"expected: at most 100000 entries [[arrival]]\n"),
+    }
+}
+
+// What was expected in place of an unknown name.
+#[tactic(auto, unfolding(crate::specs::Arrivals::arrival_expected))]
+fn arrival_expected() -> &'static [u8]
+    ensures { result.now ≡ arrival_expected }
+{
+    b"expected: entries [[arrival]], each with cycle, line and level\n"
+}
+
+const NAMES: [&[u8]; 4] = [b"arrival", b"cycle", b"line", b"level"];
+
+// The names that a list of arrivals may have.
+#[tactic(auto, unfolding(crate::specs::Arrivals::arrival_names))]
+fn arrival_names() -> &'static [&'static [u8]]
+    ensures { map (λ name. name.now) result.now ≡ arrival_names }
+{
+    &NAMES
+}
+
+// Appends a line with an unknown name, what was expected there, and the known names that are nearest to it.
+#[tactic(auto, unfolding(crate::specs::Arrivals::unknown_line))]
+fn add_unknown_line(
+    alloc: Global,
+    out: &mut Vec<u8>,
+    before: usize,
+    found: EntryLine<'_>,
+) -> Result<(), AllocError>
+    ensures { OnOk result (out.new.items ≡ out.old.items ++ unknown_line before (entry_line found.entry)) }
+{
+    add_entry_line(out, before, found)?;
+    out.extend_from_slice(arrival_expected())?;
+    add_nearest(alloc, out, found.name, arrival_names())
+}
+
+// Appends the first line of a list of arrivals with a name that is not known.
+#[tactic(auto, unfolding(crate::specs::Arrivals::unknown_lines))]
+fn add_unknown_lines(
+    alloc: Global,
+    out: &mut Vec<u8>,
+    before: usize,
+    part: &[u8],
+) -> Result<(), AllocError>
+    ensures { OnOk result (out.new.items ≡ out.old.items ++ unknown_lines before part.now) }
+{
+    match first_sought(Sought::Unknown(arrival_names()), part) {
+        Some(found) => add_unknown_line(alloc, out, before, found),
+        None => out.extend_from_slice(arrival_expected()),
+    }
+}
+
+// Appends why arrivals are refused that so many lines of the job stand before.
+#[tactic(auto, unfolding(crate::specs::Arrivals::part_lines))]
+fn add_part(
+    alloc: Global,
+    out: &mut Vec<u8>,
+    before: usize,
+    part: &[u8],
+    error: ArrivalsError,
+) -> Result<(), AllocError>
+    ensures { OnOk result (out.new.items ≡ out.old.items ++ part_lines before part.now error) }
+{
+    match error {
+        ArrivalsError::NotToml => {
+            out.extend_from_slice(b"expected: a TOML document, as in '[[arrival]]'\n")
+        }
+        ArrivalsError::UnknownKey => add_unknown_lines(alloc, out, before, part),
+        ArrivalsError::Memory => Ok(()),
+        ArrivalsError::WrongKind { .. }
+        | ArrivalsError::OutOfRange { .. }
+        | ArrivalsError::Unsorted { .. } => add_entry_lines(alloc, out, before, part, error),
+    }
+}
+
+/// Appends why the arrivals of a job with these parts are refused.
+#[tactic(auto, unfolding(crate::specs::Arrivals::arrivals_lines))]
+pub(crate) fn add_arrivals(
+    alloc: Global,
+    out: &mut Vec<u8>,
+    parts: Parts<'_>,
+    error: ArrivalsError,
+) -> Result<(), AllocError>
+    ensures { OnOk result (out.new.items ≡ out.old.items ++ arrivals_lines (parts_in parts.entry) error) }
+{
+    let before = line_feeds(parts.description) + 1;
+    add_part(alloc, out, before, parts.arrivals, error)
+}

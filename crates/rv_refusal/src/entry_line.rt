@@ -1,0 +1,190 @@
+ghost use Rattle.std.specs.Prelude.{◌≡◌, ◌<◌, ◌≤◌, ◌+◌, ◌^◌, ◌==◌, codes, map, option_map};
+ghost use Rattle.std.specs.{List.slice_split, Str.bytes_eq};
+ghost use Rattle.rv_refusal.specs.EntryLine.{count_after, element_on, entry_line, entry_on, field_on, first_from, first_sought, if_passes, sought_line, sought_on, unknown_on, without_mark};
+ghost use Rattle.rv_refusal.specs.HeldName.{name_in};
+ghost use Rattle.rv_refusal.specs.KeyLine.{is_none_of};
+
+use crate::key_line::is_among;
+use crate::name_on::{NameOn, begins_with, blanks, key_on, name_after};
+use rv_asm::first_line;
+
+/// A line of a list of arrivals with its number, how many entries have begun up to it, a name on it, and how many bytes stand before
+/// the name.
+#[derive(Clone, Copy)]
+pub(crate) struct EntryLine<'a> {
+    pub(crate) number: usize,
+    pub(crate) entry: usize,
+    pub(crate) line: &'a [u8],
+    pub(crate) before: usize,
+    pub(crate) name: &'a [u8],
+}
+
+/// What is looked for.
+#[derive(Clone, Copy)]
+pub(crate) enum Sought<'a> {
+    /// Where the entry with this number begins.
+    Entry(usize),
+    /// The field with this name of the entry with this number.
+    Field(usize, &'a [u8]),
+    /// A name that is none of these.
+    Unknown(&'a [&'a [u8]]),
+}
+
+// The element of an array of tables that a line begins: the array's name stands in two brackets.
+#[tactic(auto, unfolding(crate::specs::EntryLine::element_on))]
+fn element_on(line: &[u8]) -> Option<NameOn<'_>>
+    ensures { option_map name_in result ≡ element_on line.entry.now }
+{
+    let before = blanks(line);
+    let (_, rest) = line.split_at(before);
+    if !begins_with(b'[', rest) {
+        return None;
+    }
+    let (_, others) = line.split_at(before + 1);
+    if !begins_with(b'[', others) {
+        return None;
+    }
+    let (_, inner) = line.split_at(before + 2);
+    name_after(before + 2, b']', inner)
+}
+
+// A name on a line, if it is this one.
+fn if_same<'a>(name: &[u8], on: NameOn<'a>) -> Option<NameOn<'a>>
+    ensures { option_map name_in result ≡ if_passes (λ other. bytes_eq other name.now) (name_in on.entry) }
+{
+    if on.name == name { Some(on) } else { None }
+}
+
+// The name of an entry that a line begins.
+fn entry_on(line: &[u8]) -> Option<NameOn<'_>>
+    ensures { option_map name_in result ≡ entry_on line.entry.now }
+{
+    match element_on(line) {
+        Some(on) => if_same(b"arrival", on),
+        None => None,
+    }
+}
+
+// The name of a field to which a line gives a value, if it is this one.
+fn field_on<'a>(field: &[u8], line: &'a [u8]) -> Option<NameOn<'a>>
+    ensures { option_map name_in result ≡ field_on field.now line.entry.now }
+{
+    match key_on(line) {
+        Some(on) => if_same(field, on),
+        None => None,
+    }
+}
+
+// A name on a line, if it is none of these.
+fn if_unknown<'a>(known: &[&[u8]], on: NameOn<'a>) -> Option<NameOn<'a>>
+    ensures { option_map name_in result ≡ if_passes (is_none_of (map (λ name. name.now) known.now)) (name_in on.entry) }
+{
+    if is_among(on.name, known) {
+        None
+    } else {
+        Some(on)
+    }
+}
+
+// The name on a line, if it is none of these.
+fn unknown_on<'a>(known: &[&[u8]], line: &'a [u8]) -> Option<NameOn<'a>>
+    ensures { option_map name_in result ≡ unknown_on (map (λ name. name.now) known.now) line.entry.now }
+{
+    if let Some(on) = element_on(line) {
+        return if_unknown(known, on);
+    }
+    match key_on(line) {
+        Some(on) => if_unknown(known, on),
+        None => None,
+    }
+}
+
+// How many entries have begun up to a line, of which so many have before it.
+fn count_after(count: usize, line: &[u8]) -> usize
+    requires { count < 2 ^ 63 }
+    ensures counted { result ≡ count_after count line.now }
+    ensures in_range { result ≤ count + 1 }
+{
+    if entry_on(line).is_some() {
+        count + 1
+    } else {
+        count
+    }
+}
+
+// What is looked for on a line up to which so many entries have begun.
+fn sought_on<'a>(sought: Sought<'_>, count: usize, line: &'a [u8]) -> Option<NameOn<'a>>
+    ensures { option_map name_in result ≡ sought_on sought.entry count line.entry.now }
+{
+    match sought {
+        Sought::Entry(entry) => { if count == entry { entry_on(line) } else { None } }
+        Sought::Field(entry, name) => {
+            if count == entry {
+                field_on(name, line)
+            } else {
+                None
+            }
+        }
+        Sought::Unknown(known) => unknown_on(known, line),
+    }
+}
+
+// The line with a number, up to which so many entries have begun, if what is looked for stands on it.
+fn sought_line<'a>(
+    sought: Sought<'_>,
+    number: usize,
+    entry: usize,
+    line: &'a [u8],
+) -> Option<EntryLine<'a>>
+    ensures { option_map entry_line result ≡ sought_line (sought_on sought.entry) number entry line.entry.now }
+{
+    match sought_on(sought, entry, line) {
+        Some(on) => Some(EntryLine {
+            number,
+            entry,
+            line,
+            before: on.before,
+            name: on.name,
+        }),
+        None => None,
+    }
+}
+
+// A text without the byte order mark that may stand before it.
+#[tactic(auto, unfolding(crate::specs::EntryLine::without_mark))]
+fn without_mark(text: &[u8]) -> &[u8]
+    ensures { result.now ≡ without_mark text.entry.now }
+{
+    match text.strip_prefix(b"\xef\xbb\xbf".as_slice()) {
+        Some(rest) => rest,
+        None => text,
+    }
+}
+
+// The first of the lines of a text on which that stands which is looked for.
+fn first_line_with<'a>(sought: Sought<'_>, text: &'a [u8]) -> Option<EntryLine<'a>>
+    ensures { option_map entry_line result
+        ≡ first_from (sought_on sought.entry) 1 0 (slice_split (λ byte. byte == 10) text.entry.now) }
+{
+    let mut number = 1;
+    let mut count = 0;
+    let mut rest = Some(text);
+    while let Some(unread) = rest {
+        let (line, behind) = first_line(unread);
+        count = count_after(count, line);
+        if let Some(found) = sought_line(sought, number, count, line) {
+            return Some(found);
+        }
+        number += 1;
+        rest = behind;
+    }
+    None
+}
+
+/// The first line of a text on which that stands which is looked for.
+#[tactic(auto, unfolding(crate::specs::EntryLine::first_sought))]
+pub(crate) fn first_sought<'a>(sought: Sought<'_>, text: &'a [u8]) -> Option<EntryLine<'a>>
+    ensures { option_map entry_line result ≡ first_sought (sought_on sought.entry) text.entry.now }
+{
+    first_line_with(sought, without_mark(text))
+}
