@@ -215,6 +215,11 @@ fn what_waits_for_no_result_waits_for_what_its_kind_needs(rt: HostRuntime) -> Re
         fetched: 8,
         ..dispatched(SUM)
     };
+    let in_first = Passage {
+        dispatched: Some(10),
+        fetched: 9,
+        ..dispatched(SUM)
+    };
     let cases = [
         (
             dispatched(LOAD),
@@ -222,6 +227,7 @@ fn what_waits_for_no_result_waits_for_what_its_kind_needs(rt: HostRuntime) -> Re
         ),
         (dispatched(CSR), "wait for the head"),
         (before, "wait for operands, a unit or the head"),
+        (in_first, "wait for a unit"),
     ];
     for (row, tip) in cases {
         let svg = drawn(&rt, rt.alloc(), &[row], &[]);
