@@ -1,10 +1,10 @@
 -- What a parse of the words of a command line comes to.
-use Rattle.std.proofs.Common.{◌≡◌, ◌⊎◌, ◌∙◌, ◌∷◌, [], true, List, None, ap, arith, false, inl, inr, length, refl, subst, sym}
+use Rattle.std.proofs.Common.{◌≡◌, ◌⊎◌, ◌∙◌, ◌∷◌, [], true, List, None, ap, arith, false, inl, inr, length, Result, refl, subst, sym}
 use Rattle.std.proofs.lemmas.Bool.{ne_eqb}
 use Rattle.std.specs.Prelude.{option_and_then}
 use Rattle.clap.specs.Kinds.{or_else}
 use Rattle.clap.specs.Walk.{is_empty}
-use Rattle.clap.specs.Words.{App, HasKind, HasMatchesOf, IsAmong, Kinds, Text, app_of, fault_of, is_simple, is_simple_and_free, kind_of, subcommand_of, subcommand_rows_of}
+use Rattle.clap.specs.Words.{App, FailsBy, HasKind, HasMatchesOf, IsAmong, Kinds, Text, app_of, fault_of, is_simple, is_simple_and_free, kind_of, subcommand_of, subcommand_rows_of}
 use Rattle.clap.specs.declared.error.Error.{Error}
 use Rattle.clap.specs.declared.error.kind.ErrorKind.TheVariants.{OutOfMemory, ValueValidation}
 use Rattle.clap.specs.declared.builder.command.Command.{Command as Parser}
@@ -25,13 +25,10 @@ faulty (k ∷ ks) words e is among =
     rw (is, some) refl
 
 -- words that are refused, except when out of memory, ask for no command
-pub refused_words : (parser : Parser) (words : List Text) (e : Error) → app_of parser ≡ program_arguments
-    → (is_simple_and_free (app_of parser) ≡ true → HasKind (fault_of (app_of parser) words) e)
+pub refused_words : (words : List Text) (e : Error) → HasKind (fault_of program_arguments words) e
     → (command_of words ≡ None) ⊎ (kind_of e ≡ OutOfMemory)
-refused_words parser words e is fails = elim (fails (ap is_simple_and_free is ∙ arguments_are_free)) [
-  | inl memory ↦ inr memory
-  | inr among ↦ inl (faulty (fault_of (app_of parser) words) words e (ap (λ (a : App). fault_of a words) (sym is)) among)
-]
+refused_words words e (inl memory) = inr memory
+refused_words words e (inr among) = inl (faulty (fault_of program_arguments words) words e refl among)
 
 kinds_or_other : (kinds next : Kinds) (e : Error) → HasKind kinds e → HasKind (or_else kinds next) e
 kinds_or_other [] next e (inl memory) = inl memory
@@ -39,29 +36,26 @@ kinds_or_other [] next e (inr among) = absurd among
 kinds_or_other (k ∷ ks) next e has = has
 
 -- words that are refused have an error of a kind that they may have
-pub refused_kind : (parser : Parser) (words : List Text) (e : Error) → app_of parser ≡ program_arguments
-    → (is_simple_and_free (app_of parser) ≡ true → HasKind (fault_of (app_of parser) words) e)
-    → HasKind (refused_kinds words) e
-refused_kind parser words e is fails =
-    let has : HasKind (fault_of program_arguments words) e =
-    subst (λ (a : App). HasKind (fault_of a words) e) is (fails (ap is_simple_and_free is ∙ arguments_are_free)) in
-    kinds_or_other (fault_of program_arguments words) (ValueValidation ∷ []) e has
+pub refused_kind : (words : List Text) (e : Error) → HasKind (fault_of program_arguments words) e → HasKind (refused_kinds words) e
+refused_kind words e has = kinds_or_other (fault_of program_arguments words) (ValueValidation ∷ []) e has
 
 -- words that are taken, and name no command
-pub other_kind : (parser : Parser) (words : List Text) (e : Error) → app_of parser ≡ program_arguments
-    → (is_simple_and_free (app_of parser) ≡ true → fault_of (app_of parser) words ≡ [])
-    → kind_of e ≡ ValueValidation → HasKind (refused_kinds words) e
-other_kind parser words e is fits kind =
-    let none : fault_of program_arguments words ≡ [] = ap (λ (a : App). fault_of a words) (sym is) ∙ fits (ap is_simple_and_free is ∙ arguments_are_free) in
-    subst (λ kinds. HasKind (or_else kinds (ValueValidation ∷ [])) e) (sym none) (inr (inl kind))
+pub other_kind : (words : List Text) (e : Error) → fault_of program_arguments words ≡ [] → HasKind (ValueValidation ∷ []) e
+    → HasKind (refused_kinds words) e
+other_kind words e none has = subst (λ kinds. HasKind (or_else kinds (ValueValidation ∷ [])) e) (sym none) has
+
+-- what a parse of the words fails by
+pub fails_by : (parser : Parser) (words : List Text) (r : Result ArgMatches Error) → app_of parser ≡ program_arguments
+    → (is_simple_and_free (app_of parser) ≡ true → FailsBy (fault_of (app_of parser) words) r)
+    → FailsBy (fault_of program_arguments words) r
+fails_by parser words r is fails =
+    subst (λ (a : App). FailsBy (fault_of a words) r) is (fails (ap is_simple_and_free is ∙ arguments_are_free))
 
 -- words that are taken ask for the command that their matches name
 pub taken_words : (parser : Parser) (words : List Text) (m : ArgMatches) → app_of parser ≡ program_arguments
-    → (is_simple_and_free (app_of parser) ≡ true → fault_of (app_of parser) words ≡ [])
-    → HasMatchesOf (app_of parser) words m
+    → fault_of program_arguments words ≡ [] → HasMatchesOf (app_of parser) words m
     → command_of words ≡ option_and_then command_named (subcommand_rows_of m)
-taken_words parser words m is fits found =
-    let none : fault_of program_arguments words ≡ [] = ap (λ (a : App). fault_of a words) (sym is) ∙ fits (ap is_simple_and_free is ∙ arguments_are_free) in
+taken_words parser words m is none found =
     let rows : subcommand_rows_of m ≡ subcommand_of program_arguments words =
     (found (ap is_simple is ∙ arguments_are_simple)).1 ∙ ap (λ (a : App). subcommand_of a words) is in
     rw (none, rows) refl

@@ -91,6 +91,15 @@ picture_in rows =
 
 -- ---- what the words ask for
 
+-- the command of a name that takes a limit and nothing else
+abbrev pub limited_named : Text → List Row → Option Command
+limited_named name rows =
+    if bytes_eq name (codes "reference") then option_map Reference (limit_in rows)
+    else (if bytes_eq name (codes "log") then option_map Log (limit_in rows)
+    else (if bytes_eq name (codes "explain") then option_map Explain (limit_in rows)
+    else (if bytes_eq name (codes "profile") then option_map Profile (limit_in rows)
+    else (if bytes_eq name (codes "compare") then option_map Compare (limit_in rows) else None))))
+
 -- the command of a subcommand with its matches
 abbrev pub command_named : Text × List Row → Option Command
 command_named given =

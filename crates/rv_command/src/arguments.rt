@@ -1,6 +1,6 @@
 //! The arguments of the program, as `clap` is given them.
 ghost use Rattle.std.specs.Prelude.{◌≡◌, false, IfOk};
-ghost use Rattle.clap.specs.Words.{App, new_app, rule_of, with_subcommand};
+ghost use Rattle.clap.specs.Words.{App, Rule, new_app, rule_of, with_rule, with_subcommand};
 ghost use Rattle.rv_command.specs.Arguments.{IsParserOf, check_arguments, cycles_rule, flag_rule, from_rule, limit_rule};
 ghost use Rattle.rv_command.specs.Arguments.{limited_arguments, number_rule, picture_arguments, program_arguments, run_arguments};
 ghost use Rattle.rv_command.specs.Arguments.{bare_arguments, bare_picture_arguments, told_arguments, told_from_arguments};
@@ -59,16 +59,35 @@ fn described<'a>(alloc: Global, name: &'a str, texts: CommandHelp) -> Command<'a
         .after_help(texts.ending)
 }
 
+// A command with one more option, where it could be made.
+fn with_argument<'a>(
+    command: Result<Command<'a>, AllocError>,
+    argument: Arg<'a>,
+) -> Result<Command<'a>, AllocError>
+    ensures arguments { (a : App) (r : Rule) → IfOk command.entry (IsParserOf a) → rule_of argument.entry ≡ r
+        → argument.entry.global ≡ false → IfOk result (IsParserOf (with_rule a r)) }
+{
+    match command {
+        Ok(command) => command.arg(argument),
+        Err(error) => Err(error),
+    }
+}
+
 fn run_command<'a>(alloc: Global) -> Result<Command<'a>, AllocError>
     ensures arguments { IfOk result (IsParserOf run_arguments) }
 {
-    described(alloc, "run", help::RUN)
-        .arg(flag_argument(
+    let traced = with_argument(
+        Ok(described(alloc, "run", help::RUN)),
+        flag_argument(
             alloc,
             "trace",
             "Begins the report with a line for each step",
-        ))?
-        .arg(limit_argument(alloc, "The most cycles, 1 to 1000000"))
+        ),
+    );
+    with_argument(
+        traced,
+        limit_argument(alloc, "The most cycles, 1 to 1000000"),
+    )
 }
 
 // A command that takes a limit and nothing else.
@@ -93,35 +112,45 @@ fn check_command<'a>(alloc: Global) -> Command<'a>
 fn bare_picture_command<'a>(alloc: Global) -> Result<Command<'a>, AllocError>
     ensures arguments { IfOk result (IsParserOf bare_picture_arguments) }
 {
-    described(alloc, "picture", help::PICTURE)
-        .arg(flag_argument(alloc, "text", "Draws in characters, and not as SVG"))?
-        .arg(flag_argument(
+    let with_text = with_argument(
+        Ok(described(alloc, "picture", help::PICTURE)),
+        flag_argument(alloc, "text", "Draws in characters, and not as SVG"),
+    );
+    with_argument(
+        with_text,
+        flag_argument(
             alloc,
             "retired",
             "Leaves out the rows of squashed instructions",
-        ))
+        ),
+    )
 }
 
 fn picture_command<'a>(alloc: Global) -> Result<Command<'a>, AllocError>
     ensures arguments { IfOk result (IsParserOf picture_arguments) }
 {
-    bare_picture_command(alloc)?
-        .arg(number_argument(
+    let with_from = with_argument(
+        bare_picture_command(alloc),
+        number_argument(
             alloc,
             "from",
             0,
             LAST_CYCLE,
             "0",
             "The first cycle, 0 to 999999",
-        ))?
-        .arg(number_argument(
+        ),
+    );
+    with_argument(
+        with_from,
+        number_argument(
             alloc,
             "cycles",
             1,
             MOST_CYCLES_SHOWN,
             "60",
             "How many cycles, 1 to 1000",
-        ))
+        ),
+    )
 }
 
 // A command that takes the first of some cycles, and no number of them yet.
@@ -150,14 +179,17 @@ fn told_command<'a>(
 ) -> Result<Command<'a>, AllocError>
     ensures arguments { IfOk result (IsParserOf (told_arguments name.entry.now)) }
 {
-    told_from_command(alloc, name, texts)?.arg(number_argument(
-        alloc,
-        "cycles",
-        1,
-        MOST_CYCLES_TOLD,
-        "200",
-        "How many cycles, 1 to 10000",
-    ))
+    with_argument(
+        told_from_command(alloc, name, texts),
+        number_argument(
+            alloc,
+            "cycles",
+            1,
+            MOST_CYCLES_TOLD,
+            "200",
+            "How many cycles, 1 to 10000",
+        ),
+    )
 }
 
 // The program with no command yet.
@@ -170,15 +202,19 @@ fn program<'a>(alloc: Global) -> Result<Command<'a>, AllocError>
         .bin_name("rv_sim")
 }
 
-// The program with one more command, where that could be made.
+// The program with one more command, where both could be made.
 fn with_command<'a>(
-    program: Command<'a>,
+    program: Result<Command<'a>, AllocError>,
     command: Result<Command<'a>, AllocError>,
 ) -> Result<Command<'a>, AllocError>
-    ensures arguments { (p c : App) → IsParserOf p program.entry → IfOk command.entry (IsParserOf c) → IfOk result (IsParserOf (with_subcommand p c.top)) }
+    ensures arguments { (p c : App) → IfOk program.entry (IsParserOf p) → IfOk command.entry (IsParserOf c)
+        → IfOk result (IsParserOf (with_subcommand p c.top)) }
 {
-    match command {
-        Ok(command) => program.subcommand(command),
+    match program {
+        Ok(program) => match command {
+            Ok(command) => program.subcommand(command),
+            Err(error) => Err(error),
+        },
         Err(error) => Err(error),
     }
 }
@@ -190,24 +226,24 @@ pub(crate) fn parser<'a>(alloc: Global) -> Result<Command<'a>, AllocError>
     const CYCLES: &str = "The most cycles, 1 to 1000000";
     const STEPS: &str = "The most steps, 1 to 1000000";
     const CYCLES_OF_EACH: &str = "The most cycles of each run, 1 to 1000000";
-    let program = with_command(program(alloc)?, run_command(alloc))?;
+    let program = with_command(program(alloc), run_command(alloc));
     let program = with_command(
         program,
         limited_command(alloc, "reference", help::REFERENCE, STEPS),
-    )?;
-    let program = with_command(program, Ok(check_command(alloc)))?;
-    let program = with_command(program, picture_command(alloc))?;
-    let program = with_command(program, limited_command(alloc, "log", help::LOG, CYCLES))?;
-    let program = with_command(program, told_command(alloc, "states", help::STATES))?;
-    let program = with_command(program, told_command(alloc, "page", help::PAGE))?;
+    );
+    let program = with_command(program, Ok(check_command(alloc)));
+    let program = with_command(program, picture_command(alloc));
+    let program = with_command(program, limited_command(alloc, "log", help::LOG, CYCLES));
+    let program = with_command(program, told_command(alloc, "states", help::STATES));
+    let program = with_command(program, told_command(alloc, "page", help::PAGE));
     let program = with_command(
         program,
         limited_command(alloc, "explain", help::EXPLAIN, CYCLES),
-    )?;
+    );
     let program = with_command(
         program,
         limited_command(alloc, "profile", help::PROFILE, CYCLES),
-    )?;
+    );
     with_command(
         program,
         limited_command(alloc, "compare", help::COMPARE, CYCLES_OF_EACH),

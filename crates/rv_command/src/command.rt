@@ -1,11 +1,12 @@
-ghost use Rattle.std.specs.Prelude.{◌≡◌, ◌≤◌, ◌⊎◌, None, Some, IfErr, IfOk, IfSome, map, option_and_then};
-ghost use Rattle.clap.specs.Words.{HasKind, found_of, kind_of, rows_of, subcommand_rows_of};
-ghost use Rattle.rv_command.specs.Command.{HasLegalNumbers, IsLegalLimit, IsLegalStretch, command_named, command_of, flag_in, limit_in, number_in};
+ghost use Rattle.std.specs.Prelude.{◌≡◌, ◌≤◌, ◌⊎◌, ◌∷◌, [], None, Some, IfErr, IfOk, IfSome, map, option_and_then};
+ghost use Rattle.clap.specs.Words.{FailsBy, HasKind, app_of, fault_of, found_of, kind_of, rows_of, subcommand_rows_of};
+ghost use Rattle.rv_command.specs.Arguments.{program_arguments};
+ghost use Rattle.rv_command.specs.Command.{HasLegalNumbers, IsLegalLimit, IsLegalStretch, command_named, command_of, flag_in, limit_in, limited_named, number_in};
 ghost use Rattle.rv_command.specs.Command.{page_in, picture_in, refused_kinds, run_in, states_in, stretch_in};
 
 use crate::arguments::parser;
 use clap::error::ErrorKind;
-use clap::{ArgMatches, Error};
+use clap::{ArgMatches, Command as Parser, Error};
 use std::alloc::Global;
 
 /// The most steps or cycles that a run may be asked for.
@@ -150,6 +151,22 @@ fn page_given(given: &ArgMatches) -> Option<Command>
     Some(Command::Page { from, limit })
 }
 
+// A command that takes a limit and nothing else.
+fn limited_given(name: &str, given: &ArgMatches) -> Option<Command>
+    ensures command { result ≡ limited_named name.now (rows_of (found_of given.now)) }
+    ensures legal { IfSome result HasLegalNumbers }
+{
+    let limit = limit_given(given)?;
+    match name {
+        "reference" => Some(Command::Reference { limit }),
+        "log" => Some(Command::Log { limit }),
+        "explain" => Some(Command::Explain { limit }),
+        "profile" => Some(Command::Profile { limit }),
+        "compare" => Some(Command::Compare { limit }),
+        _ => None,
+    }
+}
+
 fn command_given(matches: &ArgMatches) -> Option<Command>
     ensures command { result ≡ option_and_then command_named (subcommand_rows_of matches.now) }
     ensures legal { IfSome result HasLegalNumbers }
@@ -157,26 +174,50 @@ fn command_given(matches: &ArgMatches) -> Option<Command>
     let (name, given) = matches.subcommand()?;
     match name {
         "run" => run_given(given),
-        "reference" => Some(Command::Reference {
-            limit: limit_given(given)?,
-        }),
         "check" => Some(Command::Check),
         "picture" => picture_given(given),
-        "log" => Some(Command::Log {
-            limit: limit_given(given)?,
-        }),
         "states" => states_given(given),
         "page" => page_given(given),
-        "explain" => Some(Command::Explain {
-            limit: limit_given(given)?,
-        }),
-        "profile" => Some(Command::Profile {
-            limit: limit_given(given)?,
-        }),
-        "compare" => Some(Command::Compare {
-            limit: limit_given(given)?,
-        }),
-        _ => None,
+        _ => limited_given(name, given),
+    }
+}
+
+// The error of words that name no command with numbers in their ranges.
+fn refusal(parser: &mut Parser<'_>) -> Error
+    ensures kind { HasKind (ErrorKind.ValueValidation ∷ []) result }
+{
+    match parser.error(ErrorKind::ValueValidation, "N is no number in its range") {
+        Ok(error) => error,
+        Err(error) => Error::from(error),
+    }
+}
+
+// What the words ask for by their matches, where a parser of the program takes them.
+fn matched<'a>(parser: &mut Parser<'a>, words: &'a [String]) -> Result<Option<Command>, Error>
+    requires program { app_of parser.old ≡ program_arguments }
+    ensures command { IfOk result (λ c. command_of (map (λ w. w.bytes.items) words.entry.now) ≡ c) }
+    ensures kinds { FailsBy (fault_of program_arguments (map (λ w. w.bytes.items) words.entry.now)) result }
+    ensures ranges { IfOk result (λ c. IfSome c HasLegalNumbers) }
+{
+    let matches = parser.try_get_matches_from_mut(words)?;
+    Ok(command_given(&matches))
+}
+
+// What the words ask for, by a parser of the program.
+fn parse_by<'a>(parser: &mut Parser<'a>, words: &'a [String]) -> Result<Command, Error>
+    requires program { app_of parser.old ≡ program_arguments }
+    ensures command { IfOk result (λ c.
+        command_of (map (λ w. w.bytes.items) words.entry.now) ≡ Some c) }
+    ensures refused { IfErr result (λ e.
+        (command_of (map (λ w. w.bytes.items) words.entry.now) ≡ None)
+        ⊎ (kind_of e ≡ ErrorKind.OutOfMemory)) }
+    ensures kind { IfErr result (HasKind (refused_kinds (map (λ w. w.bytes.items) words.entry.now))) }
+    ensures ranges { IfOk result HasLegalNumbers }
+{
+    match matched(parser, words)? {
+        Some(command) => Ok(command),
+        // `clap` has refused such words before; see DECISIONS.
+        None => Err(refusal(parser)),
     }
 }
 
@@ -193,10 +234,5 @@ pub fn parse_words(alloc: Global, words: &[String]) -> Result<Command, Error>
     ensures ranges { IfOk result HasLegalNumbers }
 {
     let mut parser = parser(alloc)?;
-    let matches = parser.try_get_matches_from_mut(words)?;
-    match command_given(&matches) {
-        Some(command) => Ok(command),
-        // `clap` has refused such words before; see DECISIONS.
-        None => Err(parser.error(ErrorKind::ValueValidation, "N is no number in its range")?),
-    }
+    parse_by(&mut parser, words)
 }

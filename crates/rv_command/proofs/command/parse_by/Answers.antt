@@ -1,0 +1,17 @@
+use Rattle.std.proofs.Common.{map, rules}
+use Rattle.rv_command.proofs.Parses.{other_kind, refused_kind, refused_words}
+use Rattle.rv_command.proofs.command.parse_by.Goals as goal
+
+pub returns-in_err-command-clause-refused : goal.returns-in_err-command-clause-refused
+returns-in_err-command-clause-refused c =
+    let either = refused_words (map (λ w. w.bytes.items) c.args.words.now) c.in_err-command.field-0.0 c.in_err-command.ensures.kinds in
+    search rules
+
+pub returns-in_err-command-clause-kind : goal.returns-in_err-command-clause-kind
+returns-in_err-command-clause-kind c =
+    let has = refused_kind (map (λ w. w.bytes.items) c.args.words.now) c.in_err-command.field-0.0 c.in_err-command.ensures.kinds in
+    search rules
+
+pub returns-in-None-clause-kind : goal.returns-in-None-clause-kind
+returns-in-None-clause-kind c =
+    other_kind (map (λ w. w.bytes.items) c.args.words.now) c.refusal.result c.in_ok-command.ensures.kinds c.refusal.ensures.kind
