@@ -11,12 +11,7 @@ use Rattle.rv_refusal.specs.Caret.{caret_below}
 use Rattle.rv_refusal.specs.EntryLine.{EntryLine, anywhere, entry_on, field_on, first_sought, in_entry, unknown_on}
 use Rattle.rv_refusal.specs.Lines.{line_feeds}
 use Rattle.rv_refusal.specs.Near.{names_line, nearest}
-use Rattle.rv_refusal.specs.Place.{shown_line}
-
--- where a line of the arrivals stands that so many lines of the job stand before
-unfoldable pub line_place : ℕ → ℕ → List ℕ
-line_place before number =
-    codes "line " ++ (decimal (before + number) ++ (codes " of the job, line " ++ (decimal number ++ codes " of its arrivals")))
+use Rattle.rv_refusal.specs.Place.{line_place, shown_line}
 
 -- the entry that a line stands in, if one has begun
 unfoldable pub in_entry_text : ℕ → List ℕ
@@ -25,7 +20,8 @@ in_entry_text entry = if entry == 0 then [] else codes ", entry " ++ decimal ent
 -- a line at fault that so many lines of the job stand before, with a caret below its name
 unfoldable pub entry_line_text : ℕ → EntryLine → List ℕ
 entry_line_text before found =
-    line_place before found.number ++ (in_entry_text found.entry ++ (codes "\n" ++ (shown_line found.line ++ caret_below found.before)))
+    line_place (codes "arrivals") before found.number
+    ++ (in_entry_text found.entry ++ (codes "\n" ++ (shown_line found.line ++ caret_below found.before)))
 
 -- an entry that no line is found of
 unfoldable pub entry_text : ℕ → List ℕ

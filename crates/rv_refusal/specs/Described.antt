@@ -1,5 +1,5 @@
 -- Why a description is refused.
-use Rattle.std.specs.Prelude.{ℕ, ◌-◌, ◌==◌, List, [], ◌++◌, codes, decimal, if◌then◌else◌, Option, None, unwrap_or}
+use Rattle.std.specs.Prelude.{ℕ, ◌-◌, ◌==◌, List, [], ◌++◌, codes, if◌then◌else◌, Option, None, unwrap_or}
 use Rattle.std.specs.{List.slice_get, Option.option_map_or, Option.option_or, Str.bytes_eq}
 use Rattle.rv_isa.specs.declared.keys.Key.{Key}
 use Rattle.rv_isa.specs.Key.{key_place, order, text_of}
@@ -11,11 +11,11 @@ use Rattle.rv_refusal.specs.KeyLine.{KeyLine, first_named, is_none_of}
 use Rattle.rv_refusal.specs.KeyNames.{key_names}
 use Rattle.rv_refusal.specs.KeyRange.{values_line}
 use Rattle.rv_refusal.specs.Near.{names_line, nearest}
-use Rattle.rv_refusal.specs.Place.{shown_line}
+use Rattle.rv_refusal.specs.Place.{line_place, shown_line}
 
 -- where a line of a description stands, with which a job begins
 unfoldable pub described_place : ℕ → List ℕ
-described_place number = codes "line " ++ (decimal number ++ (codes " of the job, line " ++ (decimal number ++ codes " of its description\n")))
+described_place number = line_place (codes "description") 0 number ++ codes "\n"
 
 -- a line at fault, with a caret below its name
 unfoldable pub key_line_text : KeyLine → List ℕ

@@ -4,11 +4,15 @@ use Rattle.rv_asm.specs.declared.fault.AsmFault.{AsmFault}
 use Rattle.rv_job.specs.Fault.{fault_name}
 use Rattle.rv_text.specs.Plain.{plain_text}
 
+-- where a line stands of a part of the job, which has this name, and that so many lines of the job stand before
+unfoldable pub line_place : List ℕ → ℕ → ℕ → List ℕ
+line_place part before number =
+    codes "line " ++ (decimal (before + number) ++ (codes " of the job, line " ++ (decimal number ++ (codes " of its " ++ part))))
+
 -- where a line of the assembly stands that so many lines of the job stand before, and its fault
 unfoldable pub place_line : ℕ → ℕ → AsmFault → List ℕ
 place_line before number fault =
-    codes "line " ++ (decimal (before + number) ++ (codes " of the job, line " ++ (decimal number ++
-    (codes " of its assembly: " ++ (fault_name fault ++ codes "\n")))))
+    line_place (codes "assembly") before number ++ (codes ": " ++ (fault_name fault ++ codes "\n"))
 
 -- a line in printing characters
 unfoldable pub shown_line : List ℕ → List ℕ

@@ -1,40 +1,18 @@
 ghost use Rattle.std.specs.Prelude.{◌≡◌, ◌++◌, OnOk, map, option_map};
 ghost use Rattle.std.specs.Option.{option_map_or};
 ghost use Rattle.rv_job.specs.ReadParts.{parts_in};
-ghost use Rattle.rv_refusal.specs.Arrivals.{arrival_expected, arrival_names, arrivals_lines, entry_line_text, entry_lines, entry_text, field_line, field_lines, field_name, in_entry_text, line_of_field, line_place, part_lines, unknown_line, unknown_lines};
+ghost use Rattle.rv_refusal.specs.Arrivals.{arrival_expected, arrival_names, arrivals_lines, entry_line_text, entry_lines, entry_text, field_line, field_lines, field_name, in_entry_text, line_of_field, part_lines, unknown_line, unknown_lines};
 ghost use Rattle.rv_refusal.specs.EntryLine.{entry_line};
 
 use crate::caret::add_caret_below;
 use crate::entry_line::{EntryLine, Sought, first_sought};
 use crate::lines::line_feeds;
 use crate::near::add_nearest;
-use crate::place::add_line;
-use crate::text::add_all;
+use crate::place::{add_line, add_line_place};
 use itoa::Buffer;
 use rv_describe::{ArrivalsError, Field, field_at_fault};
 use rv_job::Parts;
 use std::alloc::{AllocError, Global};
-
-// Appends where a line of the arrivals stands that so many lines of the job stand before.
-#[tactic(auto, unfolding(crate::specs::Arrivals::line_place))]
-fn add_line_place(out: &mut Vec<u8>, before: usize, number: usize) -> Result<(), AllocError>
-    ensures { OnOk result (out.new.items ≡ out.old.items ++ line_place before number) }
-{
-    let mut whole = Buffer::new();
-    let in_job = whole.format(before as u128 + number as u128).as_bytes();
-    let mut part = Buffer::new();
-    let in_part = part.format(number).as_bytes();
-    add_all(
-        out,
-        &[
-            b"line ",
-            in_job,
-            b" of the job, line ",
-            in_part,
-            b" of its arrivals",
-        ],
-    )
-}
 
 // Appends the entry that a line stands in, if one has begun.
 #[tactic(auto, unfolding(crate::specs::Arrivals::in_entry_text))]
@@ -54,7 +32,7 @@ fn add_in_entry(out: &mut Vec<u8>, entry: usize) -> Result<(), AllocError>
 fn add_entry_line(out: &mut Vec<u8>, before: usize, found: EntryLine<'_>) -> Result<(), AllocError>
     ensures { OnOk result (out.new.items ≡ out.old.items ++ entry_line_text before (entry_line found.entry)) }
 {
-    add_line_place(out, before, found.number)?;
+    add_line_place(out, b"arrivals", before, found.number)?;
     add_in_entry(out, found.entry)?;
     out.extend_from_slice(b"\n")?;
     add_line(out, found.line)?;

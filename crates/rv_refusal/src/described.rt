@@ -9,9 +9,7 @@ use crate::key_line::{KeyLine, Wanted, first_named};
 use crate::key_names::{key_names, text_of};
 use crate::key_range::add_values_line;
 use crate::near::add_nearest;
-use crate::place::add_line;
-use crate::text::add_all;
-use itoa::Buffer;
+use crate::place::{add_line, add_line_place};
 use rv_describe::DescriptionError;
 use rv_isa::{Key, all_keys};
 use std::alloc::{AllocError, Global};
@@ -21,18 +19,8 @@ use std::alloc::{AllocError, Global};
 fn add_described_place(out: &mut Vec<u8>, number: usize) -> Result<(), AllocError>
     ensures { OnOk result (out.new.items ≡ out.old.items ++ described_place number) }
 {
-    let mut buffer = Buffer::new();
-    let number = buffer.format(number).as_bytes();
-    add_all(
-        out,
-        &[
-            b"line ",
-            number,
-            b" of the job, line ",
-            number,
-            b" of its description\n",
-        ],
-    )
+    add_line_place(out, b"description", 0, number)?;
+    out.extend_from_slice(b"\n")
 }
 
 // Appends a line at fault, with a caret below its name.

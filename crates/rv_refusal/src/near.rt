@@ -20,23 +20,23 @@ fn is_near(alloc: Global, distance: usize, name: &[u8], other: &[u8]) -> Result<
     Ok(edits == distance)
 }
 
-// The known names that are so many edits away from an unknown one.
-fn near<'a>(
+// Adds the known names that are so many edits away from an unknown one.
+fn add_near<'a>(
     alloc: Global,
+    found: &mut Vec<&'a [u8]>,
     distance: usize,
     name: &[u8],
     known: &[&'a [u8]],
-) -> Result<Vec<&'a [u8]>, AllocError>
-    ensures { IfOk result (λ found. map (λ other. other.now) found.items
-        ≡ filter (is_near distance name.now) (map (λ other. other.now) known.now)) }
+) -> Result<(), AllocError>
+    ensures { OnOk result (map (λ other. other.now) found.new.items
+        ≡ map (λ other. other.now) found.old.items ++ filter (is_near distance name.now) (map (λ other. other.now) known.now)) }
 {
-    let mut found = Vec::new(alloc);
     for other in known {
         if is_near(alloc, distance, name, other)? {
             found.push(*other)?;
         }
     }
-    Ok(found)
+    Ok(())
 }
 
 // The known names that are nearest to an unknown one.
@@ -44,9 +44,9 @@ fn near<'a>(
 fn nearest<'a>(alloc: Global, name: &[u8], known: &[&'a [u8]]) -> Result<Vec<&'a [u8]>, AllocError>
     ensures { IfOk result (λ found. map (λ other. other.now) found.items ≡ nearest name.now (map (λ other. other.now) known.now)) }
 {
-    let mut found = near(alloc, 1, name, known)?;
-    let others = near(alloc, 2, name, known)?;
-    found.extend_from_slice(others.as_slice())?;
+    let mut found = Vec::new(alloc);
+    add_near(alloc, &mut found, 1, name, known)?;
+    add_near(alloc, &mut found, 2, name, known)?;
     found.truncate(3);
     Ok(found)
 }

@@ -1,11 +1,38 @@
 ghost use Rattle.std.specs.Prelude.{◌≡◌, ◌++◌, OnOk};
-ghost use Rattle.rv_refusal.specs.Place.{place_line, shown_line};
+ghost use Rattle.rv_refusal.specs.Place.{line_place, place_line, shown_line};
 
 use crate::text::{add_all, add_plain};
 use itoa::Buffer;
 use rv_asm::AsmFault;
 use rv_job::fault_name;
 use std::alloc::AllocError;
+
+/// Appends where a line stands of a part of the job, which has this name, and that so many lines of the job stand before.
+#[tactic(auto, unfolding(crate::specs::Place::line_place))]
+pub(crate) fn add_line_place(
+    out: &mut Vec<u8>,
+    part: &[u8],
+    before: usize,
+    number: usize,
+) -> Result<(), AllocError>
+    ensures { OnOk result (out.new.items ≡ out.old.items ++ line_place part.now before number) }
+{
+    let mut whole = Buffer::new();
+    let in_job = whole.format(before as u128 + number as u128).as_bytes();
+    let mut own = Buffer::new();
+    let in_part = own.format(number).as_bytes();
+    add_all(
+        out,
+        &[
+            b"line ",
+            in_job,
+            b" of the job, line ",
+            in_part,
+            b" of its ",
+            part,
+        ],
+    )
+}
 
 /// Appends where a line of the assembly stands that so many lines of the job stand before, and its fault.
 #[tactic(auto, unfolding(crate::specs::Place::place_line))]
@@ -17,22 +44,8 @@ pub(crate) fn add_place(
 ) -> Result<(), AllocError>
     ensures { OnOk result (out.new.items ≡ out.old.items ++ place_line before number fault) }
 {
-    let mut whole = Buffer::new();
-    let in_job = whole.format(before as u128 + number as u128).as_bytes();
-    let mut part = Buffer::new();
-    let in_part = part.format(number).as_bytes();
-    add_all(
-        out,
-        &[
-            b"line ",
-            in_job,
-            b" of the job, line ",
-            in_part,
-            b" of its assembly: ",
-            fault_name(fault).as_bytes(),
-            b"\n",
-        ],
-    )
+    add_line_place(out, b"assembly", before, number)?;
+    add_all(out, &[b": ", fault_name(fault).as_bytes(), b"\n"])
 }
 
 /// Appends a line in printing characters.
