@@ -59,7 +59,7 @@ fn described<'a>(alloc: Global, name: &'a str, texts: CommandHelp) -> Command<'a
         .after_help(texts.ending)
 }
 
-// A command with one more option, where it could be made.
+// A command with one more option, where it could be made. At an error the option is dropped by one call, and not field by field.
 fn with_argument<'a>(
     command: Result<Command<'a>, AllocError>,
     argument: Arg<'a>,
@@ -69,7 +69,10 @@ fn with_argument<'a>(
 {
     match command {
         Ok(command) => command.arg(argument),
-        Err(error) => Err(error),
+        Err(error) => {
+            drop(argument);
+            Err(error)
+        }
     }
 }
 
@@ -213,9 +216,15 @@ fn with_command<'a>(
     match program {
         Ok(program) => match command {
             Ok(command) => program.subcommand(command),
-            Err(error) => Err(error),
+            Err(error) => {
+                drop(program);
+                Err(error)
+            }
         },
-        Err(error) => Err(error),
+        Err(error) => {
+            drop(command);
+            Err(error)
+        }
     }
 }
 

@@ -200,7 +200,9 @@ fn matched<'a>(parser: &mut Parser<'a>, words: &'a [String]) -> Result<Option<Co
     ensures ranges { IfOk result (λ c. IfSome c HasLegalNumbers) }
 {
     let matches = parser.try_get_matches_from_mut(words)?;
-    Ok(command_given(&matches))
+    let command = command_given(&matches);
+    drop(matches);
+    Ok(command)
 }
 
 // What the words ask for, by a parser of the program.
@@ -234,5 +236,7 @@ pub fn parse_words(alloc: Global, words: &[String]) -> Result<Command, Error>
     ensures ranges { IfOk result HasLegalNumbers }
 {
     let mut parser = parser(alloc)?;
-    parse_by(&mut parser, words)
+    let parsed = parse_by(&mut parser, words);
+    drop(parser);
+    parsed
 }

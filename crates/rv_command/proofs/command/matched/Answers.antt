@@ -7,7 +7,7 @@ returns-clause-command c =
     let words = map (λ w. w.bytes.items) c.args.words.now in
     let none = fails_by c.args.parser.now words (Ok c.in_ok-matches.matches) c.requires.program c.in_ok-matches.ensures.kinds in
     taken_words c.args.parser.now words c.in_ok-matches.matches c.requires.program none c.in_ok-matches.ensures.ok.2
-    ∙ sym c.command_given.ensures.command
+    ∙ sym c.command_given-command.ensures.command
 
 pub returns-clause-kinds : goal.returns-clause-kinds
 returns-clause-kinds c =
