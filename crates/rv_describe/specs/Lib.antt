@@ -4,5 +4,6 @@ pub mod Document
 pub mod Entries
 pub mod Fault
 pub mod Field
+pub mod Held
 pub mod Setting
 pub mod Unknown

@@ -3,7 +3,7 @@ ghost use Rattle.std.specs.List.{position_from};
 ghost use Rattle.toml.specs.View.{view, table_view};
 ghost use Rattle.rv_describe.specs.Fault.{number_fault, choice_fault, value_fault, key_fault, is_fault, first_place};
 
-use crate::held::look_up;
+use crate::held::{Held, look_up};
 use crate::settings::{number, word_of};
 use rv_isa::{Bounds, Key, NumberKey, PredictorKind, Recovery, all_keys};
 use toml::{Table, Value};
@@ -61,9 +61,9 @@ fn key_fault(table: &Table, key: Key) -> Option<ValueFault>
     ensures { result ≡ key_fault (table_view table.now) key }
 {
     match look_up(table, &key.place()) {
-        None => Some(ValueFault::WrongKind),
-        Some(None) => None,
-        Some(Some(value)) => value_fault(key, number(table, NumberKey::RamSize), value),
+        Held::NoTable => Some(ValueFault::WrongKind),
+        Held::Nothing => None,
+        Held::Value(value) => value_fault(key, number(table, NumberKey::RamSize), value),
     }
 }
 

@@ -1,6 +1,7 @@
-ghost use Rattle.std.specs.Prelude.{◌≡◌, option_map};
+ghost use Rattle.std.specs.Prelude.{◌≡◌, Some, option_map};
 ghost use Rattle.toml.specs.View.{view, table_view};
 ghost use Rattle.rv_describe.specs.Document.{held, value_at};
+ghost use Rattle.rv_describe.specs.Held.{held_of};
 ghost use Rattle.rv_isa.specs.Key.{shown};
 ghost use Rattle.toml.specs.Data.{get_member};
 
@@ -14,18 +15,41 @@ pub fn get<'a>(table: &'a Table, name: &str) -> Option<&'a Value>
     table.get(name)
 }
 
-/// What a table holds at a key: `None` where something that is no table has the name of the key's
-/// table, and `Some(None)` where nothing stands there.
+/// What a table holds at a key.
+#[derive(Clone, Copy)]
+pub enum Held<'a> {
+    /// Something that is no table has the name of the key's table.
+    NoTable,
+    /// Nothing stands there.
+    Nothing,
+    /// A value stands there.
+    Value(&'a Value),
+}
+
+// What a table holds at a name.
+fn at_name(value: Option<&Value>) -> Held<'_>
+    ensures { held_of result ≡ Some (option_map (λ v. view v.now) value.entry) }
+{
+    match value {
+        Some(value) => Held::Value(value),
+        None => Held::Nothing,
+    }
+}
+
+/// What a table holds at a key.
 #[tactic(auto, unfolding(crate::specs::Document::held))]
-pub fn look_up<'a>(table: &'a Table, place: &Place) -> Option<Option<&'a Value>>
-    ensures { option_map (option_map (λ v. view v.now)) result ≡ held (table_view table.now) (shown place.now) }
+pub fn look_up<'a>(table: &'a Table, place: &Place) -> Held<'a>
+    ensures { held_of result ≡ held (table_view table.now) (shown place.now) }
 {
     let Some(outer) = place.table else {
-        return Some(get(table, place.name));
+        return at_name(get(table, place.name));
     };
-    match get(table, outer) {
-        Some(value) => Some(get(value.as_table()?, place.name)),
-        None => Some(None),
+    let Some(value) = get(table, outer) else {
+        return Held::Nothing;
+    };
+    match value.as_table() {
+        Some(inner) => at_name(get(inner, place.name)),
+        None => Held::NoTable,
     }
 }
 
@@ -33,5 +57,8 @@ pub fn look_up<'a>(table: &'a Table, place: &Place) -> Option<Option<&'a Value>>
 pub fn value_at(table: &Table, key: Key) -> Option<&Value>
     ensures { option_map (λ v. view v.now) result ≡ value_at (table_view table.now) key }
 {
-    look_up(table, &key.place())?
+    match look_up(table, &key.place()) {
+        Held::Value(value) => Some(value),
+        Held::Nothing | Held::NoTable => None,
+    }
 }
