@@ -55,7 +55,7 @@ pub use Rattle.rv_hardware.specs.declared.step.Step.{Step}
 pub use Rattle.rv_core.specs.Access.{IsBehind, IsOverRam, LieIn, LiesIn, cache_after, defined_path, load_path, path_cost, port_after}
 pub use Rattle.rv_core.specs.Entering.{are_full_for, with_instruction, with_jump, with_station, with_store, with_target}
 pub use Rattle.rv_core.specs.Execution.{Reads, is_operation, operand_value}
-pub use Rattle.rv_core.specs.HeadTurn.{IsHead, IsKept, committing, instruction_of_access, role_of, stop_with, turn_left}
+pub use Rattle.rv_core.specs.HeadTurn.{IsHead, IsKept, IsTurn, and_step, committing, instruction_of_access, lessons_left, role_of, stop_after, stop_with, turn_ended, turn_left}
 pub use Rattle.rv_core.specs.Load.{bytes_over, goes, is_forwarded, is_known_before, load_fault, may_go, needs_port, path_of, path_unless, store_fault}
 pub use Rattle.rv_core.specs.Parts.{IsSound, hardware_of}
 pub use Rattle.rv_core.specs.Progress.{IsBounded, IsNextCycle, last_stall_of, progress_after, progress_of, silence_after, silence_from}

@@ -1,7 +1,8 @@
-ghost use Rattle.std.specs.Prelude.{◌≡◌, ◌+◌, ◌*◌, ◌<◌, ◌≤◌, ◌++◌, ◌∷◌, ℕ, [], List, None, Some, IfSome, IsTrue, false, vec_len, vec_capacity};
+ghost use Rattle.std.specs.Prelude.{◌≡◌, ◌≢◌, ◌+◌, ◌*◌, ◌<◌, ◌≤◌, ◌++◌, ◌∷◌, ℕ, [], List, None, Some, IfSome, IsTrue, false, true, vec_len, vec_capacity};
 ghost use Rattle.std.specs.Option.{option_map};
 ghost use Rattle.std.specs.FinSet as set;
 ghost use Rattle.rv_isa.specs.Cause.{code_of};
+ghost use Rattle.rv_isa.specs.Instruction.{is_serialising, target_of_word};
 ghost use Rattle.rv_isa.specs.declared.instructions.Instr.TheVariants as instr;
 ghost use Rattle.rv_arch.specs.Due.{due};
 ghost use Rattle.rv_arch.specs.State.{write_of};
@@ -16,12 +17,12 @@ ghost use Rattle.rv_hardware.specs.InFlight.{broadcast_of};
 ghost use Rattle.rv_hardware.specs.Retirement.{row_of, stale_after, with_result};
 ghost use Rattle.rv_hardware.specs.Squash.{flushed, with_trap};
 ghost use Rattle.rv_hardware.specs.Repeated.{Ends as PhaseEnds};
-ghost use Rattle.rv_core.specs.HeadTurn.{committing, instruction_of_access, IsHead, IsKept, stop_with, turn_left};
+ghost use Rattle.rv_core.specs.HeadTurn.{IsHead, IsKept, IsTurn, and_step, committing, instruction_of_access, lessons_left, stop_after, stop_with, turn_ended};
 ghost use Rattle.rv_hardware.specs.Lessons.{lesson_of, lessons_of};
 ghost use Rattle.rv_core.specs.Reached.{IsBegun};
 ghost use Rattle.rv_core.specs.Retiring.{registers_with, with_commit, without_target};
 
-use crate::dispatch::target_of;
+use crate::dispatch::{is_serialising, target_of};
 use crate::head::{
     CsrAccess, HeadTurn, Role, illegal, message_of, role_of, row_of, waits_for_result,
 };
@@ -114,18 +115,9 @@ impl Parts {
             return None;
         }
         for _ in 0..self.values.commit_width {
-            match self.commit_head() {
-                HeadTurn::Waits => return None,
-                HeadTurn::Stale(pc) => return Some(Stop::Stale(pc)),
-                HeadTurn::Ends(step) => {
-                    teach(predictor, &step, self.pc);
-                    append(steps, step);
-                    return stop_with(&step);
-                }
-                HeadTurn::GoesOn(step) => {
-                    teach(predictor, &step, self.pc);
-                    append(steps, step);
-                }
+            match self.commit_head(predictor, steps) {
+                HeadTurn::Ends(stop) => return stop,
+                HeadTurn::GoesOn => {}
             }
         }
         None
@@ -160,9 +152,9 @@ impl Parts {
         self.flush();
     }
 
-    fn trap(&mut self, pc: u32, fault: Fault) -> HeadTurn
+    fn trap(&mut self, pc: u32, fault: Fault) -> Option<Step>
         ensures hardware { self.new ≡ with_trap (code_of fault.cause) fault.value self.old }
-        ensures step { result ≡ HeadTurn.Ends (Step.Trap pc fault.cause fault.value self.old.cycle) }
+        ensures step { result ≡ Some (Step.Trap pc fault.cause fault.value self.old.cycle) }
     {
         let step = Step::Trap {
             pc,
@@ -171,52 +163,59 @@ impl Parts {
             cycle: self.cycle,
         };
         self.take_trap(fault.cause.code(), fault.value);
-        HeadTurn::Ends(step)
+        Some(step)
     }
 
-    // One turn: the head, if there is one.
-    fn commit_head(&mut self) -> HeadTurn
-        requires { self.old.rob.retired < 8 * self.old.cycle + 8 }
-        ensures turn { (steps : List Step) → commit_turn set.contains (committing self.old steps) ≡ turn_left self.new steps result }
+    // One turn: the head, if there is one. Its step is appended, and the predictor learns from it.
+    fn commit_head(&mut self, predictor: &mut dyn Predictor, steps: &mut Vec<Step>) -> HeadTurn
+        requires retired { self.old.rob.retired < 8 * self.old.cycle + 8 }
+        requires room { vec_len steps.old < vec_capacity steps.old }
+        ensures turn { IsTurn self.old self.new steps.old.items steps.new.items (known predictor.old) (known predictor.new) result }
         ensures kept { IsKept self.old self.new }
+        ensures capacity { vec_capacity steps.new ≡ vec_capacity steps.old }
     {
         let Some(head) = self.rob.head() else {
-            return HeadTurn::Waits;
+            return HeadTurn::Ends(None);
         };
         if self.stale.is_stale(head.pc) {
-            return HeadTurn::Stale(head.pc);
+            return HeadTurn::Ends(Some(Stop::Stale(head.pc)));
         }
         // Mostly the head waits: what follows has the large variables.
         if waits_for_result(head) {
-            return HeadTurn::Waits;
+            return HeadTurn::Ends(None);
         }
-        self.take_head()
+        if is_serialising(&head.instruction) {
+            let step = self.serial_head();
+            return tell(predictor, steps, &step, self.pc);
+        }
+        self.finish_head(predictor, steps)
     }
 
-    // The turn of a head that is not stale.
-    fn take_head(&mut self) -> HeadTurn
+    // The turn of a serialising head that is not stale.
+    fn serial_head(&mut self) -> Option<Step>
         requires room { self.old.rob.retired < 8 * self.old.cycle + 8 }
         requires fresh { (e : EntryOf) → IsHead self.old e → set.contains self.old.stale (word_of e.pc) ≡ false }
-        ensures turn { (steps : List Step) → commit_turn set.contains (committing self.old steps) ≡ turn_left self.new steps result }
+        requires serial { (e : EntryOf) → IsHead self.old e → is_serialising e.instruction ≡ true }
+        ensures turn { (steps : List Step) → commit_turn set.contains (committing self.old steps) ≡ turn_ended self.new steps result }
         ensures kept { IsKept self.old self.new }
     {
         let Some(head) = self.rob.head() else {
-            return HeadTurn::Waits;
+            return None;
         };
         let entry = *head;
         match role_of(&entry.instruction) {
             Role::FenceInstructions => self.fence_instructions(&entry),
             Role::CsrAccess(access) => self.access_csr(&entry, access),
             Role::TrapReturn => self.return_from_trap(&entry),
-            Role::WaitsForResult => self.finish_head(&entry),
+            Role::WaitsForResult => None,
         }
     }
 
     // A CSR instruction executes at the head.
-    fn access_csr(&mut self, entry: &Entry, access: CsrAccess) -> HeadTurn
+    fn access_csr(&mut self, entry: &Entry, access: CsrAccess) -> Option<Step>
         requires head { IsHead self.old entry.now }
         requires room { self.old.rob.retired < 8 * self.old.cycle + 8 }
-        ensures turn { (steps : List Step) → PhaseEnds (execute_head entry.now (instruction_of_access access) (committing self.old steps)) ≡ turn_left self.new steps result }
+        ensures turn { (steps : List Step) → PhaseEnds (execute_head entry.now (instruction_of_access access) (committing self.old steps)) ≡ turn_ended self.new steps result }
         ensures kept { IsKept self.old self.new }
     {
         let operand = CsrOperand::new(access.source, &self.registers);
@@ -233,10 +232,10 @@ impl Parts {
     }
 
     // MRET executes at the head.
-    fn return_from_trap(&mut self, entry: &Entry) -> HeadTurn
+    fn return_from_trap(&mut self, entry: &Entry) -> Option<Step>
         requires head { IsHead self.old entry.now }
         requires room { self.old.rob.retired < 8 * self.old.cycle + 8 }
-        ensures turn { (steps : List Step) → PhaseEnds (execute_head entry.now instr.Mret (committing self.old steps)) ≡ turn_left self.new steps result }
+        ensures turn { (steps : List Step) → PhaseEnds (execute_head entry.now instr.Mret (committing self.old steps)) ≡ turn_ended self.new steps result }
         ensures kept { IsKept self.old self.new }
     {
         let next = self.csrs.mret();
@@ -244,11 +243,11 @@ impl Parts {
     }
 
     // A serialising instruction retires, and everything younger is fetched anew.
-    fn serialise(&mut self, entry: &Entry, written: Option<(Reg, u32)>, next: u32) -> HeadTurn
+    fn serialise(&mut self, entry: &Entry, written: Option<(Reg, u32)>, next: u32) -> Option<Step>
         requires head { IsHead self.old entry.now }
         requires room { self.old.rob.retired < 8 * self.old.cycle + 8 }
         ensures hardware { self.new ≡ flushed (record self.old { pc = next; registers = registers_with written self.old.registers; rob = head_retired self.old.rob }) }
-        ensures step { result ≡ HeadTurn.Ends (row_of entry.now written self.old.cycle) }
+        ensures step { result ≡ Some (row_of entry.now written self.old.cycle) }
     {
         let step = row_of(entry, written, self.cycle);
         write(&mut self.registers, &written);
@@ -262,22 +261,22 @@ impl Parts {
             &mut self.stores,
         );
         self.front.redirect(next);
-        HeadTurn::Ends(step)
+        Some(step)
     }
 
     // FENCE.I waits for the retired stores and the port, and retires in the cycle in which nothing is left to write back.
-    fn fence_instructions(&mut self, entry: &Entry) -> HeadTurn
+    fn fence_instructions(&mut self, entry: &Entry) -> Option<Step>
         requires head { IsHead self.old entry.now }
         requires fence { entry.now.instruction ≡ Some instr.FenceI }
         requires room { self.old.rob.retired < 8 * self.old.cycle + 8 }
-        ensures turn { (steps : List Step) → PhaseEnds (fence_instructions entry.now (committing self.old steps)) ≡ turn_left self.new steps result }
+        ensures turn { (steps : List Step) → PhaseEnds (fence_instructions entry.now (committing self.old steps)) ≡ turn_ended self.new steps result }
         ensures kept { IsKept self.old self.new }
     {
         if !self.stores.is_empty() || !self.is_port_idle() {
-            return HeadTurn::Waits;
+            return None;
         }
         if self.write_back() > 0 {
-            return HeadTurn::Waits;
+            return None;
         }
         self.stale.clear();
         let next = self.pc.wrapping_add(4);
@@ -296,42 +295,76 @@ impl Parts {
     }
 
     // An instruction whose result is known traps by its fault, if it has one, or retires.
-    fn finish_head(&mut self, entry: &Entry) -> HeadTurn
-        requires head { IsHead self.old entry.now }
-        requires room { self.old.rob.retired < 8 * self.old.cycle + 8 }
-        ensures turn { (steps : List Step) → finish_broadcast entry.now (broadcast_of entry.now.stage) (committing self.old steps) ≡ turn_left self.new steps result }
+    fn finish_head(&mut self, predictor: &mut dyn Predictor, steps: &mut Vec<Step>) -> HeadTurn
+        requires retired { self.old.rob.retired < 8 * self.old.cycle + 8 }
+        requires room { vec_len steps.old < vec_capacity steps.old }
+        requires fresh { (e : EntryOf) → IsHead self.old e → set.contains self.old.stale (word_of e.pc) ≡ false }
+        requires plain { (e : EntryOf) → IsHead self.old e → is_serialising e.instruction ≡ false }
+        ensures turn { IsTurn self.old self.new steps.old.items steps.new.items (known predictor.old) (known predictor.new) result }
         ensures kept { IsKept self.old self.new }
+        ensures capacity { vec_capacity steps.new ≡ vec_capacity steps.old }
     {
+        let Some(head) = self.rob.head() else {
+            return HeadTurn::Ends(None);
+        };
+        let entry = *head;
         let Some(message) = message_of(&entry.stage) else {
-            return HeadTurn::Waits;
+            return HeadTurn::Ends(None);
         };
         if let Some(fault) = message.fault {
-            return self.trap(entry.pc, fault);
+            let step = self.trap(entry.pc, fault);
+            return tell(predictor, steps, &step, self.pc);
         }
-        self.retire(entry, &message);
-        let written = written_by(target_of(&entry.instruction), message.value);
-        let step = row_of(entry, written, self.cycle);
+        let target = target_of(&entry.instruction);
+        append(
+            steps,
+            row_of(&entry, written_by(target, message.value), self.cycle),
+        );
+        predictor.learn(entry.pc, entry.word.unwrap_or(0), message.next_pc);
+        self.retire(&entry, &message, &target);
         if message.next_pc == entry.predicted_next {
-            return HeadTurn::GoesOn(step);
+            return HeadTurn::GoesOn;
         }
         self.flush();
-        HeadTurn::Ends(step)
+        HeadTurn::Ends(None)
     }
 
     // The head retires with its result.
-    fn retire(&mut self, entry: &Entry, message: &Message)
+    fn retire(&mut self, entry: &Entry, message: &Message, target: &Option<Reg>)
         requires head { IsHead self.old entry.now }
         requires known { broadcast_of entry.now.stage ≡ Some message.now }
         requires sound { message.now.fault ≡ None }
+        requires target { target.now ≡ target_of_word entry.now.instruction }
+        requires in_range { IfSome target.now (λ register. (register ≢ 0) × (register < 32)) }
         requires room { self.old.rob.retired < 8 * self.old.cycle + 8 }
         ensures { self.new ≡ with_result entry.now message.now self.old }
     {
-        let target = target_of(&entry.instruction);
-        write_target(&mut self.registers, &target, message.value);
+        write_target(&mut self.registers, target, message.value);
         commit_store(&mut self.stores, &mut self.stale, &message.store);
-        retire_oldest(&mut self.rob, &mut self.rename, &target);
+        retire_oldest(&mut self.rob, &mut self.rename, target);
         self.pc = message.next_pc;
     }
+}
+
+// Appends the step that ends the phase, if there is one, and teaches the predictor where the program goes on after it.
+fn tell(
+    predictor: &mut dyn Predictor,
+    steps: &mut Vec<Step>,
+    step: &Option<Step>,
+    next: u32,
+) -> HeadTurn
+    requires { vec_len steps.old < vec_capacity steps.old }
+    ensures end { result ≡ HeadTurn.Ends (stop_after step.now) }
+    ensures items { steps.new.items ≡ and_step steps.old.items step.now }
+    ensures taught { AreTaught (known predictor.old) (lessons_left step.now next) (known predictor.new) }
+    ensures capacity { vec_capacity steps.new ≡ vec_capacity steps.old }
+{
+    let Some(step) = *step else {
+        return HeadTurn::Ends(None);
+    };
+    teach(predictor, &step, next);
+    append(steps, step);
+    HeadTurn::Ends(stop_with(&step))
 }
 
 // The write of a value to an instruction's target, if it has one.

@@ -82,16 +82,18 @@ impl Parts {
         let Some(fetched) = self.front.peek() else {
             return Some(Stall::Fetch);
         };
-        if let Some(stall) = self.reason_to_wait(fetched) {
+        let kind = kind_of(&fetched.instruction);
+        if let Some(stall) = self.reason_to_wait(fetched, kind) {
             return Some(stall);
         }
         let fetched = self.front.take();
-        self.enter(&fetched);
+        self.enter(&fetched, kind);
         None
     }
 
     // The first of the reasons for which an instruction waits.
-    fn reason_to_wait(&self, fetched: &Fetched) -> Option<Stall>
+    fn reason_to_wait(&self, fetched: &Fetched, kind: Option<Kind>) -> Option<Stall>
+        requires kind { kind ≡ kind_of_word fetched.now.instruction }
         ensures { result ≡ reason_of self.now fetched.now }
     {
         if is_serial(&self.rob) {
@@ -100,7 +102,7 @@ impl Parts {
         if self.rob.is_full() {
             return Some(Stall::Rob);
         }
-        if are_full_for(&self.stations, kind_of(&fetched.instruction)) {
+        if are_full_for(&self.stations, kind) {
             return Some(Stall::Station);
         }
         if waits_for_queue(&self.stores, &fetched.instruction) {
@@ -110,19 +112,21 @@ impl Parts {
     }
 
     // Enters an instruction into the structures that it needs, the reorder buffer last.
-    fn enter(&mut self, fetched: &Fetched)
+    fn enter(&mut self, fetched: &Fetched, kind: Option<Kind>)
+        requires kind { kind ≡ kind_of_word fetched.now.instruction }
         requires waits_not { reason_of self.old fetched.now ≡ None }
         requires decoded { fetched.now.instruction ≡ option_and_then instruction_of fetched.now.word }
         ensures { self.new ≡ record self.old { rob = pushed (entry_of_fetched self.old fetched.now) self.old.rob } }
     {
         let seq = self.rob.next_number();
-        let entry = entering(fetched, self.cycle);
+        let entry = entering(fetched, kind, self.cycle);
         station(
             &mut self.stations,
             &self.rename,
             &self.rob,
             &self.registers,
             fetched,
+            kind,
             seq,
         );
         enter_store(&mut self.stores, &fetched.instruction, seq);
@@ -170,7 +174,8 @@ fn waits_for_queue(stores: &StoreQueue, instruction: &Option<Instr>) -> bool
     is_store(instruction) && stores.is_full()
 }
 
-fn entering(fetched: &Fetched, cycle: u64) -> Entry
+fn entering(fetched: &Fetched, kind: Option<Kind>, cycle: u64) -> Entry
+    requires { kind ≡ kind_of_word fetched.now.instruction }
     ensures { (h : Hardware) → h.cycle ≡ cycle → result ≡ entry_of_fetched h fetched.now }
 {
     Entry {
@@ -180,15 +185,16 @@ fn entering(fetched: &Fetched, cycle: u64) -> Entry
         predicted_next: fetched.predicted,
         fetched: fetched.cycle,
         dispatched: cycle,
-        stage: entering_stage(fetched, cycle),
+        stage: entering_stage(fetched, kind, cycle),
     }
 }
 
 // An instruction with a unit waits in a station, a serialising one to be the oldest; any other is finished at once.
-fn entering_stage(fetched: &Fetched, cycle: u64) -> Stage
+fn entering_stage(fetched: &Fetched, kind: Option<Kind>, cycle: u64) -> Stage
+    requires { kind ≡ kind_of_word fetched.now.instruction }
     ensures { (h : Hardware) → h.cycle ≡ cycle → result ≡ first_stage h fetched.now }
 {
-    if kind_of(&fetched.instruction).is_some() {
+    if kind.is_some() {
         return Stage::Waiting;
     }
     if is_serialising(&fetched.instruction) {
@@ -208,8 +214,10 @@ fn station(
     rob: &Rob,
     registers: &[u32; 32],
     fetched: &Fetched,
+    kind: Option<Kind>,
     seq: u64,
 )
+    requires kind { kind ≡ kind_of_word fetched.now.instruction }
     requires producers { rename.now.producers ≡ producers_of rob.now.retired rob.now.entries }
     requires numbers { next_number rob.now ≤ 2 ^ 44 }
     requires room { are_full_for (kind_of_word fetched.now.instruction) stations.old ≡ false }
@@ -219,7 +227,7 @@ fn station(
     let Some(instruction) = fetched.instruction else {
         return;
     };
-    let Some(kind) = kind(&instruction) else {
+    let Some(kind) = kind else {
         return;
     };
     let [first, second] = sources(&instruction);

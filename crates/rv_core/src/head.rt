@@ -6,20 +6,17 @@ ghost use Rattle.rv_hardware.specs.Retirement.{execution_of, row_of};
 ghost use Rattle.rv_core.specs.HeadTurn.{role_of};
 
 use crate::dispatch::is_serialising;
+use rv_arch::Stop;
 use rv_hardware::{Execution, Row, Step};
 use rv_isa::{Cause, CsrAddress, CsrOp, CsrSource, Fault, Instr, Message, Reg};
 use rv_rob::{Entry, Stage};
 
-/// What a turn of the commit phase did.
+/// What a turn of the commit phase came to.
 pub(crate) enum HeadTurn {
-    /// No step: the phase ends.
-    Waits,
-    /// A step, after which the phase goes on.
-    GoesOn(Step),
-    /// A step that ends the phase.
-    Ends(Step),
-    /// The head is stale, which stops the run.
-    Stale(u32),
+    /// The phase goes on.
+    GoesOn,
+    /// The phase ends, and the run for the reason told, if there is one.
+    Ends(Option<Stop>),
 }
 
 /// What a head does when its turn comes.

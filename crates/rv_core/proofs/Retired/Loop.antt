@@ -1,5 +1,5 @@
 -- What the turns of the commit phase have taken, with what is still to come, is the definition's commit phase.
-use Rattle.rv_core.proofs.Words.{◌≡◌, ℕ, ◌+◌, ◌<◌, ◌≤◌, List, [], ◌∷◌, ◌++◌, length, Some, None, Option, sym, refl, ap, ◌∙◌, append_assoc, append-nil, arith, length-append, due, Committing, commit, commit_turn, commit_unless, Hardware, Ends, repeated, Step, IsKept, committing, turn_left, HeadTurn}
+use Rattle.rv_core.proofs.Words.{◌≡◌, ℕ, ◌+◌, ◌<◌, ◌≤◌, List, [], ◌∷◌, ◌++◌, length, Some, None, Option, sym, refl, ap, ◌∙◌, append_assoc, append-nil, arith, length-append, due, Committing, commit, commit_turn, commit_unless, Hardware, Ends, repeated, Step, IsKept, and_step, committing, turn_left, HeadTurn}
 use Rattle.std.specs.FinSet as set
 use Rattle.rv_core.proofs.Phases.Turned.{turned-ends, turned-goes}
 use Rattle.rv_core.specs.declared.head.HeadTurn.TheVariants.{GoesOn}
@@ -37,35 +37,41 @@ none_committed h old width is undisturbed = record {
 
 -- a turn that ends the phase
 pub committed_whole : (start h : Hardware) (old new : List Step) (done left : ℕ) (before : AreCommitted start h old new done left)
-    (turn : HeadTurn) (next : Hardware) (last : Committing) → 0 < left →
-    ((steps : List Step) → commit_turn set.contains (committing h steps) ≡ turn_left next steps turn) →
-    turn_left next before.steps turn ≡ Ends last →
+    (told : Option Step) (turn : HeadTurn) (next : Hardware) (last : Committing) → 0 < left →
+    ((steps : List Step) → commit_turn set.contains (committing h steps) ≡ turn_left next steps told turn) →
+    turn_left next before.steps told turn ≡ Ends last →
     last ≡ commit set.contains start
-committed_whole start h old new done left before turn next last some is ends =
+committed_whole start h old new done left before told turn next last some is ends =
     turned-ends (commit_turn set.contains) (commit set.contains start) left (committing h before.steps) last some before.to_come
     (is before.steps ∙ ends)
 
 -- the steps with those that were there before
-pub steps_with : (old before new : List Step) (so_far : List Step) (step : Step) → before ≡ old ++ so_far →
-    new ≡ before ++ step ∷ [] →
-    new ≡ old ++ (so_far ++ step ∷ [])
-steps_with old before new so_far step appended more =
+pub steps_with : (old before new : List Step) (so_far : List Step) (told : Option Step) → before ≡ old ++ so_far →
+    new ≡ and_step before told →
+    new ≡ old ++ and_step so_far told
+steps_with old before new so_far None appended more = more ∙ appended
+steps_with old before new so_far (Some step) appended more =
     more ∙ ap (λ l. l ++ step ∷ []) appended ∙ append_assoc old so_far (step ∷ [])
+
+-- a turn takes one step at most
+pub few_with : (steps : List Step) (told : Option Step) (done : ℕ) → length steps ≤ done → length (and_step steps told) ≤ done + 1
+few_with steps None done few = omega (arith, few)
+few_with steps (Some step) done few = omega (arith, length-append steps (step ∷ []), few)
 
 -- a turn after which the phase goes on
 unfoldable pub committed_more : (start h : Hardware) (old new more : List Step) (done left rest : ℕ)
     (before : AreCommitted start h old new done left)
-    (turn : HeadTurn) (next : Hardware) (step : Step) → left ≡ rest + 1 →
-    ((steps : List Step) → commit_turn set.contains (committing h steps) ≡ turn_left next steps turn) → turn ≡ GoesOn step →
-    IsKept h next → more ≡ new ++ step ∷ [] → AreCommitted start next old more (done + 1) rest
-committed_more start h old new more done left rest before turn next step another is goes kept appends = record {
-  steps = before.steps ++ step ∷ [];
-  appended = steps_with old new more before.steps step before.appended appends;
-  few = omega (arith, length-append before.steps (step ∷ []), before.few);
+    (told : Option Step) (turn : HeadTurn) (next : Hardware) → left ≡ rest + 1 →
+    ((steps : List Step) → commit_turn set.contains (committing h steps) ≡ turn_left next steps told turn) → turn ≡ GoesOn →
+    IsKept h next → more ≡ and_step new told → AreCommitted start next old more (done + 1) rest
+committed_more start h old new more done left rest before told turn next another is goes kept appends = record {
+  steps = and_step before.steps told;
+  appended = steps_with old new more before.steps told before.appended appends;
+  few = few_with before.steps told done before.few;
   to_come =
       turned-goes (commit_turn set.contains) (commit set.contains start) left rest (committing h before.steps)
-      (committing next (before.steps ++ step ∷ []))
-      another before.to_come (is before.steps ∙ ap (turn_left next before.steps) goes);
+      (committing next (and_step before.steps told))
+      another before.to_come (is before.steps ∙ ap (turn_left next before.steps told) goes);
   values = kept.values ∙ before.values;
   cycle = kept.cycle ∙ before.cycle;
   retired = omega (arith, kept.retired, before.retired);

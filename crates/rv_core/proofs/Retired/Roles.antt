@@ -1,6 +1,10 @@
 -- The turn that a head has by its role is the definition's.
-use Rattle.rv_core.proofs.Words.{◌≡◌, false, List, [], ◌∷◌, slice_get, Some, None, Option, nat_cmp, sym, refl, ap, ◌∙◌, is_serialising, Instr, Csr, FenceI, Mret, word_of, Entry, Committing, commit_turn, commit_turn_of, execute_head, finish_broadcast, head_turn, Hardware, broadcast_of, Ends, Step, IsHead, committing, instruction_of_access, role_of, CsrAccess as Access, WaitsForResult}
+use Rattle.rv_core.proofs.Words.{◌≡◌, false, true, Stale, Message, stop_after, turn_ended, turn_left, flushed, with_result, eq-eqb, ne_eqb, ◌≢◌, row_of, List, [], ◌∷◌, slice_get, Some, None, Option, nat_cmp, sym, refl, ap, ◌∙◌, is_serialising, Instr, Csr, FenceI, Mret, word_of, Entry, Committing, commit_turn, commit_turn_of, execute_head, finish_broadcast, head_turn, Hardware, broadcast_of, Ends, Step, IsHead, committing, instruction_of_access, role_of, CsrAccess as Access, WaitsForResult}
 use Rattle.std.specs.FinSet as set
+use Rattle.rv_isa.specs.declared.causes.Fault.{Fault}
+use Rattle.rv_hardware.specs.Commit.{finish_head, with_fault}
+use Rattle.rv_hardware.specs.Retirement.{written_of}
+use Rattle.rv_core.specs.declared.head.HeadTurn.TheVariants as head
 use Rattle.rv_core.specs.declared.head.Role.TheVariants.{CsrAccess}
 
 first_of : (entries : List Entry) (e : Entry) → slice_get entries 0 ≡ Some e → (younger : List Entry) × (entries ≡ e ∷ younger)
@@ -25,21 +29,73 @@ heads_agree h a b first second =
     let same : a ∷ first.0 ≡ b ∷ second.0 = sym first.1 ∙ second.1 in
     cc
 
--- where a result is waited for that is not known, the phase ends
-pub turn_unknown : (e : Entry) (instruction : Option Instr) (c : Committing) → is_serialising instruction ≡ false →
-    broadcast_of e.stage ≡ None → head_turn e instruction c ≡ Ends c
-turn_unknown e (Some FenceI) c is none = absurd (cc)
-turn_unknown e (Some (Csr op rd csr source)) c is none = absurd (cc)
-turn_unknown e (Some Mret) c is none = absurd (cc)
-turn_unknown e _ c is none = ap (λ m. finish_broadcast e m c) none
+-- where nothing is in flight, the phase ends
+none_left : (entries : List Entry) (c : Committing) → slice_get entries 0 ≡ None → commit_turn_of set.contains entries c ≡ Ends c
+none_left [] c is = refl
+none_left (x ∷ xs) c is = absurd (cc)
 
--- a head that needs its result finishes by it, where it is known
-pub turn_waits : (e : Entry) (instruction : Option Instr) (c : Committing) → role_of instruction ≡ WaitsForResult →
+pub turn_of_none : (h : Hardware) (steps : List Step) → slice_get h.rob.entries 0 ≡ None →
+    commit_turn set.contains (committing h steps) ≡ Ends (committing h steps)
+turn_of_none h steps is = none_left h.rob.entries (committing h steps) is
+
+-- where the head is stale, the run stops
+pub turn_of_stale : (h : Hardware) (e : Entry) (steps : List Step) → IsHead h e →
+    set.contains {R = nat_cmp} h.stale (word_of e.pc) ≡ true →
+    commit_turn set.contains (committing h steps)
+    ≡ Ends (record { hardware = h; steps = steps; stop = Some (Stale e.pc) })
+turn_of_stale h e steps head stale =
+    ap (λ l. commit_turn_of set.contains l (committing h steps)) head.1
+    ∙ rw stale refl
+
+-- a head that does not serialise finishes by its result
+pub turn_plain : (e : Entry) (instruction : Option Instr) (c : Committing) → is_serialising instruction ≡ false →
     head_turn e instruction c ≡ finish_broadcast e (broadcast_of e.stage) c
-turn_waits e (Some FenceI) c is = absurd (cc)
-turn_waits e (Some (Csr op rd csr source)) c is = absurd (cc)
-turn_waits e (Some Mret) c is = absurd (cc)
-turn_waits e _ c is = refl
+turn_plain e (Some FenceI) c is = absurd (cc)
+turn_plain e (Some (Csr op rd csr source)) c is = absurd (cc)
+turn_plain e (Some Mret) c is = absurd (cc)
+turn_plain e _ c is = refl
+
+-- a fresh head that does not serialise finishes by its result
+pub turn_finishes : (h : Hardware) (e : Entry) (steps : List Step) (result : Option Message) → IsHead h e →
+    set.contains {R = nat_cmp} h.stale (word_of e.pc) ≡ false → is_serialising e.instruction ≡ false →
+    broadcast_of e.stage ≡ result →
+    commit_turn set.contains (committing h steps) ≡ finish_broadcast e result (committing h steps)
+turn_finishes h e steps result head fresh plain known =
+    turn_of_head h e steps head fresh ∙ turn_plain e e.instruction (committing h steps) plain
+    ∙ ap (λ o. finish_broadcast e o (committing h steps)) known
+
+-- a result with a fault is a trap
+pub traps_by : (e : Entry) (m : Message) (fault : Fault) (c : Committing) → m.fault ≡ Some fault →
+    finish_broadcast e (Some m) c ≡ Ends (with_fault e fault.cause fault.value c)
+traps_by e m fault c is = ap (λ f. finish_head e m f c) is
+
+-- a result without one retires: the phase goes on where the program goes on as predicted, else everything is flushed
+pub retires_on : (e : Entry) (m : Message) (h : Hardware) (steps : List Step) → m.fault ≡ None →
+    m.next_pc ≡ e.predicted_next →
+    finish_broadcast e (Some m) (committing h steps)
+    ≡ turn_left (with_result e m h) steps (Some (row_of e (written_of e m) h.cycle)) head.GoesOn
+retires_on e m h steps none foreseen = ap (λ f. finish_head e m f (committing h steps)) none
+    ∙ rw (eq-eqb m.next_pc e.predicted_next foreseen) refl
+
+pub retires_last : (e : Entry) (m : Message) (h : Hardware) (steps : List Step) → m.fault ≡ None →
+    m.next_pc ≢ e.predicted_next →
+    finish_broadcast e (Some m) (committing h steps)
+    ≡ turn_left (flushed (with_result e m h)) steps (Some (row_of e (written_of e m) h.cycle)) (head.Ends None)
+retires_last e m h steps none elsewhere = ap (λ f. finish_head e m f (committing h steps)) none
+    ∙ rw (ne_eqb m.next_pc e.predicted_next elsewhere) refl
+
+-- a turn that ends the phase, as any turn
+pub ended_as : (h : Hardware) (steps : List Step) (told : Option Step) →
+    turn_ended h steps told ≡ turn_left h steps told (head.Ends (stop_after told))
+ended_as h steps None = refl
+ended_as h steps (Some step) = refl
+
+-- a serialising head waits for no result
+pub waits_not : (instruction : Option Instr) → role_of instruction ≡ WaitsForResult → is_serialising instruction ≡ true → ⊥
+waits_not (Some FenceI) is serial = absurd (cc)
+waits_not (Some (Csr op rd csr source)) is serial = absurd (cc)
+waits_not (Some Mret) is serial = absurd (cc)
+waits_not _ is serial = absurd (cc)
 
 -- a head that accesses a CSR executes, which ends the phase
 pub turn_accesses : (e : Entry) (instruction : Option Instr) (access : Access) (c : Committing) →

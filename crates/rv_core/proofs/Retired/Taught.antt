@@ -1,10 +1,11 @@
 -- What the commit phase teaches the predictor, turn by turn, is what its steps' lessons teach.
-use Rattle.rv_core.proofs.Words.{◌≡◌, ℕ, List, [], ◌∷◌, ◌++◌, None, Option, sym, refl, ap, ◌∙◌, subst, append_assoc, append-nil, Lines, due, State, Committing, commit_turn, commit_with, execute, with_lines, Hardware, Ends, GoesOn, Turn, Reachable, seen, pc_of, Leads as LeavesEither, fold, Lesson, AreTaught, after_lesson, DescribedPredictor, first_pc, lesson_of, lessons_of, Step, committing, turn_left, IsBegun, HeadTurn}
+use Rattle.rv_core.proofs.Words.{◌≡◌, ℕ, List, [], ◌∷◌, ◌++◌, None, Option, sym, refl, ap, ◌∙◌, subst, append_assoc, append-nil, Lines, due, State, Committing, commit_turn, commit_with, execute, with_lines, Hardware, GoesOn, Turn, Reachable, seen, pc_of, Leads as LeavesEither, fold, Lesson, AreTaught, after_lesson, DescribedPredictor, first_pc, lesson_of, lessons_of, Step, and_step, committing, lessons_left, turn_left, IsBegun, HeadTurn, Some}
 use Rattle.std.specs.FinSet as set
 use Rattle.rv_hardware.proofs.Headline.Commit.{IsDone, IsGoing, begins_going, commit_done, turn_done}
 use Rattle.rv_hardware.proofs.Headline.Cycle.{always_sound, execute_kept, lines_sound}
 use Rattle.rv_hardware.proofs.Headline.Invariant.{IsSound}
 use Rattle.rv_hardware.proofs.Headline.Turn.{GoesFrom, turn_goes_from}
+use Rattle.rv_arch.specs.declared.outcome.Stop.{Stop}
 use Rattle.rv_core.specs.declared.head.HeadTurn.TheVariants as head
 
 first_of_more : (steps : List Step) (s : Step) (next : ℕ) → first_pc (steps ++ s ∷ []) next ≡ first_pc steps (pc_of s)
@@ -57,44 +58,54 @@ pub teaching_begins : (h : Hardware) (now : Option DescribedPredictor) → IsBeg
     AreTeaching h h [] now now
 teaching_begins h now begun calm = record { going = begins_going h (sound_begun h begun) calm; taught = none_taught now }
 
+-- a lesson with the pc that the program went on at
+pub learns_at : (old new : Option DescribedPredictor) (told : Option Step) (pc next : ℕ) → pc ≡ next →
+    AreTaught old (lessons_left told pc) new → AreTaught old (lessons_left told next) new
+learns_at old new told pc next is learned = subst (λ n. AreTaught old (lessons_left told n) new) is learned
+
+-- the lesson of a turn after those before it
+taught_on : (old now new : Option DescribedPredictor) (c d : Committing) (told : Option Step) → GoesFrom c d →
+    d.steps ≡ and_step c.steps told → AreTaught old (lessons_of c.steps c.hardware.pc) now →
+    AreTaught now (lessons_left told d.hardware.pc) new → AreTaught old (lessons_of (and_step c.steps told) d.hardware.pc) new
+taught_on old now new c d None goes same so_far more =
+    subst (λ p. AreTaught old (lessons_of c.steps d.hardware.pc) p) (sym more)
+    (subst (λ pc. AreTaught old (lessons_of c.steps pc) now) (sym (goes.stays same)) so_far)
+taught_on old now new c d (Some s) goes same so_far more =
+    taught_more old now new c.steps s c.hardware.pc d.hardware.pc so_far (goes.begins s same) more
+
 module _ (start h : Hardware) (steps : List Step) (old now : Option DescribedPredictor)
     (so_far : AreTeaching start h steps old now)
-    (turn : HeadTurn) (next : Hardware) (is : commit_turn set.contains (committing h steps) ≡ turn_left next steps turn) where
+    (told : Option Step) (turn : HeadTurn) (next : Hardware)
+    (is : commit_turn set.contains (committing h steps) ≡ turn_left next steps told turn) where
   abbrev Left : Turn Committing → Type 0
   Left = LeavesEither (GoesFrom (committing h steps)) (GoesFrom (committing h steps))
 
-  left : Left (turn_left next steps turn)
+  left : Left (turn_left next steps told turn)
   left = subst Left is (turn_goes_from (committing h steps) so_far.going.sound)
 
   -- a turn after which the phase goes on
-  pub teaching_goes : (s : Step) (new : Option DescribedPredictor) → turn ≡ head.GoesOn s → (pc : ℕ) → pc ≡ next.pc →
-      AreTaught now (lesson_of s pc) new → AreTeaching start next (steps ++ s ∷ []) old new
-  teaching_goes s new goes pc is_pc more =
-      let goes_on : turn_left next steps turn ≡ GoesOn (committing next (steps ++ s ∷ [])) = ap (turn_left next steps) goes in
+  pub teaching_goes : (new : Option DescribedPredictor) → turn ≡ head.GoesOn →
+      AreTaught now (lessons_left told next.pc) new → AreTeaching start next (and_step steps told) old new
+  teaching_goes new goes more =
+      let goes_on : turn_left next steps told turn ≡ GoesOn (committing next (and_step steps told)) =
+      ap (turn_left next steps told) goes in
       let Going = IsGoing start.lines (seen start) start in
       let Done = IsDone start.lines (seen start) start in
       record {
         going = subst (LeavesEither Going Done) (is ∙ goes_on)
             (turn_done start.lines (seen start) start (committing h steps) h.rob.entries refl so_far.going);
-        taught = taught_more old now new steps s h.pc next.pc so_far.taught ((subst Left goes_on left).begins s refl)
-            (subst (λ n. AreTaught now (lesson_of s n) new) is_pc more);
+        taught = taught_on old now new (committing h steps) (committing next (and_step steps told)) told
+            (subst Left goes_on left) refl so_far.taught more;
       }
 
-  -- a turn whose step ends it
-  pub taught_at_end : (s : Step) (new : Option DescribedPredictor) → turn ≡ head.Ends s → (pc : ℕ) → pc ≡ next.pc →
-      AreTaught now (lesson_of s pc) new → (all : List Step) → steps ++ s ∷ [] ≡ all → AreTaught old (lessons_of all next.pc) new
-  taught_at_end s new ends pc is_pc more all is_all =
+  -- a turn that ends the phase
+  pub taught_at_end : (why : Option Stop) (new : Option DescribedPredictor) → turn ≡ head.Ends why →
+      AreTaught now (lessons_left told next.pc) new → (all : List Step) → and_step steps told ≡ all →
+      AreTaught old (lessons_of all next.pc) new
+  taught_at_end why new ends more all is_all =
       subst (λ l. AreTaught old (lessons_of l next.pc) new) is_all
-      (taught_more old now new steps s h.pc next.pc so_far.taught
-      ((subst Left (ap (turn_left next steps) ends) left).begins s refl)
-      (subst (λ n. AreTaught now (lesson_of s n) new) is_pc more))
-
-  -- a turn without a step, which ends the phase
-  pub taught_whole : (last : Committing) → turn_left next steps turn ≡ Ends last → last.steps ≡ steps → (all : List Step) →
-      steps ≡ all → AreTaught old (lessons_of all last.hardware.pc) now
-  taught_whole last ends same all is_all =
-      subst (λ pc. AreTaught old (lessons_of all pc) now) (sym ((subst Left ends left).stays same))
-      (taught_all start h steps old now so_far all is_all)
+      (taught_on old now new (committing h steps) (record { hardware = next; steps = and_step steps told; stop = why }) told
+      (subst Left (ap (turn_left next steps told) ends) left) refl so_far.taught more)
 
 -- ---- the whole cycle
 -- the phases after commit leave the committed pc

@@ -1,9 +1,9 @@
-use Rattle.rv_core.proofs.Words.{◌≡◌, ◌+◌, ◌-◌, [], ◌∷◌, ◌++◌, Some, sym, refl, ap, ◌∙◌, subst, arith, Committing, commit, commit_unless, Hardware, Stale, AreTaught, lessons_of, Step, committing, stop_with, turn_left}
+use Rattle.rv_core.proofs.Words.{◌≡◌, ◌+◌, ◌-◌, [], ◌∷◌, ◌++◌, Some, sym, refl, ap, ◌∙◌, subst, arith, Committing, commit, commit_unless, Hardware, AreTaught, lessons_of, Step, and_step, turn_left}
 use Rattle.std.specs.FinSet as set
 use Rattle.rv_core.proofs.Retired.Loop.{none_committed, committed_all, committed_whole, committed_more, interrupted, steps_with}
-use Rattle.rv_core.proofs.Retired.Taught.{none_taught, taught_all, taught_at_end, taught_whole, teaching_begins, teaching_goes}
+use Rattle.rv_core.proofs.Retired.Taught.{none_taught, taught_all, taught_at_end, teaching_begins, teaching_goes}
 use Rattle.rv_core.proofs.parts.Parts.commit.Goals as goal
-use Rattle.rv_core.proofs.parts.Parts.commit.Goals.{In-Some, In-Waits, In-Stale, In-Ends}
+use Rattle.rv_core.proofs.parts.Parts.commit.Goals.{In-Some, In-Ends}
 use Rattle.rv_core.proofs.parts.Parts.commit.Given.{Over}
 
 pub loop-init : goal.loop-init
@@ -40,58 +40,17 @@ returns-in-Some-clause-taught g c =
     (ap (λ (x : Committing). x.steps) (taken g (goal.at.returns-in-Some-clause-taught g c).In-Some)) (none_taught learned)
 
 -- a turn that ends the phase leaves what the definition leaves
-waits : (g : Over) (c : In-Waits g) →
-    committing c.commit_head.new.self c.loop.invariant.0.steps ≡ commit set.contains c.args.self.now
-waits g c =
-    committed_whole c.args.self.now c.loop.self c.args.steps.now.items c.loop.steps.items c.loop.counter
-    (c.self.inside.values.commit_width - c.loop.counter) c.loop.invariant.0
-    c.commit_head.result c.commit_head.new.self _ (omega (arith, c.loop-test.true)) c.commit_head.ensures.turn
-    (ap (turn_left c.commit_head.new.self c.loop.invariant.0.steps) c.in-Waits.is)
-
-stale : (g : Over) (c : In-Stale g) →
-    record { hardware = c.commit_head.new.self; steps = c.loop.invariant.0.steps; stop = Some (Stale c.in-Stale.pc) }
-    ≡ commit set.contains c.args.self.now
-stale g c =
-    committed_whole c.args.self.now c.loop.self c.args.steps.now.items c.loop.steps.items c.loop.counter
-    (c.self.inside.values.commit_width - c.loop.counter) c.loop.invariant.0
-    c.commit_head.result c.commit_head.new.self _ (omega (arith, c.loop-test.true)) c.commit_head.ensures.turn
-    (ap (turn_left c.commit_head.new.self c.loop.invariant.0.steps) c.in-Stale.is)
-
 ends : (g : Over) (c : In-Ends g) →
     record {
       hardware = c.commit_head.new.self;
-      steps = c.loop.invariant.0.steps ++ c.in-Ends.step ∷ [];
-      stop = stop_with c.in-Ends.step;
+      steps = and_step c.loop.invariant.0.steps c.commit_head.ensures.turn.told;
+      stop = c.in-Ends.stop;
     } ≡ commit set.contains c.args.self.now
 ends g c =
     committed_whole c.args.self.now c.loop.self c.args.steps.now.items c.loop.steps.items c.loop.counter
-    (c.self.inside.values.commit_width - c.loop.counter) c.loop.invariant.0
-    c.commit_head.result c.commit_head.new.self _ (omega (arith, c.loop-test.true)) c.commit_head.ensures.turn
-    (ap (turn_left c.commit_head.new.self c.loop.invariant.0.steps) c.in-Ends.is)
-
-pub returns-in-Waits-clause-hardware : goal.returns-in-Waits-clause-hardware
-returns-in-Waits-clause-hardware g c =
-    ap (λ (x : Committing). x.hardware) (waits g (goal.at.returns-in-Waits-clause-hardware g c).In-Waits)
-
-pub returns-in-Waits-clause-steps : goal.returns-in-Waits-clause-steps
-returns-in-Waits-clause-steps g c =
-    c.loop.invariant.0.appended
-    ∙ ap (λ (x : Committing). c.args.steps.now.items ++ x.steps) (waits g (goal.at.returns-in-Waits-clause-steps g c).In-Waits)
-
-pub returns-in-Waits-clause-stop : goal.returns-in-Waits-clause-stop
-returns-in-Waits-clause-stop g c = ap (λ (x : Committing). x.stop) (waits g (goal.at.returns-in-Waits-clause-stop g c).In-Waits)
-
-pub returns-in-Stale-clause-hardware : goal.returns-in-Stale-clause-hardware
-returns-in-Stale-clause-hardware g c =
-    ap (λ (x : Committing). x.hardware) (stale g (goal.at.returns-in-Stale-clause-hardware g c).In-Stale)
-
-pub returns-in-Stale-clause-steps : goal.returns-in-Stale-clause-steps
-returns-in-Stale-clause-steps g c =
-    c.loop.invariant.0.appended
-    ∙ ap (λ (x : Committing). c.args.steps.now.items ++ x.steps) (stale g (goal.at.returns-in-Stale-clause-steps g c).In-Stale)
-
-pub returns-in-Stale-clause-stop : goal.returns-in-Stale-clause-stop
-returns-in-Stale-clause-stop g c = ap (λ (x : Committing). x.stop) (stale g (goal.at.returns-in-Stale-clause-stop g c).In-Stale)
+    (c.self.inside.values.commit_width - c.loop.counter) c.loop.invariant.0 c.commit_head.ensures.turn.told
+    c.commit_head.result c.commit_head.new.self _ (omega (arith, c.loop-test.true)) c.commit_head.ensures.turn.left
+    (ap (turn_left c.commit_head.new.self c.loop.invariant.0.steps c.commit_head.ensures.turn.told) c.in-Ends.is)
 
 pub returns-in-Ends-clause-hardware : goal.returns-in-Ends-clause-hardware
 returns-in-Ends-clause-hardware g c =
@@ -99,38 +58,20 @@ returns-in-Ends-clause-hardware g c =
 
 pub returns-in-Ends-clause-steps : goal.returns-in-Ends-clause-steps
 returns-in-Ends-clause-steps g c =
-    steps_with c.args.steps.now.items c.loop.steps.items c.append-in-Ends.new.items.items c.loop.invariant.0.steps c.in-Ends.step
-    c.loop.invariant.0.appended c.append-in-Ends.ensures.items
+    steps_with c.args.steps.now.items c.loop.steps.items c.commit_head.new.steps.items c.loop.invariant.0.steps
+    c.commit_head.ensures.turn.told c.loop.invariant.0.appended c.commit_head.ensures.turn.appended
     ∙ ap (λ (x : Committing). c.args.steps.now.items ++ x.steps) (ends g (goal.at.returns-in-Ends-clause-steps g c).In-Ends)
 
 pub returns-in-Ends-clause-stop : goal.returns-in-Ends-clause-stop
 returns-in-Ends-clause-stop g c =
-    c.stop_with.ensures ∙ ap (λ (x : Committing). x.stop) (ends g (goal.at.returns-in-Ends-clause-stop g c).In-Ends)
-
-pub returns-in-Waits-clause-taught : goal.returns-in-Waits-clause-taught
-returns-in-Waits-clause-taught g c =
-    taught_whole c.args.self.now c.loop.self c.loop.invariant.0.steps _ _ c.loop.invariant.2 c.commit_head.result
-    c.commit_head.new.self (c.commit_head.ensures.turn c.loop.invariant.0.steps)
-    (committing c.commit_head.new.self c.loop.invariant.0.steps)
-    (ap (turn_left c.commit_head.new.self c.loop.invariant.0.steps) c.in-Waits.is) refl
-    (commit set.contains c.args.self.now).steps (ap (λ (x : Committing). x.steps) (waits g c))
-
-pub returns-in-Stale-clause-taught : goal.returns-in-Stale-clause-taught
-returns-in-Stale-clause-taught g c =
-    taught_whole c.args.self.now c.loop.self c.loop.invariant.0.steps _ _ c.loop.invariant.2 c.commit_head.result
-    c.commit_head.new.self (c.commit_head.ensures.turn c.loop.invariant.0.steps)
-    (record { hardware = c.commit_head.new.self; steps = c.loop.invariant.0.steps; stop = Some (Stale c.in-Stale.pc) })
-    (ap (turn_left c.commit_head.new.self c.loop.invariant.0.steps) c.in-Stale.is) refl
-    (commit set.contains c.args.self.now).steps (ap (λ (x : Committing). x.steps) (stale g c))
+    ap (λ (x : Committing). x.stop) (ends g (goal.at.returns-in-Ends-clause-stop g c).In-Ends)
 
 pub returns-in-Ends-clause-taught : goal.returns-in-Ends-clause-taught
 returns-in-Ends-clause-taught g c =
-    taught_at_end c.args.self.now c.loop.self c.loop.invariant.0.steps _ _ c.loop.invariant.2 c.commit_head.result
-    c.commit_head.new.self (c.commit_head.ensures.turn c.loop.invariant.0.steps)
-    c.in-Ends.step ((goal.Predictor-dyn g
-    (c.loop.predictor.now.0, c.teach.new.predictor)).known c.teach.new.predictor) c.in-Ends.is c.self-in-loop.inside.pc
-    (ap (λ (h : Hardware). h.pc) c.self-in-loop.view_is) c.teach.ensures
-    (commit set.contains c.args.self.now).steps
+    taught_at_end c.args.self.now c.loop.self c.loop.invariant.0.steps _ _ c.loop.invariant.2
+    c.commit_head.ensures.turn.told c.commit_head.result
+    c.commit_head.new.self (c.commit_head.ensures.turn.left c.loop.invariant.0.steps) c.in-Ends.stop _ c.in-Ends.is
+    c.commit_head.ensures.turn.learns (commit set.contains c.args.self.now).steps
     (ap (λ (x : Committing). x.steps) (ends g (goal.at.returns-in-Ends-clause-taught g c).In-Ends))
 
 pub returns-clause-taught : goal.returns-clause-taught
@@ -143,19 +84,16 @@ returns-clause-taught g c =
 pub loop-preserved : goal.loop-preserved
 unfolding committed_more
 loop-preserved g c = (
-  committed_more c.args.self.now c.loop.self c.args.steps.now.items c.loop.steps.items c.append-in-GoesOn.new.items.items
+  committed_more c.args.self.now c.loop.self c.args.steps.now.items c.loop.steps.items c.commit_head.new.steps.items
       c.loop.counter
       (c.self.inside.values.commit_width - c.loop.counter)
-      (c.self.inside.values.commit_width - (c.loop.counter + 1)) c.loop.invariant.0
-      c.commit_head.result c.commit_head.new.self c.in-GoesOn.step
-      (omega (arith, c.loop-test.true)) c.commit_head.ensures.turn c.in-GoesOn.is
-      c.commit_head.ensures.kept c.append-in-GoesOn.ensures.items,
-  c.append-in-GoesOn.ensures.capacity ∙ c.loop.invariant.1,
-  teaching_goes c.args.self.now c.loop.self c.loop.invariant.0.steps _ _ c.loop.invariant.2 c.commit_head.result
-      c.commit_head.new.self (c.commit_head.ensures.turn c.loop.invariant.0.steps)
-      c.in-GoesOn.step ((goal.Predictor-dyn g (
-        c.loop.predictor.now.0,
-        c.teach-in-GoesOn.new.predictor,
-      )).known c.teach-in-GoesOn.new.predictor) c.in-GoesOn.is c.self-in-loop.inside.pc
-      (ap (λ (h : Hardware). h.pc) c.self-in-loop.view_is) c.teach-in-GoesOn.ensures,
+      (c.self.inside.values.commit_width - (c.loop.counter + 1)) c.loop.invariant.0 c.commit_head.ensures.turn.told
+      c.commit_head.result c.commit_head.new.self
+      (omega (arith, c.loop-test.true)) c.commit_head.ensures.turn.left c.in-GoesOn.is
+      c.commit_head.ensures.kept c.commit_head.ensures.turn.appended,
+  c.commit_head.ensures.capacity ∙ c.loop.invariant.1,
+  teaching_goes c.args.self.now c.loop.self c.loop.invariant.0.steps _ _ c.loop.invariant.2
+      c.commit_head.ensures.turn.told c.commit_head.result
+      c.commit_head.new.self (c.commit_head.ensures.turn.left c.loop.invariant.0.steps) _ c.in-GoesOn.is
+      c.commit_head.ensures.turn.learns,
 )

@@ -1,26 +1,78 @@
-use Rattle.rv_core.proofs.Words.{◌≡◌, false, slice_get, sym, ap, ◌∙◌, subst, word_of, Entry, Hardware, IsHead, committing}
+use Rattle.rv_core.proofs.Words.{◌≡◌, true, false, None, slice_get, sym, refl, ap, ◌∙◌, subst, word_of, is_serialising, Entry, Hardware, IsHead, turn_left}
 use Rattle.std.specs.FinSet as set
-use Rattle.rv_core.proofs.Retired.Roles.{first_is_head, heads_agree, turn_of_head, turn_unknown}
+use Rattle.rv_core.proofs.Retired.Roles.{ended_as, first_is_head, heads_agree, turn_finishes, turn_of_stale}
+use Rattle.rv_core.proofs.Retired.Taught.{learns_at}
 use Rattle.rv_core.proofs.parts.Parts.commit_head.Goals as goal
 use Rattle.rv_core.proofs.parts.Parts.commit_head.Goals.{In-Some}
+use Rattle.rv_core.proofs.parts.Parts.commit_head.Given.{Over}
 
-head : (c : In-Some) → IsHead c.args.self.now c.in-Some.head.now
-head c =
+head : (g : Over) (c : In-Some g) → IsHead c.args.self.now c.in-Some.head.now
+head g c =
     first_is_head c.args.self.now c.in-Some.head.now
     (ap (λ (h : Hardware). slice_get h.rob.entries 0) (sym c.self.view_is) ∙ sym c.in-Some.ensures)
 
-pub take_head-requires-clause-fresh : goal.take_head-requires-clause-fresh
-take_head-requires-clause-fresh c e at =
+pub serial_head-step-requires-clause-fresh : goal.serial_head-step-requires-clause-fresh
+serial_head-step-requires-clause-fresh g c e at =
     let fresh = ap (λ (h : Hardware). set.contains h.stale (word_of c.in-Some.head.now.pc)) (sym c.self.view_is)
     ∙ sym c.is_stale.ensures.stale ∙ c.if-is_stale.false in
-    let same = heads_agree c.args.self.now c.in-Some.head.now e (head (goal.at.take_head-requires-clause-fresh c).In-Some) at in
+    let same = heads_agree c.args.self.now c.in-Some.head.now e
+    (head g (goal.at.serial_head-step-requires-clause-fresh g c).In-Some) at in
     subst (λ (x : Entry). set.contains c.args.self.now.stale (word_of x.pc) ≡ false) same fresh
 
-pub returns-then-waits_for_result-clause-turn : goal.returns-then-waits_for_result-clause-turn
-returns-then-waits_for_result-clause-turn c steps =
+pub serial_head-step-requires-clause-serial : goal.serial_head-step-requires-clause-serial
+serial_head-step-requires-clause-serial g c e at =
+    let same = heads_agree c.args.self.now c.in-Some.head.now e
+    (head g (goal.at.serial_head-step-requires-clause-serial g c).In-Some) at in
+    subst (λ (x : Entry). is_serialising x.instruction ≡ true) same (sym c.is_serialising.ensures ∙ c.if-is_serialising.true)
+
+pub finish_head-requires-clause-fresh : goal.finish_head-requires-clause-fresh
+finish_head-requires-clause-fresh g c e at =
     let fresh = ap (λ (h : Hardware). set.contains h.stale (word_of c.in-Some.head.now.pc)) (sym c.self.view_is)
     ∙ sym c.is_stale.ensures.stale ∙ c.if-is_stale.false in
-    turn_of_head c.args.self.now c.in-Some.head.now steps
-    (head (goal.at.returns-then-waits_for_result-clause-turn c).In-Some) fresh
-    ∙ turn_unknown c.in-Some.head.now c.in-Some.head.now.instruction (committing c.args.self.now steps)
-    (c.waits_for_result.ensures.role c.if-waits_for_result.true) (c.waits_for_result.ensures.unknown c.if-waits_for_result.true)
+    let same = heads_agree c.args.self.now c.in-Some.head.now e
+    (head g (goal.at.finish_head-requires-clause-fresh g c).In-Some) at in
+    subst (λ (x : Entry). set.contains c.args.self.now.stale (word_of x.pc) ≡ false) same fresh
+
+pub finish_head-requires-clause-plain : goal.finish_head-requires-clause-plain
+finish_head-requires-clause-plain g c e at =
+    let same = heads_agree c.args.self.now c.in-Some.head.now e
+    (head g (goal.at.finish_head-requires-clause-plain g c).In-Some) at in
+    subst (λ (x : Entry). is_serialising x.instruction ≡ false) same (sym c.is_serialising.ensures ∙ c.if-is_serialising.false)
+
+pub returns-then-is_stale-clause-turn : goal.returns-then-is_stale-clause-turn
+returns-then-is_stale-clause-turn g c =
+    let at = head g (goal.at.returns-then-is_stale-clause-turn g c).In-Some in
+    let stale = ap (λ (h : Hardware). set.contains h.stale (word_of c.in-Some.head.now.pc)) (sym c.self.view_is)
+    ∙ sym c.is_stale.ensures.stale ∙ c.if-is_stale.true in
+    record {
+      told = None;
+      left = λ steps. turn_of_stale c.args.self.now c.in-Some.head.now steps at stale;
+      appended = refl;
+      learns = refl;
+    }
+
+pub returns-then-waits_for_result-clause-turn : goal.returns-then-waits_for_result-clause-turn
+returns-then-waits_for_result-clause-turn g c =
+    let at = head g (goal.at.returns-then-waits_for_result-clause-turn g c).In-Some in
+    let fresh = ap (λ (h : Hardware). set.contains h.stale (word_of c.in-Some.head.now.pc)) (sym c.self.view_is)
+    ∙ sym c.is_stale.ensures.stale ∙ c.if-is_stale.false in
+    record {
+      told = None;
+      left = λ steps. turn_finishes c.args.self.now c.in-Some.head.now steps None at fresh
+          (c.waits_for_result.ensures.role c.if-waits_for_result.true) (c.waits_for_result.ensures.unknown c.if-waits_for_result.true);
+      appended = refl;
+      learns = refl;
+    }
+
+pub returns-then-is_serialising-clause-turn : goal.returns-then-is_serialising-clause-turn
+returns-then-is_serialising-clause-turn g c =
+    let told = c.serial_head-step.result in
+    record {
+      told = told;
+      left = λ steps.
+          c.serial_head-step.ensures.turn steps
+          ∙ ended_as c.serial_head-step.new.self steps told
+          ∙ ap (turn_left c.serial_head-step.new.self steps told) (sym c.tell.ensures.end);
+      appended = c.tell.ensures.items;
+      learns = learns_at _ _ told _ _ (ap (λ (x : Hardware). x.pc) c.self-then-is_serialising.view_is) c.tell.ensures.taught;
+    }

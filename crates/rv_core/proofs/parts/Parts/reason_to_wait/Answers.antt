@@ -8,7 +8,7 @@ station : (c : After-are_full_for) →
 station c =
     let o = kind_of_word c.args.fetched.now.instruction in
     sym (full-is (hardware_of c.self.inside) o) ∙ ap (are_full_for o) (sym c.self.invariant.tied.stationed)
-    ∙ ap (λ k. are_full_for k c.self.inside.stations) (sym c.kind_of.ensures)
+    ∙ ap (λ k. are_full_for k c.self.inside.stations) (sym c.requires.kind)
     ∙ sym c.are_full_for.ensures
 
 queue : (c : After-waits_for_queue) →

@@ -37,8 +37,8 @@ next c = with_result c.args.entry.now c.args.message.now (hardware_of c.self.ins
 target : (c : goal.After-self-1) → IsTarget c.self.inside.registers (target_of_word c.args.entry.now.instruction)
 target c =
     subst (λ (o : Option ℕ). IfSome o
-    (λ register. (register ≢ 0) × (register < length c.self.inside.registers))) c.target_of-target.ensures.target
-    (rw c.self.told c.target_of-target.ensures.in_range)
+    (λ register. (register ≢ 0) × (register < length c.self.inside.registers))) c.requires.target
+    (rw c.self.told c.requires.in_range)
 
 write : (c : goal.After-self-1) →
     IsLegalWrite c.self.inside.values (is_store c.args.entry.now.instruction) None c.args.message.now.store
@@ -63,7 +63,7 @@ tied c =
     (target c) (write c) in
     record {
       renamed = c.retire_oldest.ensures.rename
-          ∙ ap (λ (o : Option ℕ). without_checkpoint seq (without_target seq o p.rename)) c.target_of-target.ensures.target
+          ∙ ap (λ (o : Option ℕ). without_checkpoint seq (without_target seq o p.rename)) c.requires.target
           ∙ behind.renamed;
       stationed = behind.stationed;
       pending = behind.pending;
@@ -76,7 +76,7 @@ same c =
     c.write_target.ensures
     ∙ ap (λ (o : Option ℕ). registers_with
     (option_map (λ (register : ℕ).
-    (register, c.args.message.now.value)) o) c.self.inside.registers) c.target_of-target.ensures.target
+    (register, c.args.message.now.value)) o) c.self.inside.registers) c.requires.target
     ∙ target_written c.self.inside.registers (target_of_word c.args.entry.now.instruction) c.args.message.now (target c) in
     λ i. record (next c) {
       registers = registers i;

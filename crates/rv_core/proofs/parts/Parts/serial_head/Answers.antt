@@ -1,8 +1,8 @@
 use Rattle.rv_core.proofs.Words.{◌≡◌, List, slice_get, sym, ap, ◌∙◌, commit_turn, head_turn, Hardware, Step, IsHead, committing}
 use Rattle.std.specs.FinSet as set
-use Rattle.rv_core.proofs.Retired.Roles.{first_is_head, turn_of_head, turn_waits, turn_accesses}
-use Rattle.rv_core.proofs.parts.Parts.take_head.Goals as goal
-use Rattle.rv_core.proofs.parts.Parts.take_head.Goals.{After-role_of, In-Some}
+use Rattle.rv_core.proofs.Retired.Roles.{first_is_head, turn_of_head, turn_accesses, waits_not}
+use Rattle.rv_core.proofs.parts.Parts.serial_head.Goals as goal
+use Rattle.rv_core.proofs.parts.Parts.serial_head.Goals.{After-role_of, In-Some}
 
 head : (c : In-Some) → IsHead c.args.self.now c.in-Some.head.now
 head c =
@@ -17,9 +17,6 @@ access_csr-requires-clause-head c = head (goal.at.access_csr-requires-clause-hea
 
 pub return_from_trap-requires-clause-head : goal.return_from_trap-requires-clause-head
 return_from_trap-requires-clause-head c = head (goal.at.return_from_trap-requires-clause-head c).In-Some
-
-pub finish_head-requires-clause-head : goal.finish_head-requires-clause-head
-finish_head-requires-clause-head c = head (goal.at.finish_head-requires-clause-head c).In-Some
 
 -- a fresh head has its turn
 turn : (c : After-role_of) (at : IsHead c.args.self.now c.in-Some.head.now) (steps : List Step) →
@@ -38,7 +35,5 @@ returns-in-CsrAccess-clause-turn c steps =
 pub returns-in-WaitsForResult-clause-turn : goal.returns-in-WaitsForResult-clause-turn
 returns-in-WaitsForResult-clause-turn c steps =
     let at = goal.at.returns-in-WaitsForResult-clause-turn c in
-    turn at.After-role_of (head at.In-Some) steps
-    ∙ turn_waits c.in-Some.head.now c.in-Some.head.now.instruction (committing c.args.self.now steps)
-    (sym c.role_of.ensures ∙ c.in-WaitsForResult.is)
-    ∙ c.finish_head.ensures.turn steps
+    absurd (waits_not c.in-Some.head.now.instruction (sym c.role_of.ensures ∙ c.in-WaitsForResult.is)
+    (c.requires.serial c.in-Some.head.now (head at.In-Some)))

@@ -1,0 +1,100 @@
+use Rattle.rv_core.proofs.Words.{◌≡◌, ◌∷◌, [], ◌++◌, ℕ, Some, None, slice_get, option_map, sym, refl, ap, ◌∙◌, Hardware, IsHead, committing, row_of, flushed, turn_ended, turn_left}
+use Rattle.rv_hardware.specs.Retirement.{written_of}
+use Rattle.rv_core.specs.declared.head.HeadTurn.TheVariants as turn
+use Rattle.rv_core.proofs.Retired.Roles.{ended_as, first_is_head, retires_last, retires_on, traps_by, turn_finishes}
+use Rattle.rv_core.proofs.Retired.Taught.{learns_at}
+use Rattle.rv_core.proofs.parts.Parts.finish_head.Goals as goal
+use Rattle.rv_core.proofs.parts.Parts.finish_head.Goals.{After-append, In-Some}
+use Rattle.rv_core.proofs.parts.Parts.finish_head.Given.{Over}
+
+head : (g : Over) (c : In-Some g) → IsHead c.args.self.now c.in-Some.head.now
+head g c =
+    first_is_head c.args.self.now c.in-Some.head.now
+    (ap (λ (h : Hardware). slice_get h.rob.entries 0) (sym c.self.view_is) ∙ sym c.in-Some.ensures)
+
+pub retire-requires-clause-head : goal.retire-requires-clause-head
+retire-requires-clause-head g c = head g (goal.at.retire-requires-clause-head g c).In-Some
+
+pub returns-in_default-message_of-clause-turn : goal.returns-in_default-message_of-clause-turn
+returns-in_default-message_of-clause-turn g c =
+    let e = c.in-Some.head.now in
+    let at = head g (goal.at.returns-in_default-message_of-clause-turn g c).In-Some in
+    record {
+      told = None;
+      left = λ steps. turn_finishes c.args.self.now e steps None at (c.requires.fresh e at) (c.requires.plain e at)
+          (sym c.message_of.ensures ∙ c.in_default-message_of.is);
+      appended = refl;
+      learns = refl;
+    }
+
+pub returns-in-Some-fault-clause-turn : goal.returns-in-Some-fault-clause-turn
+returns-in-Some-fault-clause-turn g c =
+    let h = c.args.self.now in
+    let e = c.in-Some.head.now in
+    let m = c.in-Some-message_of.message in
+    let told = c.trap-step.result in
+    let at = head g (goal.at.returns-in-Some-fault-clause-turn g c).In-Some in
+    record {
+      told = told;
+      left = λ steps.
+          turn_finishes h e steps (Some m) at (c.requires.fresh e at) (c.requires.plain e at)
+          (sym c.message_of.ensures ∙ c.in-Some-message_of.is)
+          ∙ traps_by e m c.in-Some-fault.fault (committing h steps) c.in-Some-fault.is
+          ∙ sym (λ i. turn_ended (c.trap-step.ensures.hardware i) steps (c.trap-step.ensures.step i))
+          ∙ ended_as c.trap-step.new.self steps told
+          ∙ ap (turn_left c.trap-step.new.self steps told) (sym c.tell.ensures.end);
+      appended = c.tell.ensures.items;
+      learns = learns_at _ _ told _ _ (ap (λ (x : Hardware). x.pc) c.self-in-Some-fault.view_is) c.tell.ensures.taught;
+    }
+
+-- the step that is appended
+row : (g : Over) (c : After-append g) →
+    c.row_of.result ≡ row_of c.in-Some.head.now (written_of c.in-Some.head.now c.in-Some-message_of.message) c.args.self.now.cycle
+row g c =
+    let e = c.in-Some.head.now in
+    let m = c.in-Some-message_of.message in
+    c.row_of.ensures
+    ∙ ap (λ w. row_of e w c.self.inside.cycle)
+    (c.written_by.ensures ∙ ap (option_map (λ (register : ℕ). (register, m.value))) c.target_of-target.ensures.target)
+    ∙ ap (λ (x : Hardware). row_of e (written_of e m) x.cycle) c.self.view_is
+
+pub returns-then-message-entry-clause-turn : goal.returns-then-message-entry-clause-turn
+returns-then-message-entry-clause-turn g c =
+    let h = c.args.self.now in
+    let e = c.in-Some.head.now in
+    let m = c.in-Some-message_of.message in
+    let told = Some (row_of e (written_of e m) h.cycle) in
+    let at = goal.at.returns-then-message-entry-clause-turn g c in
+    let is_head = head g at.In-Some in
+    record {
+      told = told;
+      left = λ steps.
+          turn_finishes h e steps (Some m) is_head (c.requires.fresh e is_head) (c.requires.plain e is_head)
+          (sym c.message_of.ensures ∙ c.in-Some-message_of.is)
+          ∙ retires_on e m h steps c.in_default-fault.is c.if-message-entry.true
+          ∙ sym (ap (λ x. turn_left x steps told turn.GoesOn) c.retire.ensures);
+      appended = c.append.ensures.items ∙ ap (λ s. c.args.steps.now.items ++ s ∷ []) (row g at.After-append);
+      learns = learns_at _ _ told _ _ (sym (ap (λ (x : Hardware). x.pc) c.retire.ensures))
+          (rw (← c.unwrap_or.ensures) c.learn.ensures);
+    }
+
+pub returns-clause-turn : goal.returns-clause-turn
+returns-clause-turn g c =
+    let h = c.args.self.now in
+    let e = c.in-Some.head.now in
+    let m = c.in-Some-message_of.message in
+    let told = Some (row_of e (written_of e m) h.cycle) in
+    let at = goal.at.returns-clause-turn g c in
+    let is_head = head g at.In-Some in
+    let flushed_is = c.flush.ensures ∙ ap flushed c.retire.ensures in
+    record {
+      told = told;
+      left = λ steps.
+          turn_finishes h e steps (Some m) is_head (c.requires.fresh e is_head) (c.requires.plain e is_head)
+          (sym c.message_of.ensures ∙ c.in-Some-message_of.is)
+          ∙ retires_last e m h steps c.in_default-fault.is c.if-message-entry.false
+          ∙ sym (ap (λ x. turn_left x steps told (turn.Ends None)) flushed_is);
+      appended = c.append.ensures.items ∙ ap (λ s. c.args.steps.now.items ++ s ∷ []) (row g at.After-append);
+      learns = learns_at _ _ told _ _ (sym (ap (λ (x : Hardware). x.pc) flushed_is))
+          (rw (← c.unwrap_or.ensures) c.learn.ensures);
+    }
