@@ -1,5 +1,6 @@
 -- A cycle by what a predictor answers is one by any of the predictions that there may be.
-use Rattle.std.proofs.Common.{◌≡◌, ℕ, zero, suc, ◌-◌, Bool, true, false, List, [], ◌∷◌, ◌++◌, length, Option, Some, None, MatchBool, MatchOption}
+use Rattle.std.proofs.Common.{arith}
+use Rattle.std.proofs.Common.{◌≡◌, ℕ, zero, suc, ◌-◌, Bool, List, [], ◌∷◌, ◌++◌, length, Option, MatchBool, MatchOption}
 use Rattle.rv_isa.specs.declared.{lines.Arrival.Arrival, lines.Lines.Lines}
 use Rattle.rv_memory.specs.Memory.{Memory}
 use Rattle.rv_front.specs.FetchBuffer.{Answers, FetchBuffer, Fetches, FetchesInto, IsFetchedAt, IsGuess, is_halted, stop_behind}
@@ -14,26 +15,13 @@ use Rattle.rv_hardware.specs.Run.{Cycles, ended, cycled}
 
 module _ (answers : Answers) (ram : Memory) (cycle : ℕ) where
   any-guess : (pc : ℕ) (word : Option ℕ) (next : ℕ) → IsGuess answers pc word next → IsGuess any_prediction pc word next
-  any-guess pc None next is = is
-  any-guess pc (Some word) next is = tt
+  any-guess pc word next is = grind arith
 
   any-at : (pc : ℕ) (e : Fetched) → IsFetchedAt answers ram cycle pc e → IsFetchedAt any_prediction ram cycle pc e
-  any-at pc e at = record {
-    pc_is = at.pc_is;
-    word_is = at.word_is;
-    instruction_is = at.instruction_is;
-    predicted_is = record {
-      guess = at.predicted_is.guess;
-      guessed = any-guess pc e.word at.predicted_is.guess at.predicted_is.guessed;
-      fits = at.predicted_is.fits;
-      rounded = at.predicted_is.rounded;
-    };
-    cycle_is = at.cycle_is;
-  }
+  any-at pc e given = grind (arith, any-guess)
 
   where_none : (A B : Type 0) (C : FetchStop → Type 0) (o : Option FetchStop) → (A → B) → MatchOption o A C → MatchOption o B C
-  where_none A B C None change here = change here
-  where_none A B C (Some stop) change here = here
+  where_none A B C o change here = grind arith
 
   any-fetches : (width room pc : ℕ) (es : List Fetched) (next : ℕ) (stop : FetchStop) → Fetches answers ram cycle width room pc es next stop → Fetches any_prediction ram cycle width room pc es next stop
   any-fetches zero zero pc [] next stop is = is
@@ -49,9 +37,7 @@ module _ (answers : Answers) (ram : Memory) (cycle : ℕ) where
   any-into_at : (halted : Bool) (old new : FetchBuffer) (stop : FetchStop)
       → MatchBool halted ((new ≡ old) × (stop ≡ Halted)) ((added : List Fetched) × Fetches answers ram cycle old.width (old.capacity - length old.entries) old.next_pc added new.next_pc stop × (new ≡ record old { entries = old.entries ++ added; next_pc = new.next_pc; halted = is_halted stop }))
       → MatchBool halted ((new ≡ old) × (stop ≡ Halted)) ((added : List Fetched) × Fetches any_prediction ram cycle old.width (old.capacity - length old.entries) old.next_pc added new.next_pc stop × (new ≡ record old { entries = old.entries ++ added; next_pc = new.next_pc; halted = is_halted stop }))
-  any-into_at true old new stop is = is
-  any-into_at false old new stop (added, fetches, news) =
-      (added, any-fetches old.width (old.capacity - length old.entries) old.next_pc added new.next_pc stop fetches, news)
+  any-into_at halted old new stop is = grind (arith, any-fetches)
 
   any-into : (old new : FetchBuffer) (stop : FetchStop) → FetchesInto answers ram cycle old new stop → FetchesInto any_prediction ram cycle old new stop
   any-into old new stop is = any-into_at old.halted old new stop is

@@ -1,10 +1,9 @@
 -- What a described predictor guides is determined: from the same hardware and predictor, two runs are the same run.
 use Rattle.std.proofs.Common.{◌≡◌, ◌∙◌, ℕ, zero, suc, ◌+◌, ◌-◌, ◌^◌, ◌≤◌, Bool, true, false, List, [], ◌∷◌, ◌++◌, length, Option, Some, None, MatchBool, MatchOption, is_some, refl, sym, ap, subst, arith, length-append}
-use Rattle.std.specs.Prelude.{◌*◌, ◌/◌, option_and_then, unwrap_or}
+use Rattle.std.specs.Prelude.{unwrap_or}
 use Rattle.std.specs.List.{fold}
 use Rattle.std.proofs.lemmas.Bool.{true≢false}
 use Rattle.rv_isa.specs.declared.{lines.Arrival.Arrival, lines.Lines.Lines}
-use Rattle.rv_decode.specs.Decodes.{instruction_of}
 use Rattle.rv_memory.specs.Memory.{Memory}
 use Rattle.rv_arch.specs.declared.outcome.Stop.{Stop}
 use Rattle.rv_arch.specs.declared.outcome.Stop.TheVariants as stop
@@ -26,27 +25,14 @@ use Rattle.rv_hardware.specs.Run.{IsStop, NoneStops}
 -- ---- the fetch phase
 
 ends_for_one : (width room : ℕ) (why why' : FetchStop) → EndsFor width room why → EndsFor width room why' → why ≡ why'
-ends_for_one zero room why why' is is' = is ∙ sym is'
-ends_for_one (suc width) zero why why' is is' = is ∙ sym is'
-ends_for_one (suc width) (suc room) why why' is is' = absurd is
+ends_for_one width room why why' is is' = grind arith
 
 module _ (predictor : DescribedPredictor) (ram : Memory) (cycle : ℕ) where
   guessed_once : (pc : ℕ) (word : Option ℕ) (next next' : ℕ) → IsGuess (answers_of (Some predictor)) pc word next → IsGuess (answers_of (Some predictor)) pc word next' → next ≡ next'
-  guessed_once pc None next next' is is' = is ∙ sym is'
-  guessed_once pc (Some word) next next' is is' = is ∙ sym is'
+  guessed_once pc word next next' is is' = grind arith
 
   fetched_once : (pc : ℕ) (e e' : Fetched) → IsFetchedAt (answers_of (Some predictor)) ram cycle pc e → IsFetchedAt (answers_of (Some predictor)) ram cycle pc e' → e ≡ e'
-  fetched_once pc e e' at at' =
-      let words : e.word ≡ e'.word = at.word_is ∙ sym at'.word_is in
-      let guesses : at.predicted_is.guess ≡ at'.predicted_is.guess =
-      guessed_once pc e'.word at.predicted_is.guess at'.predicted_is.guess (subst (λ w. IsGuess (answers_of (Some predictor)) pc w at.predicted_is.guess) words at.predicted_is.guessed) at'.predicted_is.guessed in
-      λ i. record {
-        pc = (at.pc_is ∙ sym at'.pc_is) i;
-        word = words i;
-        instruction = (at.instruction_is ∙ ap (λ w. option_and_then instruction_of w) words ∙ sym at'.instruction_is) i;
-        predicted = (at.predicted_is.rounded ∙ ap (λ n. n / 4 * 4) guesses ∙ sym at'.predicted_is.rounded) i;
-        cycle = (at.cycle_is ∙ sym at'.cycle_is) i;
-      }
+  fetched_once pc e e' given at' = grind (arith, guessed_once)
 
   -- the same words, the same pc after them, and the same reason
   record AreSame (es es' : List Fetched) (next next' : ℕ) (why why' : FetchStop) : Type 0 where
@@ -61,9 +47,7 @@ module _ (predictor : DescribedPredictor) (ram : Memory) (cycle : ℕ) where
   rest_once : (width room : ℕ) (e : Fetched) (es es' : List Fetched) (next next' : ℕ) (why why' : FetchStop) (o : Option FetchStop)
       → (Fetches (answers_of (Some predictor)) ram cycle width room e.predicted es next why → Fetches (answers_of (Some predictor)) ram cycle width room e.predicted es' next' why' → AreSame es es' next next' why why')
       → Rest width room e es next why o → Rest width room e es' next' why' o → AreSame es es' next next' why why'
-  rest_once width room e es es' next next' why why' None further is is' = further is is'
-  rest_once width room e es es' next next' why why' (Some reason) further is is' =
-      record { words = is.0 ∙ sym is'.0; after = is.1 ∙ sym is'.1; reasons = is.2 ∙ sym is'.2 }
+  rest_once width room e es es' next next' why why' o further is is' = grind arith
 
   same_more : (e e' : Fetched) (es es' : List Fetched) (next next' : ℕ) (why why' : FetchStop) → e ≡ e' → AreSame es es' next next' why why' → AreSame (e ∷ es) (e' ∷ es') next next' why why'
   same_more e e' es es' next next' why why' first same = record { words = λ i. first i ∷ same.words i; after = same.after; reasons = same.reasons }
@@ -72,10 +56,8 @@ module _ (predictor : DescribedPredictor) (ram : Memory) (cycle : ℕ) where
       → Fetches (answers_of (Some predictor)) ram cycle width room pc es next why → Fetches (answers_of (Some predictor)) ram cycle width room pc es' next' why' → AreSame es es' next next' why why'
   fetches_once zero room pc [] [] next next' why why' is is' = record { words = refl; after = is.1 ∙ sym is'.1; reasons = ends_for_one zero room why why' is.0 is'.0 }
   fetches_once (suc width) zero pc [] [] next next' why why' is is' = record { words = refl; after = is.1 ∙ sym is'.1; reasons = ends_for_one (suc width) zero why why' is.0 is'.0 }
-  fetches_once (suc width) (suc room) pc [] [] next next' why why' is is' = absurd is.0
   fetches_once zero room pc [] (e' ∷ es') next next' why why' is is' = absurd is'
   fetches_once (suc width) zero pc [] (e' ∷ es') next next' why why' is is' = absurd is'
-  fetches_once (suc width) (suc room) pc [] (e' ∷ es') next next' why why' is is' = absurd is.0
   fetches_once zero room pc (e ∷ es) es' next next' why why' is is' = absurd is
   fetches_once (suc width) zero pc (e ∷ es) es' next next' why why' is is' = absurd is
   fetches_once (suc width) (suc room) pc (e ∷ es) [] next next' why why' is is' = absurd is'.0
@@ -84,15 +66,14 @@ module _ (predictor : DescribedPredictor) (ram : Memory) (cycle : ℕ) where
       same_more e e' es es' next next' why why' first
       (rest_once width room e es es' next next' why why' (stop_behind e) (fetches_once width room e.predicted es es' next next' why why') is.1
       (subst (λ f. Rest width room f es' next' why' (stop_behind f)) (sym first) is'.1))
+  fetches_once (suc width) (suc room) pc [] es' next next' why why' is is' = absurd is.0
 
   into_once : (halted : Bool) (old new new' : FetchBuffer) (why why' : FetchStop)
       → MatchBool halted ((new ≡ old) × (why ≡ Halted)) ((added : List Fetched) × Fetches (answers_of (Some predictor)) ram cycle old.width (old.capacity - length old.entries) old.next_pc added new.next_pc why × (new ≡ record old { entries = old.entries ++ added; next_pc = new.next_pc; halted = is_halted why }))
       → MatchBool halted ((new' ≡ old) × (why' ≡ Halted)) ((added : List Fetched) × Fetches (answers_of (Some predictor)) ram cycle old.width (old.capacity - length old.entries) old.next_pc added new'.next_pc why' × (new' ≡ record old { entries = old.entries ++ added; next_pc = new'.next_pc; halted = is_halted why' }))
       → new ≡ new'
   into_once true old new new' why why' is is' = is.0 ∙ sym is'.0
-  into_once false old new new' why why' (added, fetches, news) (added', fetches', news') =
-      let same = fetches_once old.width (old.capacity - length old.entries) old.next_pc added added' new.next_pc new'.next_pc why why' fetches fetches' in
-      news ∙ ap {A = FetchBuffer} (λ f. f) (λ i. record old { entries = old.entries ++ same.words i; next_pc = same.after i; halted = is_halted (same.reasons i) }) ∙ sym news'
+  into_once false old new new' why why' (added, fetches, news) (added', fetches', news') = grind (arith, fetches_once)
 
   fetch_once : (old new new' : FetchBuffer) (why why' : FetchStop) → FetchesInto (answers_of (Some predictor)) ram cycle old new why → FetchesInto (answers_of (Some predictor)) ram cycle old new' why' → new ≡ new'
   fetch_once old new new' why why' is is' = into_once old.halted old new new' why why' is is'
@@ -115,9 +96,7 @@ module _ {lines : Lines} {old new new' : GuidedHardware} {report report' : Repor
   reported_once = cycle.cycle.reports ∙ (λ i. report_of (committed i) (executed i)) ∙ sym cycle'.cycle.reports
 
   here : new.hardware.pc ≡ new'.hardware.pc
-  here =
-      ap (λ (h : Hardware). h.pc) cycle.cycle.others_stay ∙ ap (λ (d : Dispatching). d.hardware.pc) executed
-      ∙ sym (ap (λ (h : Hardware). h.pc) cycle'.cycle.others_stay)
+  here = grind arith
 
   taught_once : new.predictor ≡ new'.predictor
   taught_once = cycle.learns ∙ (λ i. fold after_lesson old.predictor (lessons_of (reported_once i).steps (here i))) ∙ sym cycle'.learns
@@ -131,10 +110,7 @@ module _ {lines : Lines} {old new new' : GuidedHardware} {report report' : Repor
         (subst (λ p. FetchesInto (answers_of p) cycle'.cycle.dispatching.hardware.cache.backing old.hardware.cycle cycle'.cycle.dispatching.hardware.front new'.hardware.front cycle'.cycle.fetch_stop) (sym taught_once ∙ is) cycle'.cycle.fetches)
 
     hardware_once : new.hardware ≡ new'.hardware
-    hardware_once =
-        cycle.cycle.others_stay
-        ∙ ap {A = Hardware} (λ h. h) (λ i. record (executed i).hardware { front = fetched_alike i; cycle = old.hardware.cycle + 1 })
-        ∙ sym cycle'.cycle.others_stay
+    hardware_once = grind (arith, fetched_alike)
 
     left_once : new ≡ new'
     left_once = λ i. record { hardware = hardware_once i; predictor = taught_once i }
@@ -217,5 +193,4 @@ one_run {arrivals} {new' = new'} {reports' = reports'} predictor is within (cycl
 pub run_once : (arrivals : List Arrival) (limit : ℕ) (old : Hardware) (predictor : DescribedPredictor) (reports reports' : List Report) (new new' : GuidedHardware) (reason reason' : Stop) → old.cycle + limit ≤ 2 ^ 40
     → GuidedCycles arrivals (record { hardware = old; predictor = Some predictor }) reports new → IsStop limit reports new.hardware reason
     → GuidedCycles arrivals (record { hardware = old; predictor = Some predictor }) reports' new' → IsStop limit reports' new'.hardware reason' → IsOneRun reports reports' new new' reason reason'
-run_once arrivals limit old predictor reports reports' new new' reason reason' within cycles stops cycles' stops' =
-    one_run predictor refl within cycles cycles' (ending_of limit reports new.hardware reason stops) (ending_of limit reports' new'.hardware reason' stops')
+run_once arrivals limit old predictor reports reports' new new' reason reason' within cycles stops cycles' stops' = grind (arith, one_run, ending_of)

@@ -1,5 +1,6 @@
 -- What holds of each element of a list holds of its parts, of two lists together, of images, and where one element changes.
-use Rattle.std.proofs.Common.{◌≡◌, Bool, true, false, cond, List, [], ◌∷◌, ◌++◌, map, All, filter, ap}
+use Rattle.std.proofs.Common.{arith}
+use Rattle.std.proofs.Common.{◌≡◌, Bool, cond, List, [], ◌∷◌, ◌++◌, map, All, filter, ap}
 use Rattle.std.proofs.lemmas.List.Elements.{All-cons, All-head, All-nil, All-tail}
 use Rattle.rv_cache.specs.WriteBack.{Each}
 
@@ -77,8 +78,7 @@ module _ {X : Type 0} (P : X → Type 0) where
   Each-unmap f (y ∷ ys) h = (h.0, Each-unmap f ys h.1)
 
   Each-pick : (b : Bool) (x : X) (xs : List X) → P x → Each P xs → Each P (cond b (x ∷ xs) xs)
-  Each-pick true x xs h g = (h, g)
-  Each-pick false x xs h g = g
+  Each-pick b x xs h g = grind arith
 
   -- of each element, and so of those that pass a test
   pub Each-filter : (p : X → Bool) (xs : List X) → Each P xs → Each P (filter p xs)

@@ -86,8 +86,7 @@ module _ {X : Type 0} (p : X → Bool) where
       suc_is n = omega arith
 
   cond-suc : (b : Bool) (n m : ℕ) → cond b (suc (n + m)) (n + m) ≡ cond b (suc n) n + m
-  cond-suc true n m = omega arith
-  cond-suc false n m = refl
+  cond-suc b n m = grind arith
 
   -- the count of two lists together is the sum of their counts
   pub count-append : (xs ys : List X) → count p (xs ++ ys) ≡ count p xs + count p ys
@@ -109,13 +108,7 @@ module _ {X : Type 0} (p : X → Bool) where
   count-map f (y ∷ ys) = rw (count-map f ys) refl
 
   cond-le : (b c : Bool) (n m : ℕ) → (b ≡ true → c ≡ true) → n ≤ m → cond b (suc n) n ≤ cond c (suc m) m
-  cond-le true true n m f le = omega arith
-  cond-le true false n m f le = absurd (cc_false (f refl))
-    where
-      cc_false : false ≡ true → ⊥
-      cc_false e = absurd (cc)
-  cond-le false true n m f le = omega arith
-  cond-le false false n m f le = le
+  cond-le b c n m f le = grind arith
 
   -- where each element that passes one test passes another, the other counts no fewer
   pub count-le : (q : X → Bool) (xs : List X) → Each (λ x. p x ≡ true → q x ≡ true) xs → count p xs ≤ count q xs
@@ -129,65 +122,38 @@ module _ {X : Type 0} (p : X → Bool) where
 
   -- another element at a place
   pub count-set-same : (xs ys : List X) (x y : X) → p x ≡ p y → count p (xs ++ x ∷ ys) ≡ count p (xs ++ y ∷ ys)
-  count-set-same xs ys x y same =
-      count-append xs (x ∷ ys) ∙ ap (λ b. count p xs + cond b (suc (count p ys)) (count p ys)) same ∙ sym (count-append xs (y ∷ ys))
+  count-set-same xs ys x y same = grind (arith, count-append)
 
   cond-bounds : (b : Bool) (n : ℕ) → (n ≤ cond b (suc n) n) × (cond b (suc n) n ≤ suc n)
-  cond-bounds true n = (omega arith, omega arith)
-  cond-bounds false n = (omega arith, omega arith)
+  cond-bounds b n = grind arith
 
   -- another element at a place counts one more at most
   pub count-set-more : (xs ys : List X) (x y : X) → count p (xs ++ y ∷ ys) ≤ suc (count p (xs ++ x ∷ ys))
-  count-set-more xs ys x y =
-      let old = count-append xs (x ∷ ys) in
-      let new = count-append xs (y ∷ ys) in
-      let low = cond-bounds (p x) (count p ys) in
-      let high = cond-bounds (p y) (count p ys) in
-      omega (arith, old, new, low.0, high.1)
+  count-set-more xs ys x y = grind (arith, count-append, cond-bounds)
 
   -- one that passes where the other did
   pub count-set-grows : (xs ys : List X) (x y : X) → (p x ≡ true → p y ≡ true) → count p (xs ++ x ∷ ys) ≤ count p (xs ++ y ∷ ys)
-  count-set-grows xs ys x y f =
-      let old = count-append xs (x ∷ ys) in
-      let new = count-append xs (y ∷ ys) in
-      let le = cond-le (p x) (p y) (count p ys) (count p ys) f (omega arith) in
-      omega (arith, old, new, le)
+  count-set-grows xs ys x y f = grind (arith, count-append, cond-le)
 
   -- one that passes where the other did not
   pub count-set-one_more : (xs ys : List X) (x y : X) → p x ≡ false → p y ≡ true → count p (xs ++ y ∷ ys) ≡ suc (count p (xs ++ x ∷ ys))
-  count-set-one_more xs ys x y no_more is =
-      let old = count-append xs (x ∷ ys) ∙ ap (λ b. count p xs + cond b (suc (count p ys)) (count p ys)) no_more in
-      let new = count-append xs (y ∷ ys) ∙ ap (λ b. count p xs + cond b (suc (count p ys)) (count p ys)) is in
-      omega (arith, old, new)
+  count-set-one_more xs ys x y no_more is = grind (arith, count-append)
 
   -- one that does not pass gives way
   pub count-set-less : (xs ys : List X) (x y : X) → p y ≡ false → count p (xs ++ y ∷ ys) ≤ count p (xs ++ x ∷ ys)
-  count-set-less xs ys x y no_more =
-      let old = count-append xs (x ∷ ys) in
-      let new = count-append xs (y ∷ ys) ∙ ap (λ b. count p xs + cond b (suc (count p ys)) (count p ys)) no_more in
-      let low = cond-bounds (p x) (count p ys) in
-      omega (arith, old, new, low.0)
+  count-set-less xs ys x y no_more = grind (arith, count-append, cond-bounds)
 
   -- one more element counts one more at most
   pub count-push : (xs : List X) (x : X) → count p (xs ++ x ∷ []) ≤ suc (count p xs)
-  count-push xs x =
-      let new = count-append xs (x ∷ []) in
-      let high = cond-bounds (p x) 0 in
-      omega (arith, new, high.1)
+  count-push xs x = grind (arith, count-append, cond-bounds)
 
   -- one more element that does not pass counts none
   pub count-push-no : (xs : List X) (x : X) → p x ≡ false → count p (xs ++ x ∷ []) ≡ count p xs
-  count-push-no xs x fails = count-append xs (x ∷ []) ∙ ap (λ b. count p xs + cond b 1 0) fails ∙ plus_none (count p xs)
-    where
-      plus_none : (n : ℕ) → n + 0 ≡ n
-      plus_none n = omega arith
+  count-push-no xs x fails = grind (arith, count-append)
 
   -- one more element between two lists counts one more at most
   pub count-push-most : (xs ys : List X) (x : X) → count p (xs ++ x ∷ ys) ≤ suc (count p xs + count p ys)
-  count-push-most xs ys x =
-      let all = count-append xs (x ∷ ys) in
-      let high = cond-bounds (p x) (count p ys) in
-      omega (arith, all, high.1)
+  count-push-most xs ys x = grind (arith, count-append, cond-bounds)
 
   -- no more pass of the first than of both together
   pub count-left : (xs ys : List X) → count p xs ≤ count p (xs ++ ys)
@@ -231,8 +197,7 @@ module _ {X : Type 0} where
   moved : (P Q : List X → X → Type 0) (pre pre' : List X) → ((mid : List X) (z : X) → P (pre ++ mid) z → Q (pre' ++ mid) z) → (acc ys : List X) →
       EveryBehind P (pre ++ acc) ys → EveryBehind Q (pre' ++ acc) ys
   moved P Q pre pre' f acc [] h = tt
-  moved P Q pre pre' f acc (y ∷ ys) h =
-      (f acc y h.0, rw (append_assoc pre' acc (y ∷ [])) (moved P Q pre pre' f (acc ++ y ∷ []) ys (rw (append_assoc pre acc (y ∷ [])) at h.1)))
+  moved P Q pre pre' f acc (y ∷ ys) h = grind (arith, append_assoc, moved P Q pre pre' f (acc ++ y ∷ []) ys (rw (append_assoc pre acc (y ∷ [])) at h.1))
 
   -- of a list behind another beginning
   pub EveryBehind-moved : (P Q : List X → X → Type 0) (pre pre' : List X) → ((mid : List X) (z : X) → P (pre ++ mid) z → Q (pre' ++ mid) z) → (ys : List X) → EveryBehind P pre ys → EveryBehind Q pre' ys

@@ -1,6 +1,5 @@
 -- The longest gap of a run is what the stamps of its steps give.
 use Rattle.rv_hardware.proofs.Words.{◌≡◌, ℕ, ◌+◌, ◌-◌, ◌<◌, ◌≤◌, max, cond, ◌⊎◌, List, [], ◌∷◌, ◌++◌, All, subst, inl, inr, ⊎_elim, arith, All-append, All-head, All-nil, All-weaker, Arrival, Layout, State, Hardware, Report, Cycles, Reachable, is_silent, longest_gap_from, longest_gap_of, steps_of, layout_of, stamp_of, Step, All-right}
-use Rattle.std.proofs.str.Laws.{order}
 use Rattle.rv_hardware.specs.LongestGap.{IsGap, IsLongestGap}
 use Rattle.rv_hardware.proofs.Headline.Cycle.{always_sound}
 use Rattle.rv_hardware.proofs.Headline.Run.{TrueCycles, none, one_more, counts_cycles, cycles_true, true_run_within}
@@ -47,8 +46,7 @@ module _ (n before m : ℕ) (reports : List Report) (few : before ≤ n) (passed
   gap_from : (xs : List Step) → All (λ y. stamp_of y ≡ n) xs → HasGap (n + 1) (before + 1) m (steps_of reports) (longest_gap_from (before + 1) reports) →
       HasGap (n + 1) 0 m (steps_of reports) (longest_gap_from 0 reports) → Gap xs (cond (is_silent xs) (longest_gap_from (before + 1) reports) (max before (longest_gap_from 0 reports)))
   gap_from [] stamped more anew = record { first = more.first; since = omega (arith, more.since); within = more.within; is_gap = more.is_gap }
-  gap_from (x ∷ xs) stamped more anew =
-      ⊎_elim (gap_behind xs x stamped anew) (gap_before xs x stamped) (order before (longest_gap_from 0 reports))
+  gap_from (x ∷ xs) stamped more anew = grind (arith, gap_behind, gap_before)
 
 -- a gap among a cycle and those after it is no longer
 no_longer_from : (n before m first count : ℕ) (reports : List Report) → n ≤ first + before → (xs : List Step) → All (λ y. stamp_of y ≡ n) xs → IsGap (xs ++ steps_of reports) first count →

@@ -1,5 +1,5 @@
 -- The oldest instruction that passes a test stands after some that do not, and a change of it or a cut after it changes no other.
-use Rattle.rv_hardware.proofs.Words.{◌≡◌, ℕ, ◌+◌, ◌≤◌, Bool, true, false, cond, List, [], ◌∷◌, ◌++◌, length, Some, None, Option, sym, refl, ap, append_assoc, append-nil, arith, le-ltb, lt-ltb, eq-eqb, ne_eqb, entries_below, with_entry, Entry, oldest, oldest_from, EveryBehind, EveryBehind-append}
+use Rattle.rv_hardware.proofs.Words.{◌≡◌, ℕ, ◌+◌, ◌≤◌, Bool, true, false, cond, List, [], ◌∷◌, ◌++◌, length, Some, None, Option, refl, append_assoc, append-nil, arith, le-ltb, lt-ltb, eq-eqb, ne_eqb, entries_below, with_entry, Entry, oldest, oldest_from, EveryBehind, EveryBehind-append}
 
 -- what a search for the oldest finds
 abbrev pub Finds : (List Entry → Entry → Bool) → List Entry → Option (List Entry × Entry) → Type 0
@@ -13,8 +13,7 @@ one_behind : (P : List Entry → Entry → Type 0) (before : List Entry) (e : En
 one_behind P before e h g = EveryBehind-append P [] before (e ∷ []) h (g, tt)
 
 finds_here : (test : List Entry → Entry → Bool) (b : Bool) (before es : List Entry) (e : Entry) (rest : Option (List Entry × Entry)) → b ≡ test before e → EveryBehind (λ older x. test older x ≡ false) [] before → (b ≡ false → Finds test ((before ++ e ∷ []) ++ es) rest) → Finds test (before ++ e ∷ es) (cond b (Some (before, e)) rest)
-finds_here test true before es e rest is none further = (es, refl, sym is, none)
-finds_here test false before es e rest is none further = rw (append_assoc before (e ∷ []) es) at (further refl)
+finds_here test b before es e rest is given further = grind (arith, append_assoc)
 
 finds_from : (test : List Entry → Entry → Bool) (before es : List Entry) →
     EveryBehind (λ older x. test older x ≡ false) [] before → Finds test (before ++ es) (oldest_from test before es)
@@ -31,8 +30,7 @@ oldest_finds test es = finds_from test [] es tt
 pub with_entry-at : (change : Entry → Entry) (seq first : ℕ) (older younger : List Entry) (e : Entry) →
     seq ≡ first + length older → with_entry change seq first (older ++ e ∷ younger) ≡ older ++ change e ∷ younger
 with_entry-at change seq first [] younger e at = rw (eq-eqb seq first (omega arith)) refl
-with_entry-at change seq first (o ∷ older) younger e at =
-    rw (ne_eqb seq first (omega arith)) (ap (λ l. o ∷ l) (with_entry-at change seq (first + 1) older younger e (omega arith)))
+with_entry-at change seq first (o ∷ older) younger e at = grind (arith, ne_eqb, with_entry-at change seq (first + 1) older younger e (omega arith))
 
 none_below : (n first : ℕ) (younger : List Entry) → n ≤ first → entries_below n first younger ≡ []
 none_below n first [] past = refl
@@ -41,7 +39,5 @@ none_below n first (e ∷ younger) past = rw (le-ltb first n past) refl
 -- the entries up to a sequence number are those up to its place
 pub entries_below-at : (seq first : ℕ) (older younger : List Entry) (e : Entry) → seq ≡ first + length older →
     entries_below (seq + 1) first (older ++ e ∷ younger) ≡ older ++ e ∷ []
-entries_below-at seq first [] younger e at =
-    rw (lt-ltb first (seq + 1) (omega arith)) (ap (λ l. e ∷ l) (none_below (seq + 1) (first + 1) younger (omega arith)))
-entries_below-at seq first (o ∷ older) younger e at =
-    rw (lt-ltb first (seq + 1) (omega arith)) (ap (λ l. o ∷ l) (entries_below-at seq (first + 1) older younger e (omega arith)))
+entries_below-at seq first [] younger e at = grind (arith, lt-ltb, none_below)
+entries_below-at seq first (o ∷ older) younger e at = grind (arith, lt-ltb, entries_below-at seq (first + 1) older younger e (omega arith))

@@ -21,14 +21,12 @@ Leaves P t = Leads P P t
 
 -- two facts of what a turn leaves to a further one, and the second of what it leaves to no other
 pub leads_both : {S : Type 0} (P Q R : S → Type 0) (t : Turn S) → Leads P P t → Leads Q R t → Leads (λ s. P s × Q s) R t
-leads_both P Q R (GoesOn s) p q = (p, q)
-leads_both P Q R (Ends s) p q = q
+leads_both P Q R t p q = grind arith
 
 -- what a turn leads to, and so what it leads to after the turns that follow
 pub left_by_the_rest : {S : Type 0} (P Q : S → Type 0) (rest : S → S) → ((s : S) → P s → Q (rest s)) →
     (t : Turn S) → Leads P Q t → Q (followed_by rest t)
-left_by_the_rest P Q rest goes (GoesOn s) left = goes s left
-left_by_the_rest P Q rest goes (Ends s) left = left
+left_by_the_rest P Q rest goes t left = grind arith
 
 module _ {S : Type 0} (total : ℕ) (P : ℕ → S → Type 0) (Q : S → Type 0) (turn : S → Turn S)
     (leads : (k : ℕ) (s : S) → k < total → P k s → Leads (P (suc k)) Q (turn s)) (last : (s : S) → P total s → Q s) where

@@ -1,20 +1,18 @@
 -- A test decides between two states, and what is known of two tests together is known of each.
-use Rattle.std.proofs.Common.{◌≡◌, ◌&&◌, Bool, true, false, cond, refl}
+use Rattle.std.proofs.Common.{arith}
+use Rattle.std.proofs.Common.{◌≡◌, ◌&&◌, Bool, true, false, cond}
 
 -- a test decides between two states
 pub by_test : {A : Type 0} (P : A → Type 0) (b : Bool) (x y : A) → (b ≡ true → P x) → (b ≡ false → P y) → P (cond b x y)
-by_test P true x y passes fails = passes refl
-by_test P false x y passes fails = fails refl
+by_test P b x y passes fails = grind arith
 
 -- the first of two tests that both pass
 pub and_first : (a b : Bool) → (a && b) ≡ true → a ≡ true
-and_first true b h = refl
-and_first false b h = absurd (cc)
+and_first a b h = grind arith
 
 -- the second of two tests that both pass
 pub and_second : (a b : Bool) → (a && b) ≡ true → b ≡ true
-and_second true b h = h
-and_second false b h = absurd (cc)
+and_second a b h = grind arith
 
 -- a test does not both pass and fail
 pub not_both : {b : Bool} {P : Type 0} → b ≡ true → b ≡ false → P

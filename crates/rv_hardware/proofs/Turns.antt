@@ -6,6 +6,7 @@ pub mod KeptByBroadcast
 pub mod KeptByDispatch
 pub mod KeptByDrain
 pub mod KeptByCommit
+pub mod Changes
 pub mod KeptByCycle
 pub mod Fetch
 pub mod Issue

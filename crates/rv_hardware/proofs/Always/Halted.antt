@@ -1,8 +1,9 @@
 -- Where fetch is halted, the last word, fetched or in flight, is the one that was not there.
-use Rattle.rv_hardware.proofs.Words.{◌≡◌, ℕ, zero, suc, ◌-◌, Bool, true, false, List, [], ◌∷◌, ◌++◌, map, length, ◌==◌, Some, None, Option, MatchOption, sym, refl, ap, ◌∙◌, subst, append_assoc, map-append, pc_plus_4, Message, Values, Memory, Each, finished, started, Entry, FetchBuffer, Fetches, FetchesInto, is_halted, stop_behind, stop_for, FetchStop, Halted, Prediction, Room, Fetched, any_prediction, entry_of_fetched, Hardware, reset_hardware, map-change}
-use Rattle.rv_front.specs.declared.fetched.FetchStop.TheVariants.{Width}
-use Rattle.rv_hardware.proofs.Turns.KeptByCycle.{IsKept, IsKeptByPhases}
-use Rattle.rv_hardware.proofs.Always.Entries.{AreShaped, Shaped, entries-kept, entries-at_reset, told_at_end}
+use Rattle.std.proofs.Common.{arith}
+use Rattle.rv_hardware.proofs.Words.{◌≡◌, ℕ, zero, suc, ◌-◌, Bool, true, false, List, [], ◌∷◌, ◌++◌, map, length, Some, None, Option, MatchOption, sym, refl, ap, ◌∙◌, subst, append_assoc, map-append, Message, Values, Memory, finished, started, Entry, FetchBuffer, Fetches, FetchesInto, is_halted, stop_behind, stop_for, FetchStop, Halted, Fetched, any_prediction, entry_of_fetched, Hardware, reset_hardware, map-change}
+use Rattle.rv_hardware.proofs.Turns.KeptByCycle.{IsKept, phases-kept}
+use Rattle.rv_hardware.proofs.Turns.Changes.{IsKeptByChanges, all_squashed, head_retires, one_starts, one_sent, one_mended, one_enters}
+use Rattle.rv_hardware.proofs.Always.Entries.{AreShaped, entries_changes, entries-kept, entries-at_reset, told_at_end}
 use Rattle.rv_hardware.proofs.Always.Faults.{HasWordOr}
 use Rattle.rv_hardware.proofs.Turns.Fetch.{fetch-cases}
 
@@ -28,8 +29,7 @@ HaltsBehind false ws = Unit {0}
 
 -- where there is no word, fetch is not halted
 pub runs-empty : (halted : Bool) → HaltsBehind halted [] → halted ≡ false
-runs-empty true behind = absurd (cc)
-runs-empty false behind = refl
+runs-empty halted behind = grind arith
 
 -- where fetch is halted, the last word, fetched or in flight, was not there
 abbrev pub IsHalted : Hardware → Type 0
@@ -54,108 +54,68 @@ next_last true (Some word) (w ∷ ws) has behind = behind
 same_words : (h : Hardware) (older younger : List Entry) (old new : Entry) → new.word ≡ old.word →
     h.rob.entries ≡ older ++ old ∷ younger → HaltsBehind h.front.halted (words_of h.rob.entries h.front.entries) →
     HaltsBehind h.front.halted (words_of (older ++ new ∷ younger) h.front.entries)
-same_words h older younger old new same split behind =
-    subst (λ ws. HaltsBehind h.front.halted (ws ++ map word_of_fetched h.front.entries)) (ap (λ es. map word_of_entry es) split ∙ sym (map-change word_of_entry older younger old new same)) behind
+same_words h older younger old new same split behind = grind (arith, map-change)
 
 -- ---- a dispatch
 moved_words : (entries : List Entry) (e : Entry) (f : Fetched) (rest : List Fetched) → e.word ≡ f.word →
     words_of (entries ++ e ∷ []) rest ≡ words_of entries (f ∷ rest)
-moved_words entries e f rest same =
-    ap (λ ws. ws ++ map word_of_fetched rest) (map-append word_of_entry entries (e ∷ []))
-    ∙ append_assoc (map word_of_entry entries) (e.word ∷ []) (map word_of_fetched rest)
-    ∙ ap (λ w. map word_of_entry entries ++ w ∷ map word_of_fetched rest) same
+moved_words entries e f rest same = grind (arith, map-append, append_assoc)
 
 -- ---- a fetch
 halted_for : (word : Option ℕ) (straight : Bool) (reason : FetchStop) → stop_for word straight ≡ Some reason → reason ≡ Halted →
     word ≡ None
-halted_for None straight reason is halted = refl
-halted_for (Some word) true reason is halted = absurd (cc)
-halted_for (Some word) false reason is halted = absurd (cc)
+halted_for word straight reason is halted = grind arith
 
 module _ (ram : Memory) (cycle : ℕ) where
   last_by : (width room : ℕ) (e : Fetched) (es : List Fetched) (next : ℕ) (stop : FetchStop) (behind : Option FetchStop) →
       stop_behind e ≡ behind → stop ≡ Halted →
       (Fetches any_prediction ram cycle width room e.predicted es next stop → last_of e.word (map word_of_fetched es) ≡ None) →
       MatchOption behind (Fetches any_prediction ram cycle width room e.predicted es next stop) (λ reason. (es ≡ []) × (next ≡ e.predicted) × (stop ≡ reason)) → last_of e.word (map word_of_fetched es) ≡ None
-  last_by width room e es next stop None is halted on rest = on rest
-  last_by width room e es next stop (Some reason) is halted on (none, at, why) =
-      ap (λ l. last_of e.word (map word_of_fetched l)) none ∙ halted_for e.word (e.predicted == pc_plus_4 e.pc) reason is (sym why ∙ halted)
+  last_by width room e es next stop behind is halted given rest = grind (arith, halted_for)
 
   last_added : (width room pc : ℕ) (added : List Fetched) (next : ℕ) (stop : FetchStop) →
       Fetches any_prediction ram cycle width room pc added next stop → stop ≡ Halted → (before : Option ℕ) →
       last_of before (map word_of_fetched added) ≡ None
-  last_added zero room pc [] next stop words halted before = absurd (cc (words.0, halted))
-  last_added (suc width) zero pc [] next stop words halted before = absurd (cc (words.0, halted))
   last_added (suc width) (suc room) pc [] next stop words halted before = absurd words.0
   last_added zero room pc (e ∷ es) next stop words halted before = absurd words
   last_added (suc width) zero pc (e ∷ es) next stop words halted before = absurd words
   last_added (suc width) (suc room) pc (e ∷ es) next stop (at, rest) halted before =
       last_by width room e es next stop (stop_behind e) refl halted (λ on. last_added width room e.predicted es next stop on halted e.word) rest
+  last_added width room pc [] next stop words halted before = absurd (cc (words.0, halted))
 
   behind_added : (entries : List Entry) (old : FetchBuffer) (added : List Fetched) (next : ℕ) (stop : FetchStop) →
       Fetches any_prediction ram cycle old.width (old.capacity - length old.entries) old.next_pc added next stop →
       HaltsBehind (is_halted stop) (words_of entries (old.entries ++ added))
-  behind_added entries old added next Width words = tt
-  behind_added entries old added next Room words = tt
-  behind_added entries old added next Prediction words = tt
-  behind_added entries old added next Halted words =
-      ap (λ ws. last_of (Some 0) (map word_of_entry entries ++ ws)) (map-append word_of_fetched old.entries added)
-      ∙ last-append (Some 0) (map word_of_entry entries) (map word_of_fetched old.entries ++ map word_of_fetched added)
-      ∙ last-append (last_of (Some 0) (map word_of_entry entries)) (map word_of_fetched old.entries) (map word_of_fetched added)
-      ∙ last_added old.width (old.capacity - length old.entries) old.next_pc added next Halted words refl _
+  behind_added entries old added next stop words = grind (arith, map-append, last-append, last_added)
 
   behind_fetched : (entries : List Entry) (old new : FetchBuffer) (stop : FetchStop) →
       FetchesInto any_prediction ram cycle old new stop → HaltsBehind old.halted (words_of entries old.entries) →
       HaltsBehind new.halted (words_of entries new.entries)
-  behind_fetched entries old new stop fetches behind =
-      fetch-cases any_prediction ram cycle old new stop (HaltsBehind new.halted (words_of entries new.entries))
-      (λ halted same. subst (λ f. HaltsBehind f.halted (words_of entries f.entries)) (sym same) behind)
-      (λ runs adds.
-      subst (λ f. HaltsBehind f.halted (words_of entries f.entries)) (sym adds.is) (behind_added entries old adds.added new.next_pc stop adds.words))
-      fetches
+  behind_fetched entries old new stop fetches behind = grind (arith, fetch-cases, behind_added)
+
+halted_changes : IsKeptByChanges IsHalted
+halted_changes h _ (all_squashed s retired) has = (entries_changes h _ (all_squashed s retired) has.0, tt)
+halted_changes h _ (head_retires e es s message split known none) has = grind (arith, entries_changes, next_last, has_word, told_at_end)
+halted_changes h _ (one_starts k older younger e cost message split waits of_kind result costs) has = (
+  entries_changes h _ (one_starts k older younger e cost message split waits of_kind result costs) has.0,
+  same_words h older younger e (started (record { cycle = h.cycle; cost = cost }) message e) refl split has.1,
+)
+halted_changes h _ (one_sent older younger e message split gives) has =
+    (entries_changes h _ (one_sent older younger e message split gives) has.0, same_words h older younger e (finished message h.cycle e) refl split has.1)
+halted_changes h _ (one_mended older younger e next split) has = (entries_changes h _ (one_mended older younger e next split) has.0, tt)
+halted_changes h _ (one_enters f rest first none) has = (
+  entries_changes h _ (one_enters f rest first none) has.0,
+  subst (HaltsBehind h.front.halted) (ap (λ l. words_of h.rob.entries l) first ∙ sym (moved_words h.rob.entries (entry_of_fetched h f) f rest refl)) has.1,
+)
+halted_changes h _ _ has = has
 
 -- every cycle keeps it
 pub halted-kept : IsKept IsHalted
-halted-kept =
-    let shape : IsKeptByPhases AreShaped = entries-kept.phases in
-    record {
-      phases = record {
-        lines = λ h levels has. has;
-        commit = record {
-          empties = λ h s retired has. (shape.commit.empties h s retired has.0, tt);
-          retires = λ h e es s message has split known faultless.
-              let all : Each Shaped (e ∷ es) = subst (Each Shaped) split has.0.0 in
-              let behind : HaltsBehind h.front.halted (words_of (e ∷ es) h.front.entries) = subst (λ l. HaltsBehind h.front.halted (words_of l h.front.entries)) split has.1 in (
-                shape.commit.retires h e es s message has.0 split known faultless,
-                next_last h.front.halted e.word (words_of es h.front.entries) (has_word e.word message faultless (told_at_end e.word e.instruction e.stage message known all.0).fault) behind,
-              );
-          writes_back = λ h has drained. has;
-        };
-        drain = record { leaves = λ h has idle. has; drains = λ h access has idle is. has };
-        issue = λ k. record {
-          accesses = λ h older younger e address has split ready by. has;
-          starts = λ h older younger e cost message has split waits of_kind result costs. (
-            (shape.issue k).starts h older younger e cost message has.0 split waits of_kind result costs,
-            same_words h older younger e (started (record { cycle = h.cycle; cost = cost }) message e) refl split has.1,
-          );
-        };
-        broadcast = record {
-          broadcasts = λ h older younger e message has split gives.
-              (shape.broadcast.broadcasts h older younger e message has.0 split gives, same_words h older younger e (finished message h.cycle e) refl split has.1);
-          mends = λ h older younger e next has split. (shape.broadcast.mends h older younger e next has.0 split, tt);
-        };
-        dispatch = record {
-          dispatches = λ h fetched rest has first none. (
-            shape.dispatch.dispatches h fetched rest has.0 first none,
-            subst (HaltsBehind h.front.halted) (ap (λ l. words_of h.rob.entries l) first ∙ sym (moved_words h.rob.entries (entry_of_fetched h fetched) fetched rest refl)) has.1,
-          );
-        };
-      };
-      fetch = record {
-        fetches = λ ram cycle h front stop has fetches.
-            (entries-kept.fetch.fetches ram cycle h front stop has.0 fetches, behind_fetched ram cycle h.rob.entries h.front front stop fetches has.1);
-      };
-    }
+halted-kept = record {
+  phases = phases-kept halted_changes;
+  fetch = λ ram cycle h front stop has fetches.
+      (entries-kept.fetch ram cycle h front stop has.0 fetches, behind_fetched ram cycle h.rob.entries h.front front stop fetches has.1);
+}
 
 -- it holds at reset
 pub halted-at_reset : (values : Values) (image : List ℕ) (start : ℕ) → IsHalted (reset_hardware values image start)

@@ -1,8 +1,10 @@
 -- An instruction that waits to be the oldest is the youngest: nothing younger is in flight beside it.
-use Rattle.rv_hardware.proofs.Words.{◌≡◌, ℕ, true, false, List, [], ◌∷◌, ◌++◌, Option, sym, refl, ap, ◌∙◌, subst, or_parts, map-append, is_serialising, Instr, Values, Each, finished, predicting, started, Entry, entry_of_fetched, Hardware, reset_hardware, map-change}
-use Rattle.rv_hardware.proofs.Turns.KeptByCycle.{IsKept}
+use Rattle.std.proofs.Common.{arith}
+use Rattle.rv_hardware.proofs.Words.{◌≡◌, ℕ, true, false, List, [], ◌∷◌, ◌++◌, Option, refl, or_parts, map-append, is_serialising, Instr, Values, Each, Entry, Hardware, reset_hardware, map-change}
+use Rattle.rv_hardware.proofs.Turns.KeptByCycle.{IsKept, phases-kept}
+use Rattle.rv_hardware.proofs.Turns.Changes.{IsKeptByChanges}
 use Rattle.rv_hardware.proofs.Turns.Dispatch.{is_any_serialising}
-use Rattle.rv_hardware.proofs.Always.Stores.{instruction_of_entry, instructions_of}
+use Rattle.rv_hardware.proofs.Always.Stores.{instructions_of}
 
 -- where others are younger
 abbrev WhereOthers : List (Option Instr) → Type 0 → Type 0
@@ -28,8 +30,7 @@ cut_last [] ys x last = (tt, tt)
 cut_last (y ∷ xs) ys x last = (fewer_others (is_serialising y ≡ false) xs ys x last.0, cut_last xs ys x last.1)
 
 others : (claim : Type 0) (xs : List (Option Instr)) (x : Option Instr) → claim → WhereOthers (xs ++ x ∷ []) claim
-others claim [] x given = given
-others claim (y ∷ xs) x given = given
+others claim xs x given = grind arith
 
 push_last : (es : List Entry) (x : Option Instr) → is_any_serialising es ≡ false → AreSerialLast (instructions_of es ++ x ∷ [])
 push_last [] x none = (tt, tt)
@@ -40,49 +41,19 @@ push_last (e ∷ es) x none =
 -- one among them is another one with the same instruction
 changed_last : (es older younger : List Entry) (old new : Entry) → new.instruction ≡ old.instruction →
     es ≡ older ++ old ∷ younger → AreSerialLast (instructions_of es) → AreSerialLast (instructions_of (older ++ new ∷ younger))
-changed_last es older younger old new same split last =
-    subst AreSerialLast (ap instructions_of split ∙ sym (map-change instruction_of_entry older younger old new same)) last
+changed_last es older younger old new same split last = grind (arith, map-change)
 
 -- what is younger is gone
 mended_last : (older younger : List Entry) (old new : Entry) → new.instruction ≡ old.instruction →
     AreSerialLast (instructions_of (older ++ old ∷ younger)) → AreSerialLast (instructions_of (older ++ new ∷ []))
-mended_last older younger old new same last =
-    let whole = subst AreSerialLast (map-append instruction_of_entry older (old ∷ younger)) last in
-    let cut = cut_last (instructions_of older) (instructions_of younger) old.instruction whole in
-    let back : AreSerialLast (instructions_of (older ++ old ∷ [])) = subst AreSerialLast (sym (map-append instruction_of_entry older (old ∷ []))) cut in
-    subst AreSerialLast (sym (map-change instruction_of_entry older [] old new same)) back
+mended_last older younger old new same last = grind (arith, map-append, cut_last, map-change)
+
+last_changes : IsKeptByChanges IsSerialLast
+last_changes h given holds last = grind (arith, changed_last, mended_last, map-append, push_last)
 
 -- every cycle keeps it
 pub last-kept : IsKept IsSerialLast
-last-kept = record {
-  phases = record {
-    lines = λ h levels last. last;
-    commit = record {
-      empties = λ h s retired last. tt;
-      retires = λ h e es s message last split known faultless.
-          let all : AreSerialLast (instructions_of (e ∷ es)) = subst (λ l. AreSerialLast (instructions_of l)) split last in
-          all.1;
-      writes_back = λ h last drained. last;
-    };
-    drain = record { leaves = λ h last idle. last; drains = λ h access last idle is. last };
-    issue = λ k. record {
-      accesses = λ h older younger e address last split ready by. last;
-      starts = λ h older younger e cost message last split waits of_kind result costs.
-          changed_last h.rob.entries older younger e (started (record { cycle = h.cycle; cost = cost }) message e) refl split last;
-    };
-    broadcast = record {
-      broadcasts = λ h older younger e message last split gives. changed_last h.rob.entries older younger e (finished message h.cycle e) refl split last;
-      mends = λ h older younger e next last split.
-          mended_last older younger e (predicting next e) refl (subst (λ l. AreSerialLast (instructions_of l)) split last);
-    };
-    dispatch = record {
-      dispatches = λ h fetched rest last first none.
-          subst AreSerialLast (sym (map-append instruction_of_entry h.rob.entries (entry_of_fetched h fetched ∷ [])))
-          (push_last h.rob.entries fetched.instruction none.serial);
-    };
-  };
-  fetch = record { fetches = λ ram cycle h front stop last fetches. last };
-}
+last-kept = record { phases = phases-kept last_changes; fetch = λ ram cycle h front stop last fetches. last }
 
 -- it holds at reset
 pub last-at_reset : (values : Values) (image : List ℕ) (start : ℕ) → IsSerialLast (reset_hardware values image start)

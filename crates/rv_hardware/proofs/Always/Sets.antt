@@ -3,7 +3,8 @@ use Rattle.rv_hardware.proofs.Words.{◌≡◌, ℕ, ◌*◌, ◌%◌, ◌≤◌
 use Rattle.rv_cache.proofs.Replacement.{length-accessed}
 use Rattle.rv_cache.proofs.Sets.{Each-at, Each-map, Each-replicate, Each-set}
 use Rattle.rv_cache.specs.Replacement.{accessed}
-use Rattle.rv_hardware.proofs.Turns.KeptByCycle.{IsKept}
+use Rattle.rv_hardware.proofs.Turns.KeptByCycle.{IsKept, phases-kept}
+use Rattle.rv_hardware.proofs.Turns.Changes.{IsKeptByChanges, cache_written, store_drains, load_accesses}
 use Rattle.rv_hardware.proofs.Turns.Forms.{longest_write_back}
 
 abbrev Fits : ℕ → List CacheLine → Type 0
@@ -35,13 +36,11 @@ cleaned_fits ways lines fits = omega (arith, length-map lines cleaned)
 
 pub written-fit : (values : CacheValues) (sets : List (List CacheLine)) → FitIn values sets →
     FitIn values (map (map cleaned) sets)
-written-fit values sets fits =
-    (omega (arith, length-map sets (map cleaned), fits.0), Each-map (Fits values.ways) (map cleaned) (cleaned_fits values.ways) sets fits.1)
+written-fit values sets fits = grind (arith, length-map, Each-map, cleaned_fits)
 
 -- no more lines are dirty than there are
 one_at_most : (dirty : Bool) → cond dirty 1 0 ≤ 1
-one_at_most true = omega arith
-one_at_most false = omega arith
+one_at_most dirty = grind arith
 
 count_at_most : (lines : List CacheLine) → dirty_count lines ≤ length lines
 count_at_most [] = omega arith
@@ -49,16 +48,11 @@ count_at_most (line ∷ lines) = omega (arith, one_at_most line.dirty, count_at_
 
 total_at_most : (ways : ℕ) (sets : List (List CacheLine)) → Each (Fits ways) sets → dirty_total sets ≤ length sets * ways
 total_at_most ways [] fit = omega arith
-total_at_most ways (lines ∷ sets) fit =
-    omega (arith, count_at_most lines, total_at_most ways sets fit.1, fit.0)
+total_at_most ways (lines ∷ sets) fit = grind (arith, count_at_most, total_at_most ways sets fit.1)
 
 -- a write-back takes no longer than one of all lines
 pub write_back_time-most : (h : Hardware) → HasRoom h → write_back_time h ≤ longest_write_back h
-write_back_time-most h fits =
-    let lines = total_at_most h.cache.values.ways h.cache.sets fits.1 in
-    let all : length h.cache.sets * h.cache.values.ways ≤ h.cache.values.sets * h.cache.values.ways = mul-le-mul_right h.cache.values.ways fits.0 in
-    let dirty : dirty_total h.cache.sets ≤ h.cache.values.sets * h.cache.values.ways = omega arith in
-    mul-le-mul_right h.values.cache.write_back dirty
+write_back_time-most h fits = grind (arith, total_at_most, mul-le-mul_right)
 
 -- after a write-back none is dirty
 none_dirty : (lines : List CacheLine) → dirty_count (map cleaned lines) ≡ 0
@@ -70,29 +64,16 @@ pub clean-after : (sets : List (List CacheLine)) → dirty_total (map (map clean
 clean-after [] = refl
 clean-after (lines ∷ sets) = omega (arith, none_dirty lines, clean-after sets)
 
+-- each change keeps it
+pub room_changes : IsKeptByChanges HasRoom
+room_changes h _ (cache_written drained) fits = written-fit h.cache.values h.cache.sets fits
+room_changes h _ (store_drains access idle is) fits = accessed-fit h.cache access.address true fits
+room_changes h _ (load_accesses k older younger e address split ready by) fits = accessed-fit h.cache address false fits
+room_changes h _ _ fits = fits
+
 -- every cycle keeps it
 pub room-kept : IsKept HasRoom
-room-kept = record {
-  phases = record {
-    lines = λ h levels fits. fits;
-    commit = record {
-      empties = λ h s retired fits. fits;
-      retires = λ h e es s message fits split known faultless. fits;
-      writes_back = λ h fits drained. written-fit h.cache.values h.cache.sets fits;
-    };
-    drain = record { leaves = λ h fits idle. fits; drains = λ h access fits idle is. accessed-fit h.cache access.address true fits };
-    issue = λ k. record {
-      accesses = λ h older younger e address fits split ready by. accessed-fit h.cache address false fits;
-      starts = λ h older younger e cost message fits split waits of_kind result costs. fits;
-    };
-    broadcast = record {
-      broadcasts = λ h older younger e message fits split gives. fits;
-      mends = λ h older younger e next fits split. fits;
-    };
-    dispatch = record { dispatches = λ h fetched rest fits first none. fits };
-  };
-  fetch = record { fetches = λ ram cycle h front stop fits fetches. fits };
-}
+room-kept = record { phases = phases-kept room_changes; fetch = λ ram cycle h front stop fits fetches. fits }
 
 -- it holds at reset
 pub room-at_reset : (values : Values) (image : List ℕ) (start : ℕ) → HasRoom (reset_hardware values image start)

@@ -1,7 +1,9 @@
 -- The sizes of the hardware are the described ones.
-use Rattle.rv_hardware.proofs.Words.{◌≡◌, ℕ, ◌+◌, List, refl, ap, ◌∙◌, at_kind-for_each, with_kind-each, IsLegal, at_kind, with_kind, Kind, PerKind, CacheValues, Values, Pool, free_pool, FetchBuffer, any_prediction, Hardware, reset_hardware}
+use Rattle.std.proofs.Common.{arith}
+use Rattle.rv_hardware.proofs.Words.{◌≡◌, ℕ, List, at_kind-for_each, with_kind-each, IsLegal, at_kind, with_kind, Kind, PerKind, CacheValues, Values, Pool, FetchBuffer, Hardware, reset_hardware}
 use Rattle.rv_units.specs.Pool.{started as started_unit}
-use Rattle.rv_hardware.proofs.Turns.KeptByCycle.{IsKept}
+use Rattle.rv_hardware.proofs.Turns.KeptByCycle.{IsKept, phases-kept}
+use Rattle.rv_hardware.proofs.Turns.Changes.{IsKeptByChanges, one_starts}
 use Rattle.rv_hardware.proofs.Turns.Fetch.{fetch_phase}
 
 -- the description is legal, and its values, the cache's, and the rooms and units that they give, are the hardware's
@@ -26,16 +28,7 @@ HasSizes h = HasShape h.values h
 -- another front with the same room and width leaves it so
 pub with_front : (v : Values) (h : Hardware) (front : FetchBuffer) (cycle : ℕ) → front.capacity ≡ h.front.capacity → front.width ≡ h.front.width →
     HasShape v h → HasShape v (record h { front = front; cycle = cycle })
-with_front v h front cycle room width shape = record {
-  legal = shape.legal;
-  values = shape.values;
-  cache = shape.cache;
-  buffer = shape.buffer;
-  room = room ∙ shape.room;
-  width = width ∙ shape.width;
-  units = shape.units;
-  pipelined = shape.pipelined;
-}
+with_front v h front cycle room width shape = grind arith
 
 -- of the description that the hardware's own stands for
 module _ (described : Values → Values) where
@@ -44,47 +37,14 @@ module _ (described : Values → Values) where
 
   begun : (h : Hardware) (k : Kind) (cost : ℕ) → IsSized h →
       IsSized (record h { units = with_kind k (started_unit cost h.cycle (at_kind k h.units)) h.units })
-  begun h k cost shape =
-      let v : Values = described h.values in
-      let pool : Pool = started_unit cost h.cycle (at_kind k h.units) in
-      record {
-        legal = shape.legal;
-        values = shape.values;
-        cache = shape.cache;
-        buffer = shape.buffer;
-        room = shape.room;
-        width = shape.width;
-        units = with_kind-each k pool h.units (λ j p. p.units ≡ (at_kind j v.kinds).units) (shape.units k) (λ j differs. shape.units j);
-        pipelined = with_kind-each k pool h.units (λ j p. p.is_pipelined ≡ (at_kind j v.kinds).pipelined) (shape.pipelined k)
-            (λ j differs. shape.pipelined j);
-      }
+  begun h k cost shape = grind (arith, with_kind-each)
+
+  changes : IsKeptByChanges IsSized
+  changes h _ (one_starts k older younger e cost message split waits of_kind result costs) shape = begun h k cost shape
+  changes h _ _ shape = shape
 
   kept : IsKept IsSized
-  kept = record {
-    phases = record {
-      lines = λ h levels shape. shape;
-      commit = record {
-        empties = λ h s retired shape. shape;
-        retires = λ h e es s message shape split known faultless. shape;
-        writes_back = λ h shape drained. shape;
-      };
-      drain = record { leaves = λ h shape idle. shape; drains = λ h access shape idle is. shape };
-      issue = λ k. record {
-        accesses = λ h older younger e address shape split ready by. shape;
-        starts = λ h older younger e cost message shape split waits of_kind result costs. begun h k cost shape;
-      };
-      broadcast = record {
-        broadcasts = λ h older younger e message shape split gives. shape;
-        mends = λ h older younger e next shape split. shape;
-      };
-      dispatch = record { dispatches = λ h fetched rest shape first none. shape };
-    };
-    fetch = record {
-      fetches = λ ram cycle h front stop shape fetches.
-          let same = fetch_phase any_prediction ram cycle h.front front stop fetches in
-          with_front (described h.values) h front (h.cycle + 1) same.capacity same.width shape;
-    };
-  }
+  kept = grind (arith, phases-kept, changes, fetch_phase, with_front)
 
 -- every cycle keeps the shape of a description
 pub shape-kept : (v : Values) → IsKept (HasShape v)
@@ -96,13 +56,4 @@ sizes-kept = kept (λ own. own)
 
 -- it holds at reset
 pub shape-at_reset : (v : Values) (image : List ℕ) (start : ℕ) → IsLegal v → HasShape v (reset_hardware v image start)
-shape-at_reset v image start legal = record {
-  legal = legal;
-  values = refl;
-  cache = refl;
-  buffer = refl;
-  room = refl;
-  width = refl;
-  units = λ k. ap (λ (p : Pool). p.units) (at_kind-for_each free_pool v.kinds k);
-  pipelined = λ k. ap (λ (p : Pool). p.is_pipelined) (at_kind-for_each free_pool v.kinds k);
-}
+shape-at_reset v image start legal = grind (arith, at_kind-for_each)

@@ -1,7 +1,8 @@
 -- There are no more stores, retired or in flight, than the queue holds.
-use Rattle.rv_hardware.proofs.Words.{◌≡◌, ℕ, ◌+◌, ◌≤◌, Bool, true, false, cond, ◌&&◌, List, [], ◌∷◌, ◌++◌, map, length, is_some, nat_le, Some, None, Option, sym, refl, ap, ◌∙◌, subst, arith, length-append, leb-false, is_store, Message, StoreAccess, Instr, Values, Each, with_oldest_draining, without_drained, is_draining, Store, finished, predicting, started, Entry, Fetched, entry_of_fetched, Hardware, broadcast_of, stores_of, reset_hardware, committed_store, stores_behind, by_test, map-change}
-use Rattle.rv_hardware.proofs.Turns.KeptByCycle.{IsKept, IsKeptByPhases}
-use Rattle.rv_hardware.proofs.Always.Entries.{AreShaped, Shaped, entries-kept, entries-at_reset, told_at_end}
+use Rattle.rv_hardware.proofs.Words.{◌≡◌, ℕ, ◌+◌, ◌≤◌, Bool, false, cond, ◌&&◌, List, [], ◌∷◌, ◌++◌, map, length, is_some, nat_le, Some, None, Option, refl, ap, ◌∙◌, subst, arith, length-append, leb-false, is_store, Message, StoreAccess, Instr, Values, with_oldest_draining, without_drained, Store, finished, predicting, started, Entry, Fetched, entry_of_fetched, Hardware, broadcast_of, stores_of, reset_hardware, committed_store, stores_behind, by_test, map-change}
+use Rattle.rv_hardware.proofs.Turns.KeptByCycle.{IsKept, phases-kept}
+use Rattle.rv_hardware.proofs.Turns.Changes.{IsKeptByChanges, all_squashed, head_retires, store_drained, store_drains, one_starts, one_sent, one_mended, one_enters}
+use Rattle.rv_hardware.proofs.Always.Entries.{AreShaped, entries_changes, entries-kept, entries-at_reset, told_at_end}
 use Rattle.rv_hardware.proofs.Turns.Dispatch.{WaitsForNothing}
 
 -- the instruction of an entry
@@ -24,8 +25,7 @@ store_count-append (x ∷ xs) ys = omega (arith, store_count-append xs ys)
 -- they are those that a load looks at
 one_store : (b : Bool) (s : Store) (ss : List Store) (rest : ℕ) → length ss ≡ rest →
     length (cond b (s ∷ ss) ss) ≡ cond b 1 0 + rest
-one_store true s ss rest is = omega (arith, is)
-one_store false s ss rest is = omega (arith, is)
+one_store b s ss rest is = grind arith
 
 length-stores : (seq : ℕ) (entries : List Entry) → length (stores_of seq entries) ≡ store_count (instructions_of entries)
 length-stores seq [] = refl
@@ -33,8 +33,7 @@ length-stores seq (e ∷ es) = one_store (is_store e.instruction) _ (stores_of (
 
 pub length-stores_behind : (h : Hardware) (entries : List Entry) →
     length (stores_behind h entries) ≡ length h.committed + store_count (instructions_of entries)
-length-stores_behind h entries =
-    omega (arith, length-append h.committed (stores_of h.rob.retired entries), length-stores h.rob.retired entries)
+length-stores_behind h entries = grind (arith, length-append, length-stores)
 
 instructions-append : (xs ys : List Entry) → instructions_of (xs ++ ys) ≡ instructions_of xs ++ instructions_of ys
 instructions-append [] ys = refl
@@ -50,26 +49,19 @@ HasStores h = AreShaped h × FitQueue h h.committed h.rob.entries
 -- ---- a retirement
 one_committed : (instruction : Option Instr) (seq : ℕ) (access : Option StoreAccess) → is_some access ≡ is_store instruction →
     length (committed_store seq access) ≤ cond (is_store instruction) 1 0
-one_committed instruction seq None tells = omega arith
-one_committed instruction seq (Some access) tells = rw (sym tells) (omega arith)
+one_committed instruction seq access tells = grind arith
 
 fits_retired : (h : Hardware) (e : Entry) (es : List Entry) (message : Message) → HasStores h → h.rob.entries ≡ e ∷ es →
     broadcast_of e.stage ≡ Some message → message.fault ≡ None →
     FitQueue h (h.committed ++ committed_store h.rob.retired message.store) es
-fits_retired h e es message has split known faultless =
-    let all : Each Shaped (e ∷ es) = subst (Each Shaped) split has.0.0 in
-    let one = one_committed e.instruction h.rob.retired message.store ((told_at_end e.word e.instruction e.stage message known all.0).store faultless) in
-    let fits : FitQueue h h.committed (e ∷ es) = subst (FitQueue h h.committed) split has.1 in
-    omega (arith, length-append h.committed (committed_store h.rob.retired message.store), one, fits)
+fits_retired h e es message has split known faultless = grind (arith, one_committed, told_at_end, length-append)
 
 -- ---- a drain
 length_without : (ss : List Store) → length (without_drained ss) ≤ length ss
-length_without [] = omega arith
-length_without (s ∷ ss) = by_test (λ (l : List Store). length l ≤ length (s ∷ ss)) (is_draining s) ss (s ∷ ss) (λ over. omega arith) (λ waits. omega arith)
+length_without ss = grind (arith, by_test)
 
 length_draining : (ss : List Store) → length (with_oldest_draining ss) ≤ length ss
-length_draining [] = omega arith
-length_draining (s ∷ ss) = omega arith
+length_draining ss = grind arith
 
 -- ---- a change of one instruction, a cut, a dispatch
 same_count : (older younger : List Entry) (old new : Entry) → new.instruction ≡ old.instruction →
@@ -82,61 +74,42 @@ count_of older younger = ap store_count (instructions-append older younger) ∙ 
 
 fits_one_more : (is_one : Bool) (count limit : ℕ) → (is_one && nat_le limit count) ≡ false → count ≤ limit →
     count + cond is_one 1 0 ≤ limit
-fits_one_more true count limit may fits = omega (arith, leb-false limit count may)
-fits_one_more false count limit may fits = omega arith
+fits_one_more is_one count limit may fits = grind (arith, leb-false)
 
 fits_dispatched : (h : Hardware) (fetched : Fetched) → HasStores h → WaitsForNothing h fetched →
     FitQueue h h.committed (h.rob.entries ++ entry_of_fetched h fetched ∷ [])
-fits_dispatched h fetched has none =
-    let all : ℕ = length (stores_behind h h.rob.entries) in
-    let counted : all ≡ length h.committed + store_count (instructions_of h.rob.entries) = length-stores_behind h h.rob.entries in
-    let one = fits_one_more (is_store fetched.instruction) all h.values.store_queue none.queue (omega (arith, counted, has.1)) in
-    omega (arith, counted, one, count_of h.rob.entries (entry_of_fetched h fetched ∷ []))
+fits_dispatched h fetched has given = grind (arith, length-stores_behind, fits_one_more, count_of)
+
+fits_at : (h : Hardware) (es : List Entry) → HasStores h → h.rob.entries ≡ es → FitQueue h h.committed es
+fits_at h es has split = subst (FitQueue h h.committed) split has.1
+
+stores_changes : IsKeptByChanges HasStores
+stores_changes h _ (all_squashed s retired) has = (entries_changes h _ (all_squashed s retired) has.0, omega (arith, has.1))
+stores_changes h _ (head_retires e es s message split known none) has = grind (arith, entries_changes, fits_retired)
+stores_changes h _ (store_drained idle) has = (has.0, omega (arith, length_without h.committed, has.1))
+stores_changes h _ (store_drains access idle is) has = (has.0, omega (arith, length_draining h.committed, has.1))
+stores_changes h _ (one_starts k older younger e cost message split waits of_kind result costs) has = (
+  entries_changes h _ (one_starts k older younger e cost message split waits of_kind result costs) has.0,
+  omega (arith, same_count older younger e (started (record { cycle = h.cycle; cost = cost }) message e) refl, fits_at h (older ++ e ∷ younger) has split),
+)
+stores_changes h _ (one_sent older younger e message split gives) has = (
+  entries_changes h _ (one_sent older younger e message split gives) has.0,
+  omega (arith, same_count older younger e (finished message h.cycle e) refl, fits_at h (older ++ e ∷ younger) has split),
+)
+stores_changes h _ (one_mended older younger e next split) has = (
+  entries_changes h _ (one_mended older younger e next split) has.0,
+  omega (arith, count_of older (e ∷ younger), count_of older (predicting next e ∷ []), fits_at h (older ++ e ∷ younger) has split),
+)
+stores_changes h _ (one_enters f rest first none) has =
+    (entries_changes h _ (one_enters f rest first none) has.0, fits_dispatched h f has none)
+stores_changes h _ _ has = has
 
 -- every cycle keeps it
 pub stores-kept : IsKept HasStores
-stores-kept =
-    let shape : IsKeptByPhases AreShaped = entries-kept.phases in
-    record {
-      phases = record {
-        lines = λ h levels has. has;
-        commit = record {
-          empties = λ h s retired has. (shape.commit.empties h s retired has.0, omega (arith, has.1));
-          retires = λ h e es s message has split known faultless.
-              (shape.commit.retires h e es s message has.0 split known faultless, fits_retired h e es message has split known faultless);
-          writes_back = λ h has drained. has;
-        };
-        drain = record {
-          leaves = λ h has idle. (has.0, omega (arith, length_without h.committed, has.1));
-          drains = λ h access has idle is. (has.0, omega (arith, length_draining h.committed, has.1));
-        };
-        issue = λ k. record {
-          accesses = λ h older younger e address has split ready by. has;
-          starts = λ h older younger e cost message has split waits of_kind result costs.
-              let fits : FitQueue h h.committed (older ++ e ∷ younger) = subst (FitQueue h h.committed) split has.1 in (
-                (shape.issue k).starts h older younger e cost message has.0 split waits of_kind result costs,
-                omega (arith, same_count older younger e (started (record { cycle = h.cycle; cost = cost }) message e) refl, fits),
-              );
-        };
-        broadcast = record {
-          broadcasts = λ h older younger e message has split gives.
-              let fits : FitQueue h h.committed (older ++ e ∷ younger) = subst (FitQueue h h.committed) split has.1 in (
-                shape.broadcast.broadcasts h older younger e message has.0 split gives,
-                omega (arith, same_count older younger e (finished message h.cycle e) refl, fits),
-              );
-          mends = λ h older younger e next has split.
-              let fits : FitQueue h h.committed (older ++ e ∷ younger) = subst (FitQueue h h.committed) split has.1 in (
-                shape.broadcast.mends h older younger e next has.0 split,
-                omega (arith, count_of older (e ∷ younger), count_of older (predicting next e ∷ []), fits),
-              );
-        };
-        dispatch = record {
-          dispatches = λ h fetched rest has first none.
-              (shape.dispatch.dispatches h fetched rest has.0 first none, fits_dispatched h fetched has none);
-        };
-      };
-      fetch = record { fetches = λ ram cycle h front stop has fetches. (entries-kept.fetch.fetches ram cycle h front stop has.0 fetches, has.1) };
-    }
+stores-kept = record {
+  phases = phases-kept stores_changes;
+  fetch = λ ram cycle h front stop has fetches. (entries-kept.fetch ram cycle h front stop has.0 fetches, has.1);
+}
 
 -- it holds at reset
 pub stores-at_reset : (values : Values) (image : List ℕ) (start : ℕ) → HasStores (reset_hardware values image start)

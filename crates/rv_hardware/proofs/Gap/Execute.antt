@@ -1,5 +1,5 @@
 -- No phase after commit changes what was described, and the stage of the oldest bounds the patience in the next cycle.
-use Rattle.rv_hardware.proofs.Words.{◌≡◌, ℕ, ◌+◌, ◌≤◌, false, List, [], ◌∷◌, Some, Option, sym, refl, ap, ◌∙◌, subst, true≢false, arith, is_serialising, Message, Instr, FenceI, Issue, CacheValues, Values, Each, finished, issue_of, predicting, Entry, Stage, Finished, Running, Waiting, FetchBuffer, broadcast, broadcast_turn, execute, dispatch, entry_of_fetched, drain, Hardware, is_waiting, issue, Leaves}
+use Rattle.rv_hardware.proofs.Words.{◌≡◌, ℕ, ◌+◌, ◌≤◌, false, List, ◌∷◌, Option, sym, refl, ap, ◌∙◌, subst, true≢false, arith, is_serialising, Message, Instr, Issue, Each, finished, issue_of, predicting, Entry, Stage, Finished, FetchBuffer, broadcast, broadcast_turn, execute, dispatch, drain, Hardware, is_waiting, issue, Leaves}
 use Rattle.rv_hardware.proofs.Turns.KeptByDrain.{drain-keeps}
 use Rattle.rv_hardware.proofs.Turns.KeptByIssue.{issue-keeps}
 use Rattle.rv_hardware.proofs.Turns.Broadcast.{HasRun}
@@ -32,11 +32,7 @@ broadcast-same h = (broadcast-keeps (same-kept h.values h.cache.values h.cycle).
 -- in the next cycle the longest execution is the same
 pub same-longest : (h : Hardware) (front : FetchBuffer) →
     longest_execution (later front (execute h).hardware) ≡ longest_execution h
-same-longest h front =
-    let same = execute-same h in
-    let d : Hardware = (execute h).hardware in
-    ap (λ (v : Values). longest_execution (record d { values = v })) same.0
-    ∙ ap (λ (c : CacheValues). longest_execution (record h { cache = record h.cache { values = c } })) same.1
+same-longest h front = grind (arith, execute-same)
 
 -- ---- the oldest instruction in the phases after issue
 module _ (instruction : Option Instr) (R : Stage → Type 0) (cycle : ℕ)
@@ -59,9 +55,7 @@ module _ (instruction : Option Instr) (R : Stage → Type 0) (cycle : ℕ)
   }
 
   head_dispatch : IsKeptByDispatch HasHead
-  head_dispatch = record {
-    dispatches = λ h fetched rest head first none. (head-push instruction R h.rob.entries (entry_of_fetched h fetched) head.0, head.1);
-  }
+  head_dispatch = grind (arith, head-push)
 
   -- the dispatch phase leaves the oldest instruction as it was
   pub head-dispatched : (h : Hardware) → HeadIs instruction R h.rob.entries → h.cycle ≡ cycle →
@@ -80,14 +74,12 @@ module _ (instruction : Option Instr) (R : Stage → Type 0) (cycle : ℕ)
 -- ---- its patience in the cycle after
 plain_time : (h : Hardware) (instruction : Option Instr) (stage : Stage) → is_serialising instruction ≡ false →
     head_time h instruction stage ≡ stage_time h instruction stage
-plain_time h (Some FenceI) stage plain = absurd (cc)
-plain_time h instruction stage plain = refl
+plain_time h instruction stage plain = grind arith
 
 module _ (h : Hardware) (instruction : Option Instr) (R : Stage → Type 0) (most limit : ℕ) where
   head_in : (entries : List Entry) → ((stage : Stage) → R stage → EndsBy limit stage → head_time h instruction stage ≤ most) →
       HeadIs instruction R entries → Each (Ending limit) entries → flight_time h entries ≤ most
-  head_in [] bound head ends = absurd head
-  head_in (e ∷ es) bound head ends = subst (λ i. head_time h i e.stage ≤ most) (sym head.0) (bound e.stage head.1 ends.0)
+  head_in entries bound head ends = grind arith
 
   -- the patience is no greater than what the oldest instruction's stage allows
   pub head-patience : ((stage : Stage) → R stage → EndsBy limit stage → head_time h instruction stage ≤ most) →
@@ -98,8 +90,7 @@ module _ (h : Hardware) (instruction : Option Instr) (R : Stage → Type 0) (mos
   pub plain-patience : is_serialising instruction ≡ false →
       ((stage : Stage) → R stage → EndsBy limit stage → stage_time h instruction stage ≤ most) →
       HeadIs instruction R h.rob.entries → Each (Ending limit) h.rob.entries → patience h ≤ most
-  plain-patience plain bound head ends =
-      head-patience (λ stage is by. subst (λ n. n ≤ most) (sym (plain_time h instruction stage plain)) (bound stage is by)) head ends
+  plain-patience plain bound head ends = grind (arith, head-patience, plain_time)
 
 -- the patience of hardware with a given oldest instruction
 pub plain-head : (h : Hardware) (e : Entry) (es : List Entry) → h.rob.entries ≡ e ∷ es → is_serialising e.instruction ≡ false →
@@ -109,15 +100,12 @@ plain-head h e es split plain = ap (flight_time h) split ∙ plain_time h e.inst
 -- where it has begun, it is over within the longest execution
 pub begun_stage : (h : Hardware) (instruction : Option Instr) (stage : Stage) → HasBegun stage →
     EndsBy (h.cycle + longest_execution h) stage → stage_time h instruction stage ≤ longest_execution h + 1
-begun_stage h instruction Waiting begun ends = absurd (cc)
-begun_stage h instruction (Running issue message) begun ends = omega arith
-begun_stage h instruction (Finished issue cycle message) begun ends = omega arith
+begun_stage h instruction stage given ends = grind arith
 
 -- where the oldest has begun its execution, the patience is the longest execution's time and one at most
 pub begun-patience : (h : Hardware) (instruction : Option Instr) → is_serialising instruction ≡ false →
     HeadIs instruction HasBegun h.rob.entries → AreEnding h → patience h ≤ longest_execution h + 1
-begun-patience h instruction plain head ends =
-    plain-patience h instruction HasBegun (longest_execution h + 1) (h.cycle + longest_execution h) plain (λ stage is by. begun_stage h instruction stage is by) head ends
+begun-patience h instruction plain head ends = grind (arith, plain-patience, begun_stage)
 
 -- ---- stages and results
 -- a result leaves any stage in one

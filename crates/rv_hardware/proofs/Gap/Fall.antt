@@ -1,21 +1,20 @@
 -- A cycle without a step and without a stop lowers the patience by one at least.
-use Rattle.rv_hardware.proofs.Words.{◌≡◌, ℕ, ◌+◌, ◌≤◌, true, false, ◌||◌, List, [], ◌∷◌, is_some, Some, None, Option, sym, refl, ap, ◌∙◌, subst, inl, inr, arith, is_serialising, kind_of_word, Instr, Csr, FenceI, Mret, Lines, Kind, CacheValues, Memory, Each, Entry, Stage, Finished, Running, Waiting, FetchBuffer, FetchesInto, FetchStop, Committing, commit, IsCycle, any_prediction, execute, with_lines, Dispatching, drain, Hardware, broadcast_of, Report}
+use Rattle.rv_hardware.proofs.Words.{◌≡◌, ℕ, ◌+◌, ◌≤◌, true, false, ◌||◌, List, [], ◌∷◌, is_some, Some, None, Option, sym, refl, ap, ◌∙◌, subst, inl, inr, arith, is_serialising, kind_of_word, Instr, Csr, FenceI, Mret, Lines, Kind, Memory, Entry, Stage, Finished, Running, Waiting, FetchBuffer, FetchesInto, FetchStop, Committing, commit, IsCycle, any_prediction, execute, with_lines, Dispatching, drain, Hardware, broadcast_of, Report}
 use Rattle.std.specs.FinSet as set
 use Rattle.rv_hardware.proofs.Turns.KeptByCommit.{commit-keeps}
 use Rattle.rv_hardware.proofs.Turns.KeptByCycle.{same-kept}
 use Rattle.rv_hardware.proofs.Gap.Drained.{Drains, drains}
-use Rattle.rv_hardware.proofs.Always.Entries.{IsShaped, Shaped}
+use Rattle.rv_hardware.proofs.Always.Entries.{IsShaped}
 use Rattle.rv_hardware.proofs.Gap.Execute.{execute-same, later, plain-head}
 use Rattle.rv_hardware.proofs.Gap.FallEmpty.{fall_empty}
 use Rattle.rv_hardware.proofs.Gap.FallFence.{fall_fence_waits, fall_write_back}
 use Rattle.rv_hardware.proofs.Gap.FallRunning.{RunsUntil, fall_running}
 use Rattle.rv_hardware.proofs.Gap.FallWaiting.{fall_waiting}
 use Rattle.rv_hardware.proofs.Gap.Head.{HeadIs, Waits}
-use Rattle.rv_hardware.proofs.Gap.Patience.{dirty_time, flight_time, head_time, patience, port_time, stage_time}
-use Rattle.rv_hardware.proofs.Always.Serial.{alone, AreSerialLast}
+use Rattle.rv_hardware.proofs.Gap.Patience.{dirty_time, patience, port_time, stage_time}
+use Rattle.rv_hardware.proofs.Always.Serial.{alone}
 use Rattle.rv_hardware.proofs.Gap.Silent.{SilentAt, SilentFence, SilentHead, silent_commit}
 use Rattle.rv_hardware.proofs.Always.Sound.{IsBounded, sound-cycle}
-use Rattle.rv_hardware.proofs.Always.Stores.{instructions_of}
 
 module _ (lines : Lines) (old : Hardware) (sound : IsBounded old) where
   -- the hardware before the phases
@@ -31,9 +30,7 @@ module _ (lines : Lines) (old : Hardware) (sound : IsBounded old) where
       patience (later front (execute after).hardware) + 1 ≤ patience h
 
   drained : Drains h (drain h)
-  drained =
-      let hit : h.cache.values.hit ≡ h.values.cache.hit = ap (λ (c : CacheValues). c.hit) sound.sizes.cache in
-      drains h sound.queue (omega (arith, hit, sound.sizes.legal.cache.1.hit.0))
+  drained = grind (arith, drains)
 
   empty_falls : h.rob.entries ≡ [] → Falls h
   empty_falls none front ram cycle stop fetches after = fall_empty h front ram cycle stop none sound.sizes drained sound.halted.1 fetches after
@@ -52,8 +49,7 @@ module _ (lines : Lines) (old : Hardware) (sound : IsBounded old) where
           fall_waiting h front e.instruction k of_kind plain head sound.sizes drained after.ending sound.held after.held (patience_is Waiting at)
 
       stage_falls : (stage : Stage) → e.stage ≡ stage → broadcast_of stage ≡ None → IsShaped e.word e.instruction stage → Falls h
-      stage_falls Waiting at unknown shaped front ram cycle stop fetches after =
-          unit_falls (kind_of_word e.instruction) refl shaped.1 at front ram cycle stop fetches after
+      stage_falls Waiting at unknown shaped front ram cycle stop fetches after = grind (arith, unit_falls)
       stage_falls (Running issue message) at unknown shaped front ram cycle stop fetches after =
           let end : ℕ = issue.cycle + issue.cost in
           let runs : RunsUntil end e.stage = subst (RunsUntil end) (sym at) refl in
@@ -62,9 +58,7 @@ module _ (lines : Lines) (old : Hardware) (sound : IsBounded old) where
       stage_falls (Finished issue finished message) at unknown shaped front ram cycle stop fetches after = absurd (cc (unknown))
 
       plain_falls : broadcast_of e.stage ≡ None → Falls h
-      plain_falls unknown =
-          let all : Each Shaped (e ∷ es) = subst (Each Shaped) split sound.stores.0.0 in
-          stage_falls e.stage refl unknown all.0
+      plain_falls unknown = grind (arith, stage_falls)
 
     -- ---- FENCE.I
     by_silence : (after : Hardware) → h.rob.entries ≡ e ∷ [] → e.instruction ≡ Some FenceI → patience h ≡ port_time h + dirty_time h h.committed + 1 → SilentFence h after → Falls after
@@ -74,12 +68,7 @@ module _ (lines : Lines) (old : Hardware) (sound : IsBounded old) where
         subst Falls (sym same) (λ front ram cycle stop fetches next. omega (arith, time, fall_write_back h front e one is idle dirty next.ending))
 
     fence_falls : (after : Hardware) → e.instruction ≡ Some FenceI → SilentFence h after → Falls after
-    fence_falls after is silent =
-        let last : AreSerialLast (instructions_of (e ∷ es)) = subst (λ l. AreSerialLast (instructions_of l)) split sound.last in
-        let none : es ≡ [] = alone e es last (ap is_serialising is) in
-        let one : h.rob.entries ≡ e ∷ [] = split ∙ ap (λ l. e ∷ l) none in
-        let time : patience h ≡ port_time h + dirty_time h h.committed + 1 = ap (flight_time h) split ∙ ap (λ i. head_time h i e.stage) is in
-        by_silence after one is time silent
+    fence_falls after is silent = grind (arith, alone, by_silence)
 
     head_falls : (after : Hardware) (instruction : Option Instr) → e.instruction ≡ instruction → SilentHead instruction e.stage h after → Falls after
     head_falls after (Some FenceI) is silent = fence_falls after is silent

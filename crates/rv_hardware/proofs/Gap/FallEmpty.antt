@@ -1,5 +1,5 @@
 -- Where nothing is in flight, a cycle fetches, dispatches, or brings the retired stores nearer to their end.
-use Rattle.rv_hardware.proofs.Words.{◌≡◌, ℕ, zero, suc, ◌+◌, ◌-◌, ◌*◌, ◌≤◌, false, List, [], ◌∷◌, ◌++◌, length, nat_le, Some, None, filter, Option, sym, refl, ap, ◌∙◌, subst, true≢false, arith, length-append, leb-true, and_parts, nat_tests, is_store, kind_of_word, at_kind, Kind, CacheValues, Values, Memory, Store, Entry, FetchBuffer, Fetches, FetchesInto, FetchStop, Fetched, broadcast, any_prediction, execute, Dispatching, dispatch, dispatch_turn, has_full_stations, is_stationed, with_dispatched, drain, Hardware, issue, Turn, followed_by, repeated, stores_behind}
+use Rattle.rv_hardware.proofs.Words.{◌≡◌, ℕ, suc, ◌+◌, ◌-◌, ◌*◌, ◌≤◌, false, List, [], ◌∷◌, ◌++◌, length, nat_le, None, Option, sym, refl, ap, ◌∙◌, subst, true≢false, arith, length-append, leb-true, and_parts, nat_tests, at_kind, Kind, Memory, Store, Entry, FetchBuffer, Fetches, FetchesInto, FetchStop, Fetched, broadcast, any_prediction, execute, Dispatching, dispatch, dispatch_turn, has_full_stations, with_dispatched, drain, Hardware, issue, Turn, followed_by, repeated}
 use Rattle.rv_hardware.proofs.Gap.Bound.{flight_time-most}
 use Rattle.rv_hardware.proofs.Turns.KeptByBroadcast.{IsKeptByBroadcast, broadcast-keeps}
 use Rattle.rv_hardware.proofs.Turns.KeptByDispatch.{IsKeptByDispatch, dispatch_turns-keep}
@@ -12,7 +12,7 @@ use Rattle.rv_hardware.proofs.Turns.Forms.{longest_access, longest_execution, lo
 use Rattle.rv_hardware.proofs.Always.Halted.{HaltsBehind, words_of, runs-empty}
 use Rattle.rv_hardware.proofs.Turns.KeptByIssue.{IsKeptByIssue, issue-keeps}
 use Rattle.rv_hardware.proofs.Gap.Patience.{fetch_time, flight_time, patience, port_time, time_of_stores}
-use Rattle.rv_hardware.proofs.Turns.Dispatch.{DispatchTurn, WaitsFor, buffer_empty, waits as word_waits, dispatches, for_serial, for_buffer, for_station, for_queue, dispatch_turn_is, is_any_serialising}
+use Rattle.rv_hardware.proofs.Turns.Dispatch.{DispatchTurn, WaitsFor, buffer_empty, waits as word_waits, dispatches, dispatch_turn_is}
 use Rattle.rv_hardware.proofs.Always.Sizes.{HasSizes, sizes-kept}
 use Rattle.rv_hardware.proofs.Always.Sound.{IsBounded}
 
@@ -22,34 +22,21 @@ IsCons [] = ⊥
 IsCons (x ∷ xs) = Unit {0}
 
 cons_append : {X : Type 0} (xs ys : List X) → IsCons xs → IsCons (xs ++ ys)
-cons_append [] ys some = absurd some
-cons_append (x ∷ xs) ys some = tt
+cons_append xs ys some = grind arith
 
 module _ (ram : Memory) (cycle : ℕ) (old new : FetchBuffer) (stop : FetchStop) (fetches : FetchesInto any_prediction ram cycle old new stop) where
   words_stay : IsCons old.entries → IsCons new.entries
-  words_stay some =
-      fetch-cases any_prediction ram cycle old new stop (IsCons new.entries) (λ halted same. subst (λ f. IsCons f.entries) (sym same) some)
-      (λ runs adds. subst (λ f. IsCons f.entries) (sym adds.is) (cons_append old.entries adds.added some)) fetches
+  words_stay some = grind (arith, fetch-cases, cons_append)
 
   some_added : (width room pc : ℕ) (added : List Fetched) (next : ℕ) → 1 ≤ width → 1 ≤ room →
       Fetches any_prediction ram cycle width room pc added next stop → IsCons added
-  some_added width room pc (f ∷ added) next wide free words = tt
-  some_added zero room pc [] next wide free words = absurd (omega arith)
-  some_added (suc width) zero pc [] next wide free words = absurd (omega arith)
-  some_added (suc width) (suc room) pc [] next wide free words = absurd words.0
+  some_added width room pc added next wide free words = grind arith
 
   word_comes : old.entries ≡ [] → old.halted ≡ false → 1 ≤ old.width → 1 ≤ old.capacity → IsCons new.entries
-  word_comes none runs wide free =
-      fetch-cases any_prediction ram cycle old new stop (IsCons new.entries) (λ halted same. absurd (cc (halted, runs)))
-      (λ runs adds.
-      let length_none : length old.entries ≡ 0 = ap length none in
-      let some = some_added old.width (old.capacity - length old.entries) old.next_pc adds.added new.next_pc wide (omega (arith, length_none, free)) adds.words in
-      subst (λ f. IsCons f.entries) (sym adds.is) (subst (λ l. IsCons (l ++ adds.added)) (sym none) some))
-      fetches
+  word_comes given runs wide free = grind (arith, fetch-cases, some_added)
 
 no_fetch_time : (fetched : List Fetched) → IsCons fetched → fetch_time fetched ≡ 0
-no_fetch_time [] some = absurd some
-no_fetch_time (f ∷ rest) some = refl
+no_fetch_time fetched some = grind arith
 
 -- ---- what a word waits for where nothing is in flight
 le_none : (capacity : ℕ) → 1 ≤ capacity → nat_le capacity 0 ≡ false
@@ -59,24 +46,11 @@ some_stations : (h : Hardware) (k : Kind) → HasSizes h → 1 ≤ (at_kind k h.
 some_stations h k sizes = (sizes.legal.kinds k).stations.0
 
 free_stations : (h : Hardware) (kind : Option Kind) → HasSizes h → h.rob.entries ≡ [] → has_full_stations h kind ≡ false
-free_stations h None sizes none = refl
-free_stations h (Some k) sizes none =
-    ap (λ (l : List Entry). nat_le (at_kind k h.values.kinds).stations (length (filter (is_stationed k) l))) none ∙ le_none (at_kind k h.values.kinds).stations (some_stations h k sizes)
+free_stations h kind sizes given = grind (arith, le_none, some_stations)
 
 waits_for_stores : (h : Hardware) (fetched : Fetched) → HasSizes h → h.rob.entries ≡ [] → WaitsFor h fetched →
     h.values.store_queue ≤ length h.committed
-waits_for_stores h fetched sizes none (for_serial is) = absurd (true≢false (sym is ∙ ap is_any_serialising none))
-waits_for_stores h fetched sizes none (for_buffer is) =
-    let capacity : 1 ≤ h.rob.capacity = omega (arith, sizes.buffer, sizes.legal.pipeline.rob.0) in
-    absurd (true≢false (sym is ∙ ap (λ (l : List Entry). nat_le h.rob.capacity (length l)) none ∙ le_none h.rob.capacity capacity))
-waits_for_stores h fetched sizes none (for_station is) =
-    absurd (true≢false (sym is ∙ free_stations h (kind_of_word fetched.instruction) sizes none))
-waits_for_stores h fetched sizes none (for_queue is) =
-    let full = (and_parts (is_store fetched.instruction) (nat_le h.values.store_queue (length (stores_behind h h.rob.entries))) is).1 in
-    let many = leb-true h.values.store_queue (length (stores_behind h h.rob.entries)) full in
-    let count : length (stores_behind h h.rob.entries) ≡ length (stores_behind h []) = ap (λ l. length (stores_behind h l)) none in
-    let empty : List Store = [] in
-    omega (arith, many, count, length-append h.committed empty)
+waits_for_stores h fetched sizes given holds = grind (arith, true≢false, le_none, free_stations, and_parts, leb-true, length-append)
 
 -- ---- the phases up to dispatch find nothing
 nil_split : (older younger : List Entry) (e : Entry) (entries : List Entry) → entries ≡ [] → entries ≡ older ++ e ∷ younger → ⊥
@@ -104,9 +78,7 @@ abbrev Something : ℕ → Hardware → Type 0
 Something time g = IsCons g.rob.entries × (next_port_time g ≡ time)
 
 something_dispatch : (time : ℕ) → IsKeptByDispatch (Something time)
-something_dispatch time = record {
-  dispatches = λ g fetched rest some first none. (cons_append g.rob.entries _ some.0, some.1);
-}
+something_dispatch time = grind (arith, cons_append)
 
 pushed_cons : (es : List Entry) (e : Entry) → IsCons (es ++ e ∷ [])
 pushed_cons [] e = tt
@@ -142,13 +114,11 @@ dispatched g sizes none time port =
 
 -- ---- in all
 some_time : (access : ℕ) (stores : List Store) → 1 ≤ length stores → 1 ≤ time_of_stores access stores
-some_time access [] some = absurd (omega arith)
-some_time access (s ∷ ss) some = omega arith
+some_time access stores some = grind arith
 
 in_flight_most : (g : Hardware) → IsBounded g → (entries : List Entry) → g.rob.entries ≡ entries → IsCons entries →
     patience g ≤ port_time g + longest_write_back g + 2 * longest_execution g + 2
-in_flight_most g sound [] split some = absurd some
-in_flight_most g sound (e ∷ es) split some = flight_time-most g sound e es split
+in_flight_most g sound entries split some = grind (arith, flight_time-most)
 
 module _ (h : Hardware) (front : FetchBuffer) (ram : Memory) (cycle : ℕ) (stop : FetchStop) (none : h.rob.entries ≡ []) (sizes : HasSizes h) (drains : Drains h (drain h))
     (halts : HaltsBehind h.front.halted (words_of h.rob.entries h.front.entries)) (fetches : FetchesInto any_prediction ram cycle (execute h).hardware.front front stop)
@@ -178,9 +148,7 @@ module _ (h : Hardware) (front : FetchBuffer) (ram : Memory) (cycle : ℕ) (stop
       broadcast-keeps kept.broadcast (issue (drain h)) (issue-keeps HasSizes kept.issue (drain h) (drain-keeps kept.drain h sizes))
 
   same_lines : longest_write_back new ≡ longest_write_back h
-  same_lines =
-      let same = execute-same h in
-      ap (λ (c : CacheValues). c.sets * c.ways * d.values.cache.write_back) same.1 ∙ ap (λ (v : Values). h.cache.values.sets * h.cache.values.ways * v.cache.write_back) same.0
+  same_lines = grind (arith, execute-same)
 
   before_is : patience h ≡ port_time h + longest_write_back h + 2 * longest_execution h + 3 + fetch_time h.front.entries
   before_is = ap (flight_time h) none

@@ -1,5 +1,5 @@
 -- Where FENCE.I is the oldest instruction, a cycle brings the port, the retired stores and the dirty lines nearer to their end.
-use Rattle.rv_hardware.proofs.Words.{◌≡◌, ℕ, ◌+◌, ◌*◌, ◌≤◌, true, false, List, [], ◌∷◌, ◌++◌, nat_le, ◌==◌, Some, Option, sym, refl, ap, ◌∙◌, subst, arith, leb-false, eqb-false, false≢true, lt-leb, is_of_kind, kind_of_word, Instr, FenceI, Kind, CacheValues, Values, Each, oldest_to_drain, Store, Entry, FetchBuffer, broadcast, is_drained, with_write_back, write_back_time, execute, drain, end_drain, start_drain, Hardware, issue, by_test, Each-right}
+use Rattle.rv_hardware.proofs.Words.{◌≡◌, ℕ, ◌+◌, ◌*◌, ◌≤◌, true, false, List, [], ◌∷◌, ◌++◌, nat_le, ◌==◌, Some, Option, sym, refl, ap, ◌∙◌, subst, arith, leb-false, eqb-false, false≢true, lt-leb, is_of_kind, kind_of_word, Instr, FenceI, Kind, Each, Store, Entry, FetchBuffer, broadcast, is_drained, with_write_back, write_back_time, execute, drain, Hardware, issue, by_test, Each-right}
 use Rattle.rv_hardware.proofs.Gap.Bound.{dirty_time-most}
 use Rattle.rv_hardware.proofs.Turns.KeptByBroadcast.{IsKeptByBroadcast, broadcast-keeps}
 use Rattle.rv_hardware.proofs.Turns.KeptByDispatch.{IsKeptByDispatch, dispatch-keeps}
@@ -20,9 +20,7 @@ abbrev IsFence : Entry → Type 0
 IsFence e = e.instruction ≡ fence
 
 never_issued : (k : Kind) (older younger : List Entry) (e : Entry) (entries : List Entry) → Each IsFence entries → entries ≡ older ++ e ∷ younger → is_of_kind k (kind_of_word e.instruction) ≡ true → ⊥
-never_issued k older younger e entries each split of_kind =
-    let own = (Each-right IsFence older (e ∷ younger) (subst (Each IsFence) split each)).0 in
-    false≢true (sym (ap (λ i. is_of_kind k (kind_of_word i)) own) ∙ of_kind)
+never_issued k older younger e entries each split of_kind = grind (arith, Each-right, false≢true)
 
 -- ---- the phases after drain
 module _ (h : Hardware) (front : FetchBuffer) (e : Entry) (split : h.rob.entries ≡ e ∷ []) (is : IsFence e) where
@@ -39,18 +37,10 @@ module _ (h : Hardware) (front : FetchBuffer) (e : Entry) (split : h.rob.entries
   Alone port dirty g = Each IsFence g.rob.entries × HeadIs fence IsAnywhere g.rob.entries × Lasts port dirty g
 
   alone_issue : (port dirty : ℕ) (k : Kind) → IsKeptByIssue (Alone port dirty) k
-  alone_issue port dirty k = record {
-    accesses = λ g older younger x address alone found ready by.
-        absurd (never_issued k older younger x g.rob.entries alone.0 found (ready-parts g k older x ready).of_kind);
-    starts = λ g older younger x cost message alone found waits of_kind result costs.
-        absurd (never_issued k older younger x g.rob.entries alone.0 found of_kind);
-  }
+  alone_issue port dirty k = grind (arith, never_issued, ready-parts)
 
   lasts_broadcast : (port dirty : ℕ) → IsKeptByBroadcast (Lasts port dirty)
-  lasts_broadcast port dirty = record {
-    broadcasts = λ g older younger x message lasts found gives. lasts;
-    mends = λ g older younger x next lasts found. lasts;
-  }
+  lasts_broadcast port dirty = grind arith
 
   lasts_dispatch : (port dirty : ℕ) → IsKeptByDispatch (Lasts port dirty)
   lasts_dispatch port dirty = record { dispatches = λ g fetched rest lasts first none. lasts }
@@ -72,47 +62,27 @@ module _ (h : Hardware) (front : FetchBuffer) (e : Entry) (split : h.rob.entries
 
 -- ---- stores or the port are waited for
 same_lines : (h g : Hardware) → SameButPort h g → longest_write_back g ≡ longest_write_back h
-same_lines h g same =
-    ap (λ (c : CacheValues). c.sets * c.ways * g.values.cache.write_back) same.cache
-    ∙ ap (λ (v : Values). h.cache.values.sets * h.cache.values.ways * v.cache.write_back) same.values
+same_lines h g same = grind arith
 
 not_drained_empty : (h : Hardware) → h.committed ≡ [] → is_drained h ≡ false → nat_le h.port_free h.cycle ≡ false
-not_drained_empty h none waits = by_committed h.committed none waits where
-  by_committed : (stores : List Store) → stores ≡ [] → is_drained (record h { committed = stores }) ≡ false → nat_le h.port_free h.cycle ≡ false
-  by_committed [] is drained = drained
-  by_committed (s ∷ ss) is drained = absurd (cc)
+not_drained_empty h given holds = grind arith
 
 busy_same : (h : Hardware) → nat_le h.port_free h.cycle ≡ false → drain h ≡ h
-busy_same h busy =
-    by_test (λ g. g ≡ h) (nat_le h.port_free h.cycle) (start_drain (oldest_to_drain (end_drain h).committed) (end_drain h)) h
-    (λ idle. absurd (cc (idle, busy))) (λ waits. refl)
+busy_same h busy = grind (arith, by_test)
 
 fence_waits : (h : Hardware) (stores : List Store) → h.committed ≡ stores → Drains h (drain h) → HasRoom h → is_drained h ≡ false →
     next_port_time (drain h) + dirty_time (drain h) (drain h).committed + 1 ≤ port_time h + dirty_time h h.committed
-fence_waits h [] none drains room waits =
-    let busy = not_drained_empty h none waits in
-    let later_than = leb-false h.port_free h.cycle busy in
-    let some : 1 ≤ port_time h = omega (arith, later_than) in
-    let dirty : dirty_time (drain h) (drain h).committed ≡ dirty_time h h.committed = ap (λ g. dirty_time g g.committed) (busy_same h busy) in
-    omega (arith, drains.fall, some, dirty)
-fence_waits h (s ∷ ss) stores drains room waits =
-    let time : time_of_stores (longest_access h) h.committed ≡ time_of_stores (longest_access h) (s ∷ ss) = ap (time_of_stores (longest_access h)) stores in
-    let some : 1 ≤ port_time h = omega (arith, time) in
-    let after : HasRoom (drain h) = drain-keeps room-kept.phases.drain h room in
-    let most = dirty_time-most (drain h) (drain h).committed after in
-    let all : dirty_time h h.committed ≡ longest_write_back h = ap (dirty_time h) stores in
-    omega (arith, drains.fall, some, most, same_lines h (drain h) (drain-same h), all)
+fence_waits h [] none drains room waits = grind (arith, not_drained_empty, leb-false, busy_same)
+fence_waits h (s ∷ ss) stores drains room waits = grind (arith, drain-keeps, room-kept, dirty_time-most, same_lines, drain-same)
 
 -- where FENCE.I waits for the retired stores and the port, a cycle lowers the patience
 pub fall_fence_waits : (h : Hardware) (front : FetchBuffer) (e : Entry) → h.rob.entries ≡ e ∷ [] → e.instruction ≡ Some FenceI → Drains h (drain h) → HasRoom h → is_drained h ≡ false →
     AreEnding (later front (execute h).hardware) → patience (later front (execute h).hardware) + 1 ≤ port_time h + dirty_time h h.committed + 1
-fall_fence_waits h front e split is drains room waits ending =
-    omega (arith, fence_patience h front e split is ending, fence_waits h h.committed refl drains room waits)
+fall_fence_waits h front e split is drains room given ending = grind (arith, fence_patience, fence_waits)
 
 -- ---- its write-back begins
 drained_none : (h : Hardware) (stores : List Store) → h.committed ≡ stores → is_drained (record h { committed = stores }) ≡ true → h.committed ≡ []
-drained_none h [] is drained = is
-drained_none h (s ∷ ss) is drained = absurd (cc)
+drained_none h stores is drained = grind arith
 
 -- a cycle in which FENCE.I's write-back begins lowers the patience
 pub fall_write_back : (h : Hardware) (front : FetchBuffer) (e : Entry) → h.rob.entries ≡ e ∷ [] → e.instruction ≡ Some FenceI → is_drained h ≡ true → (write_back_time h == 0) ≡ false →

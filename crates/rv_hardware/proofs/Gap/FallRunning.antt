@@ -1,5 +1,5 @@
 -- Where the oldest instruction executes, a cycle brings its end nearer.
-use Rattle.rv_hardware.proofs.Words.{◌≡◌, ℕ, suc, ◌+◌, ◌-◌, ◌<◌, ◌≤◌, true, false, not, List, [], ◌∷◌, ◌++◌, is_none, Option, sym, refl, ap, ◌∙◌, subst, inl, inr, true≢false, arith, le-leb, cases_lt, is_serialising, Message, Instr, Issue, Kind, Values, finished, predicting, started, Entry, Stage, Finished, Running, Waiting, FetchBuffer, broadcast, broadcast_turn, has_result, result_at, execute, drain, Hardware, is_waiting, issue, Turn, repeated, EveryBehind, Leaves, left_by_the_rest, kept_by_turns}
+use Rattle.rv_hardware.proofs.Words.{◌≡◌, ℕ, suc, ◌+◌, ◌-◌, ◌<◌, ◌≤◌, true, false, not, List, [], ◌∷◌, ◌++◌, is_none, Option, sym, refl, ap, ◌∙◌, subst, inl, inr, true≢false, arith, le-leb, cases_lt, is_serialising, Message, Instr, Issue, Kind, Values, finished, predicting, started, Entry, Stage, Finished, Running, FetchBuffer, broadcast, broadcast_turn, has_result, result_at, execute, drain, Hardware, is_waiting, issue, Turn, repeated, EveryBehind, Leaves, left_by_the_rest, kept_by_turns}
 use Rattle.rv_hardware.proofs.Turns.Broadcast.{BroadcastTurn, HasRun, none_ready, sends, mends, broadcast_turn_is}
 use Rattle.rv_hardware.proofs.Turns.KeptByBroadcast.{IsMadeByBroadcast, sends-makes, mends-makes}
 use Rattle.rv_hardware.proofs.Turns.KeptByDrain.{drain-same}
@@ -12,25 +12,19 @@ use Rattle.rv_hardware.proofs.Turns.Forms.{longest_execution}
 
 -- it executes until a cycle
 abbrev pub RunsUntil : ℕ → Stage → Type 0
-RunsUntil end Waiting = ⊥
 RunsUntil end (Running issue message) = issue.cycle + issue.cost ≡ end
-RunsUntil end (Finished issue cycle message) = ⊥
+RunsUntil end _ = ⊥
 
 abbrev IsOver : Stage → Type 0
-IsOver Waiting = ⊥
-IsOver (Running issue message) = ⊥
 IsOver (Finished issue cycle message) = Unit {0}
+IsOver _ = ⊥
 
 -- ---- its result
 result_due : (end cycle : ℕ) (stage : Stage) → RunsUntil end stage → end ≤ cycle → not (is_none (result_at cycle stage)) ≡ true
-result_due end cycle Waiting runs due = absurd runs
-result_due end cycle (Running issue message) runs due = rw (le-leb (issue.cycle + issue.cost) cycle (omega arith)) refl
-result_due end cycle (Finished issue finished message) runs due = absurd runs
+result_due end cycle stage runs due = grind (arith, le-leb)
 
 not_waiting : (end : ℕ) (stage : Stage) → is_waiting stage ≡ true → RunsUntil end stage → ⊥
-not_waiting end Waiting waits runs = runs
-not_waiting end (Running issue message) waits runs = cc
-not_waiting end (Finished issue cycle message) waits runs = runs
+not_waiting end stage given runs = grind arith
 
 runs_by_issue : (instruction : Option Instr) (end : ℕ) (k : Kind) →
     IsKeptByIssue (λ h. HeadIs instruction (RunsUntil end) h.rob.entries) k
@@ -65,9 +59,7 @@ module _ (h : Hardware) (front : FetchBuffer) (instruction : Option Instr) (end 
       (head-broadcasted instruction (RunsUntil end) h.cycle closed issued runs_issued number) (broadcast-same issued ∙ number)
 
   left : (g : Hardware) (stage : Stage) → RunsUntil end stage → stage_time g instruction stage ≤ 1 + (end - g.cycle)
-  left g Waiting runs = absurd runs
-  left g (Running issue message) runs = omega arith
-  left g (Finished issue cycle message) runs = absurd runs
+  left g stage runs = grind arith
 
   -- ---- its result is the first that is broadcast
   abbrev Over : Hardware → Type 0
@@ -89,9 +81,7 @@ module _ (h : Hardware) (front : FetchBuffer) (instruction : Option Instr) (end 
   NoneDue = EveryBehind (λ before e. has_result issued.cycle before e ≡ false) []
 
   one_is_due : end ≤ h.cycle → (entries : List Entry) → HeadIs instruction (RunsUntil end) entries → NoneDue entries → ⊥
-  one_is_due due [] runs none = runs
-  one_is_due due (e ∷ es) runs none =
-      true≢false (sym (result_due end issued.cycle e.stage runs.1 (omega (arith, number))) ∙ none.0)
+  one_is_due due entries runs given = grind (arith, true≢false, result_due, number)
 
   it_is_first : end ≤ h.cycle → (older younger : List Entry) (e : Entry) →
       HeadIs instruction (RunsUntil end) (older ++ e ∷ younger) → NoneDue older → (older ≡ []) × (e.instruction ≡ instruction)
@@ -118,9 +108,7 @@ module _ (h : Hardware) (front : FetchBuffer) (instruction : Option Instr) (end 
       head-dispatched instruction IsOver h.cycle over_closed (broadcast issued) all.0 all.1
 
   none_left : (g : Hardware) (stage : Stage) → IsOver stage → stage_time g instruction stage ≤ 0
-  none_left g Waiting over = absurd over
-  none_left g (Running issue message) over = absurd over
-  none_left g (Finished issue cycle message) over = omega arith
+  none_left g stage over = grind arith
 
   abbrev new : Hardware
   new = later front (execute h).hardware

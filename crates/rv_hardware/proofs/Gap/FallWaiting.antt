@@ -1,15 +1,15 @@
 -- Where the oldest instruction waits for a unit or the port, a cycle brings them nearer, or it leaves.
-use Rattle.rv_hardware.proofs.Words.{◌≡◌, ℕ, zero, suc, ◌+◌, ◌-◌, ◌*◌, ◌<◌, ◌≤◌, Bool, true, false, cond, ◌⊎◌, [], nat_le, Some, Option, sym, refl, ap, ◌∙◌, subst, inl, inr, arith, nat_tests, is_load, is_serialising, kind_of_word, at_kind, Instr, Kind, Values, Pool, is_free, started, Stage, Finished, Running, Waiting, FetchBuffer, broadcast, execute, drain, Hardware, issue}
+use Rattle.rv_hardware.proofs.Words.{◌≡◌, ℕ, ◌+◌, ◌-◌, ◌*◌, ◌<◌, ◌≤◌, Bool, true, false, cond, [], nat_le, Some, Option, sym, refl, ap, ◌∙◌, subst, arith, nat_tests, is_load, is_serialising, kind_of_word, at_kind, Instr, Kind, Values, Pool, is_free, started, Stage, FetchBuffer, broadcast, execute, drain, Hardware, issue}
 use Rattle.rv_hardware.proofs.Gap.Bound.{free_time-most, no_more, unit_time-most}
 use Rattle.rv_hardware.proofs.Turns.KeptByBroadcast.{IsKeptByBroadcast, broadcast-keeps}
 use Rattle.rv_hardware.proofs.Turns.KeptByDispatch.{IsKeptByDispatch, dispatch-keeps}
 use Rattle.rv_hardware.proofs.Gap.Drained.{Drains, next_port_time}
 use Rattle.rv_hardware.proofs.Turns.KeptByDrain.{drain-same}
 use Rattle.rv_hardware.proofs.Gap.Execute.{begun-patience, begun_closed, begun_stage, broadcast-same, execute-same, head-broadcasted, head-dispatched, issued-same, later, plain-patience, same-longest, waits_closed, anywhere_closed}
-use Rattle.rv_hardware.proofs.Turns.Forms.{longest_access, longest_execution}
+use Rattle.rv_hardware.proofs.Turns.Forms.{longest_execution}
 use Rattle.rv_hardware.proofs.Gap.Head.{HasBegun, HeadIs, Waits, head-change, head-weaken, IsAnywhere}
 use Rattle.rv_hardware.proofs.Turns.KeptByIssue.{IsKeptByIssue, issue-keeps}
-use Rattle.rv_hardware.proofs.Gap.Patience.{free_time, patience, port_time, stage_time, time_of_stores, unit_time, waiting_time}
+use Rattle.rv_hardware.proofs.Gap.Patience.{free_time, patience, port_time, stage_time, unit_time, waiting_time}
 use Rattle.rv_hardware.proofs.Gap.Ready.{CanGo, cache_access}
 use Rattle.rv_hardware.proofs.Always.Executions.{AreEnding, EndsBy}
 use Rattle.rv_hardware.proofs.Always.Sizes.{HasSizes}
@@ -23,21 +23,16 @@ some_units h k sizes = (sizes.legal.kinds k).units.0
 
 -- ---- times
 no_port : (load : Bool) (port : ℕ) → (load ≡ true → port ≡ 0) → cond load port 0 ≡ 0
-no_port true port none = none refl
-no_port false port none = refl
+no_port load port given = grind arith
 
 free_time-least : (port next unit longest : ℕ) → next + 1 ≤ unit → unit ≤ longest → next + 1 ≤ free_time port unit longest
-free_time-least zero next unit longest falls most = falls
-free_time-least (suc port) next unit longest falls most = omega arith
+free_time-least port next unit longest falls most = grind arith
 
 free_time-port : (port unit longest : ℕ) → 1 ≤ port → free_time port unit longest ≡ port + longest
-free_time-port zero unit longest some = absurd (omega arith)
-free_time-port (suc port) unit longest some = refl
+free_time-port port unit longest some = grind arith
 
 idle_time : (h : Hardware) → h.committed ≡ [] → h.port_free ≤ h.cycle → next_port_time h ≡ 0
-idle_time h none idle =
-    let stores : time_of_stores (longest_access h) h.committed ≡ 0 = ap (time_of_stores (longest_access h)) none in
-    omega (arith, stores, idle)
+idle_time h given idle = grind arith
 
 module _ (h : Hardware) (front : FetchBuffer) (instruction : Option Instr) (k : Kind) (of_kind : kind_of_word instruction ≡ Some k) (plain : is_serialising instruction ≡ false)
     (head : HeadIs instruction Waits h.rob.entries) (sizes : HasSizes h) where
@@ -70,31 +65,19 @@ module _ (h : Hardware) (front : FetchBuffer) (instruction : Option Instr) (k : 
   Keeps g = (at_kind k g.units ≡ pool) × (is_load instruction ≡ true → next_port_time g ≡ 0)
 
   keeps_broadcast : IsKeptByBroadcast Keeps
-  keeps_broadcast = record {
-    broadcasts = λ g older younger e message keeps split gives. keeps;
-    mends = λ g older younger e next keeps split. keeps;
-  }
+  keeps_broadcast = grind arith
 
   keeps_dispatch : IsKeptByDispatch Keeps
   keeps_dispatch = record { dispatches = λ g fetched rest keeps first none. keeps }
 
   port_when : (g : Hardware) → CanGo instruction g → is_load instruction ≡ true → next_port_time g ≡ 0
-  port_when g (inl other) load = absurd (cc (other, load))
-  port_when g (inr (none, idle)) load = idle_time g none idle
+  port_when g given load = grind (arith, idle_time)
 
   waiting_is : (g : Hardware) → waiting_time g (is_load instruction) (kind_of_word instruction) ≡ free_time (cond (is_load instruction) (port_time g) 0) (unit_time g.cycle (at_kind k g.units).starts) (longest_execution g) + longest_execution g + 2
   waiting_is g = ap (waiting_time g (is_load instruction)) of_kind
 
   still_waits : (stage : Stage) → Waits stage → Keeps (execute h).hardware → stage_time new instruction stage ≤ unit_time (h.cycle + 1) pool.starts + longest_execution h + 2
-  still_waits Waiting waits keeps =
-      let port : cond (is_load instruction) (port_time new) 0 ≡ 0 = no_port (is_load instruction) (port_time new) keeps.1 in
-      let free : free_time (cond (is_load instruction) (port_time new) 0) (unit_time new.cycle (at_kind k new.units).starts) (longest_execution new) ≡ unit_time new.cycle (at_kind k new.units).starts =
-      ap (λ n. free_time n (unit_time new.cycle (at_kind k new.units).starts) (longest_execution new)) port in
-      let units : unit_time new.cycle (at_kind k new.units).starts ≡ unit_time (h.cycle + 1) pool.starts =
-      ap (λ c. unit_time (c + 1) (at_kind k new.units).starts) (execute-same h).2 ∙ ap (λ (p : Pool). unit_time (h.cycle + 1) p.starts) keeps.0 in
-      omega (arith, waiting_is new, free, units, same-longest h front)
-  still_waits (Running issue message) waits keeps = absurd (cc)
-  still_waits (Finished issue cycle message) waits keeps = absurd (cc)
+  still_waits stage given keeps = grind (arith, no_port, execute-same, waiting_is, same-longest)
 
   fall_held : CanStart instruction k of_kind pool h.cycle issued → is_free h.cycle pool ≡ false → AreEnding new → unit_time h.cycle pool.starts ≤ longest_execution h →
       patience h ≡ free_time (cond (is_load instruction) (port_time h) 0) (unit_time h.cycle pool.starts) (longest_execution h) + longest_execution h + 2 → patience new + 1 ≤ patience h
@@ -129,21 +112,13 @@ module _ (h : Hardware) (front : FetchBuffer) (instruction : Option Instr) (k : 
   Lasts time g = next_port_time g ≡ time
 
   lasts_broadcast : (time : ℕ) → IsKeptByBroadcast (Lasts time)
-  lasts_broadcast time = record {
-    broadcasts = λ g older younger e message lasts split gives. lasts;
-    mends = λ g older younger e next lasts split. lasts;
-  }
+  lasts_broadcast time = grind arith
 
   lasts_dispatch : (time : ℕ) → IsKeptByDispatch (Lasts time)
   lasts_dispatch time = record { dispatches = λ g fetched rest lasts first none. lasts }
 
   still_busy : (stage : Stage) → EndsBy (new.cycle + longest_execution new) stage → AreHeld new → stage_time new instruction stage ≤ port_time new + 2 * longest_execution new + 2
-  still_busy Waiting ends held =
-      let units = unit_time-most new.cycle (longest_execution new) (at_kind k new.units).starts (held k) in
-      let free = free_time-most (cond (is_load instruction) (port_time new) 0) (unit_time new.cycle (at_kind k new.units).starts) (longest_execution new) units in
-      omega (arith, waiting_is new, free, no_more (is_load instruction) (port_time new))
-  still_busy (Running issue message) ends held = omega (arith, begun_stage new instruction (Running issue message) refl ends)
-  still_busy (Finished issue cycle message) ends held = omega arith
+  still_busy stage ends held = grind (arith, unit_time-most, free_time-most, waiting_is, no_more, begun_stage)
 
   fall_busy : h.cycle < (drain h).port_free → next_port_time (drain h) ≤ port_time h - 1 → 1 ≤ port_time h → is_load instruction ≡ true → AreEnding new → AreHeld new →
       patience h ≡ free_time (cond (is_load instruction) (port_time h) 0) (unit_time h.cycle pool.starts) (longest_execution h) + longest_execution h + 2 → patience new + 1 ≤ patience h
@@ -169,8 +144,7 @@ module _ (h : Hardware) (front : FetchBuffer) (instruction : Option Instr) (k : 
   by_start : AreEnding new → AreHeld h →
       patience h ≡ free_time (cond (is_load instruction) (port_time h) 0) (unit_time h.cycle pool.starts) (longest_execution h) + longest_execution h + 2 →
       IsAfterIssue instruction k of_kind pool h.cycle issued → patience new + 1 ≤ patience h
-  by_start ending held is (inl (can_still, taken)) = fall_held can_still taken ending (unit_time-most h.cycle (longest_execution h) pool.starts (held k)) is
-  by_start ending held is (inr left) = fall_begun left ending (omega (arith, is))
+  by_start ending held is given = grind (arith, fall_held, unit_time-most, fall_begun)
 
   fall_ready : CanGo instruction (drain h) → AreEnding new → AreHeld h →
       patience h ≡ free_time (cond (is_load instruction) (port_time h) 0) (unit_time h.cycle pool.starts) (longest_execution h) + longest_execution h + 2 → patience new + 1 ≤ patience h
@@ -187,11 +161,4 @@ module _ (h : Hardware) (front : FetchBuffer) (instruction : Option Instr) (k : 
 
   -- where the oldest waits for a unit or the port, a cycle lowers the patience
   pub fall_waiting : Drains h (drain h) → AreEnding new → AreHeld h → AreHeld new → patience h ≡ waiting_time h (is_load instruction) (kind_of_word instruction) → patience new + 1 ≤ patience h
-  fall_waiting drained ending held holding is = by_load (is_load instruction) refl drained.port where
-    all : patience h ≡ free_time (cond (is_load instruction) (port_time h) 0) (unit_time h.cycle pool.starts) (longest_execution h) + longest_execution h + 2
-    all = is ∙ waiting_is h
-
-    by_load : (load : Bool) → is_load instruction ≡ load → ((h.cycle < (drain h).port_free) × (1 ≤ port_time h)) ⊎ (((drain h).committed ≡ []) × ((drain h).port_free ≤ h.cycle)) → patience new + 1 ≤ patience h
-    by_load false other port = fall_ready (inl other) ending held all
-    by_load true load (inl (busy, some)) = fall_busy busy drained.fall some load ending holding all
-    by_load true load (inr (none, idle)) = fall_ready (inr (none, omega (arith, idle, (drain-same h).cycle))) ending held all
+  fall_waiting drained ending held holding is = grind (arith, waiting_is, fall_ready, fall_busy, drain-same)

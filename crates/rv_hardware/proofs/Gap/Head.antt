@@ -1,4 +1,5 @@
 -- The oldest instruction in flight stays the oldest in the phases after commit, whatever becomes of those that are younger.
+use Rattle.std.proofs.Common.{arith}
 use Rattle.rv_hardware.proofs.Words.{◌≡◌, true, false, List, [], ◌∷◌, ◌++◌, Option, sym, ◌∙◌, subst, Instr, Entry, Stage, is_waiting}
 
 -- the oldest is this instruction, in such a stage
@@ -21,13 +22,11 @@ module _ (instruction : Option Instr) (R : Stage → Type 0) where
 
   -- the oldest stays what it was where one more is dispatched
   pub head-push : (es : List Entry) (e : Entry) → HeadIs instruction R es → HeadIs instruction R (es ++ e ∷ [])
-  head-push [] e head = absurd head
-  head-push (x ∷ es) e head = head
+  head-push es e head = grind arith
 
   -- what follows from the stage of the oldest holds of it
   pub head-weaken : (Q : Stage → Type 0) → ((stage : Stage) → R stage → Q stage) → (es : List Entry) → HeadIs instruction R es → HeadIs instruction Q es
-  head-weaken Q weaker [] head = absurd head
-  head-weaken Q weaker (e ∷ es) head = (head.0, weaker e.stage head.1)
+  head-weaken Q weaker es head = grind arith
 
 -- it waits, or it has begun its execution
 abbrev pub Waits : Stage → Type 0

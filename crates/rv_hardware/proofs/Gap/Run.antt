@@ -1,5 +1,5 @@
 -- The gaps of a run are below the bound.
-use Rattle.rv_hardware.proofs.Words.{◌≡◌, ℕ, ◌+◌, ◌<◌, ◌≤◌, max, Bool, true, false, cond, List, [], ◌∷◌, ◌++◌, length, None, sym, refl, ap, ◌∙◌, subst, arith, cond-true, gap_bound_of, Arrival, Lines, Values, Stop, IsCycle, any_prediction, AreSilent, NoSilence, OnlyLastStops, Hardware, Report, Cycles, EndsWith, IsStop, NoneStops, Reachable, cycled, ended, is_silent, longest_gap_from, longest_gap_of, Step, by_test}
+use Rattle.rv_hardware.proofs.Words.{◌≡◌, ℕ, ◌+◌, ◌<◌, ◌≤◌, Bool, true, cond, List, [], ◌∷◌, ◌++◌, length, None, sym, refl, ap, ◌∙◌, subst, arith, cond-true, gap_bound_of, Arrival, Lines, Values, Stop, IsCycle, any_prediction, AreSilent, NoSilence, OnlyLastStops, Hardware, Report, Cycles, EndsWith, IsStop, NoneStops, cycled, ended, is_silent, longest_gap_from, longest_gap_of, Step, by_test}
 use Rattle.rv_arch.specs.declared.outcome.Stop.TheVariants as stop
 use Rattle.rv_hardware.proofs.Gap.Bound.{patience-below}
 use Rattle.rv_hardware.proofs.Turns.KeptByCycle.{phases-keep, same-kept}
@@ -7,29 +7,14 @@ use Rattle.rv_hardware.proofs.Gap.Fall.{fall}
 use Rattle.rv_hardware.proofs.Gap.Patience.{patience}
 use Rattle.rv_hardware.proofs.Always.Sound.{IsBounded, sound, sound-cycle}
 
--- ---- of reachable hardware
-pub patience-falls : {lines : Lines} {old new : Hardware} {report : Report} → Reachable old → IsCycle any_prediction lines old report new → report.steps ≡ [] → report.stop ≡ None → patience new + 1 ≤ patience old
-patience-falls reached cycle silent going = fall cycle (sound reached) silent going
-
-pub patience-bounded : {h : Hardware} → Reachable h → patience h < gap_bound_of h.values
-patience-bounded {h} reached = omega (arith, patience-below h (sound reached))
-
 -- ---- one cycle more
 no_steps : (steps : List Step) → is_silent steps ≡ true → steps ≡ []
-no_steps [] silent = refl
-no_steps (s ∷ ss) silent = absurd (cc)
+no_steps steps silent = grind arith
 
 module _ (bound silent before after : ℕ) (report : Report) (falls : report.steps ≡ [] → report.stop ≡ None → after + 1 ≤ before) (starts : after + 1 < bound) (below : silent + before + 1 < bound) where
   cycle_below : (reports : List Report) → ((more : ℕ) → more + after + 1 < bound → OnlyLastStops reports → longest_gap_from more reports < bound) → OnlyLastStops (report ∷ reports) →
       longest_gap_from silent (report ∷ reports) < bound
-  cycle_below [] next only =
-      by_test (λ n. n < bound) (is_silent report.steps) (silent + 1) (max silent 0) (λ quiet. omega arith) (λ spoke. omega arith)
-  cycle_below (r ∷ rs) next only =
-      by_test (λ n. n < bound) (is_silent report.steps) (longest_gap_from (silent + 1) (r ∷ rs)) (max silent (longest_gap_from 0 (r ∷ rs)))
-      (λ quiet. next (silent + 1) (omega (arith, falls (no_steps report.steps quiet) only.0)) only.1)
-      (λ spoke.
-      let rest = next 0 (omega (arith, starts)) only.1 in
-      omega (arith, rest, below))
+  cycle_below reports next only = grind (arith, by_test, no_steps)
 
 same_values : {lines : Lines} {old new : Hardware} {report : Report} → IsCycle any_prediction lines old report new → new.values ≡ old.values
 same_values {lines} {old} {new} cycle =
@@ -46,39 +31,26 @@ gaps_below arrivals bound silent {old} (cycled {middle = middle} {report = repor
 
 -- ---- consecutive silent cycles
 same_test : (b : Bool) (x x' y y' : ℕ) → x ≤ x' → y ≤ y' → cond b x y ≤ cond b x' y'
-same_test true x x' y y' first second = first
-same_test false x x' y y' first second = second
+same_test b x x' y y' first second = grind arith
 
 more_before : (few more : ℕ) (reports : List Report) → few ≤ more → longest_gap_from few reports ≤ longest_gap_from more reports
 more_before few more [] less = less
-more_before few more (report ∷ reports) less =
-    same_test (is_silent report.steps) (longest_gap_from (few + 1) reports) (longest_gap_from (more + 1) reports) (max few (longest_gap_from 0 reports)) (max more (longest_gap_from 0 reports))
-    (more_before (few + 1) (more + 1) reports (omega arith)) (omega arith)
+more_before few more (report ∷ reports) less = grind (arith, same_test, more_before (few + 1) (more + 1) reports (omega arith))
 
 longest_before : (silent : ℕ) (reports : List Report) → silent ≤ longest_gap_from silent reports
 longest_before silent [] = omega arith
-longest_before silent (report ∷ reports) =
-    by_test (λ n. silent ≤ n) (is_silent report.steps) (longest_gap_from (silent + 1) reports) (max silent (longest_gap_from 0 reports))
-    (λ quiet. omega (arith, longest_before (silent + 1) reports)) (λ spoke. omega arith)
+longest_before silent (report ∷ reports) = grind (arith, by_test, longest_before (silent + 1) reports)
 
 longest_after : (silent : ℕ) (report : Report) (reports : List Report) → longest_gap_from 0 reports ≤ longest_gap_from silent (report ∷ reports)
-longest_after silent report reports =
-    by_test (λ n. longest_gap_from 0 reports ≤ n) (is_silent report.steps) (longest_gap_from (silent + 1) reports) (max silent (longest_gap_from 0 reports))
-    (λ quiet. more_before 0 (silent + 1) reports (omega arith)) (λ spoke. omega arith)
+longest_after silent report reports = grind (arith, by_test, more_before)
 
 silent_first : (before : ℕ) (silent after : List Report) → AreSilent silent → before + length silent ≤ longest_gap_from before (silent ++ after)
 silent_first before [] after quiet = omega (arith, longest_before before after)
-silent_first before (report ∷ silent) after quiet =
-    let no_step : is_silent report.steps ≡ true = ap is_silent quiet.0 in
-    let rest = silent_first (before + 1) silent after quiet.1 in
-    let is : longest_gap_from before ((report ∷ silent) ++ after) ≡ longest_gap_from (before + 1) (silent ++ after) =
-    cond-true (is_silent report.steps) (longest_gap_from (before + 1) (silent ++ after)) (max before (longest_gap_from 0 (silent ++ after))) no_step in
-    omega (arith, rest, is)
+silent_first before (report ∷ silent) after quiet = grind (arith, cond-true, silent_first (before + 1) silent after quiet.1)
 
 silent_among : (earlier : ℕ) (before silent after : List Report) → AreSilent silent → length silent ≤ longest_gap_from earlier (before ++ silent ++ after)
 silent_among earlier [] silent after quiet = omega (arith, silent_first earlier silent after quiet)
-silent_among earlier (report ∷ before) silent after quiet =
-    omega (arith, silent_among 0 before silent after quiet, longest_after earlier report (before ++ silent ++ after))
+silent_among earlier (report ∷ before) silent after quiet = grind (arith, longest_after, silent_among 0 before silent after quiet)
 
 -- ---- the whole run
 pub no_silence : NoSilence

@@ -1,7 +1,7 @@
 -- A commit phase that reports no step and does not stop leaves its oldest instruction waiting.
-use Rattle.rv_hardware.proofs.Words.{◌≡◌, ℕ, suc, ◌-◌, ◌≤◌, Bool, true, false, ◌⊎◌, List, [], ◌∷◌, ◌++◌, ◌==◌, Some, None, Option, nat_cmp, sym, refl, subst, inl, inr, arith, is_serialising, Instr, Csr, FenceI, Mret, due, Entry, Stage, Committing, commit, commit_turn, commit_unless, is_drained, with_write_back, write_back_time, Hardware, broadcast_of, Ends, GoesOn, Turn, followed_by, repeated, Step, Leaves, kept_by_turns}
+use Rattle.rv_hardware.proofs.Words.{◌≡◌, ℕ, suc, ◌-◌, ◌≤◌, Bool, true, false, ◌⊎◌, List, [], ◌∷◌, ◌++◌, ◌==◌, Some, None, Option, nat_cmp, sym, refl, subst, inl, arith, is_serialising, Instr, Csr, FenceI, Mret, due, Entry, Stage, Committing, commit, commit_turn, commit_unless, is_drained, with_write_back, write_back_time, Hardware, broadcast_of, Ends, GoesOn, Turn, followed_by, repeated, Step, Leaves, kept_by_turns}
 use Rattle.std.specs.FinSet as set
-use Rattle.rv_hardware.proofs.Turns.Commit.{CommitTurn, no_head, stale_head, unfinished, fence_waits, fence_writes, fence_retires, executes, serial_faults, traps, retires, retires_last, commit_turn_is}
+use Rattle.rv_hardware.proofs.Turns.Commit.{CommitTurn, no_head, stale_head, unfinished, fence_waits, fence_writes, retires, commit_turn_is}
 
 -- ---- a step that was reported stays reported
 abbrev IsSome : List Step → Type 0
@@ -34,24 +34,11 @@ SilentAt (e ∷ es) h after = SilentHead e.instruction e.stage h after
 
 silent_plain : (h : Hardware) (instruction : Option Instr) (stage : Stage) → is_serialising instruction ≡ false →
     broadcast_of stage ≡ None → SilentHead instruction stage h h
-silent_plain h (Some FenceI) stage plain unknown = absurd (cc)
-silent_plain h (Some (Csr op rd csr source)) stage plain unknown = absurd (cc)
-silent_plain h (Some Mret) stage plain unknown = absurd (cc)
-silent_plain h _ stage plain unknown = (unknown, refl)
+silent_plain h instruction stage plain unknown = grind arith
 
 module _ (is_stale : set.FinSet nat_cmp → ℕ → Bool) where
   turn_steps : (c : Committing) (t : Turn Committing) → CommitTurn is_stale c t → HasStep c → Leaves HasStep t
-  turn_steps c _ (no_head none) some = some
-  turn_steps c _ (stale_head e es at is) some = some
-  turn_steps c _ (unfinished e es head plain none) some = some
-  turn_steps c _ (fence_waits e es head is busy) some = some
-  turn_steps c _ (fence_writes e es head is drained dirty) some = some
-  turn_steps c _ (fence_retires e es written next head is drained) some = some_push c.steps _
-  turn_steps c _ (executes e es written next head serial) some = some_push c.steps _
-  turn_steps c _ (serial_faults e es cause value head serial) some = some_push c.steps _
-  turn_steps c _ (traps e es issue cycle message fault head plain at is) some = some_push c.steps _
-  turn_steps c _ (retires e es issue cycle message head plain at none) some = some_push c.steps _
-  turn_steps c _ (retires_last e es issue cycle message head plain at none) some = some_push c.steps _
+  turn_steps c t given some = grind (arith, fence_waits, some_push)
 
   module _ (h : Hardware) (width : ℕ) where
     abbrev rest : Committing → Committing
@@ -64,8 +51,7 @@ module _ (is_stale : set.FinSet nat_cmp → ℕ → Bool) where
     Outcome t = (followed_by rest t).steps ≡ [] → (followed_by rest t).stop ≡ None → Left (followed_by rest t).hardware
 
     none_reported : (steps : List Step) → IsSome steps → steps ≡ [] → ⊥
-    none_reported [] some none = some
-    none_reported (s ∷ ss) some none = cc
+    none_reported steps some given = grind arith
 
     -- a turn that reports is not silent
     reports : (t : Turn Committing) → Leaves HasStep t → Outcome t
@@ -88,17 +74,11 @@ module _ (is_stale : set.FinSet nat_cmp → ℕ → Bool) where
     first_outcome : (t : Turn Committing) → CommitTurn is_stale start t → Outcome t
     first_outcome _ (no_head none) = λ silent going. subst (λ l. SilentAt l h h) (sym none) refl
     first_outcome _ (stale_head e es at is) = λ silent going. absurd (cc)
-    first_outcome _ (unfinished e es head plain none) = λ silent going.
-        at_head e es h head.place (silent_plain h e.instruction e.stage plain none)
+    first_outcome _ (unfinished e es head plain none) = grind (arith, at_head, silent_plain)
     first_outcome _ (fence_waits e es head is busy) = λ silent going. at_fence e es h head.place is (inl (busy, refl))
-    first_outcome _ (fence_writes e es head is drained dirty) = λ silent going.
-        at_fence e es (with_write_back h) head.place is (inr (drained, dirty, refl))
-    first_outcome _ (fence_retires e es written next head is drained) = reports (Ends _) tt
-    first_outcome _ (executes e es written next head serial) = reports (Ends _) tt
-    first_outcome _ (serial_faults e es cause value head serial) = reports (Ends _) tt
-    first_outcome _ (traps e es issue cycle message fault head plain at is) = reports (Ends _) tt
+    first_outcome _ (fence_writes e es head is drained dirty) = grind (arith, at_fence)
     first_outcome _ (retires e es issue cycle message head plain at none) = reports (GoesOn _) tt
-    first_outcome _ (retires_last e es issue cycle message head plain at none) = reports (Ends _) tt
+    first_outcome _ _ = reports (Ends _) tt
 
   unless_silent : (code : Option ℕ) (h : Hardware) → 1 ≤ h.values.commit_width → (commit_unless is_stale code h).steps ≡ [] →
       (commit_unless is_stale code h).stop ≡ None → SilentAt h.rob.entries h (commit_unless is_stale code h).hardware

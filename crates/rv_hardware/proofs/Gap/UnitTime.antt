@@ -23,7 +23,4 @@ held_time cycle (start ∷ starts) some =
 
 -- where no unit is free, a cycle brings the time nearer at which the last is
 pub unit_time-held : (cycle : ℕ) (pool : Pool) → 1 ≤ pool.units → is_free cycle pool ≡ false → unit_time (cycle + 1) pool.starts + 1 ≤ unit_time cycle pool.starts
-unit_time-held cycle pool some held =
-    let all = lt_fails (length (holding cycle pool.starts)) pool.units held in
-    let time = held_time cycle pool.starts (omega arith) in
-    omega (arith, time, unit_time-next cycle pool.starts)
+unit_time-held cycle pool some held = grind (arith, lt_fails, held_time, unit_time-next)

@@ -1,5 +1,5 @@
 -- The oldest instruction that waits and can go leaves for a unit in the issue phase, or no unit of its kind is free.
-use Rattle.rv_hardware.proofs.Words.{◌≡◌, ℕ, suc, ◌-◌, ◌≤◌, true, false, ◌⊎◌, List, [], ◌∷◌, ◌++◌, Some, Option, sym, refl, ap, ◌∙◌, subst, inl, inr, true≢false, arith, cases_Bool, false≢true, is_same-own, is_same-true, with_kind-other, is_load, is_of_kind, kind_of_word, at_kind, is_same, Instr, Kind, Pool, is_free, started, Entry, Hardware, FromCache, cost_of, is_ready, issue, issue_kind, issue_turn, issued, path, with_access, Turn, followed_by, repeated, EveryBehind, kept_by_turns}
+use Rattle.rv_hardware.proofs.Words.{◌≡◌, ℕ, suc, ◌-◌, ◌≤◌, true, false, ◌⊎◌, List, [], ◌∷◌, ◌++◌, Some, Option, sym, refl, ap, ◌∙◌, subst, inl, inr, true≢false, arith, false≢true, is_same-own, is_same-true, with_kind-other, is_of_kind, kind_of_word, at_kind, is_same, Instr, Kind, Pool, is_free, started, Entry, Hardware, FromCache, cost_of, is_ready, issue, issue_kind, issue_turn, issued, path, with_access, Turn, followed_by, repeated, EveryBehind, kept_by_turns}
 use Rattle.rv_isa.specs.declared.operations.Kind.TheVariants as kind
 use Rattle.rv_hardware.proofs.Gap.Head.{HasBegun, HeadIs, Waits, head-change}
 use Rattle.rv_hardware.proofs.Turns.Issue.{IssueTurn, no_unit, none_ready, starts, issue_turn_is, message_at, started_entries}
@@ -30,13 +30,7 @@ module _ (instruction : Option Instr) (k : Kind) (of_kind : kind_of_word instruc
 
   -- ---- the turns of another kind
   still_can : (j : Kind) (h after : Hardware) → is_same k j ≡ false → j ≡ kind.Mem → CanGo instruction h → CanGo instruction after
-  still_can j h after other mem can = elim (cases_Bool (is_load instruction)) [
-    | inl load ↦
-        let own : Some k ≡ Some kind.Mem = sym of_kind ∙ loads_of_mem instruction load in
-        let same : k ≡ kind.Mem = cc in
-        absurd (false≢true (sym other ∙ ap (is_same k) (mem ∙ sym same) ∙ is_same-own k))
-    | inr no_load ↦ inl no_load
-  ]
+  still_can j h after other mem can = grind (arith, loads_of_mem, false≢true, is_same-own)
 
   others_keep : (j : Kind) → is_same k j ≡ false → IsKeptByIssue CanStart j
   others_keep j other = record {
@@ -68,13 +62,11 @@ module _ (instruction : Option Instr) (k : Kind) (of_kind : kind_of_word instruc
   it_is_ready h can e is waits = ready_head h k e waits (ap kind_of_word is ∙ of_kind) (subst (λ i. CanGo i h) (sym is) can.3)
 
   one_is_ready : (h : Hardware) → CanStart h → (entries : List Entry) → HeadIs instruction Waits entries → NoneReady h entries → ⊥
-  one_is_ready h can [] head none = head
-  one_is_ready h can (e ∷ es) head none = true≢false (sym (it_is_ready h can e head.0 head.1) ∙ none.0)
+  one_is_ready h can entries head given = grind (arith, true≢false, it_is_ready)
 
   it_is_first : (h : Hardware) → CanStart h → (older younger : List Entry) (e : Entry) →
       HeadIs instruction Waits (older ++ e ∷ younger) → NoneReady h older → (older ≡ []) × (e.instruction ≡ instruction)
-  it_is_first h can [] younger e head none = (refl, head.0)
-  it_is_first h can (o ∷ older) younger e head none = absurd (one_is_ready h can (o ∷ []) head (none.0, tt))
+  it_is_first h can older younger e head given = grind (arith, one_is_ready)
 
   begun_after : (units : ℕ) (h : Hardware) → HeadIs instruction HasBegun h.rob.entries →
       HeadIs instruction HasBegun (repeated (issue_turn k) units h).rob.entries
@@ -83,8 +75,7 @@ module _ (instruction : Option Instr) (k : Kind) (of_kind : kind_of_word instruc
 
   first_turn : (units : ℕ) (h : Hardware) (t : Turn Hardware) → IssueTurn k h t → CanStart h →
       IsAfterIssue (followed_by (repeated (issue_turn k) units) t)
-  first_turn units h _ (no_unit held) can =
-      inl (can, sym (ap (λ c. is_free c (at_kind k h.units)) can.2 ∙ ap (is_free cycle) can.1) ∙ held)
+  first_turn units h _ (no_unit held) can = grind arith
   first_turn units h _ (none_ready none) can = absurd (one_is_ready h can h.rob.entries can.0 none)
   first_turn units h _ (starts older younger e at is none free) can =
       let first = it_is_first h can older younger e (subst (HeadIs instruction Waits) at can.0) none in

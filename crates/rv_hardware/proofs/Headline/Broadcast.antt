@@ -1,5 +1,6 @@
 -- The broadcast phase changes nothing that programs see, and fetch goes on where the program does.
-use Rattle.rv_hardware.proofs.Words.{◌≡◌, ℕ, ◌+◌, ◌%◌, true, false, not, ◌&&◌, List, [], ◌∷◌, ◌++◌, length, is_none, ◌==◌, Some, None, Option, sym, refl, ap, ◌∙◌, subst, and_parts, false≢true, no_lines, is_branch_or_jump, is_serialising, target_of, Message, StoreAccess, Instr, Csr, FenceI, Mret, Issue, Lines, Values, Layout, Effect, Faults, Retires, effect, State, finished, issue_of, predicting, ReorderBuffer, changed, Entry, Finished, broadcast, broadcast_turn, is_mispredicted, mends_early, with_broadcast, with_recovery, Hardware, Turn, access_of, effect_message, result_of_word, layout_of, seen, redirected, Leaves, kept_by_turns}
+use Rattle.std.proofs.Common.{arith}
+use Rattle.rv_hardware.proofs.Words.{◌≡◌, ℕ, ◌+◌, ◌%◌, true, false, List, [], ◌∷◌, ◌++◌, length, is_none, Option, sym, ap, ◌∙◌, subst, and_parts, false≢true, is_branch_or_jump, is_serialising, Message, StoreAccess, Instr, Issue, Lines, Values, Layout, Effect, effect, State, finished, issue_of, predicting, ReorderBuffer, changed, Entry, Finished, broadcast, broadcast_turn, is_mispredicted, mends_early, with_broadcast, with_recovery, Hardware, Turn, effect_message, result_of_word, layout_of, seen, redirected, Leaves, kept_by_turns}
 use Rattle.rv_hardware.proofs.Headline.Fold.{result_at, behind, IsResult, AreInFlight}
 use Rattle.rv_hardware.proofs.Headline.Invariant.{FollowsProgram, IsSoundAt, with_other_program}
 use Rattle.rv_hardware.proofs.Headline.Retires.{IsTold, effect_told}
@@ -11,22 +12,15 @@ use Rattle.rv_hardware.proofs.Turns.Broadcast.{BroadcastTurn, Sends, none_ready,
 aligned_effect : (layout : Layout) (s : State) (target : Option ℕ) (access : Option StoreAccess) (effect : Effect) →
     IsTold layout s target access effect → is_none (effect_message access effect).fault ≡ true →
     (effect_message access effect).next_pc % 4 ≡ 0
-aligned_effect layout s target access (Retires written next) told none = told.aligned
-aligned_effect layout s target access (Faults cause value) told none = absurd (false≢true none)
+aligned_effect layout s target access effect told given = grind (arith, false≢true)
 
 pub aligned_result : (layout : Layout) (s : State) (lines : Lines) (word : Option ℕ) (i : Option Instr) → s.pc % 4 ≡ 0 →
     is_serialising i ≡ false → is_none (result_of_word layout s lines word i).fault ≡ true →
     (result_of_word layout s lines word i).next_pc % 4 ≡ 0
-aligned_result layout s lines None i here plain none = absurd (false≢true none)
-aligned_result layout s lines (Some word) None here plain none = absurd (false≢true none)
-aligned_result layout s lines (Some word) (Some i) here plain none =
-    aligned_effect layout s (target_of i) (access_of s i) (effect layout s lines word i) (effect_told layout s here lines word i plain) none
+aligned_result layout s lines word i here plain given = grind (arith, aligned_effect, effect_told, false≢true)
 
 plain_jump : (i : Option Instr) → is_branch_or_jump i ≡ true → is_serialising i ≡ false
-plain_jump (Some FenceI) jumps = absurd (false≢true jumps)
-plain_jump (Some (Csr op rd csr source)) jumps = absurd (false≢true jumps)
-plain_jump (Some Mret) jumps = absurd (false≢true jumps)
-plain_jump _ jumps = refl
+plain_jump i jumps = grind (arith, false≢true)
 
 module _ (values : Values) (cycle : ℕ) (state : State) (h : Hardware) (is : IsSoundAt values cycle state h) (older younger : List Entry) (e : Entry)
     (issue : Issue) (message : Message) (sent : Sends h older younger e issue message) where
@@ -79,13 +73,7 @@ module _ (values : Values) (cycle : ℕ) (state : State) (h : Hardware) (is : Is
       })
 
   aligned_next : is_mispredicted e message ≡ true → message.next_pc % 4 ≡ 0
-  aligned_next wrong =
-      let parts = and_parts (is_branch_or_jump e.instruction && is_none message.fault) (not (message.next_pc == e.predicted_next)) wrong in
-      let kinds = and_parts (is_branch_or_jump e.instruction) (is_none message.fault) parts.0 in
-      let start = behind_aligned layout s s older s (AreInFlight-older layout s s older (e ∷ younger) all) is.sound.pc_aligned in
-      ap (λ (m : Message). m.next_pc % 4) result
-      ∙ aligned_result layout (behind layout older s) no_lines e.word e.instruction start (plain_jump e.instruction kinds.0)
-      (sym (ap (λ (m : Message). is_none m.fault) result) ∙ kinds.1)
+  aligned_next wrong = grind (arith, and_parts, behind_aligned, AreInFlight-older, result, aligned_result, plain_jump)
 
 module _ (values : Values) (cycle : ℕ) (state : State) where
   turn_kept : (h : Hardware) (t : Turn Hardware) → BroadcastTurn h t → IsSoundAt values cycle state h →

@@ -1,23 +1,20 @@
 -- A byte after stores is that of the youngest which covers it, else memory's.
-use Rattle.rv_hardware.proofs.Words.{◌≡◌, ℕ, ◌+◌, ◌-◌, ◌<◌, ◌≤◌, false, List, [], ◌∷◌, length, nat_lt, nat_le, slice_get, slice_index_or as get_or, Some, None, Option, unwrap_or, sym, refl, ap, ◌∙◌, inl, inr, arith, lt-ltb, le-leb, cases_lt, cond-false, cond-true, nat_tests, option_or, StoreAccess, overwritten, Layout, get_or-overwritten_above, get_or-overwritten_below, get_or-overwritten_in, Each, forwarded_byte, youngest_byte, byte_of_state, written_at, Store as QueuedStore, StoreState, Faulted, Filled, memory_behind, with_store}
+use Rattle.rv_hardware.proofs.Words.{◌≡◌, ℕ, ◌+◌, ◌-◌, ◌<◌, ◌≤◌, List, [], ◌∷◌, length, nat_le, slice_get, slice_index_or as get_or, Some, None, Option, unwrap_or, sym, refl, ap, ◌∙◌, inl, inr, arith, lt-ltb, le-leb, cases_lt, cond-false, cond-true, option_or, StoreAccess, overwritten, Layout, get_or-overwritten_above, get_or-overwritten_below, get_or-overwritten_in, Each, forwarded_byte, youngest_byte, byte_of_state, written_at, Store as QueuedStore, StoreState, Filled, memory_behind, with_store}
 use Rattle.std.proofs.lemmas.Option.{slice_get-get_or, slice_get_past}
-use Rattle.rv_stores.specs.declared.store.StoreState.TheVariants.{Waiting}
 use Rattle.rv_hardware.proofs.Headline.Retires.{IsStoreAccess}
 use Rattle.rv_hardware.proofs.Headline.Words.{length-stored}
 
 -- what a store writes, if that is known, lies in RAM within one word
 abbrev pub IsStateInside : Layout → StoreState → Type 0
-IsStateInside layout Waiting = Unit {0}
-IsStateInside layout Faulted = Unit {0}
 IsStateInside layout (Filled access phase) = IsStoreAccess layout access
+IsStateInside layout _ = Unit {0}
 
 -- what a queued store writes lies in the layout's RAM
 abbrev pub IsInside : Layout → QueuedStore → Type 0
 IsInside layout s = IsStateInside layout s.state
 
 unwrap_or-or : (a b : Option ℕ) (d : ℕ) → unwrap_or (option_or a b) d ≡ unwrap_or a (unwrap_or b d)
-unwrap_or-or None b d = refl
-unwrap_or-or (Some x) b d = refl
+unwrap_or-or a b d = grind arith
 
 module _ (layout : Layout) where
   module _ (access : StoreAccess) (legal : IsStoreAccess layout access) (xs : List ℕ) (size : length xs ≡ layout.size) (i : ℕ) where
@@ -41,9 +38,7 @@ module _ (layout : Layout) where
         ∙ slice_get-get_or access.bytes (i - at) 0 (omega arith)
 
     before : i < at → written_at place access ≡ None
-    before below =
-        let under : nat_le access.address place ≡ false = grind (arith, nat_tests, legal.above) in
-        cond-false (nat_le access.address place) found None under
+    before below = grind (arith, cond-false)
 
     after : at + length access.bytes ≤ i → written_at place access ≡ None
     after above =
@@ -62,29 +57,18 @@ module _ (layout : Layout) where
   -- after one store
   byte_behind_one : (state : StoreState) (xs : List ℕ) (i : ℕ) → IsStateInside layout state → length xs ≡ layout.size →
       get_or (with_store layout.base state xs) i 0 ≡ unwrap_or (byte_of_state (layout.base + i) state) (get_or xs i 0)
-  byte_behind_one Waiting xs i inside size = refl
-  byte_behind_one Faulted xs i inside size = refl
-  byte_behind_one (Filled access phase) xs i inside size = one_behind access inside xs size i
+  byte_behind_one state xs i inside size = grind (arith, one_behind)
 
   length-behind_one : (state : StoreState) (xs : List ℕ) → IsStateInside layout state → length xs ≡ layout.size → length (with_store layout.base state xs) ≡ layout.size
-  length-behind_one Waiting xs inside size = size
-  length-behind_one Faulted xs inside size = size
-  length-behind_one (Filled access phase) xs inside size = length-stored layout access inside xs size
+  length-behind_one state xs inside size = grind (arith, length-stored)
 
   -- after all of them
   pub byte_behind : (ss : List QueuedStore) (xs : List ℕ) (i : ℕ) → Each (IsInside layout) ss → length xs ≡ layout.size →
       get_or (memory_behind layout.base ss xs) i 0 ≡ unwrap_or (youngest_byte (layout.base + i) ss) (get_or xs i 0)
   byte_behind [] xs i inside size = refl
-  byte_behind (s ∷ ss) xs i inside size =
-      byte_behind ss (with_store layout.base s.state xs) i inside.1 (length-behind_one s.state xs inside.0 size)
-      ∙ ap (unwrap_or (youngest_byte (layout.base + i) ss)) (byte_behind_one s.state xs i inside.0 size)
-      ∙ sym (unwrap_or-or (youngest_byte (layout.base + i) ss) (byte_of_state (layout.base + i) s.state) (get_or xs i 0))
+  byte_behind (s ∷ ss) xs i inside size = grind (arith, length-behind_one, byte_behind_one, unwrap_or-or, byte_behind ss (with_store layout.base s.state xs) i inside.1 (length-behind_one s.state xs inside.0 size))
 
   -- a byte of an access is the one that stores forward to it, else memory's
   pub byte_forwarded : (ss : List QueuedStore) (xs : List ℕ) (address count offset : ℕ) → Each (IsInside layout) ss → length xs ≡ layout.size → layout.base ≤ address → offset < count →
       get_or (memory_behind layout.base ss xs) (address - layout.base + offset) 0 ≡ unwrap_or (forwarded_byte ss address count offset) (get_or xs (address - layout.base + offset) 0)
-  byte_forwarded ss xs address count offset inside size above within =
-      let place : layout.base + (address - layout.base + offset) ≡ address + offset = omega arith in
-      byte_behind ss xs (address - layout.base + offset) inside size
-      ∙ ap (λ (n : ℕ). unwrap_or (youngest_byte n ss) (get_or xs (address - layout.base + offset) 0)) place
-      ∙ sym (ap (λ (o : Option ℕ). unwrap_or o (get_or xs (address - layout.base + offset) 0)) (cond-true (nat_lt offset count) (youngest_byte (address + offset) ss) None (lt-ltb offset count within)))
+  byte_forwarded ss xs address count offset inside size above within = grind (arith, byte_behind, cond-true, lt-ltb)

@@ -1,5 +1,5 @@
 -- The commit phase takes the steps of the one-at-a-time machine.
-use Rattle.rv_hardware.proofs.Words.{◌≡◌, ℕ, ◌*◌, Bool, true, false, ◌↔◌, List, [], ◌∷◌, ◌++◌, IfSome, if◌then◌else◌, nat_eq, ◌==◌, Some, None, Option, unwrap_or, sym, refl, ap, ◌∙◌, subst, arith, eqb-true, false≢true, code_of, is_serialising, Message, Cause, Fault, Instr, Csr, FenceI, Mret, Lines, Layout, fetched_word, is_in_ram, word_of, faulted_at, retired_at, due, Effect, Faults, Retires, effect, State, interrupted, stale, trap_taken, interrupt_cause, head_retired, Entry, Committing, commit, commit_turn, commit_turn_of, commit_unless, execute_head, finish_broadcast, finish_head, head_turn, is_drained, stop_of, take_effect, with_fault, with_write_back, write_back_time, Hardware, IsTrueCycle, Lead, nowhere, told, broadcast_of, Ends, GoesOn, row_of, with_result, written_of, layout_of, seen, with_state, flushed, is_breakpoint_cause, Step, Leads, left_by_turns}
+use Rattle.rv_hardware.proofs.Words.{◌≡◌, ℕ, ◌*◌, Bool, true, false, ◌↔◌, List, [], ◌∷◌, ◌++◌, IfSome, if◌then◌else◌, nat_eq, ◌==◌, Some, None, Option, unwrap_or, sym, refl, ap, ◌∙◌, subst, arith, eqb-true, false≢true, code_of, is_serialising, Message, Cause, Fault, Instr, Csr, FenceI, Mret, Lines, Layout, is_in_ram, word_of, faulted_at, retired_at, due, Effect, Faults, Retires, effect, State, interrupted, stale, trap_taken, interrupt_cause, head_retired, Entry, Committing, commit, commit_turn, commit_turn_of, commit_unless, execute_head, finish_broadcast, finish_head, head_turn, is_drained, stop_of, take_effect, with_fault, with_write_back, write_back_time, Hardware, IsTrueCycle, Lead, nowhere, told, broadcast_of, Ends, GoesOn, row_of, with_result, written_of, layout_of, seen, with_state, flushed, is_breakpoint_cause, Step, Leads, left_by_turns}
 use Rattle.std.specs.FinSet as set
 use Rattle.rv_arch.specs.Step.{Step as MachineStep}
 use Rattle.rv_arch.specs.declared.outcome.RefStep.TheVariants as machine
@@ -34,12 +34,10 @@ pub record IsDone (lines : Lines) (before : State) (old : Hardware) (c : Committ
 
 -- only a breakpoint's trap stops a run
 stop_by : (b : Bool) → ((if b then Some stop.Breakpoint else None) ≡ Some stop.Breakpoint) ↔ (b ≡ true)
-stop_by true = ((λ is. refl), (λ is. refl))
-stop_by false = ((λ is. absurd (cc)), (λ is. absurd (false≢true is)))
+stop_by b = grind (arith, false≢true)
 
 no_stale_by : (b : Bool) (pc : ℕ) → (if b then Some stop.Breakpoint else None) ≡ Some (stop.Stale pc) → ⊥
-no_stale_by true pc is = cc
-no_stale_by false pc is = cc
+no_stale_by b pc is = grind arith
 
 module _ (lines : Lines) (before : State) (old : Hardware) where
   done : (c : Committing) → IsGoing lines before old c → IsDone lines before old c
@@ -84,12 +82,7 @@ module _ (lines : Lines) (before : State) (old : Hardware) where
       here = all.0.pc
 
       ready : IsReady layout s h.lines e.word e.instruction
-      ready = record {
-        calm = going.calm;
-        fresh = ap (λ pc. set.contains h.stale (word_of pc)) (sym here) ∙ not_stale;
-        word_is = all.0.word not_stale ∙ ap (fetched_word layout s.ram) here;
-        instruction_is = all.0.instruction;
-      }
+      ready = grind (arith, here)
 
       -- ---- a result retires
       module _ (message : Message) (result : message ≡ result_at layout s e) (takes : Retires_as layout s h.lines e.word e.instruction message) where
@@ -100,9 +93,7 @@ module _ (lines : Lines) (before : State) (old : Hardware) where
         after = with_result e message h
 
         retired_now : MachineStep layout s h.lines (told row) (seen after)
-        retired_now =
-            subst (λ (t : State). MachineStep layout s h.lines (told row) t) (takes.tells.next_is ∙ sym (seen_result h e message going.sound.memory))
-            (subst (λ pc. MachineStep layout s h.lines (machine.Retired pc (unwrap_or e.word 0) (written_of e message)) takes.next) (sym here) takes.takes)
+        retired_now = grind (arith, seen_result, here)
 
         retire_done : (straight : Bool) → nat_eq message.next_pc e.predicted_next ≡ straight →
             Leads (IsGoing lines before old) (IsDone lines before old)
@@ -128,8 +119,7 @@ module _ (lines : Lines) (before : State) (old : Hardware) where
 
       step_done : (message : Message) → message ≡ result_at layout s e → (fault : Option Fault) → message.fault ≡ fault → IsStepOf layout s h.lines e.word e.instruction message fault →
           Leads (IsGoing lines before old) (IsDone lines before old) (finish_head e message fault c)
-      step_done message result None is takes = retire_done message result takes (nat_eq message.next_pc e.predicted_next) refl
-      step_done message result (Some fault) is takes = trap_done e fault.cause fault.value here takes
+      step_done message result fault is takes = grind (arith, retire_done, trap_done, here)
 
       broadcast_done : is_serialising e.instruction ≡ false → (o : Option Message) → IfSome o (λ b. b ≡ result_at layout s e) →
           Leads (IsGoing lines before old) (IsDone lines before old) (finish_broadcast e o c)
@@ -173,16 +163,7 @@ module _ (lines : Lines) (before : State) (old : Hardware) where
     written_back = record c { hardware = with_write_back c.hardware }
 
     going_on : IsGoing lines before old written_back
-    going_on = record {
-      values_are = going.values_are;
-      cycle_is = going.cycle_is;
-      lines_are = going.lines_are;
-      calm = going.calm;
-      sound = written_back_sound c.hardware going.sound;
-      leads = going.leads;
-      retirements = going.retirements;
-      no_stop = going.no_stop;
-    }
+    going_on = grind (arith, written_back_sound)
 
     module _ (e : Entry) (es : List Entry) (entries : c.hardware.rob.entries ≡ e ∷ es) (not_stale : set.contains c.hardware.stale (word_of e.pc) ≡ false) where
       fence_by : (drained clean : Bool) → is_drained c.hardware ≡ drained → e.instruction ≡ Some FenceI →
@@ -229,8 +210,7 @@ module _ (lines : Lines) (before : State) (old : Hardware) where
   -- a turn of the commit phase either goes on soundly or ends in a true cycle
   pub turn_done : (c : Committing) (entries : List Entry) → c.hardware.rob.entries ≡ entries → IsGoing lines before old c →
       Leads (IsGoing lines before old) (IsDone lines before old) (commit_turn_of set.contains entries c)
-  turn_done c [] are going = done c going
-  turn_done c (e ∷ es) are going = turn_by c going e es are (set.contains c.hardware.stale (word_of e.pc)) refl
+  turn_done c entries are going = grind (arith, done, turn_by)
 
 -- ---- the whole phase
 module _ (h : Hardware) (is : IsSound h) where

@@ -1,8 +1,8 @@
 -- The dispatch phase changes nothing that programs see.
-use Rattle.rv_hardware.proofs.Words.{◌≡◌, ℕ, Bool, true, false, List, [], ◌∷◌, ◌++◌, Some, None, Option, sym, refl, ◌∙◌, subst, true≢false, no_lines, is_load, is_serialising, kind_of_word, sources_of_word, Instr, Branch, Csr, Jalr, Load, Op, OpImmediate, Shift, Kind, Values, Layout, State, pushed, Entry, Finished, Fetched, dispatch, entry_of_fetched, stage_by, Hardware, result_of_word, layout_of, seen, seen_behind}
-use Rattle.rv_isa.specs.declared.instructions.Instr.TheVariants.{Store}
+use Rattle.std.proofs.Common.{arith}
+use Rattle.rv_hardware.proofs.Words.{◌≡◌, ℕ, Bool, false, List, [], ◌∷◌, ◌++◌, None, Option, subst, true≢false, no_lines, is_load, is_serialising, kind_of_word, sources_of_word, Instr, Kind, Values, Layout, State, pushed, Entry, Finished, Fetched, dispatch, entry_of_fetched, stage_by, Hardware, result_of_word, layout_of, seen, seen_behind}
 use Rattle.rv_hardware.proofs.Turns.KeptByDispatch.{dispatch-keeps}
-use Rattle.rv_hardware.proofs.Headline.Fold.{behind, IsResult, IsInFlight, AreInBuffer}
+use Rattle.rv_hardware.proofs.Headline.Fold.{behind, IsResult}
 use Rattle.rv_hardware.proofs.Headline.Invariant.{FollowsProgram, IsSoundAt, with_other_program}
 use Rattle.rv_hardware.proofs.Headline.Result.{ReadsSame, same_result}
 use Rattle.rv_hardware.proofs.Headline.Split.{behind-append, AreInFlight-append}
@@ -13,15 +13,7 @@ record ReadsNothing (s t : State) (i : Option Instr) : Type 0 where
   pub no_load : is_load i ≡ false
 
 reads_nothing : (s t : State) (i : Option Instr) → kind_of_word i ≡ None → is_serialising i ≡ false → ReadsNothing s t i
-reads_nothing s t (Some (Jalr rd rs1 offset)) none plain = absurd (cc)
-reads_nothing s t (Some (Branch condition rs1 rs2 offset)) none plain = absurd (cc)
-reads_nothing s t (Some (Load form rd rs1 offset)) none plain = absurd (cc)
-reads_nothing s t (Some (Store width rs1 rs2 offset)) none plain = absurd (cc)
-reads_nothing s t (Some (OpImmediate op rd rs1 immediate)) none plain = absurd (cc)
-reads_nothing s t (Some (Shift op rd rs1 amount)) none plain = absurd (cc)
-reads_nothing s t (Some (Op op rd rs1 rs2)) none plain = absurd (cc)
-reads_nothing s t (Some (Csr op rd csr source)) none plain = absurd (true≢false plain)
-reads_nothing s t _ none plain = record { reads = tt; no_load = refl }
+reads_nothing s t i given plain = grind (arith, true≢false)
 
 module _ (h : Hardware) (fetched : Fetched) where
   abbrev layout : Layout
@@ -41,28 +33,10 @@ module _ (h : Hardware) (fetched : Fetched) where
       is_serialising fetched.instruction ≡ serialising → fetched.pc ≡ now.pc →
       IsResult (result_of_word layout now no_lines fetched.word fetched.instruction)
       (stage_by k serialising (Finished None h.cycle (result_of_word layout (seen_behind h h.rob.entries fetched.pc) h.lines fetched.word fetched.instruction)))
-  stage_result (Some k) serialising is_kind is_serial here = tt
-  stage_result None true is_kind is_serial here = tt
-  stage_result None false is_kind is_serial here =
-      let nothing = reads_nothing (seen_behind h h.rob.entries fetched.pc) now fetched.instruction is_kind is_serial in
-      same_result (seen_behind h h.rob.entries fetched.pc) now layout h.lines no_lines here fetched.word fetched.instruction is_serial nothing.reads
-      (λ loads. absurd (true≢false (sym loads ∙ nothing.no_load)))
+  stage_result k serialising is_kind is_serial here = grind (arith, reads_nothing, same_result, true≢false)
 
   dispatched_program : (rest : List Fetched) → FollowsProgram layout s h.rob.entries (record h.front { entries = fetched ∷ rest }) → FollowsProgram layout s (h.rob.entries ++ e ∷ []) (record h.front { entries = rest })
-  dispatched_program rest program =
-      let first = program.buffered.0 in
-      let entry : IsInFlight layout s now e = record {
-        pc = first.pc_is;
-        word = first.word;
-        instruction = first.instruction;
-        aligned = first.aligned;
-        result = stage_result (kind_of_word fetched.instruction) (is_serialising fetched.instruction) refl refl first.pc_is;
-      } in
-      record {
-        in_flight = AreInFlight-append layout s s h.rob.entries (e ∷ []) program.in_flight (entry, tt);
-        buffered = subst (λ (t : State). AreInBuffer layout s t.pc rest h.front.next_pc) (sym (behind-append layout h.rob.entries (e ∷ []) s)) program.buffered.1;
-        aligned = program.aligned;
-      }
+  dispatched_program rest given = grind (arith, e, stage_result, AreInFlight-append, behind-append)
 
 module _ (values : Values) (cycle : ℕ) (state : State) where
   -- the dispatch phase keeps the hardware sound, with the same state seen

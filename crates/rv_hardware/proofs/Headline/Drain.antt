@@ -1,6 +1,5 @@
 -- The drain phase changes nothing that programs see.
-use Rattle.rv_hardware.proofs.Words.{◌≡◌, ℕ, ◌+◌, ◌-◌, ◌≤◌, Bool, true, false, List, [], ◌∷◌, length, if◌then◌else◌, nat_le, slice_index_or as get_or, Some, None, Option, sym, refl, ap, ◌∙◌, inl, inr, true≢false, arith, StoreAccess, Values, overwritten, State, consistent_after, consistent_written, dirty_after_access, IsConsistent, Each, oldest_to_drain, without_drained, draining, is_committed_state, is_draining, state_to_drain, Store as QueuedStore, Committed, Draining, Speculative, StoreState, Faulted, Filled, drain, end_drain, start_drain, with_drained, Hardware, memory_behind, with_store, layout_of, seen}
-use Rattle.rv_stores.specs.declared.store.StoreState.TheVariants.{Waiting}
+use Rattle.rv_hardware.proofs.Words.{◌≡◌, ℕ, ◌+◌, ◌-◌, ◌≤◌, Bool, true, false, List, [], ◌∷◌, length, if◌then◌else◌, nat_le, slice_index_or as get_or, Some, None, Option, sym, refl, ap, ◌∙◌, inl, inr, true≢false, arith, StoreAccess, Values, overwritten, State, consistent_after, consistent_written, dirty_after_access, IsConsistent, Each, oldest_to_drain, without_drained, draining, is_committed_state, is_draining, state_to_drain, Store as QueuedStore, Committed, Draining, StoreState, Filled, drain, end_drain, start_drain, with_drained, Hardware, memory_behind, with_store, layout_of, seen}
 use Rattle.rv_hardware.proofs.Headline.Invariant.{DrainInOrder, HoldsMemory, IsSoundAt}
 use Rattle.rv_hardware.proofs.Headline.Retires.{IsStoreAccess}
 use Rattle.rv_hardware.proofs.Headline.Victim.{access_mixed}
@@ -53,16 +52,11 @@ module _ (values : Values) (cycle : ℕ) (state : State) (h : Hardware) where
         none_first (t ∷ ts) none = (λ drains. absurd (true≢false (sym drains ∙ none.0)), none.1)
 
   pub end_kept : (stores : List QueuedStore) → IsSoundAt values cycle state (with_stores stores) → IsSoundAt values cycle state (with_stores (without_drained stores))
-  end_kept [] sound = sound
-  end_kept (s ∷ ss) sound = without_first (is_draining s) s ss refl sound
+  end_kept stores sound = grind (arith, without_first)
 
   -- ---- the oldest begins its access
   to_drain : (now : StoreState) (access : StoreAccess) → state_to_drain now ≡ Some access → now ≡ Filled access Committed
-  to_drain Waiting access is = absurd (cc)
-  to_drain Faulted access is = absurd (cc)
-  to_drain (Filled found Speculative) access is = absurd (cc)
-  to_drain (Filled found Committed) access is = let same : found ≡ access = cc in ap (λ (a : StoreAccess). Filled a Committed) same
-  to_drain (Filled found Draining) access is = absurd (cc)
+  to_drain now access is = grind arith
 
   module _ (s : QueuedStore) (ss : List QueuedStore) (access : StoreAccess) (now : s.state ≡ Filled access Committed) (sound : IsSoundAt values cycle state (with_stores (s ∷ ss))) where
     abbrev base : ℕ
@@ -84,9 +78,7 @@ module _ (values : Values) (cycle : ℕ) (state : State) (h : Hardware) where
     was = sound.sound.memory
 
     access_is : was.retired.0.access ≡ access
-    access_is =
-        let same : Filled was.retired.0.access was.retired.0.phase ≡ Filled access Committed = sym was.retired.0.state_is ∙ now in
-        cc
+    access_is = grind (arith, was)
 
     legal : IsStoreAccess (layout_of h.values) access
     legal = rw (← access_is) was.retired.0.legal
@@ -106,8 +98,7 @@ module _ (values : Values) (cycle : ℕ) (state : State) (h : Hardware) where
         ∙ sym bytes_are
 
     same_ram : memory_behind base (drained ∷ ss) new.cache.bytes ≡ memory_behind base (s ∷ ss) h.cache.bytes
-    same_ram =
-        ap (memory_behind base ss) (in_cache ∙ bytes_are ∙ sym (ap (λ (state : StoreState). with_store base state h.cache.bytes) now))
+    same_ram = grind (arith, in_cache, bytes_are)
 
     same_seen : seen new ≡ seen old
     same_seen = ap (λ (ram : List ℕ). record (seen h) { ram = ram }) same_ram
@@ -158,8 +149,7 @@ module _ (values : Values) (cycle : ℕ) (state : State) (h : Hardware) where
   start_first s ss (Some access) is sound = start_one s ss access (to_drain s.state access is) sound
 
   pub start_kept : (stores : List QueuedStore) → IsSoundAt values cycle state (with_stores stores) → IsSoundAt values cycle state (start_drain (oldest_to_drain stores) (with_stores stores))
-  start_kept [] sound = sound
-  start_kept (s ∷ ss) sound = start_first s ss (state_to_drain s.state) refl sound
+  start_kept stores sound = grind (arith, start_first)
 
 drain_by : (b : Bool) (values : Values) (cycle : ℕ) (state : State) (h : Hardware) → IsSoundAt values cycle state h →
     IsSoundAt values cycle state (if b then start_drain (oldest_to_drain (end_drain h).committed) (end_drain h) else h)

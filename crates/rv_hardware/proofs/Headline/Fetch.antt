@@ -1,7 +1,6 @@
 -- What the fetch phase reads from RAM are the words of the program, unless they are stale.
-use Rattle.rv_hardware.proofs.Words.{◌≡◌, ℕ, zero, suc, ◌-◌, ◌%◌, Bool, true, false, List, [], ◌∷◌, ◌++◌, length, Some, None, MatchBool, Option, MatchOption, sym, refl, ap, ◌∙◌, subst, arith, Values, Layout, Memory, fetched_word, word_of, State, Entry, Answers, FetchBuffer, Fetches, FetchesInto, IsFetchedAt, is_halted, stop_behind, FetchStop, Halted, Fetched, Hardware, layout_of, seen}
-use Rattle.std.specs.FinSet as set
-use Rattle.rv_hardware.proofs.Headline.Fold.{behind, IsWordAt, IsInBuffer, AreInBuffer}
+use Rattle.rv_hardware.proofs.Words.{◌≡◌, ℕ, zero, suc, ◌-◌, ◌%◌, Bool, List, [], ◌∷◌, ◌++◌, length, MatchBool, Option, MatchOption, refl, subst, arith, Values, Layout, Memory, fetched_word, State, Entry, Answers, FetchBuffer, Fetches, FetchesInto, IsFetchedAt, is_halted, stop_behind, FetchStop, Halted, Fetched, Hardware, layout_of, seen}
+use Rattle.rv_hardware.proofs.Headline.Fold.{IsWordAt, IsInBuffer, AreInBuffer}
 use Rattle.rv_hardware.proofs.Headline.Invariant.{FollowsProgram, IsSound, IsSoundAt}
 use Rattle.rv_hardware.proofs.Headline.Words.{fetched_same, length-memory_behind}
 
@@ -16,29 +15,15 @@ module _ (answers : Answers) (layout : Layout) (ram : Memory) (s : State) (cycle
     pub aligned : next % 4 ≡ 0
 
   fetched_one : (pc : ℕ) (e : Fetched) → pc % 4 ≡ 0 → IsFetchedAt answers ram cycle pc e → IsInBuffer layout s pc e
-  fetched_one pc e aligned at = record {
-    pc_is = at.pc_is;
-    word = λ not_stale. at.word_is ∙ fresh pc aligned (ap (λ n. set.contains s.stale (word_of n)) (sym at.pc_is) ∙ not_stale) ∙ ap (fetched_word layout s.ram) (sym at.pc_is);
-    instruction = at.instruction_is;
-    aligned = omega (arith, at.predicted_is.rounded);
-  }
+  fetched_one pc e aligned given = grind arith
 
   behind_one : (o : Option FetchStop) (e : Fetched) (es : List Fetched) (width room next : ℕ) (stop : FetchStop) → e.predicted % 4 ≡ 0 →
       MatchOption o (Fetches answers ram cycle width room e.predicted es next stop) (λ reason. (es ≡ []) × (next ≡ e.predicted) × (stop ≡ reason)) →
       (Fetches answers ram cycle width room e.predicted es next stop → AddedInOrder e.predicted es next) → AddedInOrder e.predicted es next
-  behind_one None e es width room next stop aligned rest go = go rest
-  behind_one (Some reason) e es width room next stop aligned rest go =
-      record {
-        words = subst (λ (fs : List Fetched). AreInBuffer layout s e.predicted fs next) (sym rest.0) rest.1;
-        aligned = ap (λ n. n % 4) rest.1 ∙ aligned;
-      }
+  behind_one o e es width room next stop aligned rest go = grind arith
 
   added : (es : List Fetched) (width room pc next : ℕ) (stop : FetchStop) → pc % 4 ≡ 0 → Fetches answers ram cycle width room pc es next stop → AddedInOrder pc es next
-  added [] width room pc next stop aligned fetches =
-      record { words = (ends width room fetches).1; aligned = ap (λ n. n % 4) (ends width room fetches).1 ∙ aligned } where
-        ends : (width room : ℕ) → Fetches answers ram cycle width room pc [] next stop → Unit {0} × (next ≡ pc)
-        ends zero room fetches = (tt, fetches.1)
-        ends (suc width) room fetches = (tt, fetches.1)
+  added [] width room pc next stop aligned fetches = grind arith
   added (e ∷ es) zero room pc next stop aligned fetches = absurd fetches
   added (e ∷ es) (suc width) zero pc next stop aligned fetches = absurd fetches
   added (e ∷ es) (suc width) (suc room) pc next stop aligned fetches =
@@ -51,27 +36,14 @@ module _ (answers : Answers) (layout : Layout) (ram : Memory) (s : State) (cycle
       ((words : List Fetched) × Fetches answers ram cycle old.width (old.capacity - length old.entries) old.next_pc words new.next_pc stop ×
       (new ≡ record old { entries = old.entries ++ words; next_pc = new.next_pc; halted = is_halted stop })) →
       FollowsProgram layout s entries new
-  into_by true entries old new stop program (same, halts) = subst (FollowsProgram layout s entries) (sym same) program
-  into_by false entries old new stop program (words, fetches, same) =
-      let more = added words old.width (old.capacity - length old.entries) old.next_pc new.next_pc stop program.aligned fetches in
-      let now : FetchBuffer = record old { entries = old.entries ++ words; next_pc = new.next_pc; halted = is_halted stop } in
-      let program_now : FollowsProgram layout s entries now = record {
-        in_flight = program.in_flight;
-        buffered = AreInBuffer-append layout s (behind layout entries s).pc old.next_pc new.next_pc old.entries words program.buffered more.words;
-        aligned = more.aligned;
-      } in
-      subst (FollowsProgram layout s entries) (sym same) program_now
+  into_by halted entries old new stop given holds = grind (arith, added, AreInBuffer-append)
 
   pub fetched_program : (entries : List Entry) (old new : FetchBuffer) (stop : FetchStop) → FollowsProgram layout s entries old → FetchesInto answers ram cycle old new stop → FollowsProgram layout s entries new
   fetched_program entries old new stop program fetches = into_by old.halted entries old new stop program fetches
 
 -- RAM's words are those that programs see, unless they are stale
 pub fresh_words : (h : Hardware) → IsSound h → (pc : ℕ) → pc % 4 ≡ 0 → IsWordAt (layout_of h.values) (seen h) pc (fetched_word h.cache.backing.layout h.cache.backing.bytes pc)
-fresh_words h is pc aligned not_stale =
-    let was = is.memory in
-    ap (λ (layout : Layout). fetched_word layout h.cache.backing.bytes pc) was.layout
-    ∙ fetched_same (layout_of h.values) h.cache.backing.bytes (seen h).ram pc aligned (was.consistent.size ∙ was.cache_size) (length-memory_behind (layout_of h.values) h.stale h.committed h.cache.bytes was.retired was.cache_size)
-    (λ i same. was.fresh i (ap (set.contains h.stale) same ∙ not_stale))
+fresh_words h is pc aligned not_stale = grind (arith, fetched_same, length-memory_behind)
 
 -- the hardware once its words were fetched
 pub fetch_kept : (answers : Answers) (values : Values) (cycle : ℕ) (s : State) (h : Hardware) → IsSoundAt values cycle s h → (front : FetchBuffer) (stop : FetchStop) (now next : ℕ) →

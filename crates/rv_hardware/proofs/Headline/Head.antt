@@ -1,4 +1,5 @@
 -- Where the result of the oldest instruction is known, the one-at-a-time machine takes the step that it tells of.
+use Rattle.std.proofs.Common.{arith}
 use Rattle.rv_hardware.proofs.Words.{◌≡◌, ℕ, ◌%◌, Bool, true, false, cond, List, [], ◌∷◌, Some, None, Option, option_map, option_and_then, unwrap_or, sym, refl, ◌∙◌, subst, no_lines, code_of, is_serialising, sources_of_word, target_of_word, target_of, Message, Fault, Instr, Lines, Decodes, instruction_of, Layout, fetched_word, is_in_ram, number_at, word_of, faulted_at, illegal_at, retired_at, due, Effect, Faults, Retires, effect, State, IsFetched, trap_taken, unfetched, word_at_pc, access_of, effect_message, result_of_word}
 use Rattle.std.specs.FinSet as set
 use Rattle.rv_arch.specs.Step.{Step}
@@ -9,16 +10,14 @@ use Rattle.rv_hardware.proofs.Headline.Retires.{IsRetirement, IsTold, effect_tol
 
 -- the word that a fetch found, or where it found none
 outside_by : (inside : Bool) (word : ℕ) → cond inside (Some word) None ≡ None → inside ≡ false
-outside_by true word none = absurd (cc)
-outside_by false word none = refl
+outside_by inside word given = grind arith
 
 record IsWordInside (inside : Bool) (at word : ℕ) : Type 0 where
   pub within : inside ≡ true
   pub is : word ≡ at
 
 inside_by : (inside : Bool) (at word : ℕ) → cond inside (Some at) None ≡ Some word → IsWordInside inside at word
-inside_by true at word some = record { within = refl; is = cc }
-inside_by false at word some = absurd (cc)
+inside_by inside at word some = grind arith
 
 pub reads_itself : (s : State) (sources : List (Option ℕ)) → ReadsSame s s sources
 reads_itself s [] = tt
@@ -53,8 +52,7 @@ module _ (layout : Layout) (s : State) (lines : Lines) where
 
   -- an instruction that was fetched has a word
   pub some_word : (word : Option ℕ) (i : Instr) → IsReady word (Some i) → word ≡ Some (unwrap_or word 0)
-  some_word None i ready = absurd (cc (ready.instruction_is))
-  some_word (Some word) i ready = refl
+  some_word word i ready = grind arith
 
   -- the step that a message tells of: a retirement, or a trap
   pub record Retires_as (word : Option ℕ) (instruction : Option Instr) (message : Message) : Type 0 where
@@ -81,10 +79,8 @@ module _ (layout : Layout) (s : State) (lines : Lines) where
   step_of_result : s.pc % 4 ≡ 0 → (word : Option ℕ) (instruction : Option Instr) → is_serialising instruction ≡ false → IsReady word instruction →
       IsStepOf word instruction (result_of_word layout s lines word instruction) (result_of_word layout s lines word instruction).fault
   step_of_result here None instruction plain ready = unfetched ready.calm (outside instruction ready)
-  step_of_result here (Some word) None plain ready =
-      illegal_at layout s lines (fetched word None ready) word (word_here word None ready) (IsIllegal-instruction_of word (sym ready.instruction_is))
-  step_of_result here (Some word) (Some i) plain ready =
-      step_of_effect word i (effect layout s lines word i) ready refl (effect_told layout s here lines word i plain)
+  step_of_result here (Some word) None plain ready = grind (arith, illegal_at, fetched, word_here, IsIllegal-instruction_of)
+  step_of_result here (Some word) (Some i) plain ready = grind (arith, step_of_effect, effect_told)
 
   -- where the message of the oldest instruction is its result, the machine takes that step
   pub step_of : s.pc % 4 ≡ 0 → (word : Option ℕ) (instruction : Option Instr) (message : Message) → is_serialising instruction ≡ false → IsReady word instruction →

@@ -1,4 +1,5 @@
 -- What always holds of the hardware, so that its steps are the one-at-a-time machine's.
+use Rattle.std.proofs.Common.{arith}
 use Rattle.rv_hardware.proofs.Words.{◌≡◌, ℕ, ◌+◌, ◌*◌, ◌%◌, true, false, List, [], ◌∷◌, length, slice_index_or as get_or, nat_cmp, PerKind, Values, Layout, Memory, is_in_ram, word_of, State, Contents, IsConsistent, Each, is_draining, Store as QueuedStore, Pool, ReorderBuffer, Entry, FetchBuffer, Hardware, memory_behind, with_store, layout_of, seen}
 use Rattle.std.specs.FinSet as set
 use Rattle.rv_hardware.proofs.Headline.Fold.{behind, AreInFlight, AreInBuffer}
@@ -50,9 +51,4 @@ pub record IsSoundAt (values : Values) (cycle : ℕ) (s : State) (h : Hardware) 
 -- the hardware with other instructions in flight
 pub with_other_program : (values : Values) (cycle : ℕ) (s : State) (h : Hardware) → IsSoundAt values cycle s h → (units : PerKind Pool) (rob : ReorderBuffer) (front : FetchBuffer) →
     FollowsProgram (layout_of h.values) (seen h) rob.entries front → IsSoundAt values cycle s (record h { units = units; rob = rob; front = front })
-with_other_program values cycle s h is units rob front program = record {
-  values_are = is.values_are;
-  cycle_is = is.cycle_is;
-  sees = is.sees;
-  sound = record { pc_aligned = is.sound.pc_aligned; mepc_aligned = is.sound.mepc_aligned; memory = is.sound.memory; program = program };
-}
+with_other_program values cycle s h is units rob front given = grind arith

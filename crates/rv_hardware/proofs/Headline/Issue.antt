@@ -1,5 +1,5 @@
 -- The issue phase changes nothing that programs see, and what it computes is the one-at-a-time machine's.
-use Rattle.rv_hardware.proofs.Words.{is_known as is_known_store, ◌≡◌, ℕ, ◌+◌, ◌<◌, ◌≤◌, Bool, true, false, not, ◌&&◌, ◌||◌, List, ◌∷◌, ◌++◌, length, if◌then◌else◌, Some, Option, sym, refl, ap, ◌∙◌, subst, inl, inr, arith, leb-true, and_parts, false≢true, list_all, is_load, kind_of_word, width_of, at_kind, with_kind, Message, Instr, Load, Kind, Values, is_aligned, is_in_ram, State, consistent_after, started, changed, Entry, Running, Hardware, FromCache, FromStores, Path, Without, cost_of, has_port, is_ready, issue, issued, path, path_of, with_access, with_start, layout_of, seen, seen_behind, stores_behind}
+use Rattle.rv_hardware.proofs.Words.{is_known as is_known_store, ◌≡◌, ℕ, ◌+◌, ◌<◌, ◌≤◌, Bool, true, false, not, ◌&&◌, ◌||◌, List, ◌∷◌, ◌++◌, length, if◌then◌else◌, Option, sym, refl, ap, ◌∙◌, subst, inl, inr, arith, leb-true, and_parts, false≢true, list_all, is_load, kind_of_word, at_kind, with_kind, Message, Instr, Kind, Values, is_aligned, is_in_ram, State, consistent_after, started, changed, Entry, Running, Hardware, FromCache, FromStores, Path, Without, cost_of, has_port, is_ready, issue, issued, path, path_of, with_access, with_start, layout_of, seen, seen_behind, stores_behind}
 use Rattle.rv_isa.specs.declared.Issue.{Issue}
 use Rattle.rv_units.specs.Pool.{started as started_unit}
 use Rattle.rv_hardware.proofs.Headline.Drain.{with_other_memory}
@@ -16,37 +16,26 @@ use Rattle.rv_hardware.proofs.Turns.KeptByIssue.{ready-parts, issue-by}
 use Rattle.rv_hardware.proofs.Oldest.{with_entry-at}
 
 loads_known : (load known port : Bool) → (not load || (known && port)) ≡ true → load ≡ true → known ≡ true
-loads_known true known port may is = (and_parts known port may).0
-loads_known false known port may is = absurd (false≢true is)
+loads_known load known port may is = grind (arith, and_parts, false≢true)
 
 -- a load that accesses the cache does so in RAM
 abbrev IsInRam : Hardware → Path → Type 0
-IsInRam h Without = Unit {0}
-IsInRam h FromStores = Unit {0}
 IsInRam h (FromCache address) = (h.values.ram_base ≤ address) × (address < h.values.ram_base + h.values.ram_size)
+IsInRam h _ = Unit {0}
 
 load_in_ram : (h : Hardware) (address count : ℕ) (fits covered : Bool) → 1 ≤ count →
     (is_aligned address count && is_in_ram (layout_of h.values) address count) ≡ fits →
     IsInRam h (if not fits then Without else (if covered then FromStores else FromCache address))
-load_in_ram h address count false covered some fits = tt
-load_in_ram h address count true true some fits = tt
-load_in_ram h address count true false some fits =
-    let inside = and_parts _ _ (and_parts (is_aligned address count) (is_in_ram (layout_of h.values) address count) fits).1 in
-    let above = leb-true h.values.ram_base address inside.0 in
-    let below = leb-true (address + count) (h.values.ram_base + h.values.ram_size) inside.1 in
-    (above, omega (arith, some, below))
+load_in_ram h address count fits covered some given = grind (arith, and_parts, leb-true)
 
 path_in_ram : (h : Hardware) (older : List Entry) (s : State) (instruction : Option Instr) →
     IsInRam h (path_of h older s instruction)
-path_in_ram h older s (Some (Load form rd rs1 offset)) = load_in_ram h _ _ _ _ (some_bytes (width_of form)) refl
-path_in_ram h older s _ = tt
+path_in_ram h older s instruction = grind (arith, load_in_ram, some_bytes)
 
 module _ (values : Values) (cycle : ℕ) (state : State) where
   -- ---- an access to the cache
   access_kept : (p : Path) (h : Hardware) → IsInRam h p → IsSoundAt values cycle state h →
       IsSoundAt values cycle state (with_access p h)
-  access_kept Without h inside is = is
-  access_kept FromStores h inside is = is
   access_kept (FromCache address) h inside is =
       let was = is.sound.memory in
       let mixed = access_mixed h.cache address h.cache.backing.bytes was.consistent.size in
@@ -65,6 +54,7 @@ module _ (values : Values) (cycle : ℕ) (state : State) where
         ];
         inside = was.inside;
       })
+  access_kept p h inside is = is
 
   -- ---- the start of an execution
   start_kept : (k : Kind) (cost seq : ℕ) (message : Message) (older : List Entry) (e : Entry) (younger : List Entry) (h : Hardware) → IsSoundAt values cycle state h → h.rob.entries ≡ older ++ e ∷ younger → seq ≡ h.rob.retired + length older → message ≡ result_at (layout_of h.values) (behind (layout_of h.values) older (seen h)) e → IsSoundAt values cycle state (with_start k seq cost message h)
@@ -76,10 +66,9 @@ module _ (values : Values) (cycle : ℕ) (state : State) where
       result is.sound.program)
 
   started_kept : (p : Path) (k : Kind) (cost seq : ℕ) (message : Message) (older : List Entry) (e : Entry) (younger : List Entry) (h : Hardware) → IsInRam h p → IsSoundAt values cycle state h → h.rob.entries ≡ older ++ e ∷ younger → seq ≡ h.rob.retired + length older → message ≡ result_at (layout_of h.values) (behind (layout_of h.values) older (seen h)) e → IsSoundAt values cycle state (with_start k seq cost message (with_access p h))
-  started_kept Without k cost seq message older e younger h inside is entries at result = start_kept k cost seq message older e younger h is entries at result
-  started_kept FromStores k cost seq message older e younger h inside is entries at result = start_kept k cost seq message older e younger h is entries at result
   started_kept (FromCache address) k cost seq message older e younger h inside is entries at result =
       start_kept k cost seq message older e younger (with_access (FromCache address) h) (access_kept (FromCache address) h inside is) entries at result
+  started_kept p k cost seq message older e younger h inside is entries at result = start_kept k cost seq message older e younger h is entries at result
 
   issued_kept : (k : Kind) (h : Hardware) (older younger : List Entry) (e : Entry) → IsSoundAt values cycle state h →
       h.rob.entries ≡ older ++ e ∷ younger → is_ready h k older e ≡ true → IsSoundAt values cycle state (issued k h older e)

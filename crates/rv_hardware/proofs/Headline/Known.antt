@@ -1,6 +1,5 @@
 -- The state in which an instruction executes agrees with the one after the older ones where it looks.
-use Rattle.rv_hardware.proofs.Words.{◌≡◌, ℕ, ◌+◌, ◌≤◌, Bool, true, false, cond, ◌≢◌, List, [], ◌∷◌, ◌++◌, length, is_some, IfSome, if◌then◌else◌, nat_eq, slice_index, slice_index_or as get_or, slice_set, Some, None, Option, sym, refl, ap, ◌∙◌, ap₂, inl, inr, true≢false, arith, length-set, get_or-set_other, get_or-set_same, eqb-true, and_parts, cases_Bool, cases_lt, cond-false, cond-true, eqb-false, false≢true, get_or_past, set_past, list_all-append, list_all, no_lines, is_load, is_serialising, is_store, is_target, sources_of_word, target_of_word, target_of, Message, StoreAccess, Instr, Auipc, Csr, Jal, Jalr, Load, Lui, Op, OpImmediate, Shift, Lines, Layout, Effect, Faults, Retires, effect, State, register_of, with_register, is_known as is_known_store, is_known_state, Store as QueuedStore, Entry, Stage, Finished, Running, Waiting, Hardware, broadcast_of, is_known_from, memory_behind, registers_behind, store_of_broadcast, store_of_message, stores_of, with_store, with_value, writes, has_operands, access_of, effect_message, result_of_word, layout_of, seen, seen_behind, stores_behind}
-use Rattle.rv_isa.specs.declared.instructions.Instr.TheVariants.{Store}
+use Rattle.rv_hardware.proofs.Words.{◌≡◌, ℕ, ◌+◌, ◌≤◌, Bool, true, false, cond, List, [], ◌∷◌, ◌++◌, length, is_some, IfSome, if◌then◌else◌, nat_eq, slice_index, slice_index_or as get_or, slice_set, Some, None, Option, sym, refl, ap, ◌∙◌, true≢false, arith, length-set, get_or-set_other, get_or-set_same, eqb-true, and_parts, cond-false, cond-true, eqb-false, false≢true, get_or_past, set_past, list_all-append, list_all, no_lines, is_load, is_serialising, is_store, is_target, sources_of_word, target_of_word, target_of, Message, Instr, Lines, Layout, Effect, effect, State, register_of, with_register, is_known as is_known_store, is_known_state, Store as QueuedStore, Entry, Stage, Hardware, broadcast_of, is_known_from, memory_behind, registers_behind, store_of_broadcast, store_of_message, stores_of, with_store, with_value, writes, has_operands, access_of, effect_message, result_of_word, layout_of, seen, seen_behind, stores_behind}
 use Rattle.rv_hardware.specs.InFlight.{is_known}
 use Rattle.rv_hardware.proofs.Headline.Fold.{result_at, executed, behind, IsResult, AreInFlight}
 use Rattle.rv_hardware.proofs.Headline.Result.{ReadsSame, same_result}
@@ -10,47 +9,30 @@ abbrev IsNotZero : Option ℕ → Type 0
 IsNotZero target = IfSome target (λ n. nat_eq n 0 ≡ false)
 
 written_not_zero : (b : Bool) (rd : ℕ) → nat_eq rd 0 ≡ b → IsNotZero (cond b None (Some rd))
-written_not_zero true rd is = tt
-written_not_zero false rd is = is
+written_not_zero b rd is = grind arith
 
 target_of_not_zero : (i : Instr) → IsNotZero (target_of i)
-target_of_not_zero (Lui rd immediate) = written_not_zero _ rd refl
-target_of_not_zero (Auipc rd immediate) = written_not_zero _ rd refl
-target_of_not_zero (Jal rd offset) = written_not_zero _ rd refl
-target_of_not_zero (Jalr rd rs1 offset) = written_not_zero _ rd refl
-target_of_not_zero (Load form rd rs1 offset) = written_not_zero _ rd refl
-target_of_not_zero (OpImmediate op rd rs1 immediate) = written_not_zero _ rd refl
-target_of_not_zero (Shift op rd rs1 amount) = written_not_zero _ rd refl
-target_of_not_zero (Op op rd rs1 rs2) = written_not_zero _ rd refl
-target_of_not_zero (Csr op rd csr source) = written_not_zero _ rd refl
-target_of_not_zero _ = tt
+target_of_not_zero i = grind (arith, written_not_zero)
 
 target_not_zero : (i : Option Instr) → IsNotZero (target_of_word i)
-target_not_zero None = tt
-target_not_zero (Some i) = target_of_not_zero i
+target_not_zero i = grind (arith, target_of_not_zero)
 
 -- ---- registers
 with_register_set : (registers : List ℕ) (rd value : ℕ) → nat_eq rd 0 ≡ false → with_register registers rd value ≡ slice_set registers rd value
 with_register_set registers rd value is = cond-false (nat_eq rd 0) registers (slice_set registers rd value) is
 
 length-with_register : (b : Bool) (registers : List ℕ) (rd value : ℕ) → length (cond b registers (slice_set registers rd value)) ≡ length registers
-length-with_register true registers rd value = refl
-length-with_register false registers rd value = length-set registers rd value
+length-with_register b registers rd value = grind (arith, length-set)
 
 pub length-with_value : (registers : List ℕ) (target : Option ℕ) (message : Option Message) → length (with_value registers target message) ≡ length registers
-length-with_value registers None message = refl
-length-with_value registers (Some rd) None = refl
-length-with_value registers (Some rd) (Some message) = length-with_register (nat_eq rd 0) registers rd message.value
+length-with_value registers target message = grind (arith, length-with_register)
 
 past_end : (zs : List ℕ) (r value : ℕ) → length zs ≤ r → slice_index (slice_set zs r value) r ≡ 0
 past_end zs r value past = ap (λ (xs : List ℕ). get_or xs r 0) (set_past zs r value past) ∙ get_or_past zs r 0 past
 
 -- a register that was just written has the value, in any two lists of one length
 same_where_written : (xs ys : List ℕ) (r value : ℕ) → length xs ≡ length ys → slice_index (slice_set xs r value) r ≡ slice_index (slice_set ys r value) r
-same_where_written xs ys r value size = elim (cases_lt r (length xs)) [
-  | inl within ↦ get_or-set_same xs r value 0 within ∙ sym (get_or-set_same ys r value 0 (omega arith))
-  | inr past ↦ past_end xs r value past ∙ sym (past_end ys r value (omega arith))
-]
+same_where_written xs ys r value size = grind (arith, get_or-set_same, past_end)
 
 -- the same where the youngest instruction is known, that writes the register
 agree_behind_one : (xs ys : List ℕ) (r : ℕ) (known : Bool) (target : Option ℕ) (broadcast : Option Message) (message : Message) →
@@ -58,34 +40,12 @@ agree_behind_one : (xs ys : List ℕ) (r : ℕ) (known : Bool) (target : Option 
     (if is_target r target then is_some broadcast else known) ≡ true →
     slice_index (with_value xs target broadcast) r ≡ slice_index (with_value ys target (Some message)) r
 agree_behind_one xs ys r known None broadcast message size same zero is test = same test
-agree_behind_one xs ys r known (Some rd) None message size same zero is test = elim (cases_Bool (nat_eq rd r)) [
-  | inl own ↦ absurd (false≢true (sym (cond-true (nat_eq rd r) false known own) ∙ test))
-  | inr other ↦
-      let differs : r ≢ rd = λ e. eqb-false rd r other (sym e) in
-      same (sym (cond-false (nat_eq rd r) false known other) ∙ test)
-      ∙ sym (ap (λ (zs : List ℕ). slice_index zs r) (with_register_set ys rd message.value zero) ∙ get_or-set_other ys rd r message.value 0 differs)
-]
-agree_behind_one xs ys r known (Some rd) (Some b) message size same zero is test =
-    ap (λ (zs : List ℕ). slice_index zs r) (with_register_set xs rd b.value zero)
-    ∙ elim (cases_Bool (nat_eq rd r)) [
-      | inl own ↦
-          let here : rd ≡ r = eqb-true rd r own in
-          ap (λ (n : ℕ). slice_index (slice_set xs rd b.value) n) (sym here)
-          ∙ same_where_written xs ys rd b.value size
-          ∙ ap₂ (λ (m : Message) (n : ℕ). slice_index (slice_set ys rd m.value) n) is here
-      | inr other ↦
-          let differs : r ≢ rd = λ e. eqb-false rd r other (sym e) in
-          get_or-set_other xs rd r b.value 0 differs
-          ∙ same (sym (cond-false (nat_eq rd r) true known other) ∙ test)
-          ∙ sym (get_or-set_other ys rd r message.value 0 differs)
-    ]
-    ∙ sym (ap (λ (zs : List ℕ). slice_index zs r) (with_register_set ys rd message.value zero))
+agree_behind_one xs ys r known (Some rd) None message size same zero is test = grind (arith, false≢true, cond-true, eqb-false, cond-false, with_register_set, get_or-set_other)
+agree_behind_one xs ys r known (Some rd) (Some b) message size same zero is test = grind (arith, with_register_set, eqb-true, same_where_written, eqb-false, get_or-set_other, cond-false)
 
 -- what was broadcast is the result
 pub broadcast_is : (stage : Stage) (result : Message) → IsResult result stage → IfSome (broadcast_of stage) (λ b. b ≡ result)
-broadcast_is Waiting result is = tt
-broadcast_is (Running issue message) result is = tt
-broadcast_is (Finished issue cycle message) result is = is
+broadcast_is stage result is = grind arith
 
 module _ (layout : Layout) (now : State) where
   known_from : (older : List Entry) (s : State) (registers : List ℕ) (known : Bool) (r : ℕ) → AreInFlight layout now s older →
@@ -112,37 +72,26 @@ module _ (layout : Layout) (now : State) where
 
 -- ---- memory
 no_store_of_effect : (effect : Effect) → (effect_message None effect).store ≡ None
-no_store_of_effect (Retires written next) = refl
-no_store_of_effect (Faults cause value) = refl
+no_store_of_effect effect = grind arith
 
 no_access : (s : State) (i : Instr) → is_store (Some i) ≡ false → access_of s i ≡ None
-no_access s (Store width rs1 rs2 offset) other = absurd (true≢false other)
-no_access s _ other = refl
+no_access s i other = grind (arith, true≢false)
 
 -- only stores write to memory
 pub no_store : (layout : Layout) (s : State) (lines : Lines) (word : Option ℕ) (i : Option Instr) → is_store i ≡ false → (result_of_word layout s lines word i).store ≡ None
-no_store layout s lines None i other = refl
-no_store layout s lines (Some word) None other = refl
-no_store layout s lines (Some word) (Some i) other =
-    ap (λ (access : Option StoreAccess). (effect_message access (effect layout s lines word i)).store) (no_access s i other)
-    ∙ no_store_of_effect (effect layout s lines word i)
+no_store layout s lines word i other = grind (arith, no_access, no_store_of_effect)
 
 -- a store that is known has its bytes
 store_known : (base : ℕ) (xs ys : List ℕ) (broadcast : Option Message) (message : Message) → xs ≡ ys → IfSome broadcast (λ b. b ≡ message) →
     is_known_state (store_of_broadcast broadcast) ≡ true → with_store base (store_of_broadcast broadcast) xs ≡ with_store base (store_of_message message.store) ys
-store_known base xs ys None message same is known = absurd (false≢true known)
-store_known base xs ys (Some b) message same is known = ap₂ (λ (m : Message) (zs : List ℕ). with_store base (store_of_message m.store) zs) is same
+store_known base xs ys broadcast message same is known = grind (arith, false≢true)
 
 module _ (layout : Layout) (now : State) where
   known_by : (b : Bool) (e : Entry) (es : List Entry) (s : State) (seq : ℕ) (bytes : List ℕ) → is_store e.instruction ≡ b → IsResult (result_at layout s e) e.stage → bytes ≡ s.ram →
       ((bytes' : List ℕ) → bytes' ≡ (executed layout e s).ram → list_all is_known_store (stores_of (seq + 1) es) ≡ true → memory_behind layout.base (stores_of (seq + 1) es) bytes' ≡ (behind layout (e ∷ es) s).ram) →
       list_all is_known_store (if b then record { seq = seq; state = store_of_broadcast (broadcast_of e.stage) } ∷ stores_of (seq + 1) es else stores_of (seq + 1) es) ≡ true →
       memory_behind layout.base (if b then record { seq = seq; state = store_of_broadcast (broadcast_of e.stage) } ∷ stores_of (seq + 1) es else stores_of (seq + 1) es) bytes ≡ (behind layout (e ∷ es) s).ram
-  known_by true e es s seq bytes is result same rest known =
-      let parts = and_parts (is_known_state (store_of_broadcast (broadcast_of e.stage))) (list_all is_known_store (stores_of (seq + 1) es)) known in
-      rest _ (store_known layout.base bytes s.ram (broadcast_of e.stage) (result_at layout s e) same (broadcast_is e.stage (result_at layout s e) result) parts.0) parts.1
-  known_by false e es s seq bytes is result same rest known =
-      rest bytes (same ∙ ap (λ (access : Option StoreAccess). with_store layout.base (store_of_message access) s.ram) (sym (no_store layout s no_lines e.word e.instruction is))) known
+  known_by b e es s seq bytes is result same rest known = grind (arith, and_parts, store_known, broadcast_is, no_store)
 
   pub memory_known : (older : List Entry) (s : State) (seq : ℕ) (bytes : List ℕ) → AreInFlight layout now s older → bytes ≡ s.ram →
       list_all is_known_store (stores_of seq older) ≡ true → memory_behind layout.base (stores_of seq older) bytes ≡ (behind layout older s).ram

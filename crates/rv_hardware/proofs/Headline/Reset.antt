@@ -1,5 +1,5 @@
 -- At reset programs see the one-at-a-time machine's reset.
-use Rattle.rv_hardware.proofs.Words.{◌≡◌, ℕ, ◌-◌, ◌%◌, ◌<◌, ◌≤◌, List, [], length, replicate, nat_cmp, sym, refl, ap, ◌∙◌, arith, length-append, false≢true, length-replicate, IsLegal, Values, reset, consistent_new, IsConsistent, IsLoadable, memory_at_reset, reset_hardware, layout_of, seen}
+use Rattle.rv_hardware.proofs.Words.{◌≡◌, ℕ, ◌%◌, ◌<◌, ◌≤◌, List, [], length, replicate, nat_cmp, sym, refl, ap, ◌∙◌, arith, length-append, false≢true, length-replicate, IsLegal, Values, reset, consistent_new, IsConsistent, IsLoadable, memory_at_reset, reset_hardware, layout_of, seen}
 use Rattle.std.specs.FinSet as set
 use Rattle.rv_cache.proofs.Divided.{base_divides, line_divides}
 use Rattle.rv_hardware.proofs.Headline.Invariant.{IsSound}
@@ -8,10 +8,7 @@ pub seen_at_reset : (values : Values) (image : List ℕ) (start : ℕ) → seen 
 seen_at_reset values image start = refl
 
 length-memory_at_reset : (values : Values) (image : List ℕ) → length image ≤ values.ram_size → length (memory_at_reset values image) ≡ values.ram_size
-length-memory_at_reset values image fits =
-    let zeros : List ℕ = replicate (values.ram_size - length image) 0 in
-    let size : length zeros ≡ values.ram_size - length image = length-replicate {A = ℕ} (values.ram_size - length image) 0 in
-    omega (arith, length-append image zeros)
+length-memory_at_reset values image fits = grind (arith, length-replicate, length-append)
 
 -- whole lines fill RAM, and none is held
 consistent_at_reset : (values : Values) (image : List ℕ) → IsLegal values → length (memory_at_reset values image) ≡ values.ram_size →

@@ -1,5 +1,5 @@
 -- A retirement, a trap and a flush leave sound hardware, and programs see what the machine's step leaves.
-use Rattle.rv_hardware.proofs.Words.{◌≡◌, ℕ, ◌+◌, ◌*◌, ◌/◌, ◌%◌, ◌^◌, ◌≤◌, Bool, true, false, List, [], ◌∷◌, ◌++◌, length, IfSome, if◌then◌else◌, nat_le, slice_index_or as get_or, Some, None, Option, nat_cmp, sym, refl, ap, ◌∙◌, subst, ap₂, inl, inr, true≢false, append-nil, arith, le-leb, and_from, cases_eq, Message, StoreAccess, Values, Layout, Memory, fetched_word, is_in_ram, word_of, Kept, State, trap_taken, handler_of, Contents, is_draining, Store as QueuedStore, Committed, Filled, after_head, Entry, Fetched, Hardware, memory_behind, store_of_message, with_store, committed_store, stale_after, with_result, layout_of, seen, with_state, flushed, with_trap, Each-push, Each-weaker}
+use Rattle.rv_hardware.proofs.Words.{◌≡◌, ℕ, ◌+◌, ◌*◌, ◌/◌, ◌%◌, ◌^◌, ◌≤◌, Bool, true, false, List, [], ◌∷◌, ◌++◌, length, IfSome, if◌then◌else◌, slice_index_or as get_or, Some, None, Option, nat_cmp, sym, refl, ap, ◌∙◌, subst, ap₂, inl, inr, true≢false, append-nil, arith, le-leb, and_from, cases_eq, Message, StoreAccess, Values, Layout, Memory, fetched_word, is_in_ram, word_of, Kept, State, trap_taken, handler_of, Contents, is_draining, Store as QueuedStore, Committed, Filled, Entry, Fetched, Hardware, memory_behind, store_of_message, with_store, committed_store, stale_after, with_result, layout_of, seen, with_state, flushed, with_trap, Each-push, Each-weaker}
 use Rattle.std.specs.FinSet as set
 use Rattle.rv_hardware.proofs.Headline.Fold.{result_at, with_message, executed, behind, IsWordAt, AreInFlight, AreInBuffer}
 use Rattle.rv_hardware.proofs.Headline.Invariant.{DrainInOrder, HoldsMemory, FollowsProgram, IsSound}
@@ -10,15 +10,11 @@ use Rattle.rv_hardware.proofs.Headline.Words.{IsRetiredStore, IsRetiredStore-mor
 
 -- ---- what a store leaves
 drains_push : (base : ℕ) (bytes : List ℕ) (ss : List QueuedStore) (s : QueuedStore) → is_draining s ≡ false → DrainInOrder base bytes ss → DrainInOrder base bytes (ss ++ s ∷ [])
-drains_push base bytes [] s none drains = (λ is. absurd (true≢false (sym is ∙ none)), tt)
-drains_push base bytes (t ∷ ts) s none drains = (drains.0, Each-push (λ u. is_draining u ≡ false) ts s none drains.1)
+drains_push base bytes ss s given drains = grind (arith, true≢false, Each-push)
 
 -- the word of an access lies in RAM
 word_inside : (layout : Layout) (access : StoreAccess) → layout.base % 4 ≡ 0 → layout.size % 4 ≡ 0 → IsStoreAccess layout access → (1 ≤ length access.bytes) → is_in_ram layout (4 * word_of access.address) 4 ≡ true
-word_inside layout access base size legal some =
-    and_from (nat_le layout.base (4 * word_of access.address)) (nat_le (4 * word_of access.address + 4) (layout.base + layout.size))
-    (le-leb layout.base (4 * word_of access.address) (omega (arith, legal.above)))
-    (le-leb (4 * word_of access.address + 4) (layout.base + layout.size) (omega (arith, legal.above, legal.below)))
+word_inside layout access base size legal some = grind (arith, and_from, le-leb)
 
 module _ (values : Values) (stale : set.FinSet nat_cmp) (cache : Contents Memory) (committed : List QueuedStore) (was : HoldsMemory values stale cache committed) where
   abbrev layout : Layout
@@ -31,8 +27,7 @@ module _ (values : Values) (stale : set.FinSet nat_cmp) (cache : Contents Memory
   size_seen = length-memory_behind layout stale committed cache.bytes was.retired was.cache_size
 
   pub ram_stored : (seq : ℕ) (store : Option StoreAccess) → memory_behind values.ram_base (committed ++ committed_store seq store) cache.bytes ≡ with_store values.ram_base (store_of_message store) ram
-  ram_stored seq None = ap (λ (ss : List QueuedStore). memory_behind values.ram_base ss cache.bytes) (append-nil committed)
-  ram_stored seq (Some access) = memory_behind-append values.ram_base committed (committed_store seq (Some access)) cache.bytes
+  ram_stored seq store = grind (arith, append-nil, memory_behind-append)
 
   -- a store that retires leaves cache and queue with the program's memory, its words marked stale
   pub memory_stored : (seq : ℕ) (store : Option StoreAccess) → IfSome store (IsStoreAccess layout) → HoldsMemory values (stale_after store stale) cache (committed ++ committed_store seq store)
@@ -107,17 +102,11 @@ module _ (layout : Layout) (s t : State) (keep : (pc : ℕ) (word : Option ℕ) 
 
 -- ---- a flush
 pub flushed_sound : (h : Hardware) → h.pc % 4 ≡ 0 → h.csrs.mepc % 4 ≡ 0 → HoldsMemory h.values h.stale h.cache h.committed → IsSound (flushed h)
-flushed_sound h pc_aligned mepc_aligned memory = record {
-  pc_aligned = pc_aligned;
-  mepc_aligned = mepc_aligned;
-  memory = memory;
-  program = record { in_flight = tt; buffered = refl; aligned = pc_aligned };
-}
+flushed_sound h pc_aligned mepc_aligned given = grind arith
 
 -- ---- a trap
 handler_by : (b : Bool) (base offset : ℕ) → base % 4 ≡ 0 → (if b then (base + 4 * offset) % 2 ^ 32 else base) % 4 ≡ 0
-handler_by true base offset aligned = omega arith
-handler_by false base offset aligned = aligned
+handler_by b base offset aligned = grind arith
 
 pub handler_aligned : (kept : Kept) (cause : ℕ) → handler_of kept cause % 4 ≡ 0
 handler_aligned kept cause = handler_by _ (4 * (kept.mtvec / 4)) _ (omega arith)
@@ -158,12 +147,4 @@ module _ (h : Hardware) (e : Entry) (message : Message) where
 
     -- hardware whose oldest instruction retired with a result is sound
     pub result_sound : message.next_pc % 4 ≡ 0 → IsSound (with_result e message h)
-    result_sound aligned =
-        let rest : (with_result e message h).rob.entries ≡ es = ap (λ (xs : List Entry). (after_head h.rob xs).entries) entries in
-        record {
-          pc_aligned = aligned;
-          mepc_aligned = is.mepc_aligned;
-          memory = memory_stored h.values h.stale h.cache h.committed is.memory h.rob.retired message.store legal;
-          program = subst (λ (u : State). FollowsProgram this u (with_result e message h).rob.entries h.front) (sym (seen_result is.memory))
-              (subst (λ (xs : List Entry). FollowsProgram this next_state xs h.front) (sym rest) retired_program);
-        }
+    result_sound aligned = grind (arith, memory_stored, seen_result, retired_program)

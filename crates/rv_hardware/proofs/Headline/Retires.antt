@@ -1,7 +1,6 @@
 -- What an instruction's retirement makes of a state is what its message tells.
-use Rattle.rv_hardware.proofs.Words.{◌≡◌, ℕ, zero, suc, ◌+◌, ◌/◌, ◌%◌, ◌≤◌, Bool, true, false, cond, not, List, length, IfSome, if◌then◌else◌, nat_eq, slice_set, Some, None, Option, option_map, sym, refl, ap, ◌∙◌, subst, inl, inr, true≢false, arith, eqb-true, cond-false, nat_tests, bytes_of_number, holds, is_serialising, target_of, written, bytes_of, is_sign_extended, width_of, modulo_word, pc_plus, pc_plus_4, sum, Message, StoreAccess, Cause, InstructionAddressMisaligned, LoadAccessFault, LoadAddressMisaligned, Instr, Auipc, Branch, Csr, Ebreak, Ecall, FenceI, Jal, Jalr, Load, Lui, Mret, Op, OpImmediate, Shift, Lines, LoadForm, Width, Layout, is_aligned, is_in_ram, is_writable, number_at, Effect, Faults, Retires, effect, extended, goes_to, loads, State, register_of, IsAligned, store_of_message, with_store, with_value, access_of, effect_message, value_written, stale_after}
+use Rattle.rv_hardware.proofs.Words.{◌≡◌, ℕ, zero, suc, ◌+◌, ◌/◌, ◌%◌, ◌≤◌, Bool, true, false, cond, not, length, IfSome, if◌then◌else◌, nat_eq, slice_set, Some, None, Option, option_map, refl, ap, true≢false, arith, eqb-true, cond-false, nat_tests, bytes_of_number, holds, is_serialising, target_of, written, bytes_of, modulo_word, pc_plus, pc_plus_4, sum, Message, StoreAccess, Cause, InstructionAddressMisaligned, Instr, Auipc, Branch, Csr, Ebreak, Ecall, FenceI, Jal, Jalr, Load, Lui, Mret, Op, OpImmediate, Shift, Lines, LoadForm, Width, Layout, is_aligned, is_writable, Effect, Faults, Retires, effect, goes_to, loads, State, register_of, IsAligned, store_of_message, with_store, with_value, access_of, effect_message, value_written, stale_after}
 use Rattle.rv_isa.specs.declared.instructions.Instr.TheVariants.{Store}
-use Rattle.rv_isa.specs.declared.operations.Width.TheVariants.{Byte, Half, Word}
 use Rattle.rv_arch.specs.Effect.{writes}
 
 -- the bytes of a store lie in RAM, after its read-only front, and within one word
@@ -40,65 +39,43 @@ is_aligned_by_4 target aligned = eqb-true (target % 4) 0 aligned
 
 -- an access has a byte
 pub some_bytes : (width : Width) → 1 ≤ bytes_of width
-some_bytes Byte = omega arith
-some_bytes Half = omega arith
-some_bytes Word = omega arith
+some_bytes width = grind arith
 
 module _ (layout : Layout) (s : State) (here : s.pc % 4 ≡ 0) where
   registers_by : (none : Bool) (rd value : ℕ) (message : Message) → nat_eq rd 0 ≡ none → message.value ≡ value_written (cond {A = Option (ℕ × ℕ)} none None (Some (rd, value))) →
       with_value s.registers (cond none None (Some rd)) (Some message) ≡ cond none s.registers (slice_set s.registers rd value)
-  registers_by true rd value message is same = refl
-  registers_by false rd value message is same =
-      cond-false (nat_eq rd 0) s.registers (slice_set s.registers rd message.value) is ∙ ap (slice_set s.registers rd) same
+  registers_by none rd value message is same = grind (arith, cond-false)
 
   register_by : (none : Bool) (rd value : ℕ) (message : Message) → message.value ≡ value_written (cond {A = Option (ℕ × ℕ)} none None (Some (rd, value))) →
       cond {A = Option (ℕ × ℕ)} none None (Some (rd, value)) ≡ option_map (λ (r : ℕ). (r, message.value)) (cond none None (Some rd))
-  register_by true rd value message same = refl
-  register_by false rd value message same =
-      let register : ℕ → Option (ℕ × ℕ) = λ v. Some (rd, v) in ap register (sym same)
+  register_by none rd value message same = grind arith
 
   writes_told : (rd value next : ℕ) → next % 4 ≡ 0 → IsTold layout s (written rd) None (writes s rd value next)
-  writes_told rd value next aligned =
-      let message : Message = effect_message None (writes s rd value next) in
-      record {
-        next_is = ap (λ (registers : List ℕ). record s { pc = next; registers = registers }) (sym (registers_by (nat_eq rd 0) rd value message refl refl));
-        register_is = register_by (nat_eq rd 0) rd value message refl;
-        aligned = aligned;
-        store = tt;
-      }
+  writes_told rd value next aligned = grind (arith, registers_by, register_by)
 
   goes_told : (next : ℕ) → next % 4 ≡ 0 → IsTold layout s None None (goes_to s next)
   goes_told next aligned = record { next_is = refl; register_is = refl; aligned = aligned; store = tt }
 
   jumps_by : (b : Bool) (cause : Cause) (rd target : ℕ) → is_aligned target 4 ≡ b → IsTold layout s (written rd) None (if b then writes s rd (pc_plus_4 s.pc) target else Faults cause target)
-  jumps_by true cause rd target is = writes_told rd (pc_plus_4 s.pc) target (is_aligned_by_4 target is)
-  jumps_by false cause rd target is = tt
+  jumps_by b cause rd target is = grind (arith, writes_told, is_aligned_by_4)
 
   branches_by : (taken b : Bool) (cause : Cause) (target : ℕ) → is_aligned target 4 ≡ b →
       IsTold layout s None None (if taken then (if b then goes_to s target else Faults cause target) else goes_to s (pc_plus_4 s.pc))
-  branches_by false b cause target is = goes_told (pc_plus_4 s.pc) (aligned_next s.pc here)
-  branches_by true true cause target is = goes_told target (is_aligned_by_4 target is)
-  branches_by true false cause target is = tt
+  branches_by taken b cause target is = grind (arith, goes_told, aligned_next, is_aligned_by_4)
 
   loads_by : (aligned inside : Bool) (a b : Cause) (rd address value : ℕ) →
       IsTold layout s (written rd) None (if not aligned then Faults a address else (if not inside then Faults b address else writes s rd value (pc_plus_4 s.pc)))
-  loads_by false inside a b rd address value = tt
-  loads_by true false a b rd address value = tt
-  loads_by true true a b rd address value = writes_told rd value (pc_plus_4 s.pc) (aligned_next s.pc here)
+  loads_by aligned inside a b rd address value = grind (arith, writes_told, aligned_next)
 
   length-bytes_of_number : (count number : ℕ) → length (bytes_of_number count number) ≡ count
   length-bytes_of_number zero number = refl
   length-bytes_of_number (suc count) number = ap suc (length-bytes_of_number count (number / 256))
 
   one_word_of : (width : Width) (address : ℕ) → is_aligned address (bytes_of width) ≡ true → address % 4 + bytes_of width ≤ 4
-  one_word_of Byte address aligned = omega arith
-  one_word_of Half address aligned = let even : address % 2 ≡ 0 = eqb-true (address % 2) 0 aligned in omega arith
-  one_word_of Word address aligned = let fourth : address % 4 ≡ 0 = eqb-true (address % 4) 0 aligned in omega arith
+  one_word_of width address aligned = grind (arith, eqb-true)
 
   aligned_bytes : (width : Width) (address : ℕ) → is_aligned address (bytes_of width) ≡ true → IsAligned address (bytes_of width)
-  aligned_bytes Byte address aligned = (inl refl, eqb-true (address % 1) 0 aligned)
-  aligned_bytes Half address aligned = (inr (inl refl), eqb-true (address % 2) 0 aligned)
-  aligned_bytes Word address aligned = (inr (inr refl), eqb-true (address % 4) 0 aligned)
+  aligned_bytes width address aligned = grind (arith, eqb-true)
 
   inside_of : (address count : ℕ) → is_writable layout address count ≡ true → (layout.base ≤ address) × (address + count ≤ layout.base + layout.size)
   inside_of address count writable = (grind (arith, nat_tests), grind (arith, nat_tests))
@@ -112,29 +89,11 @@ module _ (layout : Layout) (s : State) (here : s.pc % 4 ≡ 0) where
         ram = with_store layout.base (store_of_message (Some access)) s.ram;
         stale = stale_after (Some access) s.stale;
       })))
-  stores_by false writable a b width address word is_a is_w = tt
-  stores_by true false a b width address word is_a is_w = tt
-  stores_by true true a b width address word is_a is_w =
-      let inside = inside_of address (bytes_of width) is_w in
-      let size = length-bytes_of_number (bytes_of width) word in
-      record {
-        next_is = refl;
-        register_is = refl;
-        aligned = aligned_next s.pc here;
-        store = record {
-          above = inside.0;
-          below = omega (arith, inside.1, size);
-          one_word = omega (arith, one_word_of width address is_a, size);
-          some = omega (arith, some_bytes width, size);
-          aligned = subst (IsAligned address) (sym size) (aligned_bytes width address is_a);
-          writable = ap (is_writable layout address) size ∙ is_w;
-        };
-      }
+  stores_by true true a b width address word is_a is_w = grind (arith, inside_of, length-bytes_of_number, aligned_next, one_word_of, some_bytes, aligned_bytes)
+  stores_by aligned writable a b width address word is_a is_w = tt
 
   loaded : (form : LoadForm) (rd address : ℕ) → IsTold layout s (written rd) None (loads layout s form rd address)
-  loaded form rd address =
-      loads_by (is_aligned address (bytes_of (width_of form))) (is_in_ram layout address (bytes_of (width_of form))) LoadAddressMisaligned LoadAccessFault rd address
-      (extended (is_sign_extended form) (bytes_of (width_of form)) (number_at layout s.ram address (bytes_of (width_of form))))
+  loaded form rd address = grind (arith, loads_by)
 
   -- what an instruction's message tells is its effect on the state
   pub effect_told : (lines : Lines) (word : ℕ) (i : Instr) → is_serialising (Some i) ≡ false → IsTold layout s (target_of i) (access_of s i) (effect layout s lines word i)

@@ -1,9 +1,8 @@
 -- What the cycles of a run report leads from what programs saw before it to what they see after it.
-use Rattle.rv_hardware.proofs.Words.{◌≡◌, ℕ, ◌+◌, ◌<◌, ◌≤◌, false, List, [], ◌∷◌, ◌++◌, map, length, All, AllPairs, sym, refl, ap, subst, arith, All-append, All-head, All-nil, All-tail, All-weaker, AllPairs-cons, lines_at, IsLegal, Arrival, Values, Layout, reset, Run, is_stale, stepped, State, Hardware, ComesBefore, EndAtTraps, IsTrueCycle, IsTrueRun, Lead, nowhere, onwards, told, Report, IsLoadable, reset_hardware, Cycles, Reachable, at_reset, cycled, steps_of, layout_of, seen, stamp_of, Step}
+use Rattle.rv_hardware.proofs.Words.{◌≡◌, ℕ, ◌+◌, ◌<◌, ◌≤◌, false, List, [], ◌∷◌, ◌++◌, map, length, All, AllPairs, sym, ap, subst, arith, All-append, All-head, All-nil, All-tail, All-weaker, AllPairs-cons, lines_at, IsLegal, Arrival, Values, Layout, reset, Run, is_stale, stepped, State, Hardware, ComesBefore, EndAtTraps, IsTrueCycle, IsTrueRun, Lead, nowhere, onwards, told, Report, IsLoadable, reset_hardware, Cycles, Reachable, at_reset, cycled, steps_of, layout_of, seen, stamp_of, Step}
 use Rattle.rv_arch.specs.Run.{ended}
 use Rattle.rv_arch.specs.Step.{Step as MachineStep}
 use Rattle.rv_hardware.specs.Run as run
-use Rattle.rv_hardware.specs.declared.step.Step.TheVariants as step
 use Rattle.rv_hardware.proofs.Headline.Cycle.{GoesOnTrue, cycle_true, always_sound}
 use Rattle.rv_hardware.proofs.Headline.Invariant.{IsSound}
 
@@ -26,9 +25,7 @@ cycles_true {arrivals = arrivals} {old = old} {new = new} is (cycled {middle = m
     (subst (λ (v : Values). TrueCycles (layout_of v) arrivals (seen middle) middle.cycle reports (seen new) new.cycle) now.values_are later))
 
 never_stale : (x : Step) → is_stale (told x) ≡ false
-never_stale (step.Retired row) = refl
-never_stale (step.Trap pc cause value cycle) = refl
-never_stale (step.Interrupt pc cause cycle) = refl
+never_stale x = grind arith
 
 module _ (layout : Layout) (arrivals : List Arrival) where
   -- the steps of a cycle, and those of later ones
@@ -48,8 +45,7 @@ module _ (layout : Layout) (arrivals : List Arrival) where
   pub true_run_runs : {s u : State} {n m : ℕ} {reports : List Report} → TrueCycles layout arrivals s n reports u m →
       Run layout arrivals s (map stamp_of (steps_of reports)) (map told (steps_of reports)) u
   true_run_runs none = ended
-  true_run_runs (one_more {s = s} {t = t} {u = u} {n = n} {report = report} {reports = reports} cycle rest) =
-      lead_runs n s t u report.steps (steps_of reports) cycle.leads cycle.stamped (true_run_runs rest)
+  true_run_runs (one_more {s = s} {t = t} {u = u} {n = n} {report = report} {reports = reports} cycle rest) = grind (arith, lead_runs, true_run_runs rest)
 
   -- ---- stamps
   pub counts_cycles : {s u : State} {n m : ℕ} {reports : List Report} → TrueCycles layout arrivals s n reports u m →

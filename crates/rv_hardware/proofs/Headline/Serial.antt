@@ -1,11 +1,10 @@
 -- A serialising instruction takes its effect in the state that programs see.
-use Rattle.rv_hardware.proofs.Words.{◌≡◌, ℕ, ◌%◌, Bool, true, false, ◌&&◌, List, [], ◌∷◌, IfSome, if◌then◌else◌, slice_index_or as get_or, Some, None, Option, option_map, nat_cmp, sym, refl, ap, ◌∙◌, subst, arith, false≢true, Csr, FenceI, Mret, Lines, Kept, access, access_csr, does_write, is_read_only, new_value, value_of, Effect, Faults, Retires, accesses, effect, operand_of, State, consistent_cleaned, memory_written, memory_written_back, Each, Store as QueuedStore, is_drained, with_write_back, Hardware, memory_behind, layout_of, seen}
+use Rattle.rv_hardware.proofs.Words.{◌≡◌, ℕ, ◌%◌, Bool, true, List, [], IfSome, if◌then◌else◌, slice_index_or as get_or, None, Option, option_map, nat_cmp, sym, refl, ap, ◌∙◌, subst, arith, false≢true, Csr, FenceI, Mret, Lines, Kept, access_csr, Effect, Faults, Retires, accesses, effect, State, consistent_cleaned, memory_written, memory_written_back, Each, Store as QueuedStore, is_drained, with_write_back, Hardware, memory_behind, layout_of, seen}
 use Rattle.std.specs.FinSet as set
 use Rattle.rv_isa.specs.declared.instructions.CsrSource.{CsrSource}
 use Rattle.rv_isa.specs.declared.operations.CsrOp.{CsrOp}
 use Rattle.rv_isa.specs.declared.csrs.Csr.{Csr as Register}
 use Rattle.rv_isa.specs.declared.csrs.Csr.TheVariants as csr
-use Rattle.rv_isa.specs.Csr.{csr_at}
 use Rattle.rv_arch.specs.Csr.{written}
 use Rattle.rv_hardware.proofs.Headline.Invariant.{HoldsMemory, IsSound}
 use Rattle.rv_hardware.proofs.Headline.Retires.{aligned_next}
@@ -29,32 +28,22 @@ mepc_written kept csr.Mepc word aligned = omega arith
 mepc_written kept _ word aligned = aligned
 
 mepc_by : (writes : Bool) (kept new : Kept) → kept.mepc % 4 ≡ 0 → new.mepc % 4 ≡ 0 → (if writes then new else kept).mepc % 4 ≡ 0
-mepc_by true kept new aligned after = after
-mepc_by false kept new aligned after = aligned
+mepc_by writes kept new aligned given = grind arith
 
 module _ (h : Hardware) (is : IsSound h) where
   csr_done : (rd : ℕ) (word : ℕ) (found : Option (ℕ × Kept)) → IfSome found (λ f. f.1.mepc % 4 ≡ 0) → IsSerialEffect h (accesses (seen h) word rd found)
-  csr_done rd word None aligned = tt
-  csr_done rd word (Some found) aligned = record { ram_is = refl; pc_aligned = aligned_next h.pc is.pc_aligned; mepc_aligned = aligned; memory = is.memory }
+  csr_done rd word found aligned = grind (arith, aligned_next)
 
   found_aligned : (lines : Lines) (op : CsrOp) (zero_field : Bool) (value : ℕ) (register : Option Register) →
       IfSome (option_map (access_csr h.csrs lines op zero_field value) register) (λ f. f.1.mepc % 4 ≡ 0)
-  found_aligned lines op zero_field value None = tt
-  found_aligned lines op zero_field value (Some register) =
-      mepc_by (does_write op zero_field) h.csrs (written h.csrs register (new_value op (value_of h.csrs lines register) value)) is.mepc_aligned
-      (mepc_written h.csrs register (new_value op (value_of h.csrs lines register) value) is.mepc_aligned)
+  found_aligned lines op zero_field value register = grind (arith, mepc_by, mepc_written)
 
   access_by : (b : Bool) (found : Option (ℕ × Kept)) → IfSome found (λ f. f.1.mepc % 4 ≡ 0) → IfSome (if b then None else found) (λ f. f.1.mepc % 4 ≡ 0)
-  access_by true found aligned = tt
-  access_by false found aligned = aligned
+  access_by b found aligned = grind arith
 
   -- the effect of a CSR instruction is such a one
   pub csr_serial : (lines : Lines) (word : ℕ) (op : CsrOp) (rd address : ℕ) (source : CsrSource) → IsSerialEffect h (effect (layout_of h.values) (seen h) lines word (Csr op rd address source))
-  csr_serial lines word op rd address source =
-      let operand = operand_of h.registers source in
-      csr_done rd word (access h.csrs lines op address operand)
-      (access_by (does_write op operand.field_is_zero && is_read_only address) (option_map (access_csr h.csrs lines op operand.field_is_zero operand.value) (csr_at address))
-      (found_aligned lines op operand.field_is_zero operand.value (csr_at address)))
+  csr_serial lines word op rd address source = grind (arith, csr_done, access_by, found_aligned)
 
   -- the effect of MRET is such a one
   pub mret_serial : (lines : Lines) (word : ℕ) → IsSerialEffect h (effect (layout_of h.values) (seen h) lines word Mret)
@@ -88,8 +77,7 @@ module _ (h : Hardware) (is : IsSound h) where
       }
 
   none_left : (stores : List QueuedStore) → is_drained (record h { committed = stores }) ≡ true → stores ≡ []
-  none_left [] drained = refl
-  none_left (s ∷ ss) drained = absurd (false≢true drained)
+  none_left stores drained = grind (arith, false≢true)
 
   -- the effect of FENCE.I is such a one, once the queue is drained and the cache written back
   pub fence_serial : is_drained h ≡ true → (lines : Lines) (word : ℕ) → IsSerialEffect (with_write_back h) (effect (layout_of h.values) (seen h) lines word FenceI)

@@ -1,6 +1,7 @@
 -- A new stage of an instruction in flight leaves all else as it is, where it tells the result.
-use Rattle.rv_hardware.proofs.Words.{◌≡◌, ◌%◌, List, [], ◌∷◌, ◌++◌, sym, ap, ◌∙◌, subst, Layout, State, Entry, Stage, FetchBuffer}
-use Rattle.rv_hardware.proofs.Headline.Fold.{result_at, executed, behind, IsResult, IsInFlight, AreInFlight, AreInBuffer}
+use Rattle.std.proofs.Common.{arith}
+use Rattle.rv_hardware.proofs.Words.{◌≡◌, ◌%◌, List, [], ◌∷◌, ◌++◌, sym, ◌∙◌, Layout, State, Entry, Stage, FetchBuffer}
+use Rattle.rv_hardware.proofs.Headline.Fold.{result_at, executed, behind, IsResult, IsInFlight, AreInFlight}
 use Rattle.rv_hardware.proofs.Headline.Invariant.{FollowsProgram}
 use Rattle.rv_hardware.proofs.Headline.Split.{behind-append, AreInFlight-older, AreInFlight-younger, AreInFlight-append}
 
@@ -20,20 +21,9 @@ module _ (layout : Layout) (s : State) where
 
     pub AreInFlight-staged : (stage : Stage) → AreInFlight layout s s (older ++ e ∷ younger) → IsResult (result_at layout (behind layout older s) e) stage →
         AreInFlight layout s s (older ++ record e { stage = stage } ∷ younger)
-    AreInFlight-staged stage all result =
-        let rest = AreInFlight-younger layout s s older (e ∷ younger) all in
-        AreInFlight-append layout s s older (record e { stage = stage } ∷ younger) (AreInFlight-older layout s s older (e ∷ younger) all)
-        (record { pc = rest.0.pc; word = rest.0.word; instruction = rest.0.instruction; aligned = rest.0.aligned; result = result }, rest.1)
+    AreInFlight-staged stage all result = grind (arith, AreInFlight-younger, AreInFlight-append, AreInFlight-older)
 
     -- a new stage that holds the right result leaves all that is in flight as the program has it
     pub FollowsProgram-staged : (stage : Stage) (front : FetchBuffer) (entries now : List Entry) → entries ≡ older ++ e ∷ younger → now ≡ older ++ record e { stage = stage } ∷ younger →
         IsResult (result_at layout (behind layout older s) e) stage → FollowsProgram layout s entries front → FollowsProgram layout s now front
-    FollowsProgram-staged stage front entries now were are result program =
-        let all : AreInFlight layout s s (older ++ e ∷ younger) = subst (AreInFlight layout s s) were program.in_flight in
-        let same : behind layout now s ≡ behind layout entries s =
-        ap (λ (es : List Entry). behind layout es s) are ∙ behind-staged stage ∙ sym (ap (λ (es : List Entry). behind layout es s) were) in
-        record {
-          in_flight = subst (AreInFlight layout s s) (sym are) (AreInFlight-staged stage all result);
-          buffered = subst (λ (t : State). AreInBuffer layout s t.pc front.entries front.next_pc) (sym same) program.buffered;
-          aligned = program.aligned;
-        }
+    FollowsProgram-staged stage front entries now were are result given = grind (arith, behind-staged, AreInFlight-staged)

@@ -1,9 +1,9 @@
 -- Retirements that a cycle reports one after another, and one other step at most at their end, make a true cycle.
+use Rattle.std.proofs.Common.{arith}
 use Rattle.rv_hardware.proofs.Words.{◌≡◌, ℕ, Bool, true, false, ◌||◌, ◌↔◌, List, [], ◌∷◌, ◌++◌, Some, All, Option, sym, refl, ap, ◌∙◌, true≢false, false≢true, or_from, All-append, All-cons, All-nil, list_any-append, list_any, Lines, Layout, State, Stop, EndAtTraps, IsTrueCycle, Lead, nowhere, onwards, told, is_breakpoint, is_retirement, stamp_of, Step}
 use Rattle.rv_arch.specs.Step.{Step as MachineStep}
 use Rattle.rv_arch.specs.declared.outcome.RefStep.TheVariants as machine
 use Rattle.rv_arch.specs.declared.outcome.Stop.TheVariants as stop
-use Rattle.rv_hardware.specs.declared.step.Step.TheVariants as step
 pub use Rattle.rv_hardware.proofs.Repeated.{Leads as LeavesEither}
 
 -- ---- retirements in one cycle
@@ -30,9 +30,7 @@ true_cycle_precise_push cycle [] x all = ((λ traps. refl), tt)
 true_cycle_precise_push cycle (y ∷ xs) x all = ((λ traps. absurd (true≢false (sym all.0 ∙ traps))), true_cycle_precise_push cycle xs x all.2)
 
 retirement_breaks_nothing : (x : Step) → is_retirement x ≡ true → is_breakpoint x ≡ false
-retirement_breaks_nothing (step.Retired row) retires = refl
-retirement_breaks_nothing (step.Trap pc cause value cycle) retires = absurd (false≢true retires)
-retirement_breaks_nothing (step.Interrupt pc cause cycle) retires = refl
+retirement_breaks_nothing x given = grind (arith, false≢true)
 
 true_cycle_breakpoint : (cycle : ℕ) (xs : List Step) → AreRetirements cycle xs → list_any is_breakpoint xs ≡ false
 true_cycle_breakpoint cycle [] all = refl
@@ -45,21 +43,14 @@ true_cycle_leads nowhere x takes = onwards takes nowhere
 true_cycle_leads (onwards first rest) x takes = onwards first (true_cycle_leads rest x takes)
 
 or-none : (b : Bool) → (b || false) ≡ b
-or-none true = refl
-or-none false = refl
+or-none b = grind arith
 
 module _ (layout : Layout) (lines : Lines) (cycle : ℕ) (before s : State) (xs : List Step) (leads : Lead layout lines before xs s) (all : AreRetirements cycle xs) where
   -- a cycle that reports retirements alone
   pub true_retirements : (ending : Option Stop) → (ending ≡ Some stop.Breakpoint → ⊥) →
       ((pc : ℕ) → ending ≡ Some (stop.Stale pc) → MachineStep layout s lines (machine.Stale pc) s) →
       IsTrueCycle layout lines cycle before xs ending s
-  true_retirements ending breaks stale = record {
-    leads = leads;
-    precise = true_cycle_precise cycle xs all;
-    stamped = true_cycle_stamped cycle xs all;
-    breakpoint = ((λ is. absurd (breaks is)), (λ is. absurd (false≢true (sym (true_cycle_breakpoint cycle xs all) ∙ is))));
-    stale = stale;
-  }
+  true_retirements ending breaks given = grind (arith, true_cycle_precise, true_cycle_stamped, false≢true, true_cycle_breakpoint)
 
   -- ... and one more step at its end
   pub true_push : (x : Step) (t : State) (ending : Option Stop) → MachineStep layout s lines (told x) t → stamp_of x ≡ cycle →

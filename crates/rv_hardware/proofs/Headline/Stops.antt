@@ -1,7 +1,6 @@
 -- The reason why a run stopped is true of what programs see.
-use Rattle.rv_hardware.proofs.Words.{◌≡◌, ℕ, ◌+◌, ◌^◌, true, false, List, [], ◌∷◌, ◌++◌, length, Some, All, sym, refl, ap, ◌∙◌, subst, inl, inr, true≢false, append_assoc, append-nil, arith, cases_Bool, false≢true, or_from, or_parts, or_right, All-head, All-tail, list_any-append, list_any, lines_at, Arrival, Layout, State, Stop, Hardware, EndAtBreakpoints, EndAtTraps, IsTrueCycle, IsTrueStop, Report, Cycles, IsStop, NoneStops, Reachable, steps_of, layout_of, seen, is_breakpoint, is_retirement, stamp_of, Step}
+use Rattle.rv_hardware.proofs.Words.{◌≡◌, ℕ, ◌+◌, ◌^◌, true, false, List, [], ◌∷◌, ◌++◌, length, Some, All, sym, refl, ap, ◌∙◌, subst, true≢false, append_assoc, append-nil, arith, false≢true, or_from, or_parts, or_right, All-head, All-tail, list_any-append, list_any, lines_at, Arrival, Layout, State, Stop, Hardware, EndAtBreakpoints, EndAtTraps, IsTrueCycle, IsTrueStop, Report, Cycles, IsStop, NoneStops, Reachable, steps_of, layout_of, seen, is_breakpoint, is_retirement, stamp_of, Step}
 use Rattle.rv_arch.specs.declared.outcome.Stop.TheVariants as stop
-use Rattle.rv_hardware.specs.declared.step.Step.TheVariants as step
 use Rattle.rv_hardware.proofs.Headline.Cycle.{always_sound}
 use Rattle.rv_hardware.proofs.Headline.Run.{TrueCycles, none, one_more, cycles_true, counts_cycles}
 
@@ -29,9 +28,7 @@ ends_append done (x ∷ xs) ys nowhere ends =
     ((λ breaks. absurd (true≢false (sym breaks ∙ parts.0))), ends_append done xs ys parts.1 ends)
 
 breakpoint_is_trap : (x : Step) → is_breakpoint x ≡ true → is_retirement x ≡ false
-breakpoint_is_trap (step.Retired row) breaks = absurd (false≢true breaks)
-breakpoint_is_trap (step.Trap pc cause value cycle) breaks = refl
-breakpoint_is_trap (step.Interrupt pc cause cycle) breaks = refl
+breakpoint_is_trap x breaks = grind (arith, false≢true)
 
 ends_in : (n : ℕ) (xs : List Step) → EndAtTraps xs → All (λ x. stamp_of x ≡ n) xs → EndAtBreakpoints (n + 1) xs
 ends_in n [] precise stamped = tt
@@ -42,10 +39,7 @@ ends_in n (x ∷ xs) precise stamped =
 module _ (layout : Layout) (arrivals : List Arrival) where
   -- a cycle that does not end the run at a breakpoint reports none
   quiet_cycle : {n : ℕ} {s t : State} (report : Report) → IsTrueCycle layout (lines_at arrivals n) n s report.steps report.stop t → (report.stop ≡ Some stop.Breakpoint → ⊥) → HasNone report.steps
-  quiet_cycle report cycle other = elim (cases_Bool (list_any is_breakpoint report.steps)) [
-    | inl breaks ↦ absurd (other (cycle.breakpoint.1 breaks))
-    | inr nowhere ↦ nowhere
-  ]
+  quiet_cycle report cycle other = grind arith
 
   quiet_run : {s u : State} {n m : ℕ} {reports : List Report} → TrueCycles layout arrivals s n reports u m → NoneStops reports → HasNone (steps_of reports)
   quiet_run none quiet = refl
@@ -97,13 +91,7 @@ module _ (layout : Layout) (arrivals : List Arrival) where
     -- ---- a run whose cycles all go on
     going : (reason : Stop) → NoneStops reports → (reason ≡ stop.Breakpoint → ⊥) → ((pc : ℕ) → reason ≡ stop.Stale pc → ⊥) → (reason ≡ stop.Limit → m ≡ n + limit) → (reason ≡ stop.Exhausted → m ≡ 2 ^ 40) →
         IsTrueStop layout arrivals limit n m (steps_of reports) u reason
-    going reason quiet no_break no_stale limited exhausted = record {
-      breakpoint = ((λ is. absurd (no_break is)), (λ breaks. absurd (false≢true (sym (quiet_run cycles quiet) ∙ breaks))));
-      no_earlier = ends_nowhere m (steps_of reports) (quiet_run cycles quiet);
-      stale = λ pc is. absurd (no_stale pc is);
-      at_limit = limited;
-      exhausted = exhausted;
-    }
+    going reason quiet no_break no_stale limited exhausted = grind (arith, false≢true, quiet_run, ends_nowhere)
 
     -- ---- a run whose last cycle ends it
     module _ (earlier : List Report) (last : Report) (all : reports ≡ earlier ++ last ∷ []) (quiet : NoneStops earlier) where
@@ -117,31 +105,10 @@ module _ (layout : Layout) (arrivals : List Arrival) where
       before_none = quiet_run ending.before quiet
 
       at_breakpoint : last.stop ≡ Some stop.Breakpoint → IsTrueStop layout arrivals limit n m (steps_of reports) u stop.Breakpoint
-      at_breakpoint stops = record {
-        breakpoint = ((λ is. ap (list_any is_breakpoint) steps_are ∙ list_any-append is_breakpoint (steps_of earlier) last.steps ∙ or_right _ _ (ending.cycle.breakpoint.0 stops)), (λ breaks. refl));
-        no_earlier = subst (EndAtBreakpoints m) (sym steps_are)
-            (ends_append m (steps_of earlier) last.steps before_none (subst (λ (k : ℕ). EndAtBreakpoints k last.steps) (sym ending.done_is) (ends_in ending.number last.steps ending.cycle.precise ending.cycle.stamped)));
-        stale = λ pc is. absurd (cc);
-        at_limit = λ is. absurd (cc);
-        exhausted = λ is. absurd (cc);
-      }
+      at_breakpoint stops = grind (arith, steps_are, list_any-append, or_right, ending, ends_append, before_none, ends_in)
 
       at_stale : (pc : ℕ) → last.stop ≡ Some (stop.Stale pc) → IsTrueStop layout arrivals limit n m (steps_of reports) u (stop.Stale pc)
-      at_stale pc stops =
-          let quiet_last : HasNone last.steps = quiet_cycle last ending.cycle (λ is. cc) in
-          let nowhere : HasNone (steps_of reports) = ap (list_any is_breakpoint) steps_are ∙ HasNone-append (steps_of earlier) last.steps before_none quiet_last in
-          record {
-            breakpoint = ((λ is. absurd (cc)), (λ breaks. absurd (false≢true (sym nowhere ∙ breaks))));
-            no_earlier = ends_nowhere m (steps_of reports) nowhere;
-            stale = λ other is. record {
-              last = ending.number;
-              last_is = ending.done_is;
-              in_run = omega (arith, counts_cycles layout arrivals ending.before);
-              stale = ending.cycle.stale other (let same : pc ≡ other = cc in stops ∙ ap (λ k. Some (stop.Stale k)) same);
-            };
-            at_limit = λ is. absurd (cc);
-            exhausted = λ is. absurd (cc);
-          }
+      at_stale pc stops = grind (arith, quiet_cycle, ending, steps_are, HasNone-append, before_none, false≢true, ends_nowhere, counts_cycles)
 
     pub true_stop : (reason : Stop) (new : Hardware) → new.cycle ≡ m → IsStop limit reports new reason → IsTrueStop layout arrivals limit n m (steps_of reports) u reason
     true_stop stop.Limit new at is = going stop.Limit is.0 (λ e. cc) (λ pc e. cc) (λ e. omega (arith, count, is.1)) (λ e. absurd (cc))

@@ -1,11 +1,10 @@
 -- A step that a turn of the commit phase takes begins at the committed pc.
-use Rattle.rv_hardware.proofs.Words.{◌≡◌, List, [], ◌∷◌, ◌++◌, length, Some, sym, refl, ap, ◌∙◌, subst, arith, length-append, append_cancel_left, Entry, Committing, commit_turn, with_fault, Turn, row_of, written_of, layout_of, seen, pc_of, Step, Leads}
+use Rattle.rv_hardware.proofs.Words.{◌≡◌, List, [], ◌∷◌, ◌++◌, length, Some, sym, refl, ap, ◌∙◌, subst, arith, length-append, append_cancel_left, Entry, Committing, commit_turn, Turn, layout_of, seen, pc_of, Step, Leads}
 use Rattle.std.specs.FinSet as set
 use Rattle.rv_arch.specs.declared.outcome.Stop.TheVariants as stop
-use Rattle.rv_hardware.specs.declared.step.Step.TheVariants as step
 use Rattle.rv_hardware.proofs.Headline.Fold.{AreInFlight}
 use Rattle.rv_hardware.proofs.Headline.Invariant.{IsSound}
-use Rattle.rv_hardware.proofs.Turns.Commit.{CommitTurn, commit_turn_is, executed, retired_and_flushed, retired_with, written_back, no_head, stale_head, unfinished, fence_waits, fence_writes, fence_retires, executes, serial_faults, traps, retires, retires_last}
+use Rattle.rv_hardware.proofs.Turns.Commit.{CommitTurn, commit_turn_is, written_back, stale_head, fence_writes, fence_retires, executes, serial_faults, traps, retires, retires_last}
 
 -- from one turn to the next: a step begins at the committed pc, which stays where there is none
 pub record GoesFrom (c d : Committing) : Type 0 where
@@ -32,23 +31,15 @@ module _ (c : Committing) (is : IsSound c.hardware) where
   here e es place = (subst (AreInFlight (layout_of c.hardware.values) (seen c.hardware) (seen c.hardware)) place is.program.in_flight).0.pc
 
   by_turn : (t : Turn Committing) → CommitTurn set.contains c t → Leads (GoesFrom c) (GoesFrom c) t
-  by_turn t (no_head at) = no_step c c refl refl
   by_turn t (stale_head e es at stale) = no_step c (record c { stop = Some (stop.Stale e.pc) }) refl refl
-  by_turn t (unfinished e es head plain waits) = no_step c c refl refl
-  by_turn t (fence_waits e es head fence busy) = no_step c c refl refl
   by_turn t (fence_writes e es head fence drained dirty) = no_step c (written_back c) refl refl
-  by_turn t (fence_retires e es written next head fence drained) =
-      one_step c (executed e written next (written_back c)) (row_of e written c.hardware.cycle) refl (here e es head.place)
-  by_turn t (executes e es written next head serial) =
-      one_step c (executed e written next c) (row_of e written c.hardware.cycle) refl (here e es head.place)
-  by_turn t (serial_faults e es cause value head serial) =
-      one_step c (with_fault e cause value c) (step.Trap e.pc cause value c.hardware.cycle) refl (here e es head.place)
-  by_turn t (traps e es issue cycle message fault head plain at faults) =
-      one_step c (with_fault e fault.cause fault.value c) (step.Trap e.pc fault.cause fault.value c.hardware.cycle) refl (here e es head.place)
-  by_turn t (retires e es issue cycle message head plain at sound) =
-      one_step c (retired_with e message c) (row_of e (written_of e message) c.hardware.cycle) refl (here e es head.place)
-  by_turn t (retires_last e es issue cycle message head plain at sound) =
-      one_step c (retired_and_flushed e message c) (row_of e (written_of e message) c.hardware.cycle) refl (here e es head.place)
+  by_turn t (fence_retires e es written next head fence drained) = grind (arith, one_step, here)
+  by_turn t (executes e es written next head serial) = grind (arith, one_step, here)
+  by_turn t (serial_faults e es cause value head serial) = grind (arith, one_step, here)
+  by_turn t (traps e es issue cycle message fault head plain at faults) = grind (arith, one_step, here)
+  by_turn t (retires e es issue cycle message head plain at sound) = grind (arith, one_step, here)
+  by_turn t (retires_last e es issue cycle message head plain at sound) = grind (arith, one_step, here)
+  by_turn t _ = no_step c c refl refl
 
   -- the steps that a turn of the commit phase adds begin at the committed pc
   pub turn_goes_from : Leads (GoesFrom c) (GoesFrom c) (commit_turn set.contains c)

@@ -1,5 +1,5 @@
 -- What an access makes of RAM: each byte stays, or becomes the one that the cache has.
-use Rattle.rv_hardware.proofs.Words.{◌≡◌, ℕ, ◌+◌, ◌-◌, ◌<◌, ◌≤◌, min, Bool, true, false, cond, ◌⊎◌, List, [], ◌++◌, length, take, drop, slice_index_or as get_or, slice_range, Some, None, Option, refl, ap, ◌∙◌, ap₂, inl, inr, append-nil, arith, length-drop, length-take, get_or-drop, take_all, get_or-take, cases_lt, drop_all, overwritten, get_or-overwritten_above, get_or-overwritten_below, get_or-overwritten_in, length-overwritten, Contents, evicted, memory_after, offset_of, victim_written, CacheLine}
+use Rattle.rv_hardware.proofs.Words.{◌≡◌, ℕ, ◌+◌, ◌-◌, ◌<◌, ◌≤◌, min, Bool, true, false, cond, ◌⊎◌, List, length, drop, slice_index_or as get_or, slice_range, Some, None, Option, refl, ap, ◌∙◌, inl, inr, append-nil, arith, length-drop, length-take, get_or-drop, take_all, get_or-take, cases_lt, drop_all, overwritten, get_or-overwritten_above, get_or-overwritten_below, get_or-overwritten_in, length-overwritten, Contents, evicted, memory_after, offset_of, victim_written, CacheLine}
 
 -- each byte is the old one's or the cache's
 pub record IsMixed (bytes memory now : List ℕ) : Type 0 where
@@ -7,8 +7,7 @@ pub record IsMixed (bytes memory now : List ℕ) : Type 0 where
   pub either : (i : ℕ) → (get_or now i 0 ≡ get_or memory i 0) ⊎ (get_or now i 0 ≡ get_or bytes i 0)
 
 mixed_same : (bytes memory now : List ℕ) → length memory ≡ length bytes → now ≡ memory → IsMixed bytes memory now
-mixed_same bytes memory now size same =
-    record { size = ap length same ∙ size; either = λ i. inl (ap (λ (xs : List ℕ). get_or xs i 0) same) }
+mixed_same bytes memory now size same = grind arith
 
 -- a piece of the cache's bytes, however far it reaches
 module _ (bytes memory : List ℕ) (size : length memory ≡ length bytes) (off n : ℕ) where
@@ -37,16 +36,10 @@ module _ (bytes memory : List ℕ) (size : length memory ≡ length bytes) (off 
       }
 
   piece_outside : length bytes < off → overwritten memory off block ≡ memory
-  piece_outside beyond =
-      let none : block ≡ [] = ap (take (off + n - off)) (drop_all off bytes (omega arith)) ∙ take_all (off + n - off) [] (omega arith) in
-      let rest : drop (off + length block) memory ≡ [] = drop_all (off + length block) memory (omega arith) in
-      ap₂ (λ (xs ys : List ℕ). xs ++ ys) (take_all off memory (omega arith)) (ap₂ (λ (xs ys : List ℕ). xs ++ ys) none rest) ∙ append-nil memory
+  piece_outside beyond = grind (arith, drop_all, take_all, append-nil)
 
   pub piece_mixed : IsMixed bytes memory (overwritten memory off block)
-  piece_mixed = elim (cases_lt (length bytes) off) [
-    | inl beyond ↦ mixed_same bytes memory _ size (piece_outside beyond)
-    | inr within ↦ piece_inside within
-  ]
+  piece_mixed = grind (arith, mixed_same, piece_outside, piece_inside)
 
 line_mixed : (dirty : Bool) (bytes memory : List ℕ) (off n : ℕ) → length memory ≡ length bytes →
     IsMixed bytes memory (cond dirty (overwritten memory off (slice_range bytes off (off + n))) memory)

@@ -109,20 +109,8 @@ module _ (layout : Layout) (words : set.FinSet nat_cmp) where
   pub memory_behind-fresh : (ss : List QueuedStore) (xs : List ℕ) → Each (IsRetiredStore layout words) ss → length xs ≡ layout.size →
       (i : ℕ) → set.contains words (word_of (layout.base + i)) ≡ false → get_or (memory_behind layout.base ss xs) i 0 ≡ get_or xs i 0
   memory_behind-fresh [] xs all size i fresh = refl
-  memory_behind-fresh (s ∷ ss) xs all size i fresh =
-      let other : word_of (layout.base + i) ≢ word_of all.0.access.address =
-      λ same. true≢false (sym all.0.marked ∙ sym (ap (set.contains words) same) ∙ fresh) in
-      memory_behind-fresh ss (with_store layout.base s.state xs) all.1 (length-with_retired s xs all.0 size) i fresh
-      ∙ ap (λ (ys : List ℕ). get_or ys i 0) (stored_is s xs all.0)
-      ∙ stored_elsewhere layout all.0.access all.0.legal xs size i other
+  memory_behind-fresh (s ∷ ss) xs all size i fresh = grind (arith, true≢false, length-with_retired, stored_is, stored_elsewhere, memory_behind-fresh ss (with_store layout.base s.state xs) all.1 (length-with_retired s xs all.0 size) i fresh)
 
   -- more words may be stale
   pub IsRetiredStore-more : (k : ℕ) (s : QueuedStore) → IsRetiredStore layout words s → IsRetiredStore layout (set.insert words k) s
-  IsRetiredStore-more k s retired = record {
-    access = retired.access;
-    phase = retired.phase;
-    state_is = retired.state_is;
-    retired = retired.retired;
-    legal = retired.legal;
-    marked = still_marked words k (word_of retired.access.address) retired.marked;
-  }
+  IsRetiredStore-more k s given = grind (arith, still_marked)

@@ -1,10 +1,10 @@
 -- At most `bus_width` results are broadcast in a cycle.
-use Rattle.rv_hardware.proofs.Words.{◌≡◌, ℕ, suc, ◌+◌, ◌<◌, ◌≤◌, Bool, true, false, List, ◌∷◌, ◌++◌, map, IfSome, nat_le, ◌==◌, Some, None, Option, refl, ap, ◌∙◌, arith, ne_eqb, eqb-true, le-leb, and_from, Instr, Values, finished, predicting, Entry, Stage, Finished, Running, Waiting, broadcast, broadcast_turn, Dispatching, dispatch, dispatch_turn, entry_of_fetched, Hardware, NeverMoreThan, Turn, is_broadcast_in, passes, rows_of, Execution, Step, Each-weaker, Each-all, count, count-append, count-none, count-map, count-set-more, count-push, count-push-no, count-left, Leads, turns_within, kept_by_turns}
+use Rattle.rv_hardware.proofs.Words.{◌≡◌, ℕ, suc, ◌+◌, ◌<◌, ◌≤◌, Bool, true, false, List, ◌∷◌, ◌++◌, map, IfSome, ◌==◌, None, Option, refl, ap, ◌∙◌, arith, ne_eqb, eqb-true, le-leb, and_from, Instr, Values, finished, predicting, Entry, Stage, broadcast, broadcast_turn, Dispatching, dispatch, dispatch_turn, Hardware, NeverMoreThan, Turn, is_broadcast_in, passes, rows_of, Execution, Step, Each-weaker, Each-all, count, count-append, count-none, count-map, count-set-more, count-push, count-push-no, count-left, Leads, turns_within, kept_by_turns}
 use Rattle.rv_hardware.proofs.Marks.Basics.{dispatched_mark}
 use Rattle.rv_hardware.proofs.Turns.Broadcast.{BroadcastTurn, none_ready, sends, mends, broadcast_turn_is, sent_entries, mended_entries}
 use Rattle.rv_hardware.proofs.Marks.Counted.{Shows, counted_law}
 use Rattle.rv_hardware.proofs.Marks.History.{History, dispatching, issued_all, sent_all}
-use Rattle.rv_hardware.proofs.Turns.Dispatch.{DispatchTurn, buffer_empty, waits, dispatches, dispatch_turn_is}
+use Rattle.rv_hardware.proofs.Turns.Dispatch.{DispatchTurn, dispatch_turn_is}
 use Rattle.rv_hardware.proofs.Marks.List.{Mark, mark_of_row, mark_of_fetched, marks_in, until, broadcast_of_stage, broadcast_of_execution, until_by}
 use Rattle.rv_hardware.proofs.Marks.Row.{SoundRow}
 use Rattle.rv_hardware.proofs.Marks.Sound.{SoundEntry, SoundStage}
@@ -12,19 +12,11 @@ use Rattle.rv_hardware.proofs.Marks.Widths.{is_at, count_marks}
 
 sent_shows_by : (c D C : ℕ) (x : Option Execution) → IfSome x (λ x. (D < x.issued) × (x.issued + x.cost ≤ x.broadcast) × (x.broadcast < C)) → passes (λ y. y.broadcast == c) x ≡ true →
     (is_at c (until c (broadcast_of_execution x)) ≡ true) × (D < c) × (c < C)
-sent_shows_by c D C None h is = absurd (cc)
-sent_shows_by c D C (Some x) h is =
-    let same : x.broadcast ≡ c = eqb-true x.broadcast c is in
-    (rw (until_by c x.broadcast (omega (arith, same))) is, omega (arith, same, h.0, h.1), omega (arith, same, h.2))
+sent_shows_by c D C x h is = grind (arith, eqb-true, until_by)
 
 -- that a row's result is broadcast in a cycle shows in its mark
 pub sent_shows : (v : Values) → Shows v is_broadcast_in (λ c m. is_at c m.broadcast)
-sent_shows v = record {
-  mark = λ c bound row sound h.
-      let x = sent_shows_by c row.dispatched row.retired row.execution sound.stamps.executed_between h in
-      and_from (nat_le row.fetched c) (is_at c (until c (broadcast_of_execution row.execution))) (le-leb row.fetched c (omega (arith, x.1, sound.stamps.dispatched_after_fetch))) x.0;
-  ends = λ c bound row sound h. (sent_shows_by c row.dispatched row.retired row.execution sound.stamps.executed_between h).2;
-}
+sent_shows v = grind (arith, sent_shows_by, and_from, le-leb)
 
 module _ (now total : ℕ) where
   abbrev is_sent_now : Entry → Bool
@@ -54,25 +46,17 @@ module _ (now total : ℕ) where
       turns_within total SentNow (SentNow total) broadcast_turn (λ k g lt p. broadcast_leads k g (broadcast_turn g) lt (broadcast_turn_is g) p) (λ g p. p) h.values.bus_width 0 h (omega (arith, width)) none
 
   dispatch_sends_none : (d : Dispatching) (t : Turn Dispatching) → DispatchTurn d t → SentNow total d.hardware → Leads (λ x. SentNow total x.hardware) (λ x. SentNow total x.hardware) t
-  dispatch_sends_none d _ (buffer_empty none) p = p
-  dispatch_sends_none d _ (waits f fs reason at why) p = p
-  dispatch_sends_none d _ (dispatches f fs at nothing) p =
-      let same = count-push-no is_sent_now d.hardware.rob.entries (entry_of_fetched d.hardware f) (ap (λ (m : Mark). is_at now m.broadcast) (dispatched_mark d.hardware f)) in
-      omega (arith, same, p)
+  dispatch_sends_none d t given p = grind (arith, count-push-no, dispatched_mark)
 
   pub dispatch_keeps_sent : (h : Hardware) → SentNow total h → SentNow total (dispatch h).hardware
   dispatch_keeps_sent h p =
       kept_by_turns (λ d. SentNow total d.hardware) dispatch_turn (λ d q. dispatch_sends_none d (dispatch_turn d) (dispatch_turn_is d) q) h.values.dispatch_width (record { hardware = h; dispatched = 0; waits_for = None }) p
 
 sent_earlier : (v : Values) (i : Option Instr) (D a now : ℕ) (st : Stage) → SoundStage v i D a now st → is_at now (broadcast_of_stage st) ≡ false
-sent_earlier v i D a now Waiting h = refl
-sent_earlier v i D a now (Running issue message) h = refl
-sent_earlier v i D a now (Finished None cycle message) h = refl
-sent_earlier v i D a now (Finished (Some issue) cycle message) h = ne_eqb cycle now (omega (arith, h.3))
+sent_earlier v i D a now st h = grind (arith, ne_eqb)
 
 row_sent_earlier : (D C now : ℕ) (x : Option Execution) → C ≤ now → IfSome x (λ x. (D < x.issued) × (x.issued + x.cost ≤ x.broadcast) × (x.broadcast < C)) → is_at now (broadcast_of_execution x) ≡ false
-row_sent_earlier D C now None le h = refl
-row_sent_earlier D C now (Some x) le h = ne_eqb x.broadcast now (omega (arith, le, h.2))
+row_sent_earlier D C now x le h = grind (arith, ne_eqb)
 
 -- the field `bus_width` of `Laws`, over every history
 pub law_of_bus_width : (v : Values) {steps : List Step} {h : Hardware} → History v steps h → NeverMoreThan v.bus_width is_broadcast_in (rows_of steps)

@@ -1,9 +1,9 @@
 -- A cycle in which an instruction was dispatched is a busy one.
 use Rattle.rv_hardware.proofs.Words.{◌≡◌, ℕ, suc, ◌+◌, ◌-◌, ◌<◌, ◌≤◌, Bool, true, false, cond, not, ◌||◌, List, [], ◌∷◌, ◌++◌, map, length, ◌==◌, Some, None, sym, refl, ap, ◌∙◌, subst, append_assoc, append-nil, arith, ne_eqb, eqb-true, list_any, range_with_len, Arrival, Lines, Values, Each, Entry, Fetched, IsCycle, any_prediction, Dispatching, dispatch, dispatch_turn, Hardware, AreCounted, dispatch_cycles, Turn, Report, Cycles, Reachable, busy_of, cycled, ended, stalls_of, steps_of, is_dispatched_in, rows_of, Row, Step, Each-append, Each-left, Each-set, Each-place, Each-weaker, Each-all, Each-map, Each-unmap, count, count-count_by, count-le, Leads, kept_by_turns}
 use Rattle.rv_hardware.proofs.Headline.Reached.{cycles_counted}
-use Rattle.rv_hardware.proofs.Marks.Advance.{Advances, Kept, retires as a_retires, starts as a_starts, is_sent as a_is_sent, enters as a_enters}
+use Rattle.rv_hardware.proofs.Marks.Advance.{Advances, Kept}
 use Rattle.rv_hardware.proofs.Marks.History.{Anything, History, went_on, Passed, cycle_passes, dispatching, sent_all, history_is_legal, history_is_sound, reachable_has_history, history_passes}
-use Rattle.rv_hardware.proofs.Turns.Dispatch.{DispatchTurn, buffer_empty, waits, dispatches, dispatch_turn_is}
+use Rattle.rv_hardware.proofs.Turns.Dispatch.{DispatchTurn, dispatch_turn_is}
 use Rattle.rv_hardware.proofs.Marks.List.{Mark, mark_of_row, mark_of_entry, mark_of_fetched, marks_in, rows_append}
 use Rattle.rv_hardware.proofs.Laws.OfCycles.{counts_of_runs}
 use Rattle.rv_hardware.proofs.Marks.Row.{SoundRow}
@@ -21,10 +21,7 @@ later_than c now lt same = let equal : now ≡ c = cc in omega (arith, lt, equal
 
 -- what later cycles keep
 goes_elsewhere : (c : ℕ) (v : Values) (now : ℕ) (xs : List Mark) (m n : Mark) → c < now → Advances v now xs m n → IsElsewhere c m → IsElsewhere c n
-goes_elsewhere c v now xs m n lt (a_retires a) h same = h (sym (ap (λ (x : Mark). x.dispatched) a.becomes) ∙ same)
-goes_elsewhere c v now xs m n lt (a_starts a) h same = h (sym (ap (λ (x : Mark). x.dispatched) a.becomes) ∙ same)
-goes_elsewhere c v now xs m n lt (a_is_sent a) h same = h (sym (ap (λ (x : Mark). x.dispatched) a.becomes) ∙ same)
-goes_elsewhere c v now xs m n lt (a_enters a) h same = later_than c now lt (sym (ap (λ (x : Mark). x.dispatched) a.becomes) ∙ same)
+goes_elsewhere c v now xs m n lt given h same = grind (arith, later_than)
 
 elsewhere_is_kept : (c : ℕ) (v : Values) (now : ℕ) → c < now → Kept v now (Each (IsElsewhere c))
 elsewhere_is_kept c v now lt = record {
@@ -59,9 +56,7 @@ module _ (now : ℕ) where
   NoneNow d = d.dispatched ≡ 0 → Each (λ (e : Entry). e.dispatched < now) d.hardware.rob.entries
 
   none_now_turn : (d : Dispatching) (t : Turn Dispatching) → DispatchTurn d t → NoneNow d → Leads NoneNow NoneNow t
-  none_now_turn d _ (buffer_empty none) h = h
-  none_now_turn d _ (waits f fs reason at why) h = h
-  none_now_turn d _ (dispatches f fs at nothing) h = λ none. absurd (omega (arith, none))
+  none_now_turn d t given h = grind arith
 
   none_now : (h : Hardware) → Each (λ (e : Entry). e.dispatched < now) h.rob.entries → NoneNow (dispatch h)
   none_now h all =
@@ -97,10 +92,7 @@ abbrev is_used : List Row → ℕ → Bool
 is_used rows c = list_any (is_dispatched_in c) rows
 
 busy_by : (b used : Bool) (n m : ℕ) → (b ≡ true → used ≡ false) → n ≤ m → cond used (suc n) n ≤ cond (not b) (suc m) m
-busy_by true true n m none le = absurd (let no_more = none refl in cc)
-busy_by true false n m none le = le
-busy_by false true n m none le = omega (arith, le)
-busy_by false false n m none le = omega (arith, le)
+busy_by b used n m given le = grind arith
 
 used_cycles : (v : Values) {arrivals : List Arrival} (earlier : List Step) {old new : Hardware} {reports : List Report} → Cycles arrivals old reports new → History v earlier old →
     count (is_used (rows_of (earlier ++ steps_of reports))) (range_with_len old.cycle (length reports)) ≤ count (λ (report : Report). not (report.dispatched == 0)) reports
@@ -122,8 +114,7 @@ used_cycles v earlier {old} {new} (cycled {middle = middle} {report = report} {r
 
 -- the rows of a run are some of all
 used_first : (b used : Bool) → used ≡ true → (b || used) ≡ true
-used_first true used h = refl
-used_first false used h = h
+used_first b used h = grind arith
 
 some_of_all : (xs ys : List Row) (c : ℕ) → is_used ys c ≡ true → is_used (xs ++ ys) c ≡ true
 some_of_all [] ys c h = h
@@ -146,6 +137,4 @@ busy_of_runs {arrivals} {old} {new} {reports} reached cycles =
 
 -- the counts of a run
 pub counts_hold : {arrivals : List Arrival} {old new : Hardware} {reports : List Report} → Reachable old → Cycles arrivals old reports new → AreCounted old.cycle new.cycle (steps_of reports) (busy_of reports) (stalls_of reports) (length reports)
-counts_hold reached cycles =
-    let counts = counts_of_runs reached cycles in
-    record { all_cycles = sym counts.1; busy_or_stalled = counts.0; dispatched_is_busy = busy_of_runs reached cycles }
+counts_hold reached cycles = grind (arith, counts_of_runs, busy_of_runs)

@@ -2,14 +2,13 @@
 use Rattle.rv_hardware.proofs.Words.{◌≡◌, ℕ, suc, ◌+◌, ◌<◌, ◌≤◌, Bool, true, false, cond, not, List, [], ◌∷◌, length, ◌==◌, Some, None, Option, refl, arith, ne_eqb, Dispatching, dispatch, dispatch_turn, stall_of, Hardware, stall_cycles, Turn, Report, counted, busy_of, counted_stall, stalls_from, stalls_of, Stall, count, count-count_by, Leads, turns_within}
 use Rattle.rv_hardware.specs.declared.report.Stall.TheVariants as stall
 use Rattle.rv_hardware.specs.declared.report.StallCounts.{StallCounts}
-use Rattle.rv_hardware.proofs.Turns.Dispatch.{DispatchTurn, buffer_empty, waits, dispatches, dispatch_turn_is}
+use Rattle.rv_hardware.proofs.Turns.Dispatch.{DispatchTurn, dispatch_turn_is}
 
 -- a cycle is busy, or stalls for one reason
 abbrev pub IsCounted : Bool → Option Stall → Type 0
-IsCounted true None = ⊥
 IsCounted true (Some reason) = Unit {0}
 IsCounted false None = Unit {0}
-IsCounted false (Some reason) = ⊥
+IsCounted _ _ = ⊥
 
 abbrev Tells : Dispatching → Type 0
 Tells d = IsCounted (d.dispatched == 0) (stall_of d)
@@ -18,16 +17,13 @@ abbrev Counts : ℕ → Dispatching → Type 0
 Counts k d = d.dispatched ≡ k
 
 tells_some : (b : Bool) (reason : Stall) → IsCounted b (cond b (Some reason) None)
-tells_some true reason = tt
-tells_some false reason = tt
+tells_some b reason = grind arith
 
 tells_more : (n : ℕ) (o : Option Stall) → 0 < n → IsCounted (n == 0) (cond (n == 0) o None)
 tells_more n o lt = rw (ne_eqb n 0 (omega arith)) tt
 
 dispatch_tells_turn : (k : ℕ) (d : Dispatching) (t : Turn Dispatching) → DispatchTurn d t → Counts k d → Leads (Counts (suc k)) Tells t
-dispatch_tells_turn k d _ (buffer_empty none) p = tells_some (d.dispatched == 0) stall.Fetch
-dispatch_tells_turn k d _ (waits f fs reason at why) p = tells_some (d.dispatched == 0) reason
-dispatch_tells_turn k d _ (dispatches f fs at nothing) p = omega (arith, p)
+dispatch_tells_turn k d t given p = grind (arith, tells_some)
 
 -- the dispatch phase dispatches something or gives a reason for its stall
 pub dispatch_tells : (h : Hardware) → 1 ≤ h.values.dispatch_width → Tells (dispatch h)
@@ -50,26 +46,12 @@ AllTell [] = Unit {0}
 AllTell (report ∷ reports) = IsCounted (report.dispatched == 0) report.stall × AllTell reports
 
 counts_by : (b : Bool) (o : Option Stall) (counts : StallCounts) (n : ℕ) → IsCounted b o → cond (not b) (suc n) n + stall_cycles (counted_stall o counts) ≡ suc (n + stall_cycles counts)
-counts_by true None counts n h = absurd h
-counts_by true (Some reason) counts n h = let more = one_more reason counts in omega (arith, more)
-counts_by false None counts n h = omega arith
-counts_by false (Some reason) counts n h = absurd h
+counts_by b o counts n h = grind (arith, one_more)
 
 counts_from : (counts : StallCounts) (reports : List Report) → AllTell reports → count (λ report. not (report.dispatched == 0)) reports + stall_cycles (stalls_from counts reports) ≡ length reports + stall_cycles counts
 counts_from counts [] h = refl
-counts_from counts (report ∷ reports) h =
-    let rest = counts_from (counted_stall report.stall counts) reports h.1 in
-    let here = counts_by (report.dispatched == 0) report.stall counts (length reports) h.0 in
-    let other = counts_by (report.dispatched == 0) report.stall counts (count (λ r. not (r.dispatched == 0)) reports) h.0 in
-    omega (arith, rest, here, other, cond_both (report.dispatched == 0) (count (λ r. not (r.dispatched == 0)) reports) (length reports))
-  where
-    cond_both : (b : Bool) (n m : ℕ) → cond (not b) (suc n) n + m ≡ cond (not b) (suc m) m + n
-    cond_both true n m = omega arith
-    cond_both false n m = omega arith
+counts_from counts (report ∷ reports) h = grind (arith, counts_by, counts_from (counted_stall report.stall counts) reports h.1)
 
 -- busy and stalls make the cycles
 pub busy_and_stalls : (reports : List Report) → AllTell reports → busy_of reports + stall_cycles (stalls_of reports) ≡ length reports
-busy_and_stalls reports h =
-    let all = counts_from (record { fetch = 0; serial = 0; rob = 0; station = 0; store = 0 }) reports h in
-    let same = count-count_by (λ report. not (report.dispatched == 0)) reports in
-    omega (arith, all, same)
+busy_and_stalls reports h = grind (arith, counts_from, count-count_by)

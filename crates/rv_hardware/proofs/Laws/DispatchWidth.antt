@@ -1,31 +1,23 @@
 -- At most `dispatch_width` instructions are dispatched in a cycle.
-use Rattle.rv_hardware.proofs.Words.{◌≡◌, ℕ, suc, ◌+◌, ◌<◌, ◌≤◌, Bool, false, List, ◌++◌, map, nat_le, ◌==◌, Some, None, refl, ap, ◌∙◌, arith, ne_eqb, eqb-true, le-leb, and_from, Values, Dispatching, dispatch, dispatch_turn, entry_of_fetched, Hardware, NeverMoreThan, Turn, is_dispatched_in, rows_of, Step, Each-weaker, Each-all, count, count-append, count-none, count-map, count-push, Leads, turns_within}
+use Rattle.rv_hardware.proofs.Words.{◌≡◌, ℕ, suc, ◌+◌, ◌<◌, ◌≤◌, Bool, false, List, ◌++◌, map, ◌==◌, None, refl, ap, ◌∙◌, arith, ne_eqb, eqb-true, le-leb, and_from, Values, Dispatching, dispatch, dispatch_turn, Hardware, NeverMoreThan, Turn, is_dispatched_in, rows_of, Step, Each-weaker, Each-all, count, count-append, count-none, count-map, count-push, Leads, turns_within}
 use Rattle.rv_hardware.proofs.Marks.Counted.{Shows, counted_law}
 use Rattle.rv_hardware.proofs.Marks.History.{History, dispatching, sent_all}
-use Rattle.rv_hardware.proofs.Turns.Dispatch.{DispatchTurn, buffer_empty, waits, dispatches, dispatch_turn_is}
-use Rattle.rv_hardware.proofs.Marks.List.{Mark, mark_of_row, mark_of_fetched, marks_in, until, until_by}
+use Rattle.rv_hardware.proofs.Turns.Dispatch.{DispatchTurn, dispatch_turn_is}
+use Rattle.rv_hardware.proofs.Marks.List.{Mark, mark_of_row, mark_of_fetched, marks_in, until_by}
 use Rattle.rv_hardware.proofs.Marks.Row.{SoundRow}
 use Rattle.rv_hardware.proofs.Marks.Sound.{SoundEntry}
 use Rattle.rv_hardware.proofs.Marks.Widths.{is_at, count_marks}
 
 -- that a row is dispatched in a cycle shows in its mark
 pub dispatched_shows : (v : Values) → Shows v is_dispatched_in (λ c m. is_at c m.dispatched)
-dispatched_shows v = record {
-  mark = λ c bound row sound h.
-      let same : row.dispatched ≡ c = eqb-true row.dispatched c h in
-      and_from (nat_le row.fetched c) (is_at c (until c (Some row.dispatched))) (le-leb row.fetched c (omega (arith, same, sound.stamps.dispatched_after_fetch))) (rw (until_by c row.dispatched (omega (arith, same))) h);
-  ends = λ c bound row sound h. let same : row.dispatched ≡ c = eqb-true row.dispatched c h in omega (arith, same, sound.stamps.retired_after_dispatch);
-}
+dispatched_shows v = grind (arith, eqb-true, and_from, le-leb, until_by)
 
 module _ (now total : ℕ) where
   abbrev DispatchedNow : ℕ → Dispatching → Type 0
   DispatchedNow k d = count (λ e. e.dispatched == now) d.hardware.rob.entries ≤ k
 
   dispatch_leads : (k : ℕ) (d : Dispatching) (t : Turn Dispatching) → k < total → DispatchTurn d t → DispatchedNow k d → Leads (DispatchedNow (suc k)) (DispatchedNow total) t
-  dispatch_leads k d _ lt (buffer_empty none) h = omega (arith, h, lt)
-  dispatch_leads k d _ lt (waits f fs reason at why) h = omega (arith, h, lt)
-  dispatch_leads k d _ lt (dispatches f fs at nothing) h =
-      let more = count-push (λ e. e.dispatched == now) d.hardware.rob.entries (entry_of_fetched d.hardware f) in omega (arith, more, h)
+  dispatch_leads k d t lt it h = grind (arith, count-push)
 
   pub dispatch_within : (h : Hardware) → h.values.dispatch_width ≡ total → count (λ e. e.dispatched == now) h.rob.entries ≤ 0 → count (λ e. e.dispatched == now) (dispatch h).hardware.rob.entries ≤ total
   dispatch_within h width none =

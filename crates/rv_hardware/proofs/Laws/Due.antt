@@ -99,10 +99,7 @@ module _ (v : Values) (earlier : List Step) (arrivals : List Arrival) (c : ℕ) 
   Reaches below = Run (layout_of old.values) arrivals (seen old) (map stamp_of below) (map told below) (seen a.begins)
 
   due_is_taken : (code : ℕ) → due a.begins.csrs (lines_at arrivals c) ≡ Some code → steps_in c (steps_of reports) ≡ Interrupt a.begins.pc (interrupt_cause code) c ∷ []
-  due_is_taken code at =
-      all_in
-      ∙ due_interrupt_is_taken (lines_at arrivals a.begins.cycle) a.begins a.ends a.here code a.is (ap (λ n. due a.begins.csrs (lines_at arrivals n)) a.cycle ∙ at)
-      ∙ ap (λ n. Interrupt a.begins.pc (interrupt_cause code) n ∷ []) a.cycle
+  due_is_taken code given = grind (arith, all_in, due_interrupt_is_taken)
 
   taken_around : (s : State) × Run (layout_of old.values) arrivals (seen old) (map stamp_of (steps_below c (steps_of reports))) (map told (steps_below c (steps_of reports))) s ×
       ((code : ℕ) → due s.csrs (lines_at arrivals c) ≡ Some code → steps_in c (steps_of reports) ≡ Interrupt s.pc (interrupt_cause code) c ∷ [])

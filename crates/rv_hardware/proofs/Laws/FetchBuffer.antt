@@ -1,18 +1,13 @@
 -- The fetch buffer holds no more words than it has room for.
-use Rattle.rv_hardware.proofs.Words.{List, is_none, nat_lt, nat_le, Some, refl, arith, ltb-true, and_from, Values, Hardware, NeverMoreThan, is_buffered_in, rows_of, Step, and_first, and_second}
+use Rattle.rv_hardware.proofs.Words.{List, arith, ltb-true, and_from, Values, Hardware, NeverMoreThan, is_buffered_in, rows_of, Step, and_first, and_second}
 use Rattle.rv_hardware.proofs.Marks.Counted.{Shows, counted_law}
 use Rattle.rv_hardware.proofs.Marks.History.{History, is_buffered_mark}
-use Rattle.rv_hardware.proofs.Marks.List.{until, until_now}
+use Rattle.rv_hardware.proofs.Marks.List.{until_now}
 use Rattle.rv_hardware.proofs.Marks.Order.{history_is_orderly}
 
 -- that a row's word is in the fetch buffer in a cycle shows in its mark
 pub buffered_shows : (v : Values) → Shows v is_buffered_in (λ c. is_buffered_mark)
-buffered_shows v = record {
-  mark = λ c bound row sound h.
-      let lt = ltb-true c row.dispatched (and_second (nat_le row.fetched c) (nat_lt c row.dispatched) h) in
-      and_from (nat_le row.fetched c) (is_none (until c (Some row.dispatched))) (and_first (nat_le row.fetched c) (nat_lt c row.dispatched) h) (rw (until_now row.dispatched c lt) refl);
-  ends = λ c bound row sound h. let lt = ltb-true c row.dispatched (and_second (nat_le row.fetched c) (nat_lt c row.dispatched) h) in omega (arith, lt, sound.stamps.retired_after_dispatch);
-}
+buffered_shows v = grind (arith, ltb-true, and_second, and_from, and_first, until_now)
 
 -- the field `fetch_buffer` of `Laws`, over every history
 pub law_of_fetch_buffer : (v : Values) {steps : List Step} {h : Hardware} → History v steps h → NeverMoreThan v.fetch_buffer is_buffered_in (rows_of steps)

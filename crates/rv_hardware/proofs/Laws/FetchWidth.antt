@@ -1,14 +1,11 @@
 -- At most `fetch_width` words are fetched in a cycle.
-use Rattle.rv_hardware.proofs.Words.{◌≡◌, ◌<◌, Bool, false, List, ◌++◌, map, nat_le, ◌==◌, ap, ◌∙◌, arith, ne_eqb, eqb-true, le-leb, and_from, Values, Hardware, NeverMoreThan, is_fetched_in, rows_of, Step, Each-weaker, count, count-append, count-none, count-map, count-length}
+use Rattle.rv_hardware.proofs.Words.{◌≡◌, ◌<◌, Bool, false, List, ◌++◌, map, ◌==◌, ap, ◌∙◌, arith, ne_eqb, eqb-true, le-leb, and_from, Values, Hardware, NeverMoreThan, is_fetched_in, rows_of, Step, Each-weaker, count, count-append, count-none, count-map, count-length}
 use Rattle.rv_hardware.proofs.Marks.Counted.{Shows, counted_law}
 use Rattle.rv_hardware.proofs.Marks.History.{History, new_words, dispatching}
 use Rattle.rv_hardware.proofs.Marks.List.{Mark, mark_of_fetched, marks_in}
 
 fetched_shows : (v : Values) → Shows v is_fetched_in (λ c m. m.fetched == c)
-fetched_shows v = record {
-  mark = λ c bound row sound h. and_from (nat_le row.fetched c) (row.fetched == c) (le-leb row.fetched c (let same : row.fetched ≡ c = eqb-true row.fetched c h in omega (arith, same))) h;
-  ends = λ c bound row sound h. let same : row.fetched ≡ c = eqb-true row.fetched c h in omega (arith, same, sound.stamps.dispatched_after_fetch, sound.stamps.retired_after_dispatch);
-}
+fetched_shows v = grind (arith, and_from, le-leb, eqb-true)
 
 -- the field `fetch_width` of `Laws`, over every history
 pub law_of_fetch_width : (v : Values) {steps : List Step} {h : Hardware} → History v steps h → NeverMoreThan v.fetch_width is_fetched_in (rows_of steps)

@@ -1,13 +1,12 @@
 -- The front keeps ahead of the head.
-use Rattle.rv_hardware.proofs.Words.{ℕ, true, List, Values, Hardware, IsFetchedAhead, EachNext, stamp_of, Step, Interrupt, Retired, Trap}
+use Rattle.std.proofs.Common.{arith}
+use Rattle.rv_hardware.proofs.Words.{ℕ, true, List, Values, Hardware, IsFetchedAhead, EachNext, stamp_of, Step}
 use Rattle.rv_hardware.proofs.Marks.History.{History}
 use Rattle.rv_hardware.proofs.Laws.HeadsDoNotWait.Follow.{IsAhead}
 use Rattle.rv_hardware.proofs.Laws.HeadsDoNotWait.Ahead.{follows}
 
 by_step : (c : ℕ) (x : Step) → IsAhead c true x → IsFetchedAhead c x
-by_step c (Retired row) h = h
-by_step c (Trap pc cause value cycle) h = tt
-by_step c (Interrupt pc cause cycle) h = tt
+by_step c x h = grind arith
 
 -- the field `fetched_ahead` of `Laws`, over every history
 pub law_of_fetched_ahead : (v : Values) {steps : List Step} {h : Hardware} → History v steps h → EachNext (λ a b. IsFetchedAhead (stamp_of a) b) steps

@@ -1,26 +1,21 @@
 -- A load issues after the broadcasts of all older stores.
+use Rattle.std.proofs.Common.{arith}
 use Rattle.rv_hardware.proofs.Words.{◌≡◌, ℕ, ◌<◌, Bool, true, false, List, [], ◌∷◌, map, IfSome, Some, None, Option, AllPairs, sym, refl, ◌∙◌, true≢false, is_load, Instr, Values, Each, Hardware, LoadsAfterStore, instruction_of_row, is_load_row, is_store_row, rows_of, Execution, Row, Step, Each-weaker, Each-unmap, AllPairs-EveryPair, EveryBehind-weaker, EveryPair-EveryBehind}
-use Rattle.rv_hardware.proofs.Marks.Advance.{IsBefore, IsKnownStore}
+use Rattle.rv_hardware.proofs.Marks.Advance.{IsBefore}
 use Rattle.rv_hardware.proofs.Marks.History.{History}
 use Rattle.rv_hardware.proofs.Marks.List.{mark_of_row, start_of_execution, broadcast_of_execution}
 use Rattle.rv_hardware.proofs.Laws.Operands.Known.{Found, StartsBehind}
 use Rattle.rv_hardware.proofs.Marks.Pairs.{rows_start_behind}
 
 store_by : (c : ℕ) (x : Option Execution) → IsBefore c (broadcast_of_execution x) → IfSome x (λ s. s.broadcast < c)
-store_by c None h = tt
-store_by c (Some s) h = h
+store_by c x h = grind arith
 
 both_executed : (x y : Option Execution) → IfSome y (λ t. IfSome x (λ s. s.broadcast < t.issued)) → IfSome x (λ s. IfSome y (λ t. s.broadcast < t.issued))
-both_executed None y h = tt
-both_executed (Some s) None h = tt
-both_executed (Some s) (Some t) h = h
+both_executed x y h = grind arith
 
 load_by : (a : Row) (i : Option Instr) (before : List Row) (y : Option Execution) → IfSome (start_of_execution y) (λ s. Found (map mark_of_row before) i s.cycle) →
     is_load i ≡ true → IfSome y (λ t. Each (λ a. is_store_row a ≡ true → IfSome a.execution (λ s. s.broadcast < t.issued)) before)
-load_by a i before None h load = tt
-load_by a i before (Some t) h load =
-    Each-weaker (λ a. IsKnownStore t.issued (mark_of_row a)) (λ a. is_store_row a ≡ true → IfSome a.execution (λ s. s.broadcast < t.issued))
-    (λ a known store. store_by t.issued a.execution (known store)) before (Each-unmap (IsKnownStore t.issued) mark_of_row before (h.stores load))
+load_by a i before y h load = grind (arith, Each-weaker, store_by, Each-unmap)
 
 loads_by : (before : List Row) (row : Row) → StartsBehind (map mark_of_row before) (mark_of_row row) → Each (λ a. LoadsAfterStore a row) before
 loads_by before row h = by_load (is_load_row row) refl

@@ -1,6 +1,6 @@
 -- The bus is not idle while a result waits.
-use Rattle.rv_hardware.proofs.Words.{◌≡◌, ℕ, suc, ◌+◌, ◌<◌, ◌≤◌, Bool, true, false, cond, ◌&&◌, List, [], ◌∷◌, ◌++◌, map, length, IfSome, nat_le, ◌==◌, Some, None, count_by, Option, sym, refl, ap, ◌∙◌, subst, append_assoc, arith, eq-eqb, le-leb, Message, Issue, Values, Each, finished, predicting, Entry, Fetched, broadcast, broadcast_turn, has_result, with_broadcast, Hardware, LeavesNoBusIdle, Turn, EachBehind, is_broadcast_in, passes, rows_of, Execution, Row, Step, and_second, Each-append, Each-place, Each-all, EveryBehind, count, count-set-grows, count-set-one_more, EveryBehind-left, EveryBehind-append, EveryBehind-right, Beginning-EveryBehind, EveryBehind-moved, EveryBehind-all, EveryBehind-set, Leads, turns_within}
-use Rattle.rv_hardware.proofs.Marks.Advance.{IsBefore, IsSentIfReady, Advances, retires, starts, is_sent, enters, IsSent, Kept}
+use Rattle.rv_hardware.proofs.Words.{◌≡◌, ℕ, suc, ◌+◌, ◌<◌, ◌≤◌, Bool, true, false, List, [], ◌∷◌, ◌++◌, map, length, IfSome, ◌==◌, Some, None, count_by, Option, refl, ap, ◌∙◌, subst, append_assoc, arith, eq-eqb, le-leb, Message, Issue, Values, Each, finished, predicting, Entry, Fetched, broadcast, broadcast_turn, has_result, with_broadcast, Hardware, LeavesNoBusIdle, Turn, EachBehind, is_broadcast_in, passes, rows_of, Execution, Row, Step, and_second, Each-append, Each-place, Each-all, EveryBehind, count, count-set-grows, count-set-one_more, EveryBehind-left, EveryBehind-append, EveryBehind-right, Beginning-EveryBehind, EveryBehind-moved, EveryBehind-all, EveryBehind-set, Leads, turns_within}
+use Rattle.rv_hardware.proofs.Marks.Advance.{IsBefore, IsSentIfReady, Advances, IsSent, Kept}
 use Rattle.rv_hardware.proofs.Turns.Broadcast.{BroadcastTurn, none_ready as no_result, sends, mends, Sends, broadcast_turn_is, sent_entries, mended_entries}
 use Rattle.rv_hardware.proofs.Marks.Counted.{behind_law, behind_count}
 use Rattle.rv_hardware.proofs.Marks.History.{Anything, anything_is_kept, History, history_is_legal, history_is_sound, issued_all, sent_all, dispatching}
@@ -8,7 +8,7 @@ use Rattle.rv_hardware.proofs.Marks.Evidence.{rows_sent, entries_sent}
 use Rattle.rv_hardware.proofs.Marks.Past.{rows_obey}
 use Rattle.rv_hardware.proofs.Marks.Phases.{Broadcasts, broadcast_turn_keeps, dispatch_keeps, goes_later, send_is, with_marks}
 use Rattle.rv_hardware.proofs.Marks.Row.{SoundRow}
-use Rattle.rv_hardware.proofs.Marks.List.{Mark, Start, mark_of_row, mark_of_entry, mark_of_fetched, marks, marks_in, marks_at_entry, as_of, at_end, was_fetched, until, broadcast_of_execution, until_now}
+use Rattle.rv_hardware.proofs.Marks.List.{Mark, Start, mark_of_row, mark_of_entry, mark_of_fetched, marks, marks_in, marks_at_entry, as_of, at_end, until, broadcast_of_execution, until_now}
 use Rattle.rv_hardware.proofs.Marks.Widths.{is_at}
 
 abbrev pub is_sent_in : ℕ → Mark → Bool
@@ -28,8 +28,7 @@ BusyBus k c before m = WaitsForBus c m → k ≤ count (is_sent_in c) before
 
 -- none of these waits
 ready_is_sent : (now : ℕ) (o : Option Start) (p : Option ℕ) → IfSome o (λ s. s.cycle + s.cost ≤ now → IsBefore (now + 1) p) → IsReady now o → p ≡ None → ⊥
-ready_is_sent now None p h ready none = absurd ready
-ready_is_sent now (Some s) p h ready none = subst (IsBefore (now + 1)) none (h ready)
+ready_is_sent now o p h ready given = grind arith
 
 none_waits_here : (k now : ℕ) (before : List Mark) (m : Mark) → IsSentIfReady now m → BusyBus k now before m
 none_waits_here k now before m sent waits = absurd (ready_is_sent now m.start m.broadcast sent waits.0 waits.1)
@@ -43,47 +42,17 @@ words_do_not_wait now (f ∷ fs) = (tt, words_do_not_wait now fs)
 
 -- a broadcast of the oldest: one more for what is younger
 pub one_more : (k now : ℕ) (xs ys : List Mark) (m n : Mark) → IsSent now xs m n → EveryBehind (BusyBus k now) [] (xs ++ m ∷ ys) → EveryBehind (BusyBus (suc k) now) [] (xs ++ n ∷ ys)
-one_more k now xs ys m n a h =
-    let sent : n.broadcast ≡ Some now = ap (λ x. x.broadcast) a.becomes in
-    let right = EveryBehind-right (BusyBus k now) [] xs (m ∷ ys) h in
-    EveryBehind-append (BusyBus (suc k) now) [] xs (n ∷ ys) (none_waits (suc k) now [] xs a.oldest) (
-      λ waits. absurd (not_none now (sym sent ∙ waits.1)),
-      EveryBehind-moved (BusyBus k now) (BusyBus (suc k) now) (xs ++ m ∷ []) (xs ++ n ∷ [])
-          (λ mid z busy waits.
-          let grown : count (is_sent_in now) ((xs ++ n ∷ []) ++ mid) ≡ suc (count (is_sent_in now) ((xs ++ m ∷ []) ++ mid)) = rw (append_assoc xs (n ∷ []) mid, append_assoc xs (m ∷ []) mid) (count-set-one_more (is_sent_in now) xs mid m n (ap (is_at now) a.not_yet) (ap (is_at now) sent ∙ eq-eqb now now refl)) in
-          let before = busy waits in
-          omega (arith, grown, before))
-          ys right.1,
-    )
-  where
-    not_none : (now : ℕ) → Some now ≡ None → ⊥
-    not_none now e = absurd (cc)
+one_more k now xs ys m n a h = grind (arith, EveryBehind-right, EveryBehind-append, none_waits, EveryBehind-moved, append_assoc, count-set-one_more, eq-eqb)
 
 -- a mark that goes on
 busy_goes_on : (k : ℕ) (v : Values) (now : ℕ) (xs : List Mark) (m n : Mark) → Advances v now xs m n → BusyBus k now xs m → BusyBus k now xs n
-busy_goes_on k v now xs m n (retires a) h waits = h (subst (IsReady now) (ap (λ x. x.start) a.becomes) waits.0, sym (ap (λ x. x.broadcast) a.becomes) ∙ waits.1)
-busy_goes_on k v now xs m n (starts a) h waits = absurd (too_early (subst (IsReady now) (ap (λ x. x.start) a.becomes) waits.0))
-  where
-    too_early : a.start.cycle + a.start.cost ≤ now → ⊥
-    too_early le = omega (arith, le, a.now_is, a.positive)
-busy_goes_on k v now xs m n (is_sent a) h waits = absurd (not_none (sym (ap (λ x. x.broadcast) a.becomes) ∙ waits.1))
-  where
-    not_none : Some now ≡ None → ⊥
-    not_none e = absurd (cc)
-busy_goes_on k v now xs m n (enters a) h waits = h (subst (IsReady now) (ap (λ x. x.start) a.becomes) waits.0, sym (ap (λ x. x.broadcast) a.becomes) ∙ waits.1)
+busy_goes_on k v now xs m n given h holds = grind arith
 
 sent_goes_on : (v : Values) (now : ℕ) (xs : List Mark) (m n : Mark) → Advances v now xs m n → is_sent_in now m ≡ true → is_sent_in now n ≡ true
-sent_goes_on v now xs m n (retires a) h = rw (ap (λ x. x.broadcast) a.becomes) h
-sent_goes_on v now xs m n (starts a) h = rw (ap (λ x. x.broadcast) a.becomes) h
-sent_goes_on v now xs m n (is_sent a) h = ap (is_at now) (ap (λ (x : Mark). x.broadcast) a.becomes) ∙ eq-eqb now now refl
-sent_goes_on v now xs m n (enters a) h = rw (ap (λ x. x.broadcast) a.becomes) h
+sent_goes_on v now xs m n given h = grind (arith, eq-eqb)
 
 pub busy_is_kept : (k : ℕ) (v : Values) (now : ℕ) → Kept v now (EveryBehind (BusyBus k now) [])
-busy_is_kept k v now = record {
-  cut = λ xs ys h. EveryBehind-left (BusyBus k now) [] xs ys h;
-  set = λ xs ys m n a h. EveryBehind-set (BusyBus k now) xs ys m n (busy_goes_on k v now xs m n a)
-      (λ mid z busy waits. let grown = count-set-grows (is_sent_in now) xs mid m n (sent_goes_on v now xs m n a) in let before = busy waits in omega (arith, grown, before)) h;
-}
+busy_is_kept k v now = grind (arith, EveryBehind-left, EveryBehind-set, busy_goes_on, count-set-grows, sent_goes_on)
 
 -- the broadcast phase
 
@@ -133,12 +102,7 @@ module _ (v : Values) (now total : ℕ) (steps : List Step) where
 -- at the end of each cycle, and so of the rows
 
 sent_row : (c : ℕ) (x : Option Execution) → is_at c (until c (broadcast_of_execution x)) ≡ true → passes (λ y. y.broadcast == c) x ≡ true
-sent_row c None h = absurd (cc)
-sent_row c (Some x) h = by_stamp (nat_le x.broadcast c) h
-  where
-    by_stamp : (b : Bool) → is_at c (cond b (Some x.broadcast) None) ≡ true → (x.broadcast == c) ≡ true
-    by_stamp true h' = h'
-    by_stamp false h' = absurd (cc)
+sent_row c x h = grind arith
 
 busy_marks : (v : Values) {steps : List Step} {h : Hardware} → History v steps h → (c : ℕ) → c < h.cycle → EveryBehind (BusyBus v.bus_width c) [] (as_of c (map mark_of_row (rows_of steps)))
 busy_marks v history =
@@ -159,18 +123,10 @@ busy_marks v history =
 
 bus_by : (v : Values) (c : ℕ) (before : List Row) (row : Row) (o : Option Execution) → row.execution ≡ o → BusyBus v.bus_width c (as_of c (map mark_of_row before)) (at_end c (mark_of_row row)) →
     IfSome o (λ x. x.issued + x.cost ≤ c → c < x.broadcast → v.bus_width ≤ count_by (is_broadcast_in c) before)
-bus_by v c before row None at busy = tt
-bus_by v c before row (Some x) at busy = λ ready later.
-    let waits : WaitsForBus c (at_end c (mark_of_row row)) = (rw (at, le-leb x.issued c (omega (arith, ready))) ready, ap (λ o. until c (broadcast_of_execution o)) at ∙ until_now x.broadcast c later) in
-    let held = busy waits in
-    let fewer = behind_count (is_sent_in c) (is_broadcast_in c) c before (Each-all (λ a. (was_fetched c (mark_of_row a) && is_sent_in c (at_end c (mark_of_row a))) ≡ true → is_broadcast_in c a ≡ true) (λ a h. sent_row c a.execution (and_second (was_fetched c (mark_of_row a)) (is_sent_in c (at_end c (mark_of_row a))) h)) before) in
-    omega (arith, held, fewer)
+bus_by v c before row o given busy = grind (arith, le-leb, until_now, behind_count, Each-all, sent_row, and_second)
 
 in_cycle : (v : Values) (c bound : ℕ) (row : Row) (o : Option Execution) → row.execution ≡ o → SoundRow v bound row → IfSome o (λ x. x.issued + x.cost ≤ c → c < x.broadcast → (row.fetched ≤ c) × (c < bound))
-in_cycle v c bound row None at sound = tt
-in_cycle v c bound row (Some x) at sound = λ ready later.
-    let between = subst (λ q. IfSome q (λ x. (row.dispatched < x.issued) × (x.issued + x.cost ≤ x.broadcast) × (x.broadcast < row.retired))) at sound.stamps.executed_between in
-    (omega (arith, ready, between.0, sound.stamps.dispatched_after_fetch), omega (arith, later, between.2, sound.below))
+in_cycle v c bound row o given sound = grind arith
 
 -- the field `no_idle_bus` of `Laws`, over every history
 pub law_of_no_idle_bus : (v : Values) {steps : List Step} {h : Hardware} → History v steps h → EachBehind (LeavesNoBusIdle v.bus_width 0) (rows_of steps)

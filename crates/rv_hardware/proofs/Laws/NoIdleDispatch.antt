@@ -1,11 +1,11 @@
 -- A fetched instruction that is no store waits for nothing but room and the width.
-use Rattle.rv_hardware.proofs.Words.{◌≡◌, ℕ, suc, ◌<◌, ◌≤◌, Bool, true, false, cond, ◌&&◌, ◌||◌, ◌⊎◌, List, [], ◌∷◌, ◌++◌, map, length, is_some, is_none, nat_lt, nat_le, ◌==◌, Some, None, count_by, filter, Option, sym, refl, ap, ◌∙◌, subst, inl, inr, true≢false, arith, lt-ltb, eq-eqb, leb-false, leb-true, and_from, length-filter, list_any, is_same-own, is_of_kind, is_serialising, is_store, kind_of_word, at_kind, Kind, Values, Each, Entry, Stage, Finished, Running, Waiting, Fetched, Dispatching, dispatch, dispatch_turn, entry_of_fetched, has_full_stations, is_stationed, Hardware, is_waiting, WaitsForRoom, Turn, EachBehind, instruction_of_row, is_dispatched_in, is_in_flight_in, is_row_of_kind, is_stationed_in, is_store_row, passes, rows_of, Execution, Row, Step, and_first, and_second, Each-All, Each-left, Each-right, Each-place, Each-weaker, Each-all, Each-map, Each-filter, EveryBehind, count, count-count_by, count-append, count-yes, count-map, count-le, EveryBehind-append, Beginning-EveryBehind, EveryBehind-all, EachBehind-EveryBehind, Leads, turns_within}
+use Rattle.rv_hardware.proofs.Words.{◌≡◌, ℕ, suc, ◌<◌, ◌≤◌, Bool, true, false, cond, ◌&&◌, ◌||◌, ◌⊎◌, List, [], ◌∷◌, ◌++◌, map, length, is_some, is_none, nat_lt, nat_le, ◌==◌, Some, None, count_by, filter, Option, sym, refl, ap, ◌∙◌, subst, inl, inr, true≢false, arith, lt-ltb, eq-eqb, leb-false, leb-true, and_from, length-filter, list_any, is_same-own, is_of_kind, is_serialising, is_store, kind_of_word, at_kind, Kind, Values, Each, Entry, Stage, Fetched, Dispatching, dispatch, dispatch_turn, has_full_stations, is_stationed, Hardware, is_waiting, WaitsForRoom, Turn, EachBehind, is_dispatched_in, is_in_flight_in, is_row_of_kind, is_stationed_in, is_store_row, passes, rows_of, Execution, Row, Step, and_first, and_second, Each-All, Each-left, Each-right, Each-place, Each-weaker, Each-all, Each-map, Each-filter, EveryBehind, count, count-count_by, count-append, count-yes, count-map, count-le, EveryBehind-append, Beginning-EveryBehind, EveryBehind-all, EachBehind-EveryBehind, Leads, turns_within}
 use Rattle.rv_hardware.proofs.Marks.Advance.{is_in_flight_mark, is_stationed_mark}
 use Rattle.rv_hardware.proofs.Marks.History.{History, history_is_sound, sent_all, dispatching}
 use Rattle.rv_hardware.proofs.Marks.Counted.{behind_law, behind_count}
-use Rattle.rv_hardware.proofs.Turns.Dispatch.{DispatchTurn, buffer_empty, waits, dispatches, dispatch_turn_is, WaitsFor, for_serial, for_buffer, for_station, for_queue}
+use Rattle.rv_hardware.proofs.Turns.Dispatch.{DispatchTurn, dispatch_turn_is, WaitsFor}
 use Rattle.rv_hardware.proofs.Turns.Fetch.{IsNew}
-use Rattle.rv_hardware.proofs.Marks.List.{Mark, Start, mark_of_row, mark_of_entry, mark_of_fetched, at_end, as_of, was_fetched, until, start_until, start_of_stage, start_of_execution, until_by, until_now}
+use Rattle.rv_hardware.proofs.Marks.List.{Mark, mark_of_row, mark_of_entry, mark_of_fetched, at_end, as_of, was_fetched, start_until, start_of_stage, start_of_execution, until_by, until_now}
 use Rattle.rv_hardware.proofs.Marks.Pairs.{Older, rows_are_older}
 use Rattle.rv_hardware.proofs.Marks.Past.{rows_obey}
 use Rattle.rv_hardware.proofs.Marks.Row.{SoundRow}
@@ -45,12 +45,7 @@ module _ (v : Values) (now : ℕ) where
   same_head f g fs gs e = cc
 
   left_leads : (k : ℕ) (d : Dispatching) (t : Turn Dispatching) → DispatchTurn d t → Entering k d → Leads (Entering (suc k)) Left t
-  left_leads k d _ (buffer_empty none) p = λ f fs at. absurd (let no_more = sym none ∙ at in cc)
-  left_leads k d _ (waits f fs reason at why) p = λ g gs at'. inr (subst (WaitsFor d.hardware) (same_head f g fs gs (sym at ∙ at')) why)
-  left_leads k d _ (dispatches f fs at nothing) p =
-      let all = count-append dispatched_now d.hardware.rob.entries (entry_of_fetched d.hardware f ∷ []) in
-      let one = count-yes dispatched_now (entry_of_fetched d.hardware f) [] (eq-eqb d.hardware.cycle now p.0) in
-      (p.0, omega (arith, all, one, p.1))
+  left_leads k d t given p = grind (arith, same_head, count-append, count-yes, eq-eqb)
 
   -- after the dispatch phase the width is used up, or the oldest word has a reason to wait
   pub dispatch_leaves : (h : Hardware) → h.values.dispatch_width ≡ v.dispatch_width → h.cycle ≡ now → Left (dispatch h)
@@ -65,9 +60,7 @@ in_flight_entries [] = refl
 in_flight_entries (e ∷ es) = ap suc (in_flight_entries es)
 
 stationed_mark : (k : Kind) (i : Bool) (st : Stage) → (is_waiting st && i) ≡ true → (i && (true && is_none (start_of_stage st))) ≡ true
-stationed_mark k i Waiting h = and_from i true h refl
-stationed_mark k i (Running issue message) h = absurd (cc)
-stationed_mark k i (Finished issue cycle message) h = absurd (cc)
+stationed_mark k i st h = grind (arith, and_from)
 
 stationed_entries : (k : Kind) (es : List Entry) → length (filter (is_stationed k) es) ≤ count (is_stationed_mark k) (map mark_of_entry es)
 stationed_entries k es =
@@ -77,8 +70,7 @@ stationed_entries k es =
     omega (arith, same, all, some)
 
 serial_by : (b : Bool) (rest : Bool) (r : Bool) → (b ≡ true → false ≡ true) → (rest ≡ true → ⊥) → (b || rest) ≡ true → ⊥
-serial_by true rest r first others any = absurd (true≢false (sym (first refl)))
-serial_by false rest r first others any = others any
+serial_by b rest r first others any = grind (arith, true≢false)
 
 no_serial : (es : List Entry) → Each (λ x. is_serialising x.instruction ≡ true → is_some x.retired ≡ true) (map mark_of_entry es) → list_any (λ e. is_serialising e.instruction) es ≡ true → ⊥
 no_serial [] h any = absurd (cc)
@@ -92,23 +84,10 @@ module _ (v : Values) (now : ℕ) (rows : List Row) (h : Hardware) (shape : HasS
   at_least p = let all = count-append p (map mark_of_row rows) (map mark_of_entry h.rob.entries) in omega (arith, all)
 
   by_station : (o : Option Kind) → kind_of_word f.instruction ≡ o → has_full_stations h o ≡ true → NoRoom v now olders_of (mark_of_fetched f)
-  by_station None is full = absurd (cc)
-  by_station (Some k) is full =
-      let held = leb-true (at_kind k h.values.kinds).stations (length (filter (is_stationed k) h.rob.entries)) full in
-      let same = ap (λ (w : Values). (at_kind k w.kinds).stations) shape.values in
-      let some = stationed_entries k h.rob.entries in
-      let all = at_least (is_stationed_mark k) in
-      inr (inr (k, ap (is_of_kind k) is ∙ is_same-own k, omega (arith, held, same, some, all)))
+  by_station o is full = grind (arith, leb-true, stationed_entries, at_least, is_same-own)
 
   by_reason : MayEnter now olders_of (mark_of_fetched f) → WaitsFor h f → NoRoom v now olders_of (mark_of_fetched f)
-  by_reason may (for_serial is) = absurd (no_serial h.rob.entries (Each-right (λ x. is_serialising x.instruction ≡ true → is_some x.retired ≡ true) (map mark_of_row rows) (map mark_of_entry h.rob.entries) may.serial) is)
-  by_reason may (for_buffer is) =
-      let full = leb-true h.rob.capacity (length h.rob.entries) is in
-      let some = in_flight_entries h.rob.entries in
-      let all = at_least is_in_flight_mark in
-      inr (inl (omega (arith, full, some, all, shape.buffer)))
-  by_reason may (for_station is) = by_station (kind_of_word f.instruction) refl is
-  by_reason may (for_queue is) = absurd (true≢false (sym (and_first (is_store f.instruction) _ is) ∙ may.plain))
+  by_reason may given = grind (arith, no_serial, Each-right, leb-true, in_flight_entries, at_least, by_station, true≢false, and_first)
 
   pub head_waits : (v.dispatch_width ≤ count (dispatched_now v now) h.rob.entries) ⊎ WaitsFor h f → EntersSoon v now olders_of (mark_of_fetched f)
   head_waits (inl wide) may =
@@ -176,39 +155,23 @@ as_of_rows P c rows h =
     (Each-filter (λ m. P (at_end c m)) (was_fetched c) (map mark_of_row rows) (Each-map (λ m. P (at_end c m)) mark_of_row rows h))
 
 dispatched_row : (c d : ℕ) (b : Bool) → nat_le d c ≡ b → is_at c (cond b (Some d) None) ≡ true → (d == c) ≡ true
-dispatched_row c d true is h = h
-dispatched_row c d false is h = absurd (cc)
+dispatched_row c d b is h = grind arith
 
 some_until : (c d : ℕ) (b : Bool) → nat_le d c ≡ b → is_some (cond b (Some d) None) ≡ true → nat_le d c ≡ true
-some_until c d true is h = is
-some_until c d false is h = absurd (cc)
+some_until c d b is h = grind arith
 
 -- a stamp that was not there by the end of a cycle is later
 pub none_until : (c d : ℕ) (b : Bool) → nat_le d c ≡ b → is_none (cond b (Some d) None) ≡ true → nat_lt c d ≡ true
-none_until c d true is h = absurd (cc)
-none_until c d false is h = lt-ltb c d (leb-false d c is)
+none_until c d b is h = grind (arith, lt-ltb, leb-false)
 
 flight_row : (c : ℕ) (row : Row) → is_in_flight_mark (at_end c (mark_of_row row)) ≡ true → is_in_flight_in c row ≡ true
-flight_row c row h =
-    let two = and_first (is_some (until c (Some row.dispatched))) (is_none (until c (Some row.retired))) h in
-    let one = and_second (is_some (until c (Some row.dispatched))) (is_none (until c (Some row.retired))) h in
-    and_from (nat_le row.dispatched c) (nat_lt c row.retired) (some_until c row.dispatched (nat_le row.dispatched c) refl two) (none_until c row.retired (nat_le row.retired c) refl one)
+flight_row c row h = grind (arith, and_first, and_second, and_from, some_until, none_until)
 
 started_row : (c : ℕ) (x : Option Execution) → is_some x ≡ true → is_none (start_until c (start_of_execution x)) ≡ true → passes (λ y. nat_lt c y.issued) x ≡ true
-started_row c None some h = absurd (cc)
-started_row c (Some x) some h = by_stamp (nat_le x.issued c) refl h
-  where
-    by_stamp : (b : Bool) → nat_le x.issued c ≡ b → is_none {T = Start} (cond b (Some (record { cycle = x.issued; cost = x.cost; faults = false })) None) ≡ true → nat_lt c x.issued ≡ true
-    by_stamp true is h' = absurd (cc)
-    by_stamp false is h' = lt-ltb c x.issued (leb-false x.issued c is)
+started_row c x some h = grind (arith, lt-ltb, leb-false)
 
 station_row : (v : Values) (bound c : ℕ) (k : Kind) (row : Row) → SoundRow v bound row → is_stationed_mark k (at_end c (mark_of_row row)) ≡ true → is_stationed_in k c row ≡ true
-station_row v bound c k row sound h =
-    let kind = and_first (is_row_of_kind k row) (is_some (until c (Some row.dispatched)) && is_none (start_until c (start_of_execution row.execution))) h in
-    let both = and_second (is_row_of_kind k row) (is_some (until c (Some row.dispatched)) && is_none (start_until c (start_of_execution row.execution))) h in
-    let held = some_until c row.dispatched (nat_le row.dispatched c) refl (and_first (is_some (until c (Some row.dispatched))) (is_none (start_until c (start_of_execution row.execution))) both) in
-    let later = started_row c row.execution (sound.stamps.executed_by_a_unit ∙ some_kind k _ kind) (and_second (is_some (until c (Some row.dispatched))) (is_none (start_until c (start_of_execution row.execution))) both) in
-    and_from (is_row_of_kind k row && nat_le row.dispatched c) (passes (λ y. nat_lt c y.issued) row.execution) (and_from (is_row_of_kind k row) (nat_le row.dispatched c) kind held) later
+station_row v bound c k row sound h = grind (arith, and_first, and_second, some_until, started_row, some_kind, and_from)
 
 module _ (v : Values) (bound c : ℕ) (before : List Row) (row : Row) (older : Each (Older v bound row) before) (row_sound : SoundRow v bound row) where
   fewer : (p : Mark → Bool) (q : Row → Bool) → ((a : Row) → SoundRow v bound a → p (at_end c (mark_of_row a)) ≡ true → q a ≡ true) → count p (as_of c (map mark_of_row before)) ≤ count_by q before
@@ -221,14 +184,7 @@ module _ (v : Values) (bound c : ℕ) (before : List Row) (row : Row) (older : E
   room_of_rows (inr (inr full)) = let less = fewer (is_stationed_mark full.0) (is_stationed_in full.0 c) (λ a s h. station_row v bound c full.0 a s h) in inr (inr (full.0, full.1, omega (arith, full.2, less)))
 
   may_enter : is_store_row row ≡ false → row.fetched < c → c < row.dispatched → Each (λ a. a.dispatched ≤ c) before → MayEnter c (as_of c (map mark_of_row before)) (at_end c (mark_of_row row))
-  may_enter plain after later all = record {
-    fetched = after;
-    not_yet = until_now row.dispatched c later;
-    plain = plain;
-    olders = as_of_rows (λ x. is_some x.dispatched ≡ true) c before (Each-weaker (λ a. a.dispatched ≤ c) (λ a. is_some (until c (Some a.dispatched)) ≡ true) (λ a le. ap is_some (until_by c a.dispatched le)) before all);
-    serial = as_of_rows (λ x. is_serialising x.instruction ≡ true → is_some x.retired ≡ true) c before (Each-weaker (Older v bound row) (λ a. is_serialising (instruction_of_row a) ≡ true → is_some (until c (Some a.retired)) ≡ true)
-        (λ a o is. let late = o.serial is in ap is_some (until_by c a.retired (omega (arith, late, after)))) before older);
-  }
+  may_enter plain given later all = grind (arith, until_now, as_of_rows, Each-weaker, until_by)
 
 -- the field `no_idle_dispatch` of `Laws`, over every history
 pub law_of_no_idle_dispatch : (v : Values) {steps : List Step} {h : Hardware} → History v steps h → EachBehind (WaitsForRoom v 0) (rows_of steps)

@@ -17,9 +17,7 @@ linked_at v now last held (x ∷ xs) ys m n h = linked_at v now last (with_word 
 
 -- a word in the buffer is one of the rows that were
 word_is_buffered : (c : ℕ) (row : Row) → is_word c (mark_of_row row) ≡ true → is_buffered_in c row ≡ true
-word_is_buffered c row is =
-    and_from (nat_le row.fetched c) (nat_lt c row.dispatched) (and_first (nat_le row.fetched c) (is_none (until c (Some row.dispatched))) is)
-    (none_until c row.dispatched (nat_le row.dispatched c) refl (and_second (nat_le row.fetched c) (is_none (until c (Some row.dispatched))) is))
+word_is_buffered c row is = grind (arith, and_from, and_first, none_until, and_second)
 
 -- they are no more than all
 held_rows : (c : ℕ) (before after : List Row) → held_behind (λ n. 0) (map mark_of_row before) c ≤ count_by (is_buffered_in c) (before ++ after)
@@ -36,8 +34,7 @@ behind_one held [] m c = refl
 behind_one held (x ∷ xs) m c = behind_one (with_word held x) xs m c
 
 sent_at : (o : Option Execution) (t : ℕ) → broadcast_of_execution o ≡ Some t → MatchOption o ⊥ (λ x. t ≡ x.broadcast)
-sent_at None t is = absurd (cc)
-sent_at (Some x) t is = let same : x.broadcast ≡ t = cc in sym same
+sent_at o t is = grind arith
 
 module _ (v : Values) {steps : List Step} {h : Hardware} (history : History v steps h) where
   rows_at : (before after : List Step) (a b : Row) → steps ≡ before ++ Retired a ∷ Retired b ∷ after → rows_of steps ≡ rows_of before ++ a ∷ b ∷ rows_of after
@@ -70,10 +67,7 @@ module _ (v : Values) {steps : List Step} {h : Hardware} (history : History v st
   next_rows before after (Retired a) (Retired b) at =
       by_cases (rows_of before) (rows_of after) a b (rows_at before after a b at) (next_was_fetched v history before after (Retired a) (Retired b) at)
       (followed_rows (rows_of before) (rows_of after) a b (rows_at before after a b at))
-  next_rows before after (Retired a) (Trap pc cause value cycle) at = tt
-  next_rows before after (Retired a) (Interrupt pc cause cycle) at = tt
-  next_rows before after (Trap pc cause value cycle) t at = tt
-  next_rows before after (Interrupt pc cause cycle) t at = tt
+  next_rows before after s t at = tt
 
   -- the field `no_idle_fetch` of `Laws`, over every history
   pub law_of_no_idle_fetch : EachNext (IsFetchedBehind v 0 (rows_of steps)) steps

@@ -25,9 +25,7 @@ busy_rows v k line history =
 all_fetched : (c : ℕ) (rows : List Row) → Each (λ a. a.fetched ≤ c) rows →
     as_of c (map mark_of_row rows) ≡ map (λ a. at_end c (mark_of_row a)) rows
 all_fetched c [] h = refl
-all_fetched c (row ∷ rows) h =
-    as_of-cons c (mark_of_row row) (map mark_of_row rows) ∙ ap (λ b. cond b (at_end c (mark_of_row row) ∷ as_of c (map mark_of_row rows)) (as_of c (map mark_of_row rows))) (le-leb row.fetched c h.0) ∙
-    ap (λ l. at_end c (mark_of_row row) ∷ l) (all_fetched c rows h.1)
+all_fetched c (row ∷ rows) h = grind (arith, as_of-cons, le-leb, all_fetched c rows h.1)
 
 module _ (c : ℕ) where
   abbrev ended_row : Row → Mark
@@ -35,26 +33,21 @@ module _ (c : ℕ) where
 
   either : (b : Bool) (row : Row) (o : Option Row) →
       option_map ended_row (cond b (Some row) o) ≡ cond b (Some (ended_row row)) (option_map ended_row o)
-  either true row o = refl
-  either false row o = refl
+  either b row o = grind arith
 
   last_of : (register : ℕ) (o : Option Row) (rows : List Row) →
       last_from (option_map ended_row o) (writes_mark register) (map ended_row rows) ≡ option_map ended_row (last_from o (writes_register register) rows)
   last_of register o [] = refl
-  last_of register o (row ∷ rows) =
-      ap (λ q. last_from q (writes_mark register) (map ended_row rows)) (sym (either (writes_register register row) row o)) ∙
-      last_of register (cond (writes_register register row) (Some row) o) rows
+  last_of register o (row ∷ rows) = grind (arith, either, last_of register (cond (writes_register register row) (Some row) o) rows)
 
   known_by : (x : Option Execution) (some : Bool) → is_some x ≡ some → IfSome x (λ y. y.broadcast < c) → some ≡ true →
       IsBefore c (until c (broadcast_of_execution x))
-  known_by None some same h is = absurd (cc)
-  known_by (Some x) some same h is = rw (until_by c x.broadcast (omega (arith, h))) h
+  known_by x some same h is = grind (arith, until_by)
 
   module _ (v : Values) (bound : ℕ) (before : List Row) (row : Row) (older : Each (Older v bound row) before) where
     found_known : (o : Option Row) → IfSome o (SoundRow v bound) → IfSome o (λ p. IfSome p.execution (λ y. y.broadcast < c)) →
         IfSome (option_map ended_row o) (IsKnownMark c)
-    found_known None s h = tt
-    found_known (Some p) s h = λ some. known_by p.execution (is_some (kind_of_word (instruction_of_row p))) s.stamps.executed_by_a_unit h some
+    found_known o s h = grind (arith, known_by)
 
     found_sound : (o : Option Row) (test : Row → Bool) (rows : List Row) → IfSome o (SoundRow v bound) →
         Each (SoundRow v bound) rows → IfSome (last_from o test rows) (SoundRow v bound)
@@ -77,12 +70,7 @@ module _ (c : ℕ) where
 
 begun_at : (c : ℕ) (x : Option Execution) → starts_at c (start_until c (start_of_execution x)) ≡ true →
     passes (λ y. y.issued == c) x ≡ true
-begun_at c None h = absurd (cc)
-begun_at c (Some x) h = by_stamp (nat_le x.issued c) h
-  where
-    by_stamp : (b : Bool) → starts_at c (cond b (Some (record { cycle = x.issued; cost = x.cost; faults = false })) None) ≡ true → (x.issued == c) ≡ true
-    by_stamp true h' = h'
-    by_stamp false h' = absurd (cc)
+begun_at c x h = grind arith
 
 -- the field `no_idle_unit` of `Laws`, over every history
 pub law_of_no_idle_unit : (v : Values) {steps : List Step} {h : Hardware} → History v steps h → (k : Kind) →

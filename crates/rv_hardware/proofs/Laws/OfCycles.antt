@@ -1,18 +1,16 @@
 -- An interrupt that is due is the one step of its cycle, and a cycle dispatches something or stalls for one reason.
-use Rattle.rv_hardware.proofs.Words.{◌≡◌, ℕ, ◌+◌, List, [], ◌∷◌, ◌++◌, length, ◌==◌, Some, None, Option, sym, ap, ◌∙◌, subst, arith, Arrival, Lines, Values, due, interrupt_cause, Committing, commit_unless, IsCycle, any_prediction, with_lines, stall_of, Hardware, stall_cycles, Report, Cycles, Reachable, busy_of, cycled, ended, stalls_of, Step, Interrupt}
+use Rattle.rv_hardware.proofs.Words.{◌≡◌, ℕ, ◌+◌, List, [], ◌∷◌, ◌++◌, length, ◌==◌, Some, Option, ap, arith, Arrival, Lines, Values, due, interrupt_cause, commit_unless, IsCycle, any_prediction, Hardware, stall_cycles, Report, Cycles, Reachable, busy_of, cycled, ended, stalls_of, Step, Interrupt}
 use Rattle.std.specs.FinSet as set
 use Rattle.rv_hardware.proofs.Laws.Counts.{IsCounted, AllTell, dispatch_tells, busy_and_stalls}
-use Rattle.rv_hardware.proofs.Marks.History.{Anything, History, went_on, Passed, history_is_legal, reachable_has_history, sent_all, dispatching, history_passes}
+use Rattle.rv_hardware.proofs.Marks.History.{Anything, History, went_on, Passed, history_is_legal, reachable_has_history, history_passes}
 
 interrupted_by : (o : Option ℕ) (h : Hardware) (code : ℕ) → o ≡ Some code → (commit_unless set.contains o h).steps ≡ Interrupt h.pc (interrupt_cause code) h.cycle ∷ []
-interrupted_by None h code is = absurd (cc)
-interrupted_by (Some found) h code is = let same : found ≡ code = cc in ap (λ n. Interrupt h.pc (interrupt_cause n) h.cycle ∷ []) same
+interrupted_by o h code is = grind arith
 
 -- an interrupt that is due is the one step of the cycle
 pub due_interrupt_is_taken : (lines : Lines) (old new : Hardware) (report : Report) (code : ℕ) → IsCycle any_prediction lines old report new → due old.csrs lines ≡ Some code →
     report.steps ≡ Interrupt old.pc (interrupt_cause code) old.cycle ∷ []
-due_interrupt_is_taken lines old new report code is at =
-    ap (λ r. r.steps) is.reports ∙ ap (λ (c : Committing). c.steps) is.commits ∙ interrupted_by (due old.csrs lines) (with_lines lines old) code at
+due_interrupt_is_taken lines old new report code is given = grind (arith, interrupted_by)
 
 module _ (v : Values) {steps : List Step} {old new : Hardware} {lines : Lines} {report : Report} (history : History v steps old) (is : IsCycle any_prediction lines old report new) where
   -- a cycle that goes on from a history passes through its phases
@@ -21,11 +19,7 @@ module _ (v : Values) {steps : List Step} {old new : Hardware} {lines : Lines} {
 
   -- it dispatches something, or else stalls for one reason
   pub cycle_tells : IsCounted (report.dispatched == 0) report.stall
-  cycle_tells =
-      let legal = history_is_legal v history in
-      let width = ap (λ (w : Values). w.dispatch_width) passes_here.sends.basics.always.sizes.values in
-      let tells = dispatch_tells (sent_all lines old) (omega (arith, width, legal.pipeline.dispatch_width)) in
-      subst (λ o. IsCounted (report.dispatched == 0) o) (sym passes_here.report_is.1) (subst (λ n. IsCounted (n == 0) (stall_of (dispatching lines old))) (sym passes_here.report_is.0) tells)
+  cycle_tells = grind (arith, history_is_legal, passes_here, dispatch_tells)
 
 -- over a run
 

@@ -94,9 +94,7 @@ last_stays P o q test (x ∷ xs) f h = last_stays P (cond (test x) (Some x) o) (
     either false k = f k
 
 producer_of_all : (P : Row → Type 0) (first before : List Row) (source : Option ℕ) → IfSome (producer_among (first ++ before) source) P → IfSome (producer_among before source) P
-producer_of_all P first before None h = tt
-producer_of_all P first before (Some register) h =
-    last_stays P (last_from None (writes_register register) first) None (writes_register register) before (λ k. tt) (rw (last_from-append None (writes_register register) first before) at h)
+producer_of_all P first before source h = grind (arith, last_stays, last_from-append)
 
 module _ (v : Values) (earlier steps : List Step) (old new : Hardware) (before_run : History v earlier old) (history : History v (earlier ++ steps) new) (since : Each (λ s. old.cycle ≤ stamp_of s) steps) where
   rows_of_all : rows_of (earlier ++ steps) ≡ rows_of earlier ++ rows_of steps
@@ -113,8 +111,7 @@ module _ (v : Values) (earlier steps : List Step) (old new : Hardware) (before_r
 
   -- a row of the run, after all earlier rows
   rows_behind : (P : List Row → Row → Type 0) → EachBehind P (rows_of (earlier ++ steps)) → (before after : List Row) (row : Row) → rows_of steps ≡ before ++ row ∷ after → P (rows_of earlier ++ before) row
-  rows_behind P h before after row at =
-      h (rows_of earlier ++ before) after row (rows_of_all ∙ ap (λ l. rows_of earlier ++ l) at ∙ sym (append_assoc (rows_of earlier) before (row ∷ after)))
+  rows_behind P h before after row given = grind (arith, rows_of_all, append_assoc)
 
   -- none of the earlier rows passes from the run's first cycle on
   none_earlier : (row_test : ℕ → Row → Bool) (test : ℕ → Mark → Bool) → Shows v row_test test → (c : ℕ) → old.cycle ≤ c → (before : List Row) → count_by (row_test c) (rows_of earlier ++ before) ≡ count_by (row_test c) before

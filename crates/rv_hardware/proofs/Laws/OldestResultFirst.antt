@@ -8,9 +8,7 @@ use Rattle.rv_hardware.proofs.Marks.Pairs.{row_pairs}
 
 oldest_by : (x y : Option Execution) → IfSome (broadcast_of_execution y) (λ b. ReadyFirst (start_of_execution x) (broadcast_of_execution x) b) →
     IfSome x (λ s. IfSome y (λ t. s.issued + s.cost ≤ t.broadcast → s.broadcast ≤ t.broadcast))
-oldest_by None y h = tt
-oldest_by (Some s) None h = tt
-oldest_by (Some s) (Some t) h = λ ready. let sent = h ready in omega (arith, sent)
+oldest_by x y h = grind arith
 
 -- the field `oldest_result_first` of `Laws`, over every history
 pub law_of_oldest_result_first : (v : Values) {steps : List Step} {h : Hardware} → History v steps h → AllPairs IsBroadcastFirst (rows_of steps)

@@ -9,37 +9,27 @@ use Rattle.rv_hardware.proofs.Marks.Pairs.{Older, rows_start_behind, rows_are_ol
 use Rattle.rv_hardware.proofs.Marks.Row.{SoundRow}
 
 map_either : (b : Bool) (row : Row) (o : Option Row) → option_map mark_of_row (cond b (Some row) o) ≡ cond b (Some (mark_of_row row)) (option_map mark_of_row o)
-map_either true row o = refl
-map_either false row o = refl
+map_either b row o = grind arith
 
 last_of_rows : (register : ℕ) (o : Option Row) (rows : List Row) → last_from (option_map mark_of_row o) (writes_mark register) (map mark_of_row rows) ≡ option_map mark_of_row (last_from o (writes_register register) rows)
 last_of_rows register o [] = refl
-last_of_rows register o (row ∷ rows) =
-    ap (λ q. last_from q (writes_mark register) (map mark_of_row rows)) (sym (map_either (writes_register register row) row o)) ∙
-    last_of_rows register (cond (writes_register register row) (Some row) o) rows
+last_of_rows register o (row ∷ rows) = grind (arith, map_either, last_of_rows register (cond (writes_register register row) (Some row) o) rows)
 
 -- the last one passes the test and is one of them
 either_passes : (G : Row → Type 0) (test : Row → Bool) (b : Bool) (row : Row) (o : Option Row) → test row ≡ b → (test row ≡ true → G row) → IfSome o G → IfSome (cond b (Some row) o) G
-either_passes G test true row o is f h = f is
-either_passes G test false row o is f h = h
+either_passes G test b row o is f h = grind arith
 
 last_passes : (G : Row → Type 0) (test : Row → Bool) (o : Option Row) (rows : List Row) → IfSome o G → Each (λ row. test row ≡ true → G row) rows → IfSome (last_from o test rows) G
 last_passes G test o [] h are = h
 last_passes G test o (row ∷ rows) h are = last_passes G test (cond (test row) (Some row) o) rows (either_passes G test (test row) row o refl are.0 h) are.1
 
 no_kind : (o : Option Execution) (i : Option Instr) → o ≡ None → is_some o ≡ is_some (kind_of_word i) → kind_of_word i ≡ None
-no_kind o i none same = by_kind (kind_of_word i) (sym same ∙ ap is_some none)
-  where
-    by_kind : {K : Type 0} (k : Option K) → is_some k ≡ false → k ≡ None
-    by_kind None h = refl
-    by_kind (Some k) h = absurd (cc)
+no_kind o i given same = grind arith
 
 producer_known : (register : ℕ) (row : Row) (x : Execution) (p : Row) (y : Option Execution) → row.fetched < row.dispatched → is_some y ≡ is_some (kind_of_word (instruction_of_row p)) →
     (is_serialising (instruction_of_row p) ≡ true → p.retired ≤ row.fetched) → writes_register register p ≡ true →
     (is_some (kind_of_word (instruction_of_row p)) ≡ true → IsBefore x.issued (broadcast_of_execution y)) → MatchOption y (p.retired < row.dispatched) (λ t. t.broadcast < x.issued)
-producer_known register row x p None after unit serial writes known =
-    let late = serial (writer_serialises register (instruction_of_row p) (no_kind None (instruction_of_row p) refl unit) writes) in omega (arith, late, after)
-producer_known register row x p (Some t) after unit serial writes known = known (sym unit)
+producer_known register row x p y given unit serial writes known = grind (arith, writer_serialises, no_kind)
 
 source_known : (v : Values) (bound : ℕ) (before : List Row) (row : Row) (x : Execution) (sound : SoundRow v bound row) → Each (Older v bound row) before → (register : ℕ) →
     IfSome (last_that (writes_mark register) (map mark_of_row before)) (IsKnownMark x.issued) → IfSome (last_that (writes_register register) before) (IsKnownBefore row x)

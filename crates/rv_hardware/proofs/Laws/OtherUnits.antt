@@ -11,16 +11,10 @@ abbrev executes_mark : Kind → ℕ → Mark → Bool
 executes_mark k c m = is_of_kind k (kind_of_word m.instruction) && start_holds false c m.start
 
 not_executing : (now D C : ℕ) (x : Option Execution) → C ≤ now → Between D C x → start_holds false now (start_of_execution x) ≡ false
-not_executing now D C None le h = refl
-not_executing now D C (Some x) le h = and_right (nat_le x.issued now) (nat_lt now (x.issued + x.cost)) (le-ltb now (x.issued + x.cost) (omega (arith, le, h.1, h.2)))
+not_executing now D C x le h = grind (arith, and_right, le-ltb)
 
 executing_row : (c D C : ℕ) (x : Option Execution) → Between D C x → passes (λ y. nat_le y.issued c && nat_lt c (y.issued + y.cost)) x ≡ true → (start_holds false c (start_until c (start_of_execution x)) ≡ true) × (D < c) × (c < C)
-executing_row c D C None h is = absurd (cc)
-executing_row c D C (Some x) h is =
-    let begun = and_first (nat_le x.issued c) (nat_lt c (x.issued + x.cost)) is in
-    let le = leb-true x.issued c begun in
-    let lt = ltb-true c (x.issued + x.cost) (and_second (nat_le x.issued c) (nat_lt c (x.issued + x.cost)) is) in
-    (rw begun (is), omega (arith, le, h.0), omega (arith, lt, h.1, h.2))
+executing_row c D C x h is = grind (arith, and_first, leb-true, ltb-true, and_second)
 
 -- the field `other_units` of `Laws`, over every history
 pub law_of_other_units : (v : Values) {steps : List Step} {h : Hardware} → History v steps h → (k : Kind) → is_pipelined v k ≡ false → FitUnits v k is_executing_in (rows_of steps)

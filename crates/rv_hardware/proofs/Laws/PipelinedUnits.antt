@@ -1,5 +1,5 @@
 -- A pipelined unit begins at most one instruction a cycle.
-use Rattle.rv_hardware.proofs.Words.{◌≡◌, ℕ, ◌+◌, ◌<◌, ◌≤◌, true, false, ◌&&◌, List, nat_lt, nat_le, ◌==◌, Some, None, Option, sym, refl, subst, arith, lt-ltb, ne_eqb, eqb-true, le-leb, and_from, and_right, is_of_kind, kind_of_word, at_kind, Kind, Values, Hardware, FitUnits, is_pipelined, is_issued_in, is_row_of_kind, passes, rows_of, Execution, Step, and_first, and_second}
+use Rattle.rv_hardware.proofs.Words.{◌≡◌, ℕ, ◌<◌, ◌≤◌, true, false, List, ◌==◌, Option, sym, refl, subst, arith, lt-ltb, ne_eqb, eqb-true, le-leb, and_from, and_right, is_of_kind, kind_of_word, at_kind, Kind, Values, Hardware, FitUnits, is_pipelined, is_issued_in, is_row_of_kind, passes, rows_of, Execution, Step, and_first, and_second}
 use Rattle.rv_hardware.proofs.Marks.Counted.{Shows}
 use Rattle.rv_hardware.proofs.Marks.History.{History}
 use Rattle.rv_hardware.proofs.Marks.List.{Start, start_until, start_of_execution}
@@ -7,30 +7,17 @@ use Rattle.rv_hardware.proofs.Laws.OtherUnits.Phases.{start_holds}
 use Rattle.rv_hardware.proofs.Laws.OtherUnits.Rows.{Between, units_law, starts_at, begins_mark}
 
 begins_holds : (c : ℕ) (o : Option Start) → starts_at c o ≡ true → start_holds true c o ≡ true
-begins_holds c None h = absurd (cc)
-begins_holds c (Some s) h =
-    let same : s.cycle ≡ c = eqb-true s.cycle c h in
-    and_from (nat_le s.cycle c) (nat_lt c (s.cycle + 1)) (le-leb s.cycle c (omega (arith, same))) (lt-ltb c (s.cycle + 1) (omega (arith, same)))
+begins_holds c o h = grind (arith, eqb-true, and_from, le-leb, lt-ltb)
 
 not_begun : (now D C : ℕ) (x : Option Execution) → C ≤ now → Between D C x → starts_at now (start_of_execution x) ≡ false
-not_begun now D C None le h = refl
-not_begun now D C (Some x) le h = ne_eqb x.issued now (omega (arith, le, h.1, h.2))
+not_begun now D C x le h = grind (arith, ne_eqb)
 
 begun_row : (c D C : ℕ) (x : Option Execution) → Between D C x → passes (λ y. y.issued == c) x ≡ true → (starts_at c (start_until c (start_of_execution x)) ≡ true) × (D < c) × (c < C)
-begun_row c D C None h is = absurd (cc)
-begun_row c D C (Some x) h is =
-    let same : x.issued ≡ c = eqb-true x.issued c is in
-    (rw (le-leb x.issued c (omega (arith, same))) is, omega (arith, same, h.0), omega (arith, same, h.1, h.2))
+begun_row c D C x h is = grind (arith, eqb-true, le-leb)
 
 -- that a row's execution begins in a cycle shows in its mark
 pub begun_shows : (v : Values) (k : Kind) → Shows v (is_issued_in k) (begins_mark k)
-begun_shows v k = record {
-  mark = λ c bound row sound h.
-      let x = begun_row c row.dispatched row.retired row.execution sound.stamps.executed_between (and_second (is_row_of_kind k row) (passes (λ y. y.issued == c) row.execution) h) in
-      and_from (nat_le row.fetched c) (is_row_of_kind k row && starts_at c (start_until c (start_of_execution row.execution))) (le-leb row.fetched c (omega (arith, x.1, sound.stamps.dispatched_after_fetch)))
-      (and_from (is_row_of_kind k row) (starts_at c (start_until c (start_of_execution row.execution))) (and_first (is_row_of_kind k row) (passes (λ y. y.issued == c) row.execution) h) x.0);
-  ends = λ c bound row sound h. (begun_row c row.dispatched row.retired row.execution sound.stamps.executed_between (and_second (is_row_of_kind k row) (passes (λ y. y.issued == c) row.execution) h)).2;
-}
+begun_shows v k = grind (arith, begun_row, and_second, and_from, le-leb, and_first)
 
 -- the field `pipelined_units` of `Laws`, over every history
 pub law_of_pipelined_units : (v : Values) {steps : List Step} {h : Hardware} → History v steps h → (k : Kind) → is_pipelined v k ≡ true → FitUnits v k is_issued_in (rows_of steps)

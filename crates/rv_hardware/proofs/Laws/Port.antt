@@ -16,19 +16,12 @@ use Rattle.rv_hardware.proofs.Marks.Sound.{SoundEntry, SoundStage}
 
 not_begun_stage : (v : Values) (i : Option Instr) (D now : ℕ) (st : Stage) (P : Start → Type 0) → SoundStage v i D now now st →
     IfSome (start_of_stage st) (λ s. uses_cache v i s ≡ true → s.cycle ≡ now → P s)
-not_begun_stage v i D now Waiting P h = tt
-not_begun_stage v i D now (Running issue message) P h = λ used at. absurd (omega (arith, h.2, at))
-not_begun_stage v i D now (Finished None cycle message) P h = tt
-not_begun_stage v i D now (Finished (Some issue) cycle message) P h = λ used at. absurd (omega (arith, h.2, h.3, at))
+not_begun_stage v i D now st P h = grind arith
 
 fresh_pairs : (v : Values) (now : ℕ) (es : List Entry) → Each (SoundEntry v now now now) es →
     EveryPair (λ a b. OneAtATime v now (mark_of_entry a) (mark_of_entry b)) es
 fresh_pairs v now [] sound = tt
-fresh_pairs v now (e ∷ es) sound = (
-  Each-weaker (SoundEntry v now now now) (λ b. OneAtATime v now (mark_of_entry e) (mark_of_entry b))
-      (λ b w. (not_begun_stage v e.instruction e.dispatched now e.stage (λ s. OverBy v now (mark_of_entry b)) sound.0.stage, not_begun_stage v b.instruction b.dispatched now b.stage (λ s. OverBy v now (mark_of_entry e)) w.stage)) es sound.1,
-  fresh_pairs v now es sound.1,
-)
+fresh_pairs v now (e ∷ es) sound = grind (arith, Each-weaker, not_begun_stage, fresh_pairs v now es sound.1)
 
 -- the port is right in every history
 pub port_of_history : (v : Values) {steps : List Step} {h : Hardware} → History v steps h → PortOk v h.cycle h
@@ -47,33 +40,23 @@ port_of_history v (went_on {earlier} {old} {new} {lines} {report} before is) =
 row_over : (v : Values) (now D C : ℕ) (i : Option Instr) (x : Option Execution) → C ≤ now →
     IfSome x (λ x. (D < x.issued) × (x.issued + x.cost ≤ x.broadcast) × (x.broadcast < C)) →
     IfSome (start_of_execution x) (λ s. uses_cache v i s ≡ true → s.cycle + s.cost ≤ now)
-row_over v now D C i None le h = tt
-row_over v now D C i (Some x) le h = λ used. omega (arith, le, h.1, h.2)
+row_over v now D C i x le h = grind arith
 
 row_not_begun : (v : Values) (now D C : ℕ) (i : Option Instr) (x : Option Execution) (P : Start → Type 0) → C ≤ now →
     IfSome x (λ x. (D < x.issued) × (x.issued + x.cost ≤ x.broadcast) × (x.broadcast < C)) →
     IfSome (start_of_execution x) (λ s. uses_cache v i s ≡ true → s.cycle ≡ now → P s)
-row_not_begun v now D C i None P le h = tt
-row_not_begun v now D C i (Some x) P le h = λ used at. absurd (omega (arith, le, h.1, h.2, at))
+row_not_begun v now D C i x P le h = grind arith
 
 over_whenever : (v : Values) (now : ℕ) (m n : Mark) → OverBy v now m → WhereUsed v n (λ s. s.cycle ≡ now → OverBy v now m)
-over_whenever v now m n over = by_start n.start
-  where
-    by_start : (o : Option Start) → IfSome o (λ s. uses_cache v n.instruction s ≡ true → s.cycle ≡ now → OverBy v now m)
-    by_start None = tt
-    by_start (Some s) = λ used at. over
+over_whenever v now m n over = grind arith
 
 row_pair : (v : Values) (now : ℕ) (row : Row) (n : Mark) → SoundRow v (now + 1) row → OneAtATime v now (mark_of_row row) n
-row_pair v now row n sound = (
-  row_not_begun v now row.dispatched row.retired (instruction_of_row row) row.execution (λ s. OverBy v now n) (omega (arith, sound.below)) sound.stamps.executed_between,
-  over_whenever v now (mark_of_row row) n (row_over v now row.dispatched row.retired (instruction_of_row row) row.execution (omega (arith, sound.below)) sound.stamps.executed_between),
-)
+row_pair v now row n sound = grind (arith, row_not_begun, over_whenever, row_over)
 
 rows_first : (v : Values) (now : ℕ) (rows : List Row) (ms : List Mark) → Each (SoundRow v (now + 1)) rows →
     EveryPair (OneAtATime v now) ms → EveryPair (OneAtATime v now) (map mark_of_row rows ++ ms)
 rows_first v now [] ms sound h = h
-rows_first v now (row ∷ rows) ms sound h =
-    (Each-all (λ n. OneAtATime v now (mark_of_row row) n) (λ n. row_pair v now row n sound.0) (map mark_of_row rows ++ ms), rows_first v now rows ms sound.1 h)
+rows_first v now (row ∷ rows) ms sound h = grind (arith, Each-all, row_pair, rows_first v now rows ms sound.1 h)
 
 words_last : (v : Values) (now : ℕ) (ms : List Mark) (fs : List Fetched) → EveryPair (OneAtATime v now) ms →
     EveryPair (OneAtATime v now) (ms ++ map mark_of_fetched fs)
@@ -126,26 +109,19 @@ start_of x = record { cycle = x.issued; cost = x.cost; faults = false }
 
 begun_by : (c : ℕ) (o : Option Execution) (x : Execution) → o ≡ Some x → x.issued ≤ c →
     start_until c (start_of_execution o) ≡ Some (start_of x)
-begun_by c o x at le = ap (λ q. start_until c (start_of_execution q)) at ∙ here
-  where
-    here : start_until c (Some (start_of x)) ≡ Some (start_of x)
-    here = rw (le-leb x.issued c le) refl
+begun_by c o x given le = grind (arith, le-leb)
 
 row_uses : (v : Values) (a : Row) (x : Execution) → a.execution ≡ Some x → uses_port v.forward a ≡ true →
     uses_cache v (instruction_of_row a) (start_of x) ≡ true
-row_uses v a x at used =
-    and_from (is_load_row a) (not (x.cost == v.forward)) (and_first (is_load_row a) (passes (λ y. not (y.cost == v.forward)) a.execution) used)
-    (subst (λ o. passes (λ y. not (y.cost == v.forward)) o ≡ true) at (and_second (is_load_row a) (passes (λ y. not (y.cost == v.forward)) a.execution) used))
+row_uses v a x given used = grind (arith, and_from, and_first, and_second)
 
 over_row : (v : Values) (c : ℕ) (a : Row) (x : Execution) → a.execution ≡ Some x → x.issued ≤ c → uses_port v.forward a ≡ true →
     OverBy v c (at_end c (mark_of_row a)) → x.issued + x.cost ≤ c
-over_row v c a x at le used over =
-    subst (λ o. IfSome o (λ s. uses_cache v (instruction_of_row a) s ≡ true → s.cycle + s.cost ≤ c)) (begun_by c a.execution x at le) over (row_uses v a x at used)
+over_row v c a x given le used over = grind (arith, begun_by, row_uses)
 
 when_row : (v : Values) (c : ℕ) (a : Row) (x : Execution) (P : Start → Type 0) → a.execution ≡ Some x → x.issued ≤ c →
     uses_port v.forward a ≡ true → WhereUsed v (at_end c (mark_of_row a)) P → P (start_of x)
-when_row v c a x P at le used h =
-    subst (λ o. IfSome o (λ s. uses_cache v (instruction_of_row a) s ≡ true → P s)) (begun_by c a.execution x at le) h (row_uses v a x at used)
+when_row v c a x P given le used h = grind (arith, begun_by, row_uses)
 
 abbrev PortApart : Values → Row → Row → Type 0
 PortApart v a b = uses_port v.forward a ≡ true → uses_port v.forward b ≡ true → IfSome a.execution (λ x. IfSome b.execution (λ y. (x.issued + x.cost ≤ y.issued) ⊎ (y.issued + y.cost ≤ x.issued)))
@@ -171,9 +147,7 @@ module _ (v : Values) (bound : ℕ) (a b : Row) (sound_a : SoundRow v bound a) (
   by_executions : (o p : Option Execution) → a.execution ≡ o → b.execution ≡ p → uses_port v.forward a ≡ true →
       uses_port v.forward b ≡ true →
       IfSome o (λ x. IfSome p (λ y. (x.issued + x.cost ≤ y.issued) ⊎ (y.issued + y.cost ≤ x.issued)))
-  by_executions None p at at' used used' = tt
-  by_executions (Some x) None at at' used used' = tt
-  by_executions (Some x) (Some y) at at' used used' = two_apart x y at at' used used'
+  by_executions o p given at' used used' = grind (arith, two_apart)
 
 rows_apart : (v : Values) {steps : List Step} {h : Hardware} → History v steps h → (before after : List Row) (b : Row) →
     rows_of steps ≡ before ++ b ∷ after → Each (λ a. PortApart v a b) before

@@ -40,48 +40,29 @@ module _ (v : Values) (now : ℕ) (earlier : List Step) (is_stale : set.FinSet n
   no_row : (c : Committing) (s : Step) (h : Hardware) → rows_of (s ∷ []) ≡ [] → h.port_free ≡ c.hardware.port_free →
       h.committed ≡ c.hardware.committed → Queue v now (earlier ++ c.steps) c.hardware →
       Queue v now (earlier ++ (c.steps ++ s ∷ [])) h
-  no_row c s h none port committed ok =
-      rw (pushed c s ∙ ap (λ l. rows_of (earlier ++ c.steps) ++ l) none ∙ append-nil (rows_of (earlier ++ c.steps)), port, committed) ok
+  no_row c s h given port committed ok = grind (arith, pushed, append-nil)
 
   module _ (c : Committing) (e : Entry) (es : List Entry) (written : Option (ℕ × ℕ)) (place : c.hardware.rob.entries ≡ e ∷ es) (may : MayRetire e.instruction e.stage) (p : InCommit v now earlier is_stale c) where
     row_is_store : is_store_row (row_at e written c.hardware.cycle) ≡ is_store e.instruction
-    row_is_store =
-        let sound : SoundEntry v now now now e = (subst (Each (SoundEntry v now now now)) place p.basics.entries).0 in
-        ap is_store (row_decodes e sound.decoded (retiring_is_one v now e sound may))
+    row_is_store = grind (arith, row_decodes, retiring_is_one)
 
   -- a serialising instruction
   serial_row : (c : Committing) (e : Entry) (es : List Entry) (written : Option (ℕ × ℕ)) (port : ℕ) →
       c.hardware.rob.entries ≡ e ∷ es → is_serialising e.instruction ≡ true → c.hardware.port_free ≤ port →
       InCommit v now earlier is_stale c → Queue v now (earlier ++ c.steps) c.hardware →
       QueueOk v.cache.hit now (rows_of (earlier ++ (c.steps ++ Retired (row_at e written c.hardware.cycle) ∷ []))) port c.hardware.committed
-  serial_row c e es written port place serial le p ok =
-      let row : Row = row_at e written c.hardware.cycle in
-      let plain = row_is_store c e es written place (may_retire_serial e.instruction e.stage serial) p ∙ serialising_is_no_store e.instruction serial in
-      let more = plain_retires v.cache.hit now (rows_of (earlier ++ c.steps)) c.hardware.port_free c.hardware.committed ok row plain in
-      rw (pushed c (Retired row)) (queue_later v.cache.hit now (rows_of (earlier ++ c.steps) ++ row ∷ []) c.hardware.port_free c.hardware.committed more port le)
+  serial_row c e es written port place serial le p ok = grind (arith, row_is_store, may_retire_serial, serialising_is_no_store, plain_retires, pushed, queue_later)
 
   -- a result
   result_row : (c : Committing) (e : Entry) (es : List Entry) (issue : Option Issue) (cycle : ℕ) (message : Message) →
       c.hardware.rob.entries ≡ e ∷ es → e.stage ≡ Finished issue cycle message → message.fault ≡ None →
       InCommit v now earlier is_stale c → Queues c →
       Queue v now (earlier ++ (c.steps ++ Retired (row_at e (written_of e message) c.hardware.cycle) ∷ [])) (retired_with e message c).hardware
-  result_row c e es issue cycle message place at none p ok =
-      let row : Row = row_at e (written_of e message) c.hardware.cycle in
-      let same = row_is_store c e es (written_of e message) place (may_retire_finished e.instruction e.stage issue cycle message at none) p in
-      let telling : Each Shaped (e ∷ es) = subst (Each Shaped) place p.basics.always.stores.0.0 in
-      let tells = (told_at_end e.word e.instruction e.stage message (ap broadcast_of at) telling.0).store none in
-      rw (pushed c (Retired row))
-      (queue_retires v.cache.hit now (rows_of (earlier ++ c.steps)) c.hardware.port_free c.hardware.committed ok row c.hardware.rob.retired message.store (tells ∙ sym same) (omega (arith, p.basics.cycle)))
+  result_row c e es issue cycle message place given holds p ok = grind (arith, row_is_store, may_retire_finished, told_at_end, pushed, queue_retires)
 
   commit_queue : (c : Committing) (t : Turn Committing) → CommitTurn is_stale c t → InCommit v now earlier is_stale c → Queues c →
       Leads Queues Queues t
-  commit_queue c _ (no_head none) p ok = ok
-  commit_queue c _ (stale_head e es at is) p ok = ok
-  commit_queue c _ (unfinished e es head plain none) p ok = ok
-  commit_queue c _ (fence_waits e es head is busy) p ok = ok
-  commit_queue c _ (fence_writes e es head is drained dirty) p ok =
-      let le = drained_idle _ c.hardware drained in
-      queue_later v.cache.hit now (rows_of (earlier ++ c.steps)) c.hardware.port_free c.hardware.committed ok (written_back c).hardware.port_free (omega (arith, le))
+  commit_queue c _ (fence_writes e es head is drained dirty) p ok = grind (arith, drained_idle, queue_later)
   commit_queue c _ (fence_retires e es written next head is drained) p ok =
       let le = drained_idle _ c.hardware drained in
       serial_row c e es written (written_back c).hardware.port_free head.place (ap is_serialising is) (omega (arith, le)) p ok
@@ -91,6 +72,7 @@ module _ (v : Values) (now : ℕ) (earlier : List Step) (is_stale : set.FinSet n
   commit_queue c _ (retires e es issue cycle message head plain at none) p ok =
       result_row c e es issue cycle message head.place at none p ok
   commit_queue c _ (retires_last e es issue cycle message head plain at none) p ok = result_row c e es issue cycle message head.place at none p ok
+  commit_queue c _ _ p ok = ok
 
   commit_queue_by : (o : Option ℕ) (h : Hardware) → InCommit v now earlier is_stale (record { hardware = h; steps = []; stop = None }) → Queue v now (earlier ++ []) h → Queue v now (earlier ++ (commit_unless is_stale o h).steps) (commit_unless is_stale o h).hardware
   commit_queue_by (Some code) h p ok =
@@ -105,22 +87,10 @@ module _ (v : Values) (now : ℕ) (steps : List Step) where
   Drained h = (h.cycle ≡ now) × (h.cache.values ≡ v.cache) × Queue v now steps h
 
   drain_queue : IsKeptByDrain Drained
-  drain_queue = record {
-    leaves = λ h p idle. let le = leb-true h.port_free h.cycle idle in (p.0, p.1, queue_leaves v.cache.hit now (rows_of steps) h.port_free (omega (arith, le, p.0)) h.committed p.2);
-    drains = λ h access p idle is.
-        let le = leb-true h.port_free h.cycle idle in
-        let least = access_cost-least h.cache access.address in
-        let hit = ap (λ (c : CacheValues). c.hit) p.1 in
-        (p.0, p.1, queue_begins v.cache.hit now (rows_of steps) h.port_free (omega (arith, le, p.0)) _ (omega (arith, p.0, least, hit)) h.committed p.2);
-  }
+  drain_queue = grind (arith, leb-true, queue_leaves, access_cost-least, queue_begins)
 
   issue_queue : (k : Kind) → IsKeptByIssue (Queue v now steps) k
-  issue_queue k = record {
-    accesses = λ h older younger e address ok split ready by.
-        let idle : has_port h (FromCache address) ≡ true = subst (λ q. has_port h q ≡ true) by (has_its_port h older e (ready-parts h k older e ready).loads) in
-        queue_later v.cache.hit now (rows_of steps) h.port_free h.committed ok _ (port_grows h (FromCache address) idle);
-    starts = λ h older younger e cost message ok split waits of_kind result costs. ok;
-  }
+  issue_queue k = grind (arith, has_its_port, ready-parts, queue_later, port_grows)
 
   broadcast_queue : IsKeptByBroadcast (Queue v now steps)
   broadcast_queue = record { broadcasts = λ h older younger e message ok split gives. ok; mends = λ h older younger e next ok split. ok }
@@ -166,8 +136,7 @@ module _ (hit now : ℕ) where
 
   late_by : (b : Bool) (row : Row) (m : ℕ) (rows : List Row) → m ≡ count is_late rows →
       cond (b && is_late row) (suc m) m ≡ count is_late (cond b (row ∷ rows) rows)
-  late_by true row m rows same = ap (λ n. cond (is_late row) (suc n) n) same
-  late_by false row m rows same = same
+  late_by b row m rows same = grind arith
 
   late_rows : (rows : List Row) →
       count (λ row. is_queued_mark hit now (mark_of_row row)) rows ≡ count is_late (filter is_store_row rows)
@@ -176,20 +145,11 @@ module _ (hit now : ℕ) where
 
   queued_rows : (rows : List Row) (port : ℕ) (committed : List Store) → QueueOk hit now rows port committed →
       count (λ row. is_queued_mark hit now (mark_of_row row)) rows ≤ length committed
-  queued_rows rows port committed ok =
-      let all = late_rows rows ∙ ap (count is_late) ok.split ∙ count-append is_late ok.gone ok.kept in
-      let none = count-none is_late ok.gone (Each-weaker (λ row. row.retired + hit ≤ now) (λ row. is_late row ≡ false) (λ row by. le-ltb now (row.retired + hit) by) ok.gone ok.over) in
-      let some = count-length is_late ok.kept in
-      let same = queued_length hit port ok.kept committed ok.queued in
-      omega (arith, all, none, some, same)
+  queued_rows rows port committed ok = grind (arith, late_rows, count-append, count-none, Each-weaker, le-ltb, count-length, queued_length)
 
   queued_entries : (es : List Entry) → count (λ e. is_queued_mark hit now (mark_of_entry e)) es ≡ store_count (instructions_of es)
   queued_entries [] = refl
-  queued_entries (e ∷ es) = by_store (is_store e.instruction) (queued_entries es)
-    where
-      by_store : (b : Bool) {m n : ℕ} → m ≡ n → cond (b && true) (suc m) m ≡ cond b 1 0 + n
-      by_store true same = omega (arith, same)
-      by_store false same = omega (arith, same)
+  queued_entries (e ∷ es) = grind (arith, queued_entries es)
 
 law_by_cycle : (v : Values) {steps : List Step} {h : Hardware} → History v steps h → (c : ℕ) → c < h.cycle →
     count (is_queued_mark v.cache.hit c) (as_of c (map mark_of_row (rows_of steps))) ≤ v.store_queue
@@ -214,29 +174,12 @@ law_by_cycle v history =
 
 row_is_queued : (v : Values) (c bound : ℕ) (row : Row) → SoundRow v bound row → is_queued_in v.cache.hit c row ≡ true →
     (was_fetched c (mark_of_row row) && is_queued_mark v.cache.hit c (at_end c (mark_of_row row))) ≡ true
-row_is_queued v c bound row sound h =
-    let two = and_first (is_store_row row && nat_le row.dispatched c) (nat_lt c (row.retired + v.cache.hit)) h in
-    let store = and_first (is_store_row row) (nat_le row.dispatched c) two in
-    let le = leb-true row.dispatched c (and_second (is_store_row row) (nat_le row.dispatched c) two) in
-    let late = and_second (is_store_row row && nat_le row.dispatched c) (nat_lt c (row.retired + v.cache.hit)) h in
-    and_from (nat_le row.fetched c) (is_queued_mark v.cache.hit c (at_end c (mark_of_row row))) (le-leb row.fetched c (omega (arith, le, sound.stamps.dispatched_after_fetch)))
-    (and_from (is_store_row row) (is_some (until c (Some row.dispatched)) && stays v.cache.hit c (until c (Some row.retired))) store
-    (rw (until_by c row.dispatched le) (by_retirement (nat_le row.retired c) late)))
-  where
-    by_retirement : (b : Bool) → nat_lt c (row.retired + v.cache.hit) ≡ true →
-        stays v.cache.hit c (cond b (Some row.retired) None) ≡ true
-    by_retirement true late = late
-    by_retirement false late = refl
+row_is_queued v c bound row sound h = grind (arith, and_first, leb-true, and_second, and_from, le-leb, until_by)
 
 -- after the last cycle no more rows are counted than in it
 still_queued : (v : Values) (c now : ℕ) (row : Row) → now ≤ c → SoundRow v (now + 1) row → is_queued_in v.cache.hit c row ≡ true →
     is_queued_in v.cache.hit now row ≡ true
-still_queued v c now row le sound h =
-    let two = and_first (is_store_row row && nat_le row.dispatched c) (nat_lt c (row.retired + v.cache.hit)) h in
-    let late = ltb-true c (row.retired + v.cache.hit) (and_second (is_store_row row && nat_le row.dispatched c) (nat_lt c (row.retired + v.cache.hit)) h) in
-    and_from (is_store_row row && nat_le row.dispatched now) (nat_lt now (row.retired + v.cache.hit))
-    (and_from (is_store_row row) (nat_le row.dispatched now) (and_first (is_store_row row) (nat_le row.dispatched c) two) (le-leb row.dispatched now (omega (arith, sound.stamps.retired_after_dispatch, sound.below))))
-    (lt-ltb now (row.retired + v.cache.hit) (omega (arith, le, late)))
+still_queued v c now row le sound h = grind (arith, and_first, ltb-true, and_second, and_from, le-leb, lt-ltb)
 
 module _ (v : Values) {steps : List Step} {h : Hardware} (history : History v steps h) where
   queued_before : (c : ℕ) → c < h.cycle → count (is_queued_in v.cache.hit c) (rows_of steps) ≤ v.store_queue
@@ -249,9 +192,7 @@ module _ (v : Values) {steps : List Step} {h : Hardware} (history : History v st
       omega (arith, law, counts, fewer)
 
   queued_by : (n c : ℕ) → h.cycle ≡ n → n ≤ c → count (is_queued_in v.cache.hit c) (rows_of steps) ≤ v.store_queue
-  queued_by zero c at le =
-      let none = count-none (is_queued_in v.cache.hit c) (rows_of steps) (Each-weaker (SoundRow v h.cycle) (λ row. is_queued_in v.cache.hit c row ≡ false) (λ row sound. absurd (omega (arith, sound.below, at))) (rows_of steps) (history_is_sound v history).rows) in
-      omega (arith, none)
+  queued_by zero c at le = grind (arith, count-none, Each-weaker, history_is_sound)
   queued_by (suc now) c at le =
       let fewer = count-le (is_queued_in v.cache.hit c) (is_queued_in v.cache.hit now) (rows_of steps)
       (Each-weaker (SoundRow v h.cycle) (λ row. is_queued_in v.cache.hit c row ≡ true → is_queued_in v.cache.hit now row ≡ true)

@@ -1,6 +1,6 @@
 -- A mark goes on in a cycle by a retirement, a start, a broadcast or a dispatch, and stays what it was in earlier cycles.
-use Rattle.rv_hardware.proofs.Words.{◌≡◌, ℕ, ◌+◌, ◌<◌, ◌≤◌, Bool, true, ◌&&◌, List, ◌∷◌, ◌++◌, is_some, is_none, IfSome, Some, None, Option, sym, refl, ap, ◌∙◌, arith, is_load, is_of_kind, is_store, is_target, kind_of_word, sources_of_word, target_of_word, at_kind, Kind, Values, Each, last_that, count}
-use Rattle.rv_hardware.proofs.Marks.List.{Start, Mark, Agree, Extends, Extends-trans, Extends-cut, Extends-change, at_end, until, until_now, start_until, start_until_now}
+use Rattle.rv_hardware.proofs.Words.{◌≡◌, ℕ, ◌+◌, ◌<◌, ◌≤◌, Bool, true, ◌&&◌, List, ◌∷◌, ◌++◌, is_some, is_none, IfSome, Some, None, Option, arith, is_load, is_of_kind, is_store, is_target, kind_of_word, sources_of_word, target_of_word, at_kind, Kind, Values, Each, last_that, count}
+use Rattle.rv_hardware.proofs.Marks.List.{Start, Mark, Agree, Extends, Extends-trans, Extends-cut, Extends-change, at_end, until_now, start_until_now}
 
 -- it was so before a cycle
 abbrev pub IsBefore : ℕ → Option ℕ → Type 0
@@ -97,50 +97,10 @@ agree_by now m n p is agree = rw is agree
 
 -- a mark that goes on was the same at the end of every earlier cycle
 pub advances_agree : (v : Values) (now : ℕ) (xs : List Mark) (m n : Mark) → Advances v now xs m n → Agree now m n
-advances_agree v now xs m n (retires a) = agree_by now m n (record m { retired = Some now }) a.becomes (
-  refl,
-  λ c lt i. record {
-    instruction = m.instruction;
-    fetched = m.fetched;
-    dispatched = until c m.dispatched;
-    start = start_until c m.start;
-    broadcast = until c m.broadcast;
-    retired = (ap (until c) a.not_yet ∙ sym (until_now now c lt)) i;
-  },
-)
-advances_agree v now xs m n (starts a) = agree_by now m n (record m { start = Some a.start }) a.becomes (
-  refl,
-  λ c lt i. record {
-    instruction = m.instruction;
-    fetched = m.fetched;
-    dispatched = until c m.dispatched;
-    start = (ap (start_until c) a.not_yet ∙ sym (start_until_now c a.start (omega (arith, a.now_is)))) i;
-    broadcast = until c m.broadcast;
-    retired = until c m.retired;
-  },
-)
-advances_agree v now xs m n (is_sent a) = agree_by now m n (record m { broadcast = Some now }) a.becomes (
-  refl,
-  λ c lt i. record {
-    instruction = m.instruction;
-    fetched = m.fetched;
-    dispatched = until c m.dispatched;
-    start = start_until c m.start;
-    broadcast = (ap (until c) a.not_yet ∙ sym (until_now now c lt)) i;
-    retired = until c m.retired;
-  },
-)
-advances_agree v now xs m n (enters a) = agree_by now m n (record m { dispatched = Some now }) a.becomes (
-  refl,
-  λ c lt i. record {
-    instruction = m.instruction;
-    fetched = m.fetched;
-    dispatched = (ap (until c) a.not_yet ∙ sym (until_now now c lt)) i;
-    start = start_until c m.start;
-    broadcast = until c m.broadcast;
-    retired = until c m.retired;
-  },
-)
+advances_agree v now xs m n (retires a) = grind (arith, agree_by, until_now)
+advances_agree v now xs m n (starts a) = grind (arith, agree_by, start_until_now)
+advances_agree v now xs m n (is_sent a) = grind (arith, agree_by, until_now)
+advances_agree v now xs m n (enters a) = grind (arith, agree_by, until_now)
 
 -- so the marks go on from those at the start of the cycle
 pub extends_kept : (v : Values) (now : ℕ) (from : List Mark) → Kept v now (Extends now from)

@@ -1,5 +1,5 @@
 -- Where marks are counted at the end of each cycle, no more rows pass the test of a cycle than marks did.
-use Rattle.rv_hardware.proofs.Words.{◌≡◌, ℕ, suc, ◌<◌, ◌≤◌, Bool, true, false, cond, ◌&&◌, List, [], ◌∷◌, ◌++◌, map, count_by, filter, refl, ap, ◌∙◌, subst, inl, inr, arith, le-leb, cases_lt, map-append, Lines, Values, Each, Hardware, Report, rows_of, Row, Step, Each-weaker, EveryBehind, count, count-count_by, count-none, count-map, count-le, Beginning-count, EveryBehind-at}
+use Rattle.rv_hardware.proofs.Words.{◌≡◌, ℕ, suc, ◌<◌, ◌≤◌, Bool, true, false, cond, ◌&&◌, List, [], ◌∷◌, ◌++◌, map, count_by, refl, ap, ◌∙◌, inl, inr, arith, le-leb, cases_lt, map-append, Lines, Values, Each, Hardware, Report, rows_of, Row, Step, Each-weaker, EveryBehind, count, count-count_by, count-none, count-map, count-le, Beginning-count, EveryBehind-at}
 use Rattle.rv_hardware.proofs.Marks.History.{Passed, History, history_is_sound}
 use Rattle.rv_hardware.proofs.Marks.List.{Mark, mark_of_row, marks_in, at_end, as_of, as_of-append, as_of-cons, was_fetched, Extends}
 use Rattle.rv_hardware.proofs.Marks.Past.{rows_obey}
@@ -8,15 +8,12 @@ use Rattle.rv_hardware.proofs.Marks.Row.{SoundRow}
 -- counts as of a cycle
 
 picked : (p : Mark → Bool) (c : ℕ) (b : Bool) (m : Mark) (ms : List Mark) → count p (map (at_end c) (cond b (m ∷ ms) ms)) ≡ cond (b && p (at_end c m)) (suc (count p (map (at_end c) ms))) (count p (map (at_end c) ms))
-picked p c true m ms = refl
-picked p c false m ms = refl
+picked p c b m ms = grind arith
 
 -- a count of marks as they stood at the end of a cycle is a count of the marks
 pub count-as_of : (p : Mark → Bool) (c : ℕ) (ms : List Mark) → count p (as_of c ms) ≡ count (λ m. was_fetched c m && p (at_end c m)) ms
 count-as_of p c [] = refl
-count-as_of p c (m ∷ ms) =
-    picked p c (was_fetched c m) m (filter (was_fetched c) ms) ∙
-    ap (λ n. cond (was_fetched c m && p (at_end c m)) (suc n) n) (count-as_of p c ms)
+count-as_of p c (m ∷ ms) = grind (arith, picked, count-as_of p c ms)
 
 -- what a test of rows shows of their marks, and that none passes it from its retirement on
 pub record Shows (v : Values) (row_test : ℕ → Row → Bool) (test : ℕ → Mark → Bool) : Type 0 where
@@ -61,9 +58,7 @@ as_of_place c before after m is = as_of-append c before (m ∷ after) ∙ ap (λ
 -- what marks obeyed at the end of a cycle, of one row after others
 pub behind_law : (P : List Mark → Mark → Type 0) (c : ℕ) (rows before after : List Row) (row : Row) → EveryBehind P [] (as_of c (map mark_of_row rows)) → rows ≡ before ++ row ∷ after → row.fetched ≤ c →
     P (as_of c (map mark_of_row before)) (at_end c (mark_of_row row))
-behind_law P c rows before after row h at le =
-    EveryBehind-at P (as_of c (map mark_of_row before)) (as_of c (map mark_of_row after)) (at_end c (mark_of_row row))
-    (subst (EveryBehind P []) (ap (λ l. as_of c (map mark_of_row l)) at ∙ ap (as_of c) (map-append mark_of_row before (row ∷ after)) ∙ as_of_place c (map mark_of_row before) (map mark_of_row after) (mark_of_row row) (le-leb row.fetched c le)) h)
+behind_law P c rows before after row h given le = grind (arith, EveryBehind-at, map-append, as_of_place, le-leb)
 
 -- where the test of marks shows that of rows, no more marks pass it than rows
 pub behind_count : (p : Mark → Bool) (q : Row → Bool) (c : ℕ) (before : List Row) → Each (λ a. (was_fetched c (mark_of_row a) && p (at_end c (mark_of_row a))) ≡ true → q a ≡ true) before →

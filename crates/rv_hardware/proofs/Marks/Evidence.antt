@@ -1,6 +1,5 @@
 -- When an instruction starts, is broadcast or is dispatched, the marks of older ones show its operands, its turn and its room.
-use Rattle.rv_hardware.proofs.Words.{◌≡◌, ℕ, ◌+◌, ◌<◌, ◌≤◌, Bool, true, false, cond, not, ◌&&◌, List, [], ◌∷◌, ◌++◌, map, length, is_some, is_none, IfSome, nat_le, Some, None, filter, Option, sym, refl, ◌∙◌, true≢false, arith, leb-false, length-filter, list_all, is_of_kind, is_store, kind_of_word, Message, Instr, Issue, Kind, Values, instruction_of, Each, is_known as is_known_store, Store as QueuedStore, Entry, Stage, Finished, Running, Waiting, has_result, result_at, is_stationed, broadcast_of, is_known_from, is_waiting, store_of_broadcast, stores_of, writes, has_operands, last_from, last_that, Execution, Row, and_first, and_second, Each-append, Each-weaker, Each-map, EveryBehind, count, count-count_by, count-append, count-none, count-map, count-le, count-length}
-use Rattle.rv_isa.specs.declared.instructions.Instr.TheVariants.{Store}
+use Rattle.rv_hardware.proofs.Words.{◌≡◌, ℕ, ◌+◌, ◌<◌, ◌≤◌, Bool, true, false, cond, not, ◌&&◌, List, [], ◌∷◌, ◌++◌, map, length, is_some, is_none, IfSome, nat_le, Some, None, filter, Option, sym, refl, ◌∙◌, true≢false, arith, leb-false, length-filter, list_all, is_of_kind, is_store, kind_of_word, Message, Instr, Issue, Kind, Values, Each, is_known as is_known_store, Store as QueuedStore, Entry, Stage, has_result, result_at, is_stationed, broadcast_of, is_known_from, is_waiting, store_of_broadcast, stores_of, writes, has_operands, last_from, last_that, Execution, Row, and_first, and_second, Each-append, Each-weaker, Each-map, EveryBehind, count, count-count_by, count-append, count-none, count-map, count-le, count-length}
 use Rattle.rv_hardware.specs.InFlight.{is_known}
 use Rattle.rv_hardware.proofs.Marks.Advance.{IsBefore, writes_mark, IsKnownMark, OperandsKnown, IsKnownStore, IsSentIfReady, is_in_flight_mark, is_stationed_mark}
 use Rattle.rv_hardware.proofs.Marks.List.{Mark, mark_of_row, mark_of_entry, broadcast_of_stage, start_of_stage, broadcast_of_execution, start_of_execution}
@@ -15,8 +14,7 @@ last_from-append found test [] ys = refl
 last_from-append found test (x ∷ xs) ys = last_from-append (cond (test x) (Some x) found) test xs ys
 
 picked : {X : Type 0} (P : X → Type 0) (b : Bool) (x : X) (found : Option X) → P x → IfSome found P → IfSome (cond b (Some x) found) P
-picked P true x found is h = is
-picked P false x found is h = h
+picked P b x found is h = grind arith
 
 -- what holds of each element holds of the last that passes a test
 pub last_from-Each : {X : Type 0} (P : X → Type 0) (found : Option X) (test : X → Bool) (xs : List X) → IfSome found P → Each P xs → IfSome (last_from found test xs) P
@@ -27,22 +25,17 @@ last_from-Each P found test (x ∷ xs) h are = last_from-Each P (cond (test x) (
 
 row_known_by : (now C : ℕ) (i : Option Instr) (x : Option Execution) (D : ℕ) → C ≤ now → is_some x ≡ is_some (kind_of_word i) →
     IfSome x (λ x. (D < x.issued) × (x.issued + x.cost ≤ x.broadcast) × (x.broadcast < C)) → is_some (kind_of_word i) ≡ true → IsBefore now (broadcast_of_execution x)
-row_known_by now C i None D le same h some = absurd (cc)
-row_known_by now C i (Some x) D le same h some = omega (arith, h.2)
+row_known_by now C i x D le same h some = grind arith
 
 pub row_known : (v : Values) (now : ℕ) (row : Row) → SoundRow v (now + 1) row → IsKnownMark now (mark_of_row row)
-row_known v now row sound some =
-    row_known_by now row.retired (instruction_of row.word) row.execution row.dispatched (omega (arith, sound.below)) sound.stamps.executed_by_a_unit sound.stamps.executed_between some
+row_known v now row sound some = grind (arith, row_known_by)
 
 store_has_unit : (i : Option Instr) → is_store i ≡ true → is_some (kind_of_word i) ≡ true
-store_has_unit None h = absurd (cc)
-store_has_unit (Some (Store width rs1 rs2 offset)) h = refl
-store_has_unit i h = absurd (cc)
+store_has_unit i h = grind arith
 
 row_sent_by : (now C D : ℕ) (x : Option Execution) → C ≤ now → IfSome x (λ x. (D < x.issued) × (x.issued + x.cost ≤ x.broadcast) × (x.broadcast < C)) →
     IfSome (start_of_execution x) (λ s. s.cycle + s.cost ≤ now → IsBefore (now + 1) (broadcast_of_execution x))
-row_sent_by now C D None le h = tt
-row_sent_by now C D (Some x) le h = λ ready. omega (arith, h.2)
+row_sent_by now C D x le h = grind arith
 
 row_sent : (v : Values) (now : ℕ) (row : Row) → SoundRow v (now + 1) row → IsSentIfReady now (mark_of_row row)
 row_sent v now row sound = row_sent_by now row.retired row.dispatched row.execution (omega (arith, sound.below)) sound.stamps.executed_between
@@ -50,10 +43,7 @@ row_sent v now row sound = row_sent_by now row.retired row.dispatched row.execut
 -- entries that are known
 
 entry_known_by : (v : Values) (i : Option Instr) (D a now : ℕ) (st : Stage) → SoundStage v i D a now st → is_some (broadcast_of st) ≡ true → is_some (kind_of_word i) ≡ true → IsBefore now (broadcast_of_stage st)
-entry_known_by v i D a now Waiting h known some = absurd (cc)
-entry_known_by v i D a now (Running issue message) h known some = absurd (cc)
-entry_known_by v i D a now (Finished (Some issue) cycle message) h known some = h.3
-entry_known_by v i D a now (Finished None cycle message) h known some = absurd (let none = h.0 in cc)
+entry_known_by v i D a now st h known some = grind arith
 
 module _ (v : Values) (d a now : ℕ) where
   entry_known : (e : Entry) → SoundEntry v d a now e → is_some (broadcast_of e.stage) ≡ true → IsKnownMark now (mark_of_entry e)
@@ -61,15 +51,12 @@ module _ (v : Values) (d a now : ℕ) where
 
   known_either : (b : Bool) (e : Entry) (known : Bool) (found : Option Mark) → (known ≡ true → IfSome found (IsKnownMark now)) → SoundEntry v d a now e →
       cond b (is_some (broadcast_of e.stage)) known ≡ true → IfSome (cond b (Some (mark_of_entry e)) found) (IsKnownMark now)
-  known_either true e known found before sound h = entry_known e sound h
-  known_either false e known found before sound h = before h
+  known_either b e known found before sound h = grind (arith, entry_known)
 
   known_from : (register : ℕ) (known : Bool) (found : Option Mark) (es : List Entry) → (known ≡ true → IfSome found (IsKnownMark now)) → Each (SoundEntry v d a now) es →
       is_known_from known es register ≡ true → IfSome (last_from found (writes_mark register) (map mark_of_entry es)) (IsKnownMark now)
   known_from register known found [] before sound h = before h
-  known_from register known found (e ∷ es) before sound h =
-      known_from register (cond (writes e register) (is_some (broadcast_of e.stage)) known) (cond (writes e register) (Some (mark_of_entry e)) found) es
-      (known_either (writes e register) e known found before sound.0) sound.1 h
+  known_from register known found (e ∷ es) before sound h = grind (arith, known_either, known_from register (cond (writes e register) (is_some (broadcast_of e.stage)) known) (cond (writes e register) (Some (mark_of_entry e)) found) es (known_either (writes e register) e known found before sound.0) sound.1 h)
 
   module _ (rows : List Row) (sound_rows : Each (SoundRow v (now + 1)) rows) where
     rows_known : Each (IsKnownMark now) (map mark_of_row rows)
@@ -87,25 +74,17 @@ module _ (v : Values) (d a now : ℕ) where
         OperandsKnown now (map mark_of_row rows ++ map mark_of_entry older) sources
     operands_known older [] sound h = tt
     operands_known older (None ∷ sources) sound h = (tt, operands_known older sources sound h)
-    operands_known older (Some register ∷ sources) sound h = (
-      register_known older register sound (and_first (is_known older register) (has_operands older sources) h),
-      operands_known older sources sound (and_second (is_known older register) (has_operands older sources) h),
-    )
+    operands_known older (Some register ∷ sources) sound h = grind (arith, register_known, and_first, and_second, operands_known older sources sound (and_second (is_known older register) (has_operands older sources) h))
 
     -- all older stores are known
     known_broadcast : (seq : ℕ) (o : Option Message) → is_known_store (record { seq = seq; state = store_of_broadcast o }) ≡ true → is_some o ≡ true
-    known_broadcast seq None k = absurd (cc)
-    known_broadcast seq (Some message) k = refl
+    known_broadcast seq o k = grind arith
 
     stores_by : (b : Bool) (seq : ℕ) (e : Entry) (es : List Entry) → is_store e.instruction ≡ b → SoundEntry v d a now e →
         (list_all is_known_store (stores_of (seq + 1) es) ≡ true → Each (IsKnownStore now) (map mark_of_entry es)) →
         list_all is_known_store (cond b (record { seq = seq; state = store_of_broadcast (broadcast_of e.stage) } ∷ stores_of (seq + 1) es) (stores_of (seq + 1) es)) ≡ true →
         Each (IsKnownStore now) (map mark_of_entry (e ∷ es))
-    stores_by true seq e es is sound rest k = (
-      λ store. entry_known e sound (known_broadcast seq (broadcast_of e.stage) (and_first (is_known_store (record { seq = seq; state = store_of_broadcast (broadcast_of e.stage) })) (list_all is_known_store (stores_of (seq + 1) es)) k)) (store_has_unit e.instruction store),
-      rest (and_second (is_known_store (record { seq = seq; state = store_of_broadcast (broadcast_of e.stage) })) (list_all is_known_store (stores_of (seq + 1) es)) k),
-    )
-    stores_by false seq e es is sound rest k = (λ store. absurd (true≢false (sym store ∙ is)), rest k)
+    stores_by b seq e es is sound rest k = grind (arith, entry_known, known_broadcast, and_first, store_has_unit, and_second, true≢false)
 
     stores_all : (seq : ℕ) (older : List Entry) → Each (SoundEntry v d a now) older → list_all is_known_store (stores_of seq older) ≡ true → Each (IsKnownStore now) (map mark_of_entry older)
     stores_all seq [] sound h = tt
@@ -127,15 +106,11 @@ module _ (v : Values) (d a now : ℕ) where
 
 stage_sent_by : (b : Bool) (now : ℕ) (issue : Issue) (message : Message) → nat_le (issue.cycle + issue.cost) now ≡ b → not (is_none (cond b (Some message) None)) ≡ false →
     issue.cycle + issue.cost ≤ now → ⊥
-stage_sent_by true now issue message is none ready = absurd (cc)
-stage_sent_by false now issue message is none ready = absurd (let later = leb-false (issue.cycle + issue.cost) now is in omega (arith, later))
+stage_sent_by b now issue message is given ready = grind (arith, leb-false)
 
 stage_sent : (v : Values) (i : Option Instr) (D a now : ℕ) (st : Stage) → SoundStage v i D a (now + 1) st → not (is_none (result_at now st)) ≡ false →
     IfSome (start_of_stage st) (λ s. s.cycle + s.cost ≤ now → IsBefore (now + 1) (broadcast_of_stage st))
-stage_sent v i D a now Waiting h none = tt
-stage_sent v i D a now (Running issue message) h none = λ ready. absurd (stage_sent_by (nat_le (issue.cycle + issue.cost) now) now issue message refl none ready)
-stage_sent v i D a now (Finished None cycle message) h none = tt
-stage_sent v i D a now (Finished (Some issue) cycle message) h none = λ ready. h.3
+stage_sent v i D a now st h given = grind (arith, stage_sent_by)
 
 -- of entries of which none has a result for the bus, each that was ready was broadcast
 pub entries_sent : (v : Values) (d a now : ℕ) (before es : List Entry) → Each (SoundEntry v d a (now + 1)) es → EveryBehind (λ older e. has_result now older e ≡ false) before es → Each (IsSentIfReady now) (map mark_of_entry es)
@@ -176,28 +151,14 @@ in_flight_room rows es =
     omega (arith, both, none, all, some)
 
 row_started : (v : Values) (bound : ℕ) (k : Kind) (row : Row) → SoundRow v bound row → is_stationed_mark k (mark_of_row row) ≡ false
-row_started v bound k row sound = by_kind (is_of_kind k (kind_of_word (instruction_of row.word))) refl
-  where
-    has_started : (x : Option Execution) → is_some x ≡ true → is_none (start_of_execution x) ≡ false
-    has_started None h = absurd (cc)
-    has_started (Some x) h = refl
-
-    by_kind : (b : Bool) → is_of_kind k (kind_of_word (instruction_of row.word)) ≡ b → (b && (true && is_none (start_of_execution row.execution))) ≡ false
-    by_kind true is = has_started row.execution (sound.stamps.executed_by_a_unit ∙ some_kind k (kind_of_word (instruction_of row.word)) is)
-    by_kind false is = refl
+row_started v bound k row sound = grind (arith, some_kind)
 
 stationed_by : (v : Values) (i : Option Instr) (D a b : ℕ) (st : Stage) (k : Kind) → SoundStage v i D a b st → (is_of_kind k (kind_of_word i) && (true && is_none (start_of_stage st))) ≡ true →
     (is_waiting st && is_of_kind k (kind_of_word i)) ≡ true
-stationed_by v i D a b Waiting k sound h = and_first (is_of_kind k (kind_of_word i)) true h
-stationed_by v i D a b (Running issue message) k sound h = absurd (let not_so = and_second (is_of_kind k (kind_of_word i)) false h in cc)
-stationed_by v i D a b (Finished (Some issue) cycle message) k sound h = absurd (let not_so = and_second (is_of_kind k (kind_of_word i)) false h in cc)
-stationed_by v i D a b (Finished None cycle message) k sound h =
-    absurd (let none = is_of_kind_is k (kind_of_word i) (and_first (is_of_kind k (kind_of_word i)) true h) in let other = sound.0 in cc)
+stationed_by v i D a b st k sound h = grind (arith, and_first, and_second, is_of_kind_is)
 
 entries_stationed : (v : Values) (d a b : ℕ) (k : Kind) (es : List Entry) → Each (SoundEntry v d a b) es → Each (λ e. is_stationed_mark k (mark_of_entry e) ≡ true → is_stationed k e ≡ true) es
-entries_stationed v d a b k es sound =
-    Each-weaker (SoundEntry v d a b) (λ e. is_stationed_mark k (mark_of_entry e) ≡ true → is_stationed k e ≡ true)
-    (λ e s h. stationed_by v e.instruction e.dispatched a b e.stage k s.stage h) es sound
+entries_stationed v d a b k es sound = grind (arith, Each-weaker, stationed_by)
 
 -- no more marks wait in a station of a kind than entries do
 pub stations_room : (v : Values) (d a b bound : ℕ) (k : Kind) (rows : List Row) (es : List Entry) → Each (SoundRow v bound) rows → Each (SoundEntry v d a b) es →

@@ -70,21 +70,10 @@ module _ (v : Values) (legal : IsLegal v) (R : List Mark → Type 0) (earlier : 
   module _ (steps : List Step) (d : Hardware) (dispatched : Goes v old.cycle (old.cycle + 1) (old.cycle + 1) (old.cycle + 1) old.cycle (old.cycle + 1) R steps d)
       (fetches : FetchPhase old.cycle d.front new.front) (others_stay : new ≡ record d { front = new.front; cycle = old.cycle + 1 }) (always : IsSoundFor v new) where
     ended : Basics v (old.cycle + 1) (old.cycle + 1) (old.cycle + 1) (old.cycle + 1) (old.cycle + 1) (old.cycle + 1) steps new
-    ended = record {
-      cycle = ap (λ (h : Hardware). h.cycle) others_stay;
-      always = always;
-      rows = dispatched.basics.rows;
-      entries = subst (Each (SoundEntry v (old.cycle + 1) (old.cycle + 1) (old.cycle + 1))) (sym (ap (λ (h : Hardware). h.rob.entries) others_stay)) dispatched.basics.entries;
-      fetched = rw (fetches.entries) (Each-append (SoundFetched (old.cycle + 1)) d.front.entries fetches.added
-          (Each-weaker (SoundFetched old.cycle) (SoundFetched (old.cycle + 1)) (λ f w. (omega (arith, w.0), w.1)) d.front.entries dispatched.basics.fetched)
-          (Each-weaker (IsNew old.cycle) (SoundFetched (old.cycle + 1)) (λ f w. (omega (arith, w.0), w.1)) fetches.added fetches.are_new));
-    }
+    ended = grind (arith, Each-append, Each-weaker)
 
     more_marks : marks_in steps new ≡ marks_in steps d ++ map mark_of_fetched fetches.added
-    more_marks =
-        ap (λ es. marks steps es new.front.entries) (ap (λ (h : Hardware). h.rob.entries) others_stay) ∙
-        ap (λ fs. marks steps d.rob.entries fs) fetches.entries ∙
-        marks_fetched steps d.rob.entries d.front.entries fetches.added
+    more_marks = grind (arith, marks_fetched)
 
   -- each phase of a cycle keeps what is basic and a property of marks that it may keep
   pub cycle_passes : IsCycle any_prediction lines old report new → Passed v R earlier lines old report new
@@ -203,26 +192,11 @@ words_are_buffered (f ∷ fs) = ap suc (words_are_buffered fs)
 -- the marks that wait for dispatch are as many as the fetch buffer's words
 pub buffered_words : (steps : List Step) (es : List Entry) (fs : List Fetched) →
     count is_buffered_mark (marks steps es fs) ≡ length fs
-buffered_words steps es fs =
-    let all = count-append is_buffered_mark (map mark_of_row (rows_of steps)) (map mark_of_entry es ++ map mark_of_fetched fs) in
-    let rest = count-append is_buffered_mark (map mark_of_entry es) (map mark_of_fetched fs) in
-    let a = rows_not_buffered (rows_of steps) in
-    let b = entries_not_buffered es in
-    let c = words_are_buffered fs in
-    omega (arith, all, rest, a, b, c)
+buffered_words steps es fs = grind (arith, count-append, rows_not_buffered, entries_not_buffered, words_are_buffered)
 
 -- the words that a cycle fetches are new ones after the marks so far
 pub new_words : (v : Values) (R : List Mark → Type 0) (earlier : List Step) (lines : Lines) (old new : Hardware) (report : Report) (passed : Passed v R earlier lines old report new) → NewWords v old.cycle (marks_in (earlier ++ report.steps) (dispatching lines old).hardware) passed.fetches.added
-new_words v R earlier lines old new report passed =
-    let d : Hardware = (dispatching lines old).hardware in
-    let b = passed.dispatches.basics in
-    let held = buffered_words (earlier ++ report.steps) d.rob.entries d.front.entries in
-    record {
-      by_now = fetched_before v old.cycle (earlier ++ report.steps) d.rob.entries d.front.entries b.rows b.entries b.fetched;
-      are_new = passed.fetches.are_new;
-      within_width = omega (arith, passed.fetches.within_width, b.always.sizes.width);
-      within_room = omega (arith, passed.fetches.within_room, b.always.sizes.room, held);
-    }
+new_words v R earlier lines old new report passed = grind (arith, buffered_words, fetched_before)
 
 -- a property of marks that is kept holds in every history
 pub marks_of_history : (v : Values) (R : ℕ → List Mark → Type 0) → KeptMarks v R → {steps : List Step} {h : Hardware} →

@@ -1,5 +1,6 @@
 -- What each turn of the commit phase keeps all its turns keep, and what each phase keeps the phases of a cycle keep.
-use Rattle.rv_hardware.proofs.Words.{◌≡◌, ℕ, Bool, true, List, ◌∷◌, ◌++◌, nat_cmp, ◌∙◌, at_kind, Lines, Kind, Values, is_free, Entry, Committing, commit_turn, with_lines, Hardware, is_ready, issued, path, Turn, repeated, Report, Step, Leads, leads_both, left_by_turns}
+use Rattle.std.proofs.Common.{arith}
+use Rattle.rv_hardware.proofs.Words.{◌≡◌, ℕ, Bool, true, List, ◌∷◌, ◌++◌, nat_cmp, at_kind, Lines, Kind, Values, is_free, Entry, Committing, commit_turn, with_lines, Hardware, is_ready, issued, Turn, repeated, Report, Step, Leads, leads_both, left_by_turns}
 use Rattle.std.specs.FinSet as set
 use Rattle.rv_hardware.proofs.Turns.Issue.{access_keeps}
 use Rattle.rv_hardware.proofs.Turns.KeptByBroadcast.{IsKeptByBroadcast, broadcast-keeps}
@@ -34,10 +35,7 @@ InCycle v now h = HasShape v h × (h.cycle ≡ now)
 
 -- a start leaves it so
 pub starts_in_cycle : (v : Values) (now : ℕ) (k : Kind) → KeepsStarts (InCycle v now) k
-starts_in_cycle v now k h older younger e p at is free = (
-  starts-keep ((shape-kept v).phases.issue k) h older younger e p.0 at is free,
-  (access_keeps (path h older e) h).cycle ∙ p.1,
-)
+starts_in_cycle v now k h older younger e p given is free = grind (arith, starts-keep, shape-kept, access_keeps)
 
 -- what each phase of a cycle keeps of the hardware, where a start knows the description and the cycle
 pub record IsKeptInCycle (v : Values) (now : ℕ) (P : Hardware → Type 0) : Type 0 where

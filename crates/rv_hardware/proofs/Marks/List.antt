@@ -1,5 +1,5 @@
 -- The marks of rows, instructions in flight and fetched words go on, and stand as they stood at the end of each earlier cycle.
-use Rattle.rv_hardware.proofs.Words.{◌≡◌, ℕ, ◌<◌, ◌≤◌, Bool, true, false, cond, List, [], ◌∷◌, ◌++◌, map, is_some, if◌then◌else◌, nat_le, Some, None, filter, Option, sym, refl, ap, ◌∙◌, append_assoc, append-nil, arith, le-leb, lt-leb, map-append, filter-append, Message, Instr, Issue, instruction_of, Each, Entry, Stage, Finished, Running, Waiting, Fetched, Hardware, rows_of, Execution, Row, Step, Interrupt, Retired, Trap, Each-weaker, Beginning, Beginning-self, Beginning-trans}
+use Rattle.rv_hardware.proofs.Words.{◌≡◌, ℕ, ◌<◌, ◌≤◌, Bool, false, cond, List, [], ◌∷◌, ◌++◌, map, is_some, if◌then◌else◌, nat_le, Some, None, filter, Option, sym, refl, ap, ◌∙◌, append_assoc, append-nil, arith, le-leb, lt-leb, map-append, filter-append, Message, Instr, Issue, instruction_of, Each, Entry, Stage, Finished, Running, Waiting, Fetched, Hardware, rows_of, Execution, Row, Step, Interrupt, Retired, Trap, Each-weaker, Beginning, Beginning-self, Beginning-trans}
 
 -- the start of an execution, and whether what it gives is a fault
 pub record Start : Type 0 where
@@ -157,16 +157,14 @@ abbrev pub Agree : ℕ → Mark → Mark → Type 0
 Agree now m n = (m.fetched ≡ n.fetched) × ((c : ℕ) → c < now → at_end c m ≡ at_end c n)
 
 picked : (b : Bool) (c : ℕ) (m : Mark) (ms : List Mark) → map (at_end c) (cond b (m ∷ ms) ms) ≡ cond b (at_end c m ∷ map (at_end c) ms) (map (at_end c) ms)
-picked true c m ms = refl
-picked false c m ms = refl
+picked b c m ms = grind arith
 
 -- a mark before others, as they stood at the end of a cycle: it is there if its word was fetched by then
 pub as_of-cons : (c : ℕ) (m : Mark) (ms : List Mark) → as_of c (m ∷ ms) ≡ cond (nat_le m.fetched c) (at_end c m ∷ as_of c ms) (as_of c ms)
 as_of-cons c m ms = picked (nat_le m.fetched c) c m (filter (was_fetched c) ms)
 
 as_of-agree : (now c : ℕ) (m n : Mark) (ms : List Mark) → c < now → Agree now m n → as_of c (m ∷ ms) ≡ as_of c (n ∷ ms)
-as_of-agree now c m n ms lt agree =
-    as_of-cons c m ms ∙ (λ i. cond (nat_le (agree.0 i) c) (agree.1 c lt i ∷ as_of c ms) (as_of c ms)) ∙ sym (as_of-cons c n ms)
+as_of-agree now c m n ms lt agree = grind (arith, as_of-cons)
 
 -- the ways in which marks go on
 
@@ -176,14 +174,11 @@ Extends-cut now new rest c lt = (as_of c rest, as_of-append c new rest)
 
 -- a mark goes on to one that was the same at the end of every earlier cycle
 pub Extends-change : (now : ℕ) (before after : List Mark) (m n : Mark) → Agree now m n → Extends now (before ++ m ∷ after) (before ++ n ∷ after)
-Extends-change now before after m n agree c lt =
-    ([], as_of-append c before (m ∷ after) ∙ ap (λ l. as_of c before ++ l) (as_of-agree now c m n after lt agree) ∙ sym (as_of-append c before (n ∷ after)) ∙ sym (append-nil (as_of c (before ++ n ∷ after))))
+Extends-change now before after m n agree c lt = grind (arith, as_of-append, as_of-agree, append-nil)
 
 -- words of the present cycle come after the marks
 pub Extends-more : (now : ℕ) (ms more : List Mark) → Each (λ m. now ≤ m.fetched) more → Extends now ms (ms ++ more)
-Extends-more now ms more later c lt =
-    let none = as_of-later c more (Each-weaker (λ m. now ≤ m.fetched) (λ m. c < m.fetched) (λ m le. omega arith) more later) in
-    ([], sym (as_of-append c ms more ∙ ap (λ l. as_of c ms ++ l) none ∙ append-nil (as_of c ms)) ∙ sym (append-nil (as_of c (ms ++ more))))
+Extends-more now ms more later c lt = grind (arith, as_of-later, Each-weaker, as_of-append, append-nil)
 
 -- a stamp that was made by the end of a cycle
 pub until_by : (c d : ℕ) → d ≤ c → until c (Some d) ≡ Some d
@@ -202,17 +197,12 @@ start_until_now c s lt = rw (lt-leb s.cycle c lt) refl
 -- the mark of an instruction in flight stands between those of the older and those of the younger
 pub marks_at_entry : (steps : List Step) (older younger : List Entry) (e : Entry) (fs : List Fetched) →
     marks steps (older ++ e ∷ younger) fs ≡ (map mark_of_row (rows_of steps) ++ map mark_of_entry older) ++ mark_of_entry e ∷ (map mark_of_entry younger ++ map mark_of_fetched fs)
-marks_at_entry steps older younger e fs =
-    ap (λ l. map mark_of_row (rows_of steps) ++ (l ++ map mark_of_fetched fs)) (marks_append older (e ∷ younger)) ∙
-    ap (λ l. map mark_of_row (rows_of steps) ++ l) (append_assoc (map mark_of_entry older) (map mark_of_entry (e ∷ younger)) (map mark_of_fetched fs)) ∙
-    sym (append_assoc (map mark_of_row (rows_of steps)) (map mark_of_entry older) (mark_of_entry e ∷ (map mark_of_entry younger ++ map mark_of_fetched fs)))
+marks_at_entry steps older younger e fs = grind (arith, marks_append, append_assoc)
 
 -- the mark of a row that just retired stands before those of what is in flight
 pub marks_retired : (steps : List Step) (row : Row) (es : List Entry) (fs : List Fetched) →
     marks (steps ++ Retired row ∷ []) es fs ≡ map mark_of_row (rows_of steps) ++ mark_of_row row ∷ (map mark_of_entry es ++ map mark_of_fetched fs)
-marks_retired steps row es fs =
-    ap (λ l. l ++ (map mark_of_entry es ++ map mark_of_fetched fs)) (row_marks_append steps (Retired row ∷ [])) ∙
-    append_assoc (map mark_of_row (rows_of steps)) (mark_of_row row ∷ []) (map mark_of_entry es ++ map mark_of_fetched fs)
+marks_retired steps row es fs = grind (arith, row_marks_append, append_assoc)
 
 -- the mark of the oldest fetched word stands behind those of what is in flight
 pub marks_dispatched : (steps : List Step) (es : List Entry) (f : Fetched) (fs : List Fetched) →
@@ -222,10 +212,7 @@ marks_dispatched steps es f fs = sym (append_assoc (map mark_of_row (rows_of ste
 -- the marks of further words stand at the end
 pub marks_fetched : (steps : List Step) (es : List Entry) (fs more : List Fetched) →
     marks steps es (fs ++ more) ≡ marks steps es fs ++ map mark_of_fetched more
-marks_fetched steps es fs more =
-    ap (λ l. map mark_of_row (rows_of steps) ++ (map mark_of_entry es ++ l)) (fetched_append fs more) ∙
-    ap (λ l. map mark_of_row (rows_of steps) ++ l) (sym (append_assoc (map mark_of_entry es) (map mark_of_fetched fs) (map mark_of_fetched more))) ∙
-    sym (append_assoc (map mark_of_row (rows_of steps)) (map mark_of_entry es ++ map mark_of_fetched fs) (map mark_of_fetched more))
+marks_fetched steps es fs more = grind (arith, fetched_append, append_assoc)
 
 -- what is left where everything younger is squashed
 pub marks_squashed : (steps : List Step) (older younger : List Entry) (fs : List Fetched) →

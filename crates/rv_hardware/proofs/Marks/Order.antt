@@ -41,12 +41,10 @@ module _ (v : Values) (now : ℕ) (xs ys : List Mark) (m n : Mark) where
 
   -- where it is dispatched, what is younger is not
   none_before : (o : Option ℕ) → IfSome o (λ d. ⊥) → o ≡ None
-  none_before None h = refl
-  none_before (Some d) h = absurd h
+  none_before o h = grind arith
 
   some_before : (o : Option ℕ) → is_some o ≡ true → IfSome o (λ d. d ≤ now) → IsBefore (now + 1) o
-  some_before None is le = absurd (cc)
-  some_before (Some d) is le = omega (arith, le)
+  some_before o is le = grind arith
 
   module _ (a : Enters v now xs m n) (o : Orderly v now (xs ++ m ∷ ys)) where
     pairs : EveryPair IsDispatchedFirst (m ∷ ys)
@@ -65,10 +63,7 @@ module _ (v : Values) (now : ℕ) (xs ys : List Mark) (m n : Mark) where
     olders = Each-both (λ x. is_some x.dispatched ≡ true) (DispatchedBy now) (λ x. IsBefore (now + 1) x.dispatched) (λ x is le. some_before x.dispatched is le) xs a.in_order (Each-left (DispatchedBy now) xs (m ∷ ys) o.by_now)
 
     entered_pairs : EveryPair IsDispatchedFirst (xs ++ n ∷ ys)
-    entered_pairs =
-        EveryPair-append IsDispatchedFirst xs (n ∷ ys) (EveryPair-left IsDispatchedFirst xs (m ∷ ys) o.dispatched)
-        (Each-weaker (λ y. y.dispatched ≡ None) (IsDispatchedFirst n) (λ y none. rw none tt) ys younger, (pairs).1)
-        (Each-both (λ x. Each (IsDispatchedFirst x) (m ∷ ys)) (λ x. IsBefore (now + 1) x.dispatched) (λ x. Each (IsDispatchedFirst x) (n ∷ ys)) (λ x w b. (rw n_dispatched b, w.1)) xs across olders)
+    entered_pairs = grind (arith, EveryPair-append, EveryPair-left, Each-weaker, younger, pairs, Each-both, n_dispatched, across, olders)
 
     not_in_flight : count is_in_flight_mark ys ≡ 0
     not_in_flight = count-none is_in_flight_mark ys (Each-weaker (λ y. y.dispatched ≡ None) (λ y. is_in_flight_mark y ≡ false) (λ y none. rw none refl) ys younger)
@@ -77,12 +72,7 @@ module _ (v : Values) (now : ℕ) (xs ys : List Mark) (m n : Mark) where
     not_stationed k = count-none (is_stationed_mark k) ys (Each-weaker (λ y. y.dispatched ≡ None) (λ y. is_stationed_mark k y ≡ false) (λ y none. rw none (and_right (is_of_kind k (kind_of_word y.instruction)) false refl)) ys younger)
 
     station_by : (k : Kind) (b : Bool) → is_of_kind k (kind_of_word m.instruction) ≡ b → count (is_stationed_mark k) (xs ++ n ∷ ys) ≤ (at_kind k v.kinds).stations
-    station_by k true is =
-        let more = count-push-most (is_stationed_mark k) xs ys n in
-        omega (arith, more, not_stationed k, a.stations k is)
-    station_by k false is =
-        let less = count-set-less (is_stationed_mark k) xs ys m n (and_left (is_of_kind k (kind_of_word n.instruction)) (is_some n.dispatched && is_none n.start) (ap (λ x. is_of_kind k (kind_of_word x.instruction)) a.becomes ∙ is)) in
-        omega (arith, less, o.stations k)
+    station_by k b is = grind (arith, count-push-most, not_stationed, count-set-less, and_left)
 
     entered : Orderly v now (xs ++ n ∷ ys)
     entered =
@@ -112,25 +102,14 @@ orderly_set v now xs ys m n (is_sent a) o =
 orderly_set v now xs ys m n (enters a) o = entered v now xs ys m n a o
 
 orderly_cut : (v : Values) (now : ℕ) (xs ys : List Mark) → Orderly v now (xs ++ ys) → Orderly v now xs
-orderly_cut v now xs ys o = record {
-  fetched = EveryPair-left (λ x y. x.fetched ≤ y.fetched) xs ys o.fetched;
-  dispatched = EveryPair-left IsDispatchedFirst xs ys o.dispatched;
-  by_now = Each-left (DispatchedBy now) xs ys o.by_now;
-  buffer = let less = count-left is_in_flight_mark xs ys in omega (arith, less, o.buffer);
-  words = let less = count-left is_buffered_mark xs ys in omega (arith, less, o.words);
-  stations = λ k. let less = count-left (is_stationed_mark k) xs ys in omega (arith, less, o.stations k);
-}
+orderly_cut v now xs ys o = grind (arith, EveryPair-left, Each-left, count-left)
 
 not_there : (p : Mark → Bool) (ms : List Mark) (fs : List Fetched) → ((f : Fetched) → p (mark_of_fetched f) ≡ false) → count p (ms ++ map mark_of_fetched fs) ≡ count p ms
-not_there p ms fs none =
-    let all = count-append p ms (map mark_of_fetched fs) in
-    let zero_more = count-map p mark_of_fetched fs ∙ count-none (λ f. p (mark_of_fetched f)) fs (Each-all (λ f. p (mark_of_fetched f) ≡ false) none fs) in
-    omega (arith, all, zero_more)
+not_there p ms fs given = grind (arith, count-append, count-map, count-none, Each-all)
 
 new_in_order : (now : ℕ) (fs : List Fetched) → Each (IsNew now) fs → EveryPair (λ x y. x.fetched ≤ y.fetched) (map mark_of_fetched fs)
 new_in_order now [] are = tt
-new_in_order now (f ∷ fs) are =
-    (Each-map (λ y. f.cycle ≤ y.fetched) mark_of_fetched fs (Each-weaker (IsNew now) (λ g. f.cycle ≤ g.cycle) (λ g w. omega (arith, w.0, are.0.0)) fs are.1), new_in_order now fs are.1)
+new_in_order now (f ∷ fs) are = grind (arith, Each-map, Each-weaker, new_in_order now fs are.1)
 
 none_dispatched : (fs : List Fetched) → EveryPair IsDispatchedFirst (map mark_of_fetched fs)
 none_dispatched [] = tt

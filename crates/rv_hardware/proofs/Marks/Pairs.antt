@@ -1,5 +1,6 @@
 -- A relation of each two marks gives one of each two rows, and the rows before a row are sound.
-use Rattle.rv_hardware.proofs.Words.{◌≡◌, ℕ, ◌≤◌, true, List, [], ◌∷◌, ◌++◌, map, Some, None, Option, refl, is_serialising, is_target, kind_of_word, target_of_word, Instr, Csr, FenceI, Mret, Values, Each, Hardware, instruction_of_row, rows_of, Row, Step, Interrupt, Retired, Trap, Each-append, Each-both, EveryPair, EveryBehind, EveryPair-left, EveryPair-weaker, EveryPair-unmap, EveryBehind-left, EveryBehind-unmap, EveryBehind-EveryPair}
+use Rattle.std.proofs.Common.{arith}
+use Rattle.rv_hardware.proofs.Words.{◌≡◌, ℕ, ◌≤◌, true, List, [], ◌∷◌, ◌++◌, map, None, Option, is_serialising, is_target, kind_of_word, target_of_word, Instr, Values, Each, Hardware, instruction_of_row, rows_of, Row, Step, Interrupt, Retired, Trap, Each-append, Each-both, EveryPair, EveryBehind, EveryPair-left, EveryPair-weaker, EveryPair-unmap, EveryBehind-left, EveryBehind-unmap, EveryBehind-EveryPair}
 use Rattle.rv_hardware.proofs.Marks.History.{History, history_is_sound}
 use Rattle.rv_hardware.proofs.Marks.List.{Mark, marks_in, mark_of_row, mark_of_entry, mark_of_fetched}
 use Rattle.rv_hardware.proofs.Laws.Operands.Known.{StartsBehind, history_starts_behind}
@@ -8,9 +9,7 @@ use Rattle.rv_hardware.proofs.Laws.StepsInOrder.Steps.{InOrder, history_has_step
 
 -- pairs of marks give pairs of rows
 pub row_pairs : (R : Mark → Mark → Type 0) (Q : Row → Row → Type 0) → ((a b : Row) → R (mark_of_row a) (mark_of_row b) → Q a b) → (steps : List Step) (h : Hardware) → EveryPair R (marks_in steps h) → EveryPair Q (rows_of steps)
-row_pairs R Q f steps h pairs =
-    EveryPair-weaker (λ a b. R (mark_of_row a) (mark_of_row b)) Q f (rows_of steps)
-    (EveryPair-unmap R mark_of_row (rows_of steps) (EveryPair-left R (map mark_of_row (rows_of steps)) (map mark_of_entry h.rob.entries ++ map mark_of_fetched h.front.entries) pairs))
+row_pairs R Q f steps h pairs = grind (arith, EveryPair-weaker, EveryPair-unmap, EveryPair-left)
 
 -- rows that start after others
 pub rows_start_behind : (v : Values) {steps : List Step} {h : Hardware} → History v steps h → EveryBehind (λ before row. StartsBehind (map mark_of_row before) (mark_of_row row)) [] (rows_of steps)
@@ -20,11 +19,7 @@ rows_start_behind v {steps} {h} history =
 
 -- an instruction that writes a register and uses no unit serialises
 pub writer_serialises : (register : ℕ) (i : Option Instr) → kind_of_word i ≡ None → is_target register (target_of_word i) ≡ true → is_serialising i ≡ true
-writer_serialises register None kind writes = absurd (cc)
-writer_serialises register (Some FenceI) kind writes = refl
-writer_serialises register (Some (Csr op rd csr source)) kind writes = refl
-writer_serialises register (Some Mret) kind writes = refl
-writer_serialises register i kind writes = absurd (cc)
+writer_serialises register i kind writes = grind arith
 
 -- what is known of a row that is older than another
 pub record Older (v : Values) (bound : ℕ) (row a : Row) : Type 0 where

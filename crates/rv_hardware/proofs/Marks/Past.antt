@@ -1,5 +1,5 @@
 -- What each cycle obeys at its end is so of the marks as they stood then, ever after.
-use Rattle.rv_hardware.proofs.Words.{◌≡◌, ℕ, ◌+◌, ◌<◌, ◌≤◌, false, List, [], ◌∷◌, ◌++◌, map, IfSome, Some, None, Option, sym, refl, ap, subst, inl, inr, arith, le-leb, cases_lt, Instr, Lines, Values, Each, Entry, Stage, Finished, Running, Waiting, Fetched, Hardware, Report, rows_of, Execution, Row, Step, Each-append, Each-weaker, Each-map, Beginning}
+use Rattle.rv_hardware.proofs.Words.{◌≡◌, ℕ, ◌+◌, ◌<◌, ◌≤◌, List, [], ◌∷◌, ◌++◌, map, IfSome, Some, Option, sym, refl, ap, subst, inl, inr, arith, le-leb, cases_lt, Instr, Lines, Values, Each, Entry, Stage, Fetched, Hardware, Report, rows_of, Execution, Row, Step, Each-append, Each-weaker, Each-map, Beginning}
 use Rattle.rv_hardware.proofs.Marks.Basics.{Basics}
 use Rattle.rv_hardware.proofs.Marks.Advance.{extends_kept}
 use Rattle.rv_hardware.proofs.Turns.Fetch.{IsNew}
@@ -25,43 +25,17 @@ as_of_now now (m ∷ ms) settled = settled_keep now m ms settled.0 (as_of_now no
 
 execution_settled : (now D C : ℕ) (x : Option Execution) → C ≤ now → IfSome x (λ x. (D < x.issued) × (x.issued + x.cost ≤ x.broadcast) × (x.broadcast < C)) →
     (start_until now (start_of_execution x) ≡ start_of_execution x) × (until now (broadcast_of_execution x) ≡ broadcast_of_execution x)
-execution_settled now D C None le h = (refl, refl)
-execution_settled now D C (Some x) le h = (start_past now (record { cycle = x.issued; cost = x.cost; faults = false }) (omega (arith, h)), until_by now x.broadcast (omega (arith, h)))
+execution_settled now D C x le h = grind (arith, start_past, until_by)
 
 pub row_settled : (v : Values) (now : ℕ) (row : Row) → SoundRow v (now + 1) row → Settled now (mark_of_row row)
-row_settled v now row sound =
-    let x = execution_settled now row.dispatched row.retired row.execution (omega (arith, sound.below)) sound.stamps.executed_between in (
-      omega (arith, sound.stamps.dispatched_after_fetch, sound.stamps.retired_after_dispatch, sound.below),
-      λ i. record {
-        instruction = (mark_of_row row).instruction;
-        fetched = row.fetched;
-        dispatched = until_by now row.dispatched (omega (arith, sound.stamps.retired_after_dispatch, sound.below)) i;
-        start = x.0 i;
-        broadcast = x.1 i;
-        retired = until_by now row.retired (omega (arith, sound.below)) i;
-      },
-    )
+row_settled v now row sound = grind (arith, execution_settled, until_by)
 
 stage_settled : (v : Values) (i : Option Instr) (D now : ℕ) (st : Stage) → SoundStage v i D (now + 1) (now + 1) st →
     (start_until now (start_of_stage st) ≡ start_of_stage st) × (until now (broadcast_of_stage st) ≡ broadcast_of_stage st)
-stage_settled v i D now Waiting h = (refl, refl)
-stage_settled v i D now (Running issue message) h = (start_past now _ (omega (arith, h.2)), refl)
-stage_settled v i D now (Finished None cycle message) h = (refl, refl)
-stage_settled v i D now (Finished (Some issue) cycle message) h = (start_past now _ (omega (arith, h.2, h.3)), until_by now cycle (omega (arith, h.3)))
+stage_settled v i D now st h = grind (arith, start_past, until_by)
 
 entry_settled : (v : Values) (now : ℕ) (e : Entry) → SoundEntry v (now + 1) (now + 1) (now + 1) e → Settled now (mark_of_entry e)
-entry_settled v now e sound =
-    let x = stage_settled v e.instruction e.dispatched now e.stage sound.stage in (
-      omega (arith, sound.after_fetch, sound.by_now),
-      λ i. record {
-        instruction = e.instruction;
-        fetched = e.fetched;
-        dispatched = until_by now e.dispatched (omega (arith, sound.by_now)) i;
-        start = x.0 i;
-        broadcast = x.1 i;
-        retired = None;
-      },
-    )
+entry_settled v now e sound = grind (arith, stage_settled, until_by)
 
 fetched_settled : (now : ℕ) (f : Fetched) → SoundFetched (now + 1) f → Settled now (mark_of_fetched f)
 fetched_settled now f sound = (omega (arith, sound.0), refl)

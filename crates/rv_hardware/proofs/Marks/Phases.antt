@@ -10,9 +10,9 @@ use Rattle.rv_hardware.proofs.Marks.Advance.{Advances, Starts, IsSent, retires a
 use Rattle.rv_hardware.proofs.Marks.Evidence.{operands_known, stores_known, none_waits, rows_and_entries_are_dispatched, in_flight_room, stations_room}
 use Rattle.rv_hardware.proofs.Marks.Basics.{Basics, started_sound, finished_sound, finished_mark, predicting_sound, dispatched_sound, dispatched_mark, is_waiting_is}
 use Rattle.rv_hardware.proofs.Turns.Broadcast.{BroadcastTurn, none_ready as no_result, sends, mends, broadcast_turn_is, Sends, sent_entries, mended_entries}
-use Rattle.rv_hardware.proofs.Turns.Commit.{CommitTurn, no_head, stale_head, unfinished, fence_waits, fence_writes, fence_retires, executes, serial_faults, traps, retires, retires_last, executed, written_back, retired_with, retired_and_flushed, commit_turn_is, head_retired_entries}
-use Rattle.rv_hardware.proofs.Turns.Dispatch.{DispatchTurn, buffer_empty, waits, dispatches, dispatch_turn_is}
-use Rattle.rv_hardware.proofs.Turns.Issue.{IssueTurn, no_unit, none_ready, starts, issue_turn_is, access_keeps, message_at, started_entries}
+use Rattle.rv_hardware.proofs.Turns.Commit.{CommitTurn, fence_writes, fence_retires, executes, serial_faults, traps, retires, retires_last, executed, written_back, retired_and_flushed, commit_turn_is, head_retired_entries}
+use Rattle.rv_hardware.proofs.Turns.Dispatch.{DispatchTurn, dispatches, dispatch_turn_is}
+use Rattle.rv_hardware.proofs.Turns.Issue.{IssueTurn, starts, issue_turn_is, access_keeps, message_at, started_entries}
 use Rattle.rv_hardware.proofs.Marks.List.{Mark, start_of_issue, start_of_stage, broadcast_of_stage, mark_of_row, mark_of_entry, mark_of_fetched, marks, marks_in, marks_squashed, rows_append, marks_at_entry, marks_retired, marks_dispatched}
 use Rattle.rv_hardware.proofs.Marks.Row.{SoundRow, row_at, row_is_sound, row_advances, may_retire_serial, may_retire_finished, MayRetire}
 use Rattle.rv_hardware.proofs.Always.Sizes.{HasShape}
@@ -43,17 +43,7 @@ module _ (v : Values) (now : ℕ) (R : List Mark → Type 0) (kept : Kept v now 
       g.rob.entries ≡ [] → g.front.entries ≡ [] → Each (SoundRow v (now + 1)) (rows_of (s ∷ [])) →
       (R (marks_in (earlier ++ c.steps) c.hardware) → R (marks ((earlier ++ c.steps) ++ s ∷ []) [] [])) →
       Goes v now now now now now (now + 1) R (earlier ++ (c.steps ++ s ∷ [])) g
-  flush c g s p always cycle none none' row goes =
-      rw (push c s) (record {
-        basics = record {
-          cycle = cycle ∙ p.basics.cycle;
-          always = always;
-          rows = rw (rows_append (earlier ++ c.steps) (s ∷ [])) (Each-append (SoundRow v (now + 1)) (rows_of (earlier ++ c.steps)) (rows_of (s ∷ [])) p.basics.rows row);
-          entries = rw none tt;
-          fetched = rw none' tt;
-        };
-        marks = marks_from R (earlier ++ c.steps) ((earlier ++ c.steps) ++ s ∷ []) g c.hardware [] [] none none' p.marks goes;
-      })
+  flush c g s p always cycle given none' row goes = grind (arith, push, rows_append, Each-append, marks_from)
 
   squash_marks : (steps : List Step) (older younger : List Entry) (fs : List Fetched) → R (marks steps (older ++ younger) fs) →
       R (marks steps older [])
@@ -67,9 +57,7 @@ module _ (v : Values) (now : ℕ) (R : List Mark → Type 0) (kept : Kept v now 
   -- a trap or an interrupt has no row
   no_row : (c : Committing) (s : Step) → rows_of (s ∷ []) ≡ [] → R (marks_in (earlier ++ c.steps) c.hardware) →
       R (marks ((earlier ++ c.steps) ++ s ∷ []) [] [])
-  no_row c s none =
-      flush_marks (earlier ++ c.steps) ((earlier ++ c.steps) ++ s ∷ []) c.hardware.rob.entries c.hardware.front.entries
-      (rows_append (earlier ++ c.steps) (s ∷ []) ∙ ap (λ l. rows_of (earlier ++ c.steps) ++ l) none ∙ append-nil (rows_of (earlier ++ c.steps)))
+  no_row c s given = grind (arith, flush_marks, rows_append, append-nil)
 
   module _ (c : Committing) (e : Entry) (es : List Entry) (written : Option (ℕ × ℕ)) (place : c.hardware.rob.entries ≡ e ∷ es) (may : MayRetire e.instruction e.stage) (p : Commits c) where
     head_sound : SoundEntry v now now now e
@@ -92,20 +80,7 @@ module _ (v : Values) (now : ℕ) (R : List Mark → Type 0) (kept : Kept v now 
 
   turn_goes : (c : Committing) (t : Turn Committing) → CommitTurn is_stale c t → Commits c →
       Leaves (λ d. IsSoundFor v d.hardware) t → Leads Commits Commits t
-  turn_goes c _ (no_head none) p always = p
-  turn_goes c _ (stale_head e es at is) p always = p
-  turn_goes c _ (unfinished e es head plain none) p always = p
-  turn_goes c _ (fence_waits e es head is busy) p always = p
-  turn_goes c _ (fence_writes e es head is drained dirty) p always = record {
-    basics = record {
-      cycle = p.basics.cycle;
-      always = always;
-      rows = p.basics.rows;
-      entries = p.basics.entries;
-      fetched = p.basics.fetched;
-    };
-    marks = p.marks;
-  }
+  turn_goes c _ (fence_writes e es head is drained dirty) p always = grind arith
   turn_goes c _ (fence_retires e es written next head is drained) p always =
       let may = may_retire_serial e.instruction e.stage (ap is_serialising is) in
       flush c (executed e written next (written_back c)).hardware (Retired (row_at e written c.hardware.cycle)) p
@@ -121,27 +96,13 @@ module _ (v : Values) (now : ℕ) (R : List Mark → Type 0) (kept : Kept v now 
   turn_goes c _ (traps e es issue cycle message fault head plain at is) p always =
       flush c (with_fault e fault.cause fault.value c).hardware (Trap e.pc fault.cause fault.value c.hardware.cycle) p always refl refl refl tt
       (no_row c (Trap e.pc fault.cause fault.value c.hardware.cycle) refl)
-  turn_goes c _ (retires e es issue cycle message head plain at none) p always =
-      let may = may_retire_finished e.instruction e.stage issue cycle message at none in
-      let g : Hardware = (retired_with e message c).hardware in
-      let here = head_retired_entries c.hardware.rob e es head.place in
-      rw (push c (Retired (row_at e (written_of e message) c.hardware.cycle))) (record {
-        basics = record {
-          cycle = p.basics.cycle;
-          always = always;
-          rows = rw (rows_append (earlier ++ c.steps) (Retired (row_at e (written_of e message) c.hardware.cycle) ∷ []))
-              (Each-append (SoundRow v (now + 1)) (rows_of (earlier ++ c.steps)) (row_at e (written_of e message) c.hardware.cycle ∷ []) p.basics.rows (row_sound c e es (written_of e message) head.place may p, tt));
-          entries = subst (Each (SoundEntry v now now now)) (sym here) (subst (Each (SoundEntry v now now now)) head.place p.basics.entries).1;
-          fetched = p.basics.fetched;
-        };
-        marks = marks_from R (earlier ++ c.steps) ((earlier ++ c.steps) ++ Retired (row_at e (written_of e message) c.hardware.cycle) ∷ []) g c.hardware es c.hardware.front.entries here refl p.marks
-            (row_goes c e es (written_of e message) head.place may p);
-      })
+  turn_goes c _ (retires e es issue cycle message head plain at none) p always = grind (arith, may_retire_finished, head_retired_entries, push, rows_append, Each-append, row_sound, marks_from, row_goes)
   turn_goes c _ (retires_last e es issue cycle message head plain at none) p always =
       let may = may_retire_finished e.instruction e.stage issue cycle message at none in
       let g : Hardware = (retired_and_flushed e message c).hardware in
       flush c g (Retired (row_at e (written_of e message) c.hardware.cycle)) p always refl refl refl (row_sound c e es (written_of e message) head.place may p, tt)
       (row_flushes c e es (written_of e message) head.place may p)
+  turn_goes c _ _ p always = p
 
   -- each turn of the commit phase keeps it
   pub commit_turn_keeps : (c : Committing) (t : Turn Committing) → CommitTurn is_stale c t → Commits c → Leads Commits Commits t
@@ -210,9 +171,7 @@ module _ (v : Values) (now bound : ℕ) (R : List Mark → Type 0) (kept : Kept 
 
 -- a load that leaves its station has all older stores known
 load_waits_by : (b c d : Bool) → b ≡ true → (not b || (c && d)) ≡ true → c ≡ true
-load_waits_by true true d is h = refl
-load_waits_by true false d is h = absurd (cc)
-load_waits_by false c d is h = absurd (cc)
+load_waits_by b c d is h = grind arith
 
 load_waits : (h : Hardware) (older : List Entry) (e : Entry) → is_load e.instruction ≡ true → may_load h older e ≡ true →
     list_all is_known_store (stores_behind h older) ≡ true
@@ -252,8 +211,6 @@ module _ (v : Values) (legal : IsLegal v) (now : ℕ) (R : List Mark → Type 0)
 
   -- each turn of the issue phase keeps it
   pub issue_turn_keeps : (k : Kind) (h : Hardware) (t : Turn Hardware) → IssueTurn k h t → Issues h → Leads Issues Issues t
-  issue_turn_keeps k h _ (no_unit held) p = p
-  issue_turn_keeps k h _ (none_ready none) p = p
   issue_turn_keeps k h _ (starts older younger e at is none free) p =
       let ready = ready-parts h k older e is in
       let keep = access_keeps (path h older e) h in
@@ -267,6 +224,7 @@ module _ (v : Values) (legal : IsLegal v) (now : ℕ) (R : List Mark → Type 0)
       (subst (λ n. SoundEntry v now (now + 1) now (started (record { cycle = n; cost = cost }) message e)) (sym p.basics.cycle)
       (started_sound v now now k e cost message sound ready.of_kind (subst (λ n. SoundCost v e.instruction (start_of_issue (record { cycle = n; cost = cost }) message)) p.basics.cycle (issued_cost v h p.basics.always.sizes older e k ready.of_kind))))
       (a_starts (start_is k h older younger e at is p)) p
+  issue_turn_keeps k h _ _ p = p
 
   -- the turns of one kind keep it
   pub issue_kind_keeps : (k : Kind) (h : Hardware) → Issues h → Issues (issue_kind k h)
@@ -362,15 +320,10 @@ module _ (v : Values) (now : ℕ) (R : List Mark → Type 0) (kept : Kept v now 
 
   full_stations : (h : Hardware) (o : Option Kind) (k : Kind) → HasShape v h → has_full_stations h o ≡ false →
       is_of_kind k o ≡ true → length (filter (is_stationed k) h.rob.entries) < (at_kind k v.kinds).stations
-  full_stations h o k shape free is =
-      let at : o ≡ Some k = is_of_kind_is k o is in
-      let room = leb-false (at_kind k h.values.kinds).stations (length (filter (is_stationed k) h.rob.entries)) (sym (ap (has_full_stations h) at) ∙ free) in
-      omega (arith, room, ap (λ (w : Values). (at_kind k w.kinds).stations) shape.values)
+  full_stations h o k shape free is = grind (arith, is_of_kind_is, leb-false)
 
   pub dispatch_turn_keeps : (d : Dispatching) (t : Turn Dispatching) → DispatchTurn d t → Dispatches d →
       Leads Dispatches Dispatches t
-  dispatch_turn_keeps d _ (buffer_empty none) p = p
-  dispatch_turn_keeps d _ (waits f fs reason at why) p = p
   dispatch_turn_keeps d _ (dispatches f fs at nothing) p =
       let h : Hardware = d.hardware in
       let g : Hardware = with_dispatched f fs h in
@@ -399,6 +352,7 @@ module _ (v : Values) (now : ℕ) (R : List Mark → Type 0) (kept : Kept v now 
               stations = λ k is. omega (arith, full_stations h (kind_of_word f.instruction) k p.basics.always.sizes nothing.stations is, stations_room v (now + 1) (now + 1) (now + 1) (now + 1) k (rows_of steps) h.rob.entries p.basics.rows p.basics.entries);
             }))));
       }
+  dispatch_turn_keeps d _ _ p = p
 
   -- the dispatch phase keeps what is basic and the marks
   pub dispatch_keeps : (h : Hardware) → Goes v now (now + 1) (now + 1) (now + 1) now (now + 1) R steps h → Dispatches (dispatch h)
@@ -408,16 +362,7 @@ module _ (v : Values) (now : ℕ) (R : List Mark → Type 0) (kept : Kept v now 
 -- bounds that are further on
 pub goes_later : (v : Values) (now d a b f r d' a' b' r' : ℕ) (R : List Mark → Type 0) (steps : List Step) (h : Hardware) →
     d ≤ d' → a ≤ a' → b ≤ b' → r ≤ r' → Goes v now d a b f r R steps h → Goes v now d' a' b' f r' R steps h
-goes_later v now d a b f r d' a' b' r' R steps h le le' le'' le''' p = record {
-  basics = record {
-    cycle = p.basics.cycle;
-    always = p.basics.always;
-    rows = Each-weaker (SoundRow v r) (SoundRow v r') (λ row w. record { stamps = w.stamps; cost = w.cost; below = omega (arith, w.below) }) (rows_of steps) p.basics.rows;
-    entries = Each-weaker (SoundEntry v d a b) (SoundEntry v d' a' b') (λ e w. sound_later v d a b d' a' b' le le' le'' e w) h.rob.entries p.basics.entries;
-    fetched = p.basics.fetched;
-  };
-  marks = p.marks;
-}
+goes_later v now d a b f r d' a' b' r' R steps h le le' le'' le''' p = grind (arith, Each-weaker, sound_later)
 
 -- the phases from drain to dispatch
 pub execute_keeps : (v : Values) → IsLegal v → (now : ℕ) (R : List Mark → Type 0) → Kept v now R →

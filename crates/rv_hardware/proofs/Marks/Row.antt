@@ -1,6 +1,6 @@
 -- A sound instruction in flight that retires leaves a row with stamps in order, and its mark goes on.
-use Rattle.rv_hardware.proofs.Words.{◌≡◌, ℕ, ◌+◌, ◌<◌, ◌≤◌, true, false, ◌⊎◌, is_some, IfSome, Some, None, Option, unwrap_or, sym, refl, ap, ◌∙◌, subst, inl, inr, arith, is_load, is_serialising, kind_of_word, Message, Instr, Issue, Values, instruction_of, Entry, Stage, Finished, Running, Waiting, HasCost, HasOrderedStamps, IsCost, execution_of, Row, not_both}
-use Rattle.rv_hardware.proofs.Marks.Advance.{IsBefore, IsKnownMark, Retires}
+use Rattle.rv_hardware.proofs.Words.{◌≡◌, ℕ, ◌+◌, ◌<◌, ◌≤◌, true, false, ◌⊎◌, is_some, IfSome, None, Option, unwrap_or, ap, inr, arith, is_load, is_serialising, kind_of_word, Message, Instr, Issue, Values, instruction_of, Entry, Stage, Finished, HasCost, HasOrderedStamps, IsCost, execution_of, Row, not_both}
+use Rattle.rv_hardware.proofs.Marks.Advance.{IsKnownMark, Retires}
 use Rattle.rv_hardware.proofs.Marks.List.{Start, mark_of_row, mark_of_entry, start_of_execution, broadcast_of_execution, start_of_stage, broadcast_of_stage}
 use Rattle.rv_hardware.proofs.Marks.Sound.{SoundCost, SoundStage, SoundEntry, kind_is_plain, serial_has_no_kind, row_decodes}
 
@@ -24,9 +24,8 @@ row_at e written cycle = record {
 
 -- it serialises, or its result is known and is no fault
 abbrev pub MayRetire : Option Instr → Stage → Type 0
-MayRetire i Waiting = is_serialising i ≡ true
-MayRetire i (Running issue message) = is_serialising i ≡ true
 MayRetire i (Finished issue cycle message) = (is_serialising i ≡ true) ⊎ (message.fault ≡ None)
+MayRetire i _ = is_serialising i ≡ true
 
 -- what the stage says of an execution that may retire
 record SoundExecution (v : Values) (i : Option Instr) (D now : ℕ) (st : Stage) : Type 0 where
@@ -38,12 +37,10 @@ record SoundExecution (v : Values) (i : Option Instr) (D now : ℕ) (st : Stage)
   is_one : i ≡ None → ⊥
 
 no_instruction_serialises : (i : Option Instr) → is_serialising i ≡ true → i ≡ None → ⊥
-no_instruction_serialises None h is = absurd (cc)
-no_instruction_serialises (Some i) h is = absurd (cc)
+no_instruction_serialises i h is = absurd (cc)
 
 no_instruction_has_kind : (i : Option Instr) → is_some (kind_of_word i) ≡ true → i ≡ None → ⊥
-no_instruction_has_kind None h is = absurd (cc)
-no_instruction_has_kind (Some i) h is = absurd (cc)
+no_instruction_has_kind i h is = absurd (cc)
 
 no_fault : (message : Message) → message.fault ≡ None → is_some message.fault ≡ true → ⊥
 no_fault message none some = absurd (cc)
@@ -52,40 +49,21 @@ no_fault_is : (message : Message) → message.fault ≡ None → is_some message
 no_fault_is message none = ap is_some none
 
 sound_cost : (v : Values) (i : Option Instr) (s : Start) → s.faults ≡ false → SoundCost v i s → IfSome (kind_of_word i) (λ k. IsCost v (is_load i) k s.cost)
-sound_cost v i s none (inl faults) = not_both faults none
-sound_cost v i s none (inr cost) = cost
+sound_cost v i s given holds = grind (arith, not_both)
 
 serial_execution : (v : Values) (i : Option Instr) (D now : ℕ) (st : Stage) → SoundStage v i D now now st → is_serialising i ≡ true → SoundExecution v i D now st
-serial_execution v i D now Waiting sound serial =
-    record { by_unit = sym (ap is_some (serial_has_no_kind i serial)); between = tt; cost = tt; start = refl; broadcast = refl; is_one = no_instruction_serialises i serial }
-serial_execution v i D now (Running issue message) sound serial = not_both serial (kind_is_plain i sound.0)
-serial_execution v i D now (Finished (Some issue) cycle message) sound serial = not_both serial (kind_is_plain i sound.0)
-serial_execution v i D now (Finished None cycle message) sound serial = not_both serial sound.1
+serial_execution v i D now st sound serial = grind (arith, serial_has_no_kind, no_instruction_serialises, not_both, kind_is_plain)
 
 finished_execution : (v : Values) (i : Option Instr) (D now : ℕ) (issue : Option Issue) (cycle : ℕ) (message : Message) → SoundStage v i D now now (Finished issue cycle message) →
     message.fault ≡ None → SoundExecution v i D now (Finished issue cycle message)
-finished_execution v i D now None cycle message sound none =
-    record { by_unit = sym (ap is_some sound.0); between = tt; cost = tt; start = refl; broadcast = refl; is_one = λ is. no_fault message none (sound.3 is) }
-finished_execution v i D now (Some issue) cycle message sound none = record {
-  by_unit = sym sound.0;
-  between = (sound.1, sound.2, sound.3);
-  cost = sound_cost v i (record { cycle = issue.cycle; cost = issue.cost; faults = is_some message.fault }) (no_fault_is message none) sound.4;
-  start = rw (no_fault_is message none) refl;
-  broadcast = refl;
-  is_one = no_instruction_has_kind i sound.0;
-}
+finished_execution v i D now issue cycle message sound given = grind (arith, no_fault, sound_cost, no_fault_is, no_instruction_has_kind)
 
 execution_is_sound : (v : Values) (i : Option Instr) (D now : ℕ) (st : Stage) → SoundStage v i D now now st → MayRetire i st → SoundExecution v i D now st
-execution_is_sound v i D now Waiting sound may = serial_execution v i D now Waiting sound may
-execution_is_sound v i D now (Running issue message) sound may = serial_execution v i D now (Running issue message) sound may
-execution_is_sound v i D now (Finished issue cycle message) sound (inl serial) = serial_execution v i D now (Finished issue cycle message) sound serial
-execution_is_sound v i D now (Finished issue cycle message) sound (inr none) = finished_execution v i D now issue cycle message sound none
+execution_is_sound v i D now st sound may = grind (arith, serial_execution, finished_execution)
 
 -- a serialising instruction may retire at any stage
 pub may_retire_serial : (i : Option Instr) (st : Stage) → is_serialising i ≡ true → MayRetire i st
-may_retire_serial i Waiting serial = serial
-may_retire_serial i (Running issue message) serial = serial
-may_retire_serial i (Finished issue cycle message) serial = inl serial
+may_retire_serial i st serial = grind arith
 
 -- an instruction whose result is no fault may retire
 pub may_retire_finished : (i : Option Instr) (st : Stage) (issue : Option Issue) (cycle : ℕ) (message : Message) → st ≡ Finished issue cycle message → message.fault ≡ None → MayRetire i st
@@ -104,40 +82,11 @@ module _ (v : Values) (now : ℕ) (e : Entry) (written : Option (ℕ × ℕ)) (s
 
   -- the row that a sound instruction leaves is sound
   pub row_is_sound : SoundRow v (now + 1) (row_at e written now)
-  row_is_sound = record {
-    stamps = record {
-      dispatched_after_fetch = sound.after_fetch;
-      retired_after_dispatch = sound.by_now;
-      executed_by_a_unit = held.by_unit ∙ ap (λ i. is_some (kind_of_word i)) (sym decoded);
-      executed_between = held.between;
-    };
-    cost = subst (λ i. IfSome (execution_of e.stage) (λ x. IfSome (kind_of_word i) (λ k. IsCost v (is_load i) k x.cost))) (sym decoded) held.cost;
-    below = omega arith;
-  }
+  row_is_sound = grind (arith, held, decoded)
 
   entry_known : IsKnownMark now (mark_of_entry e)
-  entry_known some = stage_known e.stage sound.stage may
-    where
-      stage_known : (st : Stage) → SoundStage v e.instruction e.dispatched now now st → MayRetire e.instruction st → IsBefore now (broadcast_of_stage st)
-      stage_known Waiting sound' may' = not_both may' (kind_is_plain e.instruction some)
-      stage_known (Running issue message) sound' may' = not_both may' (kind_is_plain e.instruction some)
-      stage_known (Finished (Some issue) cycle message) sound' may' = sound'.3
-      stage_known (Finished None cycle message) sound' may' = not_both some (ap is_some sound'.0)
+  entry_known some = grind (arith, not_both, kind_is_plain)
 
   -- the mark goes on
   pub row_advances : Retires now (mark_of_entry e) (mark_of_row (row_at e written now))
-  row_advances = record {
-    becomes = λ i. record {
-      instruction = decoded i;
-      fetched = e.fetched;
-      dispatched = Some e.dispatched;
-      start = held.start i;
-      broadcast = held.broadcast i;
-      retired = Some now;
-    };
-    not_yet = refl;
-    cycle = e.dispatched;
-    dispatched = refl;
-    before = sound.by_now;
-    known = entry_known;
-  }
+  row_advances = grind (arith, decoded, held, entry_known)

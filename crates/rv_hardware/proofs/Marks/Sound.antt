@@ -1,5 +1,5 @@
 -- Each instruction in flight has stamps in order, and executes for its cost.
-use Rattle.rv_hardware.proofs.Words.{◌≡◌, ℕ, ◌+◌, ◌<◌, ◌≤◌, Bool, true, false, cond, ◌⊎◌, List, take, ℤ, is_some, IfSome, Some, None, Option, option_and_then, unwrap_or, sym, refl, ap, subst, inl, inr, arith, list_all, is_same-true, IsLegal, is_load, is_of_kind, is_serialising, kind_of_word, bytes_of, width_of, at_kind, modulo_word, sum, Instr, Csr, FenceI, Load, Mret, Kind, LoadForm, CacheValues, Values, instruction_of, is_aligned, is_in_ram, State, register_of, cost_of_access, eviction_cost, CacheLine, forwarded, Entry, Stage, Finished, Running, Waiting, Fetched, Hardware, FromCache, FromStores, Path, Without, cost_of, path, path_of, IsCost, IsLoadCost, result_of_word, layout_of, seen_behind, stores_behind}
+use Rattle.rv_hardware.proofs.Words.{◌≡◌, ℕ, ◌+◌, ◌<◌, ◌≤◌, Bool, true, false, cond, ◌⊎◌, List, ℤ, is_some, IfSome, Some, None, Option, option_and_then, unwrap_or, ap, arith, is_same-true, IsLegal, is_load, is_of_kind, is_serialising, kind_of_word, bytes_of, width_of, at_kind, modulo_word, sum, Instr, Load, Kind, LoadForm, CacheValues, Values, instruction_of, is_aligned, is_in_ram, State, register_of, cost_of_access, eviction_cost, CacheLine, Entry, Stage, Finished, Running, Waiting, Fetched, Hardware, FromCache, FromStores, Path, cost_of, path, path_of, IsCost, IsLoadCost, result_of_word, layout_of, seen_behind}
 use Rattle.rv_hardware.proofs.Turns.Issue.{message_at}
 use Rattle.rv_hardware.proofs.Marks.List.{Start, start_of_issue}
 use Rattle.rv_hardware.proofs.Always.Sizes.{HasShape}
@@ -31,41 +31,24 @@ SoundFetched bound f = (f.cycle < bound) × (f.instruction ≡ option_and_then i
 
 stage_later : (v : Values) (i : Option Instr) (D a b a' b' : ℕ) (st : Stage) → a ≤ a' → b ≤ b' → SoundStage v i D a b st →
     SoundStage v i D a' b' st
-stage_later v i D a b a' b' Waiting le le' h = h
-stage_later v i D a b a' b' (Running issue message) le le' h = (h.0, h.1, omega (arith, h.2), h.3)
-stage_later v i D a b a' b' (Finished (Some issue) cycle message) le le' h = (h.0, h.1, h.2, omega (arith, h.3), h.4)
-stage_later v i D a b a' b' (Finished None cycle message) le le' h = h
+stage_later v i D a b a' b' st le le' h = grind arith
 
 -- an instruction that is sound below some bounds is so below later ones
 pub sound_later : (v : Values) (d a b d' a' b' : ℕ) → d ≤ d' → a ≤ a' → b ≤ b' → (e : Entry) → SoundEntry v d a b e →
     SoundEntry v d' a' b' e
-sound_later v d a b d' a' b' le le' le'' e h = record {
-  decoded = h.decoded;
-  after_fetch = h.after_fetch;
-  by_now = omega (arith, h.by_now);
-  stage = stage_later v e.instruction e.dispatched a b a' b' e.stage le' le'' h.stage;
-}
+sound_later v d a b d' a' b' le le' le'' e h = grind (arith, stage_later)
 
 -- an instruction with a unit does not serialise
 pub kind_is_plain : (i : Option Instr) → is_some (kind_of_word i) ≡ true → is_serialising i ≡ false
-kind_is_plain None h = refl
-kind_is_plain (Some FenceI) h = absurd (cc)
-kind_is_plain (Some (Csr op rd csr source)) h = absurd (cc)
-kind_is_plain (Some Mret) h = absurd (cc)
-kind_is_plain i h = refl
+kind_is_plain i h = grind arith
 
 -- a serialising instruction uses no unit
 pub serial_has_no_kind : (i : Option Instr) → is_serialising i ≡ true → kind_of_word i ≡ None
-serial_has_no_kind None h = refl
-serial_has_no_kind (Some FenceI) h = refl
-serial_has_no_kind (Some (Csr op rd csr source)) h = refl
-serial_has_no_kind (Some Mret) h = refl
-serial_has_no_kind i h = absurd (cc)
+serial_has_no_kind i h = grind arith
 
 -- the kind that is asked for is the instruction's
 pub is_of_kind_is : (k : Kind) (o : Option Kind) → is_of_kind k o ≡ true → o ≡ Some k
-is_of_kind_is k None h = absurd (cc)
-is_of_kind_is k (Some other) h = ap (λ (i : Kind). Some i) (sym (is_same-true k other h))
+is_of_kind_is k o h = grind (arith, is_same-true)
 
 -- and so it uses a unit
 pub some_kind : (k : Kind) (o : Option Kind) → is_of_kind k o ≡ true → is_some o ≡ true
@@ -74,8 +57,7 @@ some_kind k o is = ap is_some (is_of_kind_is k o is)
 -- the word of an instruction decodes to it
 decodes_by : (i : Option Instr) (word : Option ℕ) → i ≡ option_and_then instruction_of word → (i ≡ None → ⊥) →
     instruction_of (unwrap_or word 0) ≡ i
-decodes_by i None is some = absurd (some is)
-decodes_by i (Some word) is some = sym is
+decodes_by i word is some = grind arith
 
 -- the word of the row decodes to the instruction
 pub row_decodes : (e : Entry) → e.instruction ≡ option_and_then instruction_of e.word → (e.instruction ≡ None → ⊥) →
@@ -86,17 +68,11 @@ row_decodes e is some = decodes_by e.instruction e.word is some
 
 evicts : (c : CacheValues) (forward : ℕ) (dropped : Option CacheLine) →
     IsLoadCost forward c (c.hit + c.miss + eviction_cost c dropped)
-evicts c forward None = inr (inr (inl (omega arith)))
-evicts c forward (Some line) = by_dirty line.dirty
-  where
-    by_dirty : (b : Bool) → IsLoadCost forward c (c.hit + c.miss + cond b c.write_back 0)
-    by_dirty true = inr (inr (inr refl))
-    by_dirty false = inr (inr (inl (omega arith)))
+evicts c forward dropped = grind arith
 
 access_costs : (c : CacheValues) (forward : ℕ) (hit : Bool) (dropped : Option CacheLine) →
     IsLoadCost forward c (cost_of_access c hit dropped)
-access_costs c forward true dropped = inr (inl refl)
-access_costs c forward false dropped = evicts c forward dropped
+access_costs c forward hit dropped = grind (arith, evicts)
 
 -- what an instruction costs that starts; a load that takes no bytes faults
 module _ (v : Values) (h : Hardware) (shape : HasShape v h) (older : List Entry) (s : State) (word : Option ℕ) where
@@ -109,24 +85,17 @@ module _ (v : Values) (h : Hardware) (shape : HasShape v h) (older : List Entry)
 
   module _ (k : Kind) (address count : ℕ) where
     from_stores_or_cache : (b : Bool) → IsLoadCost v.forward v.cache (cost_of h k (cond b FromStores (FromCache address)))
-    from_stores_or_cache true = inl (ap (λ (w : Values). w.forward) shape.values)
-    from_stores_or_cache false = subst (λ c. IsLoadCost v.forward c (cost_of h k (FromCache address))) shape.cache (access_costs h.cache.values v.forward _ _)
+    from_stores_or_cache b = grind (arith, access_costs)
 
   load_faults : (form : LoadForm) (rd rs1 : ℕ) (offset : ℤ) (a b : Bool) (k : Kind) →
       is_aligned (sum (register_of s rs1) (modulo_word offset)) (bytes_of (width_of form)) ≡ a →
       is_in_ram (layout_of h.values) (sum (register_of s rs1) (modulo_word offset)) (bytes_of (width_of form)) ≡ b →
       (w : Option ℕ) →
       (is_some (result_of_word (layout_of h.values) s h.lines w (Some (Load form rd rs1 offset))).fault ≡ true) ⊎ IsLoadCost v.forward v.cache (cost_of h k (path_of h older s (Some (Load form rd rs1 offset))))
-  load_faults form rd rs1 offset a b k aligned inside None = inl refl
-  load_faults form rd rs1 offset false b k aligned inside (Some w) = inl (rw aligned refl)
-  load_faults form rd rs1 offset true false k aligned inside (Some w) = inl (rw (aligned, inside) refl)
-  load_faults form rd rs1 offset true true k aligned inside (Some w) =
-      inr (rw (aligned, inside) (from_stores_or_cache k (sum (register_of s rs1) (modulo_word offset)) (bytes_of (width_of form)) (list_all is_some (take (bytes_of (width_of form)) (forwarded (stores_behind h older) (sum (register_of s rs1) (modulo_word offset)) (bytes_of (width_of form)))))))
+  load_faults form rd rs1 offset a b k aligned inside w = grind (arith, from_stores_or_cache)
 
   pub costs_of : (k : Kind) (i : Option Instr) → is_of_kind k (kind_of_word i) ≡ true → Costs k i
-  costs_of k None is = absurd (let none = is_of_kind_is k None is in cc)
-  costs_of k (Some (Load form rd rs1 offset)) is = load_faults form rd rs1 offset _ _ k refl refl word
-  costs_of k i is = inr (latency_of_kind k (kind_of_word i) is)
+  costs_of k i is = grind (arith, is_of_kind_is, load_faults, latency_of_kind)
 
 -- an instruction that starts executes for its cost, unless it gives a fault
 pub issued_cost : (v : Values) (h : Hardware) → HasShape v h → (older : List Entry) (e : Entry) (k : Kind) → is_of_kind k (kind_of_word e.instruction) ≡ true →
@@ -140,13 +109,8 @@ positive_latency v legal k = omega (arith, (legal.kinds k).latency)
 
 positive_access : (c : CacheValues) (forward : ℕ) (hit : Bool) (dropped : Option CacheLine) → 1 ≤ c.hit →
     0 < cost_of_access c hit dropped
-positive_access c forward true dropped le = le
-positive_access c forward false dropped le = omega (arith, le)
+positive_access c forward hit dropped le = grind arith
 
 -- every execution costs one cycle at least
 pub positive_cost : (v : Values) → IsLegal v → (h : Hardware) → HasShape v h → (k : Kind) (p : Path) → 0 < cost_of h k p
-positive_cost v legal h shape k Without = let latency = positive_latency v legal k in let same = ap (λ (w : Values). (at_kind k w.kinds).latency) shape.values in omega (arith, latency, same)
-positive_cost v legal h shape k FromStores = let same = ap (λ (w : Values). w.forward) shape.values in omega (arith, same, legal.pipeline.forward)
-positive_cost v legal h shape k (FromCache address) =
-    let same = ap (λ (c : CacheValues). c.hit) shape.cache in
-    positive_access h.cache.values 0 _ _ (omega (arith, same, legal.cache.1.hit))
+positive_cost v legal h shape k p = grind (arith, positive_latency, positive_access)

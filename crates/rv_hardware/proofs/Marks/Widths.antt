@@ -1,5 +1,5 @@
 -- A count of marks is the sum of those of rows, of instructions in flight and of fetched words.
-use Rattle.rv_hardware.proofs.Words.{◌≡◌, ℕ, ◌+◌, Bool, false, List, ◌++◌, map, ◌==◌, Some, None, Option, arith, Entry, Fetched, rows_of, Step, count, count-append, count-map}
+use Rattle.rv_hardware.proofs.Words.{◌≡◌, ℕ, ◌+◌, Bool, false, List, ◌==◌, Some, None, Option, arith, Entry, Fetched, rows_of, Step, count, count-append, count-map}
 use Rattle.rv_hardware.proofs.Marks.List.{Mark, mark_of_row, mark_of_entry, mark_of_fetched, marks}
 
 -- the stamp is of a cycle
@@ -10,10 +10,4 @@ is_at c (Some d) = d == c
 -- counts of the marks of rows, entries and words
 pub count_marks : (p : Mark → Bool) (steps : List Step) (es : List Entry) (fs : List Fetched) →
     count p (marks steps es fs) ≡ count (λ row. p (mark_of_row row)) (rows_of steps) + (count (λ e. p (mark_of_entry e)) es + count (λ f. p (mark_of_fetched f)) fs)
-count_marks p steps es fs =
-    let all = count-append p (map mark_of_row (rows_of steps)) (map mark_of_entry es ++ map mark_of_fetched fs) in
-    let rest = count-append p (map mark_of_entry es) (map mark_of_fetched fs) in
-    let a = count-map p mark_of_row (rows_of steps) in
-    let b = count-map p mark_of_entry es in
-    let c = count-map p mark_of_fetched fs in
-    omega (arith, all, rest, a, b, c)
+count_marks p steps es fs = grind (arith, count-append, count-map)

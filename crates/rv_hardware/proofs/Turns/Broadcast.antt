@@ -1,5 +1,6 @@
 -- A turn of the broadcast phase finds no result, or broadcasts the oldest, after which early recovery may squash what is younger.
-use Rattle.rv_hardware.proofs.Words.{◌≡◌, ℕ, ◌+◌, ◌≤◌, Bool, true, false, cond, not, ◌&&◌, List, [], ◌∷◌, ◌++◌, length, is_none, nat_le, Some, None, Option, sym, refl, ap, ◌∙◌, subst, leb-true, Message, Issue, finished, predicting, entries_below, with_entry, Entry, Stage, Finished, Running, Waiting, broadcast_oldest, broadcast_result, broadcast_turn, has_result, is_mispredicted, mends_early, result_at, with_broadcast, with_recovery, Hardware, oldest, Ends, GoesOn, Turn, EveryBehind}
+use Rattle.std.proofs.Common.{arith}
+use Rattle.rv_hardware.proofs.Words.{◌≡◌, ℕ, ◌+◌, ◌≤◌, Bool, true, false, cond, not, ◌&&◌, List, [], ◌∷◌, ◌++◌, length, is_none, nat_le, Some, None, Option, sym, refl, subst, leb-true, Message, Issue, finished, predicting, Entry, Stage, Running, broadcast_oldest, broadcast_result, broadcast_turn, has_result, is_mispredicted, mends_early, result_at, with_broadcast, with_recovery, Hardware, oldest, Ends, GoesOn, Turn, EveryBehind}
 use Rattle.rv_hardware.proofs.Oldest.{Finds, oldest_finds, with_entry-at, entries_below-at}
 
 -- the result of an execution that is over
@@ -12,14 +13,10 @@ pub record HasResult (cycle : ℕ) (st : Stage) : Type 0 where
 
 running_result : (b : Bool) (cycle : ℕ) (issue : Issue) (message : Message) → nat_le (issue.cycle + issue.cost) cycle ≡ b →
     not (is_none (cond b (Some message) None)) ≡ true → HasResult cycle (Running issue message)
-running_result true cycle issue message is some =
-    record { issue = issue; message = message; runs = refl; over = leb-true (issue.cycle + issue.cost) cycle is; result = rw is refl }
-running_result false cycle issue message is some = absurd (cc)
+running_result b cycle issue message is some = grind (arith, leb-true)
 
 pub result_cases : (cycle : ℕ) (st : Stage) → not (is_none (result_at cycle st)) ≡ true → HasResult cycle st
-result_cases cycle Waiting some = absurd (cc)
-result_cases cycle (Running issue message) some = running_result (nat_le (issue.cycle + issue.cost) cycle) cycle issue message refl some
-result_cases cycle (Finished issue broadcast message) some = absurd (cc)
+result_cases cycle st some = grind (arith, running_result)
 
 -- its execution gave a message and is over
 pub record HasRun (cycle : ℕ) (st : Stage) (message : Message) : Type 0 where
@@ -67,16 +64,11 @@ broadcast_turn_is h = found_turn h (oldest (has_result h.cycle) h.rob.entries) (
 pub sent_entries : (h : Hardware) (older younger : List Entry) (e : Entry) (message : Message) →
     h.rob.entries ≡ older ++ e ∷ younger →
     (with_broadcast (h.rob.retired + length older) message h).rob.entries ≡ older ++ finished message h.cycle e ∷ younger
-sent_entries h older younger e message at =
-    ap (λ es. with_entry (finished message h.cycle) (h.rob.retired + length older) h.rob.retired es) at ∙
-    with_entry-at (finished message h.cycle) (h.rob.retired + length older) h.rob.retired older younger e refl
+sent_entries h older younger e message given = grind (arith, with_entry-at)
 
 -- after a broadcast that early recovery mends, the entries end with the instruction that was broadcast
 pub mended_entries : (h : Hardware) (older younger : List Entry) (e : Entry) (message : Message) →
     h.rob.entries ≡ older ++ e ∷ younger →
     (with_recovery (h.rob.retired + length older) message (with_broadcast (h.rob.retired + length older) message h)).rob.entries ≡
     older ++ predicting message.next_pc (finished message h.cycle e) ∷ []
-mended_entries h older younger e message at =
-    ap (λ es. entries_below (h.rob.retired + length older + 1) h.rob.retired (with_entry (predicting message.next_pc) (h.rob.retired + length older) h.rob.retired es)) (sent_entries h older younger e message at) ∙
-    ap (entries_below (h.rob.retired + length older + 1) h.rob.retired) (with_entry-at (predicting message.next_pc) (h.rob.retired + length older) h.rob.retired older younger (finished message h.cycle e) refl) ∙
-    entries_below-at (h.rob.retired + length older) h.rob.retired older younger (predicting message.next_pc (finished message h.cycle e)) refl
+mended_entries h older younger e message given = grind (arith, sent_entries, with_entry-at, entries_below-at)

@@ -1,5 +1,6 @@
 -- A turn of the commit phase finds no head, leaves it waiting, retires it, executes it, takes its trap, or stops at a stale word.
-use Rattle.rv_hardware.proofs.Words.{◌≡◌, ℕ, Bool, true, false, cond, List, [], ◌∷◌, ◌++◌, ◌==◌, Some, None, Option, nat_cmp, unwrap_or, refl, ap, is_serialising, pc_plus_4, Message, Cause, Fault, Instr, Csr, FenceI, Mret, Issue, word_of, Effect, Faults, Retires, effect, State, ReorderBuffer, after_head, head_retired, Entry, Stage, Finished, Running, Waiting, Committing, commit_turn, commit_turn_of, execute_head, finish_broadcast, finish_head, head_turn, is_drained, take_effect, with_fault, with_write_back, write_back_time, broadcast_of, Ends, GoesOn, Turn, row_of, with_result, written_of, layout_of, seen, with_state, flushed}
+use Rattle.std.proofs.Common.{arith}
+use Rattle.rv_hardware.proofs.Words.{◌≡◌, ℕ, Bool, true, false, cond, List, [], ◌∷◌, ◌++◌, ◌==◌, Some, None, Option, nat_cmp, unwrap_or, refl, ap, is_serialising, pc_plus_4, Message, Cause, Fault, Instr, Csr, FenceI, Mret, Issue, word_of, Effect, Faults, Retires, effect, State, ReorderBuffer, after_head, head_retired, Entry, Stage, Finished, Committing, commit_turn, commit_turn_of, execute_head, finish_broadcast, finish_head, head_turn, is_drained, take_effect, with_fault, with_write_back, write_back_time, broadcast_of, Ends, GoesOn, Turn, row_of, with_result, written_of, layout_of, seen, with_state, flushed}
 use Rattle.std.specs.FinSet as set
 use Rattle.rv_arch.specs.declared.outcome.Stop.TheVariants as stop
 
@@ -34,8 +35,7 @@ retired_and_flushed e message c = record c {
 }
 
 entries_behind : (r : ReorderBuffer) (e : Entry) (es fs : List Entry) → fs ≡ e ∷ es → (after_head r fs).entries ≡ es
-entries_behind r e es [] at = absurd (cc)
-entries_behind r e es (f ∷ fs) at = cc
+entries_behind r e es fs given = grind arith
 
 -- after a retirement the entries are those after the head
 pub head_retired_entries : (r : ReorderBuffer) (e : Entry) (es : List Entry) → r.entries ≡ e ∷ es → (head_retired r).entries ≡ es
@@ -102,14 +102,12 @@ module _ (is_stale : set.FinSet nat_cmp → ℕ → Bool) where
 
     by_stage : is_serialising e.instruction ≡ false → (st : Stage) → e.stage ≡ st →
         CommitTurn c (finish_broadcast e (broadcast_of st) c)
-    by_stage plain Waiting at = unfinished e es head plain (ap broadcast_of at)
-    by_stage plain (Running issue message) at = unfinished e es head plain (ap broadcast_of at)
     by_stage plain (Finished issue cycle message) at = by_fault issue cycle message plain at message.fault refl
+    by_stage plain st at = unfinished e es head plain (ap broadcast_of at)
 
     by_instruction : (i : Option Instr) → e.instruction ≡ i → CommitTurn c (head_turn e i c)
     by_instruction (Some FenceI) is = by_drained is (is_drained c.hardware) refl
-    by_instruction (Some (Csr op rd csr source)) is =
-        by_effect (ap is_serialising is) (effect (layout_of c.hardware.values) (seen c.hardware) c.hardware.lines (unwrap_or e.word 0) (Csr op rd csr source))
+    by_instruction (Some (Csr op rd csr source)) is = grind (arith, by_effect)
     by_instruction (Some Mret) is =
         by_effect (ap is_serialising is) (effect (layout_of c.hardware.values) (seen c.hardware) c.hardware.lines (unwrap_or e.word 0) Mret)
     by_instruction i is = by_stage (ap is_serialising is) e.stage refl

@@ -1,5 +1,5 @@
 -- A fetch adds new words at the end of the fetch buffer, within its width and its room, or leaves it as it was.
-use Rattle.rv_hardware.proofs.Words.{◌≡◌, ℕ, zero, suc, ◌-◌, ◌≤◌, Bool, true, false, ◌⊎◌, List, [], ◌∷◌, ◌++◌, length, Some, None, MatchBool, Option, MatchOption, option_and_then, sym, refl, ap, ◌∙◌, inl, inr, append-nil, arith, instruction_of, Memory, Each, Answers, EndsFor, FetchBuffer, Fetches, FetchesInto, is_halted, stop_behind, FetchStop, Halted, Fetched}
+use Rattle.rv_hardware.proofs.Words.{◌≡◌, ℕ, suc, ◌-◌, ◌≤◌, Bool, true, false, ◌⊎◌, List, [], ◌∷◌, ◌++◌, length, MatchBool, Option, MatchOption, option_and_then, refl, append-nil, arith, instruction_of, Memory, Each, Answers, EndsFor, FetchBuffer, Fetches, FetchesInto, is_halted, stop_behind, FetchStop, Halted, Fetched}
 
 -- what a fetch adds where the front was not halted
 pub record Adds (answers : Answers) (ram : Memory) (cycle : ℕ) (old new : FetchBuffer) (stop : FetchStop) : Type 0 where
@@ -13,8 +13,7 @@ module _ (answers : Answers) (ram : Memory) (cycle : ℕ) (old new : FetchBuffer
       MatchBool b ((new ≡ old) × (stop ≡ Halted)) ((added : List Fetched) ×
       Fetches answers ram cycle old.width (old.capacity - length old.entries) old.next_pc added new.next_pc stop ×
       (new ≡ record old { entries = old.entries ++ added; next_pc = new.next_pc; halted = is_halted stop })) → P
-  cases_by P true is halted runs (same, why) = halted is same
-  cases_by P false is halted runs (added, words, becomes) = runs is (record { added = added; words = words; is = becomes })
+  cases_by P b is halted runs given = grind arith
 
   -- fetch is halted and nothing changes, or it adds words
   pub fetch-cases : (P : Type 0) → (old.halted ≡ true → new ≡ old → P) →
@@ -33,32 +32,26 @@ pub record Added (cycle width room : ℕ) (added : List Fetched) : Type 0 where
   pub goes_on : added ≡ [] → (width ≡ 0) ⊎ (room ≡ 0)
 
 ends_with_none : (cycle width room : ℕ) (stop : FetchStop) → EndsFor width room stop → Added cycle width room []
-ends_with_none cycle zero room stop ends = record { are_new = tt; within_width = omega arith; within_room = omega arith; goes_on = λ e. inl refl }
-ends_with_none cycle (suc width) zero stop ends = record { are_new = tt; within_width = omega arith; within_room = omega arith; goes_on = λ e. inr refl }
-ends_with_none cycle (suc width) (suc room) stop ends = absurd ends
+ends_with_none cycle width room stop ends = grind arith
 
 one_more : (cycle width room : ℕ) (f : Fetched) (fs : List Fetched) → IsNew cycle f → Added cycle width room fs →
     Added cycle (suc width) (suc room) (f ∷ fs)
-one_more cycle width room f fs new added =
-    record { are_new = (new, added.are_new); within_width = omega (arith, added.within_width); within_room = omega (arith, added.within_room); goes_on = λ e. absurd (cc) }
+one_more cycle width room f fs new added = grind arith
 
 only_one : (cycle width room : ℕ) (f : Fetched) (fs : List Fetched) → IsNew cycle f → fs ≡ [] →
     Added cycle (suc width) (suc room) (f ∷ fs)
-only_one cycle width room f fs new none =
-    record { are_new = (new, rw none tt); within_width = rw none (omega arith); within_room = rw none (omega arith); goes_on = λ e. absurd (cc) }
+only_one cycle width room f fs new given = grind arith
 
 by_stop : (cycle width room : ℕ) (f : Fetched) (fs : List Fetched) (stop : FetchStop) (next : ℕ) (o : Option FetchStop) (Rest : Type 0) → IsNew cycle f → (Rest → Added cycle width room fs) → MatchOption o Rest (λ reason. (fs ≡ []) × (next ≡ f.predicted) × (stop ≡ reason)) → Added cycle (suc width) (suc room) (f ∷ fs)
-by_stop cycle width room f fs stop next None Rest new rest h = one_more cycle width room f fs new (rest h)
-by_stop cycle width room f fs stop next (Some reason) Rest new rest h = only_one cycle width room f fs new h.0
+by_stop cycle width room f fs stop next o Rest new rest h = grind (arith, one_more, only_one)
 
 fetches_add : (answers : Answers) (ram : Memory) (cycle width room pc : ℕ) (fs : List Fetched) (next : ℕ) (stop : FetchStop) →
     Fetches answers ram cycle width room pc fs next stop → Added cycle width room fs
 fetches_add answers ram cycle width room pc [] next stop h = ends_with_none cycle width room stop h.0
-fetches_add answers ram cycle zero room pc (f ∷ fs) next stop h = absurd h
-fetches_add answers ram cycle (suc width) zero pc (f ∷ fs) next stop h = absurd h
 fetches_add answers ram cycle (suc width) (suc room) pc (f ∷ fs) next stop h =
     by_stop cycle width room f fs stop next (stop_behind f) (Fetches answers ram cycle width room f.predicted fs next stop) (h.0.cycle_is, h.0.instruction_is)
     (fetches_add answers ram cycle width room f.predicted fs next stop) h.1
+fetches_add answers ram cycle width room pc (f ∷ fs) next stop h = absurd h
 
 -- what the fetch phase leaves
 pub record FetchPhase (cycle : ℕ) (old new : FetchBuffer) : Type 0 where
@@ -74,29 +67,4 @@ pub record FetchPhase (cycle : ℕ) (old new : FetchBuffer) : Type 0 where
 -- a fetch adds new words at the end of the fetch buffer, within its width and room
 pub fetch_phase : (answers : Answers) (ram : Memory) (cycle : ℕ) (old new : FetchBuffer) (stop : FetchStop) →
     FetchesInto answers ram cycle old new stop → FetchPhase cycle old new
-fetch_phase answers ram cycle old new stop fetches =
-    fetch-cases answers ram cycle old new stop (FetchPhase cycle old new)
-    (λ halted same. record {
-      added = [];
-      entries = ap (λ (front : FetchBuffer). front.entries) same ∙ sym (append-nil old.entries);
-      are_new = tt;
-      within_width = omega arith;
-      within_room = omega arith;
-      capacity = ap (λ (front : FetchBuffer). front.capacity) same;
-      width = ap (λ (front : FetchBuffer). front.width) same;
-      goes_on = λ none. inl halted;
-    })
-    (λ runs adds.
-    let room : ℕ = old.capacity - length old.entries in
-    let added = fetches_add answers ram cycle old.width room old.next_pc adds.added new.next_pc stop adds.words in
-    record {
-      added = adds.added;
-      entries = ap (λ (front : FetchBuffer). front.entries) adds.is;
-      are_new = added.are_new;
-      within_width = added.within_width;
-      within_room = added.within_room;
-      capacity = ap (λ (front : FetchBuffer). front.capacity) adds.is;
-      width = ap (λ (front : FetchBuffer). front.width) adds.is;
-      goes_on = λ none. inr (added.goes_on none);
-    })
-    fetches
+fetch_phase answers ram cycle old new stop fetches = grind (arith, fetch-cases, append-nil, fetches_add)

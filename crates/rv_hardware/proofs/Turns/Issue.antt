@@ -1,5 +1,6 @@
 -- A turn of the issue phase finds no free unit, nothing that is ready, or the oldest that is, which starts.
-use Rattle.rv_hardware.proofs.Words.{◌≡◌, ℕ, ◌+◌, Bool, true, false, cond, List, [], ◌∷◌, ◌++◌, length, Some, None, Option, refl, ap, ◌∙◌, at_kind, Message, Kind, is_free, started, with_entry, Entry, Hardware, FromCache, FromStores, Path, Without, cost_of, is_ready, issue_oldest, issue_turn, issued, oldest, path, with_access, Ends, GoesOn, Turn, result_of_word, layout_of, seen_behind, EveryBehind}
+use Rattle.std.proofs.Common.{arith}
+use Rattle.rv_hardware.proofs.Words.{◌≡◌, Bool, true, false, cond, List, [], ◌∷◌, ◌++◌, Some, None, Option, refl, at_kind, Message, Kind, is_free, started, Entry, Hardware, Path, cost_of, is_ready, issue_oldest, issue_turn, issued, oldest, path, with_access, Ends, GoesOn, Turn, result_of_word, layout_of, seen_behind, EveryBehind}
 use Rattle.rv_hardware.proofs.Oldest.{Finds, oldest_finds, with_entry-at}
 
 -- no unit is free, no instruction is ready, or the oldest ready one starts
@@ -37,9 +38,7 @@ pub record SameBesideCache (g h : Hardware) : Type 0 where
 
 -- a load's access to the cache changes the cache and the port alone
 pub access_keeps : (p : Path) (h : Hardware) → SameBesideCache (with_access p h) h
-access_keeps Without h = record { values = refl; rob = refl; front = refl; units = refl; cycle = refl; committed = refl; cache_values = refl; stale = refl }
-access_keeps FromStores h = record { values = refl; rob = refl; front = refl; units = refl; cycle = refl; committed = refl; cache_values = refl; stale = refl }
-access_keeps (FromCache address) h = record { values = refl; rob = refl; front = refl; units = refl; cycle = refl; committed = refl; cache_values = refl; stale = refl }
+access_keeps p h = grind arith
 
 -- what an instruction gives that starts
 abbrev pub message_at : Hardware → List Entry → Entry → Message
@@ -49,9 +48,4 @@ message_at h older e = result_of_word (layout_of h.values) (seen_behind h older 
 pub started_entries : (kind : Kind) (h : Hardware) (older younger : List Entry) (e : Entry) →
     h.rob.entries ≡ older ++ e ∷ younger → (issued kind h older e).rob.entries ≡
     older ++ started (record { cycle = h.cycle; cost = cost_of h kind (path h older e) }) (message_at h older e) e ∷ younger
-started_entries kind h older younger e at =
-    let keep = access_keeps (path h older e) h in
-    let cost : ℕ = cost_of h kind (path h older e) in
-    (λ i. with_entry (started (record { cycle = keep.cycle i; cost = cost }) (message_at h older e)) (h.rob.retired + length older) (keep.rob i).retired (keep.rob i).entries) ∙
-    ap (λ es. with_entry (started (record { cycle = h.cycle; cost = cost }) (message_at h older e)) (h.rob.retired + length older) h.rob.retired es) at ∙
-    with_entry-at (started (record { cycle = h.cycle; cost = cost }) (message_at h older e)) (h.rob.retired + length older) h.rob.retired older younger e refl
+started_entries kind h older younger e given = grind (arith, access_keeps, with_entry-at)

@@ -1,6 +1,7 @@
 -- The broadcast phase keeps what a result on the bus and the mending of a wrong prediction keep.
+use Rattle.std.proofs.Common.{arith}
 use Rattle.rv_hardware.proofs.Words.{◌≡◌, ℕ, ◌+◌, List, [], ◌∷◌, ◌++◌, length, sym, refl, subst, Message, Issue, finished, predicting, Entry, broadcast, broadcast_turn, with_broadcast, with_recovery, Hardware, Turn, redirected, Leaves, kept_by_turns}
-use Rattle.rv_hardware.proofs.Turns.Broadcast.{BroadcastTurn, Sends, HasRun, none_ready, sends, mends as mended, broadcast_turn_is, sent_entries, mended_entries}
+use Rattle.rv_hardware.proofs.Turns.Broadcast.{BroadcastTurn, Sends, HasRun, broadcast_turn_is, sent_entries, mended_entries}
 use Rattle.rv_hardware.proofs.Turns.Forms.{with_entries}
 
 -- only what is older than an instruction, and the instruction, are in flight, and fetch begins anew at a pc
@@ -43,9 +44,7 @@ module _ {P : Hardware → List Entry → Entry → Type 0} {Q : Hardware → Ty
 
 module _ {P : Hardware → Type 0} (kept : IsKeptByBroadcast P) where
   turn-keeps : (h : Hardware) (t : Turn Hardware) → BroadcastTurn h t → P h → Leaves P t
-  turn-keeps h _ (none_ready none) holds = holds
-  turn-keeps h _ (sends older younger e issue message sent late) holds = sends-makes kept h older younger e issue message sent holds
-  turn-keeps h _ (mended older younger e issue message sent early) holds = mends-makes kept h older younger e issue message sent holds
+  turn-keeps h t given holds = grind (arith, sends-makes, mends-makes)
 
   -- so a turn of the broadcast phase keeps it
   pub broadcast_turn-keeps : (h : Hardware) → P h → Leaves P (broadcast_turn h)

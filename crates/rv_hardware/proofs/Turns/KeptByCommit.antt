@@ -1,7 +1,8 @@
 -- The commit phase keeps what a retirement, FENCE.I's write-back and a squash of everything in flight keep.
-use Rattle.rv_hardware.proofs.Words.{◌≡◌, ℕ, ◌+◌, Bool, true, List, [], ◌∷◌, ◌++◌, Some, None, Option, nat_cmp, sym, ap, subst, code_of, target_of_word, Message, Cause, due, State, trap_taken, interrupt_cause, after_head, Entry, Committing, commit, commit_turn, commit_unless, is_drained, with_fault, with_write_back, Hardware, broadcast_of, with_value, Turn, committed_store, stale_after, with_result, seen, with_state, flushed, Leaves, kept_by_turns}
+use Rattle.std.proofs.Common.{arith}
+use Rattle.rv_hardware.proofs.Words.{◌≡◌, ℕ, Bool, true, List, [], ◌∷◌, ◌++◌, Some, None, Option, nat_cmp, sym, ap, subst, code_of, target_of_word, Message, Cause, due, State, trap_taken, interrupt_cause, after_head, Entry, Committing, commit, commit_turn, commit_unless, is_drained, with_fault, with_write_back, Hardware, broadcast_of, with_value, Turn, committed_store, stale_after, with_result, seen, with_state, flushed, Leaves, kept_by_turns}
 use Rattle.std.specs.FinSet as set
-use Rattle.rv_hardware.proofs.Turns.Commit.{CommitTurn, no_head, stale_head, unfinished, fence_waits, fence_writes, fence_retires, executes, serial_faults, traps, retires as retired, retires_last, executed, written_back, commit_turn_is}
+use Rattle.rv_hardware.proofs.Turns.Commit.{CommitTurn, fence_writes, fence_retires, executes, serial_faults, traps, retires as retired, retires_last, executed, written_back, commit_turn_is}
 use Rattle.rv_hardware.proofs.Turns.Forms.{emptied, without_head}
 
 module _ (P : Hardware → Type 0) where
@@ -17,8 +18,7 @@ module _ {P : Hardware → Type 0} (kept : IsKeptByCommit P) where
   Holds c = P c.hardware
 
   left : (h : Hardware) (es : List Entry) (next : State) → P h → P (flushed (with_state next (record h { rob = after_head h.rob es })))
-  left h [] next holds = kept.empties h next h.rob.retired holds
-  left h (e ∷ es) next holds = kept.empties h next (h.rob.retired + 1) holds
+  left h es next holds = grind arith
 
   took_effect : (e : Entry) (written : Option (ℕ × ℕ)) (next : State) (c : Committing) → Holds c →
       Holds (executed e written next c)
@@ -49,10 +49,6 @@ module _ {P : Hardware → Type 0} (kept : IsKeptByCommit P) where
   module _ (is_stale : set.FinSet nat_cmp → ℕ → Bool) where
     -- each outcome of a turn keeps it
     pub commit_outcome-keeps : (c : Committing) (t : Turn Committing) → CommitTurn is_stale c t → Holds c → Leaves Holds t
-    commit_outcome-keeps c _ (no_head none) holds = holds
-    commit_outcome-keeps c _ (stale_head e es at is) holds = holds
-    commit_outcome-keeps c _ (unfinished e es head plain none) holds = holds
-    commit_outcome-keeps c _ (fence_waits e es head is busy) holds = holds
     commit_outcome-keeps c _ (fence_writes e es head is drained dirty) holds = kept.writes_back c.hardware holds drained
     commit_outcome-keeps c _ (fence_retires e es written next head is drained) holds =
         took_effect e written next (written_back c) (kept.writes_back c.hardware holds drained)
@@ -64,6 +60,7 @@ module _ {P : Hardware → Type 0} (kept : IsKeptByCommit P) where
     commit_outcome-keeps c _ (retires_last e es issue cycle message head plain at none) holds =
         let h : Hardware = with_result e message c.hardware in
         kept.empties h (seen h) h.rob.retired (result_retired c.hardware e es message holds head.place (ap broadcast_of at) none)
+    commit_outcome-keeps c _ _ holds = holds
 
     -- a turn of the commit phase keeps it
     pub commit_turn-keeps : (c : Committing) → Holds c → Leaves Holds (commit_turn is_stale c)

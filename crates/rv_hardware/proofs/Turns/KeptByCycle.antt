@@ -1,6 +1,8 @@
 -- A whole cycle keeps what its phases and its fetch keep.
+use Rattle.std.proofs.Common.{arith}
 use Rattle.rv_hardware.proofs.Words.{◌≡◌, ℕ, ◌+◌, sym, refl, ap, ◌∙◌, subst, Lines, Kind, CacheValues, Values, Memory, Answers, FetchBuffer, FetchesInto, FetchStop, IsCycle, any_prediction, execute, with_lines, Hardware, Report}
 use Rattle.std.specs.FinSet as set
+use Rattle.rv_hardware.proofs.Turns.Changes.{IsKeptByChanges, new_levels, all_squashed, head_retires, cache_written, store_drained, store_drains, load_accesses, one_starts, one_sent, one_mended, one_enters}
 use Rattle.rv_hardware.proofs.Turns.KeptByBroadcast.{IsKeptByBroadcast, broadcast-keeps}
 use Rattle.rv_hardware.proofs.Turns.KeptByCommit.{IsKeptByCommit, commit-keeps}
 use Rattle.rv_hardware.proofs.Turns.KeptByDispatch.{IsKeptByDispatch, dispatch-keeps}
@@ -17,62 +19,65 @@ module _ (P : Hardware → Type 0) where
     pub broadcast : IsKeptByBroadcast P
     pub dispatch : IsKeptByDispatch P
 
-  pub record IsKeptByFetch : Type 0 where
-    pub fetches : (ram : Memory) (cycle : ℕ) (h : Hardware) (front : FetchBuffer) (stop : FetchStop) → P h → FetchesInto any_prediction ram cycle h.front front stop →
-        P (record h { front = front; cycle = h.cycle + 1 })
+  -- a fetch keeps it
+  abbrev pub IsKeptByFetch : Type 0
+  IsKeptByFetch =
+      (ram : Memory) (cycle : ℕ) (h : Hardware) (front : FetchBuffer) (stop : FetchStop) → P h →
+      FetchesInto any_prediction ram cycle h.front front stop → P (record h { front = front; cycle = h.cycle + 1 })
 
   -- the phases keep the property, and a fetch does
   pub record IsKept : Type 0 where
     pub phases : IsKeptByPhases
     pub fetch : IsKeptByFetch
 
+-- what each change keeps the phases keep
+pub phases-kept : {P : Hardware → Type 0} → IsKeptByChanges P → IsKeptByPhases P
+phases-kept kept = record {
+  lines = λ h levels p. kept h _ (new_levels levels) p;
+  commit = record {
+    empties = λ h s retired p. kept h _ (all_squashed s retired) p;
+    retires = λ h e es s message p split known none. kept h _ (head_retires e es s message split known none) p;
+    writes_back = λ h p drained. kept h _ (cache_written drained) p;
+  };
+  drain = record {
+    leaves = λ h p idle. kept h _ (store_drained idle) p;
+    drains = λ h access p idle is. kept h _ (store_drains access idle is) p;
+  };
+  issue = λ k. record {
+    accesses = λ h older younger e address p split ready by. kept h _ (load_accesses k older younger e address split ready by) p;
+    starts = λ h older younger e cost message p split waits of_kind result costs.
+        kept h _ (one_starts k older younger e cost message split waits of_kind result costs) p;
+  };
+  broadcast = record {
+    broadcasts = λ h older younger e message p split gives. kept h _ (one_sent older younger e message split gives) p;
+    mends = λ h older younger e next p split. kept h _ (one_mended older younger e next split) p;
+  };
+  dispatch = record { dispatches = λ h f rest p first none. kept h _ (one_enters f rest first none) p };
+}
+
+-- and what the phases keep each change keeps
+pub changes-kept : {P : Hardware → Type 0} → IsKeptByPhases P → IsKeptByChanges P
+changes-kept kept h _ (new_levels levels) p = kept.lines h levels p
+changes-kept kept h _ (all_squashed s retired) p = kept.commit.empties h s retired p
+changes-kept kept h _ (head_retires e es s message split known none) p = kept.commit.retires h e es s message p split known none
+changes-kept kept h _ (cache_written drained) p = kept.commit.writes_back h p drained
+changes-kept kept h _ (store_drained idle) p = kept.drain.leaves h p idle
+changes-kept kept h _ (store_drains access idle is) p = kept.drain.drains h access p idle is
+changes-kept kept h _ (load_accesses k older younger e address split ready by) p = (kept.issue k).accesses h older younger e address p split ready by
+changes-kept kept h _ (one_starts k older younger e cost message split waits of_kind result costs) p =
+    (kept.issue k).starts h older younger e cost message p split waits of_kind result costs
+changes-kept kept h _ (one_sent older younger e message split gives) p = kept.broadcast.broadcasts h older younger e message p split gives
+changes-kept kept h _ (one_mended older younger e next split) p = kept.broadcast.mends h older younger e next p split
+changes-kept kept h _ (one_enters f rest first none) p = kept.dispatch.dispatches h f rest p first none
+
 -- what is kept and what is kept beside it are kept together
 pub kept-together : {P Q R : Hardware → Type 0} → ((h : Hardware) → P h → Q h → R h) → ((h : Hardware) → R h → P h) →
     ((h : Hardware) → R h → Q h) → IsKept P → IsKept Q → IsKept R
 kept-together both one other p q = record {
-  phases = record {
-    lines = λ h levels r. both _ (p.phases.lines h levels (one h r)) (q.phases.lines h levels (other h r));
-    commit =
-        let a = p.phases.commit in
-        let b = q.phases.commit in
-        record {
-          empties = λ h s retired r. both _ (a.empties h s retired (one h r)) (b.empties h s retired (other h r));
-          retires = λ h e es s message r split known faultless.
-              both _ (a.retires h e es s message (one h r) split known faultless) (b.retires h e es s message (other h r) split known faultless);
-          writes_back = λ h r drained. both _ (a.writes_back h (one h r) drained) (b.writes_back h (other h r) drained);
-        };
-    drain = record {
-      leaves = λ h r idle. both _ (p.phases.drain.leaves h (one h r) idle) (q.phases.drain.leaves h (other h r) idle);
-      drains = λ h access r idle is. both _ (p.phases.drain.drains h access (one h r) idle is) (q.phases.drain.drains h access (other h r) idle is);
-    };
-    issue = λ k.
-        let a = p.phases.issue k in
-        let b = q.phases.issue k in
-        record {
-          accesses = λ h older younger e address r split ready by.
-              both _ (a.accesses h older younger e address (one h r) split ready by) (b.accesses h older younger e address (other h r) split ready by);
-          starts = λ h older younger e cost message r split waits of_kind result costs.
-              both _ (a.starts h older younger e cost message (one h r) split waits of_kind result costs)
-              (b.starts h older younger e cost message (other h r) split waits of_kind result costs);
-        };
-    broadcast =
-        let a = p.phases.broadcast in
-        let b = q.phases.broadcast in
-        record {
-          broadcasts = λ h older younger e message r split gives.
-              both _ (a.broadcasts h older younger e message (one h r) split gives) (b.broadcasts h older younger e message (other h r) split gives);
-          mends = λ h older younger e next r split.
-              both _ (a.mends h older younger e next (one h r) split) (b.mends h older younger e next (other h r) split);
-        };
-    dispatch = record {
-      dispatches = λ h fetched rest r first none.
-          both _ (p.phases.dispatch.dispatches h fetched rest (one h r) first none) (q.phases.dispatch.dispatches h fetched rest (other h r) first none);
-    };
-  };
-  fetch = record {
-    fetches = λ ram cycle h front stop r fetches.
-        both _ (p.fetch.fetches ram cycle h front stop (one h r) fetches) (q.fetch.fetches ram cycle h front stop (other h r) fetches);
-  };
+  phases = phases-kept (λ h g change r.
+      both g (changes-kept p.phases h g change (one h r)) (changes-kept q.phases h g change (other h r)));
+  fetch = λ ram cycle h front stop r fetches.
+      both _ (p.fetch ram cycle h front stop (one h r) fetches) (q.fetch ram cycle h front stop (other h r) fetches);
 }
 
 -- two properties that are kept are kept together
@@ -96,26 +101,12 @@ module _ {P : Hardware → Type 0} (kept : IsKeptByPhases P) where
 abbrev pub SameAs : Values → CacheValues → ℕ → Hardware → Type 0
 SameAs values cache cycle h = (h.values ≡ values) × (h.cache.values ≡ cache) × (h.cycle ≡ cycle)
 
+same_changes : (values : Values) (cache : CacheValues) (cycle : ℕ) → IsKeptByChanges (SameAs values cache cycle)
+same_changes values cache cycle h given holds same = grind arith
+
 -- no phase from commit to dispatch changes what was described or the cycle's number
 pub same-kept : (values : Values) (cache : CacheValues) (cycle : ℕ) → IsKeptByPhases (SameAs values cache cycle)
-same-kept values cache cycle = record {
-  lines = λ h levels same. same;
-  commit = record {
-    empties = λ h s retired same. same;
-    retires = λ h e es s message same split known faultless. same;
-    writes_back = λ h same drained. same;
-  };
-  drain = record { leaves = λ h same idle. same; drains = λ h access same idle is. same };
-  issue = λ k. record {
-    accesses = λ h older younger e address same split ready by. same;
-    starts = λ h older younger e cost message same split waits of_kind result costs. same;
-  };
-  broadcast = record {
-    broadcasts = λ h older younger e message same split gives. same;
-    mends = λ h older younger e next same split. same;
-  };
-  dispatch = record { dispatches = λ h fetched rest same first none. same };
-}
+same-kept values cache cycle = phases-kept (same_changes values cache cycle)
 
 -- a whole cycle keeps what its phases and its fetch keep
 pub cycle-keeps : {P : Hardware → Type 0} {lines : Lines} {old new : Hardware} {report : Report} → IsKept P →
@@ -124,5 +115,5 @@ cycle-keeps {P} {lines} {old} {new} kept cycle holds =
     let after = phases-keep kept.phases cycle holds in
     let d : Hardware = cycle.dispatching.hardware in
     let number : d.cycle ≡ old.cycle = (phases-keep (same-kept old.values old.cache.values old.cycle) cycle (refl, refl, refl)).2 in
-    let fetched = kept.fetch.fetches d.cache.backing old.cycle d new.front cycle.fetch_stop after cycle.fetches in
+    let fetched = kept.fetch d.cache.backing old.cycle d new.front cycle.fetch_stop after cycle.fetches in
     subst P (ap (λ n. record d { front = new.front; cycle = n + 1 }) number ∙ sym cycle.others_stay) fetched

@@ -1,5 +1,6 @@
 -- The drain phase keeps what the end of a store's access and the start of another's keep.
-use Rattle.rv_hardware.proofs.Words.{◌≡◌, ℕ, true, nat_le, Some, None, Option, refl, StoreAccess, PerKind, CacheValues, Values, oldest_to_drain, Pool, ReorderBuffer, FetchBuffer, drain, end_drain, start_drain, with_drained, Hardware, by_test}
+use Rattle.std.proofs.Common.{arith}
+use Rattle.rv_hardware.proofs.Words.{◌≡◌, ℕ, true, nat_le, Some, Option, StoreAccess, PerKind, CacheValues, Values, oldest_to_drain, Pool, ReorderBuffer, FetchBuffer, drain, end_drain, start_drain, with_drained, Hardware, by_test}
 
 module _ (P : Hardware → Type 0) where
   -- the end of a store's access and the start of another's keep the property
@@ -11,14 +12,11 @@ module _ (P : Hardware → Type 0) where
 module _ {P : Hardware → Type 0} (kept : IsKeptByDrain P) where
   pub start_drain-keeps : (h : Hardware) (access : Option StoreAccess) → P h → nat_le h.port_free h.cycle ≡ true →
       oldest_to_drain h.committed ≡ access → P (start_drain access h)
-  start_drain-keeps h None holds idle is = holds
-  start_drain-keeps h (Some access) holds idle is = kept.drains h access holds idle is
+  start_drain-keeps h access holds idle is = grind arith
 
   -- so the drain phase keeps it
   pub drain-keeps : (h : Hardware) → P h → P (drain h)
-  drain-keeps h holds =
-      by_test P (nat_le h.port_free h.cycle) (start_drain (oldest_to_drain (end_drain h).committed) (end_drain h)) h
-      (λ idle. start_drain-keeps (end_drain h) (oldest_to_drain (end_drain h).committed) (kept.leaves h holds idle) idle refl) (λ busy. holds)
+  drain-keeps h holds = grind (arith, by_test, start_drain-keeps)
 
 -- what the drain phase leaves is as it was
 pub record AreSame (h : Hardware) (given : Values) (lines : CacheValues) (entries : ReorderBuffer) (words : FetchBuffer)
@@ -36,6 +34,4 @@ SameButPort h g = AreSame h g.values g.cache.values g.rob g.front g.units g.cycl
 
 -- the drain phase changes the port, the cache's lines, memory and the retired stores alone
 pub drain-same : (h : Hardware) → SameButPort h (drain h)
-drain-same h =
-    drain-keeps {P = SameButPort h} (record { leaves = λ g same idle. same; drains = λ g access same idle is. same }) h
-    (record { values = refl; cache = refl; rob = refl; front = refl; units = refl; cycle = refl })
+drain-same h = grind (arith, drain-keeps)

@@ -1,9 +1,10 @@
 -- The issue phase keeps what a load's access to the cache and the start of an execution keep.
-use Rattle.rv_hardware.proofs.Words.{◌≡◌, ℕ, ◌+◌, ◌≤◌, true, ◌&&◌, List, ◌∷◌, ◌++◌, length, sym, refl, ap, ◌∙◌, subst, and_parts, is_of_kind, kind_of_word, sources_of_word, at_kind, Message, Kind, is_free, started, with_entry, Entry, Hardware, is_waiting, FromCache, FromStores, Path, Without, cost_of, has_operands, is_ready, issue, issue_kind, issue_turn, issued, may_load, path, with_access, with_start, Turn, result_of_word, layout_of, seen_behind, Leaves, kept_by_turns}
+use Rattle.std.proofs.Common.{arith}
+use Rattle.rv_hardware.proofs.Words.{◌≡◌, ℕ, ◌+◌, ◌≤◌, true, List, ◌∷◌, ◌++◌, length, refl, and_parts, is_of_kind, kind_of_word, sources_of_word, at_kind, Message, Kind, is_free, Entry, Hardware, is_waiting, FromCache, FromStores, Path, Without, cost_of, has_operands, is_ready, issue, issue_kind, issue_turn, issued, may_load, path, with_access, with_start, Turn, result_of_word, layout_of, seen_behind, Leaves, kept_by_turns}
 use Rattle.rv_isa.specs.declared.operations.Kind.TheVariants as kind
 use Rattle.rv_hardware.proofs.Turns.Costs.{cost_of-most}
-use Rattle.rv_hardware.proofs.Turns.Forms.{with_entries, with_started, with_unit, longest_execution, IsResultOfWord}
-use Rattle.rv_hardware.proofs.Turns.Issue.{IssueTurn, no_unit, none_ready, starts, issue_turn_is}
+use Rattle.rv_hardware.proofs.Turns.Forms.{with_started, longest_execution, IsResultOfWord}
+use Rattle.rv_hardware.proofs.Turns.Issue.{IssueTurn, starts, issue_turn_is}
 use Rattle.rv_hardware.proofs.Oldest.{with_entry-at}
 
 -- what it is to be ready
@@ -15,11 +16,7 @@ pub record IsReady (h : Hardware) (k : Kind) (older : List Entry) (e : Entry) : 
 
 -- an instruction that is ready waits, is of the kind, has its operands and may load
 pub ready-parts : (h : Hardware) (k : Kind) (older : List Entry) (e : Entry) → is_ready h k older e ≡ true → IsReady h k older e
-ready-parts h k older e ready =
-    let three = and_parts (is_waiting e.stage && is_of_kind k (kind_of_word e.instruction) && has_operands older (sources_of_word e.instruction)) (may_load h older e) ready in
-    let two = and_parts (is_waiting e.stage && is_of_kind k (kind_of_word e.instruction)) (has_operands older (sources_of_word e.instruction)) three.0 in
-    let one = and_parts (is_waiting e.stage) (is_of_kind k (kind_of_word e.instruction)) two.0 in
-    record { waits = one.0; of_kind = one.1; operands = two.1; loads = three.1 }
+ready-parts h k older e ready = grind (arith, and_parts)
 
 module _ (P : Hardware → Type 0) (k : Kind) where
   -- an instruction that is ready may access the cache and start
@@ -43,12 +40,7 @@ module _ {P : Hardware → Type 0} {k : Kind} (kept : IsKeptByIssue P k) where
       h.rob.entries ≡ older ++ e ∷ younger → is_waiting e.stage ≡ true → is_of_kind k (kind_of_word e.instruction) ≡ true →
       IsResultOfWord e.word e.instruction message → cost ≤ longest_execution h →
       P (with_start k (h.rob.retired + length older) cost message h)
-  begins h older younger e cost message holds split waits of_kind result costs =
-      let start : Entry → Entry = started (record { cycle = h.cycle; cost = cost }) message in
-      let all : with_entry start (h.rob.retired + length older) h.rob.retired h.rob.entries ≡ older ++ start e ∷ younger =
-      ap (λ es. with_entry start (h.rob.retired + length older) h.rob.retired es) split
-      ∙ with_entry-at start (h.rob.retired + length older) h.rob.retired older younger e refl in
-      subst (λ es. P (with_entries es (with_unit k cost h))) (sym all) (kept.starts h older younger e cost message holds split waits of_kind result costs)
+  begins h older younger e cost message holds split given of_kind result costs = grind (arith, with_entry-at)
 
   begins_by : (h : Hardware) (older younger : List Entry) (e : Entry) (p : Path) → path h older e ≡ p → P h →
       h.rob.entries ≡ older ++ e ∷ younger → is_ready h k older e ≡ true → is_waiting e.stage ≡ true →
@@ -67,15 +59,12 @@ module _ {P : Hardware → Type 0} {k : Kind} (kept : IsKeptByIssue P k) where
 
   -- its access and its start keep it, so the whole does
   pub starts-keep : KeepsStarts P k
-  starts-keep h older younger e holds split is free =
-      let ready = ready-parts h k older e is in
-      begins_by h older younger e (path h older e) refl holds split is ready.waits ready.of_kind
+  starts-keep h older younger e holds split is free = grind (arith, ready-parts, begins_by)
 
 module _ {P : Hardware → Type 0} (k : Kind) (keeps : KeepsStarts P k) where
   turn-keeps : (h : Hardware) (t : Turn Hardware) → IssueTurn k h t → P h → Leaves P t
-  turn-keeps h _ (no_unit held) holds = holds
-  turn-keeps h _ (none_ready none) holds = holds
   turn-keeps h _ (starts older younger e at is none free) holds = keeps h older younger e holds at is free
+  turn-keeps h _ _ holds = holds
 
   -- so a turn of the issue phase keeps it
   pub issue_turn-keeps : (h : Hardware) → P h → Leaves P (issue_turn k h)

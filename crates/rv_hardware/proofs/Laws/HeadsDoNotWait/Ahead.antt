@@ -1,5 +1,5 @@
 -- In every run a finished head does not wait, and the front keeps ahead.
-use Rattle.rv_hardware.proofs.Words.{Store as QueuedStore, ◌≡◌, ℕ, ◌+◌, ◌-◌, ◌<◌, ◌≤◌, Bool, true, false, ◌&&◌, ◌⊎◌, List, [], ◌∷◌, ◌++◌, length, is_some, ◌==◌, Some, None, filter, Option, nat_cmp, sym, refl, ap, ◌∙◌, subst, inl, inr, true≢false, append_assoc, append-nil, arith, length-append, leb-true, list_any, IsLegal, is_serialising, is_store, kind_of_word, at_kind, Lines, Kind, Values, due, Each, with_oldest_draining, without_drained, Entry, FetchBuffer, Fetched, broadcast, Committing, commit_turn, commit_unless, IsCycle, any_prediction, execute, with_lines, Dispatching, dispatch, has_full_stations, is_stationed, drain, Hardware, issue, Turn, Report, stores_behind, last_from, stamp_of, Step, and_first, and_second, count, EveryBehind-at, Leads, kept_by_turns}
+use Rattle.rv_hardware.proofs.Words.{◌≡◌, ℕ, ◌+◌, ◌-◌, ◌<◌, ◌≤◌, Bool, true, false, ◌&&◌, ◌⊎◌, List, [], ◌∷◌, ◌++◌, length, is_some, ◌==◌, Some, None, Option, nat_cmp, sym, refl, ap, ◌∙◌, subst, inl, inr, true≢false, append_assoc, append-nil, arith, length-append, leb-true, IsLegal, is_store, at_kind, Lines, Kind, Values, due, Each, with_oldest_draining, without_drained, Entry, FetchBuffer, Fetched, broadcast, Committing, commit_turn, commit_unless, IsCycle, any_prediction, execute, with_lines, Dispatching, dispatch, has_full_stations, drain, Hardware, issue, Turn, Report, last_from, stamp_of, Step, and_first, and_second, count, EveryBehind-at, Leads, kept_by_turns}
 use Rattle.std.specs.FinSet as set
 use Rattle.rv_hardware.proofs.Turns.KeptByBroadcast.{IsKeptByBroadcast, broadcast-keeps}
 use Rattle.rv_hardware.proofs.Turns.KeptByCycle.{phases-keep}
@@ -7,9 +7,9 @@ use Rattle.rv_hardware.proofs.Turns.KeptByDispatch.{IsKeptByDispatch, dispatch-k
 use Rattle.rv_hardware.proofs.Turns.KeptByDrain.{IsKeptByDrain, drain-keeps}
 use Rattle.rv_hardware.proofs.Always.Halted.{HaltsBehind, IsHalted, words_of, halted-kept}
 use Rattle.rv_hardware.proofs.Turns.KeptByIssue.{IsKeptByIssue, issue-keeps}
-use Rattle.rv_hardware.proofs.Turns.Commit.{CommitTurn, no_head, stale_head, unfinished, fence_waits, fence_writes, fence_retires, executes, serial_faults, traps, retires, retires_last, commit_turn_is}
+use Rattle.rv_hardware.proofs.Turns.Commit.{CommitTurn, fence_retires, executes, serial_faults, traps, retires, retires_last, commit_turn_is}
 use Rattle.rv_hardware.proofs.Marks.History.{Anything, anything_is_kept, Passed, History, began, went_on, begin, committing, dispatching, sent_all, history_is_legal, history_is_sound, history_passes}
-use Rattle.rv_hardware.proofs.Turns.Dispatch.{has_full_queue, WaitsFor, for_serial, for_buffer, for_station, for_queue}
+use Rattle.rv_hardware.proofs.Turns.Dispatch.{has_full_queue, WaitsFor}
 use Rattle.rv_hardware.proofs.Turns.Fetch.{IsNew}
 use Rattle.rv_hardware.proofs.Laws.HeadsDoNotWait.Follow.{last_stamp, last_stamp-push, has_step, has_step-push, Follows, AllFollow, Committed, commit_leads_by}
 use Rattle.rv_hardware.proofs.Laws.NoIdleDispatch.{dispatch_leaves}
@@ -22,33 +22,16 @@ some_station v legal k = omega (arith, (legal.kinds k).stations)
 module _ (v : Values) (legal : IsLegal v) where
   -- with nothing in flight only a store waits
   station_free : (h : Hardware) → HasShape v h → h.rob.entries ≡ [] → (o : Option Kind) → has_full_stations h o ≡ true → ⊥
-  station_free h shape none None full = absurd (cc)
-  station_free h shape none (Some k) full =
-      let held = leb-true (at_kind k h.values.kinds).stations (length (filter (is_stationed k) h.rob.entries)) full in
-      let empty = ap (λ es. length (filter (is_stationed k) es)) none in
-      let some = some_station v legal k in
-      let same = ap (λ (w : Values). (at_kind k w.kinds).stations) shape.values in
-      omega (arith, held, empty, some, same)
+  station_free h shape given o full = grind (arith, leb-true, some_station)
 
   -- with no store that has retired, it does not either
   queue_free : (store_waits : Bool) (h : Hardware) (f : Fetched) → HasShape v h → h.rob.entries ≡ [] →
       (store_waits ≡ false → h.committed ≡ []) → has_full_queue h f ≡ true → (store_waits && is_store f.instruction) ≡ true
-  queue_free true h f shape none unused is = and_first (is_store f.instruction) _ is
-  queue_free false h f shape none unused is =
-      let full = leb-true h.values.store_queue (length (stores_behind h h.rob.entries)) (and_second (is_store f.instruction) _ is) in
-      let empty = ap (λ es. length (stores_behind h es)) none ∙ ap (λ (ss : List QueuedStore). length (ss ++ [])) (unused refl) in
-      let same = ap (λ (w : Values). w.store_queue) shape.values in
-      absurd (omega (arith, full, empty, same, legal.pipeline.store_queue))
+  queue_free store_waits h f shape given unused is = grind (arith, and_first, leb-true, and_second)
 
   waits_as_store : (store_waits : Bool) (h : Hardware) (f : Fetched) → HasShape v h → h.rob.entries ≡ [] →
       (store_waits ≡ false → h.committed ≡ []) → WaitsFor h f → (store_waits && is_store f.instruction) ≡ true
-  waits_as_store store_waits h f shape none unused (for_serial is) = absurd (true≢false (sym is ∙ ap (λ es. list_any (λ (e : Entry). is_serialising e.instruction) es) none))
-  waits_as_store store_waits h f shape none unused (for_buffer is) =
-      let full = leb-true h.rob.capacity (length h.rob.entries) is in
-      let empty = ap (λ (es : List Entry). length es) none in
-      absurd (omega (arith, full, empty, shape.buffer, legal.pipeline.rob))
-  waits_as_store store_waits h f shape none unused (for_station is) = absurd (station_free h shape none (kind_of_word f.instruction) is)
-  waits_as_store store_waits h f shape none unused (for_queue is) = queue_free store_waits h f shape none unused is
+  waits_as_store store_waits h f shape given unused holds = grind (arith, true≢false, leb-true, station_free, queue_free)
 
   -- what dispatch leaves in the fetch buffer where nothing is in flight
   only_store_left : (store_waits : Bool) (g : Hardware) (now : ℕ) (d : Dispatching) → d ≡ dispatch g → g.values ≡ v →
@@ -68,25 +51,16 @@ module _ (v : Values) (legal : IsLegal v) where
   module _ (now s : ℕ) (store_waits : Bool) (stale : set.FinSet nat_cmp) (front : FetchBuffer) (added : List Fetched) (new : Each (IsNew now) added) (width : front.width ≡ v.fetch_width) (room : front.capacity ≡ v.fetch_buffer)
       (goes_on : added ≡ [] → (front.halted ≡ true) ⊎ ((front.width ≡ 0) ⊎ (front.capacity - length front.entries ≡ 0))) where
     fetches_one : (b : Bool) → front.halted ≡ b → HaltsBehind b [] → length front.entries ≡ 0 → added ≡ [] → ⊥
-    fetches_one true is behind empty none = absurd (cc)
-    fetches_one false is behind empty none = by_cause (goes_on none)
-      where
-        by_cause : (front.halted ≡ true) ⊎ ((front.width ≡ 0) ⊎ (front.capacity - length front.entries ≡ 0)) → ⊥
-        by_cause (inl halted) = true≢false (sym halted ∙ is)
-        by_cause (inr (inl narrow)) = omega (arith, narrow, width, legal.pipeline.fetch_width)
-        by_cause (inr (inr full)) = omega (arith, full, room, empty, legal.pipeline.fetch_buffer)
+    fetches_one b is behind empty given = grind (arith, true≢false)
 
     next_added : (more : List Fetched) → Each (IsNew now) more → (more ≡ [] → ⊥) → now ≤ s →
         Next (now + 1) (now + 1) s store_waits stale [] more
-    next_added [] are none_of le = absurd (none_of refl)
-    next_added (f ∷ fs) are none_of le = (omega (arith, are.0.0, le), λ plain. omega (arith, le))
+    next_added more are none_of le = grind arith
 
     next_fetched : (es : List Entry) (fs : List Fetched) → front.entries ≡ fs → HaltsBehind front.halted (words_of es fs) →
         ((f : Fetched) (gs : List Fetched) → es ≡ [] → fs ≡ f ∷ gs → (store_waits && is_store f.instruction) ≡ true) →
         Next (now + 1) now s store_waits stale es fs → Next (now + 1) (now + 1) s store_waits stale es (fs ++ added)
-    next_fetched (e ∷ es) fs at behind stores next = next
-    next_fetched [] (f ∷ fs) at behind stores next = (next.0, λ plain. absurd (true≢false (sym (stores f fs refl refl) ∙ plain)))
-    next_fetched [] [] at behind stores next = next_added added new (λ none. fetches_one front.halted refl behind (ap (λ (l : List Fetched). length l) at) none) next
+    next_fetched es fs given behind stores next = grind (arith, true≢false, next_added, fetches_one)
 
 both_empty : (xs ys : List Step) → xs ++ ys ≡ [] → (xs ≡ []) × (ys ≡ [])
 both_empty [] ys none = (refl, none)
@@ -107,17 +81,13 @@ abbrev IsUnused : Committing → Type 0
 IsUnused c = c.steps ≡ [] → c.hardware.committed ≡ []
 
 turn_unused : (c : Committing) (t : Turn Committing) → CommitTurn set.contains c t → IsUnused c → Leads IsUnused IsUnused t
-turn_unused c _ (no_head none) p = p
-turn_unused c _ (stale_head e es at is) p = p
-turn_unused c _ (unfinished e es head plain none) p = p
-turn_unused c _ (fence_waits e es head is busy) p = p
-turn_unused c _ (fence_writes e es head is drained dirty) p = p
 turn_unused c _ (fence_retires e es written next head is drained) p = λ none. not_empty c.steps _ none
 turn_unused c _ (executes e es written next head serial) p = λ none. not_empty c.steps _ none
 turn_unused c _ (serial_faults e es cause value head serial) p = λ none. not_empty c.steps _ none
 turn_unused c _ (traps e es issue cycle message fault head plain at is) p = λ none. not_empty c.steps _ none
 turn_unused c _ (retires e es issue cycle message head plain at none) p = λ empty. not_empty c.steps _ empty
 turn_unused c _ (retires_last e es issue cycle message head plain at none) p = λ empty. not_empty c.steps _ empty
+turn_unused c _ _ p = p
 
 commit_unused : (o : Option ℕ) (h : Hardware) → h.committed ≡ [] → IsUnused (commit_unless set.contains o h)
 commit_unused (Some code) h none = λ empty. absurd (cc)
@@ -177,9 +147,7 @@ module _ (v : Values) {earlier : List Step} {old new : Hardware} {lines : Lines}
 
   -- no store has retired where there is no step
   c_unused : earlier ++ report.steps ≡ [] → (committing lines old).hardware.committed ≡ []
-  c_unused none =
-      let parts = both_empty earlier report.steps none in
-      commit_unused (due (with_lines lines old).csrs (with_lines lines old).lines) (with_lines lines old) (past.unused parts.0) (sym passed.steps ∙ parts.1)
+  c_unused given = grind (arith, both_empty, commit_unused, passed)
 
   d_unused : earlier ++ report.steps ≡ [] → (dispatching lines old).hardware.committed ≡ []
   d_unused none = execute_unused (committing lines old).hardware (c_unused none)
@@ -194,13 +162,7 @@ module _ (v : Values) {earlier : List Step} {old new : Hardware} {lines : Lines}
       dispatched.1
 
   next_goes_on : NextPast (earlier ++ report.steps) new
-  next_goes_on =
-      let h : Hardware = (dispatching lines old).hardware in
-      record {
-        follow = subst AllFollow (sym here) committed.follow;
-        next = rw (ap (λ (g : Hardware). g.cycle) passed.others_stay, ap (λ (g : Hardware). g.stale) passed.others_stay, ap (λ (g : Hardware). g.rob.entries) passed.others_stay, passed.fetches.entries) fetched;
-        unused = λ none. ap (λ (g : Hardware). g.committed) passed.others_stay ∙ d_unused none;
-      }
+  next_goes_on = grind (arith, here, committed, passed, fetched, d_unused)
 
 history_has_next : (v : Values) {steps : List Step} {h : Hardware} → History v steps h → NextPast steps h
 history_has_next v (began image start legal) = record { follow = tt; next = omega arith; unused = λ none. refl }

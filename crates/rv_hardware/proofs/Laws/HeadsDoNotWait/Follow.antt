@@ -1,12 +1,9 @@
 -- After a step the next instruction neither waits without need nor was it fetched late.
-use Rattle.rv_hardware.proofs.Words.{◌≡◌, ℕ, suc, ◌+◌, ◌<◌, ◌≤◌, max, Bool, true, false, cond, ◌&&◌, ◌⊎◌, List, [], ◌∷◌, ◌++◌, length, is_some, ◌==◌, Some, None, Option, option_map, nat_cmp, unwrap_or, sym, refl, ap, ◌∙◌, subst, inl, inr, true≢false, append_assoc, arith, length-append, is_fence_i, is_serialising, is_store, kind_of_word, Message, Cause, Fault, Instr, FenceI, Issue, Values, word_of, interrupt_cause, Stop, Each, Entry, Stage, Finished, Running, Waiting, Fetched, Committing, commit_turn, commit_turn_of, commit_unless, execute_head, fence_instructions, head_turn, is_drained, with_fault, write_back_time, Hardware, broadcast_of, DoesNotWait, IsTrappedSoon, Ends, GoesOn, Turn, execution_of, written_of, is_store_row, last_that, needs_no_unit, stamp_of, Execution, Row, Step, Interrupt, Retired, Trap, by_test, not_both, EveryBehind, EveryBehind-append, Leads, leads_both, turns_within}
+use Rattle.rv_hardware.proofs.Words.{◌≡◌, ℕ, suc, ◌+◌, ◌<◌, ◌≤◌, max, Bool, true, false, ◌&&◌, ◌⊎◌, List, [], ◌∷◌, ◌++◌, length, is_some, Some, None, Option, option_map, nat_cmp, unwrap_or, sym, refl, ap, ◌∙◌, subst, inl, inr, true≢false, append_assoc, arith, length-append, is_fence_i, is_serialising, is_store, kind_of_word, Message, Cause, Fault, Instr, FenceI, Issue, Values, word_of, interrupt_cause, Stop, Each, Entry, Stage, Finished, Fetched, Committing, commit_turn, commit_unless, fence_instructions, with_fault, Hardware, broadcast_of, DoesNotWait, IsTrappedSoon, Ends, Turn, execution_of, written_of, is_store_row, last_that, needs_no_unit, stamp_of, Execution, Row, Step, Interrupt, Retired, Trap, by_test, not_both, EveryBehind, EveryBehind-append, Leads, leads_both, turns_within}
 use Rattle.std.specs.FinSet as set
-use Rattle.rv_isa.specs.declared.instructions.Instr.TheVariants.{Store}
-use Rattle.rv_arch.specs.declared.outcome.Stop.TheVariants as stop
-use Rattle.rv_hardware.proofs.Turns.Commit.{CommitTurn, Head, no_head, stale_head, unfinished, fence_waits, fence_writes, fence_retires, executes, serial_faults, traps, retires, retires_last, executed, written_back, retired_with, retired_and_flushed, commit_turn_is}
+use Rattle.rv_hardware.proofs.Turns.Commit.{CommitTurn, Head, no_head, stale_head, unfinished, fence_waits, fence_writes, fence_retires, executes, serial_faults, traps, retires, retires_last, executed, written_back, retired_and_flushed, commit_turn_is}
 use Rattle.rv_hardware.proofs.Marks.History.{Anything, anything_is_kept}
 use Rattle.rv_hardware.proofs.Marks.Evidence.{last_from-append}
-use Rattle.rv_hardware.proofs.Always.Faults.{IsUnitFault}
 use Rattle.rv_hardware.proofs.Always.Entries.{IsShaped, Shaped}
 use Rattle.rv_hardware.proofs.Laws.HeadsDoNotWait.Next.{IsKnownSince, HasReason, NextEntry, Next}
 use Rattle.rv_hardware.proofs.Marks.Phases.{Goes, Commits, commit_turn_keeps}
@@ -37,8 +34,7 @@ has_step-push steps s = ap is_some (last_from-append None (λ s. true) steps (s 
 -- it was fetched by cycle c and dispatched in the cycle after it, but for a store that may wait for the queue
 abbrev pub IsAhead : ℕ → Bool → Step → Type 0
 IsAhead c store_waits (Retired row) = (row.fetched ≤ c) × ((store_waits && is_store_row row) ≡ false → row.dispatched ≤ c + 1)
-IsAhead c store_waits (Trap pc cause value cycle) = Unit {0}
-IsAhead c store_waits (Interrupt pc cause cycle) = Unit {0}
+IsAhead c store_waits _ = Unit {0}
 
 -- a step after one of cycle c, or the first
 pub record Follows (c : ℕ) (store_waits : Bool) (b : Step) : Type 0 where
@@ -57,23 +53,16 @@ follow-push steps b all one = EveryBehind-append (λ before s. Follows (last_sta
 -- ---- what the oldest leaves
 
 fence_serialises : (i : Option Instr) → is_fence_i i ≡ true → is_serialising i ≡ true
-fence_serialises None h = absurd (cc)
-fence_serialises (Some FenceI) h = refl
-fence_serialises i h = absurd (cc)
+fence_serialises i h = grind arith
 
 is_fence : (i : Option Instr) → is_fence_i i ≡ true → i ≡ Some FenceI
-is_fence None h = absurd (cc)
-is_fence (Some FenceI) h = refl
-is_fence i h = absurd (cc)
+is_fence i h = grind arith
 
 no_kind_no_store : (i : Option Instr) → kind_of_word i ≡ None → is_store i ≡ false
-no_kind_no_store None h = refl
-no_kind_no_store (Some (Store width rs1 rs2 offset)) h = absurd (cc)
-no_kind_no_store i h = refl
+no_kind_no_store i h = grind arith
 
 no_store : (store_waits : Bool) (i : Option Instr) → kind_of_word i ≡ None → (store_waits && is_store i) ≡ false
-no_store true i h = no_kind_no_store i h
-no_store false i h = refl
+no_store store_waits i h = grind (arith, no_kind_no_store)
 
 -- the cycle in which an execution is known, from that of the dispatch
 abbrev known_from : ℕ → Option Execution → ℕ
@@ -81,78 +70,39 @@ known_from D None = D
 known_from D (Some x) = x.broadcast
 
 known_is : (D : ℕ) (x : Option Execution) → unwrap_or (option_map (λ (y : Execution). y.broadcast) x) D ≡ known_from D x
-known_is D None = refl
-known_is D (Some x) = refl
+known_is D x = grind arith
 
 module _ (v : Values) (now s : ℕ) (store_waits : Bool) (stale : set.FinSet nat_cmp) (e : Entry) (sound : SoundEntry v now now now e) (next : NextEntry now s store_waits stale e) (fresh : set.contains stale (word_of e.pc) ≡ false) where
   known_by_stage : (i : Option Instr) (D : ℕ) (st : Stage) → SoundStage v i D now now st → MayRetire i st →
       IsKnownSince now i D st → now ≤ known_from D (execution_of st) + 1
-  known_by_stage i D Waiting held may since = since may
-  known_by_stage i D (Running issue message) held may since = not_both may (kind_is_plain i held.0)
-  known_by_stage i D (Finished None cycle message) held may since = since
-  known_by_stage i D (Finished (Some issue) cycle message) held may since = since
+  known_by_stage i D st held may since = grind (arith, not_both, kind_is_plain)
 
   retires_soon : MayRetire e.instruction e.stage → is_fence_i e.instruction ≡ false → HasReason now s stale e →
       now ≤ max s (known_from e.dispatched (execution_of e.stage)) + 1
-  retires_soon may plain (inl le) = omega (arith, le)
-  retires_soon may plain (inr (inl is)) = not_both is fresh
-  retires_soon may plain (inr (inr (inl is))) = not_both is plain
-  retires_soon may plain (inr (inr (inr since))) = let le = known_by_stage e.instruction e.dispatched e.stage sound.stage may since in omega (arith, le)
+  retires_soon may plain given = grind (arith, not_both, known_by_stage)
 
   row_follows : (written : Option (ℕ × ℕ)) → MayRetire e.instruction e.stage →
       Follows s store_waits (Retired (row_at e written now))
-  row_follows written may =
-      let decoded = row_decodes e sound.decoded (retiring_is_one v now e sound may) in
-      record {
-        waits = λ plain. let le = retires_soon may (sym (ap is_fence_i decoded) ∙ plain) next.reason in omega (arith, le, known_is e.dispatched (execution_of e.stage));
-        ahead = (next.fetched, λ plain. next.dispatched (sym (ap (λ i. store_waits && is_store i) decoded) ∙ plain));
-        soon = tt;
-      }
+  row_follows written may = grind (arith, row_decodes, retiring_is_one, retires_soon, known_is)
 
   -- a fault that needs no unit
   trapped_by_stage : (word : Option ℕ) (i : Option Instr) (D : ℕ) (issue : Option Issue) (cycle : ℕ) (message : Message) (fault : Fault) → SoundStage v i D now now (Finished issue cycle message) → IsShaped word i (Finished issue cycle message) → message.fault ≡ Some fault → needs_no_unit fault.cause ≡ true → ((store_waits && is_store i) ≡ false → D ≤ s + 1) → IsKnownSince now i D (Finished issue cycle message) → now ≤ s + 2
-  trapped_by_stage word i D None cycle message fault held found is needs soon since = let le = soon (no_store store_waits i held.0) in omega (arith, le, since)
-  trapped_by_stage word i D (Some issue) cycle message fault held found is needs soon since = not_both needs (subst IsUnitFault is found.1)
+  trapped_by_stage word i D issue cycle message fault held found is needs soon since = grind (arith, no_store, not_both)
 
   trap_follows : (issue : Option Issue) (cycle : ℕ) (message : Message) (fault : Fault) → is_serialising e.instruction ≡ false →
       e.stage ≡ Finished issue cycle message → message.fault ≡ Some fault → Shaped e →
       Follows s store_waits (Trap e.pc fault.cause fault.value now)
-  trap_follows issue cycle message fault plain at is found = record { waits = tt; ahead = tt; soon = λ needs. by_reason needs next.reason }
-    where
-      by_reason : needs_no_unit fault.cause ≡ true → HasReason now s stale e → now ≤ s + 2
-      by_reason needs (inl le) = omega (arith, le)
-      by_reason needs (inr (inl old)) = not_both old fresh
-      by_reason needs (inr (inr (inl fence))) = not_both (fence_serialises e.instruction fence) plain
-      by_reason needs (inr (inr (inr since))) =
-          trapped_by_stage e.word e.instruction e.dispatched issue cycle message fault (subst (SoundStage v e.instruction e.dispatched now now) at sound.stage) (subst (IsShaped e.word e.instruction) at found) is needs next.dispatched
-          (subst (IsKnownSince now e.instruction e.dispatched) at since)
+  trap_follows issue cycle message fault plain given is found = grind (arith, not_both, fence_serialises, trapped_by_stage)
 
   serial_by_stage : (i : Option Instr) (D : ℕ) (st : Stage) → is_serialising i ≡ true → SoundStage v i D now now st →
       IsKnownSince now i D st → now ≤ D + 1
-  serial_by_stage i D Waiting serial held since = since serial
-  serial_by_stage i D (Running issue message) serial held since = not_both serial (kind_is_plain i held.0)
-  serial_by_stage i D (Finished None cycle message) serial held since = since
-  serial_by_stage i D (Finished (Some issue) cycle message) serial held since = not_both serial (kind_is_plain i held.0)
+  serial_by_stage i D st serial held since = grind (arith, not_both, kind_is_plain)
 
   serial_follows : (cause : Cause) (value : ℕ) → is_serialising e.instruction ≡ true → (is_fence_i e.instruction ≡ true → ⊥) →
       Follows s store_waits (Trap e.pc cause value now)
-  serial_follows cause value serial other = record { waits = tt; ahead = tt; soon = λ needs. by_reason next.reason }
-    where
-      by_reason : HasReason now s stale e → now ≤ s + 2
-      by_reason (inl le) = omega (arith, le)
-      by_reason (inr (inl old)) = not_both old fresh
-      by_reason (inr (inr (inl fence))) = absurd (other fence)
-      by_reason (inr (inr (inr since))) =
-          let le = serial_by_stage e.instruction e.dispatched e.stage serial sound.stage since in
-          let soon = next.dispatched (no_store store_waits e.instruction (serial_has_no_kind e.instruction serial)) in
-          omega (arith, le, soon)
+  serial_follows cause value serial other = grind (arith, not_both, serial_by_stage, no_store, serial_has_no_kind)
 
 -- ---- a FENCE.I that executes does not trap
-
--- the steps that a turn leaves
-abbrev steps_left : Turn Committing → List Step
-steps_left (GoesOn c) = c.steps
-steps_left (Ends c) = c.steps
 
 abbrev is_trap : Option Step → Bool
 is_trap None = false
@@ -165,11 +115,7 @@ abbrev LeavesRow : List Step → List Step → Type 0
 LeavesRow steps left = (left ≡ steps) ⊎ ((row : Row) × (left ≡ steps ++ Retired row ∷ []))
 
 fence_leaves : (e : Entry) (c : Committing) → LeavesRow c.steps (fence_instructions e c).steps
-fence_leaves e c =
-    let wrote : Committing = written_back c in
-    by_test (λ (d : Committing). LeavesRow c.steps d.steps) (is_drained c.hardware) (cond (write_back_time c.hardware == 0) (execute_head e FenceI wrote) wrote) c
-    (λ drained. by_test (λ (d : Committing). LeavesRow c.steps d.steps) (write_back_time c.hardware == 0) (execute_head e FenceI wrote) wrote (λ clean. inr (row_at e None c.hardware.cycle, refl)) (λ dirty. inl refl))
-    (λ waits. inl refl)
+fence_leaves e c = grind (arith, by_test)
 
 no_trap : (steps left : List Step) (pc : ℕ) (cause : Cause) (value cycle : ℕ) → LeavesRow steps left →
     steps ++ Trap pc cause value cycle ∷ [] ≡ left → ⊥
@@ -181,29 +127,19 @@ no_trap steps left pc cause value cycle (inr (row, same)) is =
 
 fence_does_not_trap : (c : Committing) (e : Entry) (es : List Entry) (cause : Cause) (value : ℕ) → Head set.contains c e es →
     is_fence_i e.instruction ≡ true → Ends (with_fault e cause value c) ≡ commit_turn set.contains c → ⊥
-fence_does_not_trap c e es cause value head fence is =
-    let turn : commit_turn set.contains c ≡ Ends (fence_instructions e c) =
-    ap (λ l. commit_turn_of set.contains l c) head.place
-    ∙ ap (λ b. cond b (Ends (record c { stop = Some (stop.Stale e.pc) })) (head_turn e e.instruction c)) head.fresh
-    ∙ ap (λ i. head_turn e i c) (is_fence e.instruction fence) in
-    no_trap c.steps (fence_instructions e c).steps e.pc cause value c.hardware.cycle (fence_leaves e c) (ap steps_left (is ∙ turn))
+fence_does_not_trap c e es cause value head fence is = grind (arith, is_fence, no_trap, fence_leaves)
 
 -- ---- the commit phase of cycle `now`, after the steps of earlier cycles
 
 next-raise : (n n' m s : ℕ) (store_waits : Bool) (stale : set.FinSet nat_cmp) (es : List Entry) (fs : List Fetched) →
     ((e : Entry) (rest : List Entry) → es ≡ e ∷ rest → NextEntry n s store_waits stale e → NextEntry n' s store_waits stale e) →
     Next n m s store_waits stale es fs → Next n' m s store_waits stale es fs
-next-raise n n' m s store_waits stale [] [] goes next = next
-next-raise n n' m s store_waits stale [] (f ∷ fs) goes next = next
-next-raise n n' m s store_waits stale (e ∷ es) fs goes next = goes e es refl next
+next-raise n n' m s store_waits stale es fs goes next = grind arith
 
 -- after a step of the present cycle
 next-now : (v : Values) (n now : ℕ) (store_waits : Bool) (stale : set.FinSet nat_cmp) (es : List Entry) (fs : List Fetched) →
     n ≤ now + 1 → Each (SoundEntry v now now now) es → Each (SoundFetched now) fs → Next n now now store_waits stale es fs
-next-now v n now store_waits stale [] [] le sound words = omega arith
-next-now v n now store_waits stale [] (f ∷ fs) le sound words = (omega (arith, words.0.0), λ plain. omega arith)
-next-now v n now store_waits stale (e ∷ es) fs le sound words =
-    record { fetched = omega (arith, sound.0.after_fetch, sound.0.by_now); dispatched = λ plain. omega (arith, sound.0.by_now); reason = inl le }
+next-now v n now store_waits stale es fs le sound words = grind arith
 
 same_head : (e x : Entry) (es rest all : List Entry) → all ≡ e ∷ es → all ≡ x ∷ rest → e ≡ x
 same_head e x es rest all at at' = let same : e ∷ es ≡ x ∷ rest = sym at ∙ at' in cc
@@ -238,9 +174,7 @@ module _ (v : Values) (now : ℕ) (earlier : List Step) where
   -- a step after which nothing is left
   flushing : (c : Committing) (x : Step) (g : Hardware) (stop : Option Stop) → stamp_of x ≡ now → AllFollow (earlier ++ c.steps) → Follows (last_stamp (earlier ++ c.steps)) (has_step (earlier ++ c.steps)) x → g.rob.entries ≡ [] → g.front.entries ≡ [] →
       Committed (record { hardware = g; steps = c.steps ++ x ∷ []; stop = stop })
-  flushing c x g stop at all one none none' =
-      let last = last_is c x at in
-      record { follow = more_follow c x all one; next = rw (none, none') (omega (arith, last)) }
+  flushing c x g stop given all one holds none' = grind (arith, last_is, more_follow)
 
   -- the same steps, where the oldest has a reason not to have retired
   standing : (k : ℕ) (c : Committing) (stop : Option Stop) → Going k c →
@@ -253,9 +187,7 @@ module _ (v : Values) (now : ℕ) (earlier : List Step) where
 
   unfinished_since : (n D : ℕ) (i : Option Instr) (st : Stage) → is_serialising i ≡ false → broadcast_of st ≡ None →
       IsKnownSince n i D st
-  unfinished_since n D i Waiting plain none = λ serial. not_both serial plain
-  unfinished_since n D i (Running issue message) plain none = tt
-  unfinished_since n D i (Finished issue cycle message) plain none = absurd (cc)
+  unfinished_since n D i st plain given = grind (arith, not_both)
 
   module _ (k : ℕ) (c : Committing) (e : Entry) (es : List Entry) (head : Head set.contains c e es) (q : InCommit c) (p : Going k c) where
     s : ℕ
@@ -272,9 +204,7 @@ module _ (v : Values) (now : ℕ) (earlier : List Step) where
 
     retired_follows : (written : Option (ℕ × ℕ)) → MayRetire e.instruction e.stage →
         Follows (last_stamp (earlier ++ c.steps)) (has_step (earlier ++ c.steps)) (Retired (row_at e written c.hardware.cycle))
-    retired_follows written may =
-        subst (λ n. Follows (last_stamp (earlier ++ c.steps)) (has_step (earlier ++ c.steps)) (Retired (row_at e written n))) (sym q.basics.cycle)
-        (row_follows v now (last_stamp (earlier ++ c.steps)) (has_step (earlier ++ c.steps)) c.hardware.stale e head_sound head_next head.fresh written may)
+    retired_follows written may = grind (arith, row_follows, head_sound, head_next)
 
     fence_stands : is_fence_i e.instruction ≡ true → (x : Entry) (rest : List Entry) → c.hardware.rob.entries ≡ x ∷ rest →
         HasReason (now + 1) (last_stamp (earlier ++ c.steps)) c.hardware.stale x
@@ -283,15 +213,10 @@ module _ (v : Values) (now : ℕ) (earlier : List Step) where
   turn_leads : (total k : ℕ) (c : Committing) (t : Turn Committing) → t ≡ commit_turn set.contains c →
       CommitTurn set.contains c t → InCommit c → Going k c → Leads InCommit InCommit t → Leads (Going (suc k)) Committed t
   turn_leads total k c _ turn (no_head none) q p goes = standing k c c.stop p (λ x rest at. absurd (let no_more = sym none ∙ at in cc))
-  turn_leads total k c _ turn (stale_head e es at is) q p goes =
-      let same = standing k c c.stop p (λ x rest at'. inr (inl (subst (λ (y : Entry). set.contains c.hardware.stale (word_of y.pc) ≡ true) (same_head e x es rest c.hardware.rob.entries at at') is))) in
-      record { follow = same.follow; next = same.next }
-  turn_leads total k c _ turn (unfinished e es head plain none) q p goes =
-      standing k c c.stop p (λ x rest at. inr (inr (inr (subst (λ (y : Entry). IsKnownSince (now + 1) y.instruction y.dispatched y.stage) (same_head e x es rest c.hardware.rob.entries head.place at) (unfinished_since (now + 1) e.dispatched e.instruction e.stage plain none)))))
+  turn_leads total k c _ turn (stale_head e es at is) q p goes = grind (arith, standing, same_head)
+  turn_leads total k c _ turn (unfinished e es head plain none) q p goes = grind (arith, standing, same_head, unfinished_since)
   turn_leads total k c _ turn (fence_waits e es head is busy) q p goes = standing k c c.stop p (fence_stands k c e es head q p (ap is_fence_i is))
-  turn_leads total k c _ turn (fence_writes e es head is drained dirty) q p goes =
-      let same = standing k c c.stop p (fence_stands k c e es head q p (ap is_fence_i is)) in
-      record { follow = same.follow; next = same.next }
+  turn_leads total k c _ turn (fence_writes e es head is drained dirty) q p goes = grind (arith, standing, fence_stands)
   turn_leads total k c _ turn (fence_retires e es written next head is drained) q p goes =
       flushing c (Retired (row_at e written c.hardware.cycle)) (executed e written next (written_back c)).hardware c.stop q.basics.cycle p.follow
       (retired_follows k c e es head q p written (may_retire_serial e.instruction e.stage (ap is_serialising is))) refl refl
@@ -307,17 +232,7 @@ module _ (v : Values) (now : ℕ) (earlier : List Step) where
       let follows = trap_follows v now (last_stamp (earlier ++ c.steps)) (has_step (earlier ++ c.steps)) c.hardware.stale e (head_sound k c e es head q p) (head_next k c e es head q p) head.fresh issue cycle message fault plain at is (head_found k c e es head q p) in
       flushing c (Trap e.pc fault.cause fault.value c.hardware.cycle) (with_fault e fault.cause fault.value c).hardware (with_fault e fault.cause fault.value c).stop q.basics.cycle p.follow
       (subst (λ n. Follows (last_stamp (earlier ++ c.steps)) (has_step (earlier ++ c.steps)) (Trap e.pc fault.cause fault.value n)) (sym q.basics.cycle) follows) refl refl
-  turn_leads total k c _ turn (retires e es issue cycle message head plain at none) q p goes =
-      let x : Step = Retired (row_at e (written_of e message) c.hardware.cycle) in
-      let d : Committing = retired_with e message c in
-      let last = last_is c x q.basics.cycle in
-      let here = λ (n : ℕ) (le : n ≤ now + 1). subst (λ l. Next n now l (has_step (earlier ++ d.steps)) d.hardware.stale d.hardware.rob.entries d.hardware.front.entries) (sym last)
-      (next-now v n now (has_step (earlier ++ d.steps)) d.hardware.stale d.hardware.rob.entries d.hardware.front.entries le goes.basics.entries goes.basics.fetched) in
-      record {
-        follow = more_follow c x p.follow (retired_follows k c e es head q p (written_of e message) (may_retire_finished e.instruction e.stage issue cycle message at none));
-        next = here now (omega arith);
-        later = λ some. here (now + 1) (omega arith);
-      }
+  turn_leads total k c _ turn (retires e es issue cycle message head plain at none) q p goes = grind (arith, last_is, next-now, more_follow, retired_follows, may_retire_finished)
   turn_leads total k c _ turn (retires_last e es issue cycle message head plain at none) q p goes =
       flushing c (Retired (row_at e (written_of e message) c.hardware.cycle)) (retired_and_flushed e message c).hardware c.stop q.basics.cycle p.follow
       (retired_follows k c e es head q p (written_of e message) (may_retire_finished e.instruction e.stage issue cycle message at none)) refl refl

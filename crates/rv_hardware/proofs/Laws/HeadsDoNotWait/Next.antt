@@ -1,5 +1,5 @@
 -- The next instruction of the program, in flight or in the fetch buffer, keeps its reason not to have retired.
-use Rattle.rv_hardware.proofs.Words.{◌≡◌, ℕ, ◌+◌, ◌≤◌, Bool, true, false, ◌&&◌, ◌⊎◌, List, [], ◌∷◌, ◌++◌, Some, None, Option, nat_cmp, ap, subst, inr, arith, is_fence_i, is_serialising, is_store, kind_of_word, Message, Instr, Kind, word_of, finished, issue_of, predicting, started, Entry, Stage, Finished, Running, Waiting, Fetched, broadcast, execute, entry_of_fetched, stage_by, drain, Hardware, issue, result_of_word, layout_of, seen_behind}
+use Rattle.rv_hardware.proofs.Words.{◌≡◌, ℕ, ◌+◌, ◌≤◌, Bool, true, false, ◌&&◌, ◌⊎◌, List, [], ◌∷◌, ◌++◌, Some, None, Option, nat_cmp, ap, subst, inr, arith, is_fence_i, is_serialising, is_store, Message, Instr, Kind, word_of, finished, issue_of, predicting, started, Entry, Stage, Finished, Running, Waiting, Fetched, broadcast, execute, stage_by, drain, Hardware, issue}
 use Rattle.std.specs.FinSet as set
 use Rattle.rv_hardware.proofs.Turns.Broadcast.{HasRun}
 use Rattle.rv_hardware.proofs.Turns.KeptByBroadcast.{IsKeptByBroadcast, broadcast-keeps}
@@ -42,8 +42,7 @@ module _ (n m s : ℕ) (store_waits : Bool) (stale : set.FinSet nat_cmp) where
   next-push : (es : List Entry) (e : Entry) (f : Fetched) (rest : List Fetched) →
       ((f.cycle ≤ s) × ((store_waits && is_store f.instruction) ≡ false → m ≤ s + 1) → NextEntry n s store_waits stale e) →
       Next n m s store_waits stale es (f ∷ rest) → Next n m s store_waits stale (es ++ e ∷ []) rest
-  next-push [] e f rest goes next = goes next
-  next-push (x ∷ es) e f rest goes next = next
+  next-push es e f rest goes next = grind arith
 
 -- ---- the phases of cycle `now`
 module _ (now s : ℕ) (store_waits : Bool) where
@@ -57,9 +56,7 @@ module _ (now s : ℕ) (store_waits : Bool) where
 
   known_at_dispatch : (cycle : ℕ) (i : Option Instr) (message : Message) (kind : Option Kind) (serial : Bool) → cycle ≡ now →
       IsKnownSince (now + 1) i cycle (stage_by kind serial (Finished None cycle message))
-  known_at_dispatch cycle i message (Some kind) serial at = λ is. omega (arith, at)
-  known_at_dispatch cycle i message None true at = λ is. omega (arith, at)
-  known_at_dispatch cycle i message None false at = omega (arith, at)
+  known_at_dispatch cycle i message kind serial given = grind arith
 
   next_drained : IsKeptByDrain HasNext
   next_drained = record { leaves = λ h has idle. has; drains = λ h access has idle is. has }
@@ -92,18 +89,7 @@ module _ (now s : ℕ) (store_waits : Bool) where
   }
 
   next_dispatched : IsKeptByDispatch HasNext
-  next_dispatched = record {
-    dispatches = λ h f rest has first none. (
-      has.0,
-      next-push (now + 1) now s store_waits h.stale h.rob.entries (entry_of_fetched h f) f rest
-          (λ next. record {
-            fetched = next.0;
-            dispatched = λ plain. omega (arith, has.0, next.1 plain);
-            reason = inr (inr (inr (known_at_dispatch h.cycle f.instruction (result_of_word (layout_of h.values) (seen_behind h h.rob.entries f.pc) h.lines f.word f.instruction) (kind_of_word f.instruction) (is_serialising f.instruction) has.0)));
-          })
-          (subst (λ fs. Next (now + 1) now s store_waits h.stale h.rob.entries fs) first has.1),
-    );
-  }
+  next_dispatched = grind (arith, next-push, known_at_dispatch)
 
   -- the phases from drain to dispatch keep it
   pub next_executed : (h : Hardware) → HasNext h → HasNext (execute h).hardware

@@ -1,6 +1,6 @@
 -- Marks of which each tells why the next was not fetched earlier go on to do so.
-use Rattle.rv_hardware.proofs.Words.{◌≡◌, ℕ, suc, ◌+◌, ◌<◌, ◌≤◌, Bool, true, false, cond, ◌&&◌, ◌⊎◌, List, [], ◌∷◌, ◌++◌, length, Some, None, Option, sym, refl, ap, ◌∙◌, subst, inl, inr, append_assoc, arith, length-append, Early, Values, Each, count}
-use Rattle.rv_hardware.proofs.Marks.Advance.{Advances, Kept, retires, starts, is_sent, enters, advances_agree}
+use Rattle.rv_hardware.proofs.Words.{◌≡◌, ℕ, suc, ◌+◌, ◌<◌, ◌≤◌, Bool, true, cond, ◌&&◌, ◌⊎◌, List, [], ◌∷◌, ◌++◌, length, Some, None, Option, sym, ap, ◌∙◌, subst, append_assoc, arith, length-append, Early, Values, Each, count}
+use Rattle.rv_hardware.proofs.Marks.Advance.{Advances, Kept, advances_agree}
 use Rattle.rv_hardware.proofs.Marks.History.{is_buffered_mark}
 use Rattle.rv_hardware.proofs.Marks.List.{Mark, at_end, was_fetched}
 
@@ -55,8 +55,7 @@ last_at P (x ∷ z ∷ zs) y is = last_at P (z ∷ zs) y is
 
 -- what is known of the last is known of the last of the rest
 pub last_of : {X : Type 0} (P : X → Type 0) (x : X) (xs : List X) → LastIs P (x ∷ xs) → LastIs P xs
-last_of P x [] last = tt
-last_of P x (y ∷ ys) last = last
+last_of P x xs last = grind arith
 
 -- how many words the buffer held
 abbrev pub held_behind : (ℕ → ℕ) → List Mark → ℕ → ℕ
@@ -64,8 +63,7 @@ held_behind held [] = held
 held_behind held (m ∷ ms) = held_behind (with_word held m) ms
 
 held_more : (b : Bool) (h n k : ℕ) → k ≡ cond b (suc h) h + n → k ≡ h + cond b (suc n) n
-held_more true h n k is = omega (arith, is)
-held_more false h n k is = is
+held_more b h n k is = grind arith
 
 -- the buffer held as many words as before, and those of the marks that are words
 pub held_count : (held : ℕ → ℕ) (ms : List Mark) (c : ℕ) → held_behind held ms c ≡ held c + count (is_word c) ms
@@ -80,30 +78,23 @@ module _ (v : Values) (now : ℕ) (halted : Bool) where
   AtLeast held more = (c : ℕ) → c < now → held c ≤ more c
 
   counted_by : (b : Bool) (h k : ℕ) → h ≤ k → cond b (suc h) h ≤ cond b (suc k) k
-  counted_by true h k le = omega (arith, le)
-  counted_by false h k le = le
+  counted_by b h k le = grind arith
 
   with_more : (held more : ℕ → ℕ) (m : Mark) → AtLeast held more → AtLeast (with_word held m) (with_word more m)
   with_more held more m le c lt = counted_by (is_word c m) (held c) (more c) (le c lt)
 
   filled_more : (held more : ℕ → ℕ) (m : Mark) (t : ℕ) → t ≤ now → AtLeast held more → Filled v held m t → Filled v more m t
-  filled_more held more m t le at_least h c after before =
-      let full = h c after before in let grown = with_more held more m at_least c (omega (arith, le, before)) in omega (arith, full, grown)
+  filled_more held more m t le at_least h c given before = grind (arith, with_more)
 
   followed_more : (held more : ℕ → ℕ) (m n : Mark) → AtLeast held more → Followed v now held m n → Followed v now more m n
-  followed_more held more m n le (by, inl over) = (by, inl over)
-  followed_more held more m n le (by, inr (inl early)) = (by, inr (inl early))
-  followed_more held more m n le (by, inr (inr full)) = (by, inr (inr (filled_more held more m n.fetched by le full)))
+  followed_more held more m n le given = grind (arith, filled_more)
 
   open_more : (held more : ℕ → ℕ) (m : Mark) → AtLeast held more → IsOpen v halted now held m → IsOpen v halted now more m
-  open_more held more m le (inl is) = inl is
-  open_more held more m le (inr (inl over)) = inr (inl over)
-  open_more held more m le (inr (inr full)) = inr (inr (filled_more held more m now (omega arith) le full))
+  open_more held more m le given = grind (arith, filled_more)
 
   joint_more : (held more : ℕ → ℕ) (m : Mark) (ms : List Mark) → AtLeast held more → Joint v now (IsOpen v halted now) held m ms →
       Joint v now (IsOpen v halted now) more m ms
-  joint_more held more m [] le h = open_more held more m le h
-  joint_more held more m (n ∷ ns) le h = followed_more held more m n le h
+  joint_more held more m ms le h = grind (arith, open_more, followed_more)
 
   linked_more : (held more : ℕ → ℕ) (ms : List Mark) → AtLeast held more → Linked v now (IsOpen v halted now) held ms →
       Linked v now (IsOpen v halted now) more ms
@@ -121,10 +112,7 @@ module _ (v : Values) (now : ℕ) (halted : Bool) where
   not_sent_yet m t none some = absurd (let same = sym none ∙ some in cc)
 
   goes_on : (xs : List Mark) (m n : Mark) → Advances v now xs m n → WentOn m n
-  goes_on xs m n (retires a) = let agree = advances_agree v now xs m n (retires a) in record { fetched = agree.0; before = agree.1; not_retired = a.not_yet; sent = λ t is. ap (λ x. x.broadcast) a.becomes ∙ is }
-  goes_on xs m n (starts a) = let agree = advances_agree v now xs m n (starts a) in record { fetched = agree.0; before = agree.1; not_retired = a.not_retired; sent = λ t is. not_sent_yet m t a.not_sent is }
-  goes_on xs m n (is_sent a) = let agree = advances_agree v now xs m n (is_sent a) in record { fetched = agree.0; before = agree.1; not_retired = a.not_retired; sent = λ t is. not_sent_yet m t a.not_yet is }
-  goes_on xs m n (enters a) = let agree = advances_agree v now xs m n (enters a) in record { fetched = agree.0; before = agree.1; not_retired = a.not_retired; sent = λ t is. not_sent_yet m t a.not_sent is }
+  goes_on xs m n given = grind (arith, advances_agree, not_sent_yet)
 
   module _ (m n : Mark) (g : WentOn m n) where
     same_word : (c : ℕ) → c < now → is_word c m ≡ is_word c n
@@ -134,20 +122,14 @@ module _ (v : Values) (now : ℕ) (halted : Bool) where
     with_same held c lt = let same = ap (λ b. cond b (suc (held c)) (held c)) (same_word c lt) in omega (arith, same)
 
     filled_same : (held : ℕ → ℕ) (t : ℕ) → t ≤ now → Filled v held m t → Filled v held n t
-    filled_same held t le h c after before =
-        let full = h c (omega (arith, after, g.fetched)) before in let same = with_same held c (omega (arith, le, before)) in omega (arith, full, same)
+    filled_same held t le h c given before = grind (arith, with_same)
 
     retired_before : {P : Type 0} (t : ℕ) → IsBy m.retired t → P
     retired_before t by = absurd (subst (λ o. IsBy o t) g.not_retired by)
 
     joint_goes : (held : ℕ → ℕ) (ms : List Mark) → Joint v now (IsOpen v halted now) held m ms →
         Joint v now (IsOpen v halted now) held n ms
-    joint_goes held [] (inl is) = inl is
-    joint_goes held [] (inr (inl over)) = retired_before now over
-    joint_goes held [] (inr (inr full)) = inr (inr (filled_same held now (omega arith) full))
-    joint_goes held (z ∷ zs) (by, inl over) = retired_before z.fetched over
-    joint_goes held (z ∷ zs) (by, inr (inl early)) = (by, inr (inl (early.0, g.sent z.fetched early.1)))
-    joint_goes held (z ∷ zs) (by, inr (inr full)) = (by, inr (inr (filled_same held z.fetched by full)))
+    joint_goes held ms given = grind (arith, retired_before, filled_same)
 
     joint_before : (held : ℕ → ℕ) (x : Mark) (xs zs : List Mark) → Joint v now (IsOpen v halted now) held x (xs ++ m ∷ zs) →
         Joint v now (IsOpen v halted now) held x (xs ++ n ∷ zs)
@@ -168,14 +150,7 @@ module _ (v : Values) (now : ℕ) (halted : Bool) where
 
   -- marks that go on, and a cut, keep it that they were linked
   pub was_linked_kept : (size : ℕ) → Kept v now (WasLinked size)
-  was_linked_kept size = record {
-    cut = λ xs ys r. (ys ++ r.0, rw (← append_assoc xs ys r.0) r.1, rw (← append_assoc xs ys r.0) r.2);
-    set = λ xs ys m n a r. (
-      r.0,
-      rw (append_assoc xs (n ∷ ys) r.0) (linked_goes m n (goes_on xs m n a) (λ c. 0) xs (ys ++ r.0) (rw (append_assoc xs (m ∷ ys) r.0) at r.1)),
-      rw (append_assoc xs (n ∷ ys) r.0) (same_size xs (ys ++ r.0) n m ∙ (rw (append_assoc xs (m ∷ ys) r.0) at r.2)),
-    );
-  }
+  was_linked_kept size = grind (arith, append_assoc, linked_goes, goes_on, same_size)
 
 -- a fetch
 
@@ -188,8 +163,7 @@ module _ (v : Values) (now : ℕ) (last next : (ℕ → ℕ) → Mark → Type 0
   joint_stays : (held : ℕ → ℕ) (m : Mark) (ms : List Mark) →
       ((h : ℕ → ℕ) (x : Mark) → with_word h x now ≡ held_behind (with_word held m) ms now → last h x → next h x) →
       Joint v now last held m ms → Joint v (now + 1) next held m ms
-  joint_stays held m [] f h = f held m refl h
-  joint_stays held m (n ∷ ns) f h = followed_later v now held m n h
+  joint_stays held m ms f h = grind (arith, followed_later)
 
   -- where nothing is fetched, linked marks stay linked in the next cycle
   pub linked_stays : (held : ℕ → ℕ) (ms : List Mark) →
@@ -201,8 +175,7 @@ module _ (v : Values) (now : ℕ) (last next : (ℕ → ℕ) → Mark → Type 0
   joint_on : (held : ℕ → ℕ) (m : Mark) (ms : List Mark) (f : Mark) (fs : List Mark) →
       ((h : ℕ → ℕ) (x : Mark) → last h x → Followed v (now + 1) h x f) → Joint v now last held m ms →
       Joint v (now + 1) next held m (ms ++ f ∷ fs)
-  joint_on held m [] f fs g h = g held m h
-  joint_on held m (n ∷ ns) f fs g h = followed_later v now held m n h
+  joint_on held m ms f fs g h = grind (arith, followed_later)
 
   -- where something is
   pub linked_on : (held : ℕ → ℕ) (ms : List Mark) (f : Mark) (fs : List Mark) →
@@ -215,8 +188,7 @@ module _ (v : Values) (now : ℕ) (last next : (ℕ → ℕ) → Mark → Type 0
 module _ (v : Values) (now : ℕ) (last : (ℕ → ℕ) → Mark → Type 0) (P : Mark → Type 0) where
   joint_cut : (held : ℕ → ℕ) (m : Mark) (ms rest : List Mark) → LastIs P (m ∷ ms) → Joint v now last held m (ms ++ rest) →
       Joint v now (λ h x. P x) held m ms
-  joint_cut held m [] rest is h = is
-  joint_cut held m (n ∷ ns) rest is h = h
+  joint_cut held m ms rest is h = grind arith
 
   -- the first of linked marks are linked
   pub linked_cut : (held : ℕ → ℕ) (ms rest : List Mark) → LastIs P ms → Linked v now last held (ms ++ rest) →
@@ -229,8 +201,7 @@ module _ (v : Values) (now : ℕ) (last : (ℕ → ℕ) → Mark → Type 0) (P 
 module _ (v : Values) (now : ℕ) (halted : Bool) where
   joint_words : (held : ℕ → ℕ) (f : Mark) (fs : List Mark) → f.fetched ≡ now → Each (λ x. x.fetched ≡ now) fs →
       Joint v (now + 1) (IsOpen v halted (now + 1)) held f fs
-  joint_words held f [] at all = inr (inr (λ c after before. absurd (omega (arith, at, after, before))))
-  joint_words held f (g ∷ gs) at all = (let same = all.0 in omega (arith, same), inr (inr (λ c after before. let same = all.0 in absurd (omega (arith, same, at, after, before)))))
+  joint_words held f fs given all = grind arith
 
   -- words of the present cycle are linked
   pub linked_words : (held : ℕ → ℕ) (fs : List Mark) → Each (λ x. x.fetched ≡ now) fs →

@@ -1,12 +1,12 @@
 -- What is in flight, or is fetched next, was fetched no later than the last step.
-use Rattle.rv_hardware.proofs.Words.{◌≡◌, ℕ, ◌+◌, ◌-◌, ◌≤◌, Bool, true, false, ◌⊎◌, List, [], ◌∷◌, ◌++◌, length, Some, None, Option, nat_cmp, sym, refl, ap, ◌∙◌, subst, inl, inr, true≢false, append_assoc, append-nil, arith, length-append, Lines, Kind, Values, due, interrupt_cause, Each, finished, predicting, started, Entry, FetchBuffer, Fetched, broadcast, Committing, commit_unless, with_fault, IsCycle, any_prediction, with_lines, dispatch, entry_of_fetched, drain, Hardware, issue, Turn, Report, written_of, EachNext, stamp_of, Step, Interrupt, Retired, Trap, Each-weaker, Leads}
+use Rattle.rv_hardware.proofs.Words.{◌≡◌, ℕ, ◌+◌, ◌-◌, ◌≤◌, Bool, true, false, ◌⊎◌, List, [], ◌∷◌, ◌++◌, length, Some, None, Option, nat_cmp, sym, refl, ap, ◌∙◌, subst, inl, inr, true≢false, append_assoc, append-nil, arith, length-append, Lines, Kind, Values, due, interrupt_cause, Each, Entry, FetchBuffer, Fetched, broadcast, Committing, commit_unless, with_fault, IsCycle, any_prediction, with_lines, dispatch, drain, Hardware, issue, Turn, Report, written_of, EachNext, stamp_of, Step, Interrupt, Retired, Trap, Each-weaker, Leads}
 use Rattle.std.specs.FinSet as set
 use Rattle.rv_hardware.proofs.Turns.KeptByBroadcast.{IsKeptByBroadcast, broadcast-keeps}
 use Rattle.rv_hardware.proofs.Turns.KeptByDispatch.{IsKeptByDispatch, dispatch-keeps}
 use Rattle.rv_hardware.proofs.Turns.KeptByDrain.{IsKeptByDrain, drain-keeps}
 use Rattle.rv_hardware.proofs.Turns.KeptByIssue.{IsKeptByIssue, issue-keeps}
 use Rattle.rv_hardware.proofs.Always.Halted.{HaltsBehind, words_of, runs-empty}
-use Rattle.rv_hardware.proofs.Turns.Commit.{CommitTurn, no_head, stale_head, unfinished, fence_waits, fence_writes, fence_retires, executes, serial_faults, traps, retires, retires_last, executed, written_back, retired_with, retired_and_flushed, head_retired_entries}
+use Rattle.rv_hardware.proofs.Turns.Commit.{CommitTurn, fence_retires, executes, serial_faults, traps, retires, retires_last, executed, written_back, retired_with, retired_and_flushed, head_retired_entries}
 use Rattle.rv_hardware.proofs.Marks.History.{Anything, anything_is_kept, Passed, History, began, went_on, begin, committing, dispatching, history_is_legal, history_is_sound, history_passes}
 use Rattle.rv_hardware.proofs.Marks.Keeps.{InCommit, commit_turns_keep}
 use Rattle.rv_hardware.proofs.Laws.NoIdleFetch.Links.{LastIs, last_at, last_of}
@@ -18,8 +18,7 @@ use Rattle.rv_hardware.proofs.Marks.Sound.{SoundEntry, SoundFetched}
 -- a row was fetched by a cycle
 abbrev pub IsFetchedBy : ℕ → Step → Type 0
 IsFetchedBy c (Retired row) = row.fetched ≤ c
-IsFetchedBy c (Trap pc cause value cycle) = Unit {0}
-IsFetchedBy c (Interrupt pc cause cycle) = Unit {0}
+IsFetchedBy c _ = Unit {0}
 
 abbrev pub IsFetchedNext : Step → Step → Type 0
 IsFetchedNext a b = IsFetchedBy (stamp_of a) b
@@ -35,8 +34,7 @@ EveryNext R (x ∷ xs) = NextIs R x xs × EveryNext R xs
 
 module _ {X : Type 0} (R : X → X → Type 0) where
   next_push : (x y : X) (xs : List X) → LastIs (λ z. R z y) (x ∷ xs) → NextIs R x xs → NextIs R x (xs ++ y ∷ [])
-  next_push x y [] last h = last
-  next_push x y (z ∷ zs) last h = h
+  next_push x y xs last h = grind arith
 
   EveryNext-push : (xs : List X) (y : X) → LastIs (λ z. R z y) xs → EveryNext R xs → EveryNext R (xs ++ y ∷ [])
   EveryNext-push [] y last h = (tt, tt)
@@ -64,14 +62,11 @@ coming_same now (o ∷ older) younger others e x fs gs same = refl
 
 coming_dispatched : (now : ℕ) (es : List Entry) (e : Entry) (f : Fetched) (fs : List Fetched) → e.fetched ≡ f.cycle →
     coming now (es ++ e ∷ []) fs ≡ coming now es (f ∷ fs)
-coming_dispatched now [] e f fs same = same
-coming_dispatched now (x ∷ xs) e f fs same = refl
+coming_dispatched now es e f fs same = grind arith
 
 coming_by : (v : Values) (now : ℕ) (es : List Entry) (fs : List Fetched) → Each (SoundEntry v now now now) es →
     Each (SoundFetched now) fs → coming now es fs ≤ now
-coming_by v now (e ∷ es) fs entries words = let sound = entries.0 in omega (arith, sound.after_fetch, sound.by_now)
-coming_by v now [] (f ∷ fs) entries words = let sound = words.0 in omega (arith, sound.0)
-coming_by v now [] [] entries words = omega arith
+coming_by v now es fs entries words = grind arith
 
 -- each row was fetched by the step before it, and so is what comes after the last
 abbrev AreFetchedNext : ℕ → List Step → Hardware → Type 0
@@ -101,11 +96,6 @@ module _ (v : Values) (now : ℕ) (earlier : List Step) (is_stale : set.FinSet n
 
   commit_follows : (c : Committing) (t : Turn Committing) → CommitTurn is_stale c t → InCommit v now earlier is_stale c →
       Following c → Leads Following Following t
-  commit_follows c _ (no_head none) q p = p
-  commit_follows c _ (stale_head e es at is) q p = p
-  commit_follows c _ (unfinished e es head plain none) q p = p
-  commit_follows c _ (fence_waits e es head is busy) q p = p
-  commit_follows c _ (fence_writes e es head is drained dirty) q p = p
   commit_follows c _ (fence_retires e es written next head is drained) q p = one_more c (Retired (row_at e written c.hardware.cycle)) (executed e written next (written_back c)).hardware q.basics.cycle (omega arith) (head_next c e es written head.place p) p
   commit_follows c _ (executes e es written next head serial) q p = one_more c (Retired (row_at e written c.hardware.cycle)) (executed e written next c).hardware q.basics.cycle (omega arith) (head_next c e es written head.place p) p
   commit_follows c _ (serial_faults e es cause value head serial) q p = one_more c (Trap e.pc cause value c.hardware.cycle) (with_fault e cause value c).hardware q.basics.cycle (omega arith) (no_row_next c (Trap e.pc cause value c.hardware.cycle) (λ a. tt) p) p
@@ -115,6 +105,7 @@ module _ (v : Values) (now : ℕ) (earlier : List Step) (is_stale : set.FinSet n
       let by = coming_by v now es c.hardware.front.entries these.1 q.basics.fetched in
       one_more c (Retired (row_at e (written_of e message) c.hardware.cycle)) (retired_with e message c).hardware q.basics.cycle (subst (λ l. coming now l c.hardware.front.entries ≤ now) (sym (head_retired_entries c.hardware.rob e es head.place)) by) (head_next c e es (written_of e message) head.place p) p
   commit_follows c _ (retires_last e es begun cycle message head plain at none) q p = one_more c (Retired (row_at e (written_of e message) c.hardware.cycle)) (retired_and_flushed e message c).hardware q.basics.cycle (omega arith) (head_next c e es (written_of e message) head.place p) p
+  commit_follows c _ _ q p = p
 
   commit_follows_by : (o : Option ℕ) (h : Hardware) → InCommit v now earlier is_stale (record { hardware = h; steps = []; stop = None }) → AreFetchedNext now (earlier ++ []) h → Following (commit_unless is_stale o h)
   commit_follows_by (Some code) h q p =
@@ -134,26 +125,16 @@ module _ (now t : ℕ) where
 
   other_entry : (h : Hardware) (older younger others : List Entry) (e x : Entry) (fs : List Fetched) →
       h.rob.entries ≡ older ++ e ∷ younger → x.fetched ≡ e.fetched → Comes h → coming now (older ++ x ∷ others) fs ≡ t
-  other_entry h older younger others e x fs split same p =
-      coming_same now older younger others e x h.front.entries fs same ∙ ap (λ es. coming now es h.front.entries) (sym split) ∙ p
+  other_entry h older younger others e x fs split same p = grind (arith, coming_same)
 
   issue_comes : (k : Kind) → IsKeptByIssue Comes k
-  issue_comes k = record {
-    accesses = λ h older younger e address p split ready by. p;
-    starts = λ h older younger e cost message p split waits of_kind result costs.
-        other_entry h older younger younger e (started (record { cycle = h.cycle; cost = cost }) message e) h.front.entries split refl p;
-  }
+  issue_comes k = grind (arith, other_entry)
 
   broadcast_comes : IsKeptByBroadcast Comes
-  broadcast_comes = record {
-    broadcasts = λ h older younger e message p split gives. other_entry h older younger younger e (finished message h.cycle e) h.front.entries split refl p;
-    mends = λ h older younger e next p split. other_entry h older younger [] e (predicting next e) [] split refl p;
-  }
+  broadcast_comes = grind (arith, other_entry)
 
   dispatch_comes : IsKeptByDispatch Comes
-  dispatch_comes = record {
-    dispatches = λ h f fs p first none. coming_dispatched now h.rob.entries (entry_of_fetched h f) f fs refl ∙ ap (coming now h.rob.entries) (sym first) ∙ p;
-  }
+  dispatch_comes = grind (arith, coming_dispatched)
 
   executed_comes : (h : Hardware) → Comes h → Comes (dispatch (broadcast (issue (drain h)))).hardware
   executed_comes h p = dispatch-keeps dispatch_comes (broadcast (issue (drain h))) (broadcast-keeps broadcast_comes (issue (drain h)) (issue-keeps Comes issue_comes (drain h) (drain-keeps drain_comes h p)))
@@ -162,10 +143,7 @@ module _ (now t : ℕ) where
 
 coming_fetched : (now : ℕ) (es : List Entry) (fs added : List Fetched) → Each (λ f. f.cycle ≡ now) added →
     (es ≡ [] → fs ++ added ≡ [] → ⊥) → coming (now + 1) es (fs ++ added) ≡ coming now es fs
-coming_fetched now (e ∷ es) fs added new some = refl
-coming_fetched now [] (f ∷ fs) added new some = refl
-coming_fetched now [] [] (f ∷ fs) new some = new.0
-coming_fetched now [] [] [] new some = absurd (some refl refl)
+coming_fetched now es fs added new some = grind arith
 
 module _ (v : Values) {earlier : List Step} {old new : Hardware} {lines : Lines} {report : Report} (before : History v earlier old) (is : IsCycle any_prediction lines old report new) where
   abbrev Passes : Type 0

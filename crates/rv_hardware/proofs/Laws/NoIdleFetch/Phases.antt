@@ -1,5 +1,5 @@
 -- In each phase instructions and words only go on, or what is younger is squashed and fetch begins anew.
-use Rattle.rv_hardware.proofs.Words.{◌≡◌, ℕ, ◌+◌, Bool, true, false, ◌⊎◌, List, [], ◌∷◌, ◌++◌, map, length, Some, None, Option, nat_cmp, sym, refl, ap, ◌∙◌, inl, inr, append_assoc, arith, length-append, length-map, Kind, Commit, Early, Values, finished, predicting, started, Entry, Fetched, broadcast, broadcast_turn, is_mispredicted, mends_early, Committing, commit_turn, commit_unless, dispatch, entry_of_fetched, drain, Hardware, issue, Turn, written_of, rows_of, Step, Retired, and_first, Leads, left_by_turns, kept_by_turns}
+use Rattle.rv_hardware.proofs.Words.{◌≡◌, ℕ, ◌+◌, Bool, true, false, ◌⊎◌, List, [], ◌∷◌, ◌++◌, length, Some, None, Option, nat_cmp, sym, refl, ap, ◌∙◌, inl, inr, append_assoc, arith, length-append, length-map, Kind, Early, Values, finished, predicting, Entry, Fetched, broadcast, broadcast_turn, is_mispredicted, mends_early, Committing, commit_turn, commit_unless, dispatch, entry_of_fetched, drain, Hardware, issue, Turn, rows_of, Step, Retired, and_first, Leads, left_by_turns, kept_by_turns}
 use Rattle.std.specs.FinSet as set
 use Rattle.rv_isa.specs.declared.values.Recovery.{Recovery}
 use Rattle.rv_hardware.proofs.Turns.KeptByDispatch.{IsKeptByDispatch, dispatch-keeps}
@@ -7,8 +7,8 @@ use Rattle.rv_hardware.proofs.Turns.KeptByDrain.{IsKeptByDrain, drain-keeps}
 use Rattle.rv_hardware.proofs.Turns.KeptByIssue.{IsKeptByIssue, issue-keeps}
 use Rattle.rv_hardware.proofs.Marks.Basics.{finished_mark}
 use Rattle.rv_hardware.proofs.Turns.Broadcast.{BroadcastTurn, none_ready, sends, mends, broadcast_turn_is, sent_entries, mended_entries}
-use Rattle.rv_hardware.proofs.Turns.Commit.{CommitTurn, no_head, stale_head, unfinished, fence_waits, fence_writes, fence_retires, executes, serial_faults, traps, retires, retires_last, commit_turn_is, head_retired_entries}
-use Rattle.rv_hardware.proofs.Marks.List.{Mark, mark_of_row, mark_of_entry, mark_of_fetched, marks_in, broadcast_of_stage, rows_append}
+use Rattle.rv_hardware.proofs.Turns.Commit.{CommitTurn, commit_turn_is, head_retired_entries}
+use Rattle.rv_hardware.proofs.Marks.List.{Mark, marks_in, broadcast_of_stage, rows_append}
 use Rattle.rv_hardware.proofs.Marks.Row.{row_at}
 
 -- how many instructions retired, are in flight and were fetched
@@ -17,15 +17,7 @@ size steps h = length (rows_of steps) + (length h.rob.entries + length h.front.e
 
 -- there is a mark for each row, each instruction in flight and each fetched word
 pub size_of_marks : (steps : List Step) (h : Hardware) → length (marks_in steps h) ≡ size steps h
-size_of_marks steps h =
-    omega (
-      arith,
-      length-append (map mark_of_row (rows_of steps)) (map mark_of_entry h.rob.entries ++ map mark_of_fetched h.front.entries),
-      length-append (map mark_of_entry h.rob.entries) (map mark_of_fetched h.front.entries),
-      length-map (rows_of steps) mark_of_row,
-      length-map h.rob.entries mark_of_entry,
-      length-map h.front.entries mark_of_fetched,
-    )
+size_of_marks steps h = grind (arith, length-append, length-map)
 
 -- nothing was squashed
 abbrev pub Uncut : ℕ → Bool → List Step → Hardware → Type 0
@@ -63,27 +55,10 @@ module _ (n : ℕ) (halted : Bool) where
 
     one_row : (c : Committing) (e : Entry) (written : Option (ℕ × ℕ)) →
         length (rows_of (earlier ++ (c.steps ++ Retired (row_at e written c.hardware.cycle) ∷ []))) ≡ length (rows_of (earlier ++ c.steps)) + 1
-    one_row c e written =
-        let s : Step = Retired (row_at e written c.hardware.cycle) in
-        ap (λ l. length (rows_of l)) (sym (append_assoc earlier c.steps (s ∷ []))) ∙ ap length (rows_append (earlier ++ c.steps) (s ∷ [])) ∙ length-append (rows_of (earlier ++ c.steps)) (rows_of (s ∷ []))
+    one_row c e written = grind (arith, append_assoc, rows_append, length-append)
 
     commit_goes : (c : Committing) (t : Turn Committing) → CommitTurn is_stale c t → Committed c → Leads Committed Committed t
-    commit_goes c _ (no_head none) p = p
-    commit_goes c _ (stale_head e es at is) p = p
-    commit_goes c _ (unfinished e es head plain none) p = p
-    commit_goes c _ (fence_waits e es head is busy) p = p
-    commit_goes c _ (fence_writes e es head is drained dirty) p = p
-    commit_goes c _ (fence_retires e es written next head is drained) p = inr (refl, refl, refl)
-    commit_goes c _ (executes e es written next head serial) p = inr (refl, refl, refl)
-    commit_goes c _ (serial_faults e es cause value head serial) p = inr (refl, refl, refl)
-    commit_goes c _ (traps e es issue cycle message fault head plain at is) p = inr (refl, refl, refl)
-    commit_goes c _ (retires e es issue cycle message head plain at none) (inl p) =
-        let rows = one_row c e (written_of e message) in
-        let old = ap length head.place in
-        let new = ap length (head_retired_entries c.hardware.rob e es head.place) in
-        inl (omega (arith, p.0, rows, old, new), p.1)
-    commit_goes c _ (retires e es issue cycle message head plain at none) (inr p) = not_empty e es (sym head.place ∙ p.0)
-    commit_goes c _ (retires_last e es issue cycle message head plain at none) p = inr (refl, refl, refl)
+    commit_goes c t given p = grind (arith, one_row, head_retired_entries, not_empty)
 
     -- the commit phase squashes nothing, or everything
     pub commit_goes_by : (o : Option ℕ) (h : Hardware) → WholeOrNone (earlier ++ []) h → Committed (commit_unless is_stale o h)
@@ -102,10 +77,7 @@ module _ (n : ℕ) (halted : Bool) where
     starts_goes h older younger e x split (inr p) = not_empty_at older younger e (sym split ∙ p.0)
 
     issue_goes : (k : Kind) → IsKeptByIssue (WholeOrNone steps) k
-    issue_goes k = record {
-      accesses = λ h older younger e address p split ready by. p;
-      starts = λ h older younger e cost message p split waits of_kind result costs. inl (starts_goes h older younger e (started (record { cycle = h.cycle; cost = cost }) message e) split p);
-    }
+    issue_goes k = grind (arith, starts_goes)
 
     -- early recovery may squash
     abbrev pub Left : Hardware → Type 0
@@ -115,8 +87,7 @@ module _ (n : ℕ) (halted : Bool) where
     Sending h = (h.cycle ≡ now) × (h.values ≡ v) × WholeOrNone steps h
 
     is_early : (r : Recovery) → mends_early r ≡ true → r ≡ Early
-    is_early Commit is = absurd (cc)
-    is_early Early is = refl
+    is_early r is = grind arith
 
     broadcast_leads : (h : Hardware) (t : Turn Hardware) → BroadcastTurn h t → Sending h → Leads Sending Left t
     broadcast_leads h _ (none_ready none) p = inl p.2
@@ -143,9 +114,7 @@ module _ (n : ℕ) (halted : Bool) where
 
     dispatch_left : (h : Hardware) (f : Fetched) (fs : List Fetched) → h.front.entries ≡ f ∷ fs → Left h →
         (length (rows_of steps) + (length (h.rob.entries ++ entry_of_fetched h f ∷ []) + length fs) ≡ n) × (h.front.halted ≡ halted)
-    dispatch_left h f fs first (inl (inl p)) = (omega (arith, p.0, ap length first, length-append h.rob.entries (entry_of_fetched h f ∷ [])), p.1)
-    dispatch_left h f fs first (inl (inr p)) = no_words h f fs first p.1
-    dispatch_left h f fs first (inr p) = no_words h f fs first p.words
+    dispatch_left h f fs first given = grind (arith, length-append, no_words)
 
     dispatch_goes : IsKeptByDispatch Left
     dispatch_goes = record { dispatches = λ h f fs p first none. inl (inl (dispatch_left h f fs first p)) }

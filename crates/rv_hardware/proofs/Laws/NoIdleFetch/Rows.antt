@@ -63,11 +63,7 @@ module _ (v : Values) {earlier : List Step} {old new : Hardware} {lines : Lines}
       broadcast_and_dispatch n b v old.cycle all (issued_all lines old) passed.issues.basics.cycle passed.issues.basics.always.sizes.values issues
 
   fetches_none : {P : Type 0} (f : Fetched) (fs : List Fetched) → passed.fetches.added ≡ f ∷ fs → d.front.halted ≡ true → P
-  fetches_none f fs at halted =
-      let same = ap (λ (r : FetchBuffer). length r.entries) (stays_halted is halted) in
-      let more = ap length passed.fetches.entries ∙ length-append d.front.entries passed.fetches.added in
-      let some = ap length at in
-      absurd (omega (arith, same, more, some))
+  fetches_none f fs given halted = grind (arith, stays_halted, passed, length-append)
 
   abbrev Next : List Mark → Type 0
   Next ms = Linked v (old.cycle + 1) (IsOpen v new.front.halted (old.cycle + 1)) (λ c. 0) ms
@@ -82,8 +78,7 @@ module _ (v : Values) {earlier : List Step} {old new : Hardware} {lines : Lines}
 
   squash_followed : (f : Mark) → f.fetched ≡ old.cycle → (h : ℕ → ℕ) (x : Mark) → Squashes v old.cycle x →
       Followed v (old.cycle + 1) h x f
-  squash_followed f at h x (inl over) = (omega (arith, at), inl (rw at over))
-  squash_followed f at h x (inr early) = (omega (arith, at), inr (inl (early.0, rw at (early.1))))
+  squash_followed f given h x holds = grind arith
 
   behind_squash : LastIs (Squashes v old.cycle) (marks_in all d) → d.front.entries ≡ [] → d.front.halted ≡ false →
       (fs : List Fetched) → passed.fetches.added ≡ fs → Next (marks_in all d ++ map mark_of_fetched fs)
@@ -172,9 +167,7 @@ module _ (v : Values) {earlier : List Step} {old new : Hardware} {lines : Lines}
       mended.words mended.runs passed.fetches.added refl
 
   pub linked_in_cycle : Linked v new.cycle (IsOpen v new.front.halted new.cycle) (λ c. 0) (marks_in all new)
-  linked_in_cycle =
-      let next : new.cycle ≡ old.cycle + 1 = ap (λ (h : Hardware). h.cycle) passed.others_stay in
-      rw (next, passed.new_marks) (by_squash left)
+  linked_in_cycle = grind (arith, passed, by_squash, left)
 
 -- in every history each mark tells why the next one was not fetched earlier
 pub marks_are_linked : (v : Values) {steps : List Step} {h : Hardware} → History v steps h →

@@ -1,5 +1,5 @@
 -- Marks that go on keep it that no pipelined unit is idle while an instruction that is no load has its operands.
-use Rattle.rv_hardware.proofs.Words.{◌≡◌, ℕ, ◌<◌, ◌≤◌, Bool, true, false, cond, not, ◌&&◌, ◌||◌, List, [], ◌∷◌, ◌++◌, map, is_some, IfSome, Some, None, Option, sym, refl, ap, ◌∙◌, subst, true≢false, append_assoc, arith, and_from, is_load, is_of_kind, is_serialising, is_target, kind_of_word, sources_of_word, target_of_word, Instr, Kind, Values, Each, Entry, Stage, Finished, Running, Waiting, Fetched, Hardware, broadcast_of, is_known_from, is_waiting, writes, has_operands, is_ready, may_load, last_from, last_that, Execution, Row, never_both, Each-append, EveryBehind, count, count-set-grows, EveryBehind-left, EveryBehind-set}
+use Rattle.rv_hardware.proofs.Words.{◌≡◌, ℕ, ◌≤◌, Bool, true, false, cond, not, ◌||◌, List, [], ◌∷◌, ◌++◌, map, is_some, IfSome, Some, None, Option, sym, refl, ap, ◌∙◌, subst, true≢false, append_assoc, arith, and_from, is_load, is_of_kind, is_serialising, kind_of_word, sources_of_word, Instr, Kind, Values, Each, Entry, Stage, Fetched, Hardware, broadcast_of, is_known_from, is_waiting, writes, has_operands, is_ready, last_from, last_that, Execution, Row, never_both, Each-append, EveryBehind, count, count-set-grows, EveryBehind-left, EveryBehind-set}
 use Rattle.rv_hardware.specs.InFlight.{is_known}
 use Rattle.rv_hardware.proofs.Marks.Advance.{IsBefore, writes_mark, IsKnownMark, OperandsKnown, Advances, retires, starts, is_sent, enters, Kept}
 use Rattle.rv_hardware.proofs.Marks.Evidence.{last_from-append}
@@ -9,7 +9,7 @@ use Rattle.rv_hardware.proofs.Marks.Row.{SoundRow}
 use Rattle.rv_hardware.proofs.Always.Serial.{AreSerialLast, older_plain}
 use Rattle.rv_hardware.proofs.Always.Stores.{instructions_of}
 use Rattle.rv_hardware.proofs.Marks.Sound.{SoundEntry, SoundStage, is_of_kind_is}
-use Rattle.rv_hardware.proofs.Laws.OtherUnits.Rows.{starts_at, begins_mark}
+use Rattle.rv_hardware.proofs.Laws.OtherUnits.Rows.{begins_mark}
 
 -- an instruction that could start in a cycle
 pub record MayStart (k : Kind) (c : ℕ) (before : List Mark) (m : Mark) : Type 0 where
@@ -28,8 +28,7 @@ BusyUnits k j c before m = MayStart k c before m → j ≤ count (begins_mark k 
 module _ (c : ℕ) (m n : Mark) (instruction : n.instruction ≡ m.instruction) (known : IsKnownMark c n → IsKnownMark c m) where
   either : (b : Bool) (z : Mark) (o p : Option Mark) → (IfSome o (IsKnownMark c) → IfSome p (IsKnownMark c)) →
       IfSome (cond b (Some z) o) (IsKnownMark c) → IfSome (cond b (Some z) p) (IsKnownMark c)
-  either true z o p f h = h
-  either false z o p f h = f h
+  either b z o p f h = grind arith
 
   last_more : (test : Mark → Bool) (mid : List Mark) (o p : Option Mark) → (IfSome o (IsKnownMark c) → IfSome p (IsKnownMark c)) →
       IfSome (last_from o test mid) (IsKnownMark c) → IfSome (last_from p test mid) (IsKnownMark c)
@@ -38,18 +37,11 @@ module _ (c : ℕ) (m n : Mark) (instruction : n.instruction ≡ m.instruction) 
 
   here : (b : Bool) (found : Option Mark) → IfSome (cond b (Some n) found) (IsKnownMark c) →
       IfSome (cond b (Some m) found) (IsKnownMark c)
-  here true found h = known h
-  here false found h = h
+  here b found h = grind arith
 
   last_back : (register : ℕ) (xs mid : List Mark) → IfSome (last_that (writes_mark register) (xs ++ n ∷ mid)) (IsKnownMark c) →
       IfSome (last_that (writes_mark register) (xs ++ m ∷ mid)) (IsKnownMark c)
-  last_back register xs mid h =
-      let found : Option Mark = last_from None (writes_mark register) xs in
-      let same : writes_mark register n ≡ writes_mark register m = ap (λ i. is_target register (target_of_word i)) instruction in
-      rw (last_from-append None (writes_mark register) xs (m ∷ mid))
-      (last_more (writes_mark register) mid (cond (writes_mark register n) (Some n) found) (cond (writes_mark register m) (Some m) found)
-      (λ k. here (writes_mark register m) found (subst (λ b. IfSome (cond b (Some n) found) (IsKnownMark c)) same k))
-      (rw (last_from-append None (writes_mark register) xs (n ∷ mid)) at h))
+  last_back register xs mid h = grind (arith, last_from-append, last_more, here)
 
   operands_back : (xs mid : List Mark) (sources : List (Option ℕ)) → OperandsKnown c (xs ++ n ∷ mid) sources →
       OperandsKnown c (xs ++ m ∷ mid) sources
@@ -59,13 +51,7 @@ module _ (c : ℕ) (m n : Mark) (instruction : n.instruction ≡ m.instruction) 
 
   -- what could start after a mark that went on could start after it before that
   pub may_back : (k : Kind) (xs mid : List Mark) (z : Mark) → MayStart k c (xs ++ n ∷ mid) z → MayStart k c (xs ++ m ∷ mid) z
-  may_back k xs mid z may = record {
-    kind = may.kind;
-    plain = may.plain;
-    dispatched = may.dispatched;
-    not_yet = may.not_yet;
-    operands = operands_back xs mid (sources_of_word z.instruction) may.operands;
-  }
+  may_back k xs mid z may = grind (arith, operands_back)
 
 -- each way of going on
 
@@ -74,32 +60,17 @@ record Back (now : ℕ) (m n : Mark) : Type 0 where
   known : IsKnownMark now n → IsKnownMark now m
 
 not_now : {P : Type 0} (now : ℕ) (o : Option ℕ) → o ≡ Some now → IsBefore now o → P
-not_now now o at h = absurd (too_early (subst (IsBefore now) at h))
-  where
-    too_early : now < now → ⊥
-    too_early lt = omega arith
+not_now now o given h = grind arith
 
 same_known : (now : ℕ) (m n : Mark) → n.instruction ≡ m.instruction → n.broadcast ≡ m.broadcast → IsKnownMark now n →
     IsKnownMark now m
 same_known now m n instruction broadcast h some = subst (IsBefore now) broadcast (h (subst (λ i. is_some (kind_of_word i) ≡ true) (sym instruction) some))
 
 goes_back : (v : Values) (now : ℕ) (xs : List Mark) (m n : Mark) → Advances v now xs m n → Back now m n
-goes_back v now xs m n (retires a) = record {
-  instruction = ap (λ x. x.instruction) a.becomes;
-  known = same_known now m n (ap (λ x. x.instruction) a.becomes) (ap (λ x. x.broadcast) a.becomes);
-}
-goes_back v now xs m n (starts a) = record {
-  instruction = ap (λ x. x.instruction) a.becomes;
-  known = same_known now m n (ap (λ x. x.instruction) a.becomes) (ap (λ x. x.broadcast) a.becomes);
-}
-goes_back v now xs m n (is_sent a) = record {
-  instruction = ap (λ x. x.instruction) a.becomes;
-  known = λ h some. not_now now n.broadcast (ap (λ x. x.broadcast) a.becomes) (h (subst (λ i. is_some (kind_of_word i) ≡ true) (sym (ap (λ x. x.instruction) a.becomes)) some));
-}
-goes_back v now xs m n (enters a) = record {
-  instruction = ap (λ x. x.instruction) a.becomes;
-  known = same_known now m n (ap (λ x. x.instruction) a.becomes) (ap (λ x. x.broadcast) a.becomes);
-}
+goes_back v now xs m n (retires a) = grind (arith, same_known)
+goes_back v now xs m n (starts a) = grind (arith, same_known)
+goes_back v now xs m n (is_sent a) = grind (arith, not_now)
+goes_back v now xs m n (enters a) = grind (arith, same_known)
 
 -- the mark itself, once it went on
 
@@ -108,23 +79,11 @@ some_not_none o x some none = absurd (cc)
 
 itself : (k : Kind) (j : ℕ) (v : Values) (now : ℕ) (xs : List Mark) (m n : Mark) → Advances v now xs m n →
     BusyUnits k j now xs m → BusyUnits k j now xs n
-itself k j v now xs m n (retires a) h may = h (record {
-  kind = subst (λ i. is_of_kind k (kind_of_word i) ≡ true) (ap (λ x. x.instruction) a.becomes) may.kind;
-  plain = subst (λ i. is_load i ≡ false) (ap (λ x. x.instruction) a.becomes) may.plain;
-  dispatched = subst (IsBefore now) (ap (λ x. x.dispatched) a.becomes) may.dispatched;
-  not_yet = sym (ap (λ x. x.start) a.becomes) ∙ may.not_yet;
-  operands = subst (λ i. OperandsKnown now xs (sources_of_word i)) (ap (λ x. x.instruction) a.becomes) may.operands;
-})
-itself k j v now xs m n (starts a) h may = some_not_none n.start a.start (ap (λ x. x.start) a.becomes) may.not_yet
-itself k j v now xs m n (is_sent a) h may = some_not_none n.start a.start (ap (λ x. x.start) a.becomes ∙ a.started) may.not_yet
-itself k j v now xs m n (enters a) h may = not_now now n.dispatched (ap (λ x. x.dispatched) a.becomes) may.dispatched
+itself k j v now xs m n given h may = grind (arith, some_not_none, not_now)
 
 still_begins : (k : Kind) (v : Values) (now : ℕ) (xs : List Mark) (m n : Mark) → Advances v now xs m n →
     begins_mark k now m ≡ true → begins_mark k now n ≡ true
-still_begins k v now xs m n (retires a) h = rw (a.becomes) h
-still_begins k v now xs m n (starts a) h = never_both (is_of_kind k (kind_of_word m.instruction)) (subst (λ o. (is_of_kind k (kind_of_word m.instruction) && starts_at now o) ≡ true) a.not_yet h)
-still_begins k v now xs m n (is_sent a) h = rw (a.becomes) h
-still_begins k v now xs m n (enters a) h = rw (a.becomes) h
+still_begins k v now xs m n given h = grind (arith, never_both)
 
 -- marks that go on keep it that, where one could start but does not, so many that are older did
 pub busy_units_are_kept : (k : Kind) (j : ℕ) (v : Values) (now : ℕ) → Kept v now (EveryBehind (BusyUnits k j now) [])
@@ -143,41 +102,28 @@ busy_units_are_kept k j v now = record {
 module _ (v : Values) (k : Kind) (now : ℕ) where
   waiting_by : (i : Option Instr) (D a b : ℕ) (st : Stage) → SoundStage v i D a b st → is_of_kind k (kind_of_word i) ≡ true →
       start_of_stage st ≡ None → is_waiting st ≡ true
-  waiting_by i D a b Waiting sound kind none = refl
-  waiting_by i D a b (Running issue message) sound kind none = absurd (cc)
-  waiting_by i D a b (Finished (Some issue) cycle message) sound kind none = absurd (cc)
-  waiting_by i D a b (Finished None cycle message) sound kind none = absurd (let is = is_of_kind_is k (kind_of_word i) kind in let no_kind = sound.0 in cc)
+  waiting_by i D a b st sound kind given = grind (arith, is_of_kind_is)
 
   broadcast_by : (i : Option Instr) (D a b : ℕ) (st : Stage) → SoundStage v i D a b st → IsBefore now (broadcast_of_stage st) →
       is_some (broadcast_of st) ≡ true
-  broadcast_by i D a b Waiting sound h = absurd h
-  broadcast_by i D a b (Running issue message) sound h = absurd h
-  broadcast_by i D a b (Finished (Some issue) cycle message) sound h = refl
-  broadcast_by i D a b (Finished None cycle message) sound h = refl
+  broadcast_by i D a b st sound h = grind arith
 
   -- a writer that is known was broadcast
   writer_known : (d a b : ℕ) (e : Entry) (register : ℕ) → SoundEntry v d a b e → is_serialising e.instruction ≡ false →
       writes e register ≡ true → IsKnownMark now (mark_of_entry e) → is_some (broadcast_of e.stage) ≡ true
-  writer_known d a b e register sound plain writes_it known = by_kind (kind_of_word e.instruction) refl
-    where
-      by_kind : (o : Option Kind) → kind_of_word e.instruction ≡ o → is_some (broadcast_of e.stage) ≡ true
-      by_kind None is = absurd (true≢false (sym (writer_serialises register e.instruction is writes_it) ∙ plain))
-      by_kind (Some j) is = broadcast_by e.instruction e.dispatched a b e.stage sound.stage (known (ap is_some is))
+  writer_known d a b e register sound plain writes_it known = grind (arith, true≢false, writer_serialises, broadcast_by)
 
   known_either : (b : Bool) (d i j : ℕ) (e : Entry) (register : ℕ) (known : Bool) (found : Option Mark) → writes e register ≡ b →
       SoundEntry v d i j e → is_serialising e.instruction ≡ false → (IfSome found (IsKnownMark now) → known ≡ true) →
       IfSome (cond b (Some (mark_of_entry e)) found) (IsKnownMark now) → cond b (is_some (broadcast_of e.stage)) known ≡ true
-  known_either true d i j e register known found is sound plain before h = writer_known d i j e register sound plain is h
-  known_either false d i j e register known found is sound plain before h = before h
+  known_either b d i j e register known found is sound plain before h = grind (arith, writer_known)
 
   known_from : (d i j register : ℕ) (known : Bool) (found : Option Mark) (es : List Entry) → Each (SoundEntry v d i j) es →
       Each (λ e. is_serialising e.instruction ≡ false) es → (IfSome found (IsKnownMark now) → known ≡ true) →
       IfSome (last_from found (writes_mark register) (map mark_of_entry es)) (IsKnownMark now) →
       is_known_from known es register ≡ true
   known_from d i j register known found [] sound plain before h = before h
-  known_from d i j register known found (e ∷ es) sound plain before h =
-      known_from d i j register (cond (writes e register) (is_some (broadcast_of e.stage)) known) (cond (writes e register) (Some (mark_of_entry e)) found) es sound.1 plain.1
-      (known_either (writes e register) d i j e register known found refl sound.0 plain.0 before) h
+  known_from d i j register known found (e ∷ es) sound plain before h = grind (arith, known_either, known_from d i j register (cond (writes e register) (is_some (broadcast_of e.stage)) known) (cond (writes e register) (Some (mark_of_entry e)) found) es sound.1 plain.1 (known_either (writes e register) d i j e register known found refl sound.0 plain.0 before) h)
 
   operands_by : (d i j : ℕ) (rows : List Row) (older : List Entry) (sources : List (Option ℕ)) → Each (SoundEntry v d i j) older →
       Each (λ e. is_serialising e.instruction ≡ false) older →
@@ -191,31 +137,23 @@ module _ (v : Values) (k : Kind) (now : ℕ) where
       (operands_by d i j rows older sources sound plain h.1)
 
   loads_by : (b c : Bool) → b ≡ false → (not b || c) ≡ true
-  loads_by true c is = absurd (cc)
-  loads_by false c is = refl
+  loads_by b c is = grind arith
 
   pub may_is_ready : (d i j : ℕ) (rows : List Row) (h : Hardware) (older : List Entry) (e : Entry) →
       Each (SoundEntry v d i j) older → Each (λ x. is_serialising x.instruction ≡ false) older → SoundEntry v d i j e →
       MayStart k now (map mark_of_row rows ++ map mark_of_entry older) (mark_of_entry e) → is_ready h k older e ≡ true
-  may_is_ready d i j rows h older e sounds serial sound may =
-      and_from (is_waiting e.stage && is_of_kind k (kind_of_word e.instruction) && has_operands older (sources_of_word e.instruction)) (may_load h older e)
-      (and_from (is_waiting e.stage && is_of_kind k (kind_of_word e.instruction)) (has_operands older (sources_of_word e.instruction))
-      (and_from (is_waiting e.stage) (is_of_kind k (kind_of_word e.instruction)) (waiting_by e.instruction e.dispatched i j e.stage sound.stage may.kind may.not_yet) may.kind)
-      (operands_by d i j rows older (sources_of_word e.instruction) sounds serial may.operands))
-      (loads_by (is_load e.instruction) _ may.plain)
+  may_is_ready d i j rows h older e sounds serial sound may = grind (arith, and_from, waiting_by, operands_by, loads_by)
 
   -- no row and no word may start
   row_not_by : (x : Option Execution) (i : Option Instr) → is_some x ≡ is_some (kind_of_word i) →
       is_of_kind k (kind_of_word i) ≡ true → start_of_execution x ≡ None → ⊥
-  row_not_by None i same kind none = absurd (let is = is_of_kind_is k (kind_of_word i) kind in let some = same ∙ ap is_some is in cc)
-  row_not_by (Some x) i same kind none = absurd (cc)
+  row_not_by x i same kind given = grind (arith, is_of_kind_is)
 
   -- rows do not start any more
   pub rows_do_not_start : (bound : ℕ) (before : List Mark) (rows : List Row) → Each (SoundRow v bound) rows →
       EveryBehind (λ b m. MayStart k now b m → ⊥) before (map mark_of_row rows)
   rows_do_not_start bound before [] sound = tt
-  rows_do_not_start bound before (row ∷ rows) sound =
-      ((λ may. row_not_by row.execution (mark_of_row row).instruction sound.0.stamps.executed_by_a_unit may.kind may.not_yet), rows_do_not_start bound (before ++ mark_of_row row ∷ []) rows sound.1)
+  rows_do_not_start bound before (row ∷ rows) sound = grind (arith, row_not_by, rows_do_not_start bound (before ++ mark_of_row row ∷ []) rows sound.1)
 
   -- fetched words cannot start yet
   pub words_do_not_start : (before : List Mark) (fs : List Fetched) →

@@ -1,5 +1,5 @@
 -- The issue phase leaves no pipelined unit idle, and the other phases keep it so.
-use Rattle.rv_hardware.proofs.Words.{◌≡◌, ℕ, suc, ◌+◌, ◌<◌, ◌≤◌, Bool, true, false, cond, List, [], ◌∷◌, ◌++◌, map, length, nat_lt, nat_le, Some, None, filter, sym, refl, ap, ◌∙◌, subst, append_assoc, append-nil, arith, ltb-false, le-ltb, eq-eqb, and_from, and_right, at_kind-for_each, with_kind-each, with_kind-other, with_kind-own, IsLegal, is_of_kind, kind_of_word, at_kind, for_each, with_kind, Issue, Lines, Kind, PerKind, Values, Each, Pool, free_pool, held_for, holding, holds_unit, is_free, started, Entry, with_lines, Hardware, cost_of, is_ready, issue, issue_kind, issue_turn, issued, path, Turn, Report, rows_of, Step, Each-append, Each-left, Each-weaker, Each-all, Each-filter, EveryBehind, count, count-set-one_more, EveryBehind-append, EveryBehind-right, EveryBehind-moved, EveryBehind-all, EveryBehind-weaker, Leads, turns_within}
+use Rattle.rv_hardware.proofs.Words.{◌≡◌, ℕ, suc, ◌+◌, ◌<◌, ◌≤◌, Bool, true, false, cond, List, [], ◌∷◌, ◌++◌, map, length, nat_lt, nat_le, Some, None, filter, sym, refl, ap, ◌∙◌, subst, append_assoc, append-nil, arith, ltb-false, le-ltb, eq-eqb, and_from, and_right, at_kind-for_each, with_kind-each, with_kind-other, with_kind-own, IsLegal, is_of_kind, kind_of_word, at_kind, for_each, with_kind, Issue, Lines, Kind, PerKind, Values, Each, Pool, free_pool, holding, holds_unit, started, Entry, with_lines, Hardware, cost_of, is_ready, issue, issue_kind, issue_turn, issued, path, Turn, Report, rows_of, Step, Each-append, Each-left, Each-weaker, Each-all, Each-filter, EveryBehind, count, count-set-one_more, EveryBehind-append, EveryBehind-right, EveryBehind-moved, EveryBehind-all, EveryBehind-weaker, Leads, turns_within}
 use Rattle.std.specs.FinSet as set
 use Rattle.rv_isa.specs.declared.operations.Kind.TheVariants as kind
 use Rattle.rv_units.specs.Pool.{started as started_unit}
@@ -12,7 +12,7 @@ use Rattle.rv_hardware.proofs.Marks.Keeps.{InCycle, starts_in_cycle}
 use Rattle.rv_hardware.proofs.Marks.Advance.{IsBefore, Starts}
 use Rattle.rv_hardware.proofs.Marks.History.{Anything, anything_is_kept, History, began, went_on, Passed, history_is_legal, committing, drained, issued_all, sent_all, dispatching, history_passes}
 use Rattle.rv_hardware.proofs.Laws.NoIdleUnit.Marks.{MayStart, BusyUnits, may_back, busy_units_are_kept, rows_do_not_start, words_do_not_start, entries_do_not_start}
-use Rattle.rv_hardware.proofs.Turns.Issue.{IssueTurn, no_unit, none_ready, starts, issue_turn_is, access_keeps, message_at, started_entries}
+use Rattle.rv_hardware.proofs.Turns.Issue.{IssueTurn, issue_turn_is, access_keeps, message_at, started_entries}
 use Rattle.rv_hardware.proofs.Marks.List.{Mark, mark_of_row, mark_of_entry, mark_of_fetched, marks, marks_in, marks_at_entry}
 use Rattle.rv_hardware.proofs.Marks.Phases.{Issues, issue_turn_keeps, issue_kind_keeps, start_is, with_marks, goes_later, broadcast_keeps, dispatch_keeps}
 use Rattle.rv_hardware.proofs.Always.Serial.{AreSerialLast, cut_serial}
@@ -47,17 +47,8 @@ fewer_held now xs = filtered (holds_unit now) (holding now xs)
 
 filter-append_length : (now : ℕ) (xs : List Issue) (s : Issue) →
     length (holding now (xs ++ s ∷ [])) ≤ suc (length (holding now xs))
-filter-append_length now [] s = one (holds_unit now s)
-  where
-    one : (b : Bool) → length (cond b (s ∷ []) []) ≤ 1
-    one true = omega arith
-    one false = omega arith
-filter-append_length now (x ∷ xs) s = by_test (holds_unit now x) (filter-append_length now xs s)
-  where
-    by_test : (b : Bool) → length (holding now (xs ++ s ∷ [])) ≤ suc (length (holding now xs)) →
-        length (cond b (x ∷ holding now (xs ++ s ∷ [])) (holding now (xs ++ s ∷ []))) ≤ suc (length (cond b (x ∷ holding now xs) (holding now xs)))
-    by_test true le = omega arith
-    by_test false le = le
+filter-append_length now [] s = grind arith
+filter-append_length now (x ∷ xs) s = grind (arith, filter-append_length now xs s)
 
 module _ (v : Values) (legal : IsLegal v) (now : ℕ) (steps : List Step) (k : Kind) where
   abbrev units_here : ℕ
@@ -122,26 +113,11 @@ module _ (v : Values) (legal : IsLegal v) (now : ℕ) (steps : List Step) (k : K
   held_after : (j : ℕ) (h : Hardware) (older : List Entry) (e : Entry) → h.cycle ≡ now →
       length (holding now (at_kind k h.units).starts) ≤ j →
       length (holding now (at_kind k (issued k h older e).units).starts) ≤ suc j
-  held_after j h older e cycle le =
-      let cost : ℕ = cost_of h k (path h older e) in
-      let pool : Pool = at_kind k h.units in
-      let same = ap (at_kind k) (issued_units k h older e) ∙ with_kind-own k (started_unit cost h.cycle pool) h.units ∙ ap (λ n. started_unit cost n pool) cycle in
-      let more = filter-append_length now (holding now pool.starts) (record { cycle = now; cost = held_for pool.is_pipelined cost }) in
-      let fewer = fewer_held now pool.starts in
-      let all = ap (λ (q : Pool). length (holding now q.starts)) same in
-      omega (arith, all, more, fewer, le)
+  held_after j h older e cycle le = grind (arith, issued_units, with_kind-own, filter-append_length, fewer_held)
 
   busy_leads : (j : ℕ) (h : Hardware) (t : Turn Hardware) → j < units_here → IssueTurn k h t → Busy j h →
       Leads (Issues v legal now Anything (anything_is_kept v now) steps) (Issues v legal now Anything (anything_is_kept v now) steps) t → Leads (Busy (suc j)) (λ g. EveryBehind (BusyUnits k units_here now) [] (marks_in steps g)) t
-  busy_leads j h _ lt (no_unit held) p goes =
-      let full = ltb-false (length (holding now (at_kind k h.units).starts)) (at_kind k h.units).units (subst (λ n. is_free n (at_kind k h.units) ≡ false) p.0.basics.cycle held) in
-      absurd (too_many full (p.0.basics.always.sizes.units k) p.2)
-    where
-      too_many : (at_kind k h.units).units ≤ length (holding now (at_kind k h.units).starts) →
-          (at_kind k h.units).units ≡ units_here → length (holding now (at_kind k h.units).starts) ≤ j → ⊥
-      too_many full same le = omega (arith, full, same, le, lt)
-  busy_leads j h _ lt (none_ready none) p goes = none_started units_here h p.0 none
-  busy_leads j h _ lt (starts older younger e at is none free) p goes = (goes, after_start j h older younger e at is none p, held_after j h older e p.0.basics.cycle p.2)
+  busy_leads j h t lt given p goes = grind (arith, ltb-false, none_started, after_start, held_after)
 
   pub kind_is_busy : (h : Hardware) → Issues v legal now Anything (anything_is_kept v now) steps h →
       Over now (at_kind k h.units) → EveryBehind (BusyUnits k units_here now) [] (marks_in steps (issue_kind k h))
@@ -184,15 +160,7 @@ module _ (v : Values) (legal : IsLegal v) (now : ℕ) (steps : List Step) (k : K
   -- of a start of some kind
   over_by : (j : Kind) (cost : ℕ) (u : PerKind Pool) → (at_kind k u).is_pipelined ≡ true → Over (now + 1) (at_kind k u) →
       Over (now + 1) (at_kind k (with_kind j (started_unit cost now (at_kind j u)) u))
-  over_by j cost u = with_kind-each j (started_unit cost now (at_kind j u)) u (λ i pool. (at_kind i u).is_pipelined ≡ true → Over (now + 1) (at_kind i u) → Over (now + 1) pool)
-      (λ line over.
-      Each-append (λ s. s.cycle + s.cost ≤ now + 1) (holding now (at_kind j u).starts) (record { cycle = now; cost = held_for (at_kind j u).is_pipelined cost } ∷ [])
-      (Each-filter (λ s. s.cycle + s.cost ≤ now + 1) (holds_unit now) (at_kind j u).starts over) (one_cycle (at_kind j u).is_pipelined line, tt))
-      (λ other differs line over. over) k
-    where
-      one_cycle : (b : Bool) → b ≡ true → now + held_for b cost ≤ now + 1
-      one_cycle true e = omega arith
-      one_cycle false e = absurd (cc)
+  over_by j cost u = grind (arith, with_kind-each, Each-append, Each-filter)
 
   timely_issue : (h : Hardware) → Timely h → Timely (issue h)
   timely_issue h p =

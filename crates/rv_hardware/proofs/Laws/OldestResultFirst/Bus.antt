@@ -29,13 +29,11 @@ pair_first m n z start same h = rw (start, same) h
 
 -- one that starts, where others were broadcast by now
 started_later : (s : Start) (now : ℕ) (o : Option ℕ) (p : Option ℕ) → s.cycle ≡ now → 0 < s.cost → IfSome o (λ b. b ≤ now) → IfSome o (λ b. ReadyFirst (Some s) p b)
-started_later s now None p at cost by = tt
-started_later s now (Some b) p at cost by = λ ready. absurd (omega (arith, at, cost, by, ready))
+started_later s now o p given cost by = grind arith
 
 -- one that is broadcast, where others were broadcast before it was ready
 sent_later : (s : Start) (now : ℕ) (o : Option ℕ) → IfSome o (λ b. ReadyFirst (Some s) None b) → IfSome o (λ b. ReadyFirst (Some s) (Some now) b)
-sent_later s now None h = tt
-sent_later s now (Some b) h = λ ready. absurd (h ready)
+sent_later s now o h = grind arith
 
 module _ (now : ℕ) (xs ys : List Mark) (m n : Mark) where
   same_bus : n.start ≡ m.start → n.broadcast ≡ m.broadcast → BusOrder now (xs ++ m ∷ ys) → BusOrder now (xs ++ n ∷ ys)
@@ -80,8 +78,7 @@ none_sent [] = tt
 none_sent (f ∷ fs) = (Each-map (OldestFirst (mark_of_fetched f)) mark_of_fetched fs (Each-all (λ g. Unit {0}) (λ g. tt) fs), none_sent fs)
 
 sent_by_later : (now : ℕ) (m : Mark) (o : Option ℕ) → IfSome o (λ b. b ≤ now) → IfSome o (λ b. b ≤ now + 1)
-sent_by_later now m None h = tt
-sent_by_later now m (Some b) h = omega (arith, h)
+sent_by_later now m o h = grind arith
 
 pub bus_is_kept : (v : Values) → KeptMarks v BusOrder
 bus_is_kept v = record {

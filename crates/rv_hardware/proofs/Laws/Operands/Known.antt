@@ -1,6 +1,7 @@
 -- An instruction starts after the broadcasts of its operands' producers, and a load after those of all older stores.
+use Rattle.std.proofs.Common.{arith}
 use Rattle.rv_hardware.proofs.Words.{◌≡◌, ℕ, Bool, true, false, cond, List, [], ◌∷◌, ◌++◌, map, is_some, IfSome, Some, None, Option, sym, ap, subst, is_load, is_store, is_target, kind_of_word, sources_of_word, target_of_word, Instr, Values, Each, Fetched, Hardware, last_from, last_that, Step, Each-set, Each-place, EveryBehind, EveryBehind-left, EveryBehind-append, EveryBehind-set}
-use Rattle.rv_hardware.proofs.Marks.Advance.{IsBefore, Advances, retires, starts, is_sent, enters, Starts, writes_mark, IsKnownMark, OperandsKnown, IsKnownStore}
+use Rattle.rv_hardware.proofs.Marks.Advance.{IsBefore, Advances, Starts, writes_mark, IsKnownMark, OperandsKnown, IsKnownStore}
 use Rattle.rv_hardware.proofs.Marks.History.{KeptMarks, History, marks_of_history}
 use Rattle.rv_hardware.proofs.Marks.Evidence.{last_from-append}
 use Rattle.rv_hardware.proofs.Marks.List.{Mark, mark_of_fetched, marks_in, Start}
@@ -23,10 +24,7 @@ not_before : {P : Type 0} (c : ℕ) (o : Option ℕ) → o ≡ None → IsBefore
 not_before c o none h = absurd (subst (IsBefore c) none h)
 
 goes_on : (v : Values) (now : ℕ) (xs : List Mark) (m n : Mark) → Advances v now xs m n → GoesOnWith m n
-goes_on v now xs m n (retires a) = record { instruction = ap (λ x. x.instruction) a.becomes; broadcast = λ c h. rw (ap (λ x. x.broadcast) a.becomes) h }
-goes_on v now xs m n (starts a) = record { instruction = ap (λ x. x.instruction) a.becomes; broadcast = λ c h. rw (ap (λ x. x.broadcast) a.becomes) h }
-goes_on v now xs m n (is_sent a) = record { instruction = ap (λ x. x.instruction) a.becomes; broadcast = λ c h. not_before c m.broadcast a.not_yet h }
-goes_on v now xs m n (enters a) = record { instruction = ap (λ x. x.instruction) a.becomes; broadcast = λ c h. rw (ap (λ x. x.broadcast) a.becomes) h }
+goes_on v now xs m n given = grind (arith, not_before)
 
 module _ (m n : Mark) (goes : GoesOnWith m n) where
   known_goes_on : (c : ℕ) → IsKnownMark c m → IsKnownMark c n
@@ -37,8 +35,7 @@ module _ (m n : Mark) (goes : GoesOnWith m n) where
 
   -- of a list in which it goes on
   either : (c : ℕ) (b : Bool) (z : Mark) (o p : Option Mark) → (IfSome o (IsKnownMark c) → IfSome p (IsKnownMark c)) → IfSome (cond b (Some z) o) (IsKnownMark c) → IfSome (cond b (Some z) p) (IsKnownMark c)
-  either c true z o p f h = h
-  either c false z o p f h = f h
+  either c b z o p f h = grind arith
 
   last_more : (c : ℕ) (test : Mark → Bool) (mid : List Mark) (o p : Option Mark) → (IfSome o (IsKnownMark c) → IfSome p (IsKnownMark c)) →
       IfSome (last_from o test mid) (IsKnownMark c) → IfSome (last_from p test mid) (IsKnownMark c)
@@ -67,11 +64,7 @@ module _ (m n : Mark) (goes : GoesOnWith m n) where
   stores_go_on c xs mid h = Each-set (IsKnownStore c) xs mid m n (store_goes_on c (Each-place (IsKnownStore c) xs mid m h)) h
 
   found_goes_on : (xs mid : List Mark) (z : Mark) (o : Option Start) → IfSome o (λ s. Found (xs ++ m ∷ mid) z.instruction s.cycle) → IfSome o (λ s. Found (xs ++ n ∷ mid) z.instruction s.cycle)
-  found_goes_on xs mid z None h = tt
-  found_goes_on xs mid z (Some s) h = record {
-    operands = operands_go_on s.cycle xs mid (sources_of_word z.instruction) h.operands;
-    stores = λ load. stores_go_on s.cycle xs mid (h.stores load);
-  }
+  found_goes_on xs mid z o h = grind (arith, operands_go_on, stores_go_on)
 
 same_start : (xs : List Mark) (m n : Mark) → n.start ≡ m.start → n.instruction ≡ m.instruction → StartsBehind xs m → StartsBehind xs n
 same_start xs m n start instruction h = rw (start, instruction) h
@@ -80,14 +73,10 @@ none_started : (xs : List Mark) (n : Mark) → n.start ≡ None → StartsBehind
 none_started xs n none = rw none tt
 
 starts_now : (v : Values) (now : ℕ) (xs : List Mark) (m n : Mark) → Starts v now xs m n → StartsBehind xs n
-starts_now v now xs m n a =
-    rw (a.becomes) (subst (λ c. Found xs m.instruction c) (sym a.now_is) (record { operands = a.operands; stores = a.stores }))
+starts_now v now xs m n a = grind arith
 
 it_goes_on : (v : Values) (now : ℕ) (xs : List Mark) (m n : Mark) → Advances v now xs m n → StartsBehind xs m → StartsBehind xs n
-it_goes_on v now xs m n (retires a) h = same_start xs m n (ap (λ x. x.start) a.becomes) (ap (λ x. x.instruction) a.becomes) h
-it_goes_on v now xs m n (starts a) h = starts_now v now xs m n a
-it_goes_on v now xs m n (is_sent a) h = same_start xs m n (ap (λ x. x.start) a.becomes) (ap (λ x. x.instruction) a.becomes) h
-it_goes_on v now xs m n (enters a) h = same_start xs m n (ap (λ x. x.start) a.becomes) (ap (λ x. x.instruction) a.becomes) h
+it_goes_on v now xs m n given h = grind (arith, same_start, starts_now)
 
 new_have_not_started : (before : List Mark) (fs : List Fetched) → EveryBehind StartsBehind before (map mark_of_fetched fs)
 new_have_not_started before [] = tt

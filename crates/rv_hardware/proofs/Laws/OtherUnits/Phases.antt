@@ -1,14 +1,13 @@
 -- A unit executes one instruction at a time, or begins one a cycle where it is pipelined.
-use Rattle.rv_hardware.proofs.Words.{◌≡◌, ℕ, suc, ◌+◌, ◌≤◌, Bool, true, false, cond, ◌&&◌, List, [], ◌∷◌, ◌++◌, length, nat_lt, nat_le, Some, None, filter, Option, sym, refl, ap, ◌∙◌, subst, true≢false, arith, ltb-true, lt-ltb, le-leb, and_from, and_left, and_right, at_kind-for_each, with_kind-each, is_of_kind, kind_of_word, at_kind, for_each, with_kind, Issue, Kind, Values, Each, Pool, free_pool, held_for, holding, holds_unit, is_free, finished, predicting, started, Entry, entry_of_fetched, with_dispatched, Hardware, cost_of, issued, path, Step, and_second, Each-append, Each-weaker, Each-filter, count, count-append, count-yes, count-length, count-set-same, count-set-more, count-set-less, count-push-no}
+use Rattle.rv_hardware.proofs.Words.{◌≡◌, ℕ, ◌+◌, ◌≤◌, Bool, true, false, cond, ◌&&◌, List, [], ◌∷◌, ◌++◌, length, nat_lt, nat_le, Some, None, filter, Option, sym, refl, ap, subst, true≢false, arith, ltb-true, lt-ltb, le-leb, and_from, and_left, and_right, at_kind-for_each, with_kind-each, is_of_kind, kind_of_word, at_kind, for_each, with_kind, Issue, Kind, Values, Each, Pool, free_pool, held_for, holding, holds_unit, is_free, started, Entry, Hardware, cost_of, issued, path, Step, and_second, Each-append, Each-weaker, Each-filter, count, count-append, count-yes, count-length, count-set-same, count-set-more, count-set-less, count-push-no}
 use Rattle.rv_units.specs.Pool.{started as started_unit}
-use Rattle.rv_hardware.proofs.Turns.Forms.{emptied, with_entries, without_head}
-use Rattle.rv_hardware.proofs.Turns.KeptByBroadcast.{IsKeptByBroadcast, with_mended}
+use Rattle.rv_hardware.proofs.Turns.KeptByBroadcast.{IsKeptByBroadcast}
 use Rattle.rv_hardware.proofs.Turns.KeptByCommit.{IsKeptByCommit}
 use Rattle.rv_hardware.proofs.Turns.KeptByDispatch.{IsKeptByDispatch}
 use Rattle.rv_hardware.proofs.Turns.KeptByIssue.{IsReady, ready-parts}
 use Rattle.rv_hardware.proofs.Marks.Keeps.{InCycle, IsKeptInCycle, in_cycle}
 use Rattle.rv_hardware.proofs.Marks.Basics.{finished_mark, dispatched_mark, is_waiting_is}
-use Rattle.rv_hardware.proofs.Marks.History.{History, began, went_on, history_is_legal, dispatching, history_passes}
+use Rattle.rv_hardware.proofs.Marks.History.{History, began, went_on, dispatching, history_passes}
 use Rattle.rv_hardware.proofs.Turns.Issue.{access_keeps, message_at, started_entries}
 use Rattle.rv_hardware.proofs.Marks.Sound.{is_of_kind_is}
 use Rattle.rv_hardware.proofs.Marks.List.{Mark, Start, mark_of_entry, start_of_issue, start_of_stage}
@@ -30,22 +29,11 @@ pub record Held (v : Values) (now : ℕ) (k : Kind) (pool : Pool) (es : List Ent
 
 -- what held a unit and holds one later holds it now
 holds_between : (now c : ℕ) (s : Issue) → now ≤ c → s.cycle ≤ now → holds_unit c s ≡ true → holds_unit now s ≡ true
-holds_between now c s le begun h =
-    let lt = ltb-true c (s.cycle + s.cost) (and_second (nat_le s.cycle c) (nat_lt c (s.cycle + s.cost)) h) in
-    and_from (nat_le s.cycle now) (nat_lt now (s.cycle + s.cost)) (le-leb s.cycle now begun) (lt-ltb now (s.cycle + s.cost) (omega (arith, lt, le)))
+holds_between now c s le given h = grind (arith, ltb-true, and_second, and_from, le-leb, lt-ltb)
 
 picks : {X : Type 0} (p q : X → Bool) (b : Bool) (x : X) (xs ys : List X) → (p x ≡ true → b ≡ true) → count p xs ≤ count p ys →
     count p (x ∷ xs) ≤ count p (cond b (x ∷ ys) ys)
-picks p q true x xs ys f le = by_test (p x)
-  where
-    by_test : (t : Bool) → cond t (suc (count p xs)) (count p xs) ≤ cond t (suc (count p ys)) (count p ys)
-    by_test true = omega arith
-    by_test false = le
-picks p q false x xs ys f le = by_test (p x) refl
-  where
-    by_test : (t : Bool) → p x ≡ t → cond t (suc (count p xs)) (count p xs) ≤ count p ys
-    by_test true is = absurd (true≢false (sym (f is)))
-    by_test false is = le
+picks p q b x xs ys f le = grind (arith, true≢false)
 
 filter_holds : {X : Type 0} (p q : X → Bool) (xs : List X) → Each (λ x. p x ≡ true → q x ≡ true) xs →
     count p xs ≤ count p (filter q xs)
@@ -56,18 +44,10 @@ module _ (v : Values) (now : ℕ) (k : Kind) (pool : Pool) where
   -- fewer entries
   pub held_fewer : (es fs : List Entry) →
       ((c : ℕ) → now ≤ c → count (λ e. holds_mark v k c (mark_of_entry e)) fs ≤ count (λ e. holds_mark v k c (mark_of_entry e)) es) → Held v now k pool es → Held v now k pool fs
-  held_fewer es fs less h = record {
-    tied = λ c le. let few = less c le in let all = h.tied c le in omega (arith, few, all);
-    within = h.within;
-    begun = h.begun;
-  }
+  held_fewer es fs less h = grind arith
 
   pub held_later : (later : ℕ) (es : List Entry) → now ≤ later → Held v now k pool es → Held v later k pool es
-  held_later later es le h = record {
-    tied = λ c le'. h.tied c (omega (arith, le, le'));
-    within = λ c le'. h.within c (omega (arith, le, le'));
-    begun = Each-weaker (λ s. s.cycle ≤ now) (λ s. s.cycle ≤ later) (λ s b. omega (arith, b, le)) pool.starts h.begun;
-  }
+  held_later later es le h = grind (arith, Each-weaker)
 
   -- one more start, on a free unit
   pub held_started : (older younger : List Entry) (e x : Entry) (cost : ℕ) → pool.is_pipelined ≡ (at_kind k v.kinds).pipelined → pool.units ≡ (at_kind k v.kinds).units → is_free now pool ≡ true →
@@ -118,24 +98,14 @@ all_fewer v now g h units less held k = subst (λ u. Held v now k (at_kind k u) 
 -- commit
 
 units_commit : (v : Values) (now : ℕ) → IsKeptByCommit (AllHeld v now)
-units_commit v now = record {
-  empties = λ h s retired held. all_fewer v now (emptied s retired h) h refl (λ k n le. omega arith) held;
-  retires = λ h e es s message held split known faultless. all_fewer v now (without_head s message.store es h) h refl
-      (λ k n le.
-      let there = ap (count (λ z. holds_mark v k n (mark_of_entry z))) split in
-      let more = count-append (λ z. holds_mark v k n (mark_of_entry z)) (e ∷ []) es in
-      omega (arith, there, more)) held;
-  writes_back = λ h held drained. held;
-}
+units_commit v now = grind (arith, all_fewer, count-append)
 
 -- issue
 
 -- an instruction that starts takes a unit of its kind, and no other changes
 pub issued_units : (k : Kind) (h : Hardware) (older : List Entry) (e : Entry) →
     (issued k h older e).units ≡ with_kind k (started_unit (cost_of h k (path h older e)) h.cycle (at_kind k h.units)) h.units
-issued_units k h older e =
-    let keep = access_keeps (path h older e) h in
-    λ i. with_kind k (started_unit (cost_of h k (path h older e)) (keep.cycle i) (at_kind k (keep.units i))) (keep.units i)
+issued_units k h older e = grind (arith, access_keeps)
 
 module _ (v : Values) (now : ℕ) where
   module _ (k : Kind) (h : Hardware) (older younger : List Entry) (e : Entry) (at : h.rob.entries ≡ older ++ e ∷ younger) (ready : IsReady h k older e) (free : is_free h.cycle (at_kind k h.units) ≡ true) (p : InCycle v now h × AllHeld v now h) where
@@ -155,11 +125,7 @@ module _ (v : Values) (now : ℕ) where
         (subst (Held v now k (at_kind k h.units)) at (p.1 k)))
 
     other_kind : (j : Kind) → is_of_kind j (Some k) ≡ false → Held v now j (at_kind j h.units) (older ++ begun_here ∷ younger)
-    other_kind j other =
-        held_fewer v now j (at_kind j h.units) (older ++ e ∷ younger) (older ++ begun_here ∷ younger)
-        (λ c le. count-set-less (λ z. holds_mark v j c (mark_of_entry z)) older younger e begun_here
-        (and_left (is_of_kind j (kind_of_word e.instruction)) (start_holds (at_kind j v.kinds).pipelined c (start_of_stage (begun_here).stage)) (ap (is_of_kind j) (is_of_kind_is k (kind_of_word e.instruction) ready.of_kind) ∙ other)))
-        (subst (Held v now j (at_kind j h.units)) at (p.1 j))
+    other_kind j other = grind (arith, held_fewer, count-set-less, and_left, is_of_kind_is)
 
     pub started_units : AllHeld v now (issued k h older e)
     started_units j =
@@ -170,49 +136,18 @@ module _ (v : Values) (now : ℕ) where
 -- broadcast
 
 units_broadcast : (v : Values) (now : ℕ) → IsKeptByBroadcast (AllHeld v now)
-units_broadcast v now = record {
-  broadcasts = λ h older younger e message held split gives.
-      let x : Entry = finished message h.cycle e in
-      all_fewer v now (with_entries (older ++ x ∷ younger) h) h refl (λ k c le.
-      let q : Entry → Bool = λ z. holds_mark v k c (mark_of_entry z) in
-      let same = count-set-same q older younger e x (sym (ap (holds_mark v k c) (finished_mark h.cycle e gives.issue message gives.runs))) in
-      let there = ap (count q) split in
-      omega (arith, same, there)) held;
-  mends = λ h older younger e next held split.
-      let x : Entry = predicting next e in
-      all_fewer v now (with_mended next (older ++ x ∷ []) h) h refl (λ k c le.
-      let q : Entry → Bool = λ z. holds_mark v k c (mark_of_entry z) in
-      let same = count-set-same q older [] e x refl in
-      let less = count-append q older (e ∷ []) in
-      let all = count-append q older (e ∷ younger) in
-      let more = count-append q (e ∷ []) younger in
-      let there = ap (count q) split in
-      omega (arith, same, less, all, more, there)) held;
-}
+units_broadcast v now = grind (arith, all_fewer, count-set-same, finished_mark, count-append)
 
 -- dispatch
 
 units_dispatch : (v : Values) (now : ℕ) → IsKeptByDispatch (AllHeld v now)
-units_dispatch v now = record {
-  dispatches = λ h f rest held first nothing. all_fewer v now (with_dispatched f rest h) h refl (λ k c le.
-      let e : Entry = entry_of_fetched h f in
-      let q : Entry → Bool = λ z. holds_mark v k c (mark_of_entry z) in
-      let same = count-push-no q h.rob.entries e (ap (holds_mark v k c) (dispatched_mark h f) ∙ and_right (is_of_kind k (kind_of_word f.instruction)) false refl) in
-      omega (arith, same)) held;
-}
+units_dispatch v now = grind (arith, all_fewer, count-push-no, dispatched_mark, and_right)
 
 -- a cycle
 
 -- each phase of a cycle keeps it that all units are held within their number
 pub units_kept : (v : Values) (now : ℕ) → IsKeptInCycle v now (AllHeld v now)
-units_kept v now = record {
-  lines = λ h levels held. held;
-  commit = units_commit v now;
-  drain = record { leaves = λ h held idle. held; drains = λ h access held idle is. held };
-  issue = λ k h older younger e here held at is free. started_units v now k h older younger e at (ready-parts h k older e is) free (here, held);
-  broadcast = units_broadcast v now;
-  dispatch = units_dispatch v now;
-}
+units_kept v now = grind (arith, units_commit, started_units, ready-parts, units_broadcast, units_dispatch)
 
 units_at_reset : (v : Values) (k : Kind) → Held v 0 k (at_kind k (for_each free_pool v.kinds)) []
 units_at_reset v k = rw (at_kind-for_each free_pool v.kinds k) (record { tied = λ c le. omega arith; within = λ c le. omega arith; begun = tt })

@@ -1,5 +1,5 @@
 -- The cache's port serves one load at a time.
-use Rattle.rv_hardware.proofs.Words.{is_known as is_known_store, ◌≡◌, ℕ, ◌+◌, ◌≤◌, Bool, true, false, cond, not, ◌&&◌, ◌||◌, List, take, ℤ, is_some, IfSome, ◌==◌, Some, None, Option, sym, refl, ap, ◌∙◌, true≢false, arith, eq-eqb, leb-true, list_all, is_load, bytes_of, width_of, modulo_word, sum, Instr, Load, Kind, LoadForm, Values, is_aligned, is_in_ram, State, register_of, forwarded, Entry, Hardware, FromCache, FromStores, Path, Without, cost_of, has_port, may_load, path, path_of, with_access, result_of_word, layout_of, seen_behind, stores_behind}
+use Rattle.rv_hardware.proofs.Words.{is_known as is_known_store, ◌≡◌, ℕ, ◌+◌, ◌≤◌, Bool, true, false, cond, not, ◌&&◌, ◌||◌, List, ℤ, is_some, IfSome, ◌==◌, Some, Option, refl, true≢false, arith, eq-eqb, leb-true, list_all, is_load, bytes_of, width_of, modulo_word, sum, Instr, Load, Kind, LoadForm, Values, is_aligned, is_in_ram, State, register_of, Entry, Hardware, FromCache, FromStores, Path, cost_of, has_port, may_load, path, path_of, with_access, result_of_word, layout_of, seen_behind, stores_behind}
 use Rattle.rv_hardware.proofs.Marks.List.{Mark, Start}
 use Rattle.rv_hardware.proofs.Always.Sizes.{HasShape}
 
@@ -27,8 +27,7 @@ module _ (v : Values) (h : Hardware) (shape : HasShape v h) (older : List Entry)
 
   from_cache : (b : Bool) (address : ℕ) → ((cost_of h k (cond b FromStores (FromCache address)) == v.forward) ≡ false) →
       (a : ℕ) × (cond b FromStores (FromCache address) ≡ FromCache a)
-  from_cache true address other = absurd (true≢false (sym (eq-eqb h.values.forward v.forward (ap (λ (w : Values). w.forward) shape.values)) ∙ other))
-  from_cache false address other = (address, refl)
+  from_cache b address other = grind (arith, true≢false, eq-eqb)
 
   load_path : (form : LoadForm) (rd rs1 : ℕ) (offset : ℤ) (a b : Bool) →
       is_aligned (sum (register_of s rs1) (modulo_word offset)) (bytes_of (width_of form)) ≡ a →
@@ -36,31 +35,22 @@ module _ (v : Values) (h : Hardware) (shape : HasShape v h) (older : List Entry)
       (w : Option ℕ) → is_some (result_of_word (layout_of h.values) s h.lines w (Some (Load form rd rs1 offset))).fault ≡ false →
       ((cost_of h k (path_of h older s (Some (Load form rd rs1 offset))) == v.forward) ≡ false) →
       Goes_to_cache (Some (Load form rd rs1 offset))
-  load_path form rd rs1 offset a b aligned inside None none other = absurd (cc)
-  load_path form rd rs1 offset false b aligned inside (Some w) none other = absurd (true≢false (rw aligned at none))
-  load_path form rd rs1 offset true false aligned inside (Some w) none other = absurd (true≢false (rw (aligned, inside) at none))
-  load_path form rd rs1 offset true true aligned inside (Some w) none other =
-      rw (aligned, inside) (from_cache (list_all is_some (take (bytes_of (width_of form)) (forwarded (stores_behind h older) (sum (register_of s rs1) (modulo_word offset)) (bytes_of (width_of form))))) (sum (register_of s rs1) (modulo_word offset)) (rw (aligned, inside) at other))
+  load_path form rd rs1 offset a b aligned inside w given other = grind (arith, true≢false, from_cache)
 
   -- a load without a fault that costs another time than a forwarded one goes to the cache
   pub path_of_user : (i : Option Instr) (w : Option ℕ) → is_load i ≡ true →
       is_some (result_of_word (layout_of h.values) s h.lines w i).fault ≡ false →
       ((cost_of h k (path_of h older s i) == v.forward) ≡ false) → Goes_to_cache i
-  path_of_user None w load none other = absurd (cc)
   path_of_user (Some (Load form rd rs1 offset)) w load none other = load_path form rd rs1 offset _ _ refl refl w none other
   path_of_user i w load none other = absurd (cc)
 
 -- an instruction that may leave has the port that it needs
 path_without : (h : Hardware) (older : List Entry) (s : State) (i : Option Instr) → is_load i ≡ false →
     has_port h (path_of h older s i) ≡ true
-path_without h older s None plain = refl
-path_without h older s (Some (Load form rd rs1 offset)) plain = absurd (cc)
-path_without h older s i plain = refl
+path_without h older s i plain = grind arith
 
 port_by : (b c d : Bool) → (b ≡ false → d ≡ true) → (not b || (c && d)) ≡ true → d ≡ true
-port_by true true d f h = h
-port_by true false d f h = absurd (cc)
-port_by false c d f h = f refl
+port_by b c d f h = grind arith
 
 -- an instruction that may leave its station has the port that its path needs
 pub has_its_port : (h : Hardware) (older : List Entry) (e : Entry) → may_load h older e ≡ true →
@@ -69,6 +59,4 @@ has_its_port h older e may = port_by (is_load e.instruction) (list_all is_known_
 
 -- the port is not free earlier
 pub port_grows : (h : Hardware) (p : Path) → has_port h p ≡ true → h.port_free ≤ (with_access p h).port_free
-port_grows h Without has = omega arith
-port_grows h FromStores has = omega arith
-port_grows h (FromCache address) has = let le = leb-true h.port_free h.cycle has in omega (arith, le)
+port_grows h p has = grind (arith, leb-true)

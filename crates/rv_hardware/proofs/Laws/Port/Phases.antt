@@ -1,5 +1,5 @@
 -- Through every phase the port is busy until each load that uses the cache is over, and one begins when all others are.
-use Rattle.rv_hardware.proofs.Words.{◌≡◌, ℕ, ◌+◌, ◌<◌, ◌≤◌, Bool, true, false, not, ◌&&◌, ◌⊎◌, List, [], ◌∷◌, ◌++◌, IfSome, nat_le, ◌==◌, Some, None, Option, sym, refl, ap, ◌∙◌, subst, inl, inr, true≢false, append_assoc, arith, leb-true, IsLegal, is_load, Instr, Kind, Values, Each, finished, predicting, started, Entry, with_write_back, entry_of_fetched, with_drained, Hardware, cost_of, has_port, issued, path, with_access, seen_behind, and_first, and_second, Each-append, Each-left, Each-right, Each-set, Each-place, Each-weaker, Each-all, Each-both, EveryPair, EveryPair-append, EveryPair-left, EveryPair-right, EveryPair-across, EveryPair-set}
+use Rattle.rv_hardware.proofs.Words.{◌≡◌, ℕ, ◌+◌, ◌<◌, ◌≤◌, Bool, true, false, not, ◌&&◌, ◌⊎◌, List, [], ◌∷◌, ◌++◌, IfSome, nat_le, None, Option, sym, refl, ap, ◌∙◌, subst, inl, inr, true≢false, append_assoc, arith, leb-true, IsLegal, Instr, Kind, Values, Each, finished, predicting, started, Entry, with_write_back, with_drained, Hardware, cost_of, issued, path, with_access, and_first, and_second, Each-append, Each-left, Each-right, Each-set, Each-place, Each-weaker, Each-all, Each-both, EveryPair, EveryPair-append, EveryPair-left, EveryPair-right, EveryPair-across, EveryPair-set}
 use Rattle.rv_hardware.proofs.Turns.Forms.{with_entries}
 use Rattle.rv_hardware.proofs.Turns.KeptByBroadcast.{IsKeptByBroadcast, with_mended}
 use Rattle.rv_hardware.proofs.Turns.KeptByCommit.{IsKeptByCommit}
@@ -23,8 +23,7 @@ pub record PortOk (v : Values) (now : ℕ) (h : Hardware) : Type 0 where
   pub pairs : EveryPair (λ a b. OneAtATime v now (mark_of_entry a) (mark_of_entry b)) h.rob.entries
 
 used_weaker : (v : Values) (i : Option Instr) (o : Option Start) (P Q : Start → Type 0) → ((s : Start) → P s → Q s) → IfSome o (λ s. uses_cache v i s ≡ true → P s) → IfSome o (λ s. uses_cache v i s ≡ true → Q s)
-used_weaker v i None P Q f h = tt
-used_weaker v i (Some s) P Q f h = λ used. f s (h used)
+used_weaker v i o P Q f h = grind arith
 
 tied_later : (v : Values) (c d : ℕ) (m : Mark) → c ≤ d → Tied v c m → Tied v d m
 tied_later v c d m le h = used_weaker v m.instruction m.start (λ s. (s.cycle + s.cost ≤ c) × (0 < s.cost)) (λ s. (s.cycle + s.cost ≤ d) × (0 < s.cost)) (λ s k. (omega (arith, k.0, le), k.1)) h
@@ -36,10 +35,7 @@ tied_over v c d m le h = used_weaker v m.instruction m.start (λ s. (s.cycle + s
 
 pub port_same : (v : Values) (now : ℕ) (g h : Hardware) → g.rob.entries ≡ h.rob.entries → h.port_free ≤ g.port_free →
     PortOk v now h → PortOk v now g
-port_same v now g h at le ok = record {
-  tie = rw at (Each-weaker (λ e. Tied v h.port_free (mark_of_entry e)) (λ e. Tied v g.port_free (mark_of_entry e)) (λ e k. tied_later v h.port_free g.port_free (mark_of_entry e) le k) h.rob.entries ok.tie);
-  pairs = rw at (ok.pairs);
-}
+port_same v now g h given le ok = grind (arith, Each-weaker, tied_later)
 
 -- where the port is found idle, it is free by now
 pub drained_idle : (a : Bool) (h : Hardware) → (a && nat_le h.port_free h.cycle) ≡ true → h.port_free ≤ h.cycle
@@ -66,29 +62,8 @@ port_drain v now = record {
 
 -- one that begins, beside one that is over where it uses the cache
 pair_with_new : (v : Values) (now : ℕ) (a x : Mark) → Tied v now a ⊎ (WhereUsed v x (λ t. ⊥)) → OneAtATime v now a x
-pair_with_new v now a x (inl over) = (
-  used_weaker v a.instruction a.start (λ s. (s.cycle + s.cost ≤ now) × (0 < s.cost)) (λ s. s.cycle ≡ now → OverBy v now x) (λ s k at. absurd (too_long s k at)) over,
-  whenever v x (tied_over v now now a (omega arith) over),
-)
-  where
-    too_long : (s : Start) → (s.cycle + s.cost ≤ now) × (0 < s.cost) → s.cycle ≡ now → ⊥
-    too_long s k at = omega (arith, k.0, k.1, at)
-
-    whenever : (w : Values) (m : Mark) → OverBy v now a → WhereUsed v m (λ s. s.cycle ≡ now → OverBy v now a)
-    whenever w m h = by_start m.start
-      where
-        by_start : (o : Option Start) → IfSome o (λ s. uses_cache v m.instruction s ≡ true → s.cycle ≡ now → OverBy v now a)
-        by_start None = tt
-        by_start (Some s) = λ used at. h
-pair_with_new v now a x (inr none) =
-    (by_start a.start, used_weaker v x.instruction x.start (λ t. ⊥) (λ t. t.cycle ≡ now → OverBy v now a) (λ t k. absurd k) none)
-  where
-    over : OverBy v now x
-    over = used_weaker v x.instruction x.start (λ t. ⊥) (λ t. t.cycle + t.cost ≤ now) (λ t k. absurd k) none
-
-    by_start : (o : Option Start) → IfSome o (λ s. uses_cache v a.instruction s ≡ true → s.cycle ≡ now → OverBy v now x)
-    by_start None = tt
-    by_start (Some s) = λ used at. over
+pair_with_new v now a x (inl over) = grind (arith, used_weaker, tied_over)
+pair_with_new v now a x (inr none) = grind (arith, used_weaker)
 
 pub turned : (v : Values) (now : ℕ) (a b : Mark) → OneAtATime v now a b → OneAtATime v now b a
 turned v now a b p = (p.1, p.0)
@@ -105,21 +80,12 @@ module _ (v : Values) (legal : IsLegal v) (now : ℕ) where
     new_port = (with_access (path h older e) h).port_free
 
     not_true : (b : Bool) → not b ≡ true → b ≡ false
-    not_true true is = absurd (cc)
-    not_true false is = refl
+    not_true b is = grind arith
 
     -- where it uses the cache, the port was idle and is busy with it
     by_cache : uses_cache v e.instruction (new_start) ≡ true →
         (h.port_free ≤ h.cycle) × (h.cycle + cost_of h k (path h older e) ≤ new_port)
-    by_cache used =
-        let rest = and_second (is_load e.instruction) (not (new_start).faults && not ((new_start).cost == v.forward)) used in
-        let none = not_true (new_start).faults (and_first (not (new_start).faults) (not ((new_start).cost == v.forward)) rest) in
-        let other = not_true ((new_start).cost == v.forward) (and_second (not (new_start).faults) (not ((new_start).cost == v.forward)) rest) in
-        let goes = path_of_user v h p.0.0 older (seen_behind h older e.pc) k e.instruction e.word (and_first (is_load e.instruction) (not (new_start).faults && not ((new_start).cost == v.forward)) used) none other in
-        let idle : nat_le h.port_free h.cycle ≡ true = subst (λ q. has_port h q ≡ true) goes.1 (has_its_port h older e ready.loads) in (
-          leb-true h.port_free h.cycle idle,
-          subst (λ q. h.cycle + cost_of h k q ≤ (with_access q h).port_free) (sym goes.1) (omega arith),
-        )
+    by_cache used = grind (arith, and_second, not_true, and_first, path_of_user, has_its_port, leb-true)
 
     grows : h.port_free ≤ new_port
     grows = port_grows h (path h older e) (has_its_port h older e ready.loads)
@@ -210,26 +176,8 @@ pub new_pair : (v : Values) (now : ℕ) (a n : Mark) → n.start ≡ None → On
 new_pair v now a n none = pair_with_new v now a n (inr (not_started v n (λ t. ⊥) none))
 
 port_dispatch : (v : Values) (now : ℕ) → IsKeptByDispatch (PortOk v now)
-port_dispatch v now = record {
-  dispatches = λ h f rest ok first nothing.
-      let e : Entry = entry_of_fetched h f in
-      let none = ap (λ (m : Mark). m.start) (dispatched_mark h f) in
-      record {
-        tie = Each-append (λ z. Tied v h.port_free (mark_of_entry z)) h.rob.entries (e ∷ []) ok.tie
-            (not_started v (mark_of_entry e) (λ s. (s.cycle + s.cost ≤ h.port_free) × (0 < s.cost)) none, tt);
-        pairs = EveryPair-append (λ a b. OneAtATime v now (mark_of_entry a) (mark_of_entry b)) h.rob.entries (e ∷ []) ok.pairs (tt, tt)
-            (Each-all (λ a. Each (λ b. OneAtATime v now (mark_of_entry a) (mark_of_entry b)) (e ∷ []))
-            (λ a. (new_pair v now (mark_of_entry a) (mark_of_entry e) none, tt)) h.rob.entries);
-      };
-}
+port_dispatch v now = grind (arith, dispatched_mark, Each-append, not_started, EveryPair-append, Each-all, new_pair)
 
 -- each phase of a cycle keeps it
 pub port_kept : (v : Values) → IsLegal v → (now : ℕ) → IsKeptInCycle v now (PortOk v now)
-port_kept v legal now = record {
-  lines = λ h levels ok. record { tie = ok.tie; pairs = ok.pairs };
-  commit = port_commit v now;
-  drain = port_drain v now;
-  issue = λ k h older younger e here ok at is free. started_port v legal now k h older younger e at (ready-parts h k older e is) (here, ok);
-  broadcast = port_broadcast v now;
-  dispatch = port_dispatch v now;
-}
+port_kept v legal now = grind (arith, port_commit, port_drain, started_port, ready-parts, port_broadcast, port_dispatch)

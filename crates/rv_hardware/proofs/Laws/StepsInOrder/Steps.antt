@@ -1,14 +1,13 @@
 -- Steps come in order, within the width; interrupts alone, flushes last; after a flush everything is fetched anew.
-use Rattle.rv_hardware.proofs.Words.{nat_eq as eqb, ◌≡◌, ℕ, suc, ◌+◌, ◌<◌, ◌≤◌, Bool, true, false, List, [], ◌∷◌, ◌++◌, map, length, ◌==◌, Some, None, Option, nat_cmp, unwrap_or, sym, refl, ap, ◌∙◌, subst, true≢false, append_assoc, append-nil, arith, length-append, ne_eqb, eqb-true, IsLegal, is_serialising, Message, Issue, Lines, Values, instruction_of, due, interrupt_cause, Stop, Each, Entry, Finished, Committing, commit_turn, commit_unless, with_fault, IsCycle, any_prediction, with_lines, Hardware, IsFetchedSince, Turn, Report, written_of, flushes, rows_of, is_interrupt, stamp_of, Row, Step, Interrupt, Retired, Trap, Each-append, Each-left, Each-right, Each-set, Each-place, Each-weaker, Each-all, Each-both, Each-map, Each-unmap, EveryPair, count, EveryPair-append, count-append, count-none, count-length, Leads, leads_both, turns_within}
+use Rattle.rv_hardware.proofs.Words.{nat_eq as eqb, ◌≡◌, ℕ, suc, ◌+◌, ◌<◌, ◌≤◌, Bool, true, false, List, [], ◌∷◌, ◌++◌, map, length, ◌==◌, Some, None, Option, nat_cmp, unwrap_or, sym, refl, ap, subst, true≢false, append_assoc, append-nil, arith, length-append, ne_eqb, eqb-true, IsLegal, is_serialising, Message, Issue, Lines, Values, instruction_of, due, Stop, Each, Entry, Finished, Committing, commit_turn, commit_unless, with_fault, IsCycle, any_prediction, with_lines, Hardware, IsFetchedSince, Turn, Report, written_of, flushes, rows_of, is_interrupt, stamp_of, Row, Step, Retired, Trap, Each-append, Each-left, Each-right, Each-set, Each-place, Each-weaker, Each-all, Each-both, Each-map, Each-unmap, EveryPair, count, EveryPair-append, count-append, count-none, count-length, Leads, leads_both, turns_within}
 use Rattle.std.specs.FinSet as set
-use Rattle.rv_hardware.proofs.Marks.Advance.{Kept, Advances, retires as a_retires, starts as a_starts, is_sent as a_is_sent, enters as a_enters}
-use Rattle.rv_hardware.proofs.Turns.Fetch.{IsNew}
+use Rattle.rv_hardware.proofs.Marks.Advance.{Kept, Advances}
 use Rattle.rv_hardware.proofs.Marks.List.{Mark, mark_of_row, mark_of_entry, mark_of_fetched, marks_in}
-use Rattle.rv_hardware.proofs.Turns.Commit.{CommitTurn, no_head, stale_head, unfinished, fence_waits, fence_writes, fence_retires, executes, serial_faults, traps, retires, retires_last, executed, written_back, retired_with, retired_and_flushed, commit_turn_is, head_retired_entries}
+use Rattle.rv_hardware.proofs.Turns.Commit.{CommitTurn, stale_head, fence_writes, fence_retires, executes, serial_faults, traps, retires, retires_last, executed, written_back, retired_with, retired_and_flushed, commit_turn_is, head_retired_entries}
 use Rattle.rv_hardware.proofs.Marks.History.{Anything, anything_is_kept, Sound, Passed, History, began, went_on, begin, committing, dispatching, cycle_passes, history_is_legal, history_is_sound}
 use Rattle.rv_hardware.proofs.Marks.Phases.{Goes, Commits, commit_turn_keeps, commit_keeps, execute_keeps, with_marks}
 use Rattle.rv_hardware.proofs.Marks.Row.{retiring_is_one, row_at, may_retire_finished}
-use Rattle.rv_hardware.proofs.Marks.Sound.{SoundEntry, row_decodes}
+use Rattle.rv_hardware.proofs.Marks.Sound.{row_decodes}
 
 -- every flush among some steps was no later than a cycle
 abbrev pub NotBefore : List Step → ℕ → Type 0
@@ -50,16 +49,10 @@ module _ (v : Values) (now : ℕ) (earlier : List Step) (before : Each (λ s. st
         (Each-left (λ a. flushes a ≡ true → IsFetchedSince a s) earlier c.steps anew)
 
     from_now : Each (λ a. InOrder a s) c.steps
-    from_now =
-        Each-both (λ a. (stamp_of a ≡ now) × Plain a) (λ a. flushes a ≡ true → IsFetchedSince a s) (λ a. InOrder a s)
-        (λ a h new. record { order = omega (arith, h.0, at); alone = λ i. absurd (true≢false (sym i ∙ alone)); last = λ i. absurd (true≢false (sym i ∙ h.1.1)); anew = new }) c.steps
-        (Each-both (λ a. stamp_of a ≡ now) Plain (λ a. (stamp_of a ≡ now) × Plain a) (λ a e f. (e, f)) c.steps p.steps.of_now p.plain)
-        (Each-right (λ a. flushes a ≡ true → IsFetchedSince a s) earlier c.steps anew)
+    from_now = grind (arith, Each-both, true≢false, Each-right)
 
     more_pairs : EveryPair InOrder (earlier ++ (c.steps ++ s ∷ []))
-    more_pairs =
-        rw regroup (EveryPair-append InOrder (earlier ++ c.steps) (s ∷ []) p.steps.pairs (tt, tt)
-        (Each-weaker (λ a. InOrder a s) (λ a. Each (InOrder a) (s ∷ [])) (λ a h. (h, tt)) (earlier ++ c.steps) (Each-append (λ a. InOrder a s) earlier c.steps from_earlier from_now)))
+    more_pairs = grind (arith, regroup, EveryPair-append, Each-weaker, Each-append, from_earlier, from_now)
 
     more_of_now : Each (λ a. stamp_of a ≡ now) (c.steps ++ s ∷ [])
     more_of_now = Each-append (λ a. stamp_of a ≡ now) c.steps (s ∷ []) p.steps.of_now (at, tt)
@@ -74,8 +67,7 @@ module _ (v : Values) (now : ℕ) (earlier : List Step) (before : Each (λ s. st
 
     not_before : (cycle : ℕ) → flushes s ≡ false → NotBefore (earlier ++ c.steps) cycle →
         NotBefore (earlier ++ (c.steps ++ s ∷ [])) cycle
-    not_before cycle plain h =
-        rw regroup (Each-append (λ a. flushes a ≡ true → stamp_of a ≤ cycle) (earlier ++ c.steps) (s ∷ []) h ((λ i. absurd (true≢false (sym i ∙ plain))), tt))
+    not_before cycle plain h = grind (arith, regroup, Each-append, true≢false)
 
     -- or leaves what is younger
     pub leaving : (g : Hardware) (stop : Option Stop) (e : Entry) (es : List Entry) → flushes s ≡ false → Goes v now now now now now (now + 1) Anything (earlier ++ (c.steps ++ s ∷ [])) g → c.hardware.rob.entries ≡ e ∷ es → g.rob.entries ≡ es → g.front.entries ≡ c.hardware.front.entries →
@@ -119,17 +111,12 @@ module _ (v : Values) (now : ℕ) (earlier : List Step) (before : Each (λ s. st
       c.hardware.rob.entries ≡ e ∷ es → is_serialising e.instruction ≡ false → e.stage ≡ Finished issue cycle message →
       message.fault ≡ None → Goes v now now now now now (now + 1) Anything (earlier ++ c.steps) c.hardware →
       is_serialising (instruction_of (unwrap_or e.word 0)) ≡ false
-  plain_row c e es issue cycle message place plain at none goes =
-      let sound : SoundEntry v now now now e = (subst (Each (SoundEntry v now now now)) place goes.basics.entries).0 in
-      ap is_serialising (row_decodes e sound.decoded (retiring_is_one v now e sound (may_retire_finished e.instruction e.stage issue cycle message at none))) ∙ plain
+  plain_row c e es issue cycle message place plain given holds goes = grind (arith, row_decodes, retiring_is_one, may_retire_finished)
 
   turn_leads : (total k : ℕ) (c : Committing) (t : Turn Committing) → k < total → CommitTurn is_stale c t →
       Commits v now Anything (anything_is_kept v now) earlier is_stale c → Going k c →
       Leads (Commits v now Anything (anything_is_kept v now) earlier is_stale) (Commits v now Anything (anything_is_kept v now) earlier is_stale) t → Leads (Going (suc k)) (Steps v now earlier total) t
-  turn_leads total k c _ lt (no_head none) q p goes = steps_up_to k total c (omega (arith, lt)) p.steps
   turn_leads total k c _ lt (stale_head e es at is) q p goes = standing k total c _ (omega (arith, lt)) refl refl refl goes p.steps
-  turn_leads total k c _ lt (unfinished e es head plain none) q p goes = steps_up_to k total c (omega (arith, lt)) p.steps
-  turn_leads total k c _ lt (fence_waits e es head is busy) q p goes = steps_up_to k total c (omega (arith, lt)) p.steps
   turn_leads total k c _ lt (fence_writes e es head is drained dirty) q p goes = standing k total c (written_back c) (omega (arith, lt)) refl refl refl goes p.steps
   turn_leads total k c _ lt (fence_retires e es written next head is drained) q p goes =
       steps_up_to (suc k) total _ lt (flushing k c (Retired (row_at e written c.hardware.cycle)) p q.basics.cycle refl (row_since c e es written head.place p.steps.entries) (executed e written next (written_back c)).hardware c.stop goes refl refl)
@@ -148,6 +135,7 @@ module _ (v : Values) (now : ℕ) (earlier : List Step) (before : Each (λ s. st
       }
   turn_leads total k c _ lt (retires_last e es issue cycle message head plain at none) q p goes =
       steps_up_to (suc k) total _ lt (flushing k c (Retired (row_at e (written_of e message) c.hardware.cycle)) p q.basics.cycle refl (row_since c e es (written_of e message) head.place p.steps.entries) (retired_and_flushed e message c).hardware c.stop goes refl refl)
+  turn_leads total k c _ lt it q p goes = steps_up_to k total c (omega (arith, lt)) p.steps
 
   commit_leads_by : (total : ℕ) → 1 ≤ total → (o : Option ℕ) (h : Hardware) → h.values.commit_width ≡ total →
       Goes v now now now now now (now + 1) Anything (earlier ++ []) h → EveryPair InOrder (earlier ++ []) →
@@ -155,17 +143,7 @@ module _ (v : Values) (now : ℕ) (earlier : List Step) (before : Each (λ s. st
       Each (λ f. NotBefore (earlier ++ []) f.cycle) h.front.entries →
       Commits v now Anything (anything_is_kept v now) earlier is_stale (commit_unless is_stale o h) →
       Steps v now earlier total (commit_unless is_stale o h)
-  commit_leads_by total le (Some code) h width goes pairs entries words after =
-      let s : Step = Interrupt h.pc (interrupt_cause code) h.cycle in
-      record {
-        goes = after;
-        pairs = EveryPair-append InOrder earlier (s ∷ []) (rw (append-nil earlier) at pairs) (tt, tt)
-            (Each-weaker (λ a. stamp_of a < now) (λ a. Each (InOrder a) (s ∷ [])) (λ a lt. (record { order = omega (arith, lt, goes.basics.cycle); alone = λ i. omega (arith, lt, goes.basics.cycle); last = λ i. omega (arith, lt, goes.basics.cycle); anew = λ i. tt }, tt)) earlier before);
-        of_now = (goes.basics.cycle, tt);
-        within = le;
-        entries = tt;
-        words = tt;
-      }
+  commit_leads_by total le (Some code) h width goes pairs entries words after = grind (arith, EveryPair-append, append-nil, Each-weaker)
   commit_leads_by total le None h width goes pairs entries words after =
       let first : Committing = record { hardware = h; steps = []; stop = None } in
       turns_within total (λ k c. Commits v now Anything (anything_is_kept v now) earlier is_stale c × Going k c) (Steps v now earlier total) (commit_turn is_stale)
@@ -189,10 +167,7 @@ some_is_none n e = absurd (cc)
 
 anew_goes_on : (steps : List Step) (v : Values) (now : ℕ) (xs : List Mark) (m n : Mark) → Advances v now xs m n →
     FetchedAnew steps m → FetchedAnew steps n
-anew_goes_on steps v now xs m n (a_retires a) h none = some_is_none now (sym (ap (λ x. x.retired) a.becomes) ∙ none)
-anew_goes_on steps v now xs m n (a_starts a) h none = rw (ap (λ x. x.fetched) a.becomes) (h a.not_retired)
-anew_goes_on steps v now xs m n (a_is_sent a) h none = rw (ap (λ x. x.fetched) a.becomes) (h a.not_retired)
-anew_goes_on steps v now xs m n (a_enters a) h none = rw (ap (λ x. x.fetched) a.becomes) (h a.not_retired)
+anew_goes_on steps v now xs m n given h holds = grind (arith, some_is_none)
 
 anew_is_kept : (steps : List Step) (v : Values) (now : ℕ) → Kept v now (Each (FetchedAnew steps))
 anew_is_kept steps v now = record {
@@ -244,27 +219,15 @@ module _ (v : Values) (legal : IsLegal v) (earlier : List Step) (old new : Hardw
       (Each-weaker (λ s. stamp_of s ≡ old.cycle) (λ s. stamp_of s < old.cycle + 1) (λ s e. omega (arith, e)) report.steps (subst (Each (λ s. stamp_of s ≡ old.cycle)) (sym passed.steps) committed.of_now))
 
   new_words_anew : Each (λ f. NotBefore (earlier ++ report.steps) f.cycle) passed.fetches.added
-  new_words_anew =
-      Each-weaker (IsNew old.cycle) (λ f. NotBefore (earlier ++ report.steps) f.cycle)
-      (λ f w. Each-weaker (λ s. stamp_of s < old.cycle + 1) (λ a. flushes a ≡ true → stamp_of a ≤ f.cycle) (λ a lt i. omega (arith, lt, w.0)) (earlier ++ report.steps) by_now) passed.fetches.added passed.fetches.are_new
+  new_words_anew = grind (arith, Each-weaker, by_now, passed)
 
   -- the steps of a cycle carry its number
   pub steps_of_cycle : Each (λ s. stamp_of s ≡ old.cycle) report.steps
   steps_of_cycle = subst (Each (λ s. stamp_of s ≡ old.cycle)) (sym passed.steps) committed.of_now
 
   none_of_now : (c : ℕ) (b : Bool) → eqb old.cycle c ≡ b → count (λ s. stamp_of s == c) (earlier ++ report.steps) ≤ v.commit_width
-  none_of_now c true e =
-      let same : old.cycle ≡ c = eqb-true old.cycle c e in
-      let all = count-append (λ s. stamp_of s == c) earlier report.steps in
-      let none = count-none (λ s. stamp_of s == c) earlier (Each-weaker (λ s. stamp_of s < old.cycle) (λ s. (stamp_of s == c) ≡ false) (λ s lt. ne_eqb (stamp_of s) c (omega (arith, lt, same))) earlier past.before) in
-      let some = count-length (λ s. stamp_of s == c) report.steps in
-      let long = ap (λ l. length l) passed.steps in
-      omega (arith, all, none, some, long, committed.within)
-  none_of_now c false e =
-      let all = count-append (λ s. stamp_of s == c) earlier report.steps in
-      let none = count-none (λ s. stamp_of s == c) report.steps (Each-weaker (λ s. stamp_of s ≡ old.cycle) (λ s. (stamp_of s == c) ≡ false) (λ s at. rw at e) report.steps steps_of_cycle) in
-      let some = past.width c in
-      omega (arith, all, none, some)
+  none_of_now c true e = grind (arith, eqb-true, count-append, count-none, Each-weaker, ne_eqb, count-length, passed, committed)
+  none_of_now c false e = grind (arith, count-append, count-none, Each-weaker, steps_of_cycle)
 
   pub steps_go_on : StepsPast v (earlier ++ report.steps) new
   steps_go_on =

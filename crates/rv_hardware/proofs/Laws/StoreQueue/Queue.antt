@@ -1,12 +1,11 @@
 -- The retired stores in the queue are the last store rows, and the access of each earlier one is over.
-use Rattle.rv_hardware.proofs.Words.{◌≡◌, ℕ, ◌+◌, ◌≤◌, Bool, true, false, cond, List, [], ◌∷◌, ◌++◌, length, is_some, Some, None, filter, Option, sym, refl, ap, ◌∙◌, append_assoc, append-nil, arith, filter-append, StoreAccess, Each, with_oldest_draining, without_drained, is_draining, Store, committed_store, is_store_row, Row, Each-append, Each-weaker}
+use Rattle.rv_hardware.proofs.Words.{◌≡◌, ℕ, ◌+◌, ◌≤◌, Bool, true, false, cond, List, [], ◌∷◌, ◌++◌, length, is_some, filter, Option, sym, refl, ap, ◌∙◌, append_assoc, append-nil, arith, filter-append, StoreAccess, Each, with_oldest_draining, without_drained, is_draining, Store, committed_store, is_store_row, Row, Each-append, Each-weaker}
 
 -- row by row, the queue's retired stores; the port is busy until the access is over that one has begun
 abbrev pub AreQueued : ℕ → ℕ → List Row → List Store → Type 0
 AreQueued hit port [] [] = Unit {0}
-AreQueued hit port [] (s ∷ ss) = ⊥
-AreQueued hit port (row ∷ rows) [] = ⊥
 AreQueued hit port (row ∷ rows) (s ∷ ss) = (is_draining s ≡ true → row.retired + hit ≤ port) × AreQueued hit port rows ss
+AreQueued hit port _ _ = ⊥
 
 -- the store rows split into those whose access is over and those whose stores wait in the queue
 pub record QueueOk (hit now : ℕ) (rows : List Row) (port : ℕ) (committed : List Store) : Type 0 where
@@ -19,22 +18,19 @@ pub record QueueOk (hit now : ℕ) (rows : List Row) (port : ℕ) (committed : L
 
 queued_later : (hit p q : ℕ) (rows : List Row) (ss : List Store) → p ≤ q → AreQueued hit p rows ss → AreQueued hit q rows ss
 queued_later hit p q [] [] le h = tt
-queued_later hit p q [] (s ∷ ss) le h = absurd h
-queued_later hit p q (row ∷ rows) [] le h = absurd h
 queued_later hit p q (row ∷ rows) (s ∷ ss) le h = (λ begun. let by = h.0 begun in omega (arith, by, le), queued_later hit p q rows ss le h.1)
+queued_later hit p q rows ss le h = absurd h
 
 queued_push : (hit p : ℕ) (rows : List Row) (ss : List Store) (row : Row) (s : Store) → is_draining s ≡ false → AreQueued hit p rows ss → AreQueued hit p (rows ++ row ∷ []) (ss ++ s ∷ [])
 queued_push hit p [] [] row s waits h = (λ begun. absurd (cc), tt)
-queued_push hit p [] (t ∷ ss) row s waits h = absurd h
-queued_push hit p (r ∷ rows) [] row s waits h = absurd h
 queued_push hit p (r ∷ rows) (t ∷ ss) row s waits h = (h.0, queued_push hit p rows ss row s waits h.1)
+queued_push hit p rows ss row s waits h = absurd h
 
 -- there are as many of these rows as stores in the queue
 pub queued_length : (hit p : ℕ) (rows : List Row) (ss : List Store) → AreQueued hit p rows ss → length rows ≡ length ss
 queued_length hit p [] [] h = refl
-queued_length hit p [] (s ∷ ss) h = absurd h
-queued_length hit p (row ∷ rows) [] h = absurd h
 queued_length hit p (row ∷ rows) (s ∷ ss) h = let rest = queued_length hit p rows ss h.1 in omega (arith, rest)
+queued_length hit p rows ss h = absurd h
 
 module _ (hit now : ℕ) (rows : List Row) (port : ℕ) (committed : List Store) (ok : QueueOk hit now rows port committed) where
   -- the port is busy for longer
@@ -43,25 +39,11 @@ module _ (hit now : ℕ) (rows : List Row) (port : ℕ) (committed : List Store)
 
   -- the next cycle
   pub queue_next : (next : ℕ) → now ≤ next → QueueOk hit next rows port committed
-  queue_next next le = record {
-    gone = ok.gone;
-    kept = ok.kept;
-    split = ok.split;
-    over = Each-weaker (λ row. row.retired + hit ≤ now) (λ row. row.retired + hit ≤ next) (λ row by. omega (arith, by, le)) ok.gone ok.over;
-    by_now = Each-weaker (λ row. row.retired ≤ now) (λ row. row.retired ≤ next) (λ row by. omega (arith, by, le)) ok.kept ok.by_now;
-    queued = ok.queued;
-  }
+  queue_next next le = grind (arith, Each-weaker)
 
   -- a retirement
   pub plain_retires : (row : Row) → is_store_row row ≡ false → QueueOk hit now (rows ++ row ∷ []) port committed
-  plain_retires row plain = record {
-    gone = ok.gone;
-    kept = ok.kept;
-    split = filter-append is_store_row rows (row ∷ []) ∙ ap (λ b. filter is_store_row rows ++ cond b (row ∷ []) []) plain ∙ append-nil (filter is_store_row rows) ∙ ok.split;
-    over = ok.over;
-    by_now = ok.by_now;
-    queued = ok.queued;
-  }
+  plain_retires row plain = grind (arith, filter-append, append-nil)
 
   store_retires : (row : Row) (s : Store) → is_store_row row ≡ true → is_draining s ≡ false → row.retired ≤ now → QueueOk hit now (rows ++ row ∷ []) port (committed ++ s ∷ [])
   store_retires row s store waits le = record {
@@ -75,8 +57,7 @@ module _ (hit now : ℕ) (rows : List Row) (port : ℕ) (committed : List Store)
 
   -- a store that retires is the last row and the last in the queue
   pub queue_retires : (row : Row) (seq : ℕ) (access : Option StoreAccess) → is_some access ≡ is_store_row row → row.retired ≤ now → QueueOk hit now (rows ++ row ∷ []) port (committed ++ committed_store seq access)
-  queue_retires row seq None tells le = rw (append-nil committed) (plain_retires row (sym tells))
-  queue_retires row seq (Some access) tells le = store_retires row _ (sym tells) refl le
+  queue_retires row seq access tells le = grind (arith, append-nil, plain_retires, store_retires)
 
 -- a drain
 
@@ -96,9 +77,8 @@ module _ (hit now : ℕ) (rows : List Row) (port : ℕ) (idle : port ≤ now) wh
   leaves_from : (gone kept : List Row) (committed : List Store) → filter is_store_row rows ≡ gone ++ kept → Each (λ r. r.retired + hit ≤ now) gone → Each (λ r. r.retired ≤ now) kept → AreQueued hit port kept committed →
       QueueOk hit now rows port (without_drained committed)
   leaves_from gone [] [] split over by_now queued = record { gone = gone; kept = []; split = split; over = over; by_now = tt; queued = tt }
-  leaves_from gone [] (s ∷ ss) split over by_now queued = absurd queued
-  leaves_from gone (row ∷ kept) [] split over by_now queued = absurd queued
   leaves_from gone (row ∷ kept) (s ∷ ss) split over by_now queued = leaves_by (is_draining s) s ss gone kept row refl split over by_now queued
+  leaves_from gone kept committed split over by_now queued = absurd queued
 
   -- a store whose access is over leaves
   pub queue_leaves : (committed : List Store) → QueueOk hit now rows port committed → QueueOk hit now rows port (without_drained committed)
@@ -106,11 +86,9 @@ module _ (hit now : ℕ) (rows : List Row) (port : ℕ) (idle : port ≤ now) wh
 
   begins_from : (later : ℕ) → now + hit ≤ later → (kept : List Row) (committed : List Store) → Each (λ r. r.retired ≤ now) kept → AreQueued hit port kept committed → AreQueued hit later kept (with_oldest_draining committed)
   begins_from later le [] [] by_now queued = tt
-  begins_from later le [] (s ∷ ss) by_now queued = absurd queued
-  begins_from later le (row ∷ kept) [] by_now queued = absurd queued
   begins_from later le (row ∷ kept) (s ∷ ss) by_now queued = (λ begun. omega (arith, by_now.0, le), queued_later hit port later kept ss (omega (arith, idle, le)) queued.1)
+  begins_from later le kept committed by_now queued = absurd queued
 
   -- the oldest begins its access
   pub queue_begins : (later : ℕ) → now + hit ≤ later → (committed : List Store) → QueueOk hit now rows port committed → QueueOk hit now rows later (with_oldest_draining committed)
-  queue_begins later le committed ok =
-      record { gone = ok.gone; kept = ok.kept; split = ok.split; over = ok.over; by_now = ok.by_now; queued = begins_from later le ok.kept committed ok.by_now ok.queued }
+  queue_begins later le committed ok = grind (arith, begins_from)
