@@ -18,7 +18,7 @@ ghost use Rattle.rv_core.specs.Ties.{operand_by, operand_of, producers_of, statu
 ghost use Rattle.rv_core.specs.Told.{dispatch_told, dispatching};
 
 use crate::broadcast::is_branch_or_jump;
-use crate::execute::finishes;
+use crate::execute::result_at_dispatch;
 use crate::parts::Parts;
 use rv_front::Fetched;
 use rv_hardware::Stall;
@@ -203,7 +203,7 @@ fn entering_stage(fetched: &Fetched, kind: Option<Kind>, cycle: u64) -> Stage
     Stage::Finished {
         issue: None,
         cycle,
-        message: finishes(fetched.pc, fetched.word, &fetched.instruction),
+        message: result_at_dispatch(fetched.pc, fetched.word, &fetched.instruction),
     }
 }
 

@@ -19,7 +19,7 @@ use rv_memory::Ram;
 use rv_stations::Ready;
 
 /// A result without a value: the instruction goes on at `next_pc`.
-pub(crate) fn passes(next_pc: u32) -> Message
+pub(crate) fn passed(next_pc: u32) -> Message
     ensures { (s : State) → result ≡ effect_message None (goes_to s next_pc) }
 {
     Message {
@@ -31,7 +31,7 @@ pub(crate) fn passes(next_pc: u32) -> Message
 }
 
 /// A fault, which carries no value and no next pc.
-pub(crate) fn faults(cause: Cause, value: u32) -> Message
+pub(crate) fn faulted(cause: Cause, value: u32) -> Message
     ensures { result ≡ fault_message cause value }
 {
     Message {
@@ -43,7 +43,7 @@ pub(crate) fn faults(cause: Cause, value: u32) -> Message
 }
 
 /// A value for the target register `rd`; where that is x0 the value is dropped.
-pub(crate) fn computes(rd: rv_isa::Reg, value: u32, pc: u32) -> Message
+pub(crate) fn computed(rd: rv_isa::Reg, value: u32, pc: u32) -> Message
     ensures { (s : State) → s.pc ≡ pc → result ≡ effect_message None (writes s rd value (pc_plus_4 s.pc)) }
 {
     Message {
@@ -61,11 +61,11 @@ fn kept(rd: rv_isa::Reg, value: u32) -> u32
 }
 
 // A jump that writes its link.
-fn jumps(rd: rv_isa::Reg, pc: u32, target: u32) -> Message
+fn jumped(rd: rv_isa::Reg, pc: u32, target: u32) -> Message
     ensures { (s : State) → s.pc ≡ pc → result ≡ effect_message None (jumps s rd target) }
 {
     if target % 4 != 0 {
-        return faults(Cause::InstructionAddressMisaligned, target);
+        return faulted(Cause::InstructionAddressMisaligned, target);
     }
     Message {
         value: kept(rd, pc.wrapping_add(4)),
@@ -75,15 +75,15 @@ fn jumps(rd: rv_isa::Reg, pc: u32, target: u32) -> Message
     }
 }
 
-fn branches(is_taken: bool, pc: u32, target: u32) -> Message
+fn branched(is_taken: bool, pc: u32, target: u32) -> Message
     ensures { (s : State) → s.pc ≡ pc → result ≡ effect_message None (branches s is_taken target) }
 {
     if !is_taken {
-        passes(pc.wrapping_add(4))
+        passed(pc.wrapping_add(4))
     } else if target % 4 != 0 {
-        faults(Cause::InstructionAddressMisaligned, target)
+        faulted(Cause::InstructionAddressMisaligned, target)
     } else {
-        passes(target)
+        passed(target)
     }
 }
 
@@ -95,57 +95,57 @@ pub(crate) fn address(base: u32, offset: Immediate) -> u32
 }
 
 /// What an instruction without a memory access gives, of the values of its registers.
-pub(crate) fn operates(instruction: &Instr, pc: u32, first: u32, second: u32) -> Message
+pub(crate) fn operation_result(instruction: &Instr, pc: u32, first: u32, second: u32) -> Message
     ensures { is_operation (kind_of instruction.now) ≡ true → (layout : Layout) (s : State) (lines : Lines) (word : ℕ) → Reads s pc first second instruction.now → result ≡ result_in layout s lines word instruction.now }
 {
     match *instruction {
-        Instr::Lui { rd, immediate } => computes(rd, immediate.value() * 4096, pc),
+        Instr::Lui { rd, immediate } => computed(rd, immediate.value() * 4096, pc),
         Instr::Auipc { rd, immediate } => {
-            computes(rd, pc.wrapping_add(immediate.value() * 4096), pc)
+            computed(rd, pc.wrapping_add(immediate.value() * 4096), pc)
         }
-        Instr::Jal { rd, offset } => jumps(rd, pc, pc.wrapping_add(offset.word())),
-        Instr::Jalr { rd, offset, .. } => jumps(rd, pc, address(first, offset) / 2 * 2),
+        Instr::Jal { rd, offset } => jumped(rd, pc, pc.wrapping_add(offset.word())),
+        Instr::Jalr { rd, offset, .. } => jumped(rd, pc, address(first, offset) / 2 * 2),
         Instr::Branch {
             condition,
             offset,
             ..
         } => {
             let is_taken = branch_taken(condition, first, second);
-            branches(is_taken, pc, pc.wrapping_add(offset.word()))
+            branched(is_taken, pc, pc.wrapping_add(offset.word()))
         }
         Instr::OpImmediate {
             op,
             rd,
             immediate,
             ..
-        } => computes(rd, alu(op.operation(), first, immediate.word()), pc),
+        } => computed(rd, alu(op.operation(), first, immediate.word()), pc),
         Instr::Shift { op, rd, amount, .. } => {
-            computes(rd, alu(op.operation(), first, amount.value()), pc)
+            computed(rd, alu(op.operation(), first, amount.value()), pc)
         }
-        Instr::Op { op, rd, .. } => computes(rd, alu(op, first, second), pc),
-        _ => passes(pc.wrapping_add(4)),
+        Instr::Op { op, rd, .. } => computed(rd, alu(op, first, second), pc),
+        _ => passed(pc.wrapping_add(4)),
     }
 }
 
 /// What an instruction gives that is finished at its dispatch.
-pub(crate) fn finishes(pc: u32, word: Option<u32>, instruction: &Option<Instr>) -> Message
+pub(crate) fn result_at_dispatch(pc: u32, word: Option<u32>, instruction: &Option<Instr>) -> Message
     ensures { kind_of_word instruction.now ≡ None → is_serialising instruction.now ≡ false → (layout : Layout) (s : State) (lines : Lines) → s.pc ≡ pc → result ≡ result_of_word layout s lines word instruction.now }
 {
     let Some(word) = word else {
-        return faults(Cause::InstructionAccessFault, pc);
+        return faulted(Cause::InstructionAccessFault, pc);
     };
     let Some(instruction) = instruction else {
-        return faults(Cause::IllegalInstruction, word);
+        return faulted(Cause::IllegalInstruction, word);
     };
     match *instruction {
-        Instr::Ecall => faults(Cause::EnvironmentCall, 0),
-        Instr::Ebreak => faults(Cause::Breakpoint, 0),
-        _ => passes(pc.wrapping_add(4)),
+        Instr::Ecall => faulted(Cause::EnvironmentCall, 0),
+        Instr::Ebreak => faulted(Cause::Breakpoint, 0),
+        _ => passed(pc.wrapping_add(4)),
     }
 }
 
 /// What a store gives: what it writes, once it retires.
-pub(crate) fn stores(pc: u32, access: StoreAccess) -> Message
+pub(crate) fn stored(pc: u32, access: StoreAccess) -> Message
     ensures { (s : State) → s.pc ≡ pc → result ≡ effect_message (Some access) (goes_to s (pc_plus_4 s.pc)) }
 {
     Message {
@@ -180,15 +180,15 @@ fn store_fault(ram: &Ram, address: u32, width: Width) -> Option<Cause>
 }
 
 /// What an instruction gives that is no load, of the values of its registers.
-pub(crate) fn executes(ram: &Ram, ready: &Ready) -> Message
+pub(crate) fn result_of(ram: &Ram, ready: &Ready) -> Message
     ensures { is_load (Some ready.now.instruction) ≡ false → is_some (kind_of ready.now.instruction) ≡ true → (s : State) (lines : Lines) (word : ℕ) → Reads s ready.now.pc ready.now.first ready.now.second ready.now.instruction → result ≡ result_in ram.now.layout s lines word ready.now.instruction }
 {
     let Instr::Store { width, offset, .. } = ready.instruction else {
-        return operates(&ready.instruction, ready.pc, ready.first, ready.second);
+        return operation_result(&ready.instruction, ready.pc, ready.first, ready.second);
     };
     let place = address(ready.first, offset);
     match store_fault(ram, place, width) {
-        Some(cause) => faults(cause, place),
-        None => stores(ready.pc, store_access(place, width, ready.second)),
+        Some(cause) => faulted(cause, place),
+        None => stored(ready.pc, store_access(place, width, ready.second)),
     }
 }

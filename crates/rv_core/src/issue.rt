@@ -13,7 +13,7 @@ ghost use Rattle.rv_core.specs.Access.{IsExecuted, IsOverRam, cache_after, cost_
 ghost use Rattle.rv_core.specs.Execution.{Reads};
 ghost use Rattle.rv_core.specs.Load.{goes};
 
-use crate::execute::executes;
+use crate::execute::result_of;
 use crate::load::{Executed, Times, load, may_go};
 use crate::parts::Parts;
 use rv_cache::Cache;
@@ -107,7 +107,7 @@ fn execute(cache: &mut Cache<Ram>, queue: &StoreQueue, times: &Times, ready: &Re
             ..
         } => load(cache, queue, times, ready, form, rd, offset),
         _ => Executed {
-            message: executes(cache.backing(), ready),
+            message: result_of(cache.backing(), ready),
             cost: times.latency,
             port_free: times.port_free,
         },

@@ -9,7 +9,7 @@ ghost use Rattle.rv_hardware.specs.Result.{effect_message};
 ghost use Rattle.rv_core.specs.Access.{IsLoaded, IsOverRam, cache_after, cost_by, path_of_load, port_free_by};
 ghost use Rattle.rv_core.specs.Load.{load_fault, is_forwarded, path_of, bytes_over, may_go, needs_port};
 
-use crate::execute::{address, computes, faults};
+use crate::execute::{address, computed, faulted};
 use rv_arch::extended;
 use rv_cache::Cache;
 use rv_isa::{Cause, Immediate, Instr, LoadForm, Message, Reg, Width};
@@ -178,14 +178,14 @@ pub(crate) fn load(
     let width = form.width();
     match path_of(cache, queue, ready.seq, place, width) {
         Path::Without(cause) => Executed {
-            message: faults(cause, place),
+            message: faulted(cause, place),
             cost: times.latency,
             port_free: times.port_free,
         },
         Path::FromStores(overlay) => {
             let value = value_of(form, laid_over(&overlay, [0; 4]));
             Executed {
-                message: computes(rd, value, ready.pc),
+                message: computed(rd, value, ready.pc),
                 cost: times.forward,
                 port_free: times.port_free,
             }
@@ -194,7 +194,7 @@ pub(crate) fn load(
             let (bytes, cost) = cache.read(place, width.bytes() as usize);
             let value = value_of(form, laid_over(&overlay, bytes));
             Executed {
-                message: computes(rd, value, ready.pc),
+                message: computed(rd, value, ready.pc),
                 cost,
                 port_free: times.cycle + u64::from(cost),
             }

@@ -9,8 +9,6 @@ ghost use Rattle.rv_stations.specs.Pool.{squashed as squashed_pool, empty_pool};
 ghost use Rattle.rv_stores.specs.Store.{is_committed};
 ghost use Rattle.rv_units.specs.Bus.{empty_bus, squashed as squashed_bus};
 ghost use Rattle.rv_units.specs.Pool.{free_pool};
-ghost use Rattle.rv_hardware.specs.Cycle.{execute};
-ghost use Rattle.rv_hardware.specs.Dispatch.{stall_of};
 ghost use Rattle.rv_hardware.specs.Guided.{IsGuidedCycle, guided};
 ghost use Rattle.rv_hardware.specs.Run.{Reachable};
 ghost use Rattle.rv_hardware.specs.Reset.{reset_hardware};
@@ -22,7 +20,7 @@ use crate::outcome::CycleEnd;
 use rv_arch::Csrs;
 use rv_cache::Cache;
 use rv_front::{FetchStop, Front, Predictor};
-use rv_hardware::{Stall, Step};
+use rv_hardware::Step;
 use rv_isa::{Description, Image, Lines, Values};
 use rv_memory::{Ram, StaleMap};
 use rv_rename::RenameMap;
@@ -124,7 +122,11 @@ impl Parts {
         let cycle = self.cycle;
         self.lines = lines;
         let stop = self.commit(predictor, steps);
-        let (dispatched, stall) = self.execute();
+        self.drain();
+        self.issue();
+        // A result is broadcast after the instructions of its cycle were issued.
+        self.broadcast();
+        let (dispatched, stall) = self.dispatch();
         self.fetch(predictor);
         self.cycle = cycle + 1;
         CycleEnd {
@@ -132,18 +134,6 @@ impl Parts {
             stall,
             stop,
         }
-    }
-
-    // The phases from drain to dispatch: a result is broadcast after the instructions of its cycle were issued.
-    fn execute(&mut self) -> (u32, Option<Stall>)
-        ensures hardware { self.new ≡ (execute self.old).hardware }
-        ensures dispatched { result.0 ≡ (execute self.old).dispatched }
-        ensures stall { result.1 ≡ stall_of (execute self.old) }
-    {
-        self.drain();
-        self.issue();
-        self.broadcast();
-        self.dispatch()
     }
 
     /// Fetch: words are read along the predicted pcs, from RAM past the cache. Tells why it stopped.

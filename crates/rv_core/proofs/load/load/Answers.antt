@@ -11,7 +11,7 @@ returns-in-FromStores-clause-message c = λ s at behind.
     let count = bytes_of (width_of form) in
     let value = c.value_of-value.ensures
     ∙ ap (λ b. extended (is_sign_extended form) count (number_of (take count b))) c.laid_over.ensures in
-    c.computes.ensures s at
+    c.computed.ensures s at
     ∙ ap (λ v. effect_message None (writes s rd v (pc_plus_4 s.pc))) value
     ∙ from_stores cache stores c.requires.over_ram s behind form rd
     (sum c.args.ready.now.first (modulo_word c.args.offset)) c.in-FromStores.overlay (0 ∷ 0 ∷ 0 ∷ 0 ∷ [])
@@ -34,7 +34,7 @@ returns-in-FromCache-clause-message c = λ s at behind.
     let value = c.value_of-value-in-FromCache.ensures
     ∙ ap (λ b. extended (is_sign_extended form) count (number_of (take count b)))
     (c.laid_over-in-FromCache.ensures ∙ ap (bytes_over c.in-FromCache.overlay) bytes) in
-    c.computes-in-FromCache.ensures s at
+    c.computed-in-FromCache.ensures s at
     ∙ ap (λ v. effect_message None (writes s rd v (pc_plus_4 s.pc))) value
     ∙ from_cache cache stores c.requires.over_ram s behind form rd address c.in-FromCache.overlay padding
     ((λ j. path_of cache.backing.layout stores (sym c.address-place.ensures j) (bytes_of (sym c.width-width.ensures j)))

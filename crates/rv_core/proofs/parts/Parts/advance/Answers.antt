@@ -1,5 +1,7 @@
-use Rattle.rv_core.proofs.Words.{◌≡◌, ◌+◌, ◌++◌, sym, refl, ap, ◌∙◌, subst, arith, IsLegal, commit, IsCycle, commit_with, with_lines, Hardware, Reachable, hardware_of, IsCommitStop, report_with}
+use Rattle.rv_core.proofs.Words.{◌≡◌, ◌+◌, ◌++◌, sym, refl, ap, ◌∙◌, subst, arith, IsLegal, broadcast, commit, IsCycle, commit_with, execute, with_lines, dispatch, stall_of, Hardware, Reachable, hardware_of, IsCommitStop, report_with}
 use Rattle.std.specs.FinSet as set
+use Rattle.rv_hardware.specs.Drain.{drain}
+use Rattle.rv_hardware.specs.Issue.{issue}
 use Rattle.rv_core.proofs.Phases.Cycle.{committing-now, cycle-done, dispatched-now}
 use Rattle.rv_core.proofs.Phases.Steps.{Commits}
 use Rattle.rv_core.proofs.Phases.Numbered.{sound-numbered}
@@ -30,12 +32,19 @@ counted : (g : Over) (c : After-self-2 g) →
     Commits c.args.self.now.cycle c.args.self.now.values.commit_width (commit_with set.contains c.args.lines c.args.self.now)
 counted g c = committing-now c.args.lines c.args.self.now c.commit-stop.new.self (legal g c).pipeline.commit_width.0 (commits g c)
 
+-- what the phases up to dispatch left
+broadcast_left : (g : Over) (c : After-self-2 g) → c.broadcast.new.self ≡ broadcast (issue (drain c.commit-stop.new.self))
+broadcast_left g c = c.broadcast.ensures ∙ ap broadcast (c.issue.ensures ∙ ap issue c.drain.ensures)
+
+executed : (g : Over) (c : After-self-2 g) → c.dispatch-dispatched.new.self ≡ (execute c.commit-stop.new.self).hardware
+executed g c = c.dispatch-dispatched.ensures.hardware ∙ ap (λ h. (dispatch h).hardware) (broadcast_left g c)
+
 -- the cycle's number is still that of before
 here : (g : Over) (c : After-self-2 g) → c.self-2.inside.cycle ≡ c.self.inside.cycle
 here g c =
     ap (λ (h : Hardware). h.cycle) (c.self-2.view_is ∙ c.fetch.ensures.others)
     ∙ dispatched-now c.args.lines c.args.self.now c.commit-stop.new.self (legal g c).pipeline.commit_width.0
-    (commits g c) c.execute-dispatched.new.self c.execute-dispatched.ensures.hardware
+    (commits g c) c.dispatch-dispatched.new.self (executed g c)
     ∙ sym (ap (λ (h : Hardware). h.cycle) c.self.view_is)
 
 pub invariant_of-self-2 : goal.invariant_of-self-2
@@ -53,21 +62,22 @@ returns-clause-cycle g c =
     ∙ ap (λ h. c.args.steps.now.items ++ (commit set.contains (with_lines lines h)).steps) c.self.view_is in
     let done =
     cycle-done lines old c.commit-stop.new.self (legal g at).pipeline.commit_width.0
-    (commits g at) c.execute-dispatched.new.self c.execute-dispatched.ensures.hardware _ c.fetch.new.self c.fetch.result
-    c.execute-dispatched.result.0 c.execute-dispatched.result.1 c.commit-stop.result c.execute-dispatched.ensures.dispatched
-    c.execute-dispatched.ensures.stall (stops g at)
+    (commits g at) c.dispatch-dispatched.new.self (executed g at) _ c.fetch.new.self c.fetch.result
+    c.dispatch-dispatched.result.0 c.dispatch-dispatched.result.1 c.commit-stop.result
+    (c.dispatch-dispatched.ensures.dispatched ∙ ap (λ h. (dispatch h).dispatched) (broadcast_left g at))
+    (c.dispatch-dispatched.ensures.stall ∙ ap (λ h. stall_of (dispatch h)) (broadcast_left g at)) (stops g at)
     c.fetch.ensures.fetched c.fetch.ensures.others in
     let report = report_with (commit_with set.contains lines old).steps
     (record {
-      dispatched = c.execute-dispatched.result.0;
-      stall = c.execute-dispatched.result.1;
+      dispatched = c.dispatch-dispatched.result.0;
+      stall = c.dispatch-dispatched.result.1;
       stop = c.commit-stop.result;
     }) in
     let new : record c.fetch.new.self { cycle = old.cycle + 1 } ≡ _ =
     λ i. record (sym c.self-2.view_is i) { cycle = (sym c.self.view_is i).cycle + 1 } in
     let same = ap (λ h. (commit set.contains (with_lines lines h)).steps) c.self.view_is in
     let here = ap (λ (h : Hardware). h.pc) (c.self-2.view_is ∙ c.fetch.ensures.others)
-    ∙ ap (λ (h : Hardware). h.pc) c.execute-dispatched.ensures.hardware
+    ∙ ap (λ (h : Hardware). h.pc) (executed g at)
     ∙ executed_here lines old c.commit-stop.new.self c.requires.reached (commits g at) in (
       (commit_with set.contains lines old).steps,
       steps,

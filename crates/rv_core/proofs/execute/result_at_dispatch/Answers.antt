@@ -1,5 +1,5 @@
 use Rattle.rv_core.proofs.Words.{◌≡◌, ℕ, false, Some, None, Option, sym, refl, ap, ◌∙◌, is_serialising, kind_of_word, pc_plus_4, Message, Instr, Ebreak, Ecall, Lines, Layout, goes_to, State, effect_message, result_in, result_of_word}
-use Rattle.rv_core.proofs.execute.finishes.Goals as goal
+use Rattle.rv_core.proofs.execute.result_at_dispatch.Goals as goal
 
 -- an instruction without a unit that neither serialises nor faults only goes on
 passed : (instruction : Instr) → (instruction ≡ Ecall → ⊥) → (instruction ≡ Ebreak → ⊥) → kind_of_word (Some instruction) ≡ None →
@@ -17,9 +17,9 @@ of_word layout s lines word decoded n instruction m is known given = rw (is, kno
 pub returns-in_default-instruction-2 : goal.returns-in_default-instruction-2
 returns-in_default-instruction-2 c = λ none serial layout s lines at.
     let instruction = c.in-Some-instruction.instruction in
-    of_word layout s lines c.args.word c.args.instruction.now c.in-Some.word instruction c.passes.result c.in-Some.is
+    of_word layout s lines c.args.word c.args.instruction.now c.in-Some.word instruction c.passed.result c.in-Some.is
     c.in-Some-instruction.is
-    (c.passes.ensures s
+    (c.passed.ensures s
     ∙ ap (λ pc. effect_message None (goes_to s (pc_plus_4 pc))) (sym at)
     ∙ passed instruction c.in_default-instruction-2.not-Ecall c.in_default-instruction-2.not-Ebreak
     (rw c.in-Some-instruction.is at none) (rw c.in-Some-instruction.is at serial) layout s lines c.in-Some.word)
