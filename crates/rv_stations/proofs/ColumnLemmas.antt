@@ -1,9 +1,9 @@
 -- The operands of tags and values that were written for a producer, and the mask of those that wait.
-use Rattle.std.proofs.Common.{◌≡◌, sym, ℕ, zero, suc, ◌+◌, ◌-◌, ◌*◌, ◌<◌, ◌≤◌, ◌^◌, ◌%◌, ◌/◌, not, inl, inr, Bool, true, false, cond, List, [], ◌∷◌, ◌++◌, length, get_or, take, drop, map, slice_set, bit_and, bit_or, min, max, ◌&&◌, arith, eqb, refl, ap, ap₂, ◌∙◌, mod-eq_of_lt, length-take-le, w64}
+use Rattle.std.proofs.Common.{◌≡◌, sym, ℕ, suc, ◌+◌, ◌-◌, ◌*◌, ◌<◌, ◌≤◌, ◌^◌, ◌%◌, ◌/◌, not, inl, inr, Bool, true, false, cond, List, [], ◌∷◌, ◌++◌, length, get_or, take, drop, map, replicate, slice_set, bit_and, bit_or, min, max, ◌&&◌, arith, eqb, refl, ap, ap₂, ◌∙◌, mod-eq_of_lt, length-take-le, w64}
 use Rattle.std.specs.Int.{bit_at}
 use Rattle.std.specs.Simd.Lanes.{zip2, mask_l}
 use Rattle.std.proofs.lemmas.Bool.{cases_Bool, cases_eq, cases_lt, true≢false, eqb-true, eq-eqb, ne_eqb}
-use Rattle.std.proofs.lemmas.List.{get_or-take, get_or-drop, get_or-map, get_or-set_same, get_or-set_other, get_or_append_left, get_or-append_right, length-map, length-set, length-append, length-drop, take-append-drop}
+use Rattle.std.proofs.lemmas.List.{get_or-take, get_or-drop, get_or-map, get_or-set_same, get_or-set_other, get_or_append_left, get_or-append_right, get_or-replicate, ext_get_or, length-map, length-set, length-append, length-drop, take-append-drop}
 use Rattle.std.proofs.lemmas.Nat.{pow_pos, shl_whole, shr-shr}
 use Rattle.std.proofs.lemmas.Nat.Bits.{bit_at-zero, bit_at-lt, bit_at_above, bit_at_and, bit_at_or, shr_and_one, bit_at_not, bit_at_cat_low, bit_at_cat_high}
 use Rattle.std.proofs.lemmas.Simd.{length-zip2, bit_mask_l, mask_l-lt, chunk-drop, get_or-zip2}
@@ -87,6 +87,9 @@ has_value-operand_of tag held = elim (cases_Bool (eqb tag 18446744073709551615))
   | inr waits ↦ rw waits refl
 ]
 
+pub operand_of-has_value : (tag held : ℕ) → has_value (operand_of tag held) ≡ true → operand_of tag held ≡ Value (held % 4294967296)
+operand_of-has_value tag held has = operand_of-value tag held (eqb-true tag 18446744073709551615 (sym (has_value-operand_of tag held) ∙ has))
+
 -- the mask after one operand is written
 pub IsWaitMask-set : (os : List Operand) (place tag held before after : ℕ) → length os ≤ 64 → place < length os → IsWaitMask os before → bit_at after place ≡ cond (is_producer tag) 1 0 → OtherBitsStay place before after → IsWaitMask (slice_set os place (operand_of tag held)) after
 IsWaitMask-set os place tag held before after few within marked bit others at lt = elim (cases_eq at place) [
@@ -161,22 +164,22 @@ module _ (ms : List Bool) (start : ℕ) (eight : length ms ≡ 8) (room : start 
   plain : mask_l ms * 2 ^ start + 0 ≡ mask_l ms * 2 ^ start
   plain = omega arith
 
-  moved_below : (i : ℕ) → i < start → bit_at (mask_l ms * 2 ^ start) i ≡ 0
+  pub moved_below : (i : ℕ) → i < start → bit_at (mask_l ms * 2 ^ start) i ≡ 0
   moved_below i lt = ap (λ n. bit_at n i) (sym plain) ∙ bit_at_cat_low (mask_l ms) start 0 i lt ∙ bit_at-zero i
 
   moved_from : (i : ℕ) → start ≤ i → bit_at (mask_l ms * 2 ^ start) i ≡ bit_at (mask_l ms) (i - start)
   moved_from i le = ap (λ n. bit_at n i) (sym plain) ∙ bit_at_cat_high (mask_l ms) start 0 i (pow_pos start) le
 
-  moved_inside : (i : ℕ) → start ≤ i → bit_at (mask_l ms * 2 ^ start) i ≡ cond (get_or ms (i - start) false) 1 0
+  pub moved_inside : (i : ℕ) → start ≤ i → bit_at (mask_l ms * 2 ^ start) i ≡ cond (get_or ms (i - start) false) 1 0
   moved_inside i le = moved_from i le ∙ bit_mask_l ms (i - start)
 
-  moved_above : (i : ℕ) → start + 8 ≤ i → bit_at (mask_l ms * 2 ^ start) i ≡ 0
+  pub moved_above : (i : ℕ) → start + 8 ≤ i → bit_at (mask_l ms * 2 ^ start) i ≡ 0
   moved_above i le = moved_from i (omega arith) ∙ bit_at_above (mask_l ms) 8 (i - start) in_byte (omega arith)
 
-  bit_at-cleared : (mask i : ℕ) → i < 64 → bit_at (bit_and mask (18446744073709551615 - mask_l ms * 2 ^ start % 18446744073709551616)) i ≡ min (bit_at mask i) (1 - bit_at (mask_l ms * 2 ^ start) i)
+  pub bit_at-cleared : (mask i : ℕ) → i < 64 → bit_at (bit_and mask (18446744073709551615 - mask_l ms * 2 ^ start % 18446744073709551616)) i ≡ min (bit_at mask i) (1 - bit_at (mask_l ms * 2 ^ start) i)
   bit_at-cleared mask i lt = rw moved_whole (bit_at_and mask _ i ∙ ap (min (bit_at mask i)) (bit_at_not w64 (mask_l ms * 2 ^ start) i moved_fits lt))
 
-  not_cleared : (mask i : ℕ) → i < 64 → bit_at (mask_l ms * 2 ^ start) i ≡ 0 → bit_at (bit_and mask (18446744073709551615 - mask_l ms * 2 ^ start % 18446744073709551616)) i ≡ bit_at mask i
+  pub not_cleared : (mask i : ℕ) → i < 64 → bit_at (mask_l ms * 2 ^ start) i ≡ 0 → bit_at (bit_and mask (18446744073709551615 - mask_l ms * 2 ^ start % 18446744073709551616)) i ≡ bit_at mask i
   not_cleared mask i lt none = bit_at-cleared mask i lt ∙ omega (arith, none, bit_at-lt mask i)
 
 -- an operand whose tag is the number has its value then
@@ -284,13 +287,83 @@ in_eight-idle seq value start waiting os marked room none =
         ap has_value (get_or-take 8 (drop start os) at (Value 0) low ∙ get_or-drop start os at (Value 0))
         ∙ set_bit (has_value (get_or os (start + at) (Value 0))) (sym (marked (start + at) (omega arith)) ∙ bit at low)
 
--- groups of eight are woken one after another
-pub in_eight-next : {X : Type 0} (f : X → X) (n : ℕ) (xs : List X) → n ≤ length xs → in_eight n (map f) (map f (take n xs) ++ drop n xs) ≡ map f (take (n + 8) xs) ++ drop (n + 8) xs
-in_eight-next f zero xs within = refl
-in_eight-next f (suc n) [] within = absurd (omega arith)
-in_eight-next f (suc n) (x ∷ xs) within =
-    let next : suc n + 8 ≡ suc (n + 8) = omega arith in
-    rw next (ap (λ ys. f x ∷ ys) (in_eight-next f n xs (omega arith)))
+-- a mask without the bits of eight places
+pub cleared-inside : (mask start place : ℕ) → start + 8 ≤ 64 → start ≤ place → place < start + 8 → bit_at (bit_and mask (18446744073709551615 - 255 * 2 ^ start % 18446744073709551616)) place ≡ 0
+cleared-inside mask start place room le lt =
+    let set : bit_at (255 * 2 ^ start) place ≡ 1 = moved_inside (replicate 8 true) start refl room place le ∙ ap (λ b. cond b 1 0) (get_or-replicate 8 (place - start) true false (omega arith)) in
+    bit_at-cleared (replicate 8 true) start refl room mask place (omega arith) ∙ omega (arith, set)
+
+pub cleared-below : (mask start place : ℕ) → start + 8 ≤ 64 → place < start → bit_at (bit_and mask (18446744073709551615 - 255 * 2 ^ start % 18446744073709551616)) place ≡ bit_at mask place
+cleared-below mask start place room lt =
+    not_cleared (replicate 8 true) start refl room mask place (omega arith) (moved_below (replicate 8 true) start refl room place lt)
+
+pub cleared-above : (mask start place : ℕ) → start + 8 ≤ 64 → start + 8 ≤ place → place < 64 → bit_at (bit_and mask (18446744073709551615 - 255 * 2 ^ start % 18446744073709551616)) place ≡ bit_at mask place
+cleared-above mask start place room le lt =
+    not_cleared (replicate 8 true) start refl room mask place lt (moved_above (replicate 8 true) start refl room place le)
+
+-- what is woken twice is woken
+woken_operand-twice : (seq value : ℕ) (o : Operand) → woken_operand seq value (woken_operand seq value o) ≡ woken_operand seq value o
+woken_operand-twice seq value (Value held) = refl
+woken_operand-twice seq value (Tag tag) = elim (cases_Bool (eqb tag seq)) [
+  | inl same ↦ rw same refl
+  | inr other ↦ rw other (rw other refl)
+]
+
+has_value-unwoken : (seq value : ℕ) (o : Operand) → has_value o ≡ true → woken_operand seq value o ≡ o
+has_value-unwoken seq value (Value held) has = refl
+has_value-unwoken seq value (Tag tag) has = absurd (true≢false (sym has))
+
+-- The operands whose bits are cleared are woken, and the others can still be.
+pub record Waking (seq value left : ℕ) (old now : List Operand) : Type 0 where
+  pub long : length now ≡ length old
+  pub same : (i : ℕ) → i < length old → woken_operand seq value (get_or now i (Value 0)) ≡ woken_operand seq value (get_or old i (Value 0))
+  pub done : (i : ℕ) → i < length old → bit_at left i ≡ 0 → woken_operand seq value (get_or now i (Value 0)) ≡ get_or now i (Value 0)
+
+pub Waking-start : (seq value left : ℕ) (os : List Operand) → IsWaitMask os left → Waking seq value left os os
+Waking-start seq value left os marked = record {
+  long = refl;
+  same = λ i lt. refl;
+  done = λ i lt none. has_value-unwoken seq value (get_or os i (Value 0)) (set_bit (has_value (get_or os i (Value 0))) (sym (marked i lt) ∙ none));
+}
+
+pub Waking-end : (seq value left : ℕ) (old now : List Operand) → ((i : ℕ) → i < length old → bit_at left i ≡ 0) → Waking seq value left old now → now ≡ map (woken_operand seq value) old
+Waking-end seq value left old now none w =
+    let mapped = length-map old (woken_operand seq value) in
+    ext_get_or (Value 0) now (map (woken_operand seq value) old) (w.long ∙ sym mapped)
+    (λ i lt.
+    let within : i < length old = omega (arith, lt, w.long) in
+    sym (w.done i within (none i within)) ∙ w.same i within ∙ sym (get_or-map (woken_operand seq value) old i (Value 0) (Value 0) within))
+
+pub Waking-next : (seq value left next start : ℕ) (old now : List Operand) → length old ≤ 64 → start + 8 ≤ length old → ((i : ℕ) → i < start → bit_at next i ≡ bit_at left i) → ((i : ℕ) → start + 8 ≤ i → i < 64 → bit_at next i ≡ bit_at left i) → Waking seq value left old now → Waking seq value next old (in_eight start (map (woken_operand seq value)) now)
+Waking-next seq value left next start old now few room before after w = record {
+  long = length-in_eight (woken_operand seq value) start now room_now (Value 0) ∙ w.long;
+  same = λ i lt. elim (cases_lt i start) [
+    | inl below ↦ ap (woken_operand seq value) (in_eight-below (woken_operand seq value) start now room_now (Value 0) i below) ∙ w.same i lt
+    | inr from ↦ elim (cases_lt i (start + 8)) [
+      | inl inside ↦
+          ap (woken_operand seq value) (in_eight-inside (woken_operand seq value) start now room_now (Value 0) i from inside)
+          ∙ woken_operand-twice seq value (get_or now i (Value 0))
+          ∙ w.same i lt
+      | inr above ↦ ap (woken_operand seq value) (in_eight-above (woken_operand seq value) start now room_now (Value 0) i above) ∙ w.same i lt
+    ]
+  ];
+  done = λ i lt none. elim (cases_lt i start) [
+    | inl below ↦
+        let here = in_eight-below (woken_operand seq value) start now room_now (Value 0) i below in
+        ap (woken_operand seq value) here ∙ w.done i lt (sym (before i below) ∙ none) ∙ sym here
+    | inr from ↦ elim (cases_lt i (start + 8)) [
+      | inl inside ↦
+          let here = in_eight-inside (woken_operand seq value) start now room_now (Value 0) i from inside in
+          ap (woken_operand seq value) here ∙ woken_operand-twice seq value (get_or now i (Value 0)) ∙ sym here
+      | inr above ↦
+          let here = in_eight-above (woken_operand seq value) start now room_now (Value 0) i above in
+          ap (woken_operand seq value) here ∙ w.done i lt (sym (after i above (omega arith)) ∙ none) ∙ sym here
+    ]
+  ];
+}
+  where
+    room_now : start + 8 ≤ length now
+    room_now = omega (arith, w.long, room)
 
 -- of two masks no bit is set in a place where both operands have their values
 pub both_ready : (first second place : ℕ) (a b : Bool) → bit_at first place ≡ cond a 0 1 → bit_at second place ≡ cond b 0 1 → (a && b) ≡ eqb (bit_and (bit_or first second / 2 ^ place) 1) 0

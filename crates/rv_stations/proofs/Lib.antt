@@ -1,4 +1,5 @@
 pub mod ColumnLemmas
+pub mod GiveLemmas
 pub mod LaneLemmas
 pub mod PlaceLemmas
 pub mod PoolLemmas

@@ -1,11 +1,12 @@
-ghost use Rattle.std.specs.Prelude.{◌≡◌, ◌<◌, ◌≤◌, ◌+◌, ◌%◌, Some, length, map, replicate, slice_get, slice_set, IfOk};
+ghost use Rattle.std.specs.Prelude.{true, ◌≡◌, ◌<◌, ◌≤◌, ◌+◌, ◌%◌, Some, length, map, replicate, slice_get, slice_set, IfOk};
 ghost use Rattle.rv_stations.specs.declared.lanes.TheConstants.{NO_PRODUCER as NO_PRODUCER_TAG};
 ghost use Rattle.rv_stations.specs.declared.waiting.Operand.TheVariants.{Value as HeldValue};
-ghost use Rattle.rv_stations.specs.Waiting.{IsOperand, woken_operand};
+ghost use Rattle.rv_stations.specs.Waiting.{IsOperand, has_value, woken_operand};
+ghost use Rattle.std.specs.Option.{option_map};
 ghost use Rattle.rv_stations.specs.Column.{IsWaitMask, in_eight, operand_of};
 
 use crate::lanes::{self, NO_PRODUCER};
-use crate::marks::marked;
+use crate::marks::{first_eight, marked, without_eight};
 use crate::waiting::Operand;
 use std::alloc::{AllocError, Global};
 use std::marker::Model;
@@ -82,6 +83,16 @@ impl OperandColumn {
         }
     }
 
+    /// The operand of a place that has its value.
+    #[inline(always)]
+    pub fn value_at(&self, place: usize) -> Operand
+        requires there { place < length self.now }
+        requires ready { option_map has_value (slice_get self.now place) ≡ Some true }
+        ensures { slice_get self.now place ≡ Some result }
+    {
+        Operand::Value((self.values[place] % 0x1_0000_0000) as u32)
+    }
+
     /// A bit for each operand, set where it waits.
     #[inline(always)]
     pub fn waiting(&self) -> u64
@@ -95,25 +106,41 @@ impl OperandColumn {
     pub fn wake(&mut self, seq: u64, value: u32)
         ensures { self.new ≡ map (woken_operand seq value) self.old }
     {
-        if self.waiting == 0 {
-            return;
+        // Mostly none waits.
+        if self.waiting != 0 {
+            self.wake_waiting(seq, value);
         }
-        if seq == NO_PRODUCER {
-            return;
-        }
-        self.wake_waiting(seq, value);
     }
 
     #[inline(never)]
     fn wake_waiting(&mut self, seq: u64, value: u32)
-        requires { seq ≡ NO_PRODUCER_TAG → ⊥ }
         ensures { self.new ≡ map (woken_operand seq value) self.old }
     {
-        for group in 0..self.len() / 8 {
-            self.wake_eight(8 * group, seq, value);
+        let waiting = self.waiting;
+        if seq != NO_PRODUCER {
+            self.wake_groups(waiting, seq, value);
         }
     }
 
+    // Wakes those groups of eight operands in which one waits.
+    #[inline(always)]
+    fn wake_groups(&mut self, waiting: u64, seq: u64, value: u32)
+        requires waiting { IsWaitMask self.old waiting }
+        requires producer { seq ≡ NO_PRODUCER_TAG → ⊥ }
+        ensures { self.new ≡ map (woken_operand seq value) self.old }
+    {
+        let mut left = waiting;
+        while left != 0 {
+            let start = first_eight(left);
+            if self.len() <= start {
+                return;
+            }
+            self.wake_eight(start, seq, value);
+            left = without_eight(left, start);
+        }
+    }
+
+    #[inline(always)]
     fn len(&self) -> usize
         ensures len { result ≡ length self.now }
         ensures few { result ≤ 64 }
@@ -128,9 +155,6 @@ impl OperandColumn {
         requires producer { seq ≡ NO_PRODUCER_TAG → ⊥ }
         ensures { self.new ≡ in_eight start (map (woken_operand seq value)) self.old }
     {
-        if (self.waiting >> start) & 0xff == 0 {
-            return;
-        }
         let woken = lanes::wake_from(
             start,
             self.tags.as_mut_slice(),

@@ -222,11 +222,9 @@ impl StationPool {
         ensures within { result ≤ length self.now.waiting }
         ensures below { below seq_of from self.now.waiting ≡ take result self.now.waiting }
     {
-        let count = self.len();
-        for at in 0..count {
-            if self.seq_at(at) >= from {
-                return at;
-            }
+        let mut count = self.len();
+        while count > 0 && self.seq_at(count - 1) >= from {
+            count -= 1;
         }
         count
     }

@@ -1,23 +1,14 @@
 -- Eight tags and values are written, and the bits of those that are woken are cleared.
-use Rattle.std.proofs.Common.{◌≡◌, ◌≤◌, ◌+◌, ◌∙◌, sym, ap, ap₂, map, take, drop, length, List, ℕ, eqb, arith}
+use Rattle.std.proofs.Common.{◌≡◌, ◌≤◌, ◌+◌, ◌∙◌, ap, ap₂, map, take, drop, length, List, ℕ, eqb, arith}
 use Rattle.std.specs.Simd.Lanes.{zip2, mask_l}
 use Rattle.std.specs.Vec.{with_items}
 use Rattle.std.proofs.lemmas.Bool.{ne_eqb}
-use Rattle.std.proofs.lemmas.Nat.{and_mask}
 use Rattle.std.proofs.lemmas.List.{with_items_is}
 use Rattle.rv_stations.specs.Waiting.{woken_operand}
 use Rattle.rv_stations.specs.Column.{in_eight, operand_of, woken_tag, woken_value}
 use Rattle.rv_stations.specs.ColumnFields.{operands}
-use Rattle.rv_stations.proofs.ColumnLemmas.{length-column, in_eight-idle, operands-in_eight, IsWaitMask-woken}
+use Rattle.rv_stations.proofs.ColumnLemmas.{length-column, operands-in_eight, IsWaitMask-woken}
 use Rattle.rv_stations.proofs.column.OperandColumn.wake_eight.Goals as goal
-
-pub overflow_shr-self-inside : goal.overflow_shr-self-inside
-overflow_shr-self-inside c = omega (arith, rw (← c.self.view_is) at c.requires.within, length-column c.self.inside c.self.invariant, c.self.invariant.few)
-
-pub returns-then-self-start-eq0 : goal.returns-then-self-start-eq0
-returns-then-self-start-eq0 c =
-    rw (← c.self.view_is)
-    (sym (in_eight-idle c.args.seq c.args.value c.args.start c.self.inside.waiting (operands c.self.inside) c.self.invariant.marked (rw (← c.self.view_is) at c.requires.within) (sym (and_mask _ 8) ∙ c.if-self-start-eq0.true)))
 
 pub wake_from-woken-requires-clause-within : goal.wake_from-woken-requires-clause-within
 wake_from-woken-requires-clause-within c =

@@ -1,0 +1,46 @@
+-- One more lane is woken where its tag is the number.
+use Rattle.std.proofs.Common.{arith, w64}
+use Rattle.std.specs.Int.{trailing_zeros}
+use Rattle.rv_stations.proofs.GiveLemmas.{lowest_lane, Giving-start, Giving-next, given-tags, given-values, given-bits}
+use Rattle.rv_stations.proofs.lanes.give.Goals as goal
+
+pub loop-left-init : goal.loop-left-init
+loop-left-init c = (c.requires.marked, c.requires.tags, c.requires.values, omega arith, Giving-start c.args.seq c.args.value c.args.tags.now c.args.values.now c.args.like c.requires.others)
+
+pub give_one-is_woken-requires-clause-tags : goal.give_one-is_woken-requires-clause-tags
+give_one-is_woken-requires-clause-tags c = omega (arith, (lowest_lane c.loop-left.left (omega arith) c.loop-left.invariant.0).0, c.loop-left.invariant.1)
+
+pub give_one-is_woken-requires-clause-values : goal.give_one-is_woken-requires-clause-values
+give_one-is_woken-requires-clause-values c = omega (arith, (lowest_lane c.loop-left.left (omega arith) c.loop-left.invariant.0).0, c.loop-left.invariant.2)
+
+pub without-left-requires-clause-marked : goal.without-left-requires-clause-marked
+without-left-requires-clause-marked c = (lowest_lane c.loop-left.left (omega arith) c.loop-left.invariant.0).1
+
+pub loop-left-preserved : goal.loop-left-preserved
+loop-left-preserved c =
+    let i = c.loop-left.invariant in
+    let lowest = lowest_lane c.loop-left.left (omega arith) i.0 in
+    let one = c.give_one-is_woken.ensures in (
+      omega (arith, c.without-left.ensures.fewer, i.0),
+      omega (arith, c.give_one-is_woken.auto.tags, i.1),
+      omega (arith, c.give_one-is_woken.auto.values, i.2),
+      omega arith,
+      rw (one.tags, one.values)
+          (Giving-next c.args.seq c.args.value c.args.tags.now c.args.values.now c.loop-left.left c.without-left.result c.loop-left.woken c.marked-woken.result (trailing_zeros w64 c.loop-left.left) c.loop-left.tags c.loop-left.values
+          i.1 i.2 lowest.0 lowest.1 c.without-left.ensures.others (rw one.is_woken at c.marked-woken.ensures.bit) c.marked-woken.ensures.others c.without-left.ensures.cleared i.4),
+    )
+
+pub returns-clause-woken : goal.returns-clause-woken
+returns-clause-woken c =
+    let i = rw c.loop-left-test.false at c.loop-left.invariant in
+    given-bits c.args.seq c.args.value c.args.tags.now c.args.values.now c.loop-left.woken c.loop-left.tags c.loop-left.values c.requires.tags c.requires.values i.1 i.2 i.4 i.3
+
+pub returns-clause-tags : goal.returns-clause-tags
+returns-clause-tags c =
+    let i = rw c.loop-left-test.false at c.loop-left.invariant in
+    given-tags c.args.seq c.args.value c.args.tags.now c.args.values.now c.loop-left.woken c.loop-left.tags c.loop-left.values c.requires.tags c.requires.values i.1 i.2 i.4
+
+pub returns-clause-values : goal.returns-clause-values
+returns-clause-values c =
+    let i = rw c.loop-left-test.false at c.loop-left.invariant in
+    given-values c.args.seq c.args.value c.args.tags.now c.args.values.now c.loop-left.woken c.loop-left.tags c.loop-left.values c.requires.tags c.requires.values i.1 i.2 i.4
