@@ -1,8 +1,9 @@
 -- The instructions in the places of a kind's stations, of which four lists hold the parts.
-use Rattle.std.proofs.Common.{◌≡◌, Bool, ℕ, zero, suc, ◌+◌, ◌<◌, ◌≤◌, List, [], ◌∷◌, ◌++◌, All, length, get_or, take, map, remove, slice_get, slice_set, Some, refl, ap, ap₂, sym, ◌∙◌, vec_len, arith}
+use Rattle.std.proofs.Common.{◌≡◌, Bool, ℕ, zero, suc, ◌+◌, ◌<◌, ◌≤◌, List, [], ◌∷◌, ◌++◌, All, length, get_or, take, map, remove, slice_get, slice_set, Some, refl, ap, ap₂, sym, ◌∙◌, vec_len, arith, eqb, bit_and, bit_or, ◌/◌, ◌^◌, ◌&&◌, true}
 use Rattle.std.specs.Option.{option_map}
 use Rattle.std.specs.List.{AllPairs}
 use Rattle.std.specs.Simd.Lanes.{zip2}
+use Rattle.std.proofs.lemmas.Bool.{and_parts}
 use Rattle.std.proofs.lemmas.List.{get_or-take, get_or-map, get_or-set_same, get_or-set_other, length-map, length-take-le, map-append}
 use Rattle.std.proofs.lemmas.List.Elements.{All-head, All-tail}
 use Rattle.std.proofs.lemmas.Option.{slice_get-get_or, get_or_from_slice_get, slice_get_within}
@@ -10,7 +11,12 @@ use Rattle.std.proofs.lemmas.Simd.{length-zip2}
 use Rattle.rv_stations.specs.declared.waiting.Operand.{Operand}
 use Rattle.rv_stations.specs.declared.waiting.Waiting.{Waiting}
 use Rattle.rv_stations.specs.declared.pool.Dispatched.{Dispatched}
-use Rattle.rv_stations.specs.Waiting.{seq_of, is_ready, woken, woken_operand}
+use Rattle.rv_isa.specs.declared.instructions.Instr.TheVariants.{Fence}
+use Rattle.rv_stations.specs.declared.waiting.Operand.TheVariants.{Value}
+use Rattle.rv_stations.specs.Column.{IsWaitMask}
+use Rattle.rv_stations.specs.Pool.{Pool}
+use Rattle.rv_stations.proofs.ColumnLemmas.{both_ready}
+use Rattle.rv_stations.specs.Waiting.{has_value, seq_of, is_ready, woken, woken_operand}
 use Rattle.rv_stations.specs.PoolFields.{with_dispatched, both_operands, instruction_of, joined, some_waiting, in_places, in_all, pool, IsSoundPool}
 use Rattle.rv_stations.specs.declared.pool.StationPool.TheInside.{Inside}
 use Rattle.rv_stations.proofs.SearchLemmas.{take_at_get}
@@ -82,6 +88,45 @@ slice_get-in_places ws (suc n) (k ∷ ks) (suc at) place w low is there = slice_
 pub slice_get-pool : (p : Inside) (at place n : ℕ) (f : Dispatched) (x y : Operand) → at < p.count → slice_get p.places.items at ≡ Some place → slice_get p.seqs.items place ≡ Some n → slice_get p.dispatched.items place ≡ Some f → slice_get p.first place ≡ Some x → slice_get p.second place ≡ Some y → slice_get (pool p).waiting at ≡ Some (instruction_of (n, f) (x, y))
 slice_get-pool p at place n f x y low is at_n at_f at_x at_y =
     slice_get-in_places (in_all p) p.count p.places.items at place (instruction_of (n, f) (x, y)) low is (slice_get-joined p.seqs.items p.dispatched.items p.first p.second place n f x y at_n at_f at_x at_y)
+
+-- the bits of a place tell whether the instruction in it is ready
+pub ready_told : (p : Inside) → IsSoundPool p → (a b at place : ℕ) → IsWaitMask p.first a → IsWaitMask p.second b → at < p.count → slice_get p.places.items at ≡ Some place → option_map is_ready (slice_get (pool p).waiting at) ≡ Some (eqb (bit_and (bit_or a b / 2 ^ place) 1) 0)
+ready_told p sound a b at place of_first of_second low is =
+    let there = place_there p sound at place is in
+    let in_first : place < length p.first = omega (arith, there, sound.first) in
+    let in_second : place < length p.second = omega (arith, there, sound.second) in
+    let none : Dispatched = record { pc = 0; instruction = Fence } in
+    ap (option_map is_ready) (slice_get-pool p at place _ _ _ _ low is
+    (slice_get-get_or p.seqs.items place 0 (omega (arith, there)))
+    (slice_get-get_or p.dispatched.items place none (omega (arith, there, sound.dispatched)))
+    (slice_get-get_or p.first place (Value 0) in_first)
+    (slice_get-get_or p.second place (Value 0) in_second))
+    ∙ ap Some (both_ready a b place (has_value (get_or p.first place (Value 0))) (has_value (get_or p.second place (Value 0))) (of_first place in_first) (of_second place in_second))
+
+pub places_within : (p : Inside) → IsSoundPool p → (seen : Pool) → pool p ≡ seen → (at : ℕ) → at < length seen.waiting → at < length p.places.items
+places_within p sound seen is at within = omega (arith, rw (← is) at within, length-pool p sound, sound.within)
+
+pub ready_seen : (p : Inside) → IsSoundPool p → (seen : Pool) → pool p ≡ seen → (a b at place : ℕ) → IsWaitMask p.first a → IsWaitMask p.second b → at < length seen.waiting → slice_get p.places.items at ≡ Some place → option_map is_ready (slice_get seen.waiting at) ≡ Some (eqb (bit_and (bit_or a b / 2 ^ place) 1) 0)
+ready_seen p sound seen is a b at place of_first of_second within here =
+    rw (← is) (ready_told p sound a b at place of_first of_second (omega (arith, rw (← is) at within, length-pool p sound)) here)
+
+-- an instruction that is ready has both operands
+pub ready_parts : (p : Inside) → IsSoundPool p → (at place : ℕ) → at < p.count → slice_get p.places.items at ≡ Some place → option_map is_ready (slice_get (pool p).waiting at) ≡ Some true → (option_map has_value (slice_get p.first place) ≡ Some true) × (option_map has_value (slice_get p.second place) ≡ Some true)
+ready_parts p sound at place low is ready =
+    let there = place_there p sound at place is in
+    let none : Dispatched = record { pc = 0; instruction = Fence } in
+    let x = get_or p.first place (Value 0) in
+    let y = get_or p.second place (Value 0) in
+    let at_x : slice_get p.first place ≡ Some x = slice_get-get_or p.first place (Value 0) (omega (arith, there, sound.first)) in
+    let at_y : slice_get p.second place ≡ Some y = slice_get-get_or p.second place (Value 0) (omega (arith, there, sound.second)) in
+    let whole = slice_get-pool p at place _ _ x y low is
+    (slice_get-get_or p.seqs.items place 0 (omega (arith, there)))
+    (slice_get-get_or p.dispatched.items place none (omega (arith, there, sound.dispatched)))
+    at_x at_y in
+    let told : Some (has_value x && has_value y) ≡ Some true = sym (ap (option_map is_ready) whole) ∙ ready in
+    let both : (has_value x && has_value y) ≡ true = cc told in
+    let parts = and_parts (has_value x) (has_value y) both in
+    (ap (option_map has_value) at_x ∙ ap Some parts.0, ap (option_map has_value) at_y ∙ ap Some parts.1)
 
 -- what is known of the instruction in a place
 pub is_ready-in_place : (ws : List Waiting) (i : ℕ) (w : Waiting) (ready : Bool) → slice_get ws i ≡ Some w → option_map is_ready (slice_get ws i) ≡ Some ready → is_ready w ≡ ready

@@ -70,19 +70,6 @@ impl OperandColumn {
         self.waiting = marked(self.waiting, place, lanes::is_producer(tag));
     }
 
-    /// The operand of a place.
-    pub fn get(&self, place: usize) -> Operand
-        requires { place < length self.now }
-        ensures { slice_get self.now place ≡ Some result }
-    {
-        let tag = self.tags[place];
-        if tag == NO_PRODUCER {
-            Operand::Value((self.values[place] % 0x1_0000_0000) as u32)
-        } else {
-            Operand::Tag(tag)
-        }
-    }
-
     /// The operand of a place that has its value.
     #[inline(always)]
     pub fn value_at(&self, place: usize) -> Operand

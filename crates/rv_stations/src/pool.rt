@@ -1,4 +1,4 @@
-ghost use Rattle.std.specs.Prelude.{◌≡◌, ◌<◌, ◌≤◌, ◌↔◌, Bool, [], Some, length, take, nat_le, slice_get, IsTrue, IfOk, IfSome, option_and_then};
+ghost use Rattle.std.specs.Prelude.{◌≡◌, ◌<◌, ◌≤◌, ◌↔◌, Bool, [], Some, length, take, nat_le, slice_get, IsTrue, IfOk, IfSome, option_and_then, true};
 ghost use Rattle.rv_isa.specs.Description.{Within};
 ghost use Rattle.rv_isa.specs.Numbered.{AreBelow, IsInOrder, below};
 ghost use Rattle.rv_stations.specs.Waiting.{seq_of, IsOperand, is_ready, ready_of, oldest_ready};
@@ -137,16 +137,18 @@ impl StationPool {
         self.seqs[usize::from(self.places[at])]
     }
 
-    /// An instruction, counted from the oldest.
-    fn instruction_at(&self, at: usize) -> Waiting
-        requires { at < length self.now.waiting }
+    /// An instruction that has its operands, counted from the oldest.
+    #[inline(always)]
+    fn ready_at(&self, at: usize) -> Waiting
+        requires there { at < length self.now.waiting }
+        requires ready { option_map is_ready (slice_get self.now.waiting at) ≡ Some true }
         ensures { slice_get self.now.waiting at ≡ Some result }
     {
         let place = usize::from(self.places[at]);
         let seq = self.seqs[place];
         let dispatched = self.dispatched[place];
-        let first = self.first.get(place);
-        let second = self.second.get(place);
+        let first = self.first.value_at(place);
+        let second = self.second.value_at(place);
         Waiting {
             seq,
             pc: dispatched.pc,
@@ -156,42 +158,35 @@ impl StationPool {
         }
     }
 
-    /// Whether both operands of an instruction, counted from the oldest, have their values.
-    #[inline(always)]
-    fn is_ready_at(&self, at: usize) -> bool
-        requires { at < length self.now.waiting }
-        ensures { option_map is_ready (slice_get self.now.waiting at) ≡ Some result }
-    {
-        let place = usize::from(self.places[at]);
-        let waiting = self.first.waiting() | self.second.waiting();
-        (waiting >> place) & 1 == 0
-    }
-
     /// Where the oldest instruction stands that is ready and passes a filter.
     #[inline(always)]
     fn place_of_oldest_ready<F: Fn(&Waiting) -> bool>(&self, filter: &F) -> Option<usize>
         requires { F.IsAlwaysCallable filter.now }
         ensures within { IfSome result (λ at. at < length self.now.waiting) }
+        ensures ready { IfSome result (λ at. option_map is_ready (slice_get self.now.waiting at) ≡ Some true) }
         ensures oldest { (test : Waiting → Bool) → Answers F.Fn filter.now test → oldest_ready test self.now.waiting ≡ option_and_then (slice_get self.now.waiting) result }
         ensures others { (test : Waiting → Bool) → Answers F.Fn filter.now test → issued test self.now ≡ without_place result self.now }
         ensures in_order { IsInOrder seq_of self.now.waiting }
     {
+        let waiting = self.first.waiting() | self.second.waiting();
         for at in 0..self.len() {
-            if self.is_ready_at(at) && filter(&self.instruction_at(at)) {
+            let place = usize::from(self.places[at]);
+            if (waiting >> place) & 1 == 0 && filter(&self.ready_at(at)) {
                 return Some(at);
             }
         }
         None
     }
 
-    /// Takes out an instruction, counted from the oldest.
+    /// Takes out an instruction that has its operands, counted from the oldest.
     #[inline(always)]
     fn take(&mut self, at: usize) -> Waiting
-        requires { at < length self.old.waiting }
+        requires there { at < length self.old.waiting }
+        requires ready { option_map is_ready (slice_get self.old.waiting at) ≡ Some true }
         ensures taken { slice_get self.old.waiting at ≡ Some result }
         ensures others { self.new ≡ without_place (Some at) self.old }
     {
-        let taken = self.instruction_at(at);
+        let taken = self.ready_at(at);
         move_back(&mut self.places, at, self.count);
         self.count -= 1;
         taken
