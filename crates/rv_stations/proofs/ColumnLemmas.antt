@@ -4,7 +4,7 @@ use Rattle.std.specs.Int.{bit_at}
 use Rattle.std.specs.Simd.Lanes.{zip2, mask_l}
 use Rattle.std.proofs.lemmas.Bool.{cases_Bool, cases_eq, cases_lt, true≢false, eqb-true, eq-eqb, ne_eqb}
 use Rattle.std.proofs.lemmas.List.{get_or-take, get_or-drop, get_or-map, get_or-set_same, get_or-set_other, get_or_append_left, get_or-append_right, get_or-replicate, ext_get_or, length-map, length-set, length-append, length-drop, take-append-drop}
-use Rattle.std.proofs.lemmas.Nat.{pow_pos, shl_whole, shr-shr}
+use Rattle.std.proofs.lemmas.Nat.{pow_pos, shl_whole}
 use Rattle.std.proofs.lemmas.Nat.Bits.{bit_at-zero, bit_at-lt, bit_at_above, bit_at_and, bit_at_or, shr_and_one, bit_at_not, bit_at_cat_low, bit_at_cat_high}
 use Rattle.std.proofs.lemmas.Simd.{length-zip2, bit_mask_l, mask_l-lt, chunk-drop, get_or-zip2}
 use Rattle.rv_stations.specs.declared.waiting.Operand.{Operand}
@@ -13,6 +13,7 @@ use Rattle.rv_stations.specs.Waiting.{has_value, woken_operand}
 use Rattle.rv_stations.specs.Column.{IsWaitMask, OtherBitsStay, in_eight, operand_of, is_producer, woken_tag, woken_value}
 use Rattle.rv_stations.specs.ColumnFields.{operands, IsSoundColumn}
 use Rattle.rv_stations.specs.declared.column.OperandColumn.TheInside.{Inside}
+use Rattle.rv_stations.proofs.LaneLemmas.{unheld-tags, unheld-values}
 use Rattle.rv_stations.proofs.ZipLemmas.{zip2-append, zip2-take, zip2-drop}
 
 -- there are as many operands as tags
@@ -267,25 +268,14 @@ module _ (seq value start waiting : ℕ) (tags values : List ℕ) (some : eqb se
       ∙ ap (map (woken_operand seq value)) (zip2-take operand_of 8 (drop start tags) (drop start values) ∙ ap (take 8) (zip2-drop operand_of start tags values as_many)))
       (zip2-drop operand_of (start + 8) tags values as_many))
 
--- eight operands of which none waits
-pub in_eight-idle : (seq value start waiting : ℕ) (os : List Operand) → IsWaitMask os waiting → start + 8 ≤ length os → waiting / 2 ^ start % 256 ≡ 0 → in_eight start (map (woken_operand seq value)) os ≡ os
-in_eight-idle seq value start waiting os marked room none =
-    in_eight-same start (map (woken_operand seq value)) os (unwoken_all seq value (take 8 (drop start os)) all)
-  where
-    eight : length (take 8 (drop start os)) ≡ 8
-    eight = length-take-le 8 (drop start os) (omega (arith, length-drop start os))
-
-    bit : (at : ℕ) → at < 8 → bit_at waiting (start + at) ≡ 0
-    bit at lt =
-        let high = waiting / 2 ^ start / 256 in
-        let split : waiting / 2 ^ start ≡ high * 2 ^ 8 + 0 = omega (arith, none) in
-        ap (λ n. n % 2) (sym (shr-shr waiting start at)) ∙ ap (λ n. bit_at n at) split ∙ bit_at_cat_low high 8 0 at lt ∙ bit_at-zero at
-
-    all : (at : ℕ) → at < length (take 8 (drop start os)) → has_value (get_or (take 8 (drop start os)) at (Value 0)) ≡ true
-    all at lt =
-        let low : at < 8 = omega (arith, lt, eight) in
-        ap has_value (get_or-take 8 (drop start os) at (Value 0) low ∙ get_or-drop start os at (Value 0))
-        ∙ set_bit (has_value (get_or os (start + at) (Value 0))) (sym (marked (start + at) (omega arith)) ∙ bit at low)
+  -- eight operands of which none has the number
+  pub operands-unlike : mask_l equals ≡ 0 → in_eight start (map (woken_operand seq value)) told ≡ told
+  operands-unlike none =
+      let as_eight : length (take 8 (drop start tags)) ≡ length (take 8 (drop start values)) = eights ∙ sym (length-take-le 8 (drop start values) (omega (arith, length-drop start values, as_many))) in
+      sym operands-in_eight
+      ∙ ap₂ (zip2 operand_of)
+      (in_eight-same start (map (woken_tag seq)) tags (unheld-tags seq (take 8 (drop start tags)) none))
+      (in_eight-same start (zip2 (woken_value seq value) (take 8 (drop start tags))) values (unheld-values seq value (take 8 (drop start tags)) (take 8 (drop start values)) as_eight none))
 
 -- a mask without the bits of eight places
 pub cleared-inside : (mask start place : ℕ) → start + 8 ≤ 64 → start ≤ place → place < start + 8 → bit_at (bit_and mask (18446744073709551615 - 255 * 2 ^ start % 18446744073709551616)) place ≡ 0

@@ -142,10 +142,16 @@ impl OperandColumn {
         requires producer { seq ≡ NO_PRODUCER_TAG → ⊥ }
         ensures { self.new ≡ in_eight start (map (woken_operand seq value)) self.old }
     {
+        let like = lanes::like_from(start, self.tags.as_slice(), seq);
+        // Most broadcasts are of a producer for which none of the eight waits.
+        if like == 0 {
+            return;
+        }
         let woken = lanes::wake_from(
             start,
             self.tags.as_mut_slice(),
             self.values.as_mut_slice(),
+            like,
             seq,
             u64::from(value),
         );

@@ -1,5 +1,4 @@
-ghost use Rattle.std.specs.Prelude.{ℕ, ◌≡◌, ◌==◌, ◌+◌, ◌<◌, ◌≤◌, ◌%◌, ◌^◌, false, drop, get_or, length, map, slice_set, take};
-ghost use Rattle.std.specs.Int.{bit_at};
+ghost use Rattle.std.specs.Prelude.{◌≡◌, ◌==◌, ◌+◌, ◌<◌, ◌≤◌, ◌%◌, ◌^◌, drop, get_or, length, map, slice_set, take};
 ghost use Rattle.std.specs.Simd.Lanes.{zip2, mask_l};
 ghost use Rattle.rv_stations.specs.Column.{in_eight, is_producer, woken_tag, woken_value};
 
@@ -16,12 +15,29 @@ pub fn is_producer(tag: u64) -> bool
     tag != NO_PRODUCER
 }
 
-/// Gives those of eight operands from a place on whose producer has a sequence number its value, and tells
-/// which these are, a bit each.
+/// Which of eight tags from a place on are like a sequence number in their lower halves, a bit each.
 #[inline(always)]
-pub fn wake_from(start: usize, tags: &mut [u64], values: &mut [u64], seq: u64, value: u64) -> u64
+pub fn like_from(start: usize, tags: &[u64], seq: u64) -> u64
+    requires { start + 8 ≤ length tags.now }
+    ensures { result ≡ mask_l (map (λ tag. tag % 2 ^ 32 == seq % 2 ^ 32) (take 8 (drop start tags.now))) }
+{
+    like_lanes(&tags[start..start + 8], seq)
+}
+
+/// Gives those of eight operands from a place on whose producer has a sequence number its value, and tells which
+/// these are, a bit each. The tags that are like the number are marked.
+#[inline(always)]
+pub fn wake_from(
+    start: usize,
+    tags: &mut [u64],
+    values: &mut [u64],
+    like: u64,
+    seq: u64,
+    value: u64,
+) -> u64
     requires within { start + 8 ≤ length tags.old }
     requires as_many { length values.old ≡ length tags.old }
+    requires like { like ≡ mask_l (map (λ tag. tag % 2 ^ 32 == seq % 2 ^ 32) (take 8 (drop start tags.old))) }
     ensures woken { result ≡ mask_l (map (λ tag. tag == seq) (take 8 (drop start tags.old))) }
     ensures tags { tags.new ≡ in_eight start (map (woken_tag seq)) tags.old }
     ensures values { values.new ≡ in_eight start (zip2 (woken_value seq value) (take 8 (drop start tags.old))) values.old }
@@ -29,29 +45,13 @@ pub fn wake_from(start: usize, tags: &mut [u64], values: &mut [u64], seq: u64, v
     wake_eight(
         &mut tags[start..start + 8],
         &mut values[start..start + 8],
+        like,
         seq,
         value,
     )
 }
 
-#[inline(always)]
-fn wake_eight(tags: &mut [u64], values: &mut [u64], seq: u64, value: u64) -> u64
-    requires tags { length tags.old ≡ 8 }
-    requires values { length values.old ≡ 8 }
-    ensures woken { result ≡ mask_l (map (λ tag. tag == seq) tags.old) }
-    ensures tags { tags.new ≡ map (woken_tag seq) tags.old }
-    ensures values { values.new ≡ zip2 (woken_value seq value) tags.old values.old }
-{
-    let like = like_lanes(tags, seq);
-    // Most broadcasts are of a producer for which none of the eight waits.
-    if like == 0 {
-        return 0;
-    }
-    give(tags, values, like, seq, value)
-}
-
-// Which of eight tags are like a sequence number in their lower halves, a bit each: half as many bytes to compare,
-// and numbers that differ by 2^32 are not about at one time.
+// A lane of 32 bits costs half of one of 64. Where lanes are alike, `wake_one` compares the whole tags.
 #[inline(always)]
 fn like_lanes(tags: &[u64], seq: u64) -> u64
     requires { length tags.now ≡ 8 }
@@ -64,13 +64,11 @@ fn like_lanes(tags: &[u64], seq: u64) -> u64
         .to_bitmask()
 }
 
-// Gives those of the marked lanes whose tags are a sequence number the value of its producer, and tells which these
-// are, a bit each.
-fn give(tags: &mut [u64], values: &mut [u64], like: u64, seq: u64, value: u64) -> u64
+// `wake_from` of eight operands and no others.
+fn wake_eight(tags: &mut [u64], values: &mut [u64], like: u64, seq: u64, value: u64) -> u64
     requires tags { length tags.old ≡ 8 }
     requires values { length values.old ≡ 8 }
-    requires marked { like < 2 ^ 8 }
-    requires others { (lane : ℕ) → lane < 8 → bit_at like lane ≡ 0 → (get_or tags.old lane 0 == seq) ≡ false }
+    requires like { like ≡ mask_l (map (λ tag. tag % 2 ^ 32 == seq % 2 ^ 32) tags.old) }
     ensures woken { result ≡ mask_l (map (λ tag. tag == seq) tags.old) }
     ensures tags { tags.new ≡ map (woken_tag seq) tags.old }
     ensures values { values.new ≡ zip2 (woken_value seq value) tags.old values.old }
@@ -79,15 +77,16 @@ fn give(tags: &mut [u64], values: &mut [u64], like: u64, seq: u64, value: u64) -
     let mut left = like;
     while left != 0 {
         let lane = left.trailing_zeros() as usize;
-        let is_woken = give_one(tags, values, lane, seq, value);
+        let is_woken = wake_one(tags, values, lane, seq, value);
         woken = marked(woken, lane, is_woken);
         left = without(left, lane);
     }
     woken
 }
 
+// Gives an operand the value if its tag is the sequence number.
 #[inline(always)]
-fn give_one(tags: &mut [u64], values: &mut [u64], lane: usize, seq: u64, value: u64) -> bool
+fn wake_one(tags: &mut [u64], values: &mut [u64], lane: usize, seq: u64, value: u64) -> bool
     requires tags { lane < length tags.old }
     requires values { lane < length values.old }
     ensures is_woken { result ≡ (get_or tags.old lane 0 == seq) }

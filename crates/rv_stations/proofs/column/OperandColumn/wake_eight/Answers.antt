@@ -1,5 +1,5 @@
 -- Eight tags and values are written, and the bits of those that are woken are cleared.
-use Rattle.std.proofs.Common.{◌≡◌, ◌≤◌, ◌+◌, ◌∙◌, ap, ap₂, map, take, drop, length, List, ℕ, eqb, arith}
+use Rattle.std.proofs.Common.{sym, ◌%◌, ◌^◌, ◌≡◌, ◌≤◌, ◌+◌, ◌∙◌, ap, ap₂, map, take, drop, length, List, ℕ, eqb, arith}
 use Rattle.std.specs.Simd.Lanes.{zip2, mask_l}
 use Rattle.std.specs.Vec.{with_items}
 use Rattle.std.proofs.lemmas.Bool.{ne_eqb}
@@ -7,8 +7,19 @@ use Rattle.std.proofs.lemmas.List.{with_items_is}
 use Rattle.rv_stations.specs.Waiting.{woken_operand}
 use Rattle.rv_stations.specs.Column.{in_eight, operand_of, woken_tag, woken_value}
 use Rattle.rv_stations.specs.ColumnFields.{operands}
-use Rattle.rv_stations.proofs.ColumnLemmas.{length-column, operands-in_eight, IsWaitMask-woken}
+use Rattle.rv_stations.proofs.ColumnLemmas.{length-column, operands-in_eight, operands-unlike, IsWaitMask-woken}
+use Rattle.rv_stations.proofs.GiveLemmas.{none_like}
 use Rattle.rv_stations.proofs.column.OperandColumn.wake_eight.Goals as goal
+
+pub like_from-like-requires : goal.like_from-like-requires
+like_from-like-requires c = rw c.as_slice.ensures.value (omega (arith, rw (← c.self.view_is) at c.requires.within, length-column c.self.inside c.self.invariant))
+
+pub returns-then-like-eq0 : goal.returns-then-like-eq0
+returns-then-like-eq0 c =
+    let p = c.self.inside in
+    let none : mask_l (map (λ t. eqb (t % 2 ^ 32) (c.args.seq % 2 ^ 32)) (take 8 (drop c.args.start p.tags.items))) ≡ 0 = rw c.as_slice.ensures.value at (sym c.like_from-like.ensures ∙ c.if-like-eq0.true) in
+    rw (← c.self.view_is)
+    (sym (operands-unlike c.args.seq c.args.value c.args.start p.waiting p.tags.items p.values.items (ne_eqb _ _ c.requires.producer) c.ranges.value.fits (omega (arith, c.self.invariant.as_many)) (omega (arith, c.self.invariant.few)) (omega (arith, rw (← c.self.view_is) at c.requires.within, length-column p c.self.invariant)) (none_like c.args.seq (take 8 (drop c.args.start p.tags.items)) none)))
 
 pub wake_from-woken-requires-clause-within : goal.wake_from-woken-requires-clause-within
 wake_from-woken-requires-clause-within c =

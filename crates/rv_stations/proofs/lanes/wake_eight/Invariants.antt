@@ -1,7 +1,7 @@
 -- The lanes that are left still hold what they held.
 use Rattle.std.proofs.Common.{◌≡◌, ◌<◌, ◌^◌, length}
 use Rattle.rv_stations.proofs.GiveLemmas.{Giving}
-use Rattle.rv_stations.proofs.lanes.give.Given as goal
+use Rattle.rv_stations.proofs.lanes.wake_eight.Given as goal
 
 abbrev pub invariant-loop-left : goal.invariant-loop-left
 invariant-loop-left l =
