@@ -8,11 +8,11 @@ use Rattle.rv_core.specs.declared.outcome.Progress.{Progress}
 use Rattle.rv_hardware.specs.Guided.{GuidedHardware}
 use Rattle.rv_source.specs.Listing.{Listed}
 use Rattle.rv_explain.specs.Explanation.{IsExplanation, IsTold, explanation}
-use Rattle.rv_explain.specs.Head.{head_after}
-use Rattle.rv_explain.specs.Work.{word_in}
+use Rattle.rv_sentences.specs.Head.{head_after}
+use Rattle.rv_sentences.specs.Work.{word_in}
 use Rattle.rv_explain.specs.declared.tale.Tale.{Tale}
-use Rattle.rv_explain.specs.declared.work.Class.TheVariants.{Branch, Mispredicted}
-use Rattle.rv_explain.proofs.CountSums.{counted_within}
+use Rattle.rv_sentences.specs.declared.work.Class.TheVariants.{Branch, Mispredicted}
+use Rattle.rv_sentences.proofs.CountSums.{counted_within}
 use Rattle.rv_explain.proofs.Telling.{length-reports}
 
 pub explained : (arrivals : List Arrival) (limit : ℕ) (values : Values) (listing : Listed) (old new : GuidedHardware) (stop : Stop) (progress : Progress) (fetched : ℕ) (tale : Tale)

@@ -19,31 +19,31 @@ use Rattle.rv_passage.specs.Passage.{is_squash}
 use Rattle.rv_passage.specs.declared.passage.Passage.{Passage}
 use Rattle.rv_counts.specs.Load.{costs_of, is_hit}
 use Rattle.rv_counts.specs.Passing.{has_left}
-use Rattle.rv_explain.specs.Dispatch.{dispatched_after, dispatched_with, is_last, none_dispatched, with_cycle}
-use Rattle.rv_explain.specs.Drain.{drain_in, drains_by, drains_of}
-use Rattle.rv_explain.specs.Exception.{exception_of_cycle, exceptions_of}
-use Rattle.rv_explain.specs.Head.{head_after}
+use Rattle.rv_sentences.specs.Dispatch.{dispatched_after, dispatched_with, is_last, none_dispatched, with_cycle}
+use Rattle.rv_sentences.specs.Drain.{drain_in, drains_by, drains_of}
+use Rattle.rv_sentences.specs.Exception.{exception_of_cycle, exceptions_of}
+use Rattle.rv_sentences.specs.Head.{head_after}
 use Rattle.rv_hardware.specs.History.{History, Moment, reports_of}
-use Rattle.rv_explain.specs.Interrupt.{by_line, interruption_of_cycle, interruptions_of, interrupts_after}
-use Rattle.rv_explain.specs.Kinds.{kept_after, kept_of}
-use Rattle.rv_explain.specs.LastStore.{last_store_to, stores_in, stores_of}
-use Rattle.rv_explain.specs.Load.{retired_load_cost}
+use Rattle.rv_sentences.specs.Interrupt.{by_line, interruption_of_cycle, interruptions_of, interrupts_after}
+use Rattle.rv_sentences.specs.Kinds.{kept_after, kept_of}
+use Rattle.rv_sentences.specs.LastStore.{last_store_to, stores_in, stores_of}
+use Rattle.rv_sentences.specs.Load.{retired_load_cost}
 use Rattle.rv_explain.specs.Tale.{HasRoom, tale_after, tale_of}
-use Rattle.rv_explain.specs.Unit.{arrivals_after, arrivals_by, none_came, unit_wait_in, unit_waits}
-use Rattle.rv_explain.specs.Wait.{CanGrow, both_waits, bus_wait, bus_waits}
-use Rattle.rv_explain.specs.WordCount.{count_at}
-use Rattle.rv_explain.specs.WordNotes.{notes_of}
-use Rattle.rv_explain.specs.Work.{is_mispredicted_branch, is_retired_branch, word_in}
-use Rattle.rv_explain.specs.declared.{dispatches.Dispatches.Dispatches, exception.Exception.Exception, interruption.Interruption.Interruption}
-use Rattle.rv_explain.specs.declared.work.Class.TheVariants.{Branch, Mispredicted}
-use Rattle.rv_explain.proofs.DrainCounts.{drains_by-append, drains_of-le, drains_of-push}
-use Rattle.rv_explain.proofs.CountSums.{counted_within}
-use Rattle.rv_explain.proofs.CountsGrow.{heads-push, with_all_at}
-use Rattle.rv_explain.proofs.LastStores.{stores_of-push, with_stores_of}
-use Rattle.rv_explain.proofs.InterruptsGrow.{by_line-push, lines_counted}
-use Rattle.rv_explain.proofs.KindsGrow.{kept-push, kept_counted}
-use Rattle.rv_explain.proofs.OutcomesGrow.{can_take, outcomes-left}
-use Rattle.rv_explain.proofs.Works.{branch_words-left, loads-left, mispredicted_words-left, work-left}
+use Rattle.rv_sentences.specs.Unit.{arrivals_after, arrivals_by, none_came, unit_wait_in, unit_waits}
+use Rattle.rv_sentences.specs.Wait.{CanGrow, both_waits, bus_wait, bus_waits}
+use Rattle.rv_sentences.specs.WordCount.{count_at}
+use Rattle.rv_sentences.specs.WordNotes.{notes_of}
+use Rattle.rv_sentences.specs.Work.{is_mispredicted_branch, is_retired_branch, word_in}
+use Rattle.rv_sentences.specs.declared.{dispatches.Dispatches.Dispatches, exception.Exception.Exception, interruption.Interruption.Interruption}
+use Rattle.rv_sentences.specs.declared.work.Class.TheVariants.{Branch, Mispredicted}
+use Rattle.rv_sentences.proofs.DrainCounts.{drains_by-append, drains_of-le, drains_of-push}
+use Rattle.rv_sentences.proofs.CountSums.{counted_within}
+use Rattle.rv_sentences.proofs.CountsGrow.{heads-push, with_all_at}
+use Rattle.rv_sentences.proofs.LastStores.{stores_of-push, with_stores_of}
+use Rattle.rv_sentences.proofs.InterruptsGrow.{by_line-push, lines_counted}
+use Rattle.rv_sentences.proofs.KindsGrow.{kept-push, kept_counted}
+use Rattle.rv_sentences.proofs.OutcomesGrow.{can_take, outcomes-left}
+use Rattle.rv_sentences.proofs.Works.{branch_words-left, loads-left, mispredicted_words-left, work-left}
 
 kept_after-push : (es : List Exception) (o : Option Exception) → kept_after o (kept_of es) ≡ kept_of (es ++ cons_option o [])
 kept_after-push es None = sym (ap kept_of (append-nil es))

@@ -21,12 +21,12 @@ use Rattle.rv_passage.specs.declared.{passage.Passage.Passage, table.Table.Table
 use Rattle.rv_counts.specs.Followed.{IsFollowed, IsRoomy}
 use Rattle.rv_counts.specs.Passing.{has_left}
 use Rattle.rv_counts.proofs.Followed.{can_count, few_rows, followed_nothing, followed_on}
-use Rattle.rv_explain.specs.Drain.{begun, drain_in}
+use Rattle.rv_sentences.specs.Drain.{begun, drain_in}
 use Rattle.rv_explain.specs.Explanation.{IsTold}
 use Rattle.rv_explain.specs.Tale.{HasRoom, IsTelling, tale_after, tale_of}
-use Rattle.rv_explain.specs.Wait.{CanGrow}
+use Rattle.rv_sentences.specs.Wait.{CanGrow}
 use Rattle.rv_explain.specs.declared.tale.Tale.{Tale}
-use Rattle.rv_explain.proofs.DrainBegins.{begun_in_cycle}
+use Rattle.rv_sentences.proofs.DrainBegins.{begun_in_cycle}
 use Rattle.rv_explain.proofs.Tales.{has_room, tale-push}
 
 pub length-reports : (moments : List Moment) → length moments ≡ length (reports_of moments)

@@ -12,19 +12,19 @@ use Rattle.rv_passage.specs.declared.passage.Passage.{Passage}
 use Rattle.rv_counts.specs.Leaves.{Leaves}
 use Rattle.rv_source.specs.Listing.{Listed}
 use Rattle.rv_text.specs.Line.{line_of, ratio_text}
-use Rattle.rv_explain.specs.Dispatch.{dispatches_text}
-use Rattle.rv_explain.specs.Drain.{drain_text}
+use Rattle.rv_sentences.specs.Dispatch.{dispatches_text}
+use Rattle.rv_sentences.specs.Drain.{drain_text}
 use Rattle.rv_explain.specs.Ending.{ending_text}
-use Rattle.rv_explain.specs.Exception.{exceptions_text}
+use Rattle.rv_sentences.specs.Exception.{exceptions_text}
 use Rattle.rv_hardware.specs.History.{History, Moment, reports_of}
-use Rattle.rv_explain.specs.Hotspot.{hotspots_text}
-use Rattle.rv_explain.specs.Interrupt.{interrupts_text}
-use Rattle.rv_explain.specs.Load.{load_text}
-use Rattle.rv_explain.specs.Stack.{count_text, stall_text}
+use Rattle.rv_sentences.specs.Hotspot.{hotspots_text}
+use Rattle.rv_sentences.specs.Interrupt.{interrupts_text}
+use Rattle.rv_sentences.specs.Load.{load_text}
+use Rattle.rv_sentences.specs.Stack.{count_text, stall_text}
 use Rattle.rv_explain.specs.Tale.{tale_of}
-use Rattle.rv_explain.specs.Wait.{waits_text}
-use Rattle.rv_explain.specs.Work.{work_text}
-use Rattle.rv_explain.specs.Worst.{worst_text}
+use Rattle.rv_sentences.specs.Wait.{waits_text}
+use Rattle.rv_sentences.specs.Work.{work_text}
+use Rattle.rv_sentences.specs.Worst.{worst_text}
 use Rattle.rv_explain.specs.declared.tale.Tale.{Tale}
 
 -- cycles, with the hardware that each left, up to the end of a run, the instructions that left the hardware in them and those in

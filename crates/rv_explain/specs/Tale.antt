@@ -12,24 +12,24 @@ use Rattle.rv_passage.specs.declared.{passage.Passage.Passage, table.Table.Table
 use Rattle.rv_counts.specs.Followed.{IsFollowed}
 use Rattle.rv_counts.specs.Load.{costs_of}
 use Rattle.rv_counts.specs.Passing.{has_left}
-use Rattle.rv_explain.specs.Access.{both}
-use Rattle.rv_explain.specs.Dispatch.{dispatched_after, none_dispatched}
-use Rattle.rv_explain.specs.Drain.{drains_by, drains_of}
-use Rattle.rv_explain.specs.Exception.{exception_in, exceptions_of}
-use Rattle.rv_explain.specs.Head.{head_cycles, head_word}
+use Rattle.rv_sentences.specs.Access.{both}
+use Rattle.rv_sentences.specs.Dispatch.{dispatched_after, none_dispatched}
+use Rattle.rv_sentences.specs.Drain.{drains_by, drains_of}
+use Rattle.rv_sentences.specs.Exception.{exception_in, exceptions_of}
+use Rattle.rv_sentences.specs.Head.{head_cycles, head_word}
 use Rattle.rv_hardware.specs.History.{Moment, reports_of}
-use Rattle.rv_explain.specs.Interrupt.{AreCountable, by_line, interruption_in, interruptions_of, interrupts_after}
-use Rattle.rv_explain.specs.Kinds.{IsCountable, kept_after, kept_of}
-use Rattle.rv_explain.specs.LastStore.{last_store_to, stores_in, stores_of, with_stores}
-use Rattle.rv_explain.specs.Load.{loads_of}
-use Rattle.rv_explain.specs.Outcome.{CanTake, outcomes_at, with_passages}
-use Rattle.rv_explain.specs.Unit.{arrivals_after, none_came, unit_waits}
-use Rattle.rv_explain.specs.Wait.{CanGrow, both_waits, bus_waits}
-use Rattle.rv_explain.specs.WordCount.{count_at, with_all, with_one}
-use Rattle.rv_explain.specs.WordNotes.{notes_of}
-use Rattle.rv_explain.specs.Work.{both_work, word_in, work_of}
+use Rattle.rv_sentences.specs.Interrupt.{AreCountable, by_line, interruption_in, interruptions_of, interrupts_after}
+use Rattle.rv_sentences.specs.Kinds.{IsCountable, kept_after, kept_of}
+use Rattle.rv_sentences.specs.LastStore.{last_store_to, stores_in, stores_of, with_stores}
+use Rattle.rv_sentences.specs.Load.{loads_of}
+use Rattle.rv_sentences.specs.Outcome.{CanTake, outcomes_at, with_passages}
+use Rattle.rv_sentences.specs.Unit.{arrivals_after, none_came, unit_waits}
+use Rattle.rv_sentences.specs.Wait.{CanGrow, both_waits, bus_waits}
+use Rattle.rv_sentences.specs.WordCount.{count_at, with_all, with_one}
+use Rattle.rv_sentences.specs.WordNotes.{notes_of}
+use Rattle.rv_sentences.specs.Work.{both_work, word_in, work_of}
 use Rattle.rv_explain.specs.declared.tale.Tale.{Tale}
-use Rattle.rv_explain.specs.declared.work.Class.TheVariants.{Branch, Mispredicted}
+use Rattle.rv_sentences.specs.declared.work.Class.TheVariants.{Branch, Mispredicted}
 
 -- what is kept of some cycles that began with such hardware, by the arrivals at the interrupt lines, and of the instructions that
 -- left the hardware in them

@@ -3,11 +3,10 @@ ghost use Rattle.rv_arch.specs.Csr.{value_of};
 ghost use Rattle.rv_explain.specs.Ending.{reason_text, place_of, last_store_text, stale_text, ending_text};
 ghost use Rattle.rv_text.specs.Written.{IsWritten};
 
-use crate::place::write_place;
-use crate::word_notes::WordNotes;
 use rv_arch::Stop;
 use rv_core::Pipeline;
 use rv_isa::Csr;
+use rv_sentences::{WordNotes, write_place};
 use rv_source::Listing;
 use rv_text::{ReportError, put};
 use std::io::Write;

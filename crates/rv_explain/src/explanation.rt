@@ -8,25 +8,19 @@ ghost use Rattle.rv_explain.specs.Tale.{tale_of};
 ghost use Rattle.rv_text.specs.IsText.{IsText};
 ghost use Rattle.rv_text.specs.Written.{IsWritten};
 
-use crate::dispatches::write_dispatches;
-use crate::drains::write_drains;
 use crate::ending::write_ending;
-use crate::hotspots::write_hotspots;
-use crate::interrupt_lines::write_interrupts;
-use crate::kind_lines::write_exceptions;
-use crate::loads::write_loads;
 use crate::running::{begin_table, run_told};
-use crate::stack::{write_counts, write_stalls};
 use crate::tale::Tale;
-use crate::waits::write_waits;
-use crate::work::write_work;
-use crate::worst::write_worst;
 use rv_arch::Stop;
 use rv_core::{Pipeline, Progress};
 use rv_front::Predictor;
 use rv_hardware::Step;
 use rv_isa::{Arrivals, Description};
 use rv_passage::Table;
+use rv_sentences::{
+    write_counts, write_dispatches, write_drains, write_exceptions, write_hotspots,
+    write_interrupts, write_loads, write_stalls, write_waits, write_work, write_worst,
+};
 use rv_source::Listing;
 use rv_text::{Field, ReportError, TextError, Value, write_fields};
 use std::alloc::{AllocError, Global};
@@ -79,7 +73,7 @@ fn write_cycles<W: Write>(
             },
         }],
     )?;
-    write_stalls(writer, progress)
+    write_stalls(writer, progress.cycles, progress.busy, &progress.stalls)
 }
 
 // What results and instructions waited for, and what the accesses to memory cost.

@@ -4,35 +4,11 @@
 //! program.
 #![tactic(auto)]
 
-mod accesses;
-mod dispatches;
-mod drains;
 mod ending;
-mod exception;
-mod exceptions;
 mod explanation;
-mod greatest_lines;
-mod hotspots;
-mod interrupt_lines;
-mod interruption;
-mod interrupts;
-mod kind_lines;
-mod kinds;
-mod lines;
-mod loads;
-mod outcomes;
-mod place;
+mod head;
 mod running;
-mod series;
-mod spot;
-mod stack;
-mod stored;
-mod stores;
 mod tale;
-mod unit_waits;
-mod waits;
-mod word_notes;
-mod work;
-mod worst;
+mod traps;
 
 pub use explanation::write_explanation;

@@ -5,7 +5,6 @@ ghost use Rattle.rv_explain.specs.Tale.{tale_of};
 ghost use Rattle.rv_hardware.specs.Guided.{guided};
 ghost use Rattle.rv_passage.specs.Table.{HasRoom, passages_of, table_at};
 
-use crate::drains::begun;
 use crate::tale::Tale;
 use rv_arch::Stop;
 use rv_core::{Pipeline, Progress, Watcher, watch};
@@ -13,6 +12,7 @@ use rv_front::Predictor;
 use rv_hardware::Step;
 use rv_isa::{Arrivals, Description};
 use rv_passage::Table;
+use rv_sentences::begun;
 use std::alloc::{AllocError, Global};
 use std::convert::Infallible;
 use std::io;

@@ -3,27 +3,20 @@ ghost use Rattle.rv_hardware.specs.Hardware.{Hardware};
 ghost use Rattle.rv_hardware.specs.Step.{is_retirement};
 ghost use Rattle.rv_isa.specs.declared.lines.Arrival.{Arrival};
 ghost use Rattle.rv_explain.specs.Tale.{HasRoom, tale_after, tale_of};
-ghost use Rattle.rv_explain.specs.Wait.{CanGrow};
+ghost use Rattle.rv_sentences.specs.Wait.{CanGrow};
 
-use crate::accesses::Accesses;
-use crate::dispatches::Dispatches;
-use crate::drains::add_drain;
-use crate::exceptions::exception_in;
-use crate::hotspots::head_word;
-use crate::interrupts::{Interrupts, interruption_in};
-use crate::kinds::Exceptions;
-use crate::loads::add_loads;
-use crate::outcomes::{Outcomes, count_left};
-use crate::stores::note_stores;
-use crate::unit_waits::add_unit_waits;
-use crate::waits::{add_waits, no_waits};
-use crate::word_notes::{WordNotes, count_one};
-use crate::work::{Class, Work, count_words};
+use crate::head::head_word;
+use crate::traps::exception_in;
 use rv_core::Pipeline;
 use rv_counts::LoadCosts;
 use rv_hardware::Step;
 use rv_isa::{Description, PerKind};
 use rv_passage::Passage;
+use rv_sentences::{
+    Accesses, Class, Dispatches, Exceptions, Interrupts, Outcomes, WordNotes, Work, add_drain,
+    add_loads, add_unit_waits, add_waits, count_left, count_one, count_words, interruption_in,
+    no_waits, note_stores,
+};
 use std::alloc::{AllocError, Global};
 
 /// What is kept of a run so far.

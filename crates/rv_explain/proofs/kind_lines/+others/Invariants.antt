@@ -1,5 +1,0 @@
-use Rattle.std.proofs.Common.{length}
-use Rattle.rv_explain.proofs.kind_lines.+others.Given as goal
-
-abbrev pub decreases-others : goal.decreases-others
-decreases-others l = length l.kinds.now

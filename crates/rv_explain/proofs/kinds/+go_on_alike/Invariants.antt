@@ -1,5 +1,0 @@
-use Rattle.std.proofs.Common.{length}
-use Rattle.rv_explain.proofs.kinds.+go_on_alike.Given as goal
-
-abbrev pub decreases-go_on_alike : goal.decreases-go_on_alike
-decreases-go_on_alike l = length l.kinds.now

@@ -1,5 +1,0 @@
-use Rattle.std.proofs.Common.{length}
-use Rattle.rv_explain.proofs.stores.+note_stores.Given as goal
-
-abbrev pub decreases-note_stores : goal.decreases-note_stores
-decreases-note_stores l = length l.steps.now

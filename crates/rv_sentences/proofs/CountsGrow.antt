@@ -1,0 +1,40 @@
+-- What is counted at the words of RAM, as more things come.
+use Rattle.std.proofs.Common.{◌≡◌, ◌∙◌, ℕ, ◌+◌, List, [], ◌∷◌, ◌++◌, Option, Some, None, cond, refl, ap, sym, arith, eq-eqb, ne_eqb}
+use Rattle.std.proofs.lemmas.List.Sums.{sum_by-append, sum_by-cons}
+use Rattle.rv_isa.specs.declared.values.Values.{Values}
+use Rattle.rv_hardware.specs.History.{Moment}
+use Rattle.rv_sentences.specs.Head.{head_after, head_cycles, head_word}
+use Rattle.rv_sentences.specs.WordCount.{count_at, is_word, with_all, with_one}
+use Rattle.rv_sentences.specs.WordNotes.{notes_of}
+use Rattle.rv_sentences.proofs.WordTable.{change_one}
+
+-- one thing more
+with_one_at : (values : Values) (place : Option ℕ) (old new : ℕ → ℕ) → ((w : ℕ) → new w ≡ old w + cond (is_word w place) 1 0) → with_one place (notes_of values old) ≡ notes_of values new
+with_one_at values None old new are =
+    let same : (w : ℕ) → old w ≡ new w = λ w. omega (arith, are w) in
+    λ i. notes_of values (λ w. same w i)
+with_one_at values (Some word) old new are =
+    let here : old word + 1 ≡ new word = sym (are word ∙ ap (λ test. old word + cond test 1 0) (eq-eqb word word refl)) in
+    let others : (w : ℕ) → (w ≡ word → ⊥) → old w ≡ new w =
+    λ w is_not. let more = are w ∙ ap (λ test. old w + cond test 1 0) (ne_eqb word w (λ is. is_not (sym is))) in omega (arith, more) in
+    change_one values (λ count. count + 1) old new word here others
+
+-- some things more
+pub with_all_at : {X : Type 0} (values : Values) (place : X → Option ℕ) (xs : List X) (old new : ℕ → ℕ) → ((w : ℕ) → new w ≡ old w + count_at place xs w)
+    → with_all place xs (notes_of values old) ≡ notes_of values new
+with_all_at values place [] old new are =
+    let same : (w : ℕ) → old w ≡ new w = λ w. let is : new w ≡ old w + 0 = are w in omega (arith, is) in
+    λ i. notes_of values (λ w. same w i)
+with_all_at values place (x ∷ xs) old new are =
+    let rest : ℕ → ℕ = λ w. old w + count_at place xs w in
+    ap (with_one (place x)) (with_all_at values place xs old rest (λ w. refl)) ∙
+    with_one_at values (place x) rest new (λ w. omega (arith, are w, sum_by-cons (λ y. cond (is_word w (place y)) 1 0) x xs))
+
+head_cycles-push : (moments : List Moment) (moment : Moment) (word : ℕ) → head_cycles (moments ++ moment ∷ []) word ≡ head_cycles moments word + cond (is_word word (head_word moment.after)) 1 0
+head_cycles-push moments moment word =
+    let none : 0 + cond (is_word word (head_word moment.after)) 1 0 ≡ cond (is_word word (head_word moment.after)) 1 0 = omega arith in
+    sum_by-append (λ (m : Moment). cond (is_word word (head_after m)) 1 0) moments (moment ∷ []) ∙ ap (λ n. head_cycles moments word + n) none
+
+-- one cycle more
+pub heads-push : (values : Values) (moments : List Moment) (moment : Moment) → with_one (head_word moment.after) (notes_of values (head_cycles moments)) ≡ notes_of values (head_cycles (moments ++ moment ∷ []))
+heads-push values moments moment = with_one_at values (head_word moment.after) (head_cycles moments) (head_cycles (moments ++ moment ∷ [])) (λ w. head_cycles-push moments moment w)

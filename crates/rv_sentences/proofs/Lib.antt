@@ -1,0 +1,17 @@
+mod Cases
+pub mod CountSums
+pub mod CountsGrow
+pub mod DrainBegins
+pub mod DrainCounts
+mod Growing
+pub mod LastStores
+pub mod InterruptsGrow
+mod Joined
+pub mod KindsGrow
+mod Options
+mod SeriesGrows
+mod Spots
+mod WordTable
+pub mod Works
+mod WorstLines
+pub mod OutcomesGrow

@@ -1,0 +1,127 @@
+-- What became of the instructions in each word, as more leave the hardware.
+use Rattle.std.proofs.Common.{◌≡◌, ◌∙◌, ℕ, zero, suc, ◌+◌, ◌-◌, ◌^◌, ◌<◌, ◌≤◌, nat_lt, Bool, true, false, List, [], ◌∷◌, ◌++◌, length, filter, map, Option, Some, None, cond, refl, ap, sym, subst, arith, eq-eqb, ne_eqb}
+use Rattle.std.specs.Prelude.{IfSome, slice_set}
+use Rattle.std.specs.List.{range_with_len, slice_get}
+use Rattle.std.proofs.lemmas.List.Sums.{count_by-le-length}
+use Rattle.rv_isa.specs.declared.values.Values.{Values}
+use Rattle.rv_cache.specs.WriteBack.{Each}
+use Rattle.rv_memory.specs.Memory.{word_of}
+use Rattle.rv_passage.specs.declared.passage.Passage.{Passage}
+use Rattle.rv_counts.specs.Load.{is_hit, is_miss}
+use Rattle.rv_counts.specs.declared.loads.LoadCosts.{LoadCosts}
+use Rattle.rv_counts.proofs.Changes.{each-by}
+use Rattle.rv_counts.proofs.CountsMore.{count_by-cons}
+use Rattle.rv_counts.proofs.Rooms.{filter-le, one_more-within}
+use Rattle.rv_sentences.specs.Load.{retired_load_cost}
+use Rattle.rv_sentences.specs.Outcome.{CanCount, CanTake, IsWithin, is_in, is_write_back, outcomes_at, outcomes_of, outcomes_with, with_passages}
+use Rattle.rv_sentences.specs.WordNotes.{Notes, changed, note_at, notes_of, with_change}
+use Rattle.rv_sentences.specs.declared.outcomes.Outcomes.{Outcomes}
+use Rattle.rv_sentences.proofs.WordTable.{change_one}
+
+-- ---- what is so of each word
+
+got-each : {X : Type 0} (P : X → Type 0) (xs : List X) (i : ℕ) → Each P xs → IfSome (slice_get xs i) P
+got-each P [] i each = tt
+got-each P (x ∷ xs) zero each = each.0
+got-each P (x ∷ xs) (suc i) each = got-each P xs i each.1
+
+note-each : {X : Type 0} (P : X → Type 0) (notes : Notes X) (word : ℕ) (below : Bool) → nat_lt word notes.first ≡ below → Each P notes.words → IfSome (note_at notes word) P
+note-each P notes word true is each = rw is tt
+note-each P notes word false is each = rw is (got-each P notes.words (word - notes.first) each)
+
+each-note : {X : Type 0} (P : X → Type 0) (notes : Notes X) (word : ℕ) → Each P notes.words → IfSome (note_at notes word) P
+each-note P notes word each = note-each P notes word (nat_lt word notes.first) refl each
+
+module _ {X : Type 0} (P Q : X → Type 0) (change : X → X) (stays : (x : X) → P x → Q x) (then : (x : X) → P x → Q (change x)) where
+  each-set : (xs : List X) (i : ℕ) (y : X) → Q y → Each P xs → Each Q (slice_set xs i y)
+  each-set [] i y now each = tt
+  each-set (x ∷ xs) zero y now each = (now, each-by xs stays each.1)
+  each-set (x ∷ xs) (suc i) y now each = (stays x each.0, each-set xs i y now each.1)
+
+  by_some : (notes : Notes X) (word : ℕ) (o : Option X) → IfSome o P → Each P notes.words → Each Q (changed change notes word o).words
+  by_some notes word None has each = each-by notes.words stays each
+  by_some notes word (Some x) has each = by_below (nat_lt word notes.first) where
+    by_below : (below : Bool) → Each Q (cond below notes (record notes { words = slice_set notes.words (word - notes.first) (change x) })).words
+    by_below true = each-by notes.words stays each
+    by_below false = each-set notes.words (word - notes.first) (change x) (then x has) each
+
+  each-change : (notes : Notes X) (word : ℕ) → Each P notes.words → Each Q (with_change change notes word).words
+  each-change notes word each = by_some notes word (note_at notes word) (each-note P notes word each) each
+
+each-of : {X : Type 0} (P : X → Type 0) (f : ℕ → X) → ((w : ℕ) → P (f w)) → (a n : ℕ) → Each P (map f (range_with_len a n))
+each-of P f all a zero = tt
+each-of P f all a (suc n) = (all a, each-of P f all (a + 1) n)
+
+-- ---- the counts can go on
+
+within-more : (most more : ℕ) (o : Outcomes) → most ≤ more → IsWithin most o → IsWithin more o
+within-more most more o over is = record {
+  hits = omega (arith, over, is.hits);
+  misses = omega (arith, over, is.misses);
+  write_backs = omega (arith, over, is.write_backs);
+}
+
+within-with : (costs : LoadCosts) (p : Passage) (most : ℕ) (o : Outcomes) → IsWithin most o → IsWithin (most + 1) (outcomes_with costs p o)
+within-with costs p most o is = record {
+  hits = omega (arith, is.hits, one_more-within (is_hit costs (retired_load_cost p)) o.hits);
+  misses = omega (arith, is.misses, one_more-within (is_miss costs (retired_load_cost p)) o.misses);
+  write_backs = omega (arith, is.write_backs, one_more-within (is_write_back costs (retired_load_cost p)) o.write_backs);
+}
+
+within-passages : (costs : LoadCosts) (ps : List Passage) (most : ℕ) (notes : Notes Outcomes) → Each (IsWithin most) notes.words → Each (IsWithin (most + length ps)) (with_passages costs ps notes).words
+within-passages costs [] most notes each = each-by notes.words (λ o is. within-more most (most + 0) o (omega arith) is) each
+within-passages costs (p ∷ ps) most notes each =
+    let before = within-passages costs ps most notes each in
+    each-change (IsWithin (most + length ps)) (IsWithin (most + length (p ∷ ps))) (outcomes_with costs p) (λ o is. within-more (most + length ps) (most + length (p ∷ ps)) o (omega arith) is)
+    (λ o is. within-more (most + length ps + 1) (most + length (p ∷ ps)) (outcomes_with costs p o) (omega arith) (within-with costs p (most + length ps) o is))
+    (with_passages costs ps notes) (word_of p.pc) before
+
+-- one more can be counted, after some
+pub can_take_one : (costs : LoadCosts) (ps : List Passage) (old new : Notes Outcomes) (word more : ℕ) → new ≡ with_passages costs ps old → length ps + 1 ≤ more → CanTake old more → IfSome (note_at new word) CanCount
+can_take_one costs ps old new word more new_is fewer can =
+    subst (λ (notes : Notes Outcomes). IfSome (note_at notes word) CanCount) (sym new_is)
+    (each-note CanCount (with_passages costs ps old) word
+    (each-by (with_passages costs ps old).words (λ o is. within-more (can.most + length ps) (2 ^ 62) o (omega (arith, fewer, can.countable)) is) (within-passages costs ps can.most old can.within)))
+
+pub can_take_fewer : (notes : Notes Outcomes) (fewer more : ℕ) → fewer ≤ more → CanTake notes more → CanTake notes fewer
+can_take_fewer notes fewer more under can = record { most = can.most; within = can.within; countable = omega (arith, can.countable, under) }
+
+counts_within : (costs : LoadCosts) (ps : List Passage) (more : ℕ) → length ps ≤ more → IsWithin more (outcomes_of costs ps)
+counts_within costs ps more few = record {
+  hits = omega (arith, few, count_by-le-length (λ p. is_hit costs (retired_load_cost p)) ps);
+  misses = omega (arith, few, count_by-le-length (λ p. is_miss costs (retired_load_cost p)) ps);
+  write_backs = omega (arith, few, count_by-le-length (λ p. is_write_back costs (retired_load_cost p)) ps);
+}
+
+pub can_take : (values : Values) (costs : LoadCosts) (left : List Passage) (more : ℕ) → length left + more < 2 ^ 62 → CanTake (notes_of values (outcomes_at costs left)) more
+can_take values costs left more few = record {
+  most = length left;
+  within = each-of (IsWithin (length left)) (outcomes_at costs left) (λ w. counts_within costs (filter (is_in w) left) (length left) (filter-le (is_in w) left)) (word_of values.ram_base) (word_of values.ram_size);
+  countable = few;
+}
+
+-- ---- what is kept is what became of the instructions
+
+outcomes-cons : (costs : LoadCosts) (p : Passage) (ps : List Passage) → outcomes_with costs p (outcomes_of costs ps) ≡ outcomes_of costs (p ∷ ps)
+outcomes-cons costs p ps =
+    let hits = count_by-cons (λ q. is_hit costs (retired_load_cost q)) p ps in
+    let misses = count_by-cons (λ q. is_miss costs (retired_load_cost q)) p ps in
+    let write_backs = count_by-cons (λ q. is_write_back costs (retired_load_cost q)) p ps in
+    λ i. record { hits = sym hits i; misses = sym misses i; write_backs = sym write_backs i }
+
+outcomes-here : (costs : LoadCosts) (p : Passage) (ps : List Passage) → outcomes_with costs p (outcomes_at costs ps (word_of p.pc)) ≡ outcomes_at costs (p ∷ ps) (word_of p.pc)
+outcomes-here costs p ps =
+    let here : filter (is_in (word_of p.pc)) (p ∷ ps) ≡ p ∷ filter (is_in (word_of p.pc)) ps = rw (eq-eqb (word_of p.pc) (word_of p.pc) refl) refl in
+    outcomes-cons costs p (filter (is_in (word_of p.pc)) ps) ∙ sym (ap (outcomes_of costs) here)
+
+outcomes-other : (costs : LoadCosts) (p : Passage) (ps : List Passage) (word : ℕ) → (word ≡ word_of p.pc → ⊥) → outcomes_at costs ps word ≡ outcomes_at costs (p ∷ ps) word
+outcomes-other costs p ps word other =
+    let past : filter (is_in word) (p ∷ ps) ≡ filter (is_in word) ps = rw (ne_eqb (word_of p.pc) word (λ is. other (sym is))) refl in
+    sym (ap (outcomes_of costs) past)
+
+pub outcomes-left : (values : Values) (costs : LoadCosts) (ps left : List Passage) → with_passages costs ps (notes_of values (outcomes_at costs left)) ≡ notes_of values (outcomes_at costs (ps ++ left))
+outcomes-left values costs [] left = refl
+outcomes-left values costs (p ∷ ps) left =
+    ap (λ (notes : Notes Outcomes). with_change (outcomes_with costs p) notes (word_of p.pc)) (outcomes-left values costs ps left) ∙
+    change_one values (outcomes_with costs p) (outcomes_at costs (ps ++ left)) (outcomes_at costs (p ∷ ps ++ left)) (word_of p.pc)
+    (outcomes-here costs p (ps ++ left)) (outcomes-other costs p (ps ++ left))

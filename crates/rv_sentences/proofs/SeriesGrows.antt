@@ -1,0 +1,23 @@
+-- A series with one event more.
+use Rattle.std.proofs.Common.{◌≡◌, ◌+◌, ◌<◌, ◌^◌, List, [], ◌∷◌, ◌++◌, length, Some, refl, ap, arith, length-append}
+use Rattle.std.specs.Prelude.{IfSome}
+use Rattle.rv_sentences.specs.Series.{continued, last_of, series_from, series_of, series_with}
+use Rattle.rv_sentences.specs.declared.series.Series.{Series}
+
+last_of-push : {E : Type 0} (first event : E) (events : List E) → last_of first (events ++ event ∷ []) ≡ event
+last_of-push first event [] = refl
+last_of-push first event (next ∷ events) = last_of-push next event events
+
+pub series_from-push : {E : Type 0} (first event : E) (events : List E) → series_from first (events ++ event ∷ []) ≡ continued event (series_from first events)
+series_from-push first event events =
+    let count : length (events ++ event ∷ []) + 1 ≡ (length events + 1) + 1 = omega (arith, length-append events (event ∷ [])) in
+    λ i. record { count = count i; first = first; last = last_of-push first event events i }
+
+pub series_of-push : {E : Type 0} (events : List E) (event : E) → series_of (events ++ event ∷ []) ≡ series_with event (series_of events)
+series_of-push [] event = refl
+series_of-push (first ∷ events) event = ap Some (series_from-push first event events)
+
+-- a series counts what it is of
+pub series_counted : {E : Type 0} (events : List E) → length events + 1 < 2 ^ 64 → IfSome (series_of events) (λ (series : Series E). series.count + 1 < 2 ^ 64)
+series_counted [] few = tt
+series_counted (first ∷ events) few = omega (arith, few)

@@ -1,0 +1,97 @@
+-- What became of the fetched words, as instructions leave the hardware.
+use Rattle.std.proofs.Common.{◌≡◌, ◌∙◌, ℕ, ◌+◌, Bool, true, false, List, [], ◌∷◌, ◌++◌, length, filter, count_by, cond, refl, ap, sym, arith, length-append}
+use Rattle.std.specs.Prelude.{is_some, not}
+use Rattle.std.proofs.lemmas.List.Sums.{sum_by-append, sum_by-cons}
+use Rattle.rv_passage.specs.Passage.{is_running, is_squash}
+use Rattle.rv_passage.specs.declared.passage.{Ending.Ending, Passage.Passage}
+use Rattle.rv_passage.specs.declared.passage.Ending.TheVariants as ending
+use Rattle.rv_counts.specs.Load.{is_hit}
+use Rattle.rv_counts.specs.Passing.{has_left, is_retirement}
+use Rattle.rv_counts.specs.declared.loads.LoadCosts.{LoadCosts}
+use Rattle.rv_sentences.specs.Access.{both}
+use Rattle.rv_sentences.specs.Load.{loads_of, retired_load_cost}
+use Rattle.rv_sentences.specs.WordCount.{count_at, is_word}
+use Rattle.rv_sentences.specs.Work.{both_work, is_mispredicted_branch, is_of, is_retired_branch, word_in, work_of}
+use Rattle.rv_sentences.specs.declared.work.Class.{Class}
+use Rattle.rv_sentences.specs.declared.work.Class.TheVariants.{Branch, Mispredicted}
+
+-- what did not leave the hardware neither retired nor was squashed
+unretired_by : (e : Ending) → not (is_running e) ≡ false → is_retirement e ≡ false
+unretired_by (ending.Retired order cycle written next) is = cc
+unretired_by ending.InFlight is = refl
+unretired_by (ending.Trapped cycle cause) is = refl
+unretired_by (ending.Squashed cycle) is = refl
+
+unsquashed_by : (e : Ending) → not (is_running e) ≡ false → is_squash e ≡ false
+unsquashed_by (ending.Squashed cycle) is = cc
+unsquashed_by ending.InFlight is = refl
+unsquashed_by (ending.Trapped cycle cause) is = refl
+unsquashed_by (ending.Retired order cycle written next) is = refl
+
+unretired : (p : Passage) → has_left p ≡ false → is_retirement p.ending ≡ false
+unretired p is = unretired_by p.ending is
+
+-- where a test is of what left the hardware alone, what is in flight can be counted with it
+module _ (test : Passage → Bool) (none : (p : Passage) → has_left p ≡ false → test p ≡ false) where
+  count_cons : (p : Passage) (ps : List Passage) → count_by test (p ∷ ps) ≡ cond (test p) 1 0 + count_by test ps
+  count_cons p ps = sum_by-cons (λ (q : Passage). cond (test q) 1 0) p ps
+
+  by_left : (p : Passage) (ps : List Passage) (is : Bool) → has_left p ≡ is → count_by test (filter has_left ps) ≡ count_by test ps → count_by test (filter has_left (p ∷ ps)) ≡ count_by test (p ∷ ps)
+  by_left p ps true is rest = rw is (count_cons p (filter has_left ps) ∙ ap (λ n. cond (test p) 1 0 + n) rest ∙ sym (count_cons p ps))
+  by_left p ps false is rest =
+      let same : count_by test (p ∷ ps) ≡ count_by test ps = count_cons p ps ∙ ap (λ t. cond t 1 0 + count_by test ps) (none p is) ∙ omega arith in
+      rw is (rest ∙ sym same)
+
+  pub count-left : (ps : List Passage) → count_by test (filter has_left ps) ≡ count_by test ps
+  count-left [] = refl
+  count-left (p ∷ ps) = by_left p ps (has_left p) refl (count-left ps)
+
+pub squashed_left : (ps : List Passage) → count_by (λ (p : Passage). is_squash p.ending) (filter has_left ps) ≡ count_by (λ (p : Passage). is_squash p.ending) ps
+squashed_left ps = count-left (λ p. is_squash p.ending) (λ p is. unsquashed_by p.ending is) ps
+
+pub branches_left : (ps : List Passage) → count_by is_retired_branch (filter has_left ps) ≡ count_by is_retired_branch ps
+branches_left ps = count-left is_retired_branch (λ p is. rw (unretired p is) refl) ps
+
+pub mispredicted_left : (ps : List Passage) → count_by is_mispredicted_branch (filter has_left ps) ≡ count_by is_mispredicted_branch ps
+mispredicted_left ps = count-left is_mispredicted_branch (λ p is. rw (unretired p is) refl) ps
+
+loads_left : (costs : LoadCosts) (ps : List Passage) → loads_of costs ps ≡ loads_of costs (filter has_left ps)
+loads_left costs ps =
+    let all = count-left (λ p. is_some (retired_load_cost p)) (λ p is. rw (unretired p is) refl) ps in
+    let quick = count-left (λ p. is_hit costs (retired_load_cost p)) (λ p is. rw (unretired p is) refl) ps in
+    λ i. record { all = sym all i; quick = sym quick i }
+
+-- some more left the hardware
+count-behind : (test : Passage → Bool) (new old : List Passage) → count_by test old + count_by test new ≡ count_by test (new ++ old)
+count-behind test new old =
+    let apart : count_by test (new ++ old) ≡ count_by test new + count_by test old = sum_by-append (λ (p : Passage). cond (test p) 1 0) new old in
+    omega (arith, apart)
+
+pub work-left : (new old : List Passage) → both_work (work_of old) (work_of new) ≡ work_of (new ++ old)
+work-left new old =
+    let left : length old + length new ≡ length (new ++ old) = omega (arith, length-append new old) in
+    let squashed = count-behind (λ p. is_squash p.ending) new old in
+    let branches = count-behind is_retired_branch new old in
+    let mispredicted = count-behind is_mispredicted_branch new old in
+    λ i. record { left = left i; squashed = squashed i; branches = branches i; mispredicted = mispredicted i }
+
+pub loads-left : (costs : LoadCosts) (rows old : List Passage) → both (loads_of costs old) (loads_of costs rows) ≡ loads_of costs (filter has_left rows ++ old)
+loads-left costs rows old =
+    let all = count-behind (λ p. is_some (retired_load_cost p)) (filter has_left rows) old in
+    let quick = count-behind (λ p. is_hit costs (retired_load_cost p)) (filter has_left rows) old in
+    ap (both (loads_of costs old)) (loads_left costs rows) ∙ (λ i. record { all = all i; quick = quick i })
+
+-- the words of RAM of those of a class
+words-left : (class : Class) (none : (p : Passage) → has_left p ≡ false → is_of class p ≡ false) (rows old : List Passage) (word : ℕ)
+    → count_at (word_in class) (filter has_left rows ++ old) word ≡ count_at (word_in class) old word + count_at (word_in class) rows word
+words-left class none rows old word =
+    let test : Passage → Bool = λ p. is_word word (word_in class p) in
+    sym (count-behind test (filter has_left rows) old) ∙ ap (λ n. count_at (word_in class) old word + n) (count-left test (λ p is. rw (none p is) refl) rows)
+
+pub branch_words-left : (rows old : List Passage) (word : ℕ)
+    → count_at (word_in Branch) (filter has_left rows ++ old) word ≡ count_at (word_in Branch) old word + count_at (word_in Branch) rows word
+branch_words-left = words-left Branch (λ p is. rw (unretired p is) refl)
+
+pub mispredicted_words-left : (rows old : List Passage) (word : ℕ)
+    → count_at (word_in Mispredicted) (filter has_left rows ++ old) word ≡ count_at (word_in Mispredicted) old word + count_at (word_in Mispredicted) rows word
+mispredicted_words-left = words-left Mispredicted (λ p is. rw (unretired p is) refl)

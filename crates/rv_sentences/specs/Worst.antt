@@ -1,0 +1,28 @@
+-- The lines with the most wrong predictions.
+use Rattle.std.specs.Prelude.{ℕ, List, [], ◌∷◌, ◌++◌, codes}
+use Rattle.std.specs.List.{flat_map}
+use Rattle.rv_memory.specs.Memory.{word_of}
+use Rattle.rv_source.specs.Listing.{Listed}
+use Rattle.rv_sentences.specs.Place.{place_text}
+use Rattle.rv_sentences.specs.Spot.{greatest_lines, line_counts}
+use Rattle.rv_sentences.specs.WordCount.{count_in}
+use Rattle.rv_sentences.specs.WordNotes.{Notes}
+use Rattle.rv_sentences.specs.Work.{part_text}
+use Rattle.rv_sentences.specs.declared.spot.Spot.{Spot}
+
+-- a line, and beneath it how many branches and jumps of it retired, how many of them were mispredicted, and what part that is
+unfoldable pub worst_line : Listed → Notes ℕ → Spot → List ℕ
+worst_line listing branches worst =
+    place_text listing worst.address ++
+    part_text (codes "       retired ") (count_in branches (word_of worst.address)) (codes " mispredicted") worst.count
+
+-- some lines, if there are any
+unfoldable pub worst_lines : Listed → Notes ℕ → List Spot → List ℕ
+worst_lines listing branches [] = []
+worst_lines listing branches (spot ∷ spots) =
+    codes "The lines with the most wrong predictions:\n" ++ flat_map (worst_line listing branches) (spot ∷ spots)
+
+-- the lines with the most wrong predictions, at most three, by what retired and what was mispredicted at each word
+unfoldable pub worst_text : Listed → Notes ℕ → Notes ℕ → List ℕ
+worst_text listing branches mispredicted =
+    worst_lines listing (line_counts listing branches) (greatest_lines listing 3 mispredicted)

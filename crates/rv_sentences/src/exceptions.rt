@@ -1,0 +1,76 @@
+ghost use Rattle.std.specs.Prelude.{◌≡◌};
+ghost use Rattle.rv_sentences.specs.Exception.{cause_name, cause_text, went_on, handler_text, taken_text};
+ghost use Rattle.rv_text.specs.Written.{IsWritten};
+
+use crate::exception::Exception;
+use crate::place::write_place;
+use itoa::Buffer;
+use rv_isa::Cause;
+use rv_source::Listing;
+use rv_text::{ReportError, hexadecimal, put, put_all};
+use std::io::Write;
+
+/// The name of a cause.
+#[tactic(auto, unfolding(crate::specs::Exception::cause_name))]
+pub fn cause_name(cause: Cause) -> &'static [u8]
+    ensures { result.now ≡ cause_name cause }
+{
+    match cause {
+        Cause::InstructionAddressMisaligned => b"Instruction address misaligned",
+        Cause::InstructionAccessFault => b"Instruction access fault",
+        Cause::IllegalInstruction => b"Illegal instruction",
+        Cause::Breakpoint => b"Breakpoint",
+        Cause::LoadAddressMisaligned => b"Load address misaligned",
+        Cause::LoadAccessFault => b"Load access fault",
+        Cause::StoreAddressMisaligned => b"Store/AMO address misaligned",
+        Cause::StoreAccessFault => b"Store/AMO access fault",
+        Cause::EnvironmentCall => b"Environment call from M-mode",
+    }
+}
+
+#[tactic(auto, unfolding(crate::specs::Exception::cause_text))]
+fn write_cause<W: Write>(writer: &mut W, exception: &Exception) -> Result<(), ReportError>
+    ensures { IsWritten result (W.contents writer.old) (W.contents writer.new) (cause_text exception.now) }
+{
+    let mut buffer = Buffer::new();
+    let cycle = buffer.format(exception.cycle).as_bytes();
+    let name = cause_name(exception.cause);
+    let value = hexadecimal(exception.value);
+    put_all(writer, &[cycle, b": ", name, b", mtval ", &value, b", at "])
+}
+
+// How the program went on after a trap.
+#[tactic(auto, unfolding(crate::specs::Exception::went_on))]
+fn went_on(mtvec: u32) -> &'static [u8]
+    ensures { result.now ≡ went_on mtvec }
+{
+    if mtvec / 4 == 0 {
+        b"No handler was set (the address in mtvec was 0), and the program went on at "
+    } else {
+        b"The program went on at its handler, at "
+    }
+}
+
+#[tactic(auto, unfolding(crate::specs::Exception::handler_text))]
+fn write_handler<W: Write>(writer: &mut W, exception: &Exception) -> Result<(), ReportError>
+    ensures { IsWritten result (W.contents writer.old) (W.contents writer.new) (handler_text exception.now) }
+{
+    let how = went_on(exception.mtvec);
+    let next_pc = hexadecimal(exception.next_pc);
+    put_all(writer, &[how, &next_pc, b"\n"])
+}
+
+/// Writes what an exception was, and where the program went on after it. The text before it says which one it is.
+pub fn write_taken<W: Write>(
+    writer: &mut W,
+    which: &[u8],
+    listing: &Listing,
+    exception: &Exception,
+) -> Result<(), ReportError>
+    ensures { IsWritten result (W.contents writer.old) (W.contents writer.new) (taken_text which.now listing.now exception.now) }
+{
+    put(writer, which)?;
+    write_cause(writer, exception)?;
+    write_place(writer, listing, exception.pc)?;
+    write_handler(writer, exception)
+}

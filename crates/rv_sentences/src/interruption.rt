@@ -1,0 +1,9 @@
+/// An interrupt that was taken.
+#[derive(Clone, Copy, Debug, PartialEq, Eq)]
+pub struct Interruption {
+    /// The address of the instruction that it came before.
+    pub pc: u32,
+    /// What `mcause` got.
+    pub cause: u32,
+    pub cycle: u64,
+}

@@ -1,0 +1,83 @@
+ghost use Rattle.std.specs.Prelude.{◌≡◌, ◌+◌, ◌<◌, ◌^◌, [], IfSome};
+ghost use Rattle.rv_sentences.specs.Interrupt.{AreCountable, by_line, interrupts_after, interruption_in, interruption_of, line_with, with_interruption};
+
+use crate::interruption::Interruption;
+use crate::series::{Series, with_event};
+use rv_hardware::Step;
+
+// Privileged Architecture 20211203, 3.1.15, table 3.6: what mcause gets of an interrupt of each line.
+const MACHINE_SOFTWARE: u32 = 0x8000_0003;
+
+const MACHINE_TIMER: u32 = 0x8000_0007;
+
+const MACHINE_EXTERNAL: u32 = 0x8000_000b;
+
+/// What is kept of a run's interrupts: those of each line.
+#[derive(Clone, Copy, Debug, PartialEq, Eq)]
+pub struct Interrupts {
+    pub software: Option<Series<Interruption>>,
+    pub timer: Option<Series<Interruption>>,
+    pub external: Option<Series<Interruption>>,
+}
+
+fn interruption_of(step: &Step) -> Option<Interruption>
+    ensures { result ≡ interruption_of step.now }
+{
+    match *step {
+        Step::Interrupt { pc, cause, cycle } => Some(Interruption { pc, cause, cycle }),
+        Step::Retired(_) | Step::Trap { .. } => None,
+    }
+}
+
+/// The first interrupt among some steps.
+pub fn interruption_in(steps: &[Step]) -> Option<Interruption>
+    ensures { result ≡ interruption_in steps.now }
+{
+    match steps {
+        [] => None,
+        [step, rest @ ..] => interruption_of(step).or(interruption_in(rest)),
+    }
+}
+
+// Adds an interrupt to those of a line, if it has the line's cause.
+fn note_on_line(line: &mut Option<Series<Interruption>>, cause: u32, interruption: &Interruption)
+    requires room { IfSome line.old (λ series. series.count + 1 < 2 ^ 64) }
+    ensures { line.new ≡ line_with cause interruption.now line.old }
+{
+    if interruption.cause == cause {
+        *line = with_event(*line, *interruption);
+    }
+}
+
+impl Interrupts {
+    /// What is kept of none.
+    pub fn new() -> Interrupts
+        ensures { result ≡ by_line [] }
+    {
+        Interrupts {
+            software: None,
+            timer: None,
+            external: None,
+        }
+    }
+
+    // Keeps one interrupt more.
+    fn add(&mut self, interruption: &Interruption)
+        requires room { AreCountable self.old }
+        ensures { self.new ≡ with_interruption interruption.now self.old }
+    {
+        note_on_line(&mut self.software, MACHINE_SOFTWARE, interruption);
+        note_on_line(&mut self.timer, MACHINE_TIMER, interruption);
+        note_on_line(&mut self.external, MACHINE_EXTERNAL, interruption);
+    }
+
+    /// Keeps the interrupt of a cycle, if it takes one.
+    pub fn note(&mut self, interruption: Option<Interruption>)
+        requires room { AreCountable self.old }
+        ensures { self.new ≡ interrupts_after interruption self.old }
+    {
+        if let Some(interruption) = interruption {
+            self.add(&interruption);
+        }
+    }
+}

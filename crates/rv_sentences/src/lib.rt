@@ -1,0 +1,53 @@
+//! What `explain` counts of a run and how it is written in plain sentences, but for the run itself: exceptions and interrupts, where the
+//! cycles went, what became of the fetched words and of the predictions, what loads, drains, bus and units cost, and the lines that cost
+//! the most. Each text is a function of the counts and of the listing of the program.
+#![tactic(auto)]
+
+mod accesses;
+mod dispatches;
+mod drains;
+mod exception;
+mod exceptions;
+mod greatest_lines;
+mod hotspots;
+mod interrupt_lines;
+mod interruption;
+mod interrupts;
+mod kind_lines;
+mod kinds;
+mod lines;
+mod loads;
+mod outcomes;
+mod place;
+mod series;
+mod spot;
+mod stack;
+mod stored;
+mod stores;
+mod unit_waits;
+mod waits;
+mod word_notes;
+mod work;
+mod worst;
+
+pub use accesses::Accesses;
+pub use dispatches::{Dispatches, write_dispatches};
+pub use drains::{add_drain, begun, write_drains};
+pub use exception::Exception;
+pub use hotspots::write_hotspots;
+pub use interrupt_lines::write_interrupts;
+pub use interruption::Interruption;
+pub use interrupts::{Interrupts, interruption_in};
+pub use kind_lines::write_exceptions;
+pub use kinds::Exceptions;
+pub use loads::{add_loads, write_loads};
+pub use outcomes::{Outcomes, count_left};
+pub use place::write_place;
+pub use series::Series;
+pub use stack::{write_counts, write_stalls};
+pub use stores::note_stores;
+pub use unit_waits::add_unit_waits;
+pub use waits::{add_waits, no_waits, write_waits};
+pub use word_notes::{WordNotes, count_one};
+pub use work::{Class, Work, count_words, write_work};
+pub use worst::write_worst;

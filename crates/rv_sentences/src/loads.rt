@@ -1,0 +1,62 @@
+ghost use Rattle.std.specs.Prelude.{◌≡◌, ◌+◌, ◌<◌, ◌^◌, count_by, length};
+ghost use Rattle.rv_counts.specs.Load.{is_hit};
+ghost use Rattle.rv_sentences.specs.Access.{both};
+ghost use Rattle.rv_sentences.specs.Load.{load_text, loads_of, retired_load_cost};
+ghost use Rattle.rv_text.specs.Written.{IsWritten};
+
+use crate::accesses::{Accesses, write_accesses};
+use crate::work::{Class, count};
+use rv_counts::{LoadCosts, has_retired, load_cost};
+use rv_passage::Passage;
+use rv_text::ReportError;
+use std::io::Write;
+
+/// What a load cost that retired.
+pub fn retired_load_cost(passage: &Passage) -> Option<u32>
+    ensures { result ≡ retired_load_cost passage.now }
+{
+    if has_retired(passage) {
+        load_cost(passage)
+    } else {
+        None
+    }
+}
+
+/// Whether a load retired at the cost of a hit or of forwarding.
+pub fn is_quick(costs: &LoadCosts, passage: &Passage) -> bool
+    ensures { result ≡ is_hit costs.now (retired_load_cost passage.now) }
+{
+    match retired_load_cost(passage) {
+        Some(cost) => costs.is_quick(cost),
+        None => false,
+    }
+}
+
+fn count_quick(costs: &LoadCosts, rows: &[Passage]) -> usize
+    ensures { result ≡ count_by (λ p. is_hit costs.now (retired_load_cost p)) rows.now }
+{
+    rows.iter().filter(|row| is_quick(costs, row)).count()
+}
+
+/// Counts the loads that retired among more instructions.
+pub fn add_loads(loads: &mut Accesses, costs: &LoadCosts, rows: &[Passage])
+    requires all { loads.old.all + length rows.now < 2 ^ 64 }
+    requires quick { loads.old.quick + length rows.now < 2 ^ 64 }
+    ensures { loads.new ≡ both loads.old (loads_of costs.now rows.now) }
+{
+    loads.all += count(rows, Class::Load) as u64;
+    loads.quick += count_quick(costs, rows) as u64;
+}
+
+/// Writes how many loads retired, by what they cost.
+#[tactic(auto, unfolding(crate::specs::Load::load_text))]
+pub fn write_loads<W: Write>(writer: &mut W, loads: &Accesses) -> Result<(), ReportError>
+    ensures { IsWritten result (W.contents writer.old) (W.contents writer.new) (load_text loads.now) }
+{
+    write_accesses(
+        writer,
+        b"loads: ",
+        b" at the cost of a hit or of forwarding, ",
+        loads,
+    )
+}

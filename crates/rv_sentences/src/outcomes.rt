@@ -1,0 +1,95 @@
+ghost use Rattle.std.specs.Prelude.{◌≡◌, ◌+◌, ◌<◌, ◌^◌, IfSome, filter, length};
+ghost use Rattle.rv_counts.specs.Counts.{one_more};
+ghost use Rattle.rv_counts.specs.Load.{is_hit, is_miss};
+ghost use Rattle.rv_counts.specs.Passing.{has_left};
+ghost use Rattle.rv_sentences.specs.Load.{retired_load_cost};
+ghost use Rattle.rv_sentences.specs.Outcome.{CanCount, CanTake, is_write_back, nothing_came, outcomes_with, with_passages};
+ghost use Rattle.rv_sentences.specs.WordNotes.{note_at, with_change};
+
+use crate::loads::{is_quick, retired_load_cost};
+use crate::word_notes::WordNotes;
+use rv_counts::LoadCosts;
+use rv_passage::Passage;
+
+/// The loads in a word that retired, by what they cost.
+#[derive(Clone, Copy, Debug, PartialEq, Eq)]
+pub struct Outcomes {
+    /// At the cost of a hit or of forwarding.
+    pub hits: u64,
+    /// All others.
+    pub misses: u64,
+    /// Those of the misses that cost more than a miss alone.
+    pub write_backs: u64,
+}
+
+// One more, where something is so.
+fn one_more(is: bool, count: u64) -> u64
+    requires { count + 1 < 2 ^ 64 }
+    ensures { result ≡ one_more is count }
+{
+    if is { count + 1 } else { count }
+}
+
+// Whether a load retired at any other cost than that of a hit or of forwarding.
+fn is_miss(costs: &LoadCosts, passage: &Passage) -> bool
+    ensures { result ≡ is_miss costs.now (retired_load_cost passage.now) }
+{
+    match retired_load_cost(passage) {
+        Some(cost) => !costs.is_quick(cost),
+        None => false,
+    }
+}
+
+// Whether a load retired at a greater cost than that of a miss alone.
+fn is_write_back(costs: &LoadCosts, passage: &Passage) -> bool
+    ensures { result ≡ is_write_back costs.now (retired_load_cost passage.now) }
+{
+    match retired_load_cost(passage) {
+        Some(cost) => costs.is_slow(cost),
+        None => false,
+    }
+}
+
+impl Outcomes {
+    /// Of no instruction.
+    pub const NONE: Outcomes = Outcomes {
+        hits: 0,
+        misses: 0,
+        write_backs: 0,
+    };
+
+    /// With one more instruction.
+    pub fn with(&self, costs: &LoadCosts, passage: &Passage) -> Outcomes
+        requires room { CanCount self.now }
+        ensures { result ≡ outcomes_with costs.now passage.now self.now }
+    {
+        Outcomes {
+            hits: one_more(is_quick(costs, passage), self.hits),
+            misses: one_more(is_miss(costs, passage), self.misses),
+            write_backs: one_more(is_write_back(costs, passage), self.write_backs),
+        }
+    }
+}
+
+// Counts an instruction in a word.
+fn count_in(words: &mut WordNotes<Outcomes>, costs: &LoadCosts, word: u32, passage: &Passage)
+    requires room { IfSome (note_at words.old word) CanCount }
+    ensures { words.new ≡ with_change (outcomes_with costs.now passage.now) words.old word }
+{
+    if let Some(outcomes) = words.at(word) {
+        words.set(word, outcomes.with(costs, passage));
+    }
+}
+
+/// Counts those of some instructions that left the hardware.
+pub fn count_left(words: &mut WordNotes<Outcomes>, costs: &LoadCosts, rows: &[Passage])
+    requires room { CanTake words.old (length rows.now) }
+    ensures { words.new ≡ with_passages costs.now (filter has_left rows.now) words.old }
+{
+    if let [row, rest @ ..] = rows {
+        count_left(words, costs, rest);
+        if !row.is_in_flight() {
+            count_in(words, costs, row.pc / 4, row);
+        }
+    }
+}

@@ -1,0 +1,161 @@
+ghost use Rattle.std.specs.Prelude.{◌≡◌, take, drop};
+ghost use Rattle.rv_sentences.specs.Stack.{parts_of, share_line, count_text, stall_text};
+ghost use Rattle.std.specs.List.{flat_map};
+ghost use Rattle.rv_text.specs.Written.{IsWritten};
+
+use itoa::Buffer;
+use rv_hardware::StallCounts;
+use rv_text::{ReportError, put_all};
+use std::io::Write;
+
+/// How many of so many parts of a whole a count is, to the nearest; none of nothing.
+pub fn parts_of(parts: u32, count: u64, all: u64) -> u128
+    ensures { result ≡ parts_of parts count all }
+{
+    if all == 0 {
+        0
+    } else {
+        (2 * u128::from(parts) * u128::from(count) + u128::from(all)) / (2 * u128::from(all))
+    }
+}
+
+/// What of a text is after so many bytes.
+pub fn behind(text: &[u8], count: usize) -> &[u8]
+    ensures { result.now ≡ drop count text.now }
+{
+    if count < text.len() {
+        &text[count..]
+    } else {
+        b""
+    }
+}
+
+// So many bytes of a text, or all.
+fn front(text: &[u8], count: u128) -> &[u8]
+    ensures { result.now ≡ take count text.now }
+{
+    if count < text.len() as u128 {
+        &text[..count as usize]
+    } else {
+        text
+    }
+}
+
+/// Writes a name, a count, and what part of all it is.
+pub fn write_share<W: Write>(
+    writer: &mut W,
+    name: &str,
+    count: u64,
+    all: u64,
+) -> Result<(), ReportError>
+    ensures { IsWritten result (W.contents writer.old) (W.contents writer.new) (share_line name.now count all) }
+{
+    let tenths = parts_of(1000, count, all);
+    let name = name.as_bytes();
+    let mut count_buffer = Buffer::new();
+    let digits = count_buffer.format(count).as_bytes();
+    let indent = behind(b"          ", digits.len());
+    let mut percent_buffer = Buffer::new();
+    let percent = percent_buffer.format(tenths / 10).as_bytes();
+    let percent_indent = behind(b"     ", percent.len());
+    let mut tenth_buffer = Buffer::new();
+    let tenth = tenth_buffer.format(tenths % 10).as_bytes();
+    let bar = front(
+        b"##################################################",
+        parts_of(50, count, all),
+    );
+    put_all(
+        writer,
+        &[
+            name,
+            indent,
+            digits,
+            percent_indent,
+            percent,
+            b".",
+            tenth,
+            b"%  ",
+            bar,
+            b"\n",
+        ],
+    )
+}
+
+/// Writes how many cycles there were, and how many instructions retired.
+#[tactic(auto, unfolding(crate::specs::Stack::count_text))]
+pub fn write_counts<W: Write>(writer: &mut W, cycles: u64, retired: u64) -> Result<(), ReportError>
+    ensures { IsWritten result (W.contents writer.old) (W.contents writer.new) (count_text cycles retired) }
+{
+    let mut cycle_buffer = Buffer::new();
+    let cycles = cycle_buffer.format(cycles).as_bytes();
+    let mut retired_buffer = Buffer::new();
+    let retired = retired_buffer.format(retired).as_bytes();
+    put_all(
+        writer,
+        &[
+            b"cycles ",
+            cycles,
+            b", retired instructions ",
+            retired,
+            b"\n",
+        ],
+    )
+}
+
+// A part of a run's cycles.
+#[derive(Clone, Copy, Debug)]
+struct Share<'a> {
+    name: &'a str,
+    count: u64,
+}
+
+fn write_shares<W: Write>(writer: &mut W, shares: &[Share<'_>], all: u64) -> Result<(), ReportError>
+    ensures { IsWritten result (W.contents writer.old) (W.contents writer.new) (flat_map (λ share. share_line share.name.now share.count all) shares.now) }
+{
+    for share in shares {
+        write_share(writer, share.name, share.count, all)?;
+    }
+    Ok(())
+}
+
+/// Writes how many cycles dispatched something, and how many did not, by the reason.
+#[tactic(auto, unfolding(crate::specs::Stack::stall_text))]
+pub fn write_stalls<W: Write>(
+    writer: &mut W,
+    cycles: u64,
+    busy: u64,
+    stalls: &StallCounts,
+) -> Result<(), ReportError>
+    ensures { IsWritten result (W.contents writer.old) (W.contents writer.new) (stall_text cycles busy stalls.now) }
+{
+    write_shares(
+        writer,
+        &[
+            Share {
+                name: "busy   ",
+                count: busy,
+            },
+            Share {
+                name: "fetch  ",
+                count: stalls.fetch,
+            },
+            Share {
+                name: "serial ",
+                count: stalls.serial,
+            },
+            Share {
+                name: "rob    ",
+                count: stalls.rob,
+            },
+            Share {
+                name: "station",
+                count: stalls.station,
+            },
+            Share {
+                name: "store  ",
+                count: stalls.store,
+            },
+        ],
+        cycles,
+    )
+}

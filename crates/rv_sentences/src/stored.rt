@@ -1,0 +1,8 @@
+/// A store that retired.
+#[derive(Clone, Copy, Debug, PartialEq, Eq)]
+pub struct Stored {
+    /// Its own address.
+    pub pc: u32,
+    /// The address of the first byte that it wrote.
+    pub address: u32,
+}

@@ -1,0 +1,135 @@
+ghost use Rattle.std.specs.Prelude.{◌≡◌, ◌+◌, ◌<◌, ◌^◌, IfOk, slice_set, sum};
+ghost use Rattle.rv_sentences.specs.Spot.{first_greatest, line_counts, spot_at};
+ghost use Rattle.rv_sentences.specs.WordCount.{with_one};
+ghost use Rattle.rv_sentences.specs.WordNotes.{note_at, notes_of, with_note};
+
+use crate::lines::join_lines;
+use crate::spot::{Greatest, Spot};
+use rv_isa::Description;
+use rv_source::Listing;
+use std::alloc::{AllocError, Global};
+use std::marker::Model;
+
+/// What is kept of each word of RAM.
+#[derive(Debug, Drop)]
+pub struct WordNotes<X> {
+    // The number of the first word.
+    first: u32,
+    words: Vec<X>,
+}
+
+impl<X> Model for WordNotes<X> {
+    ghost use Rattle.rv_sentences.specs.WordNotes.{Notes};
+
+    ghost Value = { Notes X };
+
+    ghost view = { λ notes. record { first = notes.first; words = notes.words.items } };
+
+    ghost use Rattle.std.specs.Prelude.{◌+◌, ◌≤◌, ◌<◌, ◌^◌, length};
+
+    ghost invariant = { λ notes. (notes.first + length notes.words.items ≤ 2 ^ 30) × (0 < length notes.words.items) };
+}
+
+impl<X: Copy + Drop> WordNotes<X> {
+    /// The same of each word. The only error is out of memory.
+    pub fn new(
+        alloc: Global,
+        description: &Description,
+        note: X,
+    ) -> Result<WordNotes<X>, AllocError>
+        requires clones { (x y : X) → X.is_clone x y → y ≡ x }
+        ensures { IfOk result (λ notes. notes ≡ notes_of description.now (λ _. note)) }
+    {
+        let values = description.values();
+        let words = vec![in alloc; note; (values.ram_size / 4) as usize]?;
+        Ok(WordNotes {
+            first: values.ram_base / 4,
+            words,
+        })
+    }
+
+    /// What is kept of a word, if it lies in RAM.
+    pub fn at(&self, word: u32) -> Option<X>
+        ensures { result ≡ note_at self.now word }
+    {
+        let place = word.checked_sub(self.first)?;
+        self.words.get(place as usize).copied()
+    }
+
+    /// Keeps something else of a word, if it lies in RAM.
+    pub fn set(&mut self, word: u32, note: X)
+        ensures { self.new ≡ with_note self.old word note }
+    {
+        let Some(place) = word.checked_sub(self.first) else {
+            return;
+        };
+        if (place as usize) < self.words.len() {
+            self.words[place as usize] = note;
+        }
+    }
+}
+
+/// Counts one thing more at a word, if it is at one.
+pub fn count_one(counts: &mut WordNotes<u64>, word: Option<u32>)
+    requires room { sum counts.old.words + 1 < 2 ^ 64 }
+    ensures { counts.new ≡ with_one word counts.old }
+{
+    let Some(word) = word else {
+        return;
+    };
+    if let Some(count) = counts.at(word) {
+        counts.set(word, count + 1);
+    }
+}
+
+/// Gives the counts of all words of a line to its first word.
+pub fn count_by_line(counts: &mut WordNotes<u64>, listing: &Listing)
+    requires room { sum counts.old.words < 2 ^ 64 }
+    ensures { counts.new ≡ line_counts listing.now counts.old }
+{
+    join_lines(counts.words.as_mut_slice(), counts.first, listing);
+}
+
+// The greatest of some counts, and its first place.
+fn first_greatest(counts: &[u64]) -> Greatest
+    ensures { result ≡ first_greatest counts.now }
+{
+    let mut greatest = Greatest { place: 0, count: 0 };
+    let mut front = counts.len();
+    while front > 0 {
+        front -= 1;
+        let count = counts[front];
+        greatest = if count >= greatest.count {
+            Greatest { place: 0, count }
+        } else {
+            Greatest {
+                place: greatest.place + 1,
+                count: greatest.count,
+            }
+        };
+    }
+    greatest
+}
+
+// Takes the count from a place, if there is one.
+fn clear(counts: &mut [u64], place: usize)
+    ensures { counts.new ≡ slice_set counts.old place 0 }
+{
+    if place < counts.len() {
+        counts[place] = 0;
+    }
+}
+
+/// Takes the count of the first word that has the greatest, and answers it; with no count left, it is any word.
+pub fn take_greatest(counts: &mut WordNotes<u64>) -> Spot
+    ensures spot { result ≡ spot_at counts.old.first (first_greatest counts.old.words) }
+    ensures first { counts.new.first ≡ counts.old.first }
+    ensures words { counts.new.words ≡ slice_set counts.old.words (first_greatest counts.old.words).place 0 }
+{
+    let greatest = first_greatest(counts.words.as_slice());
+    clear(counts.words.as_mut_slice(), greatest.place);
+    Spot {
+        address: 4 * (counts.first + greatest.place as u32),
+        count: greatest.count,
+    }
+}

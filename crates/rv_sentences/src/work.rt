@@ -1,0 +1,195 @@
+ghost use Rattle.std.specs.Prelude.{◌≡◌, ◌+◌, ◌<◌, ◌^◌, count_by, filter, length, sum};
+ghost use Rattle.rv_counts.specs.Passing.{has_left};
+ghost use Rattle.rv_sentences.specs.Work.{both_work, branches_text, is_mispredicted_branch, is_of, is_retired_branch, part_text, word_in, work_of, work_text};
+ghost use Rattle.rv_sentences.specs.WordCount.{with_all};
+ghost use Rattle.rv_isa.specs.Instruction.{is_branch_or_jump};
+ghost use Rattle.rv_text.specs.Written.{IsWritten};
+
+use crate::loads::retired_load_cost;
+use crate::stack::parts_of;
+use crate::word_notes::{WordNotes, count_one};
+use itoa::Buffer;
+use rv_counts::{has_retired, was_squashed};
+use rv_isa::Instr;
+use rv_passage::Passage;
+use rv_text::{ReportError, put, put_all};
+use std::io::Write;
+
+/// What became of the instructions that left the hardware.
+#[derive(Clone, Copy, Debug, PartialEq, Eq)]
+pub struct Work {
+    /// How many left it.
+    pub left: u64,
+    pub squashed: u64,
+    /// The branches and jumps that retired.
+    pub branches: u64,
+    /// Those of them that were mispredicted.
+    pub mispredicted: u64,
+}
+
+fn is_branch_or_jump(instruction: Option<Instr>) -> bool
+    ensures { result ≡ is_branch_or_jump instruction }
+{
+    matches!(
+        instruction,
+        Some(Instr::Jal { .. } | Instr::Jalr { .. } | Instr::Branch { .. })
+    )
+}
+
+fn is_retired_branch(passage: &Passage) -> bool
+    ensures { result ≡ is_retired_branch passage.now }
+{
+    has_retired(passage) && is_branch_or_jump(passage.instruction)
+}
+
+fn is_mispredicted_branch(passage: &Passage) -> bool
+    ensures { result ≡ is_mispredicted_branch passage.now }
+{
+    is_retired_branch(passage) && passage.is_mispredicted()
+}
+
+/// A class of fetched words, by what became of them.
+#[derive(Clone, Copy, Debug, PartialEq, Eq)]
+pub enum Class {
+    /// Those that left the hardware.
+    Left,
+    Squashed,
+    /// The branches and jumps that retired.
+    Branch,
+    /// Those of them that were mispredicted.
+    Mispredicted,
+    /// The loads that retired.
+    Load,
+}
+
+// Whether a fetched word is of a class.
+fn is_of(class: Class, passage: &Passage) -> bool
+    ensures { result ≡ is_of class passage.now }
+{
+    match class {
+        Class::Left => !passage.is_in_flight(),
+        Class::Squashed => was_squashed(passage),
+        Class::Branch => is_retired_branch(passage),
+        Class::Mispredicted => is_mispredicted_branch(passage),
+        Class::Load => retired_load_cost(passage).is_some(),
+    }
+}
+
+/// How many fetched words are of a class.
+pub fn count(rows: &[Passage], class: Class) -> usize
+    ensures { result ≡ count_by (is_of class) rows.now }
+{
+    rows.iter().filter(|row| is_of(class, row)).count()
+}
+
+// The word of RAM that a fetched word is, if it is of a class.
+fn word_in(class: Class, passage: &Passage) -> Option<u32>
+    ensures { result ≡ word_in class passage.now }
+{
+    if is_of(class, passage) {
+        Some(passage.pc / 4)
+    } else {
+        None
+    }
+}
+
+/// Counts the fetched words that are of a class, each at its word of RAM.
+pub fn count_words(counts: &mut WordNotes<u64>, rows: &[Passage], class: Class)
+    requires room { sum counts.old.words + length rows.now < 2 ^ 64 }
+    ensures { counts.new ≡ with_all (word_in class) rows.now counts.old }
+{
+    if let [row, rest @ ..] = rows {
+        count_words(counts, rest, class);
+        count_one(counts, word_in(class, row));
+    }
+}
+
+impl Work {
+    /// Of no instruction.
+    pub const NONE: Work = Work {
+        left: 0,
+        squashed: 0,
+        branches: 0,
+        mispredicted: 0,
+    };
+
+    /// Adds those of some passages that left the hardware.
+    pub fn add(&mut self, rows: &[Passage])
+        requires left { self.old.left + length rows.now < 2 ^ 64 }
+        requires squashed { self.old.squashed + length rows.now < 2 ^ 64 }
+        requires branches { self.old.branches + length rows.now < 2 ^ 64 }
+        requires mispredicted { self.old.mispredicted + length rows.now < 2 ^ 64 }
+        ensures { self.new ≡ both_work self.old (work_of (filter has_left rows.now)) }
+    {
+        self.left += count(rows, Class::Left) as u64;
+        self.squashed += count(rows, Class::Squashed) as u64;
+        self.branches += count(rows, Class::Branch) as u64;
+        self.mispredicted += count(rows, Class::Mispredicted) as u64;
+    }
+}
+
+/// Writes how many there were of something, how many of them were something more, and what part that is.
+pub fn write_part<W: Write>(
+    writer: &mut W,
+    name: &[u8],
+    all: u64,
+    what: &[u8],
+    part: u64,
+) -> Result<(), ReportError>
+    ensures { IsWritten result (W.contents writer.old) (W.contents writer.new) (part_text name.now all what.now part) }
+{
+    let tenths = parts_of(1000, part, all);
+    let mut all_buffer = Buffer::new();
+    let every = all_buffer.format(all).as_bytes();
+    let mut part_buffer = Buffer::new();
+    let some = part_buffer.format(part).as_bytes();
+    let mut percent_buffer = Buffer::new();
+    let percent = percent_buffer.format(tenths / 10).as_bytes();
+    let mut tenth_buffer = Buffer::new();
+    let tenth = tenth_buffer.format(tenths % 10).as_bytes();
+    put_all(
+        writer,
+        &[
+            name,
+            every,
+            b", of them ",
+            some,
+            what,
+            b" (",
+            percent,
+            b".",
+            tenth,
+            b"%)\n",
+        ],
+    )
+}
+
+#[tactic(auto, unfolding(crate::specs::Work::branches_text))]
+fn write_branches<W: Write>(writer: &mut W, work: &Work) -> Result<(), ReportError>
+    ensures { IsWritten result (W.contents writer.old) (W.contents writer.new) (branches_text work.now) }
+{
+    if work.branches == 0 {
+        return put(writer, b"branches and jumps: none\n");
+    }
+    write_part(
+        writer,
+        b"branches and jumps: ",
+        work.branches,
+        b" mispredicted",
+        work.mispredicted,
+    )
+}
+
+/// Writes what became of the fetched words, of which there were so many, and of the branches and jumps among them.
+pub fn write_work<W: Write>(writer: &mut W, fetched: u64, work: &Work) -> Result<(), ReportError>
+    ensures { IsWritten result (W.contents writer.old) (W.contents writer.new) (work_text fetched work.now) }
+{
+    write_part(
+        writer,
+        b"fetched words: ",
+        fetched,
+        b" squashed",
+        work.squashed,
+    )?;
+    write_branches(writer, work)
+}
