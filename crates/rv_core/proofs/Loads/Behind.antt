@@ -4,16 +4,12 @@ use Rattle.rv_stores.specs.declared.store.StoreState.TheVariants.{Waiting}
 use Rattle.rv_hardware.specs.InFlight.{with_store}
 
 unwrap_or-option_or : (a b : Option ℕ) (d : ℕ) → unwrap_or (option_or a b) d ≡ unwrap_or a (unwrap_or b d)
-unwrap_or-option_or None b d = refl
-unwrap_or-option_or (Some x) b d = refl
+unwrap_or-option_or a b d = grind arith
 
 module _ (base : ℕ) where
   pub length-with_store : (size : ℕ) (state : StoreState) (bytes : List ℕ) → length bytes ≡ size → LiesIn base size state →
       length (with_store base state bytes) ≡ size
-  length-with_store size Waiting bytes sized inside = sized
-  length-with_store size Faulted bytes sized inside = sized
-  length-with_store size (Filled access phase) bytes sized inside =
-      length-overwritten bytes access.bytes (access.address - base) (omega (arith, inside.0, inside.1, sized)) ∙ sized
+  length-with_store size state bytes sized inside = grind (arith, length-overwritten)
 
   written_before : (address : ℕ) (access : StoreAccess) → address < access.address → written_at address access ≡ None
   written_before address access before = cond-false _ _ None (lt-leb access.address address before)
@@ -49,10 +45,7 @@ module _ (base : ℕ) where
   get_or-with_store : (size address : ℕ) (state : StoreState) (bytes : List ℕ) → length bytes ≡ size → LiesIn base size state →
       base ≤ address → get_or (with_store base state bytes) (address - base) 0
       ≡ unwrap_or (byte_of_state address state) (get_or bytes (address - base) 0)
-  get_or-with_store size address Waiting bytes sized inside at = refl
-  get_or-with_store size address Faulted bytes sized inside at = refl
-  get_or-with_store size address (Filled access phase) bytes sized inside at =
-      get_or-with_access size address access bytes sized inside.0 inside.1 at
+  get_or-with_store size address state bytes sized inside given = grind (arith, get_or-with_access)
 
   -- stores within RAM leave as many bytes as there were
   pub length-memory_behind : (size : ℕ) (ss : List Store) (bytes : List ℕ) → length bytes ≡ size → LieIn base size ss →

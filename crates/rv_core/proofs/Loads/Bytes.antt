@@ -41,8 +41,7 @@ module _ (ram below : List ℕ) (ss : List Store) (address place : ℕ) where
 -- where stores forward all, what is below says nothing
 
 forwarded_some : (o : Option ℕ) (a b : ℕ) → is_some o ≡ true → unwrap_or o a ≡ unwrap_or o b
-forwarded_some None a b some = absurd (cc)
-forwarded_some (Some x) a b some = refl
+forwarded_some o a b some = grind arith
 
 fourth : (a b c d : Bool) → (a && (b && (c && (d && true)))) ≡ true → d ≡ true
 fourth a b c d all =
@@ -52,18 +51,7 @@ fourth a b c d all =
 pub forwarded_all : (width : Width) (ss : List Store) (address : ℕ) →
     is_forwarded (forwarded ss address (bytes_of width)) (bytes_of width) ≡ true → (k : ℕ) → k < bytes_of width →
     is_some (youngest_byte (address + k) ss) ≡ true
-forwarded_all Byte ss address all zero lt = (and_parts _ _ all).0
-forwarded_all Byte ss address all (suc k) lt = absurd (omega arith)
-forwarded_all Half ss address all zero lt = (and_parts _ _ all).0
-forwarded_all Half ss address all (suc zero) lt = (and_parts _ _ (and_parts _ _ all).1).0
-forwarded_all Half ss address all (suc (suc k)) lt = absurd (omega arith)
-forwarded_all Word ss address all zero lt = (and_parts _ _ all).0
-forwarded_all Word ss address all (suc zero) lt = (and_parts _ _ (and_parts _ _ all).1).0
-forwarded_all Word ss address all (suc (suc zero)) lt = (and_parts _ _ (and_parts _ _ (and_parts _ _ all).1).1).0
-forwarded_all Word ss address all (suc (suc (suc zero))) lt =
-    fourth (is_some (youngest_byte (address + 0) ss)) (is_some (youngest_byte (address + 1) ss))
-    (is_some (youngest_byte (address + 2) ss)) (is_some (youngest_byte (address + 3) ss)) all
-forwarded_all Word ss address all (suc (suc (suc (suc k)))) lt = absurd (omega arith)
+forwarded_all width ss address all k lt = grind (arith, and_parts, fourth)
 
 module _ (base size : ℕ) (ss : List Store) (bytes : List ℕ) (sized : length bytes ≡ size) (inside : LieIn base size ss)
     (address : ℕ) (width : Width) (from : base ≤ address) (to : address + bytes_of width ≤ base + size) where

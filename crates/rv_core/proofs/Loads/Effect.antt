@@ -1,4 +1,5 @@
 -- A load or a store with a fault gives that fault, and one without lies in RAM and gives what it reads or writes.
+use Rattle.std.proofs.Common.{arith}
 use Rattle.rv_core.proofs.Words.{◌≡◌, ℕ, ◌+◌, ◌%◌, ◌≤◌, Bool, true, false, cond, not, List, nat_le, Some, None, Option, refl, ap, inl, inr, eqb-true, leb-true, and_parts, bytes_of, is_sign_extended, width_of, pc_plus_4, StoreAccess, Cause, LoadForm, Width, Layout, is_aligned, is_in_ram, is_writable, number_at, Effect, Faults, extended, loads, stores, State, IsAligned, effect_message, fault_message, Byte, Half, Word, writes, is_forwarded, load_fault, path_unless, store_fault}
 use Rattle.rv_core.specs.declared.load.Path.TheVariants.{Without, FromStores, FromCache}
 use Rattle.rv_core.specs.declared.load.Path.{Path}
@@ -15,24 +16,16 @@ effect_by aligned within misaligned outside address effect =
 faults_by : (aligned within : Bool) (misaligned outside cause : Cause) (access : Option StoreAccess) (address : ℕ)
     (effect : Effect) → fault_by aligned within misaligned outside ≡ Some cause →
     effect_message access (effect_by aligned within misaligned outside address effect) ≡ fault_message cause address
-faults_by true true misaligned outside cause access address effect is = absurd (cc)
-faults_by true false misaligned outside cause access address effect is =
-    let same : outside ≡ cause = cc in ap (λ c. fault_message c address) same
-faults_by false within misaligned outside cause access address effect is =
-    let same : misaligned ≡ cause = cc in ap (λ c. fault_message c address) same
+faults_by aligned within misaligned outside cause access address effect is = grind arith
 
 gives_by : (aligned within : Bool) (misaligned outside : Cause) (access : Option StoreAccess) (address : ℕ) (effect : Effect) →
     fault_by aligned within misaligned outside ≡ None →
     effect_message access (effect_by aligned within misaligned outside address effect) ≡ effect_message access effect
-gives_by true true misaligned outside access address effect is = refl
-gives_by true false misaligned outside access address effect is = absurd (cc)
-gives_by false within misaligned outside access address effect is = absurd (cc)
+gives_by aligned within misaligned outside access address effect is = grind arith
 
 passes_by : (aligned within : Bool) (misaligned outside : Cause) → fault_by aligned within misaligned outside ≡ None →
     (aligned ≡ true) × (within ≡ true)
-passes_by true true misaligned outside is = (refl, refl)
-passes_by true false misaligned outside is = absurd (cc)
-passes_by false within misaligned outside is = absurd (cc)
+passes_by aligned within misaligned outside is = grind arith
 
 module _ (layout : Layout) (address : ℕ) where
   -- a load with a fault gives that fault
@@ -93,9 +86,7 @@ module _ (layout : Layout) (address : ℕ) where
 
 -- an address that is a multiple of a width is aligned for as many bytes
 pub aligned_width : (width : Width) (address : ℕ) → address % bytes_of width ≡ 0 → IsAligned address (bytes_of width)
-aligned_width Byte address is = (inl refl, is)
-aligned_width Half address is = (inr (inl refl), is)
-aligned_width Word address is = (inr (inr refl), is)
+aligned_width width address is = grind arith
 
 -- what is known by the path that was found
 
@@ -107,11 +98,9 @@ PathFacts fault overlay count (FromCache found) = (fault ≡ None) × (found ≡
 
 path_facts_over : (all : Bool) (overlay : List (Option ℕ)) (count : ℕ) → is_forwarded overlay count ≡ all →
     PathFacts None overlay count (cond all (FromStores overlay) (FromCache overlay))
-path_facts_over true overlay count is = (refl, refl, is)
-path_facts_over false overlay count is = (refl, refl)
+path_facts_over all overlay count is = grind arith
 
 -- so it is of the path that is found
 pub path_facts : (fault : Option Cause) (overlay : List (Option ℕ)) (count : ℕ) →
     PathFacts fault overlay count (path_unless fault overlay count)
-path_facts (Some cause) overlay count = refl
-path_facts None overlay count = path_facts_over (is_forwarded overlay count) overlay count refl
+path_facts fault overlay count = grind (arith, path_facts_over)

@@ -1,4 +1,5 @@
 -- The path of a load in the code is the definition's.
+use Rattle.std.proofs.Common.{arith}
 use Rattle.rv_core.proofs.Words.{◌≡◌, ℕ, Bool, true, false, cond, not, ◌&&◌, ◌||◌, List, nat_le, Some, None, Option, refl, at_kind, Cause, Kind, is_aligned, is_in_ram, forwarded, Entry, Hardware, FromCache as DefinedFromCache, FromStores as DefinedFromStores, Path as DefinedPath, Without as DefinedWithout, cost_of, has_port, with_access, layout_of, stores_behind, or-false, or-true, path_of_load, cache_after, defined_path, path_cost, port_after, is_forwarded, needs_port, path_of, path_unless}
 use Rattle.rv_core.specs.declared.load.Path.TheVariants.{Without, FromStores, FromCache}
 use Rattle.rv_core.specs.declared.load.Path.{Path}
@@ -6,17 +7,14 @@ use Rattle.rv_core.specs.declared.load.Path.{Path}
 path_covered : (all : Bool) (address : ℕ) (overlay : List (Option ℕ)) →
     defined_path address (cond all (FromStores overlay) (FromCache overlay))
     ≡ cond all DefinedFromStores (DefinedFromCache address)
-path_covered true address overlay = refl
-path_covered false address overlay = refl
+path_covered all address overlay = grind arith
 
 path_tested : (aligned in_ram : Bool) (misaligned outside : Cause) (address count : ℕ) (overlay : List (Option ℕ)) →
     defined_path address (path_unless
     (cond (not aligned) (Some misaligned) (cond (not in_ram) (Some outside) None)) overlay count)
     ≡ cond (not (aligned && in_ram)) DefinedWithout
     (cond (is_forwarded overlay count) DefinedFromStores (DefinedFromCache address))
-path_tested true true misaligned outside address count overlay = path_covered (is_forwarded overlay count) address overlay
-path_tested true false misaligned outside address count overlay = refl
-path_tested false in_ram misaligned outside address count overlay = refl
+path_tested aligned in_ram misaligned outside address count overlay = grind (arith, path_covered)
 
 -- the code's path of a load is the definition's
 pub path_is_defined : (h : Hardware) (older : List Entry) (address count : ℕ) →
@@ -28,20 +26,14 @@ path_is_defined h older address count =
 -- what the port lets pass
 pub port_is_defined : (h : Hardware) (address : ℕ) (p : Path) →
     (nat_le h.port_free h.cycle || not (needs_port p)) ≡ has_port h (defined_path address p)
-port_is_defined h address (Without cause) = or-true (nat_le h.port_free h.cycle)
-port_is_defined h address (FromStores overlay) = or-true (nat_le h.port_free h.cycle)
-port_is_defined h address (FromCache overlay) = or-false (nat_le h.port_free h.cycle)
+port_is_defined h address p = grind arith
 
 -- what an execution costs
 pub cost_is_defined : (h : Hardware) (kind : Kind) (p : DefinedPath) →
     path_cost (at_kind kind h.values.kinds).latency h.values.forward h.cache p ≡ cost_of h kind p
-cost_is_defined h kind DefinedWithout = refl
-cost_is_defined h kind DefinedFromStores = refl
-cost_is_defined h kind (DefinedFromCache address) = refl
+cost_is_defined h kind p = grind arith
 
 -- and what it leaves of cache and port
 pub access_is_defined : (h : Hardware) (p : DefinedPath) →
     record h { cache = cache_after h.cache p; port_free = port_after h.cycle h.port_free h.cache p } ≡ with_access p h
-access_is_defined h DefinedWithout = refl
-access_is_defined h DefinedFromStores = refl
-access_is_defined h (DefinedFromCache address) = refl
+access_is_defined h p = grind arith

@@ -11,10 +11,7 @@ pending-gathered s [] = refl
 pending-gathered s (e ∷ es) = ap (λ ps. pending_of s e.stage ++ ps) (pending-gathered (s + 1) es)
 
 pending-at : (s : ℕ) (stage : Stage) → All (λ p. seq_of p ≡ s) (pending_of s stage)
-pending-at s Waiting = λ k d lt. absurd (omega arith)
-pending-at s (Running issue message) =
-    All-cons (λ p. seq_of p ≡ s) (record { seq = s; ready = issue.cycle + issue.cost }) [] refl (λ k d lt. absurd (omega arith))
-pending-at s (Finished issue cycle message) = λ k d lt. absurd (omega arith)
+pending-at s stage = grind (arith, All-cons)
 
 pending-cut : (n s : ℕ) (es : List Entry) → below seq_of n (pending_from s es) ≡ pending_from s (entries_below n s es)
 pending-cut n s es =
@@ -46,9 +43,7 @@ bus-predicting values rob n next_pc =
 -- ---- dispatch: nothing that enters executes
 pending-first : (n : ℕ) (unit : Option Kind) (serialising : Bool) (cycle : ℕ) (message : Message) →
     pending_of n (stage_by unit serialising (Finished None cycle message)) ≡ []
-pending-first n (Some unit) serialising cycle message = refl
-pending-first n None true cycle message = refl
-pending-first n None false cycle message = refl
+pending-first n unit serialising cycle message = grind arith
 
 -- an instruction that enters leaves the bus as it is
 pub bus-push : (values : Values) (rob : ReorderBuffer) (e : Entry) (unit : Option Kind) (serialising : Bool) (cycle : ℕ)
@@ -148,18 +143,7 @@ module _ (cycle : ℕ) where
       → (find (is_ready_result cycle) (pending_from (n + 1) es) ≡ None →
       oldest_from (has_result cycle) (older ++ record e { stage = stage } ∷ []) es ≡ None)
       → oldest_from (has_result cycle) older (record e { stage = stage } ∷ es) ≡ None
-  none-at n older e Waiting es none later = later none
-  none-at n older e (Finished issue at message) es none later = later none
-  none-at n older e (Running issue message) es none later = elim (cases_Bool (nat_le (issue.cycle + issue.cost) cycle)) [
-    | inl ready ↦
-        let own : PendingResult = record { seq = n; ready = issue.cycle + issue.cost } in
-        let is : Some own ≡ None =
-        sym (ap (λ b. cond b (Some own) (find (is_ready_result cycle) (pending_from (n + 1) es))) ready) ∙ none in
-        absurd (cc)
-    | inr late ↦
-        let own : PendingResult = record { seq = n; ready = issue.cycle + issue.cost } in
-        rw late (later (sym (ap (λ b. cond b (Some own) (find (is_ready_result cycle) (pending_from (n + 1) es))) late) ∙ none))
-  ]
+  none-at n older e stage es given later = grind arith
 
   -- where none is ready, no execution is over
   pub granted-none : (n : ℕ) (older es : List Entry) → find (is_ready_result cycle) (pending_from n es) ≡ None →

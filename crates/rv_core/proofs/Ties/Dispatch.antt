@@ -20,11 +20,7 @@ pub record Goes (h : Hardware) (fetched : Fetched) : Type 0 where
 none_holds : (a b c d : Bool) (w x y z : Stall) →
     cond a (Some w) (cond b (Some x) (cond c (Some y) (cond d (Some z) None))) ≡ None
     → (a ≡ false) × (b ≡ false) × (c ≡ false) × (d ≡ false)
-none_holds false false false false w x y z none = (refl, refl, refl, refl)
-none_holds true b c d w x y z none = absurd (cc)
-none_holds false true c d w x y z none = absurd (cc)
-none_holds false false true d w x y z none = absurd (cc)
-none_holds false false false true w x y z none = absurd (cc)
+none_holds a b c d w x y z given = grind arith
 
 -- what holds where nothing has a fetched word wait
 pub goes : (h : Hardware) (fetched : Fetched) → reason_of h fetched ≡ None → Goes h fetched
@@ -63,11 +59,7 @@ serial-youngest (e ∷ es) last = serial-last (e ∷ es) (length (e ∷ es) - 1)
 
 -- the stations of a kind are full where as many instructions wait as there are stations
 pub full-is : (h : Hardware) (o : Option Kind) → are_full_for o (stations_of h.values h.registers h.rob) ≡ has_full_stations h o
-full-is h None = refl
-full-is h (Some kind) =
-    ap (λ (pool : Pool). nat_le pool.capacity (length pool.waiting))
-    (at_kind-by_kind (pool_of_kind h.values h.registers h.rob) kind)
-    ∙ ap (nat_le (at_kind kind h.values.kinds).stations) (waiting-count kind (values_in h.registers) h.rob.retired h.rob.entries)
+full-is h o = grind (arith, at_kind-by_kind, waiting-count)
 
 -- the reason, of the four tests
 pub reason-is : (h : Hardware) (fetched : Fetched) (serial room station queue : Bool) →
@@ -82,8 +74,7 @@ reason-is h fetched serial room station queue serial_is room_is station_is queue
 
 -- ---- the entry
 no_store : (fault : Effect) → (effect_message None fault).store ≡ None
-no_store (Retires written next) = refl
-no_store (Faults cause value) = refl
+no_store fault = grind arith
 
 unwritten : (values : Values) (message : Message) → message.store ≡ None → IsLegalWrite values false message.fault message.store
 unwritten values message none = rw none tt
@@ -92,10 +83,7 @@ first-legal : (values : Values) (layout : Layout) (s : State) (lines : Lines) (c
     → IfSome (message_of (stage_by (kind_of_word o) (is_serialising o)
     (Finished None cycle (result_of_word layout s lines word o))))
     (λ message. IsLegalWrite values (is_store o) message.fault message.store)
-first-legal values layout s lines cycle None (Some instruction.Fence) = tt
-first-legal values layout s lines cycle (Some word) (Some instruction.Fence) = tt
-first-legal values layout s lines cycle None _ = tt
-first-legal values layout s lines cycle (Some word) _ = tt
+first-legal values layout s lines cycle word o = grind arith
 
 module _ (h : Hardware) (fetched : Fetched) where
   abbrev new_entry : Entry

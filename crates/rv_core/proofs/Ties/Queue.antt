@@ -24,8 +24,7 @@ stores-gathered s (e ∷ es) =
     ]
 
 store-at_if : (b : Bool) (s : ℕ) (x : Store) → x.seq ≡ s → All (λ (x : Store). x.seq ≡ s) (cond b (x ∷ []) [])
-store-at_if true s x is = All-cons (λ x. x.seq ≡ s) x [] is (λ k d lt. absurd (omega arith))
-store-at_if false s x is = λ k d lt. absurd (omega arith)
+store-at_if b s x is = grind (arith, All-cons)
 
 stores-from : (m s : ℕ) (es : List Entry) → m ≤ s → All (λ (x : Store). m ≤ x.seq) (stores_of s es)
 stores-from m s es le =
@@ -55,11 +54,7 @@ stores-predicting next_pc n s es =
 
 -- ---- which of the stores have retired
 silent_state : (b : Option Message) → is_committed_state (store_of_broadcast b) ≡ false
-silent_state None = refl
-silent_state (Some message) = silent_access message.store where
-  silent_access : (access : Option StoreAccess) → is_committed_state (store_of_message access) ≡ false
-  silent_access None = refl
-  silent_access (Some access) = refl
+silent_state b = grind arith
 
 stores-uncommitted : (s : ℕ) (es : List Entry) → filter is_committed (stores_of s es) ≡ []
 stores-uncommitted s [] = refl
@@ -86,13 +81,11 @@ retired_of_queue h are =
 -- ---- dispatch
 store-first : (o : Option Instr) (serialising : Bool) (finished : Stage) → is_store o ≡ true →
     broadcast_of (stage_by (kind_of_word o) serialising finished) ≡ None
-store-first (Some (instruction.Store width rs1 rs2 offset)) serialising finished is = refl
-store-first _ serialising finished is = absurd (true≢false (sym is))
+store-first o serialising finished is = grind (arith, true≢false)
 
 with_store-is : (b : Bool) (n : ℕ) (state : StoreState) (queue : Queue) → (b ≡ true → state ≡ store.Waiting) →
     with_store b n queue ≡ record queue { stores = queue.stores ++ cond b (record { seq = n; state = state } ∷ []) [] }
-with_store-is true n state queue is = let waits = is refl in rw waits refl
-with_store-is false n state queue is = ap (λ ss. record queue { stores = ss }) (sym (append-nil queue.stores))
+with_store-is b n state queue is = grind (arith, append-nil)
 
 -- what a dispatch makes of the store queue
 pub stores-push : (committed : List Store) (capacity : ℕ) (rob : ReorderBuffer) (e : Entry) (serialising : Bool) (cycle : ℕ)

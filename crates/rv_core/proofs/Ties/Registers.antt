@@ -14,9 +14,7 @@ operand_from operand (Some n) s es = operand_at n (entry_of n s es)
 
 youngest-one : (P : ℕ → Type 0) (n : ℕ) (later : Option ℕ) (b : Bool) (own : ℕ) → P own → ((k : ℕ) → later ≡ Some k → P k) →
     option_or later (cond b (Some own) None) ≡ Some n → P n
-youngest-one P n (Some k) b own holds each is = let same : k ≡ n = cc in rw (← same) (each k refl)
-youngest-one P n None true own holds each is = let same : own ≡ n = cc in rw (← same) holds
-youngest-one P n None false own holds each is = absurd (cc)
+youngest-one P n later b own holds each is = grind arith
 
 -- the youngest producer is one of them
 youngest-all : (P : ℕ → Type 0) (register n : ℕ) (ps : List Producer) → All (λ (p : Producer). P p.seq) ps →
@@ -34,28 +32,20 @@ youngest-below register n s es is =
 module _ (register : ℕ) where
   later-is : (operand : Operand) (found : Option ℕ) (s : ℕ) (e : Entry) (es : List Entry) → ((k : ℕ) → found ≡ Some k → s + 1 ≤ k)
       → operand_from operand found (s + 1) es ≡ operand_from operand found s (e ∷ es)
-  later-is operand None s e es from = refl
-  later-is operand (Some k) s e es from =
-      let other : (k == s) ≡ false = ne_eqb k s (let le = from k refl in λ same. omega (arith, le, same)) in rw other refl
+  later-is operand found s e es from = grind (arith, ne_eqb)
 
   own-is : (operand : Operand) (found : Option ℕ) (target s : ℕ) (e : Entry) (es : List Entry) →
       ((k : ℕ) → found ≡ Some k → s + 1 ≤ k)
       → operand_from (cond (target == register) (operand_by s (broadcast_of e.stage)) operand) found (s + 1) es
       ≡ operand_from operand (option_or found (cond (register == target) (Some s) None)) s (e ∷ es)
-  own-is operand (Some k) target s e es from = later-is operand (Some k) s e es from
-  own-is operand None target s e es from = elim (cases_Bool (target == register)) [
-    | inl equal ↦ rw (equal, eq-eqb register target (sym (eqb-true target register equal)), eq-eqb s s refl) refl
-    | inr other ↦ rw (other, ne_eqb register target (λ same. eqb-false target register other (sym same))) refl
-  ]
+  own-is operand found target s e es from = grind (arith, later-is, eq-eqb, eqb-true, ne_eqb, eqb-false)
 
   target-is : (operand : Operand) (target : Option ℕ) (s : ℕ) (e : Entry) (es : List Entry) →
       ((k : ℕ) → youngest register (producers_of (s + 1) es) ≡ Some k → s + 1 ≤ k)
       → operand_from (cond (is_target register target) (operand_by s (broadcast_of e.stage)) operand)
       (youngest register (producers_of (s + 1) es)) (s + 1) es
       ≡ operand_from operand (youngest register (producer_of s target ++ producers_of (s + 1) es)) s (e ∷ es)
-  target-is operand None s e es from = later-is operand (youngest register (producers_of (s + 1) es)) s e es from
-  target-is operand (Some target) s e es from =
-      own-is operand (youngest register (producers_of (s + 1) es)) target s e es from
+  target-is operand target s e es from = grind (arith, later-is, own-is)
 
   -- a register after some instructions
   pub status-is : (status : RegisterStatus) (s : ℕ) (es : List Entry) →

@@ -12,13 +12,10 @@ producers-gathered s [] = refl
 producers-gathered s (e ∷ es) = ap (λ ps. producer_of s (target_of_word e.instruction) ++ ps) (producers-gathered (s + 1) es)
 
 producer-at : (s : ℕ) (target : Option ℕ) → All (λ p. p.seq ≡ s) (producer_of s target)
-producer-at s None = λ k d lt. absurd (omega arith)
-producer-at s (Some register) =
-    All-cons (λ p. p.seq ≡ s) (record { register = register; seq = s }) [] refl (λ k d lt. absurd (omega arith))
+producer-at s target = grind (arith, All-cons)
 
 producer-one : (s : ℕ) (target : Option ℕ) → length (producer_of s target) ≤ 1
-producer-one s None = omega arith
-producer-one s (Some register) = omega arith
+producer-one s target = grind arith
 
 pub producers-push : (s n : ℕ) (es : List Entry) (e : Entry) → n ≡ s + length es →
     producers_of s (es ++ e ∷ []) ≡ producers_with (producers_of s es) n e
@@ -73,12 +70,10 @@ checkpoints-gathered older s (e ∷ es) =
     ]
 
 checkpoint-at : (b : Bool) (c : Checkpoint) (s : ℕ) → c.seq ≡ s → All (λ (c : Checkpoint). c.seq ≡ s) (cond b (c ∷ []) [])
-checkpoint-at true c s is = All-cons (λ c. c.seq ≡ s) c [] is (λ k d lt. absurd (omega arith))
-checkpoint-at false c s is = λ k d lt. absurd (omega arith)
+checkpoint-at b c s is = grind (arith, All-cons)
 
 checkpoint-one : (b : Bool) (c : Checkpoint) → length (cond b (c ∷ []) []) ≤ 1
-checkpoint-one true c = omega arith
-checkpoint-one false c = omega arith
+checkpoint-one b c = grind arith
 
 -- the producers after some instructions
 behind-producers : (older : List Producer) (s : ℕ) (es : List Entry) →
@@ -142,8 +137,7 @@ renaming-same f same n values rob = λ i. record {
 -- ---- dispatch
 with_target-is : (n : ℕ) (target : Option ℕ) (m : Renaming) →
     with_target n target m ≡ record m { producers = m.producers ++ producer_of n target }
-with_target-is n None m = ap (λ ps. record m { producers = ps }) (sym (append-nil m.producers))
-with_target-is n (Some register) m = refl
+with_target-is n target m = grind (arith, append-nil)
 
 with_jump-is : (early jump : Bool) (n capacity : ℕ) (ps : List Producer) (cs : List Checkpoint) →
     with_jump (early && jump) n (record { capacity = capacity; producers = ps; checkpoints = cond early cs [] })
@@ -152,10 +146,7 @@ with_jump-is : (early jump : Bool) (n capacity : ℕ) (ps : List Producer) (cs :
       producers = ps;
       checkpoints = cond early (cs ++ cond jump (record { seq = n; producers = ps } ∷ []) []) [];
     }
-with_jump-is true true n capacity ps cs = refl
-with_jump-is true false n capacity ps cs =
-    ap (λ checkpoints. record { capacity = capacity; producers = ps; checkpoints = checkpoints }) (sym (append-nil cs))
-with_jump-is false jump n capacity ps cs = refl
+with_jump-is early jump n capacity ps cs = grind (arith, append-nil)
 
 -- what a dispatch makes of the rename map
 pub renaming-push : (values : Values) (rob : ReorderBuffer) (e : Entry) →
@@ -177,17 +168,14 @@ renaming-push values rob e =
 
 -- none of none
 pub no_checkpoints : (early : Bool) → (let none : List Checkpoint = [] in cond early none none) ≡ []
-no_checkpoints true = refl
-no_checkpoints false = refl
+no_checkpoints early = grind arith
 
 checkpoints_below-early : (early : Bool) (n : ℕ) (cs : List Checkpoint) → AreBelow (λ (c : Checkpoint). c.seq) n cs →
     AreBelow (λ (c : Checkpoint). c.seq) n (cond early cs [])
-checkpoints_below-early true n cs are = are
-checkpoints_below-early false n cs are = λ k d lt. absurd (omega arith)
+checkpoints_below-early early n cs are = grind arith
 
 checkpoints_length-early : (early : Bool) (cs : List Checkpoint) → length (cond early cs []) ≤ length cs
-checkpoints_length-early true cs = omega arith
-checkpoints_length-early false cs = omega arith
+checkpoints_length-early early cs = grind arith
 
 -- where the reorder buffer has room, so has the rename map
 pub can_define : (values : Values) (rob : ReorderBuffer) → length rob.entries < values.rob →

@@ -12,23 +12,17 @@ module _ (unit : Kind) where
 
   waiting-gathered : (status : RegisterStatus) (s : ℕ) (es : List Entry) →
       waiting_from unit status s es ≡ gathered status_with own_waiting status s es
-  waiting-gathered status s [] = refl
-  waiting-gathered status s (e ∷ es) =
-      ap (λ ws. waiting_at unit status s e e.instruction ++ ws) (waiting-gathered (status_with status s e) (s + 1) es)
+  waiting-gathered status s es = grind arith
 
   waiting-at_if : (b : Bool) (s : ℕ) (w : Station) → w.seq ≡ s → All (λ w. seq_of w ≡ s) (cond b (w ∷ []) [])
-  waiting-at_if true s w is = All-cons (λ w. seq_of w ≡ s) w [] is (λ k d lt. absurd (omega arith))
-  waiting-at_if false s w is = λ k d lt. absurd (omega arith)
+  waiting-at_if b s w is = grind (arith, All-cons)
 
   waiting-at : (status : RegisterStatus) (s : ℕ) (e : Entry) (o : Option Instr) →
       All (λ w. seq_of w ≡ s) (waiting_at unit status s e o)
-  waiting-at status s e None = λ k d lt. absurd (omega arith)
-  waiting-at status s e (Some instruction) =
-      waiting-at_if (is_stationed unit e) s (waiting_of status s e.pc instruction) refl
+  waiting-at status s e o = grind (arith, waiting-at_if)
 
   behind-status : (status : RegisterStatus) (s : ℕ) (es : List Entry) → behind status_with status s es ≡ status_behind status s es
-  behind-status status s [] = refl
-  behind-status status s (e ∷ es) = behind-status (status_with status s e) (s + 1) es
+  behind-status status s es = grind arith
 
   waiting-push : (status : RegisterStatus) (s n : ℕ) (es : List Entry) (e : Entry) → n ≡ s + length es →
       waiting_from unit status s (es ++ e ∷ [])
@@ -62,17 +56,7 @@ module _ (unit : Kind) where
       e.instruction ≡ o → length ws ≡ length (filter (is_stationed unit) es)
       → length (waiting_at unit status s e o ++ ws)
       ≡ length (cond (is_stationed unit e) (e ∷ filter (is_stationed unit) es) (filter (is_stationed unit) es))
-  count-at status s e None es ws is later =
-      let out : is_stationed unit e ≡ false =
-      ap (λ x. is_waiting e.stage && is_of_kind unit (kind_of_word x)) is ∙ and_right (is_waiting e.stage) false refl in
-      rw out later
-  count-at status s e (Some instruction) es ws is later =
-      elim (is_stationed unit e) as
-      (λ b. length (cond b (waiting_of status s e.pc instruction ∷ []) [] ++ ws)
-      ≡ length (cond b (e ∷ filter (is_stationed unit) es) (filter (is_stationed unit) es))) [
-        | true ↦ omega (arith, later)
-        | false ↦ later
-      ]
+  count-at status s e o es ws is later = grind (arith, and_right)
 
   -- as many stations are taken as instructions that have one
   pub waiting-count : (status : RegisterStatus) (s : ℕ) (es : List Entry) →
@@ -86,8 +70,7 @@ module _ (unit : Kind) where
   -- an instruction that does not wait is in no station
   busy-at : (status : RegisterStatus) (s : ℕ) (e : Entry) (o : Option Instr) → is_waiting e.stage ≡ false →
       waiting_at unit status s e o ≡ []
-  busy-at status s e None busy = refl
-  busy-at status s e (Some instruction) busy = rw busy refl
+  busy-at status s e o busy = grind arith
 
   module _ (n value : ℕ) where
     -- the status once a value is broadcast
@@ -96,8 +79,7 @@ module _ (unit : Kind) where
 
     woken-operand_of : (status : RegisterStatus) (source : Option ℕ) →
         woken_operand n value (operand_of status source) ≡ operand_of (woken_status status) source
-    woken-operand_of status None = refl
-    woken-operand_of status (Some register) = refl
+    woken-operand_of status source = grind arith
 
     woken-at : (status : RegisterStatus) (s : ℕ) (e : Entry) (o : Option Instr) →
         map (woken n value) (waiting_at unit status s e o) ≡ waiting_at unit (woken_status status) s e o
@@ -117,8 +99,7 @@ module _ (unit : Kind) where
         ]
 
     woken-by : (s : ℕ) (b : Option Message) → (s == n) ≡ false → woken_operand n value (operand_by s b) ≡ operand_by s b
-    woken-by s None other = rw other refl
-    woken-by s (Some message) other = refl
+    woken-by s b other = grind arith
 
     -- after an instruction with another number
     woken-with : (status : RegisterStatus) (s : ℕ) (e : Entry) → (s == n) ≡ false →
@@ -250,28 +231,13 @@ first_stage_of unit serialising cycle message = stage_by unit serialising (stage
 with_station-is : (o : Option Kind) (serialising : Bool) (cycle : ℕ) (message : Message) (w : Station) (pools : PerKind Pool)
     → with_station o w pools
     ≡ with_each (λ k. cond (is_waiting (first_stage_of o serialising cycle message) && is_of_kind k o) (w ∷ []) []) pools
-with_station-is None true cycle message w pools = with_none pools
-with_station-is None false cycle message w pools = with_none pools
-with_station-is (Some unit) serialising cycle message w pools =
-    let more : Kind → Pool =
-    λ k. record (at_kind k pools) { waiting = (at_kind k pools).waiting ++ cond (is_same k unit) (w ∷ []) [] } in
-    let own : with_waiting w (at_kind unit pools) ≡ more unit =
-    ap (λ b. record (at_kind unit pools) { waiting = (at_kind unit pools).waiting ++ cond b (w ∷ []) [] })
-    (sym (is_same-own unit)) in
-    ap (λ pool. with_kind unit pool pools) own ∙
-    with_kind-by_kind unit (λ k. at_kind k pools) more (λ k differs.
-    nothing_more (at_kind k pools)
-    ∙ ap (λ b. record (at_kind k pools) { waiting = (at_kind k pools).waiting ++ cond b (w ∷ []) [] }) (sym differs))
+with_station-is o serialising cycle message w pools = grind (arith, with_none, is_same-own, with_kind-by_kind, nothing_more)
 
 with_instruction-is : (status : RegisterStatus) (n : ℕ) (e : Entry) (o : Option Instr) (serialising : Bool) (cycle : ℕ)
     (message : Message) (pools : PerKind Pool) → e.instruction ≡ o →
     e.stage ≡ first_stage_of (kind_of_word o) serialising cycle message
     → with_instruction status n e.pc o pools ≡ with_each (λ k. waiting_at k status n e o) pools
-with_instruction-is status n e None serialising cycle message pools is at = with_none pools
-with_instruction-is status n e (Some instruction) serialising cycle message pools is at =
-    let w : Station = waiting_of status n e.pc instruction in
-    with_station-is (kind_of instruction) serialising cycle message w pools ∙
-    (λ i. with_each (λ k. cond (is_waiting (sym at i) && is_of_kind k (kind_of_word (sym is i))) (w ∷ []) []) pools)
+with_instruction-is status n e o serialising cycle message pools is given = grind (arith, with_none, with_station-is)
 
 -- what a dispatch makes of the stations
 pub stations-push : (values : Values) (registers : List ℕ) (rob : ReorderBuffer) (e : Entry) (serialising : Bool) (cycle : ℕ)
