@@ -17,7 +17,7 @@ use rv_isa::{Instr, Message, Recovery, StoreAccess};
 use rv_rob::{Entry, Rob, Stage};
 use rv_stores::StoreQueue;
 
-/// Whether an instruction's next pc is told by its execution.
+/// Whether an instruction's next pc comes from its execution.
 pub(crate) fn is_branch_or_jump(instruction: &Option<Instr>) -> bool
     ensures { result ≡ is_branch_or_jump instruction.now }
 {
@@ -47,7 +47,7 @@ impl Parts {
         }
     }
 
-    // Broadcasts the oldest result, and tells whether the phase goes on.
+    // Broadcasts the oldest result, and returns whether the phase goes on.
     fn broadcast_one(&mut self) -> bool
         ensures { broadcast_turn self.old ≡ turn_of result self.new }
     {

@@ -93,7 +93,7 @@ fn commit_store(stores: &mut StoreQueue, stale: &mut StaleMap, access: &Option<S
 }
 
 impl Parts {
-    /// Commit: a due interrupt is taken; else the heads of the reorder buffer retire or trap, up to a width. Tells why
+    /// Commit: a due interrupt is taken; else the heads of the reorder buffer retire or trap, up to a width. Returns why
     /// the run stops, if it does.
     pub(crate) fn commit(
         &mut self,
@@ -283,7 +283,7 @@ impl Parts {
         self.serialise(entry, None, next)
     }
 
-    // Writes every dirty line of the cache to RAM, and tells for how many cycles that keeps the port busy.
+    // Writes every dirty line of the cache to RAM, and returns for how many cycles that keeps the port busy.
     fn write_back(&mut self) -> u64
         ensures hardware { self.new ≡ with_write_back self.old }
         ensures time { result ≡ write_back_time self.old }

@@ -165,7 +165,7 @@ impl Progress {
     }
 
     /// Does one more cycle of a run, with the lines of its number and guided by a predictor, appends its steps to a list that has room for eight, and
-    /// counts it. Takes no memory. Tells why the run stops with this cycle, if it does.
+    /// counts it. Takes no memory. Returns why the run stops with this cycle, if it does.
     pub(crate) fn run_cycle(
         &mut self,
         pipeline: &mut Pipeline,

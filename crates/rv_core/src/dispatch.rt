@@ -59,7 +59,7 @@ pub(crate) fn target_of(instruction: &Option<Instr>) -> Option<Reg>
 }
 
 impl Parts {
-    /// Dispatch: fetched instructions enter the reorder buffer in order, up to a width. Tells how many did, and what
+    /// Dispatch: fetched instructions enter the reorder buffer in order, up to a width. Returns how many did, and what
     /// the first that waited, waited for, where none did.
     pub(crate) fn dispatch(&mut self) -> (u32, Option<Stall>)
         ensures hardware { self.new ≡ (dispatch self.old).hardware }
@@ -75,7 +75,7 @@ impl Parts {
         (width, None)
     }
 
-    // Dispatches the oldest fetched instruction, or tells what it waits for.
+    // Dispatches the oldest fetched instruction, or returns what it waits for.
     fn dispatch_one(&mut self) -> Option<Stall>
         ensures { (dispatched : ℕ) → dispatch_turn (dispatching self.old dispatched) ≡ dispatch_told result self.new dispatched }
     {

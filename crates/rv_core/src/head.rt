@@ -15,7 +15,7 @@ use rv_rob::{Entry, Stage};
 pub(crate) enum HeadTurn {
     /// The phase goes on.
     GoesOn,
-    /// The phase ends, and the run for the reason told, if there is one.
+    /// The phase ends, and the run for the reason given, if there is one.
     Ends(Option<Stop>),
 }
 

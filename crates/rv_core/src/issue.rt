@@ -53,7 +53,7 @@ impl Parts {
         }
     }
 
-    // Issues the oldest ready instruction of a kind, and tells whether the phase goes on.
+    // Issues the oldest ready instruction of a kind, and returns whether the phase goes on.
     #[inline(always)]
     fn issue_one(&mut self, kind: Kind) -> bool
         ensures { turn_of result self.new ≡ issue_turn kind self.old }

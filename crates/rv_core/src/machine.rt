@@ -76,7 +76,7 @@ impl Core {
         self.pipeline.cycle(&mut *self.predictor, lines)
     }
 
-    /// The pipeline, which tells what is in flight.
+    /// The pipeline, which shows what is in flight.
     pub fn pipeline(&self) -> &Pipeline
         ensures { result.now ≡ self.now }
     {

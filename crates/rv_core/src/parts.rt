@@ -136,7 +136,7 @@ impl Parts {
         }
     }
 
-    /// Fetch: words are read along the predicted pcs, from RAM past the cache. Tells why it stopped.
+    /// Fetch: words are read along the predicted pcs, from RAM past the cache. Returns why it stopped.
     fn fetch(&mut self, predictor: &dyn Predictor) -> FetchStop
         ensures fetched { FetchesInto (answers_of (known predictor.now)) self.old.cache.backing self.old.cycle self.old.front self.new.front result }
         ensures others { self.new ≡ record self.old { front = self.new.front } }

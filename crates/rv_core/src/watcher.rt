@@ -3,7 +3,7 @@ use crate::pipeline::Pipeline;
 use rv_hardware::Step;
 use std::io::Write;
 
-/// What is shown a run, cycle by cycle, and writes what it tells of it.
+/// What is shown a run, cycle by cycle, and writes what it says of it.
 pub trait Watcher: Drop {
     ghost use Rattle.std.specs.Prelude.{ℕ, List, Option, IfOk};
     ghost use Rattle.rv_core.specs.Watching.{IsShown, Watched, with_shown};

@@ -29,7 +29,7 @@ fn finished<R>(progress: Progress, stop: Result<Stop, R>) -> Ended<R>
 
 /// Runs a pipeline that a predictor guides, each cycle with the lines of its number, up to a breakpoint, a stale word,
 /// exhaustion or `limit` cycles, in this order where they come together; the limit comes before exhaustion. Each cycle is
-/// shown to a watcher, which writes to the output what it tells of it. Asks for no memory but what the watcher asks for
+/// shown to a watcher, which writes to the output what it says of it. Asks for no memory but what the watcher asks for
 /// before a cycle; where it refuses, the pipeline stands at the end of its last whole cycle. `steps` is a list with room for
 /// the eight steps of a cycle.
 pub fn watch<T: Watcher, W: Write>(

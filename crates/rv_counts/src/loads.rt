@@ -45,7 +45,7 @@ impl LoadCosts {
         cost == self.hit || cost == self.forward
     }
 
-    /// Whether a cost tells that a dirty line was written back: it is greater than that of a miss alone.
+    /// Whether a cost means that a dirty line was written back: it is greater than that of a miss alone.
     pub fn is_slow(&self, cost: u32) -> bool
         ensures { result ≡ is_slow self.now cost }
     {

@@ -70,7 +70,7 @@ fn begin_at(words: &mut Vec<WordCounts>, place: usize, address: u32)
 }
 
 impl Profile {
-    /// The counts of no cycle. The description tells what loads cost.
+    /// The counts of no cycle. The description says what loads cost.
     pub fn new(alloc: Global, description: &Description) -> Profile
         ensures costs { result.costs ≡ costs_of description.now }
         ensures words { result.words ≡ [] }

@@ -140,11 +140,13 @@ fn write_told<W: Write>(
 
 /// Runs a pipeline that a predictor guides, each cycle with the lines of its number, up to a breakpoint, a stale word,
 /// exhaustion or so many cycles, and then writes what the run came to, in plain sentences: how it ended, where and why,
-/// and for a stale word the last store to it; its exceptions and interrupts; where the cycles went; how many dispatched only
-/// what did not retire; how many words were fetched and how many of them squashed; how many branches and jumps retired, and how
-/// many of them were mispredicted, with the three lines that most of those come from; what results waited for the bus, and instructions for a unit; what its loads and the drains of
-/// its stores cost; and the five lines that most cycles left at the head of the reorder buffer, with their loads. The description tells where RAM lies, whose words are counted, and what loads and drains
-/// cost. The listing is that of the program, whose lines are shown.
+/// and for a stale word the last store to it; its exceptions and interrupts; where the cycles went; how many dispatched
+/// only what did not retire; how many words were fetched and how many of them squashed; how many branches and jumps
+/// retired, and how many of them were mispredicted, with the three lines that most of those come from; what results
+/// waited for the bus, and instructions for a unit; what its loads and the drains of its stores cost; and the five
+/// lines that most cycles left at the head of the reorder buffer, with their loads. The description says where RAM
+/// lies, whose words are counted, and what loads and drains cost. The listing is that of the program, whose lines are
+/// shown.
 /// Answers why the run ended.
 ///
 /// # Errors

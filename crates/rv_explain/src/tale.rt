@@ -82,7 +82,7 @@ impl Tale {
         })
     }
 
-    /// Keeps what the core's last cycle tells, by its steps, the registers before them, what the drain costs that began in it, and
+    /// Keeps what the core's last cycle shows, by its steps, the registers before them, what the drain costs that began in it, and
     /// the passages at its end.
     pub(crate) fn add(
         &mut self,

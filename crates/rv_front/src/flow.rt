@@ -4,7 +4,7 @@ ghost use Rattle.rv_front.specs.Flow.{flow_at, flow_of, leads_elsewhere};
 use rv_decode::decode;
 use rv_isa::Instr;
 
-/// Where a program may go on after an instruction, as far as its word and its pc tell.
+/// Where a program may go on after an instruction, as far as its word and its pc say.
 #[derive(Clone, Copy, Debug, PartialEq, Eq)]
 pub enum Flow {
     /// At the next word: the instruction neither branches nor jumps, or the word is illegal.

@@ -49,7 +49,7 @@ impl Front {
         })
     }
 
-    /// Fetches words along the predicted pcs, as many as a cycle may while the buffer has room, and tells why it stopped.
+    /// Fetches words along the predicted pcs, as many as a cycle may while the buffer has room, and returns why it stopped.
     ///
     /// It stops after a prediction other than pc + 4. A pc outside RAM gives an entry without a word, for which the
     /// predictor is not asked, and halts the front until it is redirected.
@@ -69,7 +69,7 @@ impl Front {
         FetchStop::Width
     }
 
-    // Fetches one word where there is room, and tells why the fetch ends with it or, where there is none, without it.
+    // Fetches one word where there is room, and returns why the fetch ends with it or, where there is none, without it.
     fn fetch_next(&mut self, cycle: u64, ram: &Ram, predictor: &dyn Predictor) -> Option<FetchStop>
         ensures fetched { FetchesOne (answers_of (known predictor.now)) ram.now cycle self.old self.new result }
         ensures chain { IsChain self.new }

@@ -10,7 +10,7 @@ pub struct StoreAccess {
     pub bytes: StoreBytes,
 }
 
-/// What a broadcast on the common data bus tells of an instruction's result.
+/// What a broadcast on the common data bus carries of an instruction's result.
 #[derive(Clone, Copy, Debug, Default, PartialEq, Eq)]
 pub struct Message {
     /// The value for the instruction's target register, 0 where it faults.

@@ -83,7 +83,7 @@ fn begin(alloc: Global, pipeline: &Pipeline) -> Result<Table, AllocError>
 }
 
 /// Runs a pipeline that a predictor guides up to so many cycles, and counts what becomes of its instructions. The description
-/// tells what loads cost. The only error is out of memory, which may come in the middle of the run.
+/// says what loads cost. The only error is out of memory, which may come in the middle of the run.
 pub(crate) fn run_profiled(
     alloc: Global,
     pipeline: &mut Pipeline,

@@ -20,7 +20,7 @@ use std::io::Write;
 /// and was squashed; of those that retired the mean and the greatest number of cycles from fetch to dispatch, to issue, to
 /// broadcast and to retirement, or hyphens where none came to both; their hits and misses, where they are loads; their wrong
 /// predictions; and the cycles
-/// that left the instruction at the head of the reorder buffer. The description tells what loads cost. Answers why the run
+/// that left the instruction at the head of the reorder buffer. The description says what loads cost. Answers why the run
 /// ended.
 ///
 /// # Errors

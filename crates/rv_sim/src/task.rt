@@ -43,7 +43,7 @@ pub enum Task {
     Log { listed: ListedJob, limit: u64 },
     /// Run a job on the core, and write the states of a stretch of its cycles.
     States { listed: ListedJob, stretch: Stretch },
-    /// Run a job on the core, up to so many cycles, and tell what the run came to.
+    /// Run a job on the core, up to so many cycles, and say what the run came to.
     Explain { listed: ListedJob, limit: u64 },
     /// Run a job on the core, up to so many cycles, and count what became of the instructions at each address.
     Profile { listed: ListedJob, limit: u64 },
@@ -181,7 +181,7 @@ fn read_task(alloc: Global, command: &Command, input: &[u8]) -> Result<Task, Sim
     }
 }
 
-/// Why an input is refused, which was told.
+/// Why an input is refused, which was reported.
 #[derive(Clone, Copy, Debug, PartialEq, Eq)]
 pub struct Refused {
     /// Its fault.
@@ -190,7 +190,7 @@ pub struct Refused {
     pub status: u8,
 }
 
-/// Reads the input as the command asks. Where it is refused, the fault is told on `errors`, and it is
+/// Reads the input as the command asks. Where it is refused, the fault is reported on `errors`, and it is
 /// answered with its exit status.
 pub fn begin<E: Write>(
     alloc: Global,

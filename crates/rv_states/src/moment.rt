@@ -111,7 +111,7 @@ fn write_opening<W: Write>(
     write_listing(writer, listing, values)
 }
 
-// Writes what is told before the first cycle of a run.
+// Writes what is shown before the first cycle of a run.
 #[tactic(auto, unfolding(crate::specs::States::head_text))]
 fn write_first<W: Write>(
     writer: &mut W,
@@ -126,7 +126,7 @@ fn write_first<W: Write>(
     write_begun(writer, from, rows, pipeline, &no_cycle())
 }
 
-/// Writes what stands before the lines, and what is told before the first cycle of a run.
+/// Writes what stands before the lines, and what is shown before the first cycle of a run.
 pub(crate) fn write_head<W: Write>(
     writer: &mut W,
     form: Form,

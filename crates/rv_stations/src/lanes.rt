@@ -24,7 +24,7 @@ pub fn like_from(start: usize, tags: &[u64], seq: u64) -> u64
     like_lanes(&tags[start..start + 8], seq)
 }
 
-/// Gives those of eight operands from a place on whose producer has a sequence number its value, and tells which
+/// Gives those of eight operands from a place on whose producer has a sequence number its value, and returns which
 /// these are, a bit each. The tags that are like the number are marked.
 #[inline(always)]
 pub fn wake_from(
