@@ -1,10 +1,12 @@
-ghost use Rattle.std.specs.Prelude.{◌≡◌, ◌+◌, ◌&&◌, true, Some, map};
+ghost use Rattle.std.specs.Prelude.{◌≡◌, ◌+◌, ◌&&◌, true, if◌then◌else◌, Some, None, map};
 ghost use Rattle.rv_isa.specs.declared.broadcast.Message.{Message as MessageOf};
 ghost use Rattle.rv_isa.specs.declared.issues.Issue.{Issue as IssueOf};
 ghost use Rattle.rv_rob.specs.Entry.{predicting};
 ghost use Rattle.rv_rob.specs.ReorderBuffer.{changed, cut_from, entry_of};
 ghost use Rattle.rv_rob.specs.declared.entry.Entry.{Entry as EntryOf};
 ghost use Rattle.rv_rob.specs.declared.entry.Stage.TheVariants.{Running};
+ghost use Rattle.rv_isa.specs.PerKind.{for_each};
+ghost use Rattle.rv_stations.specs.Pool.{woken_pool};
 ghost use Rattle.rv_stores.specs.Store.{answered};
 ghost use Rattle.rv_hardware.specs.Broadcast.{broadcast, broadcast_turn, is_mispredicted, mends_early};
 ghost use Rattle.rv_hardware.specs.InFlight.{store_of_message};
@@ -15,6 +17,7 @@ ghost use Rattle.rv_core.specs.Turns.{turn_of};
 use crate::parts::Parts;
 use rv_isa::{Instr, Message, Recovery, StoreAccess};
 use rv_rob::{Entry, Rob, Stage};
+use rv_stations::Stations;
 use rv_stores::StoreQueue;
 
 /// Whether an instruction's next pc comes from its execution.
@@ -55,16 +58,19 @@ impl Parts {
             return false;
         };
         let seq = pending.seq;
-        let message = running_message(&self.rob, seq);
-        let recovers = recovers_from(&self.rob, self.values.recovery, seq, &message);
-        self.rob.finish(seq, message, self.cycle);
-        self.stations.wake(seq, message.value);
-        fill_store(&mut self.stores, seq, &message.store);
-        if recovers {
-            self.recover(seq, message.next_pc);
-            return false;
-        }
-        true
+        let goes_on = send(
+            &self.rob,
+            &mut self.stations,
+            &mut self.stores,
+            self.values.recovery,
+            seq,
+        );
+        self.rob.finish(seq, self.cycle);
+        let Some(next_pc) = goes_on else {
+            return true;
+        };
+        self.recover(seq, next_pc);
+        false
     }
 
     // Squashes everything younger than a branch or a jump, and begins to fetch anew where it goes on.
@@ -94,41 +100,39 @@ fn fill_store(stores: &mut StoreQueue, seq: u64, access: &Option<StoreAccess>)
     }
 }
 
-// The message of an instruction in execution, which its broadcast carries.
-fn running_message(rob: &Rob, seq: u64) -> Message
-    ensures { (e : EntryOf) (issue : IssueOf) (message : MessageOf) → entry_of seq rob.now.retired rob.now.entries ≡ Some e → e.stage ≡ Running issue message → result ≡ message }
+// The bus carries the result of an instruction in execution to the stations and to the store queue. Tells where fetch
+// begins anew, where early recovery mends a wrong prediction.
+fn send(
+    rob: &Rob,
+    stations: &mut Stations,
+    stores: &mut StoreQueue,
+    recovery: Recovery,
+    seq: u64,
+) -> Option<u32>
+    ensures carried { (e : EntryOf) (issue : IssueOf) (message : MessageOf) → entry_of seq rob.now.retired rob.now.entries ≡ Some e → e.stage ≡ Running issue message → stations.new ≡ for_each (woken_pool seq message.value) stations.old }
+    ensures stored { (e : EntryOf) (issue : IssueOf) (message : MessageOf) → entry_of seq rob.now.retired rob.now.entries ≡ Some e → e.stage ≡ Running issue message → stores.new ≡ record stores.old { stores = map (answered seq (store_of_message message.store)) stores.old.stores } }
+    ensures goes_on { (e : EntryOf) (issue : IssueOf) (message : MessageOf) → entry_of seq rob.now.retired rob.now.entries ≡ Some e → e.stage ≡ Running issue message → result ≡ (if mends_early recovery && is_mispredicted e message then Some message.next_pc else None) }
 {
-    match rob.get(seq) {
-        Some(entry) => message_in(&entry.stage),
-        None => Message::default(),
+    let Some(entry) = rob.get(seq) else {
+        return None;
+    };
+    let Stage::Running { message, .. } = &entry.stage else {
+        return None;
+    };
+    stations.wake(seq, message.value);
+    fill_store(stores, seq, &message.store);
+    if mends_early(recovery) && is_mispredicted(entry, message) {
+        Some(message.next_pc)
+    } else {
+        None
     }
 }
 
-fn message_in(stage: &Stage) -> Message
-    ensures { (issue : IssueOf) (message : MessageOf) → stage.now ≡ Running issue message → result ≡ message }
-{
-    match stage {
-        Stage::Running { message, .. } => *message,
-        _ => Message::default(),
-    }
-}
-
-// Whether everything younger is squashed with this result: early recovery mends a wrong prediction.
-fn recovers_from(rob: &Rob, recovery: Recovery, seq: u64, message: &Message) -> bool
-    ensures { (e : EntryOf) → entry_of seq rob.now.retired rob.now.entries ≡ Some e → result ≡ (mends_early recovery && is_mispredicted e message.now) }
+fn mends_early(recovery: Recovery) -> bool
+    ensures { result ≡ mends_early recovery }
 {
     match recovery {
         Recovery::Commit => false,
-        Recovery::Early => is_sent_astray(rob, seq, message),
-    }
-}
-
-// Whether a result goes on elsewhere than was predicted.
-fn is_sent_astray(rob: &Rob, seq: u64, message: &Message) -> bool
-    ensures { (e : EntryOf) → entry_of seq rob.now.retired rob.now.entries ≡ Some e → result ≡ is_mispredicted e message.now }
-{
-    match rob.get(seq) {
-        Some(entry) => is_mispredicted(entry, message),
-        None => false,
+        Recovery::Early => true,
     }
 }

@@ -136,9 +136,9 @@ fn entry_keeps_the_issue_and_the_whole_message(rt: HostRuntime) {
     let other = push(&rt, &mut rob, 0x8000_0004);
     rob.start(seq, issue(), message());
     check_equal(&rt, rob.head().copied(), Some(running(0x8000_0000)));
-    rob.finish(seq, message(), 3);
+    rob.finish(seq, 3);
     rob.correct_prediction(seq, 0x8000_0040);
-    rob.finish(9, message(), 3);
+    rob.finish(9, 3);
     let finished = finished(0x8000_0000, 0x8000_0040);
     check_equal(&rt, rob.head().copied(), Some(finished));
     check_equal(&rt, rob.get(other).copied(), Some(waiting(0x8000_0004)));

@@ -1,20 +1,20 @@
 -- Entry i of a list whose first has the number `oldest` has the number oldest + i.
-use Rattle.std.proofs.Common.{◌≡◌, ℕ, zero, suc, ◌+◌, ◌-◌, ◌<◌, ◌≤◌, nat_lt, if◌then◌else◌, List, [], ◌∷◌, length, slice_get, slice_set, take, None, Some, inl, inr, refl, ap, sym, ◌∙◌, arith, eq-eqb, ne_eqb, lt-ltb, le-ltb}
+use Rattle.std.proofs.Common.{◌≡◌, ℕ, zero, suc, ◌+◌, ◌-◌, ◌<◌, ◌≤◌, List, [], ◌∷◌, length, slice_get, slice_set, take, None, Some, inl, inr, refl, ap, sym, ◌∙◌, arith, eq-eqb, ne_eqb, lt-ltb, le-ltb}
 use Rattle.std.proofs.lemmas.Bool.{cases_lt}
 use Rattle.std.proofs.lemmas.Option.{slice_get_past}
 use Rattle.rv_rob.specs.declared.entry.Entry.{Entry}
 use Rattle.rv_rob.specs.ReorderBuffer.{entry_of, with_entry, entries_below}
 
--- the place of the entry of number n, or where there is none, a place past the youngest
-abbrev pub place_of : ℕ → ℕ → List Entry → ℕ
-place_of n oldest es = if nat_lt n oldest then length es else n - oldest
+-- the place of the entry of number n: its distance from the oldest, or where it is older than all, a place past the youngest
+pub record IsPlace (i n oldest : ℕ) (es : List Entry) : Type 0 where
+  pub held : oldest ≤ n → i ≡ n - oldest
+  pub retired : n < oldest → length es ≤ i
 
--- it is the distance from the oldest, or n is older than all
-by_place : (P : Type 0) (i n oldest : ℕ) (es : List Entry) → i ≡ place_of n oldest es → (n ≡ oldest + i → P) → (n < oldest → length es ≤ i → P) → P
+by_place : (P : Type 0) (i n oldest : ℕ) (es : List Entry) → IsPlace i n oldest es → (n ≡ oldest + i → P) → (n < oldest → length es ≤ i → P) → P
 by_place P i n oldest es place at older =
     elim (cases_lt n oldest) [
-      | inl lt ↦ older lt (let past : i ≡ length es = rw (lt-ltb n oldest lt) at place in omega arith)
-      | inr le ↦ at (let distance : i ≡ n - oldest = rw (le-ltb n oldest le) at place in omega arith)
+      | inl lt ↦ older lt (place.retired lt)
+      | inr le ↦ at (omega (arith, place.held le))
     ]
 
 entry_of-distance : (i n oldest : ℕ) (es : List Entry) → n ≡ oldest + i → entry_of n oldest es ≡ slice_get es i
@@ -29,7 +29,7 @@ entry_of-older n oldest (x ∷ es) h =
     rw (ne_eqb n oldest (omega arith)) (entry_of-older n (oldest + 1) es (omega arith))
 
 -- the entry of a number is the one at its place
-pub entry_of-place : (i n oldest : ℕ) (es : List Entry) → i ≡ place_of n oldest es → entry_of n oldest es ≡ slice_get es i
+pub entry_of-place : (i n oldest : ℕ) (es : List Entry) → IsPlace i n oldest es → entry_of n oldest es ≡ slice_get es i
 entry_of-place i n oldest es place =
     by_place _ i n oldest es place (λ at. entry_of-distance i n oldest es at)
     (λ older past. entry_of-older n oldest es older ∙ sym (slice_get_past es i past))
@@ -54,14 +54,14 @@ module _ (change : Entry → Entry) where
       rw (ne_eqb n oldest (omega arith)) (ap (λ ys. y ∷ ys) (with_entry-older n (oldest + 1) es (omega arith)))
 
   -- a change of an entry that is held is a write at its place
-  pub with_entry-write : (i n oldest : ℕ) (es : List Entry) (x : Entry) → i ≡ place_of n oldest es → slice_get es i ≡ Some x
+  pub with_entry-write : (i n oldest : ℕ) (es : List Entry) (x : Entry) → IsPlace i n oldest es → slice_get es i ≡ Some x
       → with_entry change n oldest es ≡ slice_set es i (change x)
   with_entry-write i n oldest es x place held =
       by_place _ i n oldest es place (λ at. with_entry-distance i n oldest es x at held)
       (λ older past. let none = slice_get_past es i past in cc)
 
   -- a change of an entry that is not held changes nothing
-  pub with_entry-none : (i n oldest : ℕ) (es : List Entry) → i ≡ place_of n oldest es → slice_get es i ≡ None → with_entry change n oldest es ≡ es
+  pub with_entry-none : (i n oldest : ℕ) (es : List Entry) → IsPlace i n oldest es → slice_get es i ≡ None → with_entry change n oldest es ≡ es
   with_entry-none i n oldest es place none =
       by_place _ i n oldest es place (λ at. with_entry-past i n oldest es at none) (λ older past. with_entry-older n oldest es older)
 

@@ -17,6 +17,16 @@ started issue message e = record e { stage = Running issue message }
 abbrev pub finished : Message → ℕ → Entry → Entry
 finished message cycle e = record e { stage = Finished (issue_of e.stage) cycle message }
 
+-- the stage of an execution once its message is broadcast in a cycle; any other stays as it is
+abbrev pub ended : ℕ → Stage → Stage
+ended cycle Waiting = Waiting
+ended cycle (Running issue message) = Finished (Some issue) cycle message
+ended cycle (Finished issue broadcast message) = Finished issue broadcast message
+
+-- the entry once the message that it carries is broadcast in a cycle
+abbrev pub broadcast_in : ℕ → Entry → Entry
+broadcast_in cycle e = record e { stage = ended cycle e.stage }
+
 -- the entry with this predicted next pc
 abbrev pub predicting : ℕ → Entry → Entry
 predicting next_pc e = record e { predicted_next = next_pc }

@@ -55,7 +55,7 @@ pub struct Entry {
 }
 
 impl Entry {
-    ghost use Rattle.rv_rob.specs.Entry.{started, finished, predicting};
+    ghost use Rattle.rv_rob.specs.Entry.{started, broadcast_in, predicting};
 
     pub(crate) fn start(&mut self, issue: Issue, message: Message)
         ensures { self.new ≡ started issue message self.old }
@@ -63,14 +63,16 @@ impl Entry {
         self.stage = Stage::Running { issue, message };
     }
 
-    pub(crate) fn finish(&mut self, message: Message, cycle: u64)
-        ensures { self.new ≡ finished message cycle self.old }
+    pub(crate) fn finish(&mut self, cycle: u64)
+        ensures { self.new ≡ broadcast_in cycle self.old }
     {
-        self.stage = Stage::Finished {
-            issue: self.stage.issue(),
-            cycle,
-            message,
-        };
+        if let Stage::Running { issue, message } = self.stage {
+            self.stage = Stage::Finished {
+                issue: Some(issue),
+                cycle,
+                message,
+            };
+        }
     }
 
     pub(crate) fn predict(&mut self, next_pc: u32)

@@ -2,7 +2,7 @@ ghost use Rattle.std.specs.Prelude.{◌≡◌, ◌+◌, ◌-◌, ◌<◌, ◌≤
 ghost use Rattle.std.specs.Fn.{FnOnceReturnsAtMut};
 ghost use Rattle.circular_buffer.specs.Buffer.{buffer};
 ghost use Rattle.rv_rob.specs.declared.entry.Entry.{Entry};
-ghost use Rattle.rv_rob.specs.Entry.{started, finished, predicting};
+ghost use Rattle.rv_rob.specs.Entry.{started, broadcast_in, predicting};
 ghost use Rattle.rv_rob.specs.ReorderBuffer.{empty, next_number, youngest, entry_of, pushed, changed, cut_from, head_retired};
 
 use crate::entry::Entry;
@@ -101,13 +101,11 @@ impl Rob {
 
     /// The place of the entry with this number, or a place past them all.
     fn place_of(&self, seq: u64) -> usize
-        ensures { result ≡ (if nat_lt seq self.now.retired then length self.now.entries else seq - self.now.retired) }
+        ensures held { self.now.retired ≤ seq → result ≡ seq - self.now.retired }
+        ensures retired { seq < self.now.retired → length self.now.entries ≤ result }
     {
-        if seq < self.retired {
-            self.len()
-        } else {
-            (seq - self.retired) as usize
-        }
+        // Below the count of retired ones the difference wraps to a number past every place.
+        seq.wrapping_sub(self.retired) as usize
     }
 
     /// Takes up an instruction, the youngest from now on, and answers its number.
@@ -130,11 +128,12 @@ impl Rob {
         self.change(seq, |entry| entry.start(issue, message));
     }
 
-    /// Finishes the instruction with this number in `cycle`. With no such number, nothing changes.
-    pub fn finish(&mut self, seq: u64, message: Message, cycle: u64)
-        ensures { self.new ≡ changed (finished message cycle) seq self.old }
+    /// Finishes the instruction with this number, whose message is broadcast in `cycle`. With no such number, or where it
+    /// does not execute, nothing changes.
+    pub fn finish(&mut self, seq: u64, cycle: u64)
+        ensures { self.new ≡ changed (broadcast_in cycle) seq self.old }
     {
-        self.change(seq, |entry| entry.finish(message, cycle));
+        self.change(seq, |entry| entry.finish(cycle));
     }
 
     /// Puts `next_pc` in the place of the predicted next pc of the instruction with this number. With no such number,

@@ -49,6 +49,20 @@ entry_of-changed f n s (d ∷ es) e held = elim (cases_Bool (n == s)) [
       rw (other, other) (entry_of-changed f n (s + 1) es e is)
 ]
 
+-- changes that leave the same at its number
+pub with_entry-alike : (f g : Entry → Entry) (n s : ℕ) (es : List Entry) (e : Entry) → entry_of n s es ≡ Some e → f e ≡ g e →
+    with_entry f n s es ≡ with_entry g n s es
+with_entry-alike f g n s [] e held alike = refl
+with_entry-alike f g n s (d ∷ es) e held alike = elim (cases_Bool (n == s)) [
+  | inl equal ↦
+      let is : Some d ≡ Some e = sym (ap (λ b. cond b (Some d) (entry_of n (s + 1) es)) equal) ∙ held in
+      let one : d ≡ e = cc in
+      rw equal (ap (λ x. x ∷ es) (ap f one ∙ alike ∙ sym (ap g one)))
+  | inr other ↦
+      let is : entry_of n (s + 1) es ≡ Some e = sym (ap (λ b. cond b (Some d) (entry_of n (s + 1) es)) other) ∙ held in
+      rw other (ap (λ xs. d ∷ xs) (with_entry-alike f g n (s + 1) es e is alike))
+]
+
 -- ---- what holds of each entry
 module _ (P : Entry → Type 0) where
   -- a change that keeps it of the entry of that number

@@ -1,9 +1,11 @@
-use Rattle.rv_core.proofs.Words.{◌≡◌, ◌&&◌, [], map, Some, None, sym, ap, ◌∙◌, subst, and_parts, for_each, Message, finished, changed, is_mispredicted, mends_early, with_recovery, Hardware, store_of_message, Ends, GoesOn, find, answered, woken_pool, is_ready_result, IsSound, hardware_of, Inside}
+use Rattle.rv_core.proofs.Words.{◌≡◌, ℕ, ◌+◌, Bool, true, false, cond, Option, refl, predicting, cut_from, redirected, ◌&&◌, [], map, Some, None, sym, ap, ◌∙◌, subst, and_parts, for_each, Message, finished, changed, is_mispredicted, mends_early, with_recovery, Hardware, store_of_message, Ends, GoesOn, find, answered, woken_pool, is_ready_result, IsSound, hardware_of, Inside}
 use Rattle.rv_core.proofs.Ties.Broadcast.{grant, sent_parts, sent-goes_on, sent-is, sent-recovers, sent-sound, sent_to, unsent, unsent_bus}
 use Rattle.rv_core.proofs.Ties.Bus.{IsGranted}
-use Rattle.rv_core.proofs.Ties.Entries.{entry_of-changed}
+use Rattle.rv_core.proofs.Ties.Entries.{entry_of-changed, with_entry-alike}
+use Rattle.rv_rob.specs.Entry.{broadcast_in, ended, issue_of}
+use Rattle.rv_rob.specs.declared.entry.Stage.TheVariants.{Finished}
 use Rattle.rv_core.proofs.parts.Parts.broadcast_one.Goals as goal
-use Rattle.rv_core.proofs.parts.Parts.broadcast_one.Goals.{After-fill_store, In_default}
+use Rattle.rv_core.proofs.parts.Parts.broadcast_one.Goals.{After-finish, In_default}
 
 -- nothing is ready
 none : (c : In_default) → find (is_ready_result c.self.inside.cycle) c.self.inside.bus.results ≡ None
@@ -20,89 +22,105 @@ returns-in_default c = rw (← c.self.view_is)
     (unsent c.self.inside c.self.invariant (none (goal.at.returns-in_default c).In_default))
 
 -- the parts once the oldest result was sent
-abbrev left : After-fill_store → Inside
+abbrev left : After-finish → Inside
 left c = record c.self.inside {
   bus = c.grant_one.new.self;
   rob = c.finish.new.self;
-  stations = c.wake.new.self;
-  stores = c.fill_store.new.stores;
+  stations = c.send-goes_on.new.stations;
+  stores = c.send-goes_on.new.stores;
 }
 
-found : (c : After-fill_store) → find (is_ready_result c.self.inside.cycle) c.self.inside.bus.results ≡ Some c.in-Some.pending
+found : (c : After-finish) → find (is_ready_result c.self.inside.cycle) c.self.inside.bus.results ≡ Some c.in-Some.pending
 found c = sym c.grant_one.ensures.lowest_ready ∙ c.in-Some.is
 
-abbrev sent : (c : After-fill_store) →
+abbrev sent : (c : After-finish) →
     IsGranted c.self.inside.cycle c.self.inside.rob.retired [] c.self.inside.rob.entries c.in-Some.pending
 sent c = grant c.self.inside c.self.invariant c.in-Some.pending (found c)
 
--- the message that the instruction carries
-message-is : (c : After-fill_store) → c.running_message-message.result ≡ (sent c).message
-message-is c = c.running_message-message.ensures (sent c).entry (sent c).issue (sent c).message (sent c).held (sent c).running
-
-left-is : (c : After-fill_store) → left c ≡ sent_parts c.self.inside c.self.invariant c.in-Some.pending (found c)
+left-is : (c : After-finish) → left c ≡ sent_parts c.self.inside c.self.invariant c.in-Some.pending (found c)
 left-is c =
     let p = c.self.inside in
     let seq = c.in-Some.pending.seq in
-    let is = message-is c in
-    let rob = c.finish.ensures ∙ ap (λ message. changed (finished message p.cycle) seq p.rob) is in
-    let stations = c.wake.ensures ∙ ap (λ (message : Message). for_each (woken_pool seq message.value) p.stations) is in
-    let stores = c.fill_store.ensures
-    ∙ ap (λ (message : Message). record p.stores {
-      stores = map
-          (answered seq (store_of_message message.store)) p.stores.stores;
-    }) is in
+    let s = sent c in
+    let ends : broadcast_in p.cycle s.entry ≡ finished s.message p.cycle s.entry =
+    ap (λ stage. record s.entry { stage = stage }) (ap (ended p.cycle) s.running
+    ∙ ap (λ stage. Finished (issue_of stage) p.cycle s.message) (sym s.running)) in
+    let rob = c.finish.ensures
+    ∙ ap (λ entries. record p.rob { entries = entries })
+    (with_entry-alike (broadcast_in p.cycle) (finished s.message p.cycle) seq p.rob.retired p.rob.entries s.entry s.held ends) in
+    let stations = c.send-goes_on.ensures.carried s.entry s.issue s.message s.held s.running in
+    let stores = c.send-goes_on.ensures.stored s.entry s.issue s.message s.held s.running in
     λ i. record p { bus = c.grant_one.ensures.others_stay i; rob = rob i; stations = stations i; stores = stores i }
 
-left-sound : (c : After-fill_store) → IsSound (left c)
+left-sound : (c : After-finish) → IsSound (left c)
 left-sound c = subst IsSound (sym (left-is c)) (sent-sound c.self.inside c.self.invariant c.in-Some.pending (found c))
 
-left-view : (c : After-fill_store) → hardware_of (left c) ≡ sent_to c.self.inside c.self.invariant c.in-Some.pending (found c)
+left-view : (c : After-finish) → hardware_of (left c) ≡ sent_to c.self.inside c.self.invariant c.in-Some.pending (found c)
 left-view c = ap hardware_of (left-is c) ∙ sent-is c.self.inside c.self.invariant c.in-Some.pending (found c)
 
-recovers : (c : After-fill_store) →
-    (mends_early c.self.inside.values.recovery && is_mispredicted (sent c).entry (sent c).message)
-    ≡ c.recovers_from-recovers.result
-recovers c =
-    ap (λ message. mends_early c.self.inside.values.recovery && is_mispredicted (sent c).entry message) (sym (message-is c))
-    ∙ sym (c.recovers_from-recovers.ensures (sent c).entry (sent c).held)
+-- whether a wrong prediction is mended
+abbrev mends : After-finish → Bool
+mends c = mends_early c.self.inside.values.recovery && is_mispredicted (sent c).entry (sent c).message
 
-pub invariant_of-self-then-recovers : goal.invariant_of-self-then-recovers
-invariant_of-self-then-recovers c = left-sound (goal.at.invariant_of-self-then-recovers c).After-fill_store
+goes_on : (c : After-finish) → c.send-goes_on.result ≡ cond (mends c) (Some (sent c).message.next_pc) None
+goes_on c =
+    let s = sent c in
+    c.send-goes_on.ensures.goes_on s.entry s.issue s.message s.held s.running
 
-pub invariant_of-self-else-recovers : goal.invariant_of-self-else-recovers
-invariant_of-self-else-recovers c = left-sound (goal.at.invariant_of-self-else-recovers c).After-fill_store
+none-mends : (mends : Bool) (next_pc : ℕ) → cond mends (Some next_pc) None ≡ None → mends ≡ false
+none-mends true next_pc is = absurd (cc)
+none-mends false next_pc is = refl
+
+some-mends : (mends : Bool) (next_pc told : ℕ) → cond mends (Some next_pc) None ≡ Some told → (mends ≡ true) × (told ≡ next_pc)
+some-mends true next_pc told is = (refl, cc)
+some-mends false next_pc told is = absurd (cc)
+
+mended : (c : After-finish) (next_pc : ℕ) → c.send-goes_on.result ≡ Some next_pc → (mends c ≡ true) × (next_pc ≡ (sent c).message.next_pc)
+mended c next_pc is = some-mends (mends c) (sent c).message.next_pc next_pc (sym (goes_on c) ∙ is)
+
+pub invariant_of-self-in_default-goes_on : goal.invariant_of-self-in_default-goes_on
+invariant_of-self-in_default-goes_on c = left-sound (goal.at.invariant_of-self-in_default-goes_on c).After-finish
+
+pub invariant_of-self-2 : goal.invariant_of-self-2
+invariant_of-self-2 c = left-sound (goal.at.invariant_of-self-2 c).After-finish
 
 pub recover-requires-clause-early : goal.recover-requires-clause-early
 recover-requires-clause-early c =
-    (and_parts _ _ (recovers (goal.at.recover-requires-clause-early c).After-fill_store ∙ c.if-recovers.true)).0
+    let at = (goal.at.recover-requires-clause-early c).After-finish in
+    (and_parts _ _ (mended at _ c.in-Some-goes_on.is).0).0
 
 pub recover-requires-clause-jump : goal.recover-requires-clause-jump
 recover-requires-clause-jump c =
     let p = c.self.inside in
     let r = c.in-Some.pending in
-    let at = (goal.at.recover-requires-clause-jump c).After-fill_store in
-    let astray = (and_parts _ _ (recovers at ∙ c.if-recovers.true)).1 in
+    let at = (goal.at.recover-requires-clause-jump c).After-finish in
+    let s = sent at in
+    let astray = (and_parts _ _ (mended at _ c.in-Some-goes_on.is).0).1 in
     let jump = (and_parts _ _ (and_parts _ _ astray).0).0 in
     rw c.finish.ensures (
-      finished c.running_message-message.result p.cycle (sent at).entry,
-      entry_of-changed (finished c.running_message-message.result p.cycle) r.seq p.rob.retired p.rob.entries (sent at).entry
-          (sent at).held,
+      broadcast_in p.cycle s.entry,
+      entry_of-changed (broadcast_in p.cycle) r.seq p.rob.retired p.rob.entries s.entry s.held,
       jump,
     )
 
-pub returns-then-recovers : goal.returns-then-recovers
-returns-then-recovers c =
-    let r = c.in-Some.pending in
-    let at = (goal.at.returns-then-recovers c).After-fill_store in
-    let to =
-    c.recover.ensures
-    ∙ ap (λ (message : Message). with_recovery r.seq message (hardware_of (left at))) (message-is at)
-    ∙ ap {A = Hardware} (with_recovery r.seq (sent at).message) (left-view at) in
-    rw (← c.self.view_is) (sent-recovers c.self.inside c.self.invariant r (found at) (recovers at ∙ c.if-recovers.true)
-    ∙ ap Ends (sym to))
-
 pub returns : goal.returns
 returns c =
-    let at = (goal.at.returns c).After-fill_store in
-    rw (← c.self.view_is) (sent-goes_on c.self.inside c.self.invariant c.in-Some.pending (found at)
-    (recovers at ∙ c.if-recovers.false) ∙ ap GoesOn (sym (left-view at)))
+    let r = c.in-Some.pending in
+    let at = (goal.at.returns c).After-finish in
+    let is = mended at _ c.in-Some-goes_on.is in
+    let left-hardware = hardware_of (left at) in
+    let to =
+    c.recover.ensures
+    ∙ ap (λ next_pc. record left-hardware {
+      rob = cut_from (r.seq + 1) (changed (predicting next_pc) r.seq left-hardware.rob);
+      front = redirected next_pc left-hardware.front;
+    }) is.1
+    ∙ ap {A = Hardware} (with_recovery r.seq (sent at).message) (left-view at) in
+    rw (← c.self.view_is) (sent-recovers c.self.inside c.self.invariant r (found at) is.0 ∙ ap Ends (sym to))
+
+pub returns-in_default-goes_on : goal.returns-in_default-goes_on
+returns-in_default-goes_on c =
+    let at = (goal.at.returns-in_default-goes_on c).After-finish in
+    let straight = none-mends (mends at) _ (sym (goes_on at) ∙ c.in_default-goes_on.is) in
+    rw (← c.self.view_is) (sent-goes_on c.self.inside c.self.invariant c.in-Some.pending (found at) straight
+    ∙ ap GoesOn (sym (left-view at)))

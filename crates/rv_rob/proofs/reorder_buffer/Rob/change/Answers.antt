@@ -1,14 +1,14 @@
 use Rattle.std.proofs.Common.{◌≡◌, slice_get, Some, None, ap, sym, refl, ◌∙◌}
 use Rattle.std.specs.Option.{option_copied_mut}
 use Rattle.std.specs.Fn.{FnOnceReturnsAtMut}
-use Rattle.rv_rob.proofs.Places.{with_entry-write, with_entry-none}
+use Rattle.rv_rob.proofs.Places.{IsPlace, with_entry-write, with_entry-none}
 use Rattle.rv_rob.proofs.reorder_buffer.Rob.change.Goals as goal
 use Rattle.rv_rob.proofs.reorder_buffer.Rob.change.Goals.{in-Some, in_default}
 
 pub returns : goal.returns
 returns g c = λ f same.
     let items = c.self.inside.entries.items in
-    let place = rw (← c.self.view_is) at c.place_of-place.ensures in
+    let place : IsPlace c.place_of-place.result c.args.seq c.self.inside.retired c.self.inside.entries.items = record { held = rw (← c.self.view_is) at c.place_of-place.ensures.held; retired = rw (← c.self.view_is) at c.place_of-place.ensures.retired } in
     elim c.match-get_mut.branch [
       | in-Some w ↦
           let held : slice_get items c.place_of-place.result ≡ Some w.in-Some.entry.now = sym c.get_mut.follows ∙ ap option_copied_mut w.in-Some.is in
