@@ -39,8 +39,7 @@ get-behind (x ∷ xs) ys (suc i) k is = get-behind xs ys i k (omega arith)
 
 entry_of-at : (number oldest place : ℕ) (es : List Entry) → number ≡ oldest + place → entry_of number oldest es ≡ slice_get es place
 entry_of-at number oldest place es is =
-    let later : nat_lt number oldest ≡ false = le-ltb number oldest (omega arith) in
-    entry_of-place place number oldest es (rw later (omega arith))
+    entry_of-place place number oldest es (record { held = λ le. omega (arith, is); retired = λ lt. absurd (omega (arith, is, lt)) })
 
 -- the entry that is so far from the youngest
 pub entry_here : (rob : ReorderBuffer) (front : FetchBuffer) (number place : ℕ) (found : Option Entry) → number ≡ next_number rob - (length rob.entries - place) → place < length rob.entries →

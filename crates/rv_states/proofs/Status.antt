@@ -47,8 +47,7 @@ so_many_entries status seq (x ∷ es) = ap suc (so_many_entries (status_with sta
 -- a number finds the entry at its place
 pub entry_of-at : (number oldest place : ℕ) (es : List Entry) → number ≡ oldest + place → entry_of number oldest es ≡ slice_get es place
 entry_of-at number oldest place es is =
-    let later : nat_lt number oldest ≡ false = le-ltb number oldest (omega (arith, is)) in
-    entry_of-place place number oldest es (rw later (omega (arith, is)))
+    entry_of-place place number oldest es (record { held = λ le. omega (arith, is); retired = λ lt. absurd (omega (arith, is, lt)) })
 
 -- what a register gives after one more instruction, by what it gave before
 pub given_more : (status : RegisterStatus) (rob : ReorderBuffer) (number place : ℕ) (e : Entry) (register : ℕ) (before after : Operand) → number ≡ rob.retired + place → slice_get rob.entries place ≡ Some e
