@@ -17,7 +17,8 @@ by_place P i n oldest es place at older =
       | inr le ↦ at (omega (arith, place.held le))
     ]
 
-entry_of-distance : (i n oldest : ℕ) (es : List Entry) → n ≡ oldest + i → entry_of n oldest es ≡ slice_get es i
+-- an entry is found as far from the oldest as its number is
+pub entry_of-distance : (i n oldest : ℕ) (es : List Entry) → n ≡ oldest + i → entry_of n oldest es ≡ slice_get es i
 entry_of-distance i n oldest [] e = refl
 entry_of-distance zero n oldest (x ∷ es) e = rw (eq-eqb n oldest (omega arith)) refl
 entry_of-distance (suc i) n oldest (x ∷ es) e =

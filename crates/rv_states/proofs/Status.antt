@@ -5,7 +5,6 @@ use Rattle.std.proofs.lemmas.Option.{get_or_from_slice_get, slice_get_within}
 use Rattle.rv_core.specs.Ties.{RegisterStatus, operand_by, status_behind, status_with}
 use Rattle.rv_hardware.specs.InFlight.{broadcast_of, writes}
 use Rattle.rv_rob.specs.ReorderBuffer.{ReorderBuffer, entry_of}
-use Rattle.rv_rob.proofs.Places.{entry_of-place}
 use Rattle.rv_stations.specs.declared.waiting.Operand.{Operand}
 use Rattle.rv_rob.specs.declared.entry.Entry.{Entry}
 use Rattle.rv_states.specs.Entries.{entries_json, entry_json}
@@ -43,11 +42,6 @@ entry_at status seq (x ∷ es) (suc place) e is within =
 pub so_many_entries : (status : RegisterStatus) (seq : ℕ) (es : List Entry) → length (entries_json status seq es) ≡ length es
 so_many_entries status seq [] = refl
 so_many_entries status seq (x ∷ es) = ap suc (so_many_entries (status_with status seq x) (seq + 1) es)
-
--- a number finds the entry at its place
-pub entry_of-at : (number oldest place : ℕ) (es : List Entry) → number ≡ oldest + place → entry_of number oldest es ≡ slice_get es place
-entry_of-at number oldest place es is =
-    entry_of-place place number oldest es (record { held = λ le. omega (arith, is); retired = λ lt. absurd (omega (arith, is, lt)) })
 
 -- what a register gives after one more instruction, by what it gave before
 pub given_more : (status : RegisterStatus) (rob : ReorderBuffer) (number place : ℕ) (e : Entry) (register : ℕ) (before after : Operand) → number ≡ rob.retired + place → slice_get rob.entries place ≡ Some e
