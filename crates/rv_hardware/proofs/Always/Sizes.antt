@@ -5,6 +5,7 @@ use Rattle.rv_units.specs.Pool.{started as started_unit}
 use Rattle.rv_hardware.proofs.Turns.KeptByCycle.{IsKept, phases-kept}
 use Rattle.rv_hardware.proofs.Turns.Changes.{IsKeptByChanges, one_starts}
 use Rattle.rv_hardware.proofs.Turns.Fetch.{fetch_phase}
+use Rattle.rv_hardware.proofs.Words.{◌+◌, any_prediction}
 
 -- the description is legal, and its values, the cache's, and the rooms and units that they give, are the hardware's
 pub record AreSizes (v given : Values) (lines : CacheValues) (entries words most : ℕ) (pools : PerKind Pool) : Type 0 where
@@ -44,7 +45,12 @@ module _ (described : Values → Values) where
   changes h _ _ shape = shape
 
   kept : IsKept IsSized
-  kept = grind (arith, phases-kept, changes, fetch_phase, with_front)
+  kept = record {
+    phases = phases-kept changes;
+    fetch = λ ram cycle h front stop shape fetches.
+        let same = fetch_phase any_prediction ram cycle h.front front stop fetches in
+        with_front (described h.values) h front (h.cycle + 1) same.capacity same.width shape;
+  }
 
 -- every cycle keeps the shape of a description
 pub shape-kept : (v : Values) → IsKept (HasShape v)

@@ -15,6 +15,9 @@ use Rattle.rv_hardware.proofs.Gap.Patience.{dirty_time, patience, port_time, sta
 use Rattle.rv_hardware.proofs.Always.Serial.{alone}
 use Rattle.rv_hardware.proofs.Gap.Silent.{SilentAt, SilentFence, SilentHead, silent_commit}
 use Rattle.rv_hardware.proofs.Always.Sound.{IsBounded, sound-cycle}
+use Rattle.rv_hardware.proofs.Gap.Patience.{flight_time, head_time}
+use Rattle.rv_hardware.proofs.Always.Serial.{AreSerialLast}
+use Rattle.rv_hardware.proofs.Always.Stores.{instructions_of}
 
 module _ (lines : Lines) (old : Hardware) (sound : IsBounded old) where
   -- the hardware before the phases
@@ -68,7 +71,9 @@ module _ (lines : Lines) (old : Hardware) (sound : IsBounded old) where
         subst Falls (sym same) (λ front ram cycle stop fetches next. omega (arith, time, fall_write_back h front e one is idle dirty next.ending))
 
     fence_falls : (after : Hardware) → e.instruction ≡ Some FenceI → SilentFence h after → Falls after
-    fence_falls after is silent = grind (arith, alone, by_silence)
+    fence_falls after is silent =
+        let none = alone e es (subst (λ l. AreSerialLast (instructions_of l)) split sound.last) (ap is_serialising is) in
+        by_silence after (split ∙ ap (λ l. e ∷ l) none) is (ap (flight_time h) split ∙ ap (λ i. head_time h i e.stage) is) silent
 
     head_falls : (after : Hardware) (instruction : Option Instr) → e.instruction ≡ instruction → SilentHead instruction e.stage h after → Falls after
     head_falls after (Some FenceI) is silent = fence_falls after is silent

@@ -78,7 +78,8 @@ fence_waits h (s ∷ ss) stores drains room waits = grind (arith, drain-keeps, r
 -- where FENCE.I waits for the retired stores and the port, a cycle lowers the patience
 pub fall_fence_waits : (h : Hardware) (front : FetchBuffer) (e : Entry) → h.rob.entries ≡ e ∷ [] → e.instruction ≡ Some FenceI → Drains h (drain h) → HasRoom h → is_drained h ≡ false →
     AreEnding (later front (execute h).hardware) → patience (later front (execute h).hardware) + 1 ≤ port_time h + dirty_time h h.committed + 1
-fall_fence_waits h front e split is drains room given ending = grind (arith, fence_patience, fence_waits)
+fall_fence_waits h front e split is drains room waits ending =
+    omega (arith, fence_patience h front e split is ending, fence_waits h h.committed refl drains room waits)
 
 -- ---- its write-back begins
 drained_none : (h : Hardware) (stores : List Store) → h.committed ≡ stores → is_drained (record h { committed = stores }) ≡ true → h.committed ≡ []

@@ -210,7 +210,8 @@ module _ (lines : Lines) (before : State) (old : Hardware) where
   -- a turn of the commit phase either goes on soundly or ends in a true cycle
   pub turn_done : (c : Committing) (entries : List Entry) → c.hardware.rob.entries ≡ entries → IsGoing lines before old c →
       Leads (IsGoing lines before old) (IsDone lines before old) (commit_turn_of set.contains entries c)
-  turn_done c entries are going = grind (arith, done, turn_by)
+  turn_done c [] are going = done c going
+  turn_done c (e ∷ es) are going = turn_by c going e es are (set.contains c.hardware.stale (word_of e.pc)) refl
 
 -- ---- the whole phase
 module _ (h : Hardware) (is : IsSound h) where

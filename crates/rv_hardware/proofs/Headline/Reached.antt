@@ -1,5 +1,5 @@
 -- Each report of a run counts one cycle.
-use Rattle.rv_hardware.proofs.Words.{◌≡◌, ◌+◌, ◌≤◌, List, length, ap, arith, Arrival, Hardware, Report, Cycles, cycled, ended}
+use Rattle.rv_hardware.proofs.Words.{◌≡◌, ◌+◌, List, length, ap, arith, Arrival, Hardware, Report, Cycles, cycled, ended}
 
 -- each report of a run counts one cycle
 pub cycles_counted : {arrivals : List Arrival} {old new : Hardware} {reports : List Report} → Cycles arrivals old reports new → new.cycle ≡ old.cycle + length reports

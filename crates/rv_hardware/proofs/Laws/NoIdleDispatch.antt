@@ -12,6 +12,7 @@ use Rattle.rv_hardware.proofs.Marks.Row.{SoundRow}
 use Rattle.rv_hardware.proofs.Always.Sizes.{HasShape}
 use Rattle.rv_hardware.proofs.Marks.Sound.{some_kind}
 use Rattle.rv_hardware.proofs.Marks.Widths.{is_at}
+use Rattle.rv_hardware.proofs.Turns.Dispatch.{for_serial, for_buffer, for_station, for_queue}
 
 -- a word that could have been dispatched in a cycle: it is the oldest that was not, and no serialising instruction is in flight
 pub record MayEnter (c : ℕ) (before : List Mark) (m : Mark) : Type 0 where
@@ -87,7 +88,11 @@ module _ (v : Values) (now : ℕ) (rows : List Row) (h : Hardware) (shape : HasS
   by_station o is full = grind (arith, leb-true, stationed_entries, at_least, is_same-own)
 
   by_reason : MayEnter now olders_of (mark_of_fetched f) → WaitsFor h f → NoRoom v now olders_of (mark_of_fetched f)
-  by_reason may given = grind (arith, no_serial, Each-right, leb-true, in_flight_entries, at_least, by_station, true≢false, and_first)
+  by_reason may (for_serial is) = absurd (no_serial h.rob.entries (Each-right (λ x. is_serialising x.instruction ≡ true → is_some x.retired ≡ true) (map mark_of_row rows) (map mark_of_entry h.rob.entries) may.serial) is)
+  by_reason may (for_buffer is) =
+      inr (inl (omega (arith, leb-true h.rob.capacity (length h.rob.entries) is, in_flight_entries h.rob.entries, at_least is_in_flight_mark, shape.buffer)))
+  by_reason may (for_station is) = by_station (kind_of_word f.instruction) refl is
+  by_reason may (for_queue is) = absurd (true≢false (sym (and_first (is_store f.instruction) _ is) ∙ may.plain))
 
   pub head_waits : (v.dispatch_width ≤ count (dispatched_now v now) h.rob.entries) ⊎ WaitsFor h f → EntersSoon v now olders_of (mark_of_fetched f)
   head_waits (inl wide) may =

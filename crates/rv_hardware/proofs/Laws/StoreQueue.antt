@@ -51,7 +51,11 @@ module _ (v : Values) (now : ℕ) (earlier : List Step) (is_stale : set.FinSet n
       c.hardware.rob.entries ≡ e ∷ es → is_serialising e.instruction ≡ true → c.hardware.port_free ≤ port →
       InCommit v now earlier is_stale c → Queue v now (earlier ++ c.steps) c.hardware →
       QueueOk v.cache.hit now (rows_of (earlier ++ (c.steps ++ Retired (row_at e written c.hardware.cycle) ∷ []))) port c.hardware.committed
-  serial_row c e es written port place serial le p ok = grind (arith, row_is_store, may_retire_serial, serialising_is_no_store, plain_retires, pushed, queue_later)
+  serial_row c e es written port place serial le p ok =
+      let row : Row = row_at e written c.hardware.cycle in
+      let plain = row_is_store c e es written place (may_retire_serial e.instruction e.stage serial) p ∙ serialising_is_no_store e.instruction serial in
+      let more = plain_retires v.cache.hit now (rows_of (earlier ++ c.steps)) c.hardware.port_free c.hardware.committed ok row plain in
+      rw (pushed c (Retired row)) (queue_later v.cache.hit now (rows_of (earlier ++ c.steps) ++ row ∷ []) c.hardware.port_free c.hardware.committed more port le)
 
   -- a result
   result_row : (c : Committing) (e : Entry) (es : List Entry) (issue : Option Issue) (cycle : ℕ) (message : Message) →
@@ -62,10 +66,10 @@ module _ (v : Values) (now : ℕ) (earlier : List Step) (is_stale : set.FinSet n
 
   commit_queue : (c : Committing) (t : Turn Committing) → CommitTurn is_stale c t → InCommit v now earlier is_stale c → Queues c →
       Leads Queues Queues t
-  commit_queue c _ (fence_writes e es head is drained dirty) p ok = grind (arith, drained_idle, queue_later)
+  commit_queue c _ (fence_writes e es head is drained dirty) p ok =
+      queue_later v.cache.hit now (rows_of (earlier ++ c.steps)) c.hardware.port_free c.hardware.committed ok (written_back c).hardware.port_free (omega (arith, drained_idle _ c.hardware drained))
   commit_queue c _ (fence_retires e es written next head is drained) p ok =
-      let le = drained_idle _ c.hardware drained in
-      serial_row c e es written (written_back c).hardware.port_free head.place (ap is_serialising is) (omega (arith, le)) p ok
+      serial_row c e es written (written_back c).hardware.port_free head.place (ap is_serialising is) (omega (arith, drained_idle _ c.hardware drained)) p ok
   commit_queue c _ (executes e es written next head serial) p ok = serial_row c e es written c.hardware.port_free head.place serial (omega arith) p ok
   commit_queue c _ (serial_faults e es cause value head serial) p ok = no_row c (Trap e.pc cause value c.hardware.cycle) (with_fault e cause value c).hardware refl refl refl ok
   commit_queue c _ (traps e es issue cycle message fault head plain at is) p ok = no_row c (Trap e.pc fault.cause fault.value c.hardware.cycle) (with_fault e fault.cause fault.value c).hardware refl refl refl ok
@@ -87,10 +91,21 @@ module _ (v : Values) (now : ℕ) (steps : List Step) where
   Drained h = (h.cycle ≡ now) × (h.cache.values ≡ v.cache) × Queue v now steps h
 
   drain_queue : IsKeptByDrain Drained
-  drain_queue = grind (arith, leb-true, queue_leaves, access_cost-least, queue_begins)
+  drain_queue = record {
+    leaves = λ h p idle.
+        let le = leb-true h.port_free h.cycle idle in (p.0, p.1, queue_leaves v.cache.hit now (rows_of steps) h.port_free (omega (arith, le, p.0)) h.committed p.2);
+    drains = λ h access p idle is.
+        let le = leb-true h.port_free h.cycle idle in
+        (p.0, p.1, queue_begins v.cache.hit now (rows_of steps) h.port_free (omega (arith, le, p.0)) _ (omega (arith, p.0, access_cost-least h.cache access.address, ap (λ (c : CacheValues). c.hit) p.1)) h.committed p.2);
+  }
 
   issue_queue : (k : Kind) → IsKeptByIssue (Queue v now steps) k
-  issue_queue k = grind (arith, has_its_port, ready-parts, queue_later, port_grows)
+  issue_queue k = record {
+    accesses = λ h older younger e address ok split ready by.
+        let idle = subst (λ q. has_port h q ≡ true) by (has_its_port h older e (ready-parts h k older e ready).loads) in
+        queue_later v.cache.hit now (rows_of steps) h.port_free h.committed ok _ (port_grows h (FromCache address) idle);
+    starts = λ h older younger e cost message ok split waits of_kind result costs. ok;
+  }
 
   broadcast_queue : IsKeptByBroadcast (Queue v now steps)
   broadcast_queue = record { broadcasts = λ h older younger e message ok split gives. ok; mends = λ h older younger e next ok split. ok }

@@ -70,7 +70,13 @@ module _ (v : Values) (legal : IsLegal v) (R : List Mark → Type 0) (earlier : 
   module _ (steps : List Step) (d : Hardware) (dispatched : Goes v old.cycle (old.cycle + 1) (old.cycle + 1) (old.cycle + 1) old.cycle (old.cycle + 1) R steps d)
       (fetches : FetchPhase old.cycle d.front new.front) (others_stay : new ≡ record d { front = new.front; cycle = old.cycle + 1 }) (always : IsSoundFor v new) where
     ended : Basics v (old.cycle + 1) (old.cycle + 1) (old.cycle + 1) (old.cycle + 1) (old.cycle + 1) (old.cycle + 1) steps new
-    ended = grind (arith, Each-append, Each-weaker)
+    ended = record {
+      cycle = ap (λ (h : Hardware). h.cycle) others_stay;
+      always = always;
+      rows = dispatched.basics.rows;
+      entries = subst (Each (SoundEntry v (old.cycle + 1) (old.cycle + 1) (old.cycle + 1))) (sym (ap (λ (h : Hardware). h.rob.entries) others_stay)) dispatched.basics.entries;
+      fetched = grind (arith, Each-append, Each-weaker);
+    }
 
     more_marks : marks_in steps new ≡ marks_in steps d ++ map mark_of_fetched fetches.added
     more_marks = grind (arith, marks_fetched)

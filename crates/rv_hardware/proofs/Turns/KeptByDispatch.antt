@@ -1,5 +1,4 @@
 -- The dispatch phase keeps what the dispatch of one fetched word keeps.
-use Rattle.std.proofs.Common.{arith}
 use Rattle.rv_hardware.proofs.Words.{◌≡◌, ℕ, List, ◌∷◌, Fetched, Dispatching, dispatch, dispatch_turn, with_dispatched, Hardware, Turn, repeated, Leaves, kept_by_turns}
 use Rattle.rv_hardware.proofs.Turns.Dispatch.{DispatchTurn, WaitsForNothing, dispatches as dispatched, dispatch_turn_is}
 
@@ -14,7 +13,8 @@ module _ {P : Hardware → Type 0} (kept : IsKeptByDispatch P) where
   Holds d = P d.hardware
 
   turn-keeps : (d : Dispatching) (t : Turn Dispatching) → DispatchTurn d t → Holds d → Leaves Holds t
-  turn-keeps d t given holds = grind (arith, dispatched)
+  turn-keeps d _ (dispatched f fs at nothing) holds = kept.dispatches d.hardware f fs holds at nothing
+  turn-keeps d _ _ holds = holds
 
   -- so the turns of the dispatch phase keep it
   pub dispatch_turns-keep : (width : ℕ) (d : Dispatching) → P d.hardware → P (repeated dispatch_turn width d).hardware

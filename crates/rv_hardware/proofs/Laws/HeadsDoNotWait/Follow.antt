@@ -213,10 +213,15 @@ module _ (v : Values) (now : ℕ) (earlier : List Step) where
   turn_leads : (total k : ℕ) (c : Committing) (t : Turn Committing) → t ≡ commit_turn set.contains c →
       CommitTurn set.contains c t → InCommit c → Going k c → Leads InCommit InCommit t → Leads (Going (suc k)) Committed t
   turn_leads total k c _ turn (no_head none) q p goes = standing k c c.stop p (λ x rest at. absurd (let no_more = sym none ∙ at in cc))
-  turn_leads total k c _ turn (stale_head e es at is) q p goes = grind (arith, standing, same_head)
-  turn_leads total k c _ turn (unfinished e es head plain none) q p goes = grind (arith, standing, same_head, unfinished_since)
+  turn_leads total k c _ turn (stale_head e es at is) q p goes =
+      let same = standing k c c.stop p (λ x rest at'. inr (inl (subst (λ (y : Entry). set.contains c.hardware.stale (word_of y.pc) ≡ true) (same_head e x es rest c.hardware.rob.entries at at') is))) in
+      record { follow = same.follow; next = same.next }
+  turn_leads total k c _ turn (unfinished e es head plain none) q p goes =
+      standing k c c.stop p (λ x rest at. inr (inr (inr (subst (λ (y : Entry). IsKnownSince (now + 1) y.instruction y.dispatched y.stage) (same_head e x es rest c.hardware.rob.entries head.place at) (unfinished_since (now + 1) e.dispatched e.instruction e.stage plain none)))))
   turn_leads total k c _ turn (fence_waits e es head is busy) q p goes = standing k c c.stop p (fence_stands k c e es head q p (ap is_fence_i is))
-  turn_leads total k c _ turn (fence_writes e es head is drained dirty) q p goes = grind (arith, standing, fence_stands)
+  turn_leads total k c _ turn (fence_writes e es head is drained dirty) q p goes =
+      let same = standing k c c.stop p (fence_stands k c e es head q p (ap is_fence_i is)) in
+      record { follow = same.follow; next = same.next }
   turn_leads total k c _ turn (fence_retires e es written next head is drained) q p goes =
       flushing c (Retired (row_at e written c.hardware.cycle)) (executed e written next (written_back c)).hardware c.stop q.basics.cycle p.follow
       (retired_follows k c e es head q p written (may_retire_serial e.instruction e.stage (ap is_serialising is))) refl refl
@@ -232,7 +237,11 @@ module _ (v : Values) (now : ℕ) (earlier : List Step) where
       let follows = trap_follows v now (last_stamp (earlier ++ c.steps)) (has_step (earlier ++ c.steps)) c.hardware.stale e (head_sound k c e es head q p) (head_next k c e es head q p) head.fresh issue cycle message fault plain at is (head_found k c e es head q p) in
       flushing c (Trap e.pc fault.cause fault.value c.hardware.cycle) (with_fault e fault.cause fault.value c).hardware (with_fault e fault.cause fault.value c).stop q.basics.cycle p.follow
       (subst (λ n. Follows (last_stamp (earlier ++ c.steps)) (has_step (earlier ++ c.steps)) (Trap e.pc fault.cause fault.value n)) (sym q.basics.cycle) follows) refl refl
-  turn_leads total k c _ turn (retires e es issue cycle message head plain at none) q p goes = grind (arith, last_is, next-now, more_follow, retired_follows, may_retire_finished)
+  turn_leads total k c _ turn (retires e es issue cycle message head plain at none) q p goes =
+      let x : Step = Retired (row_at e (written_of e message) c.hardware.cycle) in
+      let last = last_is c x q.basics.cycle in
+      let follow = more_follow c x p.follow (retired_follows k c e es head q p (written_of e message) (may_retire_finished e.instruction e.stage issue cycle message at none)) in
+      record { follow = follow; next = grind (arith, last, next-now); later = grind (arith, last, next-now) }
   turn_leads total k c _ turn (retires_last e es issue cycle message head plain at none) q p goes =
       flushing c (Retired (row_at e (written_of e message) c.hardware.cycle)) (retired_and_flushed e message c).hardware c.stop q.basics.cycle p.follow
       (retired_follows k c e es head q p (written_of e message) (may_retire_finished e.instruction e.stage issue cycle message at none)) refl refl

@@ -129,7 +129,8 @@ module _ (v : Values) (now : ℕ) (halted : Bool) where
 
     joint_goes : (held : ℕ → ℕ) (ms : List Mark) → Joint v now (IsOpen v halted now) held m ms →
         Joint v now (IsOpen v halted now) held n ms
-    joint_goes held ms given = grind (arith, retired_before, filled_same)
+    joint_goes held [] given = grind (arith, retired_before, filled_same)
+    joint_goes held (z ∷ zs) given = grind (arith, retired_before, filled_same)
 
     joint_before : (held : ℕ → ℕ) (x : Mark) (xs zs : List Mark) → Joint v now (IsOpen v halted now) held x (xs ++ m ∷ zs) →
         Joint v now (IsOpen v halted now) held x (xs ++ n ∷ zs)

@@ -167,7 +167,7 @@ module _ (v : Values) {earlier : List Step} {old new : Hardware} {lines : Lines}
       mended.words mended.runs passed.fetches.added refl
 
   pub linked_in_cycle : Linked v new.cycle (IsOpen v new.front.halted new.cycle) (λ c. 0) (marks_in all new)
-  linked_in_cycle = grind (arith, passed, by_squash, left)
+  linked_in_cycle = rw (ap (λ (h : Hardware). h.cycle) passed.others_stay, passed.new_marks) (by_squash left)
 
 -- in every history each mark tells why the next one was not fetched earlier
 pub marks_are_linked : (v : Values) {steps : List Step} {h : Hardware} → History v steps h →

@@ -49,10 +49,15 @@ module _ (v : Values) (now : ℕ) (earlier : List Step) (before : Each (λ s. st
         (Each-left (λ a. flushes a ≡ true → IsFetchedSince a s) earlier c.steps anew)
 
     from_now : Each (λ a. InOrder a s) c.steps
-    from_now = grind (arith, Each-both, true≢false, Each-right)
+    from_now =
+        Each-both (λ a. (stamp_of a ≡ now) × Plain a) (λ a. flushes a ≡ true → IsFetchedSince a s) (λ a. InOrder a s) (λ a h new. grind (arith, true≢false)) c.steps
+        (Each-both (λ a. stamp_of a ≡ now) Plain (λ a. (stamp_of a ≡ now) × Plain a) (λ a e f. (e, f)) c.steps p.steps.of_now p.plain)
+        (Each-right (λ a. flushes a ≡ true → IsFetchedSince a s) earlier c.steps anew)
 
     more_pairs : EveryPair InOrder (earlier ++ (c.steps ++ s ∷ []))
-    more_pairs = grind (arith, regroup, EveryPair-append, Each-weaker, Each-append, from_earlier, from_now)
+    more_pairs =
+        rw regroup (EveryPair-append InOrder (earlier ++ c.steps) (s ∷ []) p.steps.pairs (tt, tt)
+        (Each-weaker (λ a. InOrder a s) (λ a. Each (InOrder a) (s ∷ [])) (λ a h. (h, tt)) (earlier ++ c.steps) (Each-append (λ a. InOrder a s) earlier c.steps from_earlier from_now)))
 
     more_of_now : Each (λ a. stamp_of a ≡ now) (c.steps ++ s ∷ [])
     more_of_now = Each-append (λ a. stamp_of a ≡ now) c.steps (s ∷ []) p.steps.of_now (at, tt)
@@ -226,8 +231,12 @@ module _ (v : Values) (legal : IsLegal v) (earlier : List Step) (old new : Hardw
   steps_of_cycle = subst (Each (λ s. stamp_of s ≡ old.cycle)) (sym passed.steps) committed.of_now
 
   none_of_now : (c : ℕ) (b : Bool) → eqb old.cycle c ≡ b → count (λ s. stamp_of s == c) (earlier ++ report.steps) ≤ v.commit_width
-  none_of_now c true e = grind (arith, eqb-true, count-append, count-none, Each-weaker, ne_eqb, count-length, passed, committed)
-  none_of_now c false e = grind (arith, count-append, count-none, Each-weaker, steps_of_cycle)
+  none_of_now c true e =
+      let none = count-none (λ s. stamp_of s == c) earlier (Each-weaker (λ s. stamp_of s < old.cycle) (λ s. (stamp_of s == c) ≡ false) (λ s lt. ne_eqb (stamp_of s) c (omega (arith, lt, eqb-true old.cycle c e))) earlier past.before) in
+      omega (arith, none, count-append (λ s. stamp_of s == c) earlier report.steps, count-length (λ s. stamp_of s == c) report.steps, ap (λ l. length l) passed.steps, committed.within)
+  none_of_now c false e =
+      let none = count-none (λ s. stamp_of s == c) report.steps (Each-weaker (λ s. stamp_of s ≡ old.cycle) (λ s. (stamp_of s == c) ≡ false) (λ s at. rw at e) report.steps steps_of_cycle) in
+      omega (arith, none, count-append (λ s. stamp_of s == c) earlier report.steps, past.width c)
 
   pub steps_go_on : StepsPast v (earlier ++ report.steps) new
   steps_go_on =
