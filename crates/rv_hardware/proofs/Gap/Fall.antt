@@ -11,12 +11,10 @@ use Rattle.rv_hardware.proofs.Gap.FallFence.{fall_fence_waits, fall_write_back}
 use Rattle.rv_hardware.proofs.Gap.FallRunning.{RunsUntil, fall_running}
 use Rattle.rv_hardware.proofs.Gap.FallWaiting.{fall_waiting}
 use Rattle.rv_hardware.proofs.Gap.Head.{HeadIs, Waits}
-use Rattle.rv_hardware.proofs.Gap.Patience.{dirty_time, patience, port_time, stage_time}
-use Rattle.rv_hardware.proofs.Always.Serial.{alone}
+use Rattle.rv_hardware.proofs.Gap.Patience.{dirty_time, patience, port_time, stage_time, flight_time, head_time}
+use Rattle.rv_hardware.proofs.Always.Serial.{alone, AreSerialLast}
 use Rattle.rv_hardware.proofs.Gap.Silent.{SilentAt, SilentFence, SilentHead, silent_commit}
 use Rattle.rv_hardware.proofs.Always.Sound.{IsBounded, sound-cycle}
-use Rattle.rv_hardware.proofs.Gap.Patience.{flight_time, head_time}
-use Rattle.rv_hardware.proofs.Always.Serial.{AreSerialLast}
 use Rattle.rv_hardware.proofs.Always.Stores.{instructions_of}
 
 module _ (lines : Lines) (old : Hardware) (sound : IsBounded old) where

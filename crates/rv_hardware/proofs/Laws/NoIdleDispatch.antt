@@ -3,7 +3,7 @@ use Rattle.rv_hardware.proofs.Words.{◌≡◌, ℕ, suc, ◌<◌, ◌≤◌, Bo
 use Rattle.rv_hardware.proofs.Marks.Advance.{is_in_flight_mark, is_stationed_mark}
 use Rattle.rv_hardware.proofs.Marks.History.{History, history_is_sound, sent_all, dispatching}
 use Rattle.rv_hardware.proofs.Marks.Counted.{behind_law, behind_count}
-use Rattle.rv_hardware.proofs.Turns.Dispatch.{DispatchTurn, dispatch_turn_is, WaitsFor}
+use Rattle.rv_hardware.proofs.Turns.Dispatch.{DispatchTurn, dispatch_turn_is, WaitsFor, for_serial, for_buffer, for_station, for_queue}
 use Rattle.rv_hardware.proofs.Turns.Fetch.{IsNew}
 use Rattle.rv_hardware.proofs.Marks.List.{Mark, mark_of_row, mark_of_entry, mark_of_fetched, at_end, as_of, was_fetched, start_until, start_of_stage, start_of_execution, until_by, until_now}
 use Rattle.rv_hardware.proofs.Marks.Pairs.{Older, rows_are_older}
@@ -12,7 +12,6 @@ use Rattle.rv_hardware.proofs.Marks.Row.{SoundRow}
 use Rattle.rv_hardware.proofs.Always.Sizes.{HasShape}
 use Rattle.rv_hardware.proofs.Marks.Sound.{some_kind}
 use Rattle.rv_hardware.proofs.Marks.Widths.{is_at}
-use Rattle.rv_hardware.proofs.Turns.Dispatch.{for_serial, for_buffer, for_station, for_queue}
 
 -- a word that could have been dispatched in a cycle: it is the oldest that was not, and no serialising instruction is in flight
 pub record MayEnter (c : ℕ) (before : List Mark) (m : Mark) : Type 0 where

@@ -62,7 +62,11 @@ module _ (v : Values) (now : ℕ) (earlier : List Step) (is_stale : set.FinSet n
       c.hardware.rob.entries ≡ e ∷ es → e.stage ≡ Finished issue cycle message → message.fault ≡ None →
       InCommit v now earlier is_stale c → Queues c →
       Queue v now (earlier ++ (c.steps ++ Retired (row_at e (written_of e message) c.hardware.cycle) ∷ [])) (retired_with e message c).hardware
-  result_row c e es issue cycle message place given holds p ok = grind (arith, row_is_store, may_retire_finished, told_at_end, pushed, queue_retires)
+  result_row c e es issue cycle message place given holds p ok =
+      let row : Row = row_at e (written_of e message) c.hardware.cycle in
+      let same = row_is_store c e es (written_of e message) place (may_retire_finished e.instruction e.stage issue cycle message given holds) p in
+      let tells = (told_at_end e.word e.instruction e.stage message (ap broadcast_of given) (subst (Each Shaped) place p.basics.always.stores.0.0).0).store holds in
+      rw (pushed c (Retired row)) (queue_retires v.cache.hit now (rows_of (earlier ++ c.steps)) c.hardware.port_free c.hardware.committed ok row c.hardware.rob.retired message.store (tells ∙ sym same) (omega (arith, p.basics.cycle)))
 
   commit_queue : (c : Committing) (t : Turn Committing) → CommitTurn is_stale c t → InCommit v now earlier is_stale c → Queues c →
       Leads Queues Queues t

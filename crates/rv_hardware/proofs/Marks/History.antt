@@ -75,7 +75,9 @@ module _ (v : Values) (legal : IsLegal v) (R : List Mark → Type 0) (earlier : 
       always = always;
       rows = dispatched.basics.rows;
       entries = subst (Each (SoundEntry v (old.cycle + 1) (old.cycle + 1) (old.cycle + 1))) (sym (ap (λ (h : Hardware). h.rob.entries) others_stay)) dispatched.basics.entries;
-      fetched = grind (arith, Each-append, Each-weaker);
+      fetched = rw (fetches.entries) (Each-append (SoundFetched (old.cycle + 1)) d.front.entries fetches.added
+          (Each-weaker (SoundFetched old.cycle) (SoundFetched (old.cycle + 1)) (λ f w. (omega (arith, w.0), w.1)) d.front.entries dispatched.basics.fetched)
+          (Each-weaker (IsNew old.cycle) (SoundFetched (old.cycle + 1)) (λ f w. (omega (arith, w.0), w.1)) fetches.added fetches.are_new));
     }
 
     more_marks : marks_in steps new ≡ marks_in steps d ++ map mark_of_fetched fetches.added

@@ -1,5 +1,5 @@
 -- Marks of which each tells why the next was not fetched earlier go on to do so.
-use Rattle.rv_hardware.proofs.Words.{◌≡◌, ℕ, suc, ◌+◌, ◌<◌, ◌≤◌, Bool, true, cond, ◌&&◌, ◌⊎◌, List, [], ◌∷◌, ◌++◌, length, Some, None, Option, sym, ap, ◌∙◌, subst, append_assoc, arith, length-append, Early, Values, Each, count}
+use Rattle.rv_hardware.proofs.Words.{◌≡◌, ℕ, suc, ◌+◌, ◌<◌, ◌≤◌, Bool, true, cond, ◌&&◌, ◌⊎◌, List, [], ◌∷◌, ◌++◌, length, Some, None, Option, sym, ap, ◌∙◌, subst, append_assoc, arith, length-append, Early, Values, Each, count, inl, inr}
 use Rattle.rv_hardware.proofs.Marks.Advance.{Advances, Kept, advances_agree}
 use Rattle.rv_hardware.proofs.Marks.History.{is_buffered_mark}
 use Rattle.rv_hardware.proofs.Marks.List.{Mark, at_end, was_fetched}
@@ -129,8 +129,12 @@ module _ (v : Values) (now : ℕ) (halted : Bool) where
 
     joint_goes : (held : ℕ → ℕ) (ms : List Mark) → Joint v now (IsOpen v halted now) held m ms →
         Joint v now (IsOpen v halted now) held n ms
-    joint_goes held [] given = grind (arith, retired_before, filled_same)
-    joint_goes held (z ∷ zs) given = grind (arith, retired_before, filled_same)
+    joint_goes held [] (inl is) = inl is
+    joint_goes held [] (inr (inl over)) = retired_before now over
+    joint_goes held [] (inr (inr full)) = inr (inr (filled_same held now (omega arith) full))
+    joint_goes held (z ∷ zs) (by, inl over) = retired_before z.fetched over
+    joint_goes held (z ∷ zs) (by, inr (inl early)) = (by, inr (inl (early.0, g.sent z.fetched early.1)))
+    joint_goes held (z ∷ zs) (by, inr (inr full)) = (by, inr (inr (filled_same held z.fetched by full)))
 
     joint_before : (held : ℕ → ℕ) (x : Mark) (xs zs : List Mark) → Joint v now (IsOpen v halted now) held x (xs ++ m ∷ zs) →
         Joint v now (IsOpen v halted now) held x (xs ++ n ∷ zs)

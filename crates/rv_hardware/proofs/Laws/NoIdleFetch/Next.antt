@@ -1,5 +1,5 @@
 -- What is in flight, or is fetched next, was fetched no later than the last step.
-use Rattle.rv_hardware.proofs.Words.{◌≡◌, ℕ, ◌+◌, ◌-◌, ◌≤◌, Bool, true, false, ◌⊎◌, List, [], ◌∷◌, ◌++◌, length, Some, None, Option, nat_cmp, sym, refl, ap, ◌∙◌, subst, inl, inr, true≢false, append_assoc, append-nil, arith, length-append, Lines, Kind, Values, due, interrupt_cause, Each, Entry, FetchBuffer, Fetched, broadcast, Committing, commit_unless, with_fault, IsCycle, any_prediction, with_lines, dispatch, drain, Hardware, issue, Turn, Report, written_of, EachNext, stamp_of, Step, Interrupt, Retired, Trap, Each-weaker, Leads}
+use Rattle.rv_hardware.proofs.Words.{◌≡◌, ℕ, ◌+◌, ◌-◌, ◌≤◌, Bool, true, ◌⊎◌, List, [], ◌∷◌, ◌++◌, length, Some, None, Option, nat_cmp, sym, refl, ap, ◌∙◌, subst, true≢false, append_assoc, append-nil, arith, Lines, Kind, Values, due, interrupt_cause, Each, Entry, FetchBuffer, Fetched, broadcast, Committing, commit_unless, with_fault, IsCycle, any_prediction, with_lines, dispatch, drain, Hardware, issue, Turn, Report, written_of, EachNext, stamp_of, Step, Interrupt, Retired, Trap, Each-weaker, Leads}
 use Rattle.std.specs.FinSet as set
 use Rattle.rv_hardware.proofs.Turns.KeptByBroadcast.{IsKeptByBroadcast, broadcast-keeps}
 use Rattle.rv_hardware.proofs.Turns.KeptByDispatch.{IsKeptByDispatch, dispatch-keeps}
@@ -145,6 +145,12 @@ coming_fetched : (now : ℕ) (es : List Entry) (fs added : List Fetched) → Eac
     (es ≡ [] → fs ++ added ≡ [] → ⊥) → coming (now + 1) es (fs ++ added) ≡ coming now es fs
 coming_fetched now es fs added new some = grind arith
 
+-- a fetch that goes on, into a buffer with room, leaves something there
+leaves_some : (entries added : List Fetched) (halted : Bool) (width capacity most room : ℕ) → width ≡ most → capacity ≡ room → 1 ≤ most → 1 ≤ room →
+    (halted ≡ true → ⊥) → (added ≡ [] → (halted ≡ true) ⊎ ((width ≡ 0) ⊎ (capacity - length entries ≡ 0))) → entries ++ added ≡ [] → ⊥
+leaves_some [] added halted width capacity most room same same' wide roomy runs goes_on none = grind arith
+leaves_some (f ∷ fs) added halted width capacity most room same same' wide roomy runs goes_on none = absurd (cc)
+
 module _ (v : Values) {earlier : List Step} {old new : Hardware} {lines : Lines} {report : Report} (before : History v earlier old) (is : IsCycle any_prediction lines old report new) where
   abbrev Passes : Type 0
   Passes = Passed v Anything earlier lines old report new
@@ -153,25 +159,14 @@ module _ (v : Values) {earlier : List Step} {old new : Hardware} {lines : Lines}
   d = (dispatching lines old).hardware
 
   something_is_there : (passed : Passes) → d.rob.entries ≡ [] → d.front.entries ++ passed.fetches.added ≡ [] → ⊥
-  something_is_there passed none none' = by_reason (passed.fetches.goes_on (no_more d.front.entries passed.fetches.added none'))
-    where
-      no_more : {X : Type 0} (xs ys : List X) → xs ++ ys ≡ [] → ys ≡ []
-      no_more [] ys all = all
-      no_more (x ∷ xs) ys all = absurd (cc)
-
-      runs : new.front.halted ≡ false
-      runs =
-          let here = (history_is_sound v (went_on before is)).always.halted.1 in
-          let entries = ap (λ (h : Hardware). h.rob.entries) passed.others_stay ∙ none in
-          runs-empty new.front.halted (subst (HaltsBehind new.front.halted) (ap (λ es. words_of es new.front.entries) entries ∙ ap (words_of []) (passed.fetches.entries ∙ none')) here)
-
-      by_reason : (d.front.halted ≡ true) ⊎ ((d.front.width ≡ 0) ⊎ (d.front.capacity - length d.front.entries ≡ 0)) → ⊥
-      by_reason (inl halted) = true≢false (sym halted ∙ ap (λ (r : FetchBuffer). r.halted) (sym (stays_halted is halted)) ∙ runs)
-      by_reason (inr (inl narrow)) = let legal = (history_is_legal v before).pipeline.fetch_width in omega (arith, narrow, passed.dispatches.basics.always.sizes.width, legal)
-      by_reason (inr (inr full)) =
-          let legal = (history_is_legal v before).pipeline.fetch_buffer in
-          let empty = sym (length-append d.front.entries passed.fetches.added) ∙ ap length none' in
-          omega (arith, full, empty, passed.dispatches.basics.always.sizes.room, legal)
+  something_is_there passed none none' =
+      let here = (history_is_sound v (went_on before is)).always.halted.1 in
+      let entries = ap (λ (h : Hardware). h.rob.entries) passed.others_stay ∙ none in
+      let runs = runs-empty new.front.halted (subst (HaltsBehind new.front.halted) (ap (λ es. words_of es new.front.entries) entries ∙ ap (words_of []) (passed.fetches.entries ∙ none')) here) in
+      let legal = (history_is_legal v before).pipeline in
+      let sizes = passed.dispatches.basics.always.sizes in
+      leaves_some d.front.entries passed.fetches.added d.front.halted d.front.width d.front.capacity v.fetch_width v.fetch_buffer sizes.width sizes.room (omega (arith, legal.fetch_width)) (omega (arith, legal.fetch_buffer))
+      (λ halted. true≢false (sym halted ∙ ap (λ (r : FetchBuffer). r.halted) (sym (stays_halted is halted)) ∙ runs)) passed.fetches.goes_on none'
 
   next_in_cycle : AreFetchedNext old.cycle earlier old → AreFetchedNext new.cycle (earlier ++ report.steps) new
   next_in_cycle p =

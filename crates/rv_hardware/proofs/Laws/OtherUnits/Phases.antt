@@ -147,7 +147,14 @@ units_dispatch v now = grind (arith, all_fewer, count-push-no, dispatched_mark, 
 
 -- each phase of a cycle keeps it that all units are held within their number
 pub units_kept : (v : Values) (now : ℕ) → IsKeptInCycle v now (AllHeld v now)
-units_kept v now = grind (arith, units_commit, started_units, ready-parts, units_broadcast, units_dispatch)
+units_kept v now = record {
+  lines = λ h levels held. held;
+  commit = units_commit v now;
+  drain = record { leaves = λ h held idle. held; drains = λ h access held idle is. held };
+  issue = λ k h older younger e here held at is free. started_units v now k h older younger e at (ready-parts h k older e is) free (here, held);
+  broadcast = units_broadcast v now;
+  dispatch = units_dispatch v now;
+}
 
 units_at_reset : (v : Values) (k : Kind) → Held v 0 k (at_kind k (for_each free_pool v.kinds)) []
 units_at_reset v k = rw (at_kind-for_each free_pool v.kinds k) (record { tied = λ c le. omega arith; within = λ c le. omega arith; begun = tt })
