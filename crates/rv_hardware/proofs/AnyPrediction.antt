@@ -1,6 +1,5 @@
 -- A cycle by what a predictor answers is one by any of the predictions that there may be.
-use Rattle.std.proofs.Common.{arith}
-use Rattle.std.proofs.Common.{◌≡◌, ℕ, zero, suc, ◌-◌, Bool, List, [], ◌∷◌, ◌++◌, length, Option, MatchBool, MatchOption}
+use Rattle.std.proofs.Common.{arith, ◌≡◌, ℕ, zero, suc, ◌-◌, Bool, List, [], ◌∷◌, ◌++◌, length, Option, MatchBool, MatchOption}
 use Rattle.rv_isa.specs.declared.{lines.Arrival.Arrival, lines.Lines.Lines}
 use Rattle.rv_memory.specs.Memory.{Memory}
 use Rattle.rv_front.specs.FetchBuffer.{Answers, FetchBuffer, Fetches, FetchesInto, IsFetchedAt, IsGuess, is_halted, stop_behind}
@@ -24,15 +23,11 @@ module _ (answers : Answers) (ram : Memory) (cycle : ℕ) where
   where_none A B C o change here = grind arith
 
   any-fetches : (width room pc : ℕ) (es : List Fetched) (next : ℕ) (stop : FetchStop) → Fetches answers ram cycle width room pc es next stop → Fetches any_prediction ram cycle width room pc es next stop
-  any-fetches zero zero pc [] next stop is = is
-  any-fetches zero (suc room) pc [] next stop is = is
-  any-fetches (suc width) zero pc [] next stop is = is
-  any-fetches (suc width) (suc room) pc [] next stop is = is
-  any-fetches zero zero pc (e ∷ es) next stop is = is
-  any-fetches zero (suc room) pc (e ∷ es) next stop is = is
-  any-fetches (suc width) zero pc (e ∷ es) next stop is = is
+  any-fetches width room pc [] next stop is = is
   any-fetches (suc width) (suc room) pc (e ∷ es) next stop is =
       (any-at pc e is.0, where_none (Fetches answers ram cycle width room e.predicted es next stop) (Fetches any_prediction ram cycle width room e.predicted es next stop) (λ reason. (es ≡ []) × (next ≡ e.predicted) × (stop ≡ reason)) (stop_behind e) (any-fetches width room e.predicted es next stop) is.1)
+  any-fetches zero room pc (e ∷ es) next stop is = is
+  any-fetches (suc width) zero pc (e ∷ es) next stop is = is
 
   any-into_at : (halted : Bool) (old new : FetchBuffer) (stop : FetchStop)
       → MatchBool halted ((new ≡ old) × (stop ≡ Halted)) ((added : List Fetched) × Fetches answers ram cycle old.width (old.capacity - length old.entries) old.next_pc added new.next_pc stop × (new ≡ record old { entries = old.entries ++ added; next_pc = new.next_pc; halted = is_halted stop }))

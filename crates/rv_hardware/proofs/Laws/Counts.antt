@@ -1,6 +1,5 @@
 -- The busy cycles and the stalls of a run make its cycles.
 use Rattle.rv_hardware.proofs.Words.{◌≡◌, ℕ, suc, ◌+◌, ◌<◌, ◌≤◌, Bool, true, false, cond, not, List, [], ◌∷◌, length, ◌==◌, Some, None, Option, refl, arith, ne_eqb, Dispatching, dispatch, dispatch_turn, stall_of, Hardware, stall_cycles, Turn, Report, counted, busy_of, counted_stall, stalls_from, stalls_of, Stall, count, count-count_by, Leads, turns_within}
-use Rattle.rv_hardware.specs.declared.report.Stall.TheVariants as stall
 use Rattle.rv_hardware.specs.declared.report.StallCounts.{StallCounts}
 use Rattle.rv_hardware.proofs.Turns.Dispatch.{DispatchTurn, dispatch_turn_is}
 
@@ -34,11 +33,7 @@ dispatch_tells h le =
 -- over all cycles
 
 one_more : (reason : Stall) (counts : StallCounts) → stall_cycles (counted reason counts) ≡ suc (stall_cycles counts)
-one_more stall.Fetch counts = omega arith
-one_more stall.Serial counts = omega arith
-one_more stall.Rob counts = omega arith
-one_more stall.Station counts = omega arith
-one_more stall.Store counts = omega arith
+one_more reason counts = grind arith
 
 -- each report tells
 abbrev pub AllTell : List Report → Type 0

@@ -97,10 +97,8 @@ agree_by now m n p is agree = rw is agree
 
 -- a mark that goes on was the same at the end of every earlier cycle
 pub advances_agree : (v : Values) (now : ℕ) (xs : List Mark) (m n : Mark) → Advances v now xs m n → Agree now m n
-advances_agree v now xs m n (retires a) = grind (arith, agree_by, until_now)
 advances_agree v now xs m n (starts a) = grind (arith, agree_by, start_until_now)
-advances_agree v now xs m n (is_sent a) = grind (arith, agree_by, until_now)
-advances_agree v now xs m n (enters a) = grind (arith, agree_by, until_now)
+advances_agree v now xs m n given = grind (arith, agree_by, until_now)
 
 -- so the marks go on from those at the start of the cycle
 pub extends_kept : (v : Values) (now : ℕ) (from : List Mark) → Kept v now (Extends now from)

@@ -10,7 +10,7 @@ use Rattle.rv_hardware.proofs.Marks.Advance.{Advances, Starts, IsSent, retires a
 use Rattle.rv_hardware.proofs.Marks.Evidence.{operands_known, stores_known, none_waits, rows_and_entries_are_dispatched, in_flight_room, stations_room}
 use Rattle.rv_hardware.proofs.Marks.Basics.{Basics, started_sound, finished_sound, finished_mark, predicting_sound, dispatched_sound, dispatched_mark, is_waiting_is}
 use Rattle.rv_hardware.proofs.Turns.Broadcast.{BroadcastTurn, none_ready as no_result, sends, mends, broadcast_turn_is, Sends, sent_entries, mended_entries}
-use Rattle.rv_hardware.proofs.Turns.Commit.{CommitTurn, fence_writes, fence_retires, executes, serial_faults, traps, retires, retires_last, executed, written_back, retired_and_flushed, commit_turn_is, head_retired_entries}
+use Rattle.rv_hardware.proofs.Turns.Commit.{CommitTurn, fence_writes, fence_retires, executes, serial_faults, traps, retires, retires_last, executed, written_back, retired_and_flushed, retired_with, commit_turn_is, head_retired_entries}
 use Rattle.rv_hardware.proofs.Turns.Dispatch.{DispatchTurn, dispatches, dispatch_turn_is}
 use Rattle.rv_hardware.proofs.Turns.Issue.{IssueTurn, starts, issue_turn_is, access_keeps, message_at, started_entries}
 use Rattle.rv_hardware.proofs.Marks.List.{Mark, start_of_issue, start_of_stage, broadcast_of_stage, mark_of_row, mark_of_entry, mark_of_fetched, marks, marks_in, marks_squashed, rows_append, marks_at_entry, marks_retired, marks_dispatched}
@@ -39,11 +39,12 @@ module _ (v : Values) (now : ℕ) (R : List Mark → Type 0) (kept : Kept v now 
   push c s = sym (append_assoc earlier c.steps (s ∷ []))
 
   -- everything is flushed after a step
-  flush : (c : Committing) (g : Hardware) (s : Step) → Commits c → IsSoundFor v g → g.cycle ≡ c.hardware.cycle →
-      g.rob.entries ≡ [] → g.front.entries ≡ [] → Each (SoundRow v (now + 1)) (rows_of (s ∷ [])) →
-      (R (marks_in (earlier ++ c.steps) c.hardware) → R (marks ((earlier ++ c.steps) ++ s ∷ []) [] [])) →
+  after_step : (c : Committing) (g : Hardware) (s : Step) (es : List Entry) (fs : List Fetched) → Commits c → IsSoundFor v g →
+      g.cycle ≡ c.hardware.cycle → g.rob.entries ≡ es → g.front.entries ≡ fs →
+      Each (SoundEntry v now now now) es → Each (SoundFetched now) fs → Each (SoundRow v (now + 1)) (rows_of (s ∷ [])) →
+      (R (marks_in (earlier ++ c.steps) c.hardware) → R (marks ((earlier ++ c.steps) ++ s ∷ []) es fs)) →
       Goes v now now now now now (now + 1) R (earlier ++ (c.steps ++ s ∷ [])) g
-  flush c g s p always cycle given none' row goes = grind (arith, push, rows_append, Each-append, marks_from)
+  after_step c g s es fs p always cycle given words sound sound' row goes = grind (arith, push, rows_append, Each-append, marks_from)
 
   squash_marks : (steps : List Step) (older younger : List Entry) (fs : List Fetched) → R (marks steps (older ++ younger) fs) →
       R (marks steps older [])
@@ -83,25 +84,26 @@ module _ (v : Values) (now : ℕ) (R : List Mark → Type 0) (kept : Kept v now 
   turn_goes c _ (fence_writes e es head is drained dirty) p always = grind arith
   turn_goes c _ (fence_retires e es written next head is drained) p always =
       let may = may_retire_serial e.instruction e.stage (ap is_serialising is) in
-      flush c (executed e written next (written_back c)).hardware (Retired (row_at e written c.hardware.cycle)) p
-      always refl refl refl (row_sound c e es written head.place may p, tt)
-      (row_flushes c e es written head.place may p)
+      after_step c (executed e written next (written_back c)).hardware (Retired (row_at e written c.hardware.cycle)) [] [] p
+      always refl refl refl tt tt (row_sound c e es written head.place may p, tt) (row_flushes c e es written head.place may p)
   turn_goes c _ (executes e es written next head serial) p always =
       let may = may_retire_serial e.instruction e.stage serial in
-      flush c (executed e written next c).hardware (Retired (row_at e written c.hardware.cycle)) p
-      always refl refl refl (row_sound c e es written head.place may p, tt)
-      (row_flushes c e es written head.place may p)
+      after_step c (executed e written next c).hardware (Retired (row_at e written c.hardware.cycle)) [] [] p
+      always refl refl refl tt tt (row_sound c e es written head.place may p, tt) (row_flushes c e es written head.place may p)
   turn_goes c _ (serial_faults e es cause value head serial) p always =
-      flush c (with_fault e cause value c).hardware (Trap e.pc cause value c.hardware.cycle) p always refl refl refl tt (no_row c (Trap e.pc cause value c.hardware.cycle) refl)
+      after_step c (with_fault e cause value c).hardware (Trap e.pc cause value c.hardware.cycle) [] [] p always refl refl refl tt tt tt (no_row c (Trap e.pc cause value c.hardware.cycle) refl)
   turn_goes c _ (traps e es issue cycle message fault head plain at is) p always =
-      flush c (with_fault e fault.cause fault.value c).hardware (Trap e.pc fault.cause fault.value c.hardware.cycle) p always refl refl refl tt
-      (no_row c (Trap e.pc fault.cause fault.value c.hardware.cycle) refl)
-  turn_goes c _ (retires e es issue cycle message head plain at none) p always = grind (arith, may_retire_finished, head_retired_entries, push, rows_append, Each-append, row_sound, marks_from, row_goes)
+      after_step c (with_fault e fault.cause fault.value c).hardware (Trap e.pc fault.cause fault.value c.hardware.cycle) [] [] p
+      always refl refl refl tt tt tt (no_row c (Trap e.pc fault.cause fault.value c.hardware.cycle) refl)
+  turn_goes c _ (retires e es issue cycle message head plain at none) p always =
+      let may = may_retire_finished e.instruction e.stage issue cycle message at none in
+      after_step c (retired_with e message c).hardware (Retired (row_at e (written_of e message) c.hardware.cycle)) es c.hardware.front.entries p
+      always refl (head_retired_entries c.hardware.rob e es head.place) refl (subst (Each (SoundEntry v now now now)) head.place p.basics.entries).1 p.basics.fetched
+      (row_sound c e es (written_of e message) head.place may p, tt) (row_goes c e es (written_of e message) head.place may p)
   turn_goes c _ (retires_last e es issue cycle message head plain at none) p always =
       let may = may_retire_finished e.instruction e.stage issue cycle message at none in
-      let g : Hardware = (retired_and_flushed e message c).hardware in
-      flush c g (Retired (row_at e (written_of e message) c.hardware.cycle)) p always refl refl refl (row_sound c e es (written_of e message) head.place may p, tt)
-      (row_flushes c e es (written_of e message) head.place may p)
+      after_step c (retired_and_flushed e message c).hardware (Retired (row_at e (written_of e message) c.hardware.cycle)) [] [] p
+      always refl refl refl tt tt (row_sound c e es (written_of e message) head.place may p, tt) (row_flushes c e es (written_of e message) head.place may p)
   turn_goes c _ _ p always = p
 
   -- each turn of the commit phase keeps it
@@ -114,7 +116,7 @@ module _ (v : Values) (now : ℕ) (R : List Mark → Type 0) (kept : Kept v now 
       let c : Committing = record { hardware = h; steps = []; stop = None } in
       let g : Hardware = (commit_unless is_stale (Some code) h).hardware in
       let s : Step = Interrupt h.pc (interrupt_cause code) h.cycle in
-      flush c g s p (unless-keeps (always-kept v).phases.commit is_stale (Some code) h p.basics.always) refl refl refl tt (no_row c s refl)
+      after_step c g s [] [] p (unless-keeps (always-kept v).phases.commit is_stale (Some code) h p.basics.always) refl refl refl tt tt tt (no_row c s refl)
   commit_by_due None h p =
       kept_by_turns Commits (commit_turn is_stale) (λ c q. commit_turn_keeps c (commit_turn is_stale c) (commit_turn_is is_stale c) q) h.values.commit_width (record { hardware = h; steps = []; stop = None }) p
 

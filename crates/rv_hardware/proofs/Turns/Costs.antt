@@ -1,6 +1,5 @@
 -- An access to the cache costs a hit, a miss and a write-back at most, and an execution the longest one's time.
 use Rattle.rv_hardware.proofs.Words.{ℕ, ◌≤◌, Bool, cond, Option, arith, greatest_access, greatest_latency, at_kind, Kind, CacheValues, Values, Memory, Contents, access_cost, cost_of_access, evicted, eviction_cost, line_of, set_of, is_held, CacheLine, Hardware, Path, cost_of}
-use Rattle.rv_isa.specs.declared.operations.Kind.TheVariants as kind
 use Rattle.rv_hardware.proofs.Turns.Forms.{longest_execution}
 
 dirty_at_most : (values : CacheValues) (dirty : Bool) → cond dirty values.write_back 0 ≤ values.write_back
@@ -25,10 +24,7 @@ pub access_cost-least : (cache : Contents Memory) (address : ℕ) → cache.valu
 access_cost-least cache address = cost_at_least cache.values (is_held (line_of cache address) (set_of cache (line_of cache address))) (evicted cache address)
 
 latency_at_most : (values : Values) (k : Kind) → (at_kind k values.kinds).latency ≤ greatest_latency values
-latency_at_most values kind.Alu = omega arith
-latency_at_most values kind.Mul = omega arith
-latency_at_most values kind.Div = omega arith
-latency_at_most values kind.Mem = omega arith
+latency_at_most values k = grind arith
 
 forward_at_most : (values : Values) → values.forward ≤ greatest_latency values
 forward_at_most values = omega arith

@@ -240,8 +240,11 @@ module _ (v : Values) (now : ℕ) (earlier : List Step) where
   turn_leads total k c _ turn (retires e es issue cycle message head plain at none) q p goes =
       let x : Step = Retired (row_at e (written_of e message) c.hardware.cycle) in
       let last = last_is c x q.basics.cycle in
-      let follow = more_follow c x p.follow (retired_follows k c e es head q p (written_of e message) (may_retire_finished e.instruction e.stage issue cycle message at none)) in
-      record { follow = follow; next = grind (arith, last, next-now); later = grind (arith, last, next-now) }
+      record {
+        follow = more_follow c x p.follow (retired_follows k c e es head q p (written_of e message) (may_retire_finished e.instruction e.stage issue cycle message at none));
+        next = rw last (next-now v now now _ _ _ _ (omega arith) goes.basics.entries goes.basics.fetched);
+        later = λ some. rw last (next-now v (now + 1) now _ _ _ _ (omega arith) goes.basics.entries goes.basics.fetched);
+      }
   turn_leads total k c _ turn (retires_last e es issue cycle message head plain at none) q p goes =
       flushing c (Retired (row_at e (written_of e message) c.hardware.cycle)) (retired_and_flushed e message c).hardware c.stop q.basics.cycle p.follow
       (retired_follows k c e es head q p (written_of e message) (may_retire_finished e.instruction e.stage issue cycle message at none)) refl refl
