@@ -1,5 +1,5 @@
 -- A cycle without a step and without a stop lowers the patience by one at least.
-use Rattle.rv_hardware.proofs.Words.{◌≡◌, ℕ, ◌+◌, ◌≤◌, true, false, ◌||◌, List, [], ◌∷◌, is_some, Some, None, Option, sym, refl, ap, ◌∙◌, subst, inl, inr, arith, is_serialising, kind_of_word, Instr, Csr, FenceI, Mret, Lines, Kind, Memory, Entry, Stage, Finished, Running, Waiting, FetchBuffer, FetchesInto, FetchStop, Committing, commit, IsCycle, any_prediction, execute, with_lines, Dispatching, drain, Hardware, broadcast_of, Report}
+use Rattle.rv_hardware.proofs.Words.{◌≡◌, ℕ, ◌+◌, ◌≤◌, true, false, ◌||◌, List, [], ◌∷◌, is_some, Some, None, Option, sym, refl, ap, ◌∙◌, subst, inl, inr, arith, is_serialising, kind_of_word, Instr, Csr, FenceI, Mret, Lines, Kind, Memory, Entry, Stage, Finished, Running, Waiting, FetchBuffer, FetchesInto, FetchStop, Committing, commit, IsCycle, any_prediction, execute, with_lines, Dispatching, drain, Hardware, broadcast_of, Report, CacheValues}
 use Rattle.std.specs.FinSet as set
 use Rattle.rv_hardware.proofs.Turns.KeptByCommit.{commit-keeps}
 use Rattle.rv_hardware.proofs.Turns.KeptByCycle.{same-kept}
@@ -31,7 +31,7 @@ module _ (lines : Lines) (old : Hardware) (sound : IsBounded old) where
       patience (later front (execute after).hardware) + 1 ≤ patience h
 
   drained : Drains h (drain h)
-  drained = grind (arith, drains)
+  drained = drains h sound.queue (omega (arith, ap (λ (c : CacheValues). c.hit) sound.sizes.cache, sound.sizes.legal.cache.1.hit.0))
 
   empty_falls : h.rob.entries ≡ [] → Falls h
   empty_falls none front ram cycle stop fetches after = fall_empty h front ram cycle stop none sound.sizes drained sound.halted.1 fetches after
@@ -103,4 +103,4 @@ fall {lines} {old} {new} {report} cycle sound silent going =
     subst (λ (x : Hardware). FetchesInto any_prediction cycle.dispatching.hardware.cache.backing old.cycle x.front new.front cycle.fetch_stop) same cycle.fetches in
     let after : IsBounded (later new.front d) = subst IsBounded is (sound-cycle cycle sound) in
     let falling = falls new.front cycle.dispatching.hardware.cache.backing old.cycle cycle.fetch_stop fetches after in
-    omega (arith, falling, ap patience is)
+    subst (λ (x : Hardware). patience x + 1 ≤ patience old) (sym is) falling

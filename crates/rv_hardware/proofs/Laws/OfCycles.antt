@@ -2,7 +2,7 @@
 use Rattle.rv_hardware.proofs.Words.{◌≡◌, ℕ, ◌+◌, List, [], ◌∷◌, ◌++◌, length, ◌==◌, Some, Option, ap, arith, Arrival, Lines, Values, due, interrupt_cause, commit_unless, IsCycle, any_prediction, Hardware, stall_cycles, Report, Cycles, Reachable, busy_of, cycled, ended, stalls_of, Step, Interrupt}
 use Rattle.std.specs.FinSet as set
 use Rattle.rv_hardware.proofs.Laws.Counts.{IsCounted, AllTell, dispatch_tells, busy_and_stalls}
-use Rattle.rv_hardware.proofs.Marks.History.{Anything, History, went_on, Passed, history_is_legal, reachable_has_history, history_passes}
+use Rattle.rv_hardware.proofs.Marks.History.{Anything, History, went_on, Passed, history_is_legal, reachable_has_history, history_passes, sent_all}
 
 interrupted_by : (o : Option ℕ) (h : Hardware) (code : ℕ) → o ≡ Some code → (commit_unless set.contains o h).steps ≡ Interrupt h.pc (interrupt_cause code) h.cycle ∷ []
 interrupted_by o h code is = grind arith
@@ -19,7 +19,10 @@ module _ (v : Values) {steps : List Step} {old new : Hardware} {lines : Lines} {
 
   -- it dispatches something, or else stalls for one reason
   pub cycle_tells : IsCounted (report.dispatched == 0) report.stall
-  cycle_tells = grind (arith, history_is_legal, passes_here, dispatch_tells)
+  cycle_tells =
+      let width = ap (λ (w : Values). w.dispatch_width) passes_here.sends.basics.always.sizes.values in
+      let tells = dispatch_tells (sent_all lines old) (omega (arith, width, (history_is_legal v history).pipeline.dispatch_width)) in
+      rw (passes_here.report_is.0, passes_here.report_is.1) tells
 
 -- over a run
 

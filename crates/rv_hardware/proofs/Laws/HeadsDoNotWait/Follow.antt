@@ -204,7 +204,8 @@ module _ (v : Values) (now : ℕ) (earlier : List Step) where
 
     retired_follows : (written : Option (ℕ × ℕ)) → MayRetire e.instruction e.stage →
         Follows (last_stamp (earlier ++ c.steps)) (has_step (earlier ++ c.steps)) (Retired (row_at e written c.hardware.cycle))
-    retired_follows written may = grind (arith, row_follows, head_sound, head_next)
+    retired_follows written may =
+        rw q.basics.cycle (row_follows v now (last_stamp (earlier ++ c.steps)) (has_step (earlier ++ c.steps)) c.hardware.stale e head_sound head_next head.fresh written may)
 
     fence_stands : is_fence_i e.instruction ≡ true → (x : Entry) (rest : List Entry) → c.hardware.rob.entries ≡ x ∷ rest →
         HasReason (now + 1) (last_stamp (earlier ++ c.steps)) c.hardware.stale x

@@ -1,5 +1,5 @@
 -- The cache's port serves one load at a time.
-use Rattle.rv_hardware.proofs.Words.{is_known as is_known_store, ◌≡◌, ℕ, ◌+◌, ◌≤◌, Bool, true, false, cond, not, ◌&&◌, ◌||◌, List, ℤ, is_some, IfSome, ◌==◌, Some, Option, refl, true≢false, arith, eq-eqb, leb-true, list_all, is_load, bytes_of, width_of, modulo_word, sum, Instr, Load, Kind, LoadForm, Values, is_aligned, is_in_ram, State, register_of, Entry, Hardware, FromCache, FromStores, Path, cost_of, has_port, may_load, path, path_of, with_access, result_of_word, layout_of, seen_behind, stores_behind, take, None, forwarded, sym, sym}
+use Rattle.rv_hardware.proofs.Words.{is_known as is_known_store, ◌≡◌, ℕ, ◌+◌, ◌≤◌, Bool, true, false, cond, not, ◌&&◌, ◌||◌, List, ℤ, is_some, IfSome, ◌==◌, Some, Option, refl, true≢false, arith, eq-eqb, leb-true, list_all, is_load, bytes_of, width_of, modulo_word, sum, Instr, Load, Kind, LoadForm, Values, is_aligned, is_in_ram, State, register_of, Entry, Hardware, FromCache, FromStores, Path, cost_of, has_port, may_load, path, path_of, with_access, result_of_word, layout_of, seen_behind, stores_behind, take, forwarded, sym, sym}
 use Rattle.rv_hardware.proofs.Marks.List.{Mark, Start}
 use Rattle.rv_hardware.proofs.Always.Sizes.{HasShape}
 
@@ -35,11 +35,9 @@ module _ (v : Values) (h : Hardware) (shape : HasShape v h) (older : List Entry)
       (w : Option ℕ) → is_some (result_of_word (layout_of h.values) s h.lines w (Some (Load form rd rs1 offset))).fault ≡ false →
       ((cost_of h k (path_of h older s (Some (Load form rd rs1 offset))) == v.forward) ≡ false) →
       Goes_to_cache (Some (Load form rd rs1 offset))
-  load_path form rd rs1 offset a b aligned inside None none other = absurd (cc)
-  load_path form rd rs1 offset false b aligned inside (Some w) none other = absurd (true≢false (rw aligned at none))
-  load_path form rd rs1 offset true false aligned inside (Some w) none other = absurd (true≢false (rw (aligned, inside) at none))
   load_path form rd rs1 offset true true aligned inside (Some w) none other =
       rw (aligned, inside) (from_cache (list_all is_some (take (bytes_of (width_of form)) (forwarded (stores_behind h older) (sum (register_of s rs1) (modulo_word offset)) (bytes_of (width_of form))))) (sum (register_of s rs1) (modulo_word offset)) (rw (aligned, inside) at other))
+  load_path form rd rs1 offset a b aligned inside w none other = grind (arith, true≢false)
 
   -- a load without a fault that costs another time than a forwarded one goes to the cache
   pub path_of_user : (i : Option Instr) (w : Option ℕ) → is_load i ≡ true →
