@@ -1,9 +1,19 @@
-use Rattle.std.proofs.Common.{◌∙◌, List, [], ◌∷◌, nat_lt, fold, Option, None, ℕ, sym, ap}
+use Rattle.std.proofs.Common.{◌≡◌, ◌∙◌, drop, length, subst, List, [], ◌∷◌, nat_lt, fold, Option, None, ℕ, sym, ap}
+use Rattle.std.proofs.Math.Seq.{drop-append_seam}
+use Rattle.rv_isa.specs.Numbered.{IsInOrder}
+use Rattle.rv_isa.proofs.Numbered.{IsInOrder-drop}
 use Rattle.rv_stores.specs.declared.store.Store.{Store}
 use Rattle.rv_stores.specs.Store.{laid_over}
 use Rattle.rv_stores.specs.Queue.{older_than}
 use Rattle.rv_stores.proofs.Forwarded.{fold-filter_append, fold-laid_over}
 use Rattle.rv_stores.proofs.queue.StoreQueue.overlay.Goals as goal
+
+pub older_bytes-requires : goal.older_bytes-requires
+older_bytes-requires c =
+    let front = c.as_slices.result.0.now in
+    let rest : drop (length front) c.self.inside.ring.items ≡ c.as_slices.result.1.now =
+    ap (drop (length front)) (sym c.as_slices.ensures) ∙ drop-append_seam front c.as_slices.result.1.now in
+    subst (IsInOrder (λ s. s.seq)) rest (IsInOrder-drop (λ s. s.seq) (length front) c.self.inside.ring.items c.self.invariant.0)
 
 pub returns : goal.returns
 returns c =
