@@ -1,6 +1,7 @@
 -- Instructions that wait for their operands, in order of their sequence numbers.
-use Rattle.std.specs.Prelude.{ℕ, ◌^◌, ◌<◌, Bool, true, false, ◌&&◌, ◌==◌, List, [], ◌∷◌, Option, Some, None, if◌then◌else◌}
-use Rattle.rv_stations.specs.declared.waiting.{Operand.Operand, Ready.Ready, Waiting.Waiting}
+use Rattle.std.specs.Prelude.{◌≡◌, ℕ, ◌^◌, ◌<◌, Bool, true, false, ◌&&◌, ◌==◌, List, [], ◌∷◌, take, Option, Some, None, if◌then◌else◌}
+use Rattle.rv_stations.specs.declared.waiting.{Operand.Operand, Ready.Ready, Taken.Taken, Waiting.Waiting}
+use Rattle.std.specs.Option.{option_map}
 use Rattle.rv_stations.specs.declared.waiting.Operand.TheVariants.{Value, Tag}
 
 -- the sequence number of an instruction
@@ -49,3 +50,11 @@ oldest_ready test (w ∷ ws) = if is_ready w && test w then Some w else oldest_r
 abbrev pub without_oldest_ready : (Waiting → Bool) → List Waiting → List Waiting
 without_oldest_ready test [] = []
 without_oldest_ready test (w ∷ ws) = if is_ready w && test w then ws else w ∷ without_oldest_ready test ws
+
+-- of the oldest so many instructions, none is ready and passes a test
+abbrev pub ArePassedBy : (Waiting → Bool) → ℕ → List Waiting → Type 0
+ArePassedBy test passed ws = oldest_ready test (take passed ws) ≡ None
+
+-- the instruction that a search took, if any
+abbrev pub ready_taken : Option Taken → Option Ready
+ready_taken taken = option_map (λ t. t.ready) taken

@@ -25,8 +25,6 @@ pub fn move_back(places: &mut Vec<u8>, at: usize, count: usize)
 {
     let place = places[at];
     let last = count - 1;
-    for to in at..last {
-        places[to] = places[to + 1];
-    }
+    places.copy_within(at + 1..count, at);
     places[last] = place;
 }

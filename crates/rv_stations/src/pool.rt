@@ -1,12 +1,12 @@
 ghost use Rattle.std.specs.Prelude.{◌≡◌, ◌<◌, ◌≤◌, ◌↔◌, Bool, [], Some, length, take, nat_le, slice_get, IsTrue, IfOk, IfSome, option_and_then, true};
 ghost use Rattle.rv_isa.specs.Description.{Within};
 ghost use Rattle.rv_isa.specs.Numbered.{AreBelow, IsInOrder, below};
-ghost use Rattle.rv_stations.specs.Waiting.{seq_of, IsOperand, is_ready, ready_of, oldest_ready};
+ghost use Rattle.rv_stations.specs.Waiting.{seq_of, ArePassedBy, IsOperand, is_ready, ready_of, ready_taken, oldest_ready};
 ghost use Rattle.std.specs.Option.{option_map};
 
 use crate::column::OperandColumn;
 use crate::places::{first_places, move_back};
-use crate::waiting::{Ready, Waiting};
+use crate::waiting::{Taken, Waiting};
 use rv_isa::{Instr, KindValues};
 use std::alloc::{AllocError, Global};
 use std::marker::Model;
@@ -158,18 +158,23 @@ impl StationPool {
         }
     }
 
-    /// Where the oldest instruction stands that is ready and passes a filter.
+    /// Where the oldest instruction stands that is ready and passes a filter, if that is none of the oldest so many.
     #[inline(always)]
-    fn place_of_oldest_ready<F: Fn(&Waiting) -> bool>(&self, filter: &F) -> Option<usize>
+    fn place_of_oldest_ready<F: Fn(&Waiting) -> bool>(
+        &self,
+        passed: usize,
+        filter: &F,
+    ) -> Option<usize>
         requires { F.IsAlwaysCallable filter.now }
         ensures within { IfSome result (λ at. at < length self.now.waiting) }
         ensures ready { IfSome result (λ at. option_map is_ready (slice_get self.now.waiting at) ≡ Some true) }
-        ensures oldest { (test : Waiting → Bool) → Answers F.Fn filter.now test → oldest_ready test self.now.waiting ≡ option_and_then (slice_get self.now.waiting) result }
-        ensures others { (test : Waiting → Bool) → Answers F.Fn filter.now test → issued test self.now ≡ without_place result self.now }
+        ensures oldest { (test : Waiting → Bool) → Answers F.Fn filter.now test → ArePassedBy test passed self.now.waiting → oldest_ready test self.now.waiting ≡ option_and_then (slice_get self.now.waiting) result }
+        ensures others { (test : Waiting → Bool) → Answers F.Fn filter.now test → ArePassedBy test passed self.now.waiting → issued test self.now ≡ without_place result self.now }
+        ensures passed { (test : Waiting → Bool) → Answers F.Fn filter.now test → ArePassedBy test passed self.now.waiting → IfSome result (λ at. ArePassedBy test at self.now.waiting) }
         ensures in_order { IsInOrder seq_of self.now.waiting }
     {
         let waiting = self.first.waiting() | self.second.waiting();
-        for at in 0..self.len() {
+        for at in passed..self.len() {
             let place = usize::from(self.places[at]);
             if (waiting >> place) & 1 == 0 && filter(&self.ready_at(at)) {
                 return Some(at);
@@ -192,17 +197,23 @@ impl StationPool {
         taken
     }
 
-    /// Takes out the oldest instruction that is ready and passes a filter, and answers it with the
-    /// values of its operands; none where none is and does.
+    /// Takes out the oldest instruction that is ready and passes a filter; none where none is and does. The search
+    /// passes by the oldest so many.
     #[inline(always)]
-    pub fn take_oldest_ready<F: Fn(&Waiting) -> bool>(&mut self, filter: F) -> Option<Ready>
+    pub fn take_oldest_ready<F: Fn(&Waiting) -> bool>(
+        &mut self,
+        passed: usize,
+        filter: F,
+    ) -> Option<Taken>
         requires { F.IsAlwaysCallable filter }
-        ensures oldest { (test : Waiting → Bool) → Answers F.Fn filter test → result ≡ option_and_then ready_of (oldest_ready test self.old.waiting) }
-        ensures others { (test : Waiting → Bool) → Answers F.Fn filter test → self.new ≡ issued test self.old }
+        ensures oldest { (test : Waiting → Bool) → Answers F.Fn filter test → ArePassedBy test passed self.old.waiting → ready_taken result ≡ option_and_then ready_of (oldest_ready test self.old.waiting) }
+        ensures others { (test : Waiting → Bool) → Answers F.Fn filter test → ArePassedBy test passed self.old.waiting → self.new ≡ issued test self.old }
+        ensures passed { (test : Waiting → Bool) → Answers F.Fn filter test → ArePassedBy test passed self.old.waiting → IfSome result (λ taken. ArePassedBy test taken.passed self.new.waiting) }
         ensures in_order { IsInOrder seq_of self.old.waiting }
     {
-        let at = self.place_of_oldest_ready(&filter)?;
-        self.take(at).ready()
+        let at = self.place_of_oldest_ready(passed, &filter)?;
+        let ready = self.take(at).ready()?;
+        Some(Taken { ready, passed: at })
     }
 
     /// Takes out the instructions of a sequence number and of all above it.

@@ -1,11 +1,11 @@
-ghost use Rattle.std.specs.Prelude.{◌≡◌, ◌<◌, ◌≤◌, ◌↔◌, Bool, [], length, nat_le, IsTrue, IfOk, option_and_then};
+ghost use Rattle.std.specs.Prelude.{◌≡◌, ◌<◌, ◌≤◌, ◌↔◌, Bool, [], length, nat_le, IsTrue, IfOk, IfSome, option_and_then};
 ghost use Rattle.rv_isa.specs.Numbered.{AreBelow, IsInOrder};
-ghost use Rattle.rv_stations.specs.Waiting.{seq_of, IsOperand, ready_of, oldest_ready};
+ghost use Rattle.rv_stations.specs.Waiting.{seq_of, ArePassedBy, IsOperand, ready_of, ready_taken, oldest_ready};
 ghost use Rattle.rv_isa.specs.PerKind.{at_kind, with_kind, for_each};
 ghost use Rattle.rv_stations.specs.Pool.{Answers, empty_pool, with_waiting, woken_pool, issued, squashed};
 
 use crate::pool::StationPool;
-use crate::waiting::{Ready, Waiting};
+use crate::waiting::{Taken, Waiting};
 use rv_isa::{Description, Kind, PerKind};
 use std::alloc::{AllocError, Global};
 use std::marker::Model;
@@ -86,20 +86,23 @@ impl Stations {
         self.pools.mem.wake(seq, value);
     }
 
-    /// Takes out the oldest instruction of a kind that is ready, with both operands' values there, and
-    /// that passes a filter, and answers it with those values; none where there is none.
+    /// Takes out the oldest instruction of a kind that is ready, with both operands' values there, and that passes a
+    /// filter; none where there is none. The search passes by the oldest so many of the kind: of these the caller knows
+    /// that none is ready and passes, as after a search of the same cycle.
     #[inline(always)]
     pub fn take_oldest_ready<F: Fn(&Waiting) -> bool>(
         &mut self,
         kind: Kind,
+        passed: usize,
         filter: F,
-    ) -> Option<Ready>
+    ) -> Option<Taken>
         requires { F.IsAlwaysCallable filter }
-        ensures oldest { (test : Waiting → Bool) → Answers F.Fn filter test → result ≡ option_and_then ready_of (oldest_ready test (at_kind kind self.old).waiting) }
-        ensures others { (test : Waiting → Bool) → Answers F.Fn filter test → self.new ≡ with_kind kind (issued test (at_kind kind self.old)) self.old }
+        ensures oldest { (test : Waiting → Bool) → Answers F.Fn filter test → ArePassedBy test passed (at_kind kind self.old).waiting → ready_taken result ≡ option_and_then ready_of (oldest_ready test (at_kind kind self.old).waiting) }
+        ensures others { (test : Waiting → Bool) → Answers F.Fn filter test → ArePassedBy test passed (at_kind kind self.old).waiting → self.new ≡ with_kind kind (issued test (at_kind kind self.old)) self.old }
+        ensures passed { (test : Waiting → Bool) → Answers F.Fn filter test → ArePassedBy test passed (at_kind kind self.old).waiting → IfSome result (λ taken. ArePassedBy test taken.passed (at_kind kind self.new).waiting) }
         ensures in_order { IsInOrder seq_of (at_kind kind self.old).waiting }
     {
-        self.pools.get_mut(kind).take_oldest_ready(filter)
+        self.pools.get_mut(kind).take_oldest_ready(passed, filter)
     }
 
     /// Takes out the instructions of a sequence number and of all above it.

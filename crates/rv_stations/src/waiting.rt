@@ -52,6 +52,15 @@ pub struct Ready {
     pub second: u32,
 }
 
+/// What a search took out of its station.
+#[derive(Clone, Copy, Debug, PartialEq, Eq)]
+pub struct Taken {
+    /// The instruction.
+    pub ready: Ready,
+    /// How many older instructions of the kind stay: a search for the next one passes them by.
+    pub passed: usize,
+}
+
 impl Waiting {
     ghost use Rattle.rv_stations.specs.Waiting.{ready_of};
 
