@@ -3,6 +3,7 @@ pub mod Executed
 pub mod Found
 pub mod Operands
 pub mod Parts
+pub mod Passed
 pub mod Ready
 pub mod Search
 pub mod Started

@@ -119,7 +119,6 @@ impl Parts {
         ensures { self.new ≡ record self.old { rob = pushed (entry_of_fetched self.old fetched.now) self.old.rob } }
     {
         let seq = self.rob.next_number();
-        let entry = entering(fetched, kind, self.cycle);
         station(
             &mut self.stations,
             &self.rename,
@@ -137,7 +136,7 @@ impl Parts {
             &fetched.instruction,
             seq,
         );
-        self.rob.push(entry);
+        push_entry(&mut self.rob, fetched, kind, self.cycle);
     }
 }
 
@@ -174,9 +173,40 @@ fn waits_for_queue(stores: &StoreQueue, instruction: &Option<Instr>) -> bool
     is_store(instruction) && stores.is_full()
 }
 
-fn entering(fetched: &Fetched, kind: Option<Kind>, cycle: u64) -> Entry
-    requires { kind ≡ kind_of_word fetched.now.instruction }
-    ensures { (h : Hardware) → h.cycle ≡ cycle → result ≡ entry_of_fetched h fetched.now }
+// The entry is the youngest. One with a unit waits in a station, a serialising one to be the oldest; any other is
+// finished at once.
+fn push_entry(rob: &mut Rob, fetched: &Fetched, kind: Option<Kind>, cycle: u64)
+    requires room { length rob.old.entries < rob.old.capacity }
+    requires numbers { next_number rob.old < 2 ^ 44 }
+    requires kind { kind ≡ kind_of_word fetched.now.instruction }
+    ensures { (h : Hardware) → h.cycle ≡ cycle → rob.new ≡ pushed (entry_of_fetched h fetched.now) rob.old }
+{
+    if kind.is_some() || is_serialising(&fetched.instruction) {
+        rob.push(entering(fetched, cycle, Stage::Waiting));
+    } else {
+        push_finished(rob, fetched, cycle);
+    }
+}
+
+// Few instructions are finished at once: what builds their messages stands apart from the entries that wait.
+#[inline(never)]
+fn push_finished(rob: &mut Rob, fetched: &Fetched, cycle: u64)
+    requires room { length rob.old.entries < rob.old.capacity }
+    requires numbers { next_number rob.old < 2 ^ 44 }
+    requires no_unit { kind_of_word fetched.now.instruction ≡ None }
+    requires waits_not { is_serialising fetched.now.instruction ≡ false }
+    ensures { (h : Hardware) → h.cycle ≡ cycle → rob.new ≡ pushed (entry_of_fetched h fetched.now) rob.old }
+{
+    let stage = Stage::Finished {
+        issue: None,
+        cycle,
+        message: result_at_dispatch(fetched.pc, fetched.word, &fetched.instruction),
+    };
+    rob.push(entering(fetched, cycle, stage));
+}
+
+fn entering(fetched: &Fetched, cycle: u64, stage: Stage) -> Entry
+    ensures { (h : Hardware) → h.cycle ≡ cycle → first_stage h fetched.now ≡ stage → result ≡ entry_of_fetched h fetched.now }
 {
     Entry {
         pc: fetched.pc,
@@ -185,25 +215,7 @@ fn entering(fetched: &Fetched, kind: Option<Kind>, cycle: u64) -> Entry
         predicted_next: fetched.predicted,
         fetched: fetched.cycle,
         dispatched: cycle,
-        stage: entering_stage(fetched, kind, cycle),
-    }
-}
-
-// An instruction with a unit waits in a station, a serialising one to be the oldest; any other is finished at once.
-fn entering_stage(fetched: &Fetched, kind: Option<Kind>, cycle: u64) -> Stage
-    requires { kind ≡ kind_of_word fetched.now.instruction }
-    ensures { (h : Hardware) → h.cycle ≡ cycle → result ≡ first_stage h fetched.now }
-{
-    if kind.is_some() {
-        return Stage::Waiting;
-    }
-    if is_serialising(&fetched.instruction) {
-        return Stage::Waiting;
-    }
-    Stage::Finished {
-        issue: None,
-        cycle,
-        message: result_at_dispatch(fetched.pc, fetched.word, &fetched.instruction),
+        stage,
     }
 }
 

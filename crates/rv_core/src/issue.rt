@@ -1,10 +1,10 @@
-ghost use Rattle.std.specs.Prelude.{◌≡◌, ℕ, ◌+◌, ◌^◌, ◌<◌, ◌≤◌, IsTrue, true, false, is_some, length, option_and_then};
+ghost use Rattle.std.specs.Prelude.{◌≡◌, ℕ, ◌+◌, ◌^◌, ◌<◌, ◌≤◌, IsTrue, true, false, is_some, length, IfSome, option_and_then};
 ghost use Rattle.rv_isa.specs.Operands.{kind_of};
 ghost use Rattle.rv_isa.specs.PerKind.{at_kind, with_kind};
 ghost use Rattle.rv_isa.specs.declared.lines.Lines.{Lines};
 ghost use Rattle.rv_arch.specs.State.{State};
 ghost use Rattle.rv_stations.specs.Pool.{issued as taken_from};
-ghost use Rattle.rv_stations.specs.Waiting.{ready_of, oldest_ready};
+ghost use Rattle.rv_stations.specs.Waiting.{ArePassedBy, ready_of, ready_taken, oldest_ready};
 ghost use Rattle.rv_stores.specs.Queue.{older_than};
 ghost use Rattle.rv_units.specs.Bus.{holds, with_result};
 ghost use Rattle.rv_units.specs.Pool.{is_free, started as started_unit};
@@ -20,12 +20,13 @@ use rv_cache::Cache;
 use rv_isa::{Immediate, Instr, Issue, Kind, LoadForm, Reg};
 use rv_memory::Ram;
 use rv_rob::Rob;
-use rv_stations::{Ready, Stations};
+use rv_stations::{Ready, Stations, Taken};
 use rv_stores::StoreQueue;
 use rv_units::{Bus, Units};
 
 impl Parts {
     ghost use Rattle.rv_hardware.specs.Issue.{issue, issue_kind, issue_turn};
+    ghost use Rattle.rv_core.specs.Passed.{NoneIssues};
     ghost use Rattle.rv_core.specs.Turns.{turn_of};
 
     /// Issue: for each kind, while a unit is free, the oldest ready instruction leaves its station.
@@ -46,31 +47,38 @@ impl Parts {
         if self.stations.is_empty(kind) {
             return;
         }
+        let mut passed = 0;
         for _ in 0..self.values.kinds.get(kind).units {
-            if !self.issue_one(kind) {
+            let Some(still_passed) = self.issue_one(kind, passed) else {
                 return;
-            }
+            };
+            passed = still_passed;
         }
     }
 
-    // Issues the oldest ready instruction of a kind, and returns whether the phase goes on.
+    // Issues the oldest ready instruction of a kind. A search passes by the oldest so many, of which none may issue;
+    // what is returned is how many the next one passes by, and nothing where the phase ends.
     #[inline(always)]
-    fn issue_one(&mut self, kind: Kind) -> bool
-        ensures { turn_of result self.new ≡ issue_turn kind self.old }
+    fn issue_one(&mut self, kind: Kind, passed: usize) -> Option<usize>
+        requires { NoneIssues kind passed self.old }
+        ensures turn { turn_of (is_some result) self.new ≡ issue_turn kind self.old }
+        ensures passed { IfSome result (λ passed. NoneIssues kind passed self.new) }
     {
         if !self.units.free(kind, self.cycle) {
-            return false;
+            return None;
         }
         let port_idle = self.is_port_idle();
-        let Some(ready) = take_ready(
+        let Some(taken) = take_ready(
             &mut self.stations,
             kind,
+            passed,
             &self.cache,
             &self.stores,
             port_idle,
         ) else {
-            return false;
+            return None;
         };
+        let ready = taken.ready;
         let times = Times {
             latency: self.values.kinds.get(kind).latency,
             forward: self.values.forward,
@@ -86,7 +94,7 @@ impl Parts {
         hold_unit(&mut self.units, kind, issue);
         accept(&mut self.bus, ready.seq, issue);
         self.rob.start(ready.seq, issue, executed.message);
-        true
+        Some(taken.passed)
     }
 }
 
@@ -114,25 +122,28 @@ fn execute(cache: &mut Cache<Ram>, queue: &StoreQueue, times: &Times, ready: &Re
     }
 }
 
-// Takes the oldest instruction of a kind that is ready and may go.
+// Takes the oldest instruction of a kind that is ready and may go, which is none of the oldest so many.
 #[inline(always)]
 fn take_ready(
     stations: &mut Stations,
     kind: Kind,
+    passed: usize,
     cache: &Cache<Ram>,
     queue: &StoreQueue,
     port_idle: bool,
-) -> Option<Ready>
-    ensures oldest { result ≡ option_and_then ready_of (oldest_ready (goes kind cache.now.backing.layout queue.now.stores port_idle) (at_kind kind stations.old).waiting) }
+) -> Option<Taken>
+    requires passed { ArePassedBy (goes kind cache.now.backing.layout queue.now.stores port_idle) passed (at_kind kind stations.old).waiting }
+    ensures oldest { ready_taken result ≡ option_and_then ready_of (oldest_ready (goes kind cache.now.backing.layout queue.now.stores port_idle) (at_kind kind stations.old).waiting) }
     ensures others { stations.new ≡ with_kind kind (taken_from (goes kind cache.now.backing.layout queue.now.stores port_idle) (at_kind kind stations.old)) stations.old }
+    ensures passed { IfSome result (λ taken. ArePassedBy (goes kind cache.now.backing.layout queue.now.stores port_idle) taken.passed (at_kind kind stations.new).waiting) }
 {
     if kind == Kind::Mem {
         let first_unknown = queue.first_unknown();
-        return stations.take_oldest_ready(Kind::Mem, |waiting| {
+        return stations.take_oldest_ready(Kind::Mem, passed, |waiting| {
             may_go(cache, queue, first_unknown, port_idle, waiting)
         });
     }
-    stations.take_oldest_ready(kind, |_| true)
+    stations.take_oldest_ready(kind, passed, |_| true)
 }
 
 // An execution holds a unit of its kind.

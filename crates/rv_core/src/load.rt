@@ -125,8 +125,21 @@ pub(crate) fn may_go(
     let Operand::Value(base) = waiting.first else {
         return false;
     };
-    let place = address(base, offset);
-    !path_of(cache, queue, waiting.seq, place, form.width()).needs_port()
+    !needs_port(
+        cache,
+        queue,
+        waiting.seq,
+        address(base, offset),
+        form.width(),
+    )
+}
+
+// Whether a load accesses the cache. Most loads that wait are refused before this is asked, so it stands apart.
+#[inline(never)]
+fn needs_port(cache: &Cache<Ram>, queue: &StoreQueue, seq: u64, address: u32, width: Width) -> bool
+    ensures { result ≡ needs_port (path_of cache.now.backing.layout (older_than seq queue.now.stores) address (bytes_of width)) }
+{
+    path_of(cache, queue, seq, address, width).needs_port()
 }
 
 impl Path {

@@ -53,12 +53,12 @@ fn is_in_range(operand: Operand) -> bool
 }
 
 fn issue(rt: &impl Abort, stations: &mut Stations, seq: u64, value: u32) {
-    let issued = stations
-        .take_oldest_ready(Kind::Alu, |_| true)
+    let taken = stations
+        .take_oldest_ready(Kind::Alu, 0, |_| true)
         .expect(rt, "a ready instruction");
-    check_equal(rt, issued.seq, seq);
-    check_equal(rt, issued.first, value);
-    check_equal(rt, issued.second, value);
+    check_equal(rt, taken.ready.seq, seq);
+    check_equal(rt, taken.ready.first, value);
+    check_equal(rt, taken.ready.second, value);
 }
 
 // Puts instructions with numbers from one on into stations, each of which has an operand twice.
@@ -70,7 +70,7 @@ fn put_each(rt: &impl Abort, stations: &mut Stations, first: u64, end: u64, oper
 
 // Checks that no instruction is ready in so many stations.
 fn check_none_ready(rt: &impl Abort, stations: &mut Stations, count: u32) {
-    let ready = stations.take_oldest_ready(Kind::Alu, |_| true);
+    let ready = stations.take_oldest_ready(Kind::Alu, 0, |_| true);
     check_true_at(rt, u64::from(count), ready.is_none());
 }
 
@@ -116,10 +116,33 @@ fn one_operand_of_two_is_not_enough(rt: HostRuntime) {
 
 // The number of the oldest ready instruction but one, which is taken out.
 fn take_but(stations: &mut Stations, seq: u64) -> Option<u64> {
-    match stations.take_oldest_ready(Kind::Alu, |waiting| waiting.seq != seq) {
-        Some(ready) => Some(ready.seq),
+    match stations.take_oldest_ready(Kind::Alu, 0, |waiting| waiting.seq != seq) {
+        Some(taken) => Some(taken.ready.seq),
         None => None,
     }
+}
+
+// A search that passes by so many takes out the instruction with a number, and the next one may pass by so many.
+fn take_after(rt: &impl Abort, stations: &mut Stations, passed: usize, seq: u64, still: usize) {
+    let taken = stations
+        .take_oldest_ready(Kind::Alu, passed, |_| true)
+        .expect(rt, "a ready instruction");
+    check_equal(rt, taken.ready.seq, seq);
+    check_equal(rt, taken.passed, still);
+}
+
+#[test]
+fn a_search_begins_where_the_one_before_it_ended(rt: HostRuntime) {
+    let mut stations = with_stations(&rt, rt.alloc(), 8);
+    put_each(&rt, &mut stations, 3, 5, Operand::Tag(1));
+    put_each(&rt, &mut stations, 5, 7, Operand::Value(1));
+    put(&rt, &mut stations, 7, Operand::Tag(1), Operand::Value(1));
+    put(&rt, &mut stations, 8, Operand::Value(1), Operand::Value(1));
+    take_after(&rt, &mut stations, 0, 5, 2);
+    take_after(&rt, &mut stations, 2, 6, 2);
+    take_after(&rt, &mut stations, 2, 8, 3);
+    let none = stations.take_oldest_ready(Kind::Alu, 3, |_| true);
+    check_true(&rt, none.is_none());
 }
 
 #[test]

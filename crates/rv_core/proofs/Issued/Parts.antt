@@ -1,9 +1,24 @@
 -- What the parts answer to a search in the stations is what the definition's turn finds and starts.
-use Rattle.rv_core.proofs.Words.{◌≡◌, ℕ, ◌+◌, ◌<◌, Bool, true, false, List, [], length, is_some, nat_le, Some, None, Option, option_and_then, sym, refl, ap, ◌∙◌, subst, inl, inr, cases_Bool, cond-false, cond-true, at_kind, with_kind, Message, Lines, Kind, PerKind, Memory, State, Contents, UnitPool, is_free, started, ReorderBuffer, changed, Hardware, Path, is_ready_entry, issue_oldest, issue_turn, oldest, Ends, GoesOn, result_in, stores_behind, kind_of, at_kind-by_kind, with_kind-back, Queue, older_than, Pool, taken_from, oldest_ready, ready_of, without_oldest_ready, Ready, Station, Pending, holds, started_unit, IsBehind, cache_after, load_path, path_cost, port_after, Reads, goes, IsSound, hardware_of, IsSoundHardware, AreTied, pool_of_kind, Inside}
+use Rattle.rv_core.proofs.Words.{◌≡◌, ℕ, ◌+◌, ◌<◌, Bool, true, false, List, [], length, is_some, nat_le, take, Some, None, Option, option_and_then, sym, refl, ap, ◌∙◌, subst, inl, inr, cases_Bool, cond-false, cond-true, at_kind, with_kind, Message, Lines, Kind, PerKind, Memory, State, Contents, UnitPool, is_free, started, ReorderBuffer, changed, Hardware, Path, is_ready_entry, issue_oldest, issue_turn, oldest, Ends, GoesOn, result_in, stores_behind, kind_of, at_kind-by_kind, with_kind-back, Queue, older_than, Pool, taken_from, oldest_ready, ready_of, without_oldest_ready, Ready, Station, Pending, holds, started_unit, IsBehind, cache_after, load_path, path_cost, port_after, Reads, goes, IsSound, hardware_of, IsLegalCost, IsSoundHardware, AreTied, pool_of_kind, Inside}
 use Rattle.rv_units.specs.Bus.{with_result}
 use Rattle.rv_core.proofs.Issued.Executed.{is_issued, is_sound, is_tied, started_hardware}
 use Rattle.rv_core.proofs.Issued.Found.{Leaving, leaves, nothing_leaves, stationed_now, test_of}
+use Rattle.rv_stations.specs.Waiting.{ArePassedBy}
+use Rattle.rv_core.specs.Passed.{NoneIssues}
+use Rattle.rv_core.proofs.Issued.Passed.{passed_later, port_later}
 use Rattle.rv_core.proofs.Issued.Tied.{absent_from_bus, room_on_bus}
+
+-- the test that the code asks is the definition's
+test_in_code : (parts : Inside) → IsSound parts → (kind : Kind) (idle : Bool) → idle ≡ nat_le parts.port_free parts.cycle →
+    goes kind parts.cache.backing.layout parts.stores.stores idle ≡ test_of (hardware_of parts) kind
+test_in_code parts sound kind idle port = λ j. goes kind (sound.sound.cache.layout j) (sound.tied.queued j).stores (port j)
+
+-- the stations hold what the instructions in flight tell
+waiting_in_stations : (parts : Inside) → IsSound parts → (kind : Kind) →
+    (at_kind kind parts.stations).waiting ≡ stationed_now (hardware_of parts) kind
+waiting_in_stations parts sound kind =
+    ap (λ (s : PerKind Pool). (at_kind kind s).waiting) sound.tied.stationed
+    ∙ ap (λ p. p.waiting) (at_kind-by_kind (pool_of_kind parts.values parts.registers parts.rob) kind)
 
 module _ (parts : Inside) (sound : IsSound parts) (kind : Kind) (idle : Bool)
     (port : idle ≡ nat_le parts.port_free parts.cycle) where
@@ -15,12 +30,14 @@ module _ (parts : Inside) (sound : IsSound parts) (kind : Kind) (idle : Bool)
   code_test = goes kind parts.cache.backing.layout parts.stores.stores idle
 
   pub same_test : code_test ≡ test_of h kind
-  same_test = λ j. goes kind (sound.sound.cache.layout j) (sound.tied.queued j).stores (port j)
+  same_test = test_in_code parts sound kind idle port
 
   same_waiting : (at_kind kind parts.stations).waiting ≡ stationed_now h kind
-  same_waiting =
-      ap (λ (s : PerKind Pool). (at_kind kind s).waiting) sound.tied.stationed
-      ∙ ap (λ p. p.waiting) (at_kind-by_kind (pool_of_kind h.values h.registers h.rob) kind)
+  same_waiting = waiting_in_stations parts sound kind
+
+  -- what the definition's stations pass by, those of the parts do
+  pub passed_in_code : (n : ℕ) → NoneIssues kind n h → ArePassedBy code_test n (at_kind kind parts.stations).waiting
+  passed_in_code n passed = (λ j. oldest_ready (same_test j) (take n (same_waiting j))) ∙ passed
 
   module _ (result : Option Ready)
       (answer : result ≡ option_and_then ready_of (oldest_ready code_test (at_kind kind parts.stations).waiting)) where
@@ -114,6 +131,22 @@ module _ (parts : Inside) (sound : IsSound parts) (kind : Kind) (idle : Bool)
           stale_base = sound.stale_base;
           stale_size = sound.stale_size;
         }
+
+        still_idle : nat_le port_free parts.cycle ≡ true → idle ≡ true
+        still_idle is =
+            let legal : IsLegalCost parts.cache.values = subst IsLegalCost (sym sound.sound.cache.values) sound.sound.legal.cache.1 in
+            port ∙ port_later parts.cycle parts.port_free parts.cache path_now legal.hit.0
+            (ap (λ n. nat_le n parts.cycle) (sym ports) ∙ is)
+
+        -- those that this search passed by, the next one may pass by
+        pub passed_after : (n : ℕ) → ArePassedBy code_test n (at_kind kind stations).waiting → NoneIssues kind n (hardware_of after)
+        passed_after n passed =
+            let idle_after = nat_le port_free parts.cycle in
+            let layout = sound.sound.cache.layout ∙ sym sound_after.sound.cache.layout in
+            (λ j. oldest_ready (sym (test_in_code after sound_after kind idle_after refl) j)
+            (take n (sym (waiting_in_stations after sound_after kind) j)))
+            ∙ passed_later kind cache.backing.layout parts.stores.stores idle idle_after still_idle n (at_kind kind stations).waiting
+            (subst (λ l. ArePassedBy (goes kind l parts.stores.stores idle) n (at_kind kind stations).waiting) layout passed)
 
         -- the hardware that they stand for is what the definition's turn goes on with
         pub turn_after : is_free parts.cycle (at_kind kind parts.units) ≡ true → GoesOn (hardware_of after) ≡ issue_turn kind h

@@ -5,7 +5,7 @@ use Rattle.rv_core.proofs.Ties.Queue.{can_enter}
 use Rattle.rv_core.proofs.Ties.Renaming.{can_checkpoint, can_define}
 use Rattle.rv_core.proofs.Ties.Stations.{stations-below}
 use Rattle.rv_core.proofs.parts.Parts.enter.Goals as goal
-use Rattle.rv_core.proofs.parts.Parts.enter.Goals.{After-self, After-push}
+use Rattle.rv_core.proofs.parts.Parts.enter.Goals.{After-self, After-push_entry}
 
 -- no reason to wait holds
 fails : (c : After-self) → Goes (hardware_of c.self.inside) c.args.fetched.now
@@ -52,16 +52,16 @@ checkpoint_jump-requires c =
     (can_checkpoint h.values h.rob (target_of_word c.args.fetched.now.instruction)
     (room (goal.at.checkpoint_jump-requires c).After-self))
 
-waits_not : (c : After-push) → reason_of (hardware_of c.self.inside) c.args.fetched.now ≡ None
+waits_not : (c : After-push_entry) → reason_of (hardware_of c.self.inside) c.args.fetched.now ≡ None
 waits_not c = rw (← c.self.view_is) at c.requires.waits_not
 
 -- the parts with the instruction
-left-is : (c : After-push) →
+left-is : (c : After-push_entry) →
     record c.self.inside {
       stores = c.enter_store.new.stores;
       stations = c.station.new.stations;
       rename = c.checkpoint_jump.new.rename;
-      rob = c.push.new.self;
+      rob = c.push_entry.new.rob;
     }
     ≡ entered_parts c.self.inside c.args.fetched.now c.self.invariant
     (waits_not c) c.requires.decoded c.define_target.ensures.in_range
@@ -77,19 +77,19 @@ left-is c =
     let rename =
     c.checkpoint_jump.ensures ∙ ap (with_jump jump c.next_number-seq.result) c.define_target.ensures.defined
     ∙ ap (λ n. with_jump jump n (with_target n (target_of_word f.instruction) p.rename)) seq in
-    let rob = c.push.ensures.entries ∙ ap (λ e. pushed e p.rob) (c.entering-entry.ensures (hardware_of p) refl) in
+    let rob = c.push_entry.ensures (hardware_of p) refl in
     λ i. record p { stores = stores i; stations = stations i; rename = rename i; rob = rob i }
 
 pub invariant_of-self : goal.invariant_of-self
 invariant_of-self c =
-    let at = (goal.at.invariant_of-self c).After-push in
+    let at = (goal.at.invariant_of-self c).After-push_entry in
     subst IsSound (sym (left-is at))
     (entered-sound c.self.inside c.args.fetched.now c.self.invariant
     (waits_not at) c.requires.decoded c.define_target.ensures.in_range)
 
 pub returns : goal.returns
 returns c =
-    let at = (goal.at.returns c).After-push in
+    let at = (goal.at.returns c).After-push_entry in
     ap hardware_of (left-is at) ∙
     entered-is c.self.inside c.args.fetched.now c.self.invariant
     (waits_not at) c.requires.decoded c.define_target.ensures.in_range ∙

@@ -1,4 +1,4 @@
-use Rattle.rv_core.proofs.Words.{◌+◌, ◌-◌, nat_le, sym, refl, ap, ◌∙◌, arith, at_kind, Hardware, issue_kind, issue_turn, Ends, turn_of}
+use Rattle.rv_core.proofs.Words.{◌+◌, ◌-◌, is_some, nat_le, sym, refl, ap, ◌∙◌, arith, at_kind, Hardware, issue_kind, issue_turn, Ends, turn_of}
 use Rattle.rv_core.proofs.Issued.Parts.{turn_empty}
 use Rattle.rv_core.proofs.Phases.Turned.{turned-ends, turned-goes, turned-none}
 use Rattle.rv_core.proofs.parts.Parts.issue_kind.Goals as goal
@@ -11,16 +11,21 @@ returns-then-is_empty c =
     turned-none (issue_turn c.args.kind) (at_kind c.args.kind c.args.self.now.values.kinds).units c.args.self.now
     (ap (λ (h : Hardware). Ends h) (sym c.self.view_is) ∙ ends ∙ ap (issue_turn c.args.kind) c.self.view_is)
 
-pub returns-then-not-issue_one : goal.returns-then-not-issue_one
-returns-then-not-issue_one c =
-    let ends = sym c.issue_one.ensures ∙ ap (λ b. turn_of b c.issue_one.new.self) c.if-not-issue_one.true in
+pub returns-in_default : goal.returns-in_default
+returns-in_default c =
+    let ends = sym c.issue_one.ensures.turn ∙ ap (λ o. turn_of (is_some o) c.issue_one.new.self) c.in_default.is in
     turned-ends (issue_turn c.args.kind) (issue_kind c.args.kind c.args.self.now)
     (c.get.result.now.units - c.loop.counter) c.loop.self c.issue_one.new.self
-    (omega (arith, c.loop-test.true)) c.loop.invariant ends
+    (omega (arith, c.loop-test.true)) c.loop.invariant.0 ends
+
+pub loop-init : goal.loop-init
+loop-init c = (refl, refl)
 
 pub loop-preserved : goal.loop-preserved
 loop-preserved c =
-    let goes = sym c.issue_one.ensures ∙ ap (λ b. turn_of b c.issue_one.new.self) c.if-not-issue_one.false in
-    turned-goes (issue_turn c.args.kind) (issue_kind c.args.kind c.args.self.now) (c.get.result.now.units - c.loop.counter)
-    (c.get.result.now.units - (c.loop.counter + 1)) c.loop.self c.issue_one.new.self
-    (omega (arith, c.loop-test.true)) c.loop.invariant goes
+    let goes = sym c.issue_one.ensures.turn ∙ ap (λ o. turn_of (is_some o) c.issue_one.new.self) c.in-Some.is in (
+      turned-goes (issue_turn c.args.kind) (issue_kind c.args.kind c.args.self.now) (c.get.result.now.units - c.loop.counter)
+          (c.get.result.now.units - (c.loop.counter + 1)) c.loop.self c.issue_one.new.self
+          (omega (arith, c.loop-test.true)) c.loop.invariant.0 goes,
+      rw c.in-Some.is at c.issue_one.ensures.passed,
+    )
