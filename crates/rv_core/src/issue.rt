@@ -132,7 +132,7 @@ fn take_ready(
     queue: &StoreQueue,
     port_idle: bool,
 ) -> Option<Taken>
-    requires passed { ArePassedBy (goes kind cache.now.backing.layout queue.now.stores port_idle) passed (at_kind kind stations.old).waiting }
+    requires { ArePassedBy (goes kind cache.now.backing.layout queue.now.stores port_idle) passed (at_kind kind stations.old).waiting }
     ensures oldest { ready_taken result ≡ option_and_then ready_of (oldest_ready (goes kind cache.now.backing.layout queue.now.stores port_idle) (at_kind kind stations.old).waiting) }
     ensures others { stations.new ≡ with_kind kind (taken_from (goes kind cache.now.backing.layout queue.now.stores port_idle) (at_kind kind stations.old)) stations.old }
     ensures passed { IfSome result (λ taken. ArePassedBy (goes kind cache.now.backing.layout queue.now.stores port_idle) taken.passed (at_kind kind stations.new).waiting) }

@@ -1,6 +1,5 @@
 -- What a search passed by, the next one of the phase may pass by: the port is no sooner idle after a start.
-use Rattle.rv_core.proofs.Words.{◌≡◌, ℕ, ◌+◌, ◌≤◌, Bool, true, false, ◌&&◌, ◌||◌, List, [], ◌∷◌, nat_le, Some, None, Option, refl, inl, inr, arith, and_parts, cases_Bool, CacheLine, CacheValues, Kind, Memory, Contents, access_cost, cost_of_access, FromCache, FromStores, Path, Without, Alu, Div, Mem, Mul, Store, Layout, is_ready_station, oldest_ready, Station, port_after, goes}
-use Rattle.std.proofs.lemmas.Bool.{and_from, le_ltb}
+use Rattle.rv_core.proofs.Words.{◌≡◌, ℕ, ◌+◌, ◌≤◌, Bool, true, false, ◌&&◌, ◌||◌, List, [], ◌∷◌, nat_le, take, Some, None, Option, refl, inl, inr, arith, and_parts, and_from, leb-true, cases_Bool, CacheLine, CacheValues, Kind, Memory, Contents, access_cost, cost_of_access, FromCache, FromStores, Path, Without, Alu, Div, Mem, Mul, Store, Layout, is_ready_station, oldest_ready, Station, port_after, goes}
 use Rattle.rv_stations.specs.Waiting.{ArePassedBy}
 
 -- a test that passes no more than another finds nothing where the other does not
@@ -38,7 +37,7 @@ goes_later Mem layout stores idle still later w is = wider _ _ _ idle still late
 pub passed_later : (kind : Kind) (layout : Layout) (stores : List Store) (idle still : Bool) → (still ≡ true → idle ≡ true) →
     (n : ℕ) (ws : List Station) → ArePassedBy (goes kind layout stores idle) n ws → ArePassedBy (goes kind layout stores still) n ws
 passed_later kind layout stores idle still later n ws passed =
-    none_by (goes kind layout stores idle) (goes kind layout stores still) (goes_later kind layout stores idle still later) _ passed
+    none_by (goes kind layout stores idle) (goes kind layout stores still) (goes_later kind layout stores idle still later) (take n ws) passed
 
 -- an access takes a cycle at least
 cost_least : (values : CacheValues) → 1 ≤ values.hit → (is_hit : Bool) (dropped : Option CacheLine) → 1 ≤ cost_of_access values is_hit dropped
@@ -53,4 +52,4 @@ port_later cycle port_free cache Without hit is = is
 port_later cycle port_free cache FromStores hit is = is
 port_later cycle port_free cache (FromCache address) hit is =
     let cost : 1 ≤ access_cost cache address = cost_least cache.values hit _ _ in
-    absurd (omega (arith, cost, le_ltb (cycle + access_cost cache address) cycle is))
+    absurd (omega (arith, cost, leb-true (cycle + access_cost cache address) cycle is))

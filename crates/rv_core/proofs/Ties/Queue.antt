@@ -1,7 +1,6 @@
 -- The store queue is what the retired stores and the instructions in flight tell, through a dispatch, a broadcast and a squash.
-use Rattle.rv_core.proofs.Words.{◌≡◌, ℕ, ◌+◌, ◌<◌, ◌≤◌, Bool, true, false, cond, List, [], ◌∷◌, ◌++◌, map, length, ◌==◌, Some, None, All, filter, Option, sym, refl, ap, ◌∙◌, inl, inr, true≢false, append_assoc, append-nil, arith, eq-eqb, ne_eqb, eqb-true, cases_Bool, eqb-false, map-append, All-cons, All-head, All-tail, filter-append, is_store, kind_of_word, Message, StoreAccess, Instr, Values, is_committed, is_committed_state, Store, StoreState, finished, predicting, ReorderBuffer, entries_below, with_entry, Entry, Stage, Finished, stage_by, Hardware, broadcast_of, store_of_broadcast, store_of_message, stores_of, AreBelow, AreBelow-append, AreBelow-weaken, below-all, below-append, CanEnter, Queue, older_than, answered, entry_of, next_number, with_store, IsRetiredStore, queue_of}
+use Rattle.rv_core.proofs.Words.{◌≡◌, ℕ, ◌+◌, ◌<◌, ◌≤◌, Bool, true, false, cond, List, [], ◌∷◌, ◌++◌, map, length, ◌==◌, Some, None, All, filter, Option, sym, refl, ap, ◌∙◌, inl, inr, true≢false, append_assoc, append-nil, arith, eq-eqb, ne_eqb, eqb-true, cases_Bool, eqb-false, map-append, All-cons, All-head, All-tail, filter-append, is_store, kind_of_word, Message, Instr, Values, is_committed, is_committed_state, Store, StoreState, finished, predicting, ReorderBuffer, entries_below, with_entry, Entry, Stage, Finished, stage_by, Hardware, broadcast_of, store_of_broadcast, store_of_message, stores_of, AreBelow, AreBelow-append, AreBelow-weaken, below-all, below-append, CanEnter, Queue, older_than, answered, entry_of, next_number, with_store, IsRetiredStore, queue_of}
 use Rattle.rv_stores.specs.declared.store.StoreState.TheVariants as store
-use Rattle.rv_isa.specs.declared.instructions.Instr.TheVariants as instruction
 use Rattle.rv_core.proofs.Ties.Gathered.{nothing, gathered, gathered-below, gathered-cut, gathered-from, gathered-push, gathered-same}
 use Rattle.rv_core.proofs.Retired.Stores.{AreRetired, retired_is_committed}
 use Rattle.rv_core.proofs.Ties.Entries.{entry_of-from}

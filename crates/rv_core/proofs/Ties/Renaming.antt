@@ -1,5 +1,5 @@
 -- The rename map is what the instructions in flight tell, through a dispatch and a squash.
-use Rattle.rv_core.proofs.Words.{◌≡◌, ℕ, ◌+◌, ◌<◌, ◌≤◌, Bool, true, false, cond, ◌&&◌, List, [], ◌∷◌, ◌++◌, length, ◌==◌, Some, None, All, Option, sym, refl, ap, ◌∙◌, inl, inr, append_assoc, append-nil, arith, lt-ltb, eqb-true, cases_Bool, All-cons, is_branch_or_jump, target_of_word, Values, ReorderBuffer, changed, entries_below, pushed, with_entry, Entry, mends_early, AreBelow, below, AreBelow-append, CanCheckpoint, CanDefine, Checkpoint, Renaming, producers_at, restored, Producer, cut_from, entry_of, next_number, with_jump, with_target, checkpoints_of, producer_of, producers_of, producers_with, renaming_of}
+use Rattle.rv_core.proofs.Words.{◌≡◌, ℕ, ◌+◌, ◌<◌, ◌≤◌, Bool, true, false, cond, ◌&&◌, List, [], ◌∷◌, ◌++◌, length, ◌==◌, Some, All, Option, sym, refl, ap, ◌∙◌, inl, inr, append_assoc, append-nil, arith, lt-ltb, eqb-true, cases_Bool, All-cons, is_branch_or_jump, target_of_word, Values, ReorderBuffer, changed, entries_below, pushed, with_entry, Entry, mends_early, AreBelow, below, AreBelow-append, CanCheckpoint, CanDefine, Checkpoint, Renaming, producers_at, restored, Producer, cut_from, entry_of, next_number, with_jump, with_target, checkpoints_of, producer_of, producers_of, producers_with, renaming_of}
 use Rattle.rv_core.proofs.Ties.Gathered.{nothing, behind, gathered, gathered-below, gathered-cut, gathered-from, gathered-length, gathered-push, gathered-same}
 use Rattle.rv_core.proofs.Ties.Entries.{entries_below-first, entry_of-from}
 

@@ -1,5 +1,5 @@
 -- The reservation stations are what the instructions in flight tell, through a dispatch, a broadcast and a squash.
-use Rattle.rv_core.proofs.Words.{◌≡◌, ℕ, ◌+◌, ◌<◌, ◌≤◌, Bool, true, false, cond, ◌&&◌, List, [], ◌∷◌, ◌++◌, map, length, ◌==◌, slice_index_or, Some, None, All, filter, Option, sym, refl, ap, ◌∙◌, subst, inl, inr, append-nil, arith, eq-eqb, ne_eqb, eqb-true, and_right, cases_Bool, eqb-false, map-append, All-cons, is_same-own, is_of_kind, kind_of_word, sources_of, at_kind, for_each, is_same, with_kind, Message, Instr, Kind, PerKind, Values, finished, predicting, ReorderBuffer, changed, entries_below, pushed, with_entry, Entry, Stage, is_stationed, stage_by, broadcast_of, is_waiting, AreBelow, below, kind_of, by_kind, at_kind-by_kind, by_kind-same, with_kind-by_kind, Pool, squashed_pool, with_waiting, woken_pool, woken, woken_operand, Value, Station, cut_from, entry_of, next_number, with_instruction, with_station, RegisterStatus, operand_by, operand_of, pool_of_kind, stations_of, status_behind, status_with, values_in, waiting_at, waiting_from, waiting_of}
+use Rattle.rv_core.proofs.Words.{◌≡◌, ℕ, ◌+◌, ◌<◌, ◌≤◌, Bool, true, false, cond, ◌&&◌, List, [], ◌∷◌, ◌++◌, map, length, ◌==◌, slice_index_or, Some, None, All, filter, Option, sym, refl, ap, ◌∙◌, subst, inl, inr, append-nil, arith, eq-eqb, ne_eqb, eqb-true, and_right, cases_Bool, eqb-false, map-append, All-cons, is_same-own, is_of_kind, kind_of_word, sources_of, at_kind, for_each, Message, Instr, Kind, PerKind, Values, finished, predicting, ReorderBuffer, changed, entries_below, pushed, with_entry, Entry, Stage, is_stationed, stage_by, broadcast_of, is_waiting, AreBelow, below, by_kind, at_kind-by_kind, by_kind-same, with_kind-by_kind, Pool, squashed_pool, woken_pool, woken, woken_operand, Value, Station, cut_from, entry_of, next_number, with_instruction, with_station, RegisterStatus, operand_by, operand_of, pool_of_kind, stations_of, status_behind, status_with, values_in, waiting_at, waiting_from, waiting_of}
 use Rattle.rv_rob.specs.declared.entry.Stage.TheVariants as stage
 use Rattle.rv_stations.specs.Waiting.{seq_of}
 use Rattle.rv_hardware.specs.InFlight.{writes}

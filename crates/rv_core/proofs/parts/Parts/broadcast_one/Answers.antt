@@ -1,4 +1,4 @@
-use Rattle.rv_core.proofs.Words.{◌≡◌, ℕ, ◌+◌, Bool, true, false, cond, Option, refl, predicting, cut_from, redirected, ◌&&◌, [], map, Some, None, sym, ap, ◌∙◌, subst, and_parts, for_each, Message, finished, changed, is_mispredicted, mends_early, with_recovery, Hardware, store_of_message, Ends, GoesOn, find, answered, woken_pool, is_ready_result, IsSound, hardware_of, Inside}
+use Rattle.rv_core.proofs.Words.{◌≡◌, ℕ, ◌+◌, Bool, true, false, cond, refl, predicting, cut_from, redirected, ◌&&◌, [], Some, None, sym, ap, ◌∙◌, subst, and_parts, finished, changed, is_mispredicted, mends_early, with_recovery, Hardware, Ends, GoesOn, find, is_ready_result, IsSound, hardware_of, Inside}
 use Rattle.rv_core.proofs.Ties.Broadcast.{grant, sent_parts, sent-goes_on, sent-is, sent-recovers, sent-sound, sent_to, unsent, unsent_bus}
 use Rattle.rv_core.proofs.Ties.Bus.{IsGranted}
 use Rattle.rv_core.proofs.Ties.Entries.{entry_of-changed, with_entry-alike}

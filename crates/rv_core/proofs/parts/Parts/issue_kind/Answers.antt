@@ -1,3 +1,4 @@
+use Rattle.std.proofs.Common.{rules}
 use Rattle.rv_core.proofs.Words.{◌+◌, ◌-◌, is_some, nat_le, sym, refl, ap, ◌∙◌, arith, at_kind, Hardware, issue_kind, issue_turn, Ends, turn_of}
 use Rattle.rv_core.proofs.Issued.Parts.{turn_empty}
 use Rattle.rv_core.proofs.Phases.Turned.{turned-ends, turned-goes, turned-none}
@@ -19,7 +20,7 @@ returns-in_default c =
     (omega (arith, c.loop-test.true)) c.loop.invariant.0 ends
 
 pub loop-init : goal.loop-init
-loop-init c = (refl, refl)
+loop-init c = (search rules, refl)
 
 pub loop-preserved : goal.loop-preserved
 loop-preserved c =

@@ -86,4 +86,4 @@ returns-clause-passed c =
     c.execute-executed.result.port_free c.execute-executed.new.cache
     costs c.execute-executed.ensures.port c.execute-executed.ensures.cache c.execute-executed.ensures.message
     c.hold_unit.new.units c.start.new.self c.take_ready.new.stations c.accept.new.bus
-    c.hold_unit.ensures c.start.ensures c.take_ready.ensures.others c.accept.ensures c.in-Some.taken.passed (c.take_ready.ensures.passed)
+    c.hold_unit.ensures c.start.ensures c.take_ready.ensures.others c.accept.ensures c.in-Some.taken.passed (rw c.in-Some.is at c.take_ready.ensures.passed)
