@@ -1,6 +1,5 @@
 -- A fault that a unit finds is of a branch, a jump, a load or a store.
-use Rattle.std.proofs.Common.{arith}
-use Rattle.rv_hardware.proofs.Words.{◌≡◌, ℕ, Bool, true, false, is_some, Some, None, Option, refl, kind_of_word, Message, StoreAccess, InstructionAddressMisaligned, Fault, Instr, Lines, LoadForm, Width, Layout, is_aligned, Effect, Faults, Retires, branches, effect, jumps, loads, stores, State, effect_message, result_of_word, needs_no_unit, by_test}
+use Rattle.rv_hardware.proofs.Words.{◌≡◌, ℕ, Bool, true, false, is_some, Some, None, Option, refl, kind_of_word, Message, StoreAccess, InstructionAddressMisaligned, Fault, Instr, Lines, LoadForm, Width, Layout, is_aligned, Effect, Faults, Retires, branches, effect, jumps, loads, stores, State, effect_message, result_of_word, needs_no_unit, by_test, arith}
 use Rattle.rv_hardware.proofs.Turns.Forms.{IsResultOfWord}
 
 -- what a unit finds

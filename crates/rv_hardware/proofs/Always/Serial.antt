@@ -1,6 +1,5 @@
 -- An instruction that waits to be the oldest is the youngest: nothing younger is in flight beside it.
-use Rattle.std.proofs.Common.{arith}
-use Rattle.rv_hardware.proofs.Words.{◌≡◌, ℕ, true, false, List, [], ◌∷◌, ◌++◌, Option, refl, or_parts, map-append, is_serialising, Instr, Values, Each, Entry, Hardware, reset_hardware, map-change}
+use Rattle.rv_hardware.proofs.Words.{◌≡◌, ℕ, true, false, List, [], ◌∷◌, ◌++◌, Option, refl, or_parts, map-append, is_serialising, Instr, Values, Each, Entry, Hardware, reset_hardware, map-change, arith}
 use Rattle.rv_hardware.proofs.Turns.KeptByCycle.{IsKept, phases-kept}
 use Rattle.rv_hardware.proofs.Turns.Changes.{IsKeptByChanges}
 use Rattle.rv_hardware.proofs.Turns.Dispatch.{is_any_serialising}

@@ -1,6 +1,5 @@
 -- The sizes of the hardware are the described ones.
-use Rattle.std.proofs.Common.{arith}
-use Rattle.rv_hardware.proofs.Words.{◌≡◌, ℕ, List, at_kind-for_each, with_kind-each, IsLegal, at_kind, with_kind, Kind, PerKind, CacheValues, Values, Pool, FetchBuffer, Hardware, reset_hardware, ◌+◌, any_prediction}
+use Rattle.rv_hardware.proofs.Words.{◌≡◌, ℕ, List, at_kind-for_each, with_kind-each, IsLegal, at_kind, with_kind, Kind, PerKind, CacheValues, Values, Pool, FetchBuffer, Hardware, reset_hardware, ◌+◌, any_prediction, arith}
 use Rattle.rv_units.specs.Pool.{started as started_unit}
 use Rattle.rv_hardware.proofs.Turns.KeptByCycle.{IsKept, phases-kept}
 use Rattle.rv_hardware.proofs.Turns.Changes.{IsKeptByChanges, one_starts}

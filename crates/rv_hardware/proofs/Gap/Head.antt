@@ -1,6 +1,5 @@
 -- The oldest instruction in flight stays the oldest in the phases after commit, whatever becomes of those that are younger.
-use Rattle.std.proofs.Common.{arith}
-use Rattle.rv_hardware.proofs.Words.{◌≡◌, true, false, List, [], ◌∷◌, ◌++◌, Option, sym, ◌∙◌, subst, Instr, Entry, Stage, is_waiting}
+use Rattle.rv_hardware.proofs.Words.{◌≡◌, true, false, List, [], ◌∷◌, ◌++◌, Option, sym, ◌∙◌, subst, Instr, Entry, Stage, is_waiting, arith}
 
 -- the oldest is this instruction, in such a stage
 abbrev pub HeadIs : Option Instr → (Stage → Type 0) → List Entry → Type 0

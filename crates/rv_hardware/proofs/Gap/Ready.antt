@@ -1,6 +1,5 @@
 -- The oldest instruction is ready where it waits and can go, and only a load of the memory unit accesses the cache.
-use Rattle.std.proofs.Common.{arith}
-use Rattle.rv_hardware.proofs.Words.{◌≡◌, ℕ, ◌≤◌, Bool, true, false, not, ◌&&◌, ◌||◌, ◌⊎◌, List, [], ◌∷◌, nat_le, Some, None, Option, refl, le-leb, and_from, or_right, is_same-own, is_same-true, is_load, kind_of_word, Instr, Kind, State, Entry, Hardware, is_waiting, FromCache, Path, has_operands, has_port, is_ready, may_load, path, path_of}
+use Rattle.rv_hardware.proofs.Words.{◌≡◌, ℕ, ◌≤◌, Bool, true, false, not, ◌&&◌, ◌||◌, ◌⊎◌, List, [], ◌∷◌, nat_le, Some, None, Option, refl, le-leb, and_from, or_right, is_same-own, is_same-true, is_load, kind_of_word, Instr, Kind, State, Entry, Hardware, is_waiting, FromCache, Path, has_operands, has_port, is_ready, may_load, path, path_of, arith}
 use Rattle.rv_isa.specs.declared.operations.Kind.TheVariants as kind
 use Rattle.rv_hardware.proofs.Turns.KeptByIssue.{ready-parts}
 

@@ -1,6 +1,5 @@
 -- The broadcast phase changes nothing that programs see, and fetch goes on where the program does.
-use Rattle.std.proofs.Common.{arith}
-use Rattle.rv_hardware.proofs.Words.{◌≡◌, ℕ, ◌+◌, ◌%◌, true, false, List, [], ◌∷◌, ◌++◌, length, is_none, Option, sym, ap, ◌∙◌, subst, and_parts, false≢true, is_branch_or_jump, is_serialising, Message, StoreAccess, Instr, Issue, Lines, Values, Layout, Effect, effect, State, finished, issue_of, predicting, ReorderBuffer, changed, Entry, Finished, broadcast, broadcast_turn, is_mispredicted, mends_early, with_broadcast, with_recovery, Hardware, Turn, effect_message, result_of_word, layout_of, seen, redirected, Leaves, kept_by_turns}
+use Rattle.rv_hardware.proofs.Words.{◌≡◌, ℕ, ◌+◌, ◌%◌, true, false, List, [], ◌∷◌, ◌++◌, length, is_none, Option, sym, ap, ◌∙◌, subst, and_parts, false≢true, is_branch_or_jump, is_serialising, Message, StoreAccess, Instr, Issue, Lines, Values, Layout, Effect, effect, State, finished, issue_of, predicting, ReorderBuffer, changed, Entry, Finished, broadcast, broadcast_turn, is_mispredicted, mends_early, with_broadcast, with_recovery, Hardware, Turn, effect_message, result_of_word, layout_of, seen, redirected, Leaves, kept_by_turns, arith}
 use Rattle.rv_hardware.proofs.Headline.Fold.{result_at, behind, IsResult, AreInFlight}
 use Rattle.rv_hardware.proofs.Headline.Invariant.{FollowsProgram, IsSoundAt, with_other_program}
 use Rattle.rv_hardware.proofs.Headline.Retires.{IsTold, effect_told}

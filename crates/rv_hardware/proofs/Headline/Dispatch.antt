@@ -1,6 +1,5 @@
 -- The dispatch phase changes nothing that programs see.
-use Rattle.std.proofs.Common.{arith}
-use Rattle.rv_hardware.proofs.Words.{◌≡◌, ℕ, Bool, false, List, [], ◌∷◌, ◌++◌, None, Option, subst, true≢false, no_lines, is_load, is_serialising, kind_of_word, sources_of_word, Instr, Kind, Values, Layout, State, pushed, Entry, Finished, Fetched, dispatch, entry_of_fetched, stage_by, Hardware, result_of_word, layout_of, seen, seen_behind}
+use Rattle.rv_hardware.proofs.Words.{◌≡◌, ℕ, Bool, false, List, [], ◌∷◌, ◌++◌, None, Option, subst, true≢false, no_lines, is_load, is_serialising, kind_of_word, sources_of_word, Instr, Kind, Values, Layout, State, pushed, Entry, Finished, Fetched, dispatch, entry_of_fetched, stage_by, Hardware, result_of_word, layout_of, seen, seen_behind, arith}
 use Rattle.rv_hardware.proofs.Turns.KeptByDispatch.{dispatch-keeps}
 use Rattle.rv_hardware.proofs.Headline.Fold.{behind, IsResult}
 use Rattle.rv_hardware.proofs.Headline.Invariant.{FollowsProgram, IsSoundAt, with_other_program}

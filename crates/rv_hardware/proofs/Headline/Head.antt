@@ -1,6 +1,5 @@
 -- Where the result of the oldest instruction is known, the one-at-a-time machine takes the step that it tells of.
-use Rattle.std.proofs.Common.{arith}
-use Rattle.rv_hardware.proofs.Words.{◌≡◌, ℕ, ◌%◌, Bool, true, false, cond, List, [], ◌∷◌, Some, None, Option, option_map, option_and_then, unwrap_or, sym, refl, ◌∙◌, subst, no_lines, code_of, is_serialising, sources_of_word, target_of_word, target_of, Message, Fault, Instr, Lines, Decodes, instruction_of, Layout, fetched_word, is_in_ram, number_at, word_of, faulted_at, illegal_at, retired_at, due, Effect, Faults, Retires, effect, State, IsFetched, trap_taken, unfetched, word_at_pc, access_of, effect_message, result_of_word}
+use Rattle.rv_hardware.proofs.Words.{◌≡◌, ℕ, ◌%◌, Bool, true, false, cond, List, [], ◌∷◌, Some, None, Option, option_map, option_and_then, unwrap_or, sym, refl, ◌∙◌, subst, no_lines, code_of, is_serialising, sources_of_word, target_of_word, target_of, Message, Fault, Instr, Lines, Decodes, instruction_of, Layout, fetched_word, is_in_ram, number_at, word_of, faulted_at, illegal_at, retired_at, due, Effect, Faults, Retires, effect, State, IsFetched, trap_taken, unfetched, word_at_pc, access_of, effect_message, result_of_word, arith}
 use Rattle.std.specs.FinSet as set
 use Rattle.rv_arch.specs.Step.{Step}
 use Rattle.rv_arch.specs.declared.outcome.RefStep.TheVariants.{Retired, Trap}

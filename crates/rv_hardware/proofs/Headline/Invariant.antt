@@ -1,6 +1,5 @@
 -- What always holds of the hardware, so that its steps are the one-at-a-time machine's.
-use Rattle.std.proofs.Common.{arith}
-use Rattle.rv_hardware.proofs.Words.{◌≡◌, ℕ, ◌+◌, ◌*◌, ◌%◌, true, false, List, [], ◌∷◌, length, slice_index_or as get_or, nat_cmp, PerKind, Values, Layout, Memory, is_in_ram, word_of, State, Contents, IsConsistent, Each, is_draining, Store as QueuedStore, Pool, ReorderBuffer, Entry, FetchBuffer, Hardware, memory_behind, with_store, layout_of, seen}
+use Rattle.rv_hardware.proofs.Words.{◌≡◌, ℕ, ◌+◌, ◌*◌, ◌%◌, true, false, List, [], ◌∷◌, length, slice_index_or as get_or, nat_cmp, PerKind, Values, Layout, Memory, is_in_ram, word_of, State, Contents, IsConsistent, Each, is_draining, Store as QueuedStore, Pool, ReorderBuffer, Entry, FetchBuffer, Hardware, memory_behind, with_store, layout_of, seen, arith}
 use Rattle.std.specs.FinSet as set
 use Rattle.rv_hardware.proofs.Headline.Fold.{behind, AreInFlight, AreInBuffer}
 use Rattle.rv_hardware.proofs.Headline.Words.{IsRetiredStore}

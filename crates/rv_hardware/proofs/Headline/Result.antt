@@ -1,6 +1,5 @@
 -- What an instruction gives depends on its pc, on the registers that it reads, and on memory where it is a load.
-use Rattle.std.proofs.Common.{arith}
-use Rattle.rv_hardware.proofs.Words.{◌≡◌, ℕ, Bool, true, false, not, List, [], ◌∷◌, if◌then◌else◌, Some, None, Option, refl, ap, true≢false, bytes_of_number, is_load, is_serialising, sources_of_word, sources_of, bytes_of, pc_plus, pc_plus_4, StoreAccess, Cause, Instr, Auipc, Branch, Csr, Ebreak, Ecall, FenceI, Jal, Jalr, Load, Lui, Mret, Op, OpImmediate, Shift, Lines, LoadForm, Width, Layout, Faults, Retires, branches, goes_to, jumps, loads, stores, State, register_of, effect_message, result_in, result_of_word}
+use Rattle.rv_hardware.proofs.Words.{◌≡◌, ℕ, Bool, true, false, not, List, [], ◌∷◌, if◌then◌else◌, Some, None, Option, refl, ap, true≢false, bytes_of_number, is_load, is_serialising, sources_of_word, sources_of, bytes_of, pc_plus, pc_plus_4, StoreAccess, Cause, Instr, Auipc, Branch, Csr, Ebreak, Ecall, FenceI, Jal, Jalr, Load, Lui, Mret, Op, OpImmediate, Shift, Lines, LoadForm, Width, Layout, Faults, Retires, branches, goes_to, jumps, loads, stores, State, register_of, effect_message, result_in, result_of_word, arith}
 use Rattle.rv_isa.specs.declared.instructions.Instr.TheVariants.{Store}
 use Rattle.rv_arch.specs.Effect.{writes}
 

@@ -1,6 +1,5 @@
 -- A new stage of an instruction in flight leaves all else as it is, where it tells the result.
-use Rattle.std.proofs.Common.{arith}
-use Rattle.rv_hardware.proofs.Words.{◌≡◌, ◌%◌, List, [], ◌∷◌, ◌++◌, sym, ◌∙◌, Layout, State, Entry, Stage, FetchBuffer}
+use Rattle.rv_hardware.proofs.Words.{◌≡◌, ◌%◌, List, [], ◌∷◌, ◌++◌, sym, ◌∙◌, Layout, State, Entry, Stage, FetchBuffer, arith}
 use Rattle.rv_hardware.proofs.Headline.Fold.{result_at, executed, behind, IsResult, IsInFlight, AreInFlight}
 use Rattle.rv_hardware.proofs.Headline.Invariant.{FollowsProgram}
 use Rattle.rv_hardware.proofs.Headline.Split.{behind-append, AreInFlight-older, AreInFlight-younger, AreInFlight-append}

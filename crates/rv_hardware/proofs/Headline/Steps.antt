@@ -1,6 +1,5 @@
 -- Retirements that a cycle reports one after another, and one other step at most at their end, make a true cycle.
-use Rattle.std.proofs.Common.{arith}
-use Rattle.rv_hardware.proofs.Words.{◌≡◌, ℕ, Bool, true, false, ◌||◌, ◌↔◌, List, [], ◌∷◌, ◌++◌, Some, All, Option, sym, refl, ap, ◌∙◌, true≢false, false≢true, or_from, All-append, All-cons, All-nil, list_any-append, list_any, Lines, Layout, State, Stop, EndAtTraps, IsTrueCycle, Lead, nowhere, onwards, told, is_breakpoint, is_retirement, stamp_of, Step}
+use Rattle.rv_hardware.proofs.Words.{◌≡◌, ℕ, Bool, true, false, ◌||◌, ◌↔◌, List, [], ◌∷◌, ◌++◌, Some, All, Option, sym, refl, ap, ◌∙◌, true≢false, false≢true, or_from, All-append, All-cons, All-nil, list_any-append, list_any, Lines, Layout, State, Stop, EndAtTraps, IsTrueCycle, Lead, nowhere, onwards, told, is_breakpoint, is_retirement, stamp_of, Step, arith}
 use Rattle.rv_arch.specs.Step.{Step as MachineStep}
 use Rattle.rv_arch.specs.declared.outcome.RefStep.TheVariants as machine
 use Rattle.rv_arch.specs.declared.outcome.Stop.TheVariants as stop

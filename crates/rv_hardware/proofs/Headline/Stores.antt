@@ -1,6 +1,5 @@
 -- What the stores in flight write lies in writable RAM.
-use Rattle.std.proofs.Common.{arith}
-use Rattle.rv_hardware.proofs.Words.{◌≡◌, ℕ, ◌+◌, ◌%◌, true, false, List, [], ◌∷◌, ◌++◌, IfSome, Option, sym, subst, false≢true, is_serialising, is_store, Message, StoreAccess, Instr, Lines, Layout, Effect, effect, State, Each, Entry, Stage, Finished, Running, Waiting, Hardware, broadcast_of, store_of_broadcast, store_of_message, stores_of, effect_message, result_of_word, Reachable, layout_of, seen, stores_behind, Each-append, Each-weaker}
+use Rattle.rv_hardware.proofs.Words.{◌≡◌, ℕ, ◌+◌, ◌%◌, true, false, List, [], ◌∷◌, ◌++◌, IfSome, Option, sym, subst, false≢true, is_serialising, is_store, Message, StoreAccess, Instr, Lines, Layout, Effect, effect, State, Each, Entry, Stage, Finished, Running, Waiting, Hardware, broadcast_of, store_of_broadcast, store_of_message, stores_of, effect_message, result_of_word, Reachable, layout_of, seen, stores_behind, Each-append, Each-weaker, arith}
 use Rattle.rv_hardware.proofs.Headline.Bytes.{IsStateInside, IsInside}
 use Rattle.rv_hardware.proofs.Headline.Cycle.{always_sound}
 use Rattle.rv_hardware.proofs.Headline.Fold.{executed, IsResult, AreInFlight}

@@ -1,6 +1,5 @@
 -- Each row that used a unit took one of the described costs.
-use Rattle.std.proofs.Common.{arith}
-use Rattle.rv_hardware.proofs.Words.{List, All, Values, Hardware, HasCost, rows_of, Step, All-Each, Each-weaker}
+use Rattle.rv_hardware.proofs.Words.{List, All, Values, Hardware, HasCost, rows_of, Step, All-Each, Each-weaker, arith}
 use Rattle.rv_hardware.proofs.Marks.History.{History, history_is_sound}
 
 -- the field `costs` of `Laws`, over every history

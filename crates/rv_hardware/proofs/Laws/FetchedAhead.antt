@@ -1,6 +1,5 @@
 -- The front keeps ahead of the head.
-use Rattle.std.proofs.Common.{arith}
-use Rattle.rv_hardware.proofs.Words.{ℕ, true, List, Values, Hardware, IsFetchedAhead, EachNext, stamp_of, Step}
+use Rattle.rv_hardware.proofs.Words.{ℕ, true, List, Values, Hardware, IsFetchedAhead, EachNext, stamp_of, Step, arith}
 use Rattle.rv_hardware.proofs.Marks.History.{History}
 use Rattle.rv_hardware.proofs.Laws.HeadsDoNotWait.Follow.{IsAhead}
 use Rattle.rv_hardware.proofs.Laws.HeadsDoNotWait.Ahead.{follows}

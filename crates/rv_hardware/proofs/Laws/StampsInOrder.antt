@@ -1,6 +1,5 @@
 -- Each instruction passes through the stages in order.
-use Rattle.std.proofs.Common.{arith}
-use Rattle.rv_hardware.proofs.Words.{List, All, Values, Hardware, HasOrderedStamps, rows_of, Step, All-Each, Each-weaker}
+use Rattle.rv_hardware.proofs.Words.{List, All, Values, Hardware, HasOrderedStamps, rows_of, Step, All-Each, Each-weaker, arith}
 use Rattle.rv_hardware.proofs.Marks.History.{History, history_is_sound}
 
 -- the field `stamps_in_order` of `Laws`, over every history

@@ -166,9 +166,12 @@ module _ (hit now : ℕ) where
       count (λ row. is_queued_mark hit now (mark_of_row row)) rows ≤ length committed
   queued_rows rows port committed ok = grind (arith, late_rows, count-append, count-none, Each-weaker, le-ltb, count-length, queued_length)
 
+  counted_by : (b : Bool) (m n : ℕ) → m ≡ n → cond (b && true) (suc m) m ≡ cond b 1 0 + n
+  counted_by b m n same = grind arith
+
   queued_entries : (es : List Entry) → count (λ e. is_queued_mark hit now (mark_of_entry e)) es ≡ store_count (instructions_of es)
   queued_entries [] = refl
-  queued_entries (e ∷ es) = grind (arith, queued_entries es)
+  queued_entries (e ∷ es) = counted_by (is_store e.instruction) _ _ (queued_entries es)
 
 law_by_cycle : (v : Values) {steps : List Step} {h : Hardware} → History v steps h → (c : ℕ) → c < h.cycle →
     count (is_queued_mark v.cache.hit c) (as_of c (map mark_of_row (rows_of steps))) ≤ v.store_queue

@@ -204,7 +204,15 @@ buffered_words steps es fs = grind (arith, count-append, rows_not_buffered, entr
 
 -- the words that a cycle fetches are new ones after the marks so far
 pub new_words : (v : Values) (R : List Mark → Type 0) (earlier : List Step) (lines : Lines) (old new : Hardware) (report : Report) (passed : Passed v R earlier lines old report new) → NewWords v old.cycle (marks_in (earlier ++ report.steps) (dispatching lines old).hardware) passed.fetches.added
-new_words v R earlier lines old new report passed = grind (arith, buffered_words, fetched_before)
+new_words v R earlier lines old new report passed =
+    let d : Hardware = (dispatching lines old).hardware in
+    let b = passed.dispatches.basics in
+    record {
+      by_now = fetched_before v old.cycle (earlier ++ report.steps) d.rob.entries d.front.entries b.rows b.entries b.fetched;
+      are_new = passed.fetches.are_new;
+      within_width = omega (arith, passed.fetches.within_width, b.always.sizes.width);
+      within_room = omega (arith, passed.fetches.within_room, b.always.sizes.room, buffered_words (earlier ++ report.steps) d.rob.entries d.front.entries);
+    }
 
 -- a property of marks that is kept holds in every history
 pub marks_of_history : (v : Values) (R : ℕ → List Mark → Type 0) → KeptMarks v R → {steps : List Step} {h : Hardware} →

@@ -1,6 +1,5 @@
 -- What each turn of the commit phase keeps all its turns keep, and what each phase keeps the phases of a cycle keep.
-use Rattle.std.proofs.Common.{arith}
-use Rattle.rv_hardware.proofs.Words.{◌≡◌, ℕ, Bool, true, List, ◌∷◌, ◌++◌, nat_cmp, at_kind, Lines, Kind, Values, is_free, Entry, Committing, commit_turn, with_lines, Hardware, is_ready, issued, Turn, repeated, Report, Step, Leads, leads_both, left_by_turns}
+use Rattle.rv_hardware.proofs.Words.{◌≡◌, ℕ, Bool, true, List, ◌∷◌, ◌++◌, nat_cmp, at_kind, Lines, Kind, Values, is_free, Entry, Committing, commit_turn, with_lines, Hardware, is_ready, issued, Turn, repeated, Report, Step, Leads, leads_both, left_by_turns, arith}
 use Rattle.std.specs.FinSet as set
 use Rattle.rv_hardware.proofs.Turns.Issue.{access_keeps}
 use Rattle.rv_hardware.proofs.Turns.KeptByBroadcast.{IsKeptByBroadcast, broadcast-keeps}

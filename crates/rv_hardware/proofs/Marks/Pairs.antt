@@ -1,6 +1,5 @@
 -- A relation of each two marks gives one of each two rows, and the rows before a row are sound.
-use Rattle.std.proofs.Common.{arith}
-use Rattle.rv_hardware.proofs.Words.{◌≡◌, ℕ, ◌≤◌, true, List, [], ◌∷◌, ◌++◌, map, None, Option, is_serialising, is_target, kind_of_word, target_of_word, Instr, Values, Each, Hardware, instruction_of_row, rows_of, Row, Step, Interrupt, Retired, Trap, Each-append, Each-both, EveryPair, EveryBehind, EveryPair-left, EveryPair-weaker, EveryPair-unmap, EveryBehind-left, EveryBehind-unmap, EveryBehind-EveryPair}
+use Rattle.rv_hardware.proofs.Words.{◌≡◌, ℕ, ◌≤◌, true, List, [], ◌∷◌, ◌++◌, map, None, Option, is_serialising, is_target, kind_of_word, target_of_word, Instr, Values, Each, Hardware, instruction_of_row, rows_of, Row, Step, Interrupt, Retired, Trap, Each-append, Each-both, EveryPair, EveryBehind, EveryPair-left, EveryPair-weaker, EveryPair-unmap, EveryBehind-left, EveryBehind-unmap, EveryBehind-EveryPair, arith}
 use Rattle.rv_hardware.proofs.Marks.History.{History, history_is_sound}
 use Rattle.rv_hardware.proofs.Marks.List.{Mark, marks_in, mark_of_row, mark_of_entry, mark_of_fetched}
 use Rattle.rv_hardware.proofs.Laws.Operands.Known.{StartsBehind, history_starts_behind}

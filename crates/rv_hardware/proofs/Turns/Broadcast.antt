@@ -1,6 +1,5 @@
 -- A turn of the broadcast phase finds no result, or broadcasts the oldest, after which early recovery may squash what is younger.
-use Rattle.std.proofs.Common.{arith}
-use Rattle.rv_hardware.proofs.Words.{◌≡◌, ℕ, ◌+◌, ◌≤◌, Bool, true, false, cond, not, ◌&&◌, List, [], ◌∷◌, ◌++◌, length, is_none, nat_le, Some, None, Option, sym, refl, subst, leb-true, Message, Issue, finished, predicting, Entry, Stage, Running, broadcast_oldest, broadcast_result, broadcast_turn, has_result, is_mispredicted, mends_early, result_at, with_broadcast, with_recovery, Hardware, oldest, Ends, GoesOn, Turn, EveryBehind}
+use Rattle.rv_hardware.proofs.Words.{◌≡◌, ℕ, ◌+◌, ◌≤◌, Bool, true, false, cond, not, ◌&&◌, List, [], ◌∷◌, ◌++◌, length, is_none, nat_le, Some, None, Option, sym, refl, subst, leb-true, Message, Issue, finished, predicting, Entry, Stage, Running, broadcast_oldest, broadcast_result, broadcast_turn, has_result, is_mispredicted, mends_early, result_at, with_broadcast, with_recovery, Hardware, oldest, Ends, GoesOn, Turn, EveryBehind, arith}
 use Rattle.rv_hardware.proofs.Oldest.{Finds, oldest_finds, with_entry-at, entries_below-at}
 
 -- the result of an execution that is over

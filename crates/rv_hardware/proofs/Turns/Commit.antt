@@ -1,6 +1,5 @@
 -- A turn of the commit phase finds no head, leaves it waiting, retires it, executes it, takes its trap, or stops at a stale word.
-use Rattle.std.proofs.Common.{arith}
-use Rattle.rv_hardware.proofs.Words.{◌≡◌, ℕ, Bool, true, false, cond, List, [], ◌∷◌, ◌++◌, ◌==◌, Some, None, Option, nat_cmp, unwrap_or, refl, ap, is_serialising, pc_plus_4, Message, Cause, Fault, Instr, Csr, FenceI, Mret, Issue, word_of, Effect, Faults, Retires, effect, State, ReorderBuffer, after_head, head_retired, Entry, Stage, Finished, Committing, commit_turn, commit_turn_of, execute_head, finish_broadcast, finish_head, head_turn, is_drained, take_effect, with_fault, with_write_back, write_back_time, broadcast_of, Ends, GoesOn, Turn, row_of, with_result, written_of, layout_of, seen, with_state, flushed}
+use Rattle.rv_hardware.proofs.Words.{◌≡◌, ℕ, Bool, true, false, cond, List, [], ◌∷◌, ◌++◌, ◌==◌, Some, None, Option, nat_cmp, unwrap_or, refl, ap, is_serialising, pc_plus_4, Message, Cause, Fault, Instr, Csr, FenceI, Mret, Issue, word_of, Effect, Faults, Retires, effect, State, ReorderBuffer, after_head, head_retired, Entry, Stage, Finished, Committing, commit_turn, commit_turn_of, execute_head, finish_broadcast, finish_head, head_turn, is_drained, take_effect, with_fault, with_write_back, write_back_time, broadcast_of, Ends, GoesOn, Turn, row_of, with_result, written_of, layout_of, seen, with_state, flushed, arith}
 use Rattle.std.specs.FinSet as set
 use Rattle.rv_arch.specs.declared.outcome.Stop.TheVariants as stop
 

@@ -1,6 +1,5 @@
 -- A turn of the issue phase finds no free unit, nothing that is ready, or the oldest that is, which starts.
-use Rattle.std.proofs.Common.{arith}
-use Rattle.rv_hardware.proofs.Words.{◌≡◌, Bool, true, false, cond, List, [], ◌∷◌, ◌++◌, Some, None, Option, refl, at_kind, Message, Kind, is_free, started, Entry, Hardware, Path, cost_of, is_ready, issue_oldest, issue_turn, issued, oldest, path, with_access, Ends, GoesOn, Turn, result_of_word, layout_of, seen_behind, EveryBehind}
+use Rattle.rv_hardware.proofs.Words.{◌≡◌, Bool, true, false, cond, List, [], ◌∷◌, ◌++◌, Some, None, Option, refl, at_kind, Message, Kind, is_free, started, Entry, Hardware, Path, cost_of, is_ready, issue_oldest, issue_turn, issued, oldest, path, with_access, Ends, GoesOn, Turn, result_of_word, layout_of, seen_behind, EveryBehind, arith}
 use Rattle.rv_hardware.proofs.Oldest.{Finds, oldest_finds, with_entry-at}
 
 -- no unit is free, no instruction is ready, or the oldest ready one starts

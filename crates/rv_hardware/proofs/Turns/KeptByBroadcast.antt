@@ -1,6 +1,5 @@
 -- The broadcast phase keeps what a result on the bus and the mending of a wrong prediction keep.
-use Rattle.std.proofs.Common.{arith}
-use Rattle.rv_hardware.proofs.Words.{◌≡◌, ℕ, ◌+◌, List, [], ◌∷◌, ◌++◌, length, sym, refl, subst, Message, Issue, finished, predicting, Entry, broadcast, broadcast_turn, with_broadcast, with_recovery, Hardware, Turn, redirected, Leaves, kept_by_turns}
+use Rattle.rv_hardware.proofs.Words.{◌≡◌, ℕ, ◌+◌, List, [], ◌∷◌, ◌++◌, length, sym, refl, subst, Message, Issue, finished, predicting, Entry, broadcast, broadcast_turn, with_broadcast, with_recovery, Hardware, Turn, redirected, Leaves, kept_by_turns, arith}
 use Rattle.rv_hardware.proofs.Turns.Broadcast.{BroadcastTurn, Sends, HasRun, broadcast_turn_is, sent_entries, mended_entries}
 use Rattle.rv_hardware.proofs.Turns.Forms.{with_entries}
 

@@ -1,6 +1,5 @@
 -- The commit phase keeps what a retirement, FENCE.I's write-back and a squash of everything in flight keep.
-use Rattle.std.proofs.Common.{arith}
-use Rattle.rv_hardware.proofs.Words.{◌≡◌, ℕ, Bool, true, List, [], ◌∷◌, ◌++◌, Some, None, Option, nat_cmp, sym, ap, subst, code_of, target_of_word, Message, Cause, due, State, trap_taken, interrupt_cause, after_head, Entry, Committing, commit, commit_turn, commit_unless, is_drained, with_fault, with_write_back, Hardware, broadcast_of, with_value, Turn, committed_store, stale_after, with_result, seen, with_state, flushed, Leaves, kept_by_turns}
+use Rattle.rv_hardware.proofs.Words.{◌≡◌, ℕ, Bool, true, List, [], ◌∷◌, ◌++◌, Some, None, Option, nat_cmp, sym, ap, subst, code_of, target_of_word, Message, Cause, due, State, trap_taken, interrupt_cause, after_head, Entry, Committing, commit, commit_turn, commit_unless, is_drained, with_fault, with_write_back, Hardware, broadcast_of, with_value, Turn, committed_store, stale_after, with_result, seen, with_state, flushed, Leaves, kept_by_turns, arith}
 use Rattle.std.specs.FinSet as set
 use Rattle.rv_hardware.proofs.Turns.Commit.{CommitTurn, fence_writes, fence_retires, executes, serial_faults, traps, retires as retired, retires_last, executed, written_back, commit_turn_is}
 use Rattle.rv_hardware.proofs.Turns.Forms.{emptied, without_head}

@@ -1,6 +1,5 @@
 -- A whole cycle keeps what its phases and its fetch keep.
-use Rattle.std.proofs.Common.{arith}
-use Rattle.rv_hardware.proofs.Words.{◌≡◌, ℕ, ◌+◌, sym, refl, ap, ◌∙◌, subst, Lines, Kind, CacheValues, Values, Memory, Answers, FetchBuffer, FetchesInto, FetchStop, IsCycle, any_prediction, execute, with_lines, Hardware, Report}
+use Rattle.rv_hardware.proofs.Words.{◌≡◌, ℕ, ◌+◌, sym, refl, ap, ◌∙◌, subst, Lines, Kind, CacheValues, Values, Memory, Answers, FetchBuffer, FetchesInto, FetchStop, IsCycle, any_prediction, execute, with_lines, Hardware, Report, arith}
 use Rattle.std.specs.FinSet as set
 use Rattle.rv_hardware.proofs.Turns.Changes.{IsKeptByChanges, new_levels, all_squashed, head_retires, cache_written, store_drained, store_drains, load_accesses, one_starts, one_sent, one_mended, one_enters}
 use Rattle.rv_hardware.proofs.Turns.KeptByBroadcast.{IsKeptByBroadcast, broadcast-keeps}

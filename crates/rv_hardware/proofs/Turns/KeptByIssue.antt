@@ -1,6 +1,5 @@
 -- The issue phase keeps what a load's access to the cache and the start of an execution keep.
-use Rattle.std.proofs.Common.{arith}
-use Rattle.rv_hardware.proofs.Words.{◌≡◌, ℕ, ◌+◌, ◌≤◌, true, List, ◌∷◌, ◌++◌, length, refl, and_parts, is_of_kind, kind_of_word, sources_of_word, at_kind, Message, Kind, is_free, Entry, Hardware, is_waiting, FromCache, FromStores, Path, Without, cost_of, has_operands, is_ready, issue, issue_kind, issue_turn, issued, may_load, path, with_access, with_start, Turn, result_of_word, layout_of, seen_behind, Leaves, kept_by_turns}
+use Rattle.rv_hardware.proofs.Words.{◌≡◌, ℕ, ◌+◌, ◌≤◌, true, List, ◌∷◌, ◌++◌, length, refl, and_parts, is_of_kind, kind_of_word, sources_of_word, at_kind, Message, Kind, is_free, Entry, Hardware, is_waiting, FromCache, FromStores, Path, Without, cost_of, has_operands, is_ready, issue, issue_kind, issue_turn, issued, may_load, path, with_access, with_start, Turn, result_of_word, layout_of, seen_behind, Leaves, kept_by_turns, arith}
 use Rattle.rv_isa.specs.declared.operations.Kind.TheVariants as kind
 use Rattle.rv_hardware.proofs.Turns.Costs.{cost_of-most}
 use Rattle.rv_hardware.proofs.Turns.Forms.{with_started, longest_execution, IsResultOfWord}

@@ -63,7 +63,9 @@ module _ (v : Values) {earlier : List Step} {old new : Hardware} {lines : Lines}
       broadcast_and_dispatch n b v old.cycle all (issued_all lines old) passed.issues.basics.cycle passed.issues.basics.always.sizes.values issues
 
   fetches_none : {P : Type 0} (f : Fetched) (fs : List Fetched) → passed.fetches.added ≡ f ∷ fs → d.front.halted ≡ true → P
-  fetches_none f fs given halted = grind (arith, stays_halted, passed, length-append)
+  fetches_none f fs given halted =
+      let same = ap (λ (r : FetchBuffer). length r.entries) (stays_halted is halted) in
+      absurd (omega (arith, same, ap length passed.fetches.entries, length-append d.front.entries passed.fetches.added, ap length given))
 
   abbrev Next : List Mark → Type 0
   Next ms = Linked v (old.cycle + 1) (IsOpen v new.front.halted (old.cycle + 1)) (λ c. 0) ms

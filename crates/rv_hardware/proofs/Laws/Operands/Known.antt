@@ -1,6 +1,5 @@
 -- An instruction starts after the broadcasts of its operands' producers, and a load after those of all older stores.
-use Rattle.std.proofs.Common.{arith}
-use Rattle.rv_hardware.proofs.Words.{◌≡◌, ℕ, Bool, true, false, cond, List, [], ◌∷◌, ◌++◌, map, is_some, IfSome, Some, None, Option, sym, ap, subst, is_load, is_store, is_target, kind_of_word, sources_of_word, target_of_word, Instr, Values, Each, Fetched, Hardware, last_from, last_that, Step, Each-set, Each-place, EveryBehind, EveryBehind-left, EveryBehind-append, EveryBehind-set}
+use Rattle.rv_hardware.proofs.Words.{◌≡◌, ℕ, Bool, true, false, cond, List, [], ◌∷◌, ◌++◌, map, is_some, IfSome, Some, None, Option, sym, ap, subst, is_load, is_store, is_target, kind_of_word, sources_of_word, target_of_word, Instr, Values, Each, Fetched, Hardware, last_from, last_that, Step, Each-set, Each-place, EveryBehind, EveryBehind-left, EveryBehind-append, EveryBehind-set, arith}
 use Rattle.rv_hardware.proofs.Marks.Advance.{IsBefore, Advances, Starts, writes_mark, IsKnownMark, OperandsKnown, IsKnownStore}
 use Rattle.rv_hardware.proofs.Marks.History.{KeptMarks, History, marks_of_history}
 use Rattle.rv_hardware.proofs.Marks.Evidence.{last_from-append}
