@@ -167,7 +167,7 @@ module _ (h : Hardware) (front : FetchBuffer) (ram : Memory) (cycle : ℕ) (stop
       let no_entry : words_of h.rob.entries h.front.entries ≡ [] = ap (λ es. words_of es h.front.entries) none ∙ ap (λ ws. words_of [] ws) no_words in
       let runs = runs-empty h.front.halted (subst (HaltsBehind h.front.halted) no_entry halts) in
       let after : HasSizes d = execute-keeps sizes-kept.phases h sizes in
-      let wide : 1 ≤ d.front.width = omega (arith, after.width, after.legal.pipeline.fetch_width.0) in
+      let wide = subst (λ n. 1 ≤ n) (sym after.width) after.legal.pipeline.fetch_width.0 in
       let room : 1 ≤ d.front.capacity = omega (arith, after.room, after.legal.pipeline.fetch_buffer.0) in
       let comes = word_comes ram cycle d.front front stop fetches (ap (λ (f : FetchBuffer). f.entries) old_front ∙ no_words) (ap (λ (f : FetchBuffer). f.halted) old_front ∙ runs) wide room in
       let still : new.rob.entries ≡ [] = ap (λ (g : Hardware). g.rob.entries) same ∙ nothing.0 in

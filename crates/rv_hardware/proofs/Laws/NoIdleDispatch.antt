@@ -1,9 +1,9 @@
 -- A fetched instruction that is no store waits for nothing but room and the width.
-use Rattle.rv_hardware.proofs.Words.{◌≡◌, ℕ, suc, ◌<◌, ◌≤◌, Bool, true, false, cond, ◌&&◌, ◌||◌, ◌⊎◌, List, [], ◌∷◌, ◌++◌, map, length, is_some, is_none, nat_lt, nat_le, ◌==◌, Some, None, count_by, filter, Option, sym, refl, ap, ◌∙◌, subst, inl, inr, true≢false, arith, lt-ltb, eq-eqb, leb-false, leb-true, and_from, length-filter, list_any, is_same-own, is_of_kind, is_serialising, is_store, kind_of_word, at_kind, Kind, Values, Each, Entry, Stage, Fetched, Dispatching, dispatch, dispatch_turn, has_full_stations, is_stationed, Hardware, is_waiting, WaitsForRoom, Turn, EachBehind, is_dispatched_in, is_in_flight_in, is_row_of_kind, is_stationed_in, is_store_row, passes, rows_of, Execution, Row, Step, and_first, and_second, Each-All, Each-left, Each-right, Each-place, Each-weaker, Each-all, Each-map, Each-filter, EveryBehind, count, count-count_by, count-append, count-yes, count-map, count-le, EveryBehind-append, Beginning-EveryBehind, EveryBehind-all, EachBehind-EveryBehind, Leads, turns_within}
+use Rattle.rv_hardware.proofs.Words.{◌≡◌, ℕ, suc, ◌<◌, ◌≤◌, Bool, true, false, cond, ◌&&◌, ◌||◌, ◌⊎◌, List, [], ◌∷◌, ◌++◌, map, length, is_some, is_none, nat_lt, nat_le, ◌==◌, Some, None, count_by, filter, Option, sym, refl, ap, ◌∙◌, subst, inl, inr, true≢false, arith, lt-ltb, eq-eqb, leb-false, leb-true, and_from, length-filter, list_any, is_same-own, is_of_kind, is_serialising, is_store, kind_of_word, at_kind, Kind, Values, Each, Entry, Stage, Fetched, Dispatching, dispatch, dispatch_turn, has_full_stations, is_stationed, Hardware, is_waiting, WaitsForRoom, Turn, EachBehind, is_dispatched_in, is_in_flight_in, is_row_of_kind, is_stationed_in, is_store_row, passes, rows_of, Execution, Row, Step, and_first, and_second, Each-All, Each-left, Each-right, Each-place, Each-weaker, Each-all, Each-map, Each-filter, EveryBehind, count, count-count_by, count-append, count-yes, count-map, count-le, EveryBehind-append, Beginning-EveryBehind, EveryBehind-all, EachBehind-EveryBehind, Leads, turns_within, entry_of_fetched}
 use Rattle.rv_hardware.proofs.Marks.Advance.{is_in_flight_mark, is_stationed_mark}
 use Rattle.rv_hardware.proofs.Marks.History.{History, history_is_sound, sent_all, dispatching}
 use Rattle.rv_hardware.proofs.Marks.Counted.{behind_law, behind_count}
-use Rattle.rv_hardware.proofs.Turns.Dispatch.{DispatchTurn, dispatch_turn_is, WaitsFor, for_serial, for_buffer, for_station, for_queue}
+use Rattle.rv_hardware.proofs.Turns.Dispatch.{DispatchTurn, dispatch_turn_is, WaitsFor, for_serial, for_buffer, for_station, for_queue, buffer_empty, waits, dispatches}
 use Rattle.rv_hardware.proofs.Turns.Fetch.{IsNew}
 use Rattle.rv_hardware.proofs.Marks.List.{Mark, mark_of_row, mark_of_entry, mark_of_fetched, at_end, as_of, was_fetched, start_until, start_of_stage, start_of_execution, until_by, until_now}
 use Rattle.rv_hardware.proofs.Marks.Pairs.{Older, rows_are_older}
@@ -45,7 +45,11 @@ module _ (v : Values) (now : ℕ) where
   same_head f g fs gs e = cc
 
   left_leads : (k : ℕ) (d : Dispatching) (t : Turn Dispatching) → DispatchTurn d t → Entering k d → Leads (Entering (suc k)) Left t
-  left_leads k d t given p = grind (arith, same_head, count-append, count-yes, eq-eqb)
+  left_leads k d _ (buffer_empty none) p = λ f fs at. absurd (let no_more = sym none ∙ at in cc)
+  left_leads k d _ (waits f fs reason at why) p = λ g gs at'. inr (subst (WaitsFor d.hardware) (same_head f g fs gs (sym at ∙ at')) why)
+  left_leads k d _ (dispatches f fs at nothing) p =
+      let one = count-yes dispatched_now (entry_of_fetched d.hardware f) [] (eq-eqb d.hardware.cycle now p.0) in
+      (p.0, omega (arith, count-append dispatched_now d.hardware.rob.entries (entry_of_fetched d.hardware f ∷ []), one, p.1))
 
   -- after the dispatch phase the width is used up, or the oldest word has a reason to wait
   pub dispatch_leaves : (h : Hardware) → h.values.dispatch_width ≡ v.dispatch_width → h.cycle ≡ now → Left (dispatch h)

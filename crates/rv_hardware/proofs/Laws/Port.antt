@@ -21,7 +21,11 @@ not_begun_stage v i D now st P h = grind arith
 fresh_pairs : (v : Values) (now : ℕ) (es : List Entry) → Each (SoundEntry v now now now) es →
     EveryPair (λ a b. OneAtATime v now (mark_of_entry a) (mark_of_entry b)) es
 fresh_pairs v now [] sound = tt
-fresh_pairs v now (e ∷ es) sound = grind (arith, Each-weaker, not_begun_stage, fresh_pairs v now es sound.1)
+fresh_pairs v now (e ∷ es) sound = (
+  Each-weaker (SoundEntry v now now now) (λ b. OneAtATime v now (mark_of_entry e) (mark_of_entry b))
+      (λ b w. (not_begun_stage v e.instruction e.dispatched now e.stage (λ s. OverBy v now (mark_of_entry b)) sound.0.stage, not_begun_stage v b.instruction b.dispatched now b.stage (λ s. OverBy v now (mark_of_entry e)) w.stage)) es sound.1,
+  fresh_pairs v now es sound.1,
+)
 
 -- the port is right in every history
 pub port_of_history : (v : Values) {steps : List Step} {h : Hardware} → History v steps h → PortOk v h.cycle h

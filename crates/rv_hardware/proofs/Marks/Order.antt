@@ -72,7 +72,10 @@ module _ (v : Values) (now : ℕ) (xs ys : List Mark) (m n : Mark) where
     not_stationed k = count-none (is_stationed_mark k) ys (Each-weaker (λ y. y.dispatched ≡ None) (λ y. is_stationed_mark k y ≡ false) (λ y none. rw none (and_right (is_of_kind k (kind_of_word y.instruction)) false refl)) ys younger)
 
     station_by : (k : Kind) (b : Bool) → is_of_kind k (kind_of_word m.instruction) ≡ b → count (is_stationed_mark k) (xs ++ n ∷ ys) ≤ (at_kind k v.kinds).stations
-    station_by k b is = grind (arith, count-push-most, not_stationed, count-set-less, and_left)
+    station_by k true is = omega (arith, count-push-most (is_stationed_mark k) xs ys n, not_stationed k, a.stations k is)
+    station_by k false is =
+        let less = count-set-less (is_stationed_mark k) xs ys m n (and_left (is_of_kind k (kind_of_word n.instruction)) (is_some n.dispatched && is_none n.start) (ap (λ x. is_of_kind k (kind_of_word x.instruction)) a.becomes ∙ is)) in
+        omega (arith, less, o.stations k)
 
     entered : Orderly v now (xs ++ n ∷ ys)
     entered =

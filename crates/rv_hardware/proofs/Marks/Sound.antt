@@ -1,5 +1,5 @@
 -- Each instruction in flight has stamps in order, and executes for its cost.
-use Rattle.rv_hardware.proofs.Words.{◌≡◌, ℕ, ◌+◌, ◌<◌, ◌≤◌, Bool, true, false, cond, ◌⊎◌, List, ℤ, is_some, IfSome, Some, None, Option, option_and_then, unwrap_or, ap, arith, is_same-true, IsLegal, is_load, is_of_kind, is_serialising, kind_of_word, bytes_of, width_of, at_kind, modulo_word, sum, Instr, Load, Kind, LoadForm, CacheValues, Values, instruction_of, is_aligned, is_in_ram, State, register_of, cost_of_access, eviction_cost, CacheLine, Entry, Stage, Finished, Running, Waiting, Fetched, Hardware, FromCache, FromStores, Path, cost_of, path, path_of, IsCost, IsLoadCost, result_of_word, layout_of, seen_behind}
+use Rattle.rv_hardware.proofs.Words.{◌≡◌, ℕ, ◌+◌, ◌<◌, ◌≤◌, Bool, true, false, cond, ◌⊎◌, List, ℤ, is_some, IfSome, Some, None, Option, option_and_then, unwrap_or, ap, arith, is_same-true, IsLegal, is_load, is_of_kind, is_serialising, kind_of_word, bytes_of, width_of, at_kind, modulo_word, sum, Instr, Load, Kind, LoadForm, CacheValues, Values, instruction_of, is_aligned, is_in_ram, State, register_of, cost_of_access, eviction_cost, CacheLine, Entry, Stage, Finished, Running, Waiting, Fetched, Hardware, FromCache, FromStores, Path, cost_of, path, path_of, IsCost, IsLoadCost, result_of_word, layout_of, seen_behind, refl, inr}
 use Rattle.rv_hardware.proofs.Turns.Issue.{message_at}
 use Rattle.rv_hardware.proofs.Marks.List.{Start, start_of_issue}
 use Rattle.rv_hardware.proofs.Always.Sizes.{HasShape}
@@ -95,7 +95,9 @@ module _ (v : Values) (h : Hardware) (shape : HasShape v h) (older : List Entry)
   load_faults form rd rs1 offset a b k aligned inside w = grind (arith, from_stores_or_cache)
 
   pub costs_of : (k : Kind) (i : Option Instr) → is_of_kind k (kind_of_word i) ≡ true → Costs k i
-  costs_of k i is = grind (arith, is_of_kind_is, load_faults, latency_of_kind)
+  costs_of k None is = absurd (let none = is_of_kind_is k None is in cc)
+  costs_of k (Some (Load form rd rs1 offset)) is = load_faults form rd rs1 offset _ _ k refl refl word
+  costs_of k i is = inr (latency_of_kind k (kind_of_word i) is)
 
 -- an instruction that starts executes for its cost, unless it gives a fault
 pub issued_cost : (v : Values) (h : Hardware) → HasShape v h → (older : List Entry) (e : Entry) (k : Kind) → is_of_kind k (kind_of_word e.instruction) ≡ true →
