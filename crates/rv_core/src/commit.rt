@@ -1,33 +1,28 @@
-ghost use Rattle.std.specs.Prelude.{◌≡◌, ◌≢◌, ◌+◌, ◌*◌, ◌<◌, ◌≤◌, ◌++◌, ◌∷◌, ℕ, [], List, None, Some, IfSome, IsTrue, false, true, vec_len, vec_capacity};
+ghost use Rattle.std.specs.Prelude.{◌≡◌, ◌≢◌, ◌+◌, ◌*◌, ◌<◌, ◌≤◌, ◌++◌, ◌∷◌, ℕ, [], None, Some, IfSome, IsTrue, false, vec_len, vec_capacity};
 ghost use Rattle.std.specs.Option.{option_map};
 ghost use Rattle.std.specs.FinSet as set;
 ghost use Rattle.rv_isa.specs.Cause.{code_of};
 ghost use Rattle.rv_isa.specs.Instruction.{is_serialising, target_of_word};
-ghost use Rattle.rv_isa.specs.declared.instructions.Instr.TheVariants as instr;
 ghost use Rattle.rv_arch.specs.Due.{due};
-ghost use Rattle.rv_arch.specs.State.{write_of};
 ghost use Rattle.rv_front.specs.Predictors.{AreTaught};
 ghost use Rattle.rv_memory.specs.Memory.{word_of};
 ghost use Rattle.rv_memory.specs.Stale.{is_covered};
 ghost use Rattle.rv_rename.specs.Renaming.{without_checkpoint};
 ghost use Rattle.rv_rob.specs.ReorderBuffer.{head_retired};
 ghost use Rattle.rv_rob.specs.declared.entry.Entry.{Entry as EntryOf};
-ghost use Rattle.rv_hardware.specs.Commit.{commit, commit_turn, execute_head, fence_instructions, finish_broadcast, with_write_back, write_back_time};
+ghost use Rattle.rv_hardware.specs.Commit.{commit};
 ghost use Rattle.rv_hardware.specs.InFlight.{broadcast_of};
 ghost use Rattle.rv_hardware.specs.Retirement.{row_of, stale_after, with_result};
-ghost use Rattle.rv_hardware.specs.Squash.{flushed, with_trap};
-ghost use Rattle.rv_hardware.specs.Repeated.{Ends as PhaseEnds};
-ghost use Rattle.rv_core.specs.HeadTurn.{IsHead, IsKept, IsTurn, and_step, committing, instruction_of_access, lessons_left, stop_after, stop_with, turn_ended};
+ghost use Rattle.rv_hardware.specs.Squash.{with_trap};
+ghost use Rattle.rv_core.specs.HeadTurn.{IsHead, IsKept, IsTurn, and_step, lessons_left, stop_after, stop_with};
 ghost use Rattle.rv_hardware.specs.Lessons.{lesson_of, lessons_of};
 ghost use Rattle.rv_core.specs.Reached.{IsBegun};
 ghost use Rattle.rv_core.specs.Retiring.{registers_with, with_commit, without_target};
 
 use crate::dispatch::{is_serialising, target_of};
-use crate::head::{
-    CsrAccess, HeadTurn, Role, illegal, message_of, role_of, row_of, waits_for_result,
-};
-use crate::parts::{Parts, squash_all};
-use rv_arch::{CsrOperand, Stop};
+use crate::head::{HeadTurn, message_of, row_of, waits_for_result};
+use crate::parts::Parts;
+use rv_arch::Stop;
 use rv_front::Predictor;
 use rv_hardware::Step;
 use rv_isa::{Fault, Message, Reg, StoreAccess};
@@ -38,32 +33,12 @@ use rv_stores::StoreQueue;
 
 const INTERRUPT: u32 = 0x8000_0000;
 
-// Writes a register, where there is one to write.
-fn write(registers: &mut [u32; 32], written: &Option<(Reg, u32)>)
-    ensures { registers.new ≡ registers_with written.now registers.old }
-{
-    if let Some((register, value)) = *written {
-        registers[register.index()] = value;
-    }
-}
-
 // Writes a value to an instruction's target, if it has one.
 fn write_target(registers: &mut [u32; 32], target: &Option<Reg>, value: u32)
     ensures { registers.new ≡ registers_with (option_map (λ (register : ℕ). (register, value)) target.now) registers.old }
 {
     if let Some(register) = *target {
         registers[register.index()] = value;
-    }
-}
-
-// The write of a value to a register, which x0 drops.
-fn write_of(register: Reg, value: u32) -> Option<(Reg, u32)>
-    ensures { result ≡ write_of register value }
-{
-    if register == Reg::ZERO {
-        None
-    } else {
-        Some((register, value))
     }
 }
 
@@ -152,7 +127,8 @@ impl Parts {
         self.flush();
     }
 
-    fn trap(&mut self, pc: u32, fault: Fault) -> Option<Step>
+    // The oldest instruction traps.
+    pub(crate) fn trap(&mut self, pc: u32, fault: Fault) -> Option<Step>
         ensures hardware { self.new ≡ with_trap (code_of fault.cause) fault.value self.old }
         ensures step { result ≡ Some (Step.Trap pc fault.cause fault.value self.old.cycle) }
     {
@@ -189,109 +165,6 @@ impl Parts {
             return tell(predictor, steps, &step, self.pc);
         }
         self.finish_head(predictor, steps)
-    }
-
-    // The turn of a serialising head that is not stale.
-    fn serial_head(&mut self) -> Option<Step>
-        requires room { self.old.rob.retired < 8 * self.old.cycle + 8 }
-        requires fresh { (e : EntryOf) → IsHead self.old e → set.contains self.old.stale (word_of e.pc) ≡ false }
-        requires serial { (e : EntryOf) → IsHead self.old e → is_serialising e.instruction ≡ true }
-        ensures turn { (steps : List Step) → commit_turn set.contains (committing self.old steps) ≡ turn_ended self.new steps result }
-        ensures kept { IsKept self.old self.new }
-    {
-        let Some(head) = self.rob.head() else {
-            return None;
-        };
-        let entry = *head;
-        match role_of(&entry.instruction) {
-            Role::FenceInstructions => self.fence_instructions(&entry),
-            Role::CsrAccess(access) => self.access_csr(&entry, access),
-            Role::TrapReturn => self.return_from_trap(&entry),
-            Role::WaitsForResult => None,
-        }
-    }
-
-    // A CSR instruction executes at the head.
-    fn access_csr(&mut self, entry: &Entry, access: CsrAccess) -> Option<Step>
-        requires head { IsHead self.old entry.now }
-        requires room { self.old.rob.retired < 8 * self.old.cycle + 8 }
-        ensures turn { (steps : List Step) → PhaseEnds (execute_head entry.now (instruction_of_access access) (committing self.old steps)) ≡ turn_ended self.new steps result }
-        ensures kept { IsKept self.old self.new }
-    {
-        let operand = CsrOperand::new(access.source, &self.registers);
-        match self
-            .csrs
-            .csr_access(access.op, access.csr, operand, self.lines)
-        {
-            Ok(old) => {
-                let next = self.pc.wrapping_add(4);
-                self.serialise(entry, write_of(access.rd, old), next)
-            }
-            Err(_) => self.trap(entry.pc, illegal(entry)),
-        }
-    }
-
-    // MRET executes at the head.
-    fn return_from_trap(&mut self, entry: &Entry) -> Option<Step>
-        requires head { IsHead self.old entry.now }
-        requires room { self.old.rob.retired < 8 * self.old.cycle + 8 }
-        ensures turn { (steps : List Step) → PhaseEnds (execute_head entry.now instr.Mret (committing self.old steps)) ≡ turn_ended self.new steps result }
-        ensures kept { IsKept self.old self.new }
-    {
-        let next = self.csrs.mret();
-        self.serialise(entry, None, next)
-    }
-
-    // A serialising instruction retires, and everything younger is fetched anew.
-    fn serialise(&mut self, entry: &Entry, written: Option<(Reg, u32)>, next: u32) -> Option<Step>
-        requires head { IsHead self.old entry.now }
-        requires room { self.old.rob.retired < 8 * self.old.cycle + 8 }
-        ensures hardware { self.new ≡ flushed (record self.old { pc = next; registers = registers_with written self.old.registers; rob = head_retired self.old.rob }) }
-        ensures step { result ≡ Some (row_of entry.now written self.old.cycle) }
-    {
-        let step = row_of(entry, written, self.cycle);
-        write(&mut self.registers, &written);
-        self.pc = next;
-        self.rob.pop_head();
-        squash_all(
-            &mut self.rob,
-            &mut self.stations,
-            &mut self.bus,
-            &mut self.rename,
-            &mut self.stores,
-        );
-        self.front.redirect(next);
-        Some(step)
-    }
-
-    // FENCE.I waits for the retired stores and the port, and retires in the cycle in which nothing is left to write back.
-    fn fence_instructions(&mut self, entry: &Entry) -> Option<Step>
-        requires head { IsHead self.old entry.now }
-        requires fence { entry.now.instruction ≡ Some instr.FenceI }
-        requires room { self.old.rob.retired < 8 * self.old.cycle + 8 }
-        ensures turn { (steps : List Step) → PhaseEnds (fence_instructions entry.now (committing self.old steps)) ≡ turn_ended self.new steps result }
-        ensures kept { IsKept self.old self.new }
-    {
-        if !self.stores.is_empty() || !self.is_port_idle() {
-            return None;
-        }
-        if self.write_back() > 0 {
-            return None;
-        }
-        self.stale.clear();
-        let next = self.pc.wrapping_add(4);
-        self.serialise(entry, None, next)
-    }
-
-    // Writes every dirty line of the cache to RAM, and returns for how many cycles that keeps the port busy.
-    fn write_back(&mut self) -> u64
-        ensures hardware { self.new ≡ with_write_back self.old }
-        ensures time { result ≡ write_back_time self.old }
-    {
-        let lines = self.cache.write_back_all();
-        let busy = u64::from(lines) * u64::from(self.values.cache.write_back);
-        self.port_free = self.cycle + busy;
-        busy
     }
 
     // An instruction whose result is known traps by its fault, if it has one, or retires.

@@ -1,23 +1,17 @@
-ghost use Rattle.std.specs.Prelude.{◌≡◌, ℕ, ◌+◌, ◌^◌, ◌<◌, ◌≤◌, IsTrue, true, false, is_some, length, IfSome, option_and_then};
-ghost use Rattle.rv_isa.specs.Operands.{kind_of};
+ghost use Rattle.std.specs.Prelude.{◌≡◌, ◌+◌, ◌^◌, ◌<◌, ◌≤◌, IsTrue, true, false, is_some, length, IfSome, option_and_then};
 ghost use Rattle.rv_isa.specs.PerKind.{at_kind, with_kind};
-ghost use Rattle.rv_isa.specs.declared.lines.Lines.{Lines};
-ghost use Rattle.rv_arch.specs.State.{State};
 ghost use Rattle.rv_stations.specs.Pool.{issued as taken_from};
 ghost use Rattle.rv_stations.specs.Waiting.{ArePassedBy, ready_of, ready_taken, oldest_ready};
-ghost use Rattle.rv_stores.specs.Queue.{older_than};
 ghost use Rattle.rv_units.specs.Bus.{holds, with_result};
 ghost use Rattle.rv_units.specs.Pool.{is_free, started as started_unit};
-ghost use Rattle.rv_hardware.specs.Result.{result_in};
 ghost use Rattle.rv_core.specs.Access.{IsExecuted, IsOverRam, cache_after, cost_by, path_of_ready, port_free_by};
-ghost use Rattle.rv_core.specs.Execution.{Reads};
 ghost use Rattle.rv_core.specs.Load.{goes};
 
 use crate::execute::result_of;
 use crate::load::{Executed, Times, load, may_go};
 use crate::parts::Parts;
 use rv_cache::Cache;
-use rv_isa::{Immediate, Instr, Issue, Kind, LoadForm, Reg};
+use rv_isa::{Instr, Issue, Kind};
 use rv_memory::Ram;
 use rv_rob::Rob;
 use rv_stations::{Ready, Stations, Taken};

@@ -19,6 +19,7 @@ mod outcome;
 mod parts;
 mod pipeline;
 mod seen;
+mod serialising;
 mod watcher;
 mod watching;
 

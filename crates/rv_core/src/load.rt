@@ -1,11 +1,8 @@
 ghost use Rattle.std.specs.Prelude.{◌≡◌, ◌+◌, ◌^◌, ◌*◌, ◌<◌, ◌≤◌, None, take};
 ghost use Rattle.rv_isa.specs.Bytes.{number_of};
 ghost use Rattle.rv_isa.specs.Operation.{bytes_of, width_of, is_sign_extended};
-ghost use Rattle.rv_isa.specs.Word.{modulo_word, sum};
 ghost use Rattle.rv_arch.specs.Effect.{extended, loads};
-ghost use Rattle.rv_arch.specs.State.{State};
 ghost use Rattle.rv_stores.specs.Queue.{older_than};
-ghost use Rattle.rv_hardware.specs.Result.{effect_message};
 ghost use Rattle.rv_core.specs.Access.{IsLoaded, IsOverRam, cache_after, cost_by, path_of_load, port_free_by};
 ghost use Rattle.rv_core.specs.Load.{load_fault, is_forwarded, path_of, bytes_over, may_go, needs_port};
 
