@@ -4,7 +4,6 @@ ghost use Rattle.rv_isa.specs.declared.issues.Issue.{Issue as IssueOf};
 ghost use Rattle.rv_rob.specs.Entry.{predicting};
 ghost use Rattle.rv_rob.specs.ReorderBuffer.{changed, cut_from, entry_of};
 ghost use Rattle.rv_rob.specs.declared.entry.Entry.{Entry as EntryOf};
-ghost use Rattle.rv_rob.specs.declared.entry.Stage.TheVariants.{Running};
 ghost use Rattle.rv_isa.specs.PerKind.{for_each};
 ghost use Rattle.rv_stations.specs.Pool.{woken_pool};
 ghost use Rattle.rv_stores.specs.Store.{answered};
@@ -12,6 +11,7 @@ ghost use Rattle.rv_hardware.specs.Broadcast.{broadcast, broadcast_turn, is_misp
 ghost use Rattle.rv_hardware.specs.InFlight.{store_of_message};
 ghost use Rattle.rv_isa.specs.Instruction.{is_branch_or_jump};
 ghost use Rattle.rv_hardware.specs.Squash.{redirected};
+ghost use Rattle.rv_core.specs.InExecution.{IsRunning};
 ghost use Rattle.rv_core.specs.Turns.{turn_of};
 
 use crate::parts::Parts;
@@ -100,7 +100,7 @@ fn fill_store(stores: &mut StoreQueue, seq: u64, access: &Option<StoreAccess>)
     }
 }
 
-// The bus carries the result of an instruction in execution to the stations and to the store queue. Tells where fetch
+// The bus carries the result of an instruction in execution to the stations and to the store queue. Returns where fetch
 // begins anew, where early recovery mends a wrong prediction.
 fn send(
     rob: &Rob,
@@ -109,9 +109,9 @@ fn send(
     recovery: Recovery,
     seq: u64,
 ) -> Option<u32>
-    ensures carried { (e : EntryOf) (issue : IssueOf) (message : MessageOf) → entry_of seq rob.now.retired rob.now.entries ≡ Some e → e.stage ≡ Running issue message → stations.new ≡ for_each (woken_pool seq message.value) stations.old }
-    ensures stored { (e : EntryOf) (issue : IssueOf) (message : MessageOf) → entry_of seq rob.now.retired rob.now.entries ≡ Some e → e.stage ≡ Running issue message → stores.new ≡ record stores.old { stores = map (answered seq (store_of_message message.store)) stores.old.stores } }
-    ensures goes_on { (e : EntryOf) (issue : IssueOf) (message : MessageOf) → entry_of seq rob.now.retired rob.now.entries ≡ Some e → e.stage ≡ Running issue message → result ≡ (if mends_early recovery && is_mispredicted e message then Some message.next_pc else None) }
+    ensures carried { (e : EntryOf) (issue : IssueOf) (message : MessageOf) → IsRunning seq rob.now e issue message → stations.new ≡ for_each (woken_pool seq message.value) stations.old }
+    ensures stored { (e : EntryOf) (issue : IssueOf) (message : MessageOf) → IsRunning seq rob.now e issue message → stores.new ≡ record stores.old { stores = map (answered seq (store_of_message message.store)) stores.old.stores } }
+    ensures goes_on { (e : EntryOf) (issue : IssueOf) (message : MessageOf) → IsRunning seq rob.now e issue message → result ≡ (if mends_early recovery && is_mispredicted e message then Some message.next_pc else None) }
 {
     let Some(entry) = rob.get(seq) else {
         return None;

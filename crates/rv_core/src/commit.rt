@@ -162,7 +162,7 @@ impl Parts {
         }
         if is_serialising(&head.instruction) {
             let step = self.serial_head();
-            return tell(predictor, steps, &step, self.pc);
+            return end_with(predictor, steps, &step, self.pc);
         }
         self.finish_head(predictor, steps)
     }
@@ -186,7 +186,7 @@ impl Parts {
         };
         if let Some(fault) = message.fault {
             let step = self.trap(entry.pc, fault);
-            return tell(predictor, steps, &step, self.pc);
+            return end_with(predictor, steps, &step, self.pc);
         }
         let target = target_of(&entry.instruction);
         append(
@@ -220,7 +220,7 @@ impl Parts {
 }
 
 // Appends the step that ends the phase, if there is one, and teaches the predictor where the program goes on after it.
-fn tell(
+fn end_with(
     predictor: &mut dyn Predictor,
     steps: &mut Vec<Step>,
     step: &Option<Step>,

@@ -48,8 +48,8 @@ left-is c =
     let rob = c.finish.ensures
     ∙ ap (λ entries. record p.rob { entries = entries })
     (with_entry-alike (broadcast_in p.cycle) (finished s.message p.cycle) seq p.rob.retired p.rob.entries s.entry s.held ends) in
-    let stations = c.send-goes_on.ensures.carried s.entry s.issue s.message s.held s.running in
-    let stores = c.send-goes_on.ensures.stored s.entry s.issue s.message s.held s.running in
+    let stations = c.send-goes_on.ensures.carried s.entry s.issue s.message (s.held, s.running) in
+    let stores = c.send-goes_on.ensures.stored s.entry s.issue s.message (s.held, s.running) in
     λ i. record p { bus = c.grant_one.ensures.others_stay i; rob = rob i; stations = stations i; stores = stores i }
 
 left-sound : (c : After-finish) → IsSound (left c)
@@ -65,7 +65,7 @@ mends c = mends_early c.self.inside.values.recovery && is_mispredicted (sent c).
 goes_on : (c : After-finish) → c.send-goes_on.result ≡ cond (mends c) (Some (sent c).message.next_pc) None
 goes_on c =
     let s = sent c in
-    c.send-goes_on.ensures.goes_on s.entry s.issue s.message s.held s.running
+    c.send-goes_on.ensures.goes_on s.entry s.issue s.message (s.held, s.running)
 
 none-mends : (mends : Bool) (next_pc : ℕ) → cond mends (Some next_pc) None ≡ None → mends ≡ false
 none-mends true next_pc is = absurd (cc)

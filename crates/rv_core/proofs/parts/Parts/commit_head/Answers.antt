@@ -72,7 +72,7 @@ returns-then-is_serialising-clause-turn g c =
       left = λ steps.
           c.serial_head-step.ensures.turn steps
           ∙ ended_as c.serial_head-step.new.self steps told
-          ∙ ap (turn_left c.serial_head-step.new.self steps told) (sym c.tell.ensures.end);
-      appended = c.tell.ensures.items;
-      learns = learns_at _ _ told _ _ (ap (λ (x : Hardware). x.pc) c.self-then-is_serialising.view_is) c.tell.ensures.taught;
+          ∙ ap (turn_left c.serial_head-step.new.self steps told) (sym c.end_with.ensures.end);
+      appended = c.end_with.ensures.items;
+      learns = learns_at _ _ told _ _ (ap (λ (x : Hardware). x.pc) c.self-then-is_serialising.view_is) c.end_with.ensures.taught;
     }

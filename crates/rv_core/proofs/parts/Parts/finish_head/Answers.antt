@@ -42,9 +42,9 @@ returns-in-Some-fault-clause-turn g c =
           ∙ traps_by e m c.in-Some-fault.fault (committing h steps) c.in-Some-fault.is
           ∙ sym (λ i. turn_ended (c.trap-step.ensures.hardware i) steps (c.trap-step.ensures.step i))
           ∙ ended_as c.trap-step.new.self steps told
-          ∙ ap (turn_left c.trap-step.new.self steps told) (sym c.tell.ensures.end);
-      appended = c.tell.ensures.items;
-      learns = learns_at _ _ told _ _ (ap (λ (x : Hardware). x.pc) c.self-in-Some-fault.view_is) c.tell.ensures.taught;
+          ∙ ap (turn_left c.trap-step.new.self steps told) (sym c.end_with.ensures.end);
+      appended = c.end_with.ensures.items;
+      learns = learns_at _ _ told _ _ (ap (λ (x : Hardware). x.pc) c.self-in-Some-fault.view_is) c.end_with.ensures.taught;
     }
 
 -- the step that is appended
