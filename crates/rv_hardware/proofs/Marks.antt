@@ -13,3 +13,4 @@ pub mod Counted
 pub mod Widths
 pub mod Pairs
 pub mod Keeps
+pub mod Cited

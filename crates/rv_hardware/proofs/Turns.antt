@@ -13,3 +13,4 @@ pub mod Issue
 pub mod Broadcast
 pub mod Dispatch
 pub mod Commit
+pub mod Cited

@@ -1,11 +1,7 @@
 -- An instruction in flight waits for a unit or to be the oldest, or its message tells no more, and no less, than it may.
 use Rattle.rv_hardware.proofs.Words.{◌≡◌, ℕ, Bool, true, ◌||◌, List, ◌∷◌, ◌++◌, is_some, Some, None, Option, option_and_then, sym, subst, is_of_kind, is_serialising, is_store, kind_of_word, Message, Instr, Lines, Kind, Values, instruction_of, Layout, Effect, State, Each, finished, issue_of, predicting, started, Entry, Stage, Finished, Running, Waiting, Fetched, any_prediction, entry_of_fetched, stage_by, Hardware, broadcast_of, is_waiting, reset_hardware, access_of, effect_message, result_of_word, Each-append, Each-left, Each-right, Each-push, Each-change, Each-weaker, arith}
-use Rattle.rv_hardware.proofs.Turns.Fetch.{IsNew, fetch_phase}
-use Rattle.rv_hardware.proofs.Turns.KeptByCycle.{IsKept, phases-kept}
-use Rattle.rv_hardware.proofs.Turns.Changes.{IsKeptByChanges, all_squashed, head_retires, one_starts, one_sent, one_mended, one_enters}
-use Rattle.rv_hardware.proofs.Turns.Forms.{IsResultOfWord}
+use Rattle.rv_hardware.proofs.Turns.Cited.{IsNew, fetch_phase, IsKept, phases-kept, IsKeptByChanges, all_squashed, head_retires, one_starts, one_sent, one_mended, one_enters, IsResultOfWord, HasRun}
 use Rattle.rv_hardware.proofs.Always.Faults.{HasWordOr, IsUnitFault, by_result}
-use Rattle.rv_hardware.proofs.Turns.Broadcast.{HasRun}
 use Rattle.rv_hardware.proofs.Marks.Sound.{some_kind}
 
 -- a result that is no fault tells what is written where it is a store's, and nowhere else

@@ -1,8 +1,6 @@
 -- An execution is over within the longest one's time.
 use Rattle.rv_hardware.proofs.Words.{ℕ, ◌+◌, ◌≤◌, Bool, List, ◌∷◌, ◌++◌, None, Option, subst, arith, Message, Kind, Values, Each, finished, predicting, started, Entry, Stage, Finished, Running, stage_by, Hardware, reset_hardware, Each-left, Each-right, Each-push, Each-change, Each-weaker}
-use Rattle.rv_hardware.proofs.Turns.KeptByCycle.{IsKept, phases-kept}
-use Rattle.rv_hardware.proofs.Turns.Changes.{IsKeptByChanges, all_squashed, head_retires, one_starts, one_sent, one_mended, one_enters}
-use Rattle.rv_hardware.proofs.Turns.Forms.{longest_execution}
+use Rattle.rv_hardware.proofs.Turns.Cited.{IsKept, phases-kept, IsKeptByChanges, all_squashed, head_retires, one_starts, one_sent, one_mended, one_enters, longest_execution}
 
 -- where it executes, it is over by a cycle
 abbrev pub EndsBy : ℕ → Stage → Type 0

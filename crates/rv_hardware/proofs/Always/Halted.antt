@@ -1,10 +1,8 @@
 -- Where fetch is halted, the last word, fetched or in flight, is the one that was not there.
 use Rattle.rv_hardware.proofs.Words.{◌≡◌, ℕ, zero, suc, ◌-◌, Bool, true, false, List, [], ◌∷◌, ◌++◌, map, length, Some, None, Option, MatchOption, sym, refl, ap, ◌∙◌, subst, append_assoc, map-append, Message, Values, Memory, finished, started, Entry, FetchBuffer, Fetches, FetchesInto, is_halted, stop_behind, stop_for, FetchStop, Halted, Fetched, any_prediction, entry_of_fetched, Hardware, reset_hardware, map-change, arith}
-use Rattle.rv_hardware.proofs.Turns.KeptByCycle.{IsKept, phases-kept}
-use Rattle.rv_hardware.proofs.Turns.Changes.{IsKeptByChanges, all_squashed, head_retires, one_starts, one_sent, one_mended, one_enters}
+use Rattle.rv_hardware.proofs.Turns.Cited.{IsKept, phases-kept, IsKeptByChanges, all_squashed, head_retires, one_starts, one_sent, one_mended, one_enters, fetch-cases}
 use Rattle.rv_hardware.proofs.Always.Entries.{AreShaped, entries_changes, entries-kept, entries-at_reset, told_at_end}
 use Rattle.rv_hardware.proofs.Always.Faults.{HasWordOr}
-use Rattle.rv_hardware.proofs.Turns.Fetch.{fetch-cases}
 
 abbrev word_of_entry : Entry → Option ℕ
 word_of_entry e = e.word

@@ -1,9 +1,6 @@
 -- The cache's port is busy no longer than for an access and the write-back of all lines.
 use Rattle.rv_hardware.proofs.Words.{ℕ, ◌+◌, ◌≤◌, List, arith, Values, Hardware, reset_hardware}
-use Rattle.rv_hardware.proofs.Turns.Costs.{access_cost-most}
-use Rattle.rv_hardware.proofs.Turns.KeptByCycle.{IsKept, phases-kept}
-use Rattle.rv_hardware.proofs.Turns.Changes.{IsKeptByChanges}
-use Rattle.rv_hardware.proofs.Turns.Forms.{longest_access, longest_write_back}
+use Rattle.rv_hardware.proofs.Turns.Cited.{access_cost-most, IsKept, phases-kept, IsKeptByChanges, longest_access, longest_write_back}
 use Rattle.rv_hardware.proofs.Always.Sets.{HasRoom, room_changes, room-at_reset, write_back_time-most}
 
 -- the cache has room for its lines, and its port is busy no longer than for an access and a whole write-back

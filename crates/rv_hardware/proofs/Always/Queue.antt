@@ -1,7 +1,6 @@
 -- The stores that wait for the cache's port are retired ones, and only the oldest may have begun its access.
 use Rattle.rv_hardware.proofs.Words.{◌≡◌, ℕ, true, false, List, [], ◌∷◌, ◌++◌, Option, append-nil, StoreAccess, Values, Each, with_oldest_draining, without_drained, draining, is_committed, is_committed_state, is_draining, Store, StoreState, Hardware, reset_hardware, committed_store, by_test, Each-push, arith}
-use Rattle.rv_hardware.proofs.Turns.KeptByCycle.{IsKept, phases-kept}
-use Rattle.rv_hardware.proofs.Turns.Changes.{IsKeptByChanges}
+use Rattle.rv_hardware.proofs.Turns.Cited.{IsKept, phases-kept, IsKeptByChanges}
 
 -- retired, and its access has not begun
 abbrev pub CanDrain : Store → Type 0

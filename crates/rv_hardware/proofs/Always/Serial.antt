@@ -1,8 +1,6 @@
 -- An instruction that waits to be the oldest is the youngest: nothing younger is in flight beside it.
 use Rattle.rv_hardware.proofs.Words.{◌≡◌, ℕ, true, false, List, [], ◌∷◌, ◌++◌, Option, refl, or_parts, map-append, is_serialising, Instr, Values, Each, Entry, Hardware, reset_hardware, map-change, arith}
-use Rattle.rv_hardware.proofs.Turns.KeptByCycle.{IsKept, phases-kept}
-use Rattle.rv_hardware.proofs.Turns.Changes.{IsKeptByChanges}
-use Rattle.rv_hardware.proofs.Turns.Dispatch.{is_any_serialising}
+use Rattle.rv_hardware.proofs.Turns.Cited.{IsKept, phases-kept, IsKeptByChanges, is_any_serialising}
 use Rattle.rv_hardware.proofs.Always.Stores.{instructions_of}
 
 -- where others are younger

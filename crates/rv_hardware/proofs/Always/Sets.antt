@@ -3,9 +3,7 @@ use Rattle.rv_hardware.proofs.Words.{◌≡◌, ℕ, ◌*◌, ◌%◌, ◌≤◌
 use Rattle.rv_cache.proofs.Replacement.{length-accessed}
 use Rattle.rv_cache.proofs.Sets.{Each-at, Each-map, Each-replicate, Each-set}
 use Rattle.rv_cache.specs.Replacement.{accessed}
-use Rattle.rv_hardware.proofs.Turns.KeptByCycle.{IsKept, phases-kept}
-use Rattle.rv_hardware.proofs.Turns.Changes.{IsKeptByChanges, cache_written, store_drains, load_accesses}
-use Rattle.rv_hardware.proofs.Turns.Forms.{longest_write_back}
+use Rattle.rv_hardware.proofs.Turns.Cited.{IsKept, phases-kept, IsKeptByChanges, cache_written, store_drains, load_accesses, longest_write_back}
 
 abbrev Fits : ℕ → List CacheLine → Type 0
 Fits ways lines = length lines ≤ ways

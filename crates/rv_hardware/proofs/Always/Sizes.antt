@@ -1,9 +1,7 @@
 -- The sizes of the hardware are the described ones.
 use Rattle.rv_hardware.proofs.Words.{◌≡◌, ℕ, List, at_kind-for_each, with_kind-each, IsLegal, at_kind, with_kind, Kind, PerKind, CacheValues, Values, Pool, FetchBuffer, Hardware, reset_hardware, ◌+◌, any_prediction, arith}
 use Rattle.rv_units.specs.Pool.{started as started_unit}
-use Rattle.rv_hardware.proofs.Turns.KeptByCycle.{IsKept, phases-kept}
-use Rattle.rv_hardware.proofs.Turns.Changes.{IsKeptByChanges, one_starts}
-use Rattle.rv_hardware.proofs.Turns.Fetch.{fetch_phase}
+use Rattle.rv_hardware.proofs.Turns.Cited.{IsKept, phases-kept, IsKeptByChanges, one_starts, fetch_phase}
 
 -- the description is legal, and its values, the cache's, and the rooms and units that they give, are the hardware's
 pub record AreSizes (v given : Values) (lines : CacheValues) (entries words most : ℕ) (pools : PerKind Pool) : Type 0 where

@@ -1,9 +1,7 @@
 -- There are no more stores, retired or in flight, than the queue holds.
 use Rattle.rv_hardware.proofs.Words.{◌≡◌, ℕ, ◌+◌, ◌≤◌, Bool, false, cond, ◌&&◌, List, [], ◌∷◌, ◌++◌, map, length, is_some, nat_le, Some, None, Option, refl, ap, ◌∙◌, subst, arith, length-append, leb-false, is_store, Message, StoreAccess, Instr, Values, with_oldest_draining, without_drained, Store, finished, predicting, started, Entry, Fetched, entry_of_fetched, Hardware, broadcast_of, stores_of, reset_hardware, committed_store, stores_behind, by_test, map-change}
-use Rattle.rv_hardware.proofs.Turns.KeptByCycle.{IsKept, phases-kept}
-use Rattle.rv_hardware.proofs.Turns.Changes.{IsKeptByChanges, all_squashed, head_retires, store_drained, store_drains, one_starts, one_sent, one_mended, one_enters}
+use Rattle.rv_hardware.proofs.Turns.Cited.{IsKept, phases-kept, IsKeptByChanges, all_squashed, head_retires, store_drained, store_drains, one_starts, one_sent, one_mended, one_enters, WaitsForNothing}
 use Rattle.rv_hardware.proofs.Always.Entries.{AreShaped, entries_changes, entries-kept, entries-at_reset, told_at_end}
-use Rattle.rv_hardware.proofs.Turns.Dispatch.{WaitsForNothing}
 
 -- the instruction of an entry
 abbrev pub instruction_of_entry : Entry → Option Instr

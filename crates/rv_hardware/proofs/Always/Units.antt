@@ -1,9 +1,7 @@
 -- A unit is held no longer than for the longest execution.
 use Rattle.rv_hardware.proofs.Words.{ℕ, ◌+◌, ◌≤◌, Bool, List, arith, at_kind-for_each, with_kind-each, at_kind, with_kind, Issue, Kind, PerKind, Values, Each, Pool, free_pool, held_for, Hardware, reset_hardware, Each-push, Each-weaker, Each-filter}
 use Rattle.rv_units.specs.Pool.{started as started_unit}
-use Rattle.rv_hardware.proofs.Turns.KeptByCycle.{IsKept, phases-kept}
-use Rattle.rv_hardware.proofs.Turns.Changes.{IsKeptByChanges}
-use Rattle.rv_hardware.proofs.Turns.Forms.{longest_execution}
+use Rattle.rv_hardware.proofs.Turns.Cited.{IsKept, phases-kept, IsKeptByChanges, longest_execution}
 
 -- an execution holds its unit until a cycle
 abbrev pub HoldsUntil : ℕ → Issue → Type 0

@@ -1,11 +1,7 @@
 -- The patience of the hardware is below the bound, whatever the description.
 use Rattle.rv_hardware.proofs.Words.{◌≡◌, ℕ, ◌+◌, ◌*◌, ◌<◌, ◌≤◌, Bool, cond, List, [], ◌∷◌, length, Option, refl, arith, mul-le-mul_right, gap_bound_of, greatest_latency, Instr, Issue, Kind, Each, is_draining, Store, Entry, Stage, Fetched, Hardware}
-use Rattle.rv_hardware.proofs.Turns.Forms.{longest_access, longest_execution, longest_write_back}
+use Rattle.rv_hardware.proofs.Marks.Cited.{longest_access, longest_execution, longest_write_back, EndsBy, HasRoom, write_back_time-most, IsBounded, HoldsUntil}
 use Rattle.rv_hardware.proofs.Gap.Patience.{dirty_time, fetch_time, free_time, head_time, patience, port_time, stage_time, time_of_stores, unit_time, waiting_time}
-use Rattle.rv_hardware.proofs.Always.Executions.{EndsBy}
-use Rattle.rv_hardware.proofs.Always.Sets.{HasRoom, write_back_time-most}
-use Rattle.rv_hardware.proofs.Always.Sound.{IsBounded}
-use Rattle.rv_hardware.proofs.Always.Units.{HoldsUntil}
 
 -- ---- the parts
 pub unit_time-most : (cycle longest : ℕ) (starts : List Issue) → Each (HoldsUntil (cycle + longest)) starts → unit_time cycle starts ≤ longest

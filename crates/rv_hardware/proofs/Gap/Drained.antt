@@ -1,9 +1,7 @@
 -- A cycle brings the port nearer to idle, and after the drain phase it is busy or no retired store waits for it.
 use Rattle.rv_hardware.proofs.Words.{◌≡◌, ℕ, ◌+◌, ◌-◌, ◌*◌, ◌<◌, ◌≤◌, true, false, cond, ◌⊎◌, List, [], ◌∷◌, length, None, Option, refl, inr, arith, leb-false, leb-true, StoreAccess, oldest_to_drain, without_drained, access_to_drain, draining, is_committed_state, is_draining, is_draining_state, state_to_drain, Store, StoreState, Filled, drain, start_drain, Hardware, by_test}
-use Rattle.rv_hardware.proofs.Turns.Costs.{access_cost-least, access_cost-most}
-use Rattle.rv_hardware.proofs.Turns.Forms.{longest_access}
+use Rattle.rv_hardware.proofs.Marks.Cited.{access_cost-least, access_cost-most, longest_access, CanDrain, HasQueue, IsQueue, queue_of_all}
 use Rattle.rv_hardware.proofs.Gap.Patience.{port_time, time_of_stores}
-use Rattle.rv_hardware.proofs.Always.Queue.{CanDrain, HasQueue, IsQueue, queue_of_all}
 use Rattle.rv_hardware.proofs.Gap.Bound.{time_of_stores-most}
 
 -- the same time a cycle later

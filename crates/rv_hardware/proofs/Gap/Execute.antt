@@ -1,15 +1,8 @@
 -- No phase after commit changes what was described, and the stage of the oldest bounds the patience in the next cycle.
 use Rattle.rv_hardware.proofs.Words.{◌≡◌, ℕ, ◌+◌, ◌≤◌, false, List, ◌∷◌, Option, sym, refl, ap, ◌∙◌, subst, true≢false, arith, is_serialising, Message, Instr, Issue, Each, finished, issue_of, predicting, Entry, Stage, Finished, FetchBuffer, broadcast, broadcast_turn, execute, dispatch, drain, Hardware, is_waiting, issue, Leaves}
-use Rattle.rv_hardware.proofs.Turns.KeptByDrain.{drain-keeps}
-use Rattle.rv_hardware.proofs.Turns.KeptByIssue.{issue-keeps}
-use Rattle.rv_hardware.proofs.Turns.Broadcast.{HasRun}
-use Rattle.rv_hardware.proofs.Turns.KeptByBroadcast.{IsKeptByBroadcast, broadcast-keeps, broadcast_turn-keeps}
-use Rattle.rv_hardware.proofs.Turns.KeptByCycle.{SameAs, same-kept, execute-keeps}
-use Rattle.rv_hardware.proofs.Turns.KeptByDispatch.{IsKeptByDispatch, dispatch-keeps}
-use Rattle.rv_hardware.proofs.Turns.Forms.{longest_execution}
+use Rattle.rv_hardware.proofs.Marks.Cited.{drain-keeps, issue-keeps, HasRun, IsKeptByBroadcast, broadcast-keeps, broadcast_turn-keeps, SameAs, same-kept, execute-keeps, IsKeptByDispatch, dispatch-keeps, longest_execution, AreEnding, Ending, EndsBy}
 use Rattle.rv_hardware.proofs.Gap.Head.{HasBegun, HeadIs, Waits, head-change, head-cut, head-push, IsAnywhere}
 use Rattle.rv_hardware.proofs.Gap.Patience.{flight_time, head_time, patience, stage_time}
-use Rattle.rv_hardware.proofs.Always.Executions.{AreEnding, Ending, EndsBy}
 
 -- the next cycle begins
 abbrev pub later : FetchBuffer → Hardware → Hardware

@@ -1,10 +1,8 @@
 -- A cycle without a step and without a stop lowers the patience by one at least.
 use Rattle.rv_hardware.proofs.Words.{◌≡◌, ℕ, ◌+◌, ◌≤◌, true, false, ◌||◌, List, [], ◌∷◌, is_some, Some, None, Option, sym, refl, ap, ◌∙◌, subst, inl, inr, arith, is_serialising, kind_of_word, Instr, Csr, FenceI, Mret, Lines, Kind, Memory, Entry, Stage, Finished, Running, Waiting, FetchBuffer, FetchesInto, FetchStop, Committing, commit, IsCycle, any_prediction, execute, with_lines, Dispatching, drain, Hardware, broadcast_of, Report, CacheValues}
 use Rattle.std.specs.FinSet as set
-use Rattle.rv_hardware.proofs.Turns.KeptByCommit.{commit-keeps}
-use Rattle.rv_hardware.proofs.Turns.KeptByCycle.{same-kept}
+use Rattle.rv_hardware.proofs.Marks.Cited.{commit-keeps, same-kept, IsShaped, alone, AreSerialLast, IsBounded, sound-cycle, instructions_of}
 use Rattle.rv_hardware.proofs.Gap.Drained.{Drains, drains}
-use Rattle.rv_hardware.proofs.Always.Entries.{IsShaped}
 use Rattle.rv_hardware.proofs.Gap.Execute.{execute-same, later, plain-head}
 use Rattle.rv_hardware.proofs.Gap.FallEmpty.{fall_empty}
 use Rattle.rv_hardware.proofs.Gap.FallFence.{fall_fence_waits, fall_write_back}
@@ -12,10 +10,7 @@ use Rattle.rv_hardware.proofs.Gap.FallRunning.{RunsUntil, fall_running}
 use Rattle.rv_hardware.proofs.Gap.FallWaiting.{fall_waiting}
 use Rattle.rv_hardware.proofs.Gap.Head.{HeadIs, Waits}
 use Rattle.rv_hardware.proofs.Gap.Patience.{dirty_time, patience, port_time, stage_time, flight_time, head_time}
-use Rattle.rv_hardware.proofs.Always.Serial.{alone, AreSerialLast}
 use Rattle.rv_hardware.proofs.Gap.Silent.{SilentAt, SilentFence, SilentHead, silent_commit}
-use Rattle.rv_hardware.proofs.Always.Sound.{IsBounded, sound-cycle}
-use Rattle.rv_hardware.proofs.Always.Stores.{instructions_of}
 
 module _ (lines : Lines) (old : Hardware) (sound : IsBounded old) where
   -- the hardware before the phases

@@ -1,20 +1,10 @@
 -- Where nothing is in flight, a cycle fetches, dispatches, or brings the retired stores nearer to their end.
 use Rattle.rv_hardware.proofs.Words.{◌≡◌, ℕ, suc, ◌+◌, ◌-◌, ◌*◌, ◌≤◌, false, List, [], ◌∷◌, ◌++◌, length, nat_le, None, Option, sym, refl, ap, ◌∙◌, subst, true≢false, arith, length-append, leb-true, and_parts, nat_tests, at_kind, Kind, Memory, Store, Entry, FetchBuffer, Fetches, FetchesInto, FetchStop, Fetched, broadcast, any_prediction, execute, Dispatching, dispatch, dispatch_turn, has_full_stations, with_dispatched, drain, Hardware, issue, Turn, followed_by, repeated}
 use Rattle.rv_hardware.proofs.Gap.Bound.{flight_time-most}
-use Rattle.rv_hardware.proofs.Turns.KeptByBroadcast.{IsKeptByBroadcast, broadcast-keeps}
-use Rattle.rv_hardware.proofs.Turns.KeptByDispatch.{IsKeptByDispatch, dispatch_turns-keep}
-use Rattle.rv_hardware.proofs.Turns.KeptByCycle.{execute-keeps}
-use Rattle.rv_hardware.proofs.Turns.KeptByDrain.{drain-keeps, drain-same}
+use Rattle.rv_hardware.proofs.Marks.Cited.{IsKeptByBroadcast, broadcast-keeps, IsKeptByDispatch, dispatch_turns-keep, execute-keeps, drain-keeps, drain-same, fetch-cases, longest_access, longest_execution, longest_write_back, HaltsBehind, words_of, runs-empty, IsKeptByIssue, issue-keeps, DispatchTurn, WaitsFor, buffer_empty, waits as word_waits, dispatches, dispatch_turn_is, HasSizes, sizes-kept, IsBounded}
 use Rattle.rv_hardware.proofs.Gap.Drained.{Drains, next_port_time}
 use Rattle.rv_hardware.proofs.Gap.Execute.{execute-same, later, same-longest}
-use Rattle.rv_hardware.proofs.Turns.Fetch.{fetch-cases}
-use Rattle.rv_hardware.proofs.Turns.Forms.{longest_access, longest_execution, longest_write_back}
-use Rattle.rv_hardware.proofs.Always.Halted.{HaltsBehind, words_of, runs-empty}
-use Rattle.rv_hardware.proofs.Turns.KeptByIssue.{IsKeptByIssue, issue-keeps}
 use Rattle.rv_hardware.proofs.Gap.Patience.{fetch_time, flight_time, patience, port_time, time_of_stores}
-use Rattle.rv_hardware.proofs.Turns.Dispatch.{DispatchTurn, WaitsFor, buffer_empty, waits as word_waits, dispatches, dispatch_turn_is}
-use Rattle.rv_hardware.proofs.Always.Sizes.{HasSizes, sizes-kept}
-use Rattle.rv_hardware.proofs.Always.Sound.{IsBounded}
 
 -- ---- a fetch leaves a word
 abbrev IsCons : {X : Type 0} → List X → Type 0

@@ -1,17 +1,11 @@
 -- Where FENCE.I is the oldest instruction, a cycle brings the port, the retired stores and the dirty lines nearer to their end.
 use Rattle.rv_hardware.proofs.Words.{◌≡◌, ℕ, ◌+◌, ◌*◌, ◌≤◌, true, false, List, [], ◌∷◌, ◌++◌, nat_le, ◌==◌, Some, Option, sym, refl, ap, ◌∙◌, subst, arith, leb-false, eqb-false, false≢true, lt-leb, is_of_kind, kind_of_word, Instr, FenceI, Kind, Each, Store, Entry, FetchBuffer, broadcast, is_drained, with_write_back, write_back_time, execute, drain, Hardware, issue, by_test, Each-right}
 use Rattle.rv_hardware.proofs.Gap.Bound.{dirty_time-most}
-use Rattle.rv_hardware.proofs.Turns.KeptByBroadcast.{IsKeptByBroadcast, broadcast-keeps}
-use Rattle.rv_hardware.proofs.Turns.KeptByDispatch.{IsKeptByDispatch, dispatch-keeps}
-use Rattle.rv_hardware.proofs.Turns.KeptByDrain.{drain-keeps, SameButPort, drain-same}
+use Rattle.rv_hardware.proofs.Marks.Cited.{IsKeptByBroadcast, broadcast-keeps, IsKeptByDispatch, dispatch-keeps, drain-keeps, SameButPort, drain-same, longest_access, longest_execution, longest_write_back, IsKeptByIssue, issue-keeps, ready-parts, AreEnding, HasRoom, clean-after, room-kept}
 use Rattle.rv_hardware.proofs.Gap.Drained.{Drains, next_port_time}
 use Rattle.rv_hardware.proofs.Gap.Execute.{broadcast-same, head-broadcasted, head-dispatched, head-patience, issued-same, later, anywhere_closed}
-use Rattle.rv_hardware.proofs.Turns.Forms.{longest_access, longest_execution, longest_write_back}
 use Rattle.rv_hardware.proofs.Gap.Head.{HeadIs, IsAnywhere}
-use Rattle.rv_hardware.proofs.Turns.KeptByIssue.{IsKeptByIssue, issue-keeps, ready-parts}
 use Rattle.rv_hardware.proofs.Gap.Patience.{dirty_time, patience, port_time, time_of_stores}
-use Rattle.rv_hardware.proofs.Always.Executions.{AreEnding}
-use Rattle.rv_hardware.proofs.Always.Sets.{HasRoom, clean-after, room-kept}
 
 abbrev fence : Option Instr
 fence = Some FenceI

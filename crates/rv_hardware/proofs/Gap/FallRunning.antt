@@ -1,14 +1,9 @@
 -- Where the oldest instruction executes, a cycle brings its end nearer.
 use Rattle.rv_hardware.proofs.Words.{◌≡◌, ℕ, suc, ◌+◌, ◌-◌, ◌<◌, ◌≤◌, true, false, not, List, [], ◌∷◌, ◌++◌, is_none, Option, sym, refl, ap, ◌∙◌, subst, inl, inr, true≢false, arith, le-leb, cases_lt, is_serialising, Message, Instr, Issue, Kind, Values, finished, predicting, started, Entry, Stage, Finished, Running, FetchBuffer, broadcast, broadcast_turn, has_result, result_at, execute, drain, Hardware, is_waiting, issue, Turn, repeated, EveryBehind, Leaves, left_by_the_rest, kept_by_turns}
-use Rattle.rv_hardware.proofs.Turns.Broadcast.{BroadcastTurn, HasRun, none_ready, sends, mends, broadcast_turn_is}
-use Rattle.rv_hardware.proofs.Turns.KeptByBroadcast.{IsMadeByBroadcast, sends-makes, mends-makes}
-use Rattle.rv_hardware.proofs.Turns.KeptByDrain.{drain-same}
+use Rattle.rv_hardware.proofs.Marks.Cited.{BroadcastTurn, HasRun, no_result, sends, mends, broadcast_turn_is, IsMadeByBroadcast, sends-makes, mends-makes, drain-same, IsKeptByIssue, issue-keeps, AreEnding, longest_execution}
 use Rattle.rv_hardware.proofs.Gap.Execute.{broadcast-same, execute-same, head-broadcasted, head-dispatched, head-turn, issued-same, later, plain-patience}
 use Rattle.rv_hardware.proofs.Gap.Head.{HeadIs, head-change, head-cut}
-use Rattle.rv_hardware.proofs.Turns.KeptByIssue.{IsKeptByIssue, issue-keeps}
 use Rattle.rv_hardware.proofs.Gap.Patience.{patience, stage_time}
-use Rattle.rv_hardware.proofs.Always.Executions.{AreEnding}
-use Rattle.rv_hardware.proofs.Turns.Forms.{longest_execution}
 
 -- it executes until a cycle
 abbrev pub RunsUntil : ℕ → Stage → Type 0
@@ -89,7 +84,7 @@ module _ (h : Hardware) (front : FetchBuffer) (instruction : Option Instr) (end 
   it_is_first due (o ∷ older) younger e runs none = absurd (one_is_due due (o ∷ []) runs (none.0, tt))
 
   first_result : end ≤ h.cycle → (t : Turn Hardware) → BroadcastTurn issued t → Leaves Over t
-  first_result due _ (none_ready none) = absurd (one_is_due due issued.rob.entries runs_issued none)
+  first_result due _ (no_result none) = absurd (one_is_due due issued.rob.entries runs_issued none)
   first_result due _ (sends older younger e issue message sent late) =
       let first = it_is_first due older younger e (subst (HeadIs instruction (RunsUntil end)) sent.place runs_issued) sent.oldest_one in
       sends-makes made_over issued older younger e issue message sent (first.0, first.1, number)

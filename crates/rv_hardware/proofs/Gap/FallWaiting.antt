@@ -1,20 +1,13 @@
 -- Where the oldest instruction waits for a unit or the port, a cycle brings them nearer, or it leaves.
 use Rattle.rv_hardware.proofs.Words.{◌≡◌, ℕ, ◌+◌, ◌-◌, ◌*◌, ◌<◌, ◌≤◌, Bool, true, false, cond, [], nat_le, Some, Option, sym, refl, ap, ◌∙◌, subst, arith, nat_tests, is_load, is_serialising, kind_of_word, at_kind, Instr, Kind, Values, Pool, is_free, started, Stage, FetchBuffer, broadcast, execute, drain, Hardware, issue}
 use Rattle.rv_hardware.proofs.Gap.Bound.{free_time-most, no_more, unit_time-most}
-use Rattle.rv_hardware.proofs.Turns.KeptByBroadcast.{IsKeptByBroadcast, broadcast-keeps}
-use Rattle.rv_hardware.proofs.Turns.KeptByDispatch.{IsKeptByDispatch, dispatch-keeps}
+use Rattle.rv_hardware.proofs.Marks.Cited.{IsKeptByBroadcast, broadcast-keeps, IsKeptByDispatch, dispatch-keeps, drain-same, longest_execution, IsKeptByIssue, issue-keeps, AreEnding, EndsBy, HasSizes, AreHeld}
 use Rattle.rv_hardware.proofs.Gap.Drained.{Drains, next_port_time}
-use Rattle.rv_hardware.proofs.Turns.KeptByDrain.{drain-same}
 use Rattle.rv_hardware.proofs.Gap.Execute.{begun-patience, begun_closed, begun_stage, broadcast-same, execute-same, head-broadcasted, head-dispatched, issued-same, later, plain-patience, same-longest, waits_closed, anywhere_closed}
-use Rattle.rv_hardware.proofs.Turns.Forms.{longest_execution}
 use Rattle.rv_hardware.proofs.Gap.Head.{HasBegun, HeadIs, Waits, head-change, head-weaken, IsAnywhere}
-use Rattle.rv_hardware.proofs.Turns.KeptByIssue.{IsKeptByIssue, issue-keeps}
 use Rattle.rv_hardware.proofs.Gap.Patience.{free_time, patience, port_time, stage_time, unit_time, waiting_time}
 use Rattle.rv_hardware.proofs.Gap.Ready.{CanGo, cache_access}
-use Rattle.rv_hardware.proofs.Always.Executions.{AreEnding, EndsBy}
-use Rattle.rv_hardware.proofs.Always.Sizes.{HasSizes}
 use Rattle.rv_hardware.proofs.Gap.UnitTime.{unit_time-held}
-use Rattle.rv_hardware.proofs.Always.Units.{AreHeld}
 use Rattle.rv_hardware.proofs.Gap.Waiting.{CanStart, IsAfterIssue, after_issue}
 
 -- ---- there is a unit of each kind

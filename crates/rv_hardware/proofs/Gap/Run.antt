@@ -2,10 +2,9 @@
 use Rattle.rv_hardware.proofs.Words.{◌≡◌, ℕ, ◌+◌, ◌<◌, ◌≤◌, Bool, true, cond, List, [], ◌∷◌, ◌++◌, length, None, sym, refl, ap, ◌∙◌, subst, arith, cond-true, gap_bound_of, Arrival, Lines, Values, Stop, IsCycle, any_prediction, AreSilent, NoSilence, OnlyLastStops, Hardware, Report, Cycles, EndsWith, IsStop, NoneStops, cycled, ended, is_silent, longest_gap_from, longest_gap_of, Step, by_test}
 use Rattle.rv_arch.specs.declared.outcome.Stop.TheVariants as stop
 use Rattle.rv_hardware.proofs.Gap.Bound.{patience-below}
-use Rattle.rv_hardware.proofs.Turns.KeptByCycle.{phases-keep, same-kept}
+use Rattle.rv_hardware.proofs.Marks.Cited.{phases-keep, same-kept, IsBounded, sound, sound-cycle}
 use Rattle.rv_hardware.proofs.Gap.Fall.{fall}
 use Rattle.rv_hardware.proofs.Gap.Patience.{patience}
-use Rattle.rv_hardware.proofs.Always.Sound.{IsBounded, sound, sound-cycle}
 
 -- ---- one cycle more
 no_steps : (steps : List Step) → is_silent steps ≡ true → steps ≡ []

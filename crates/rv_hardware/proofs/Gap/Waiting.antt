@@ -2,8 +2,7 @@
 use Rattle.rv_hardware.proofs.Words.{◌≡◌, ℕ, suc, ◌-◌, ◌≤◌, true, false, ◌⊎◌, List, [], ◌∷◌, ◌++◌, Some, Option, sym, refl, ap, ◌∙◌, subst, inl, inr, true≢false, arith, false≢true, is_same-own, is_same-true, with_kind-other, is_of_kind, kind_of_word, at_kind, is_same, Instr, Kind, Pool, is_free, started, Entry, Hardware, FromCache, cost_of, is_ready, issue, issue_kind, issue_turn, issued, path, with_access, Turn, followed_by, repeated, EveryBehind, kept_by_turns}
 use Rattle.rv_isa.specs.declared.operations.Kind.TheVariants as kind
 use Rattle.rv_hardware.proofs.Gap.Head.{HasBegun, HeadIs, Waits, head-change}
-use Rattle.rv_hardware.proofs.Turns.Issue.{IssueTurn, no_unit, none_ready, starts, issue_turn_is, message_at, started_entries}
-use Rattle.rv_hardware.proofs.Turns.KeptByIssue.{IsKeptByIssue, starts-keep, issue_kind-keeps, issue_turn-keeps}
+use Rattle.rv_hardware.proofs.Marks.Cited.{IssueTurn, no_unit, none_ready, starts, issue_turn_is, message_at, started_entries, IsKeptByIssue, starts-keep, issue_kind-keeps, issue_turn-keeps}
 use Rattle.rv_hardware.proofs.Gap.Ready.{CanGo, cache_access, loads_of_mem, ready_head}
 
 -- ---- once it has begun, it has

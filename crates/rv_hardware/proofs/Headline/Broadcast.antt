@@ -5,7 +5,7 @@ use Rattle.rv_hardware.proofs.Headline.Invariant.{FollowsProgram, IsSoundAt, wit
 use Rattle.rv_hardware.proofs.Headline.Retires.{IsTold, effect_told}
 use Rattle.rv_hardware.proofs.Headline.Split.{behind-append, AreInFlight-older, AreInFlight-append}
 use Rattle.rv_hardware.proofs.Headline.Stage.{behind_aligned, here_in_flight, FollowsProgram-staged}
-use Rattle.rv_hardware.proofs.Turns.Broadcast.{BroadcastTurn, Sends, none_ready, sends, mends, broadcast_turn_is, sent_entries, mended_entries}
+use Rattle.rv_hardware.proofs.Turns.Broadcast.{BroadcastTurn, Sends, no_result, sends, mends, broadcast_turn_is, sent_entries, mended_entries}
 
 -- ---- the pc after an instruction that does not fault is a multiple of 4
 aligned_effect : (layout : Layout) (s : State) (target : Option ℕ) (access : Option StoreAccess) (effect : Effect) →
@@ -77,7 +77,7 @@ module _ (values : Values) (cycle : ℕ) (state : State) (h : Hardware) (is : Is
 module _ (values : Values) (cycle : ℕ) (state : State) where
   turn_kept : (h : Hardware) (t : Turn Hardware) → BroadcastTurn h t → IsSoundAt values cycle state h →
       Leaves (IsSoundAt values cycle state) t
-  turn_kept h _ (none_ready none) is = is
+  turn_kept h _ (no_result none) is = is
   turn_kept h _ (sends older younger e issue message sent late) is = broadcast_one values cycle state h is older younger e issue message sent
   turn_kept h _ (mends older younger e issue message sent early) is =
       let wrong = (and_parts (mends_early h.values.recovery) (is_mispredicted e message) early).1 in

@@ -1,14 +1,6 @@
 -- At most `bus_width` results are broadcast in a cycle.
 use Rattle.rv_hardware.proofs.Words.{◌≡◌, ℕ, suc, ◌+◌, ◌<◌, ◌≤◌, Bool, true, false, List, ◌∷◌, ◌++◌, map, IfSome, ◌==◌, None, Option, refl, ap, ◌∙◌, arith, ne_eqb, eqb-true, le-leb, and_from, Instr, Values, finished, predicting, Entry, Stage, broadcast, broadcast_turn, Dispatching, dispatch, dispatch_turn, Hardware, NeverMoreThan, Turn, is_broadcast_in, passes, rows_of, Execution, Step, Each-weaker, Each-all, count, count-append, count-none, count-map, count-set-more, count-push, count-push-no, count-left, Leads, turns_within, kept_by_turns}
-use Rattle.rv_hardware.proofs.Marks.Basics.{dispatched_mark}
-use Rattle.rv_hardware.proofs.Turns.Broadcast.{BroadcastTurn, none_ready, sends, mends, broadcast_turn_is, sent_entries, mended_entries}
-use Rattle.rv_hardware.proofs.Marks.Counted.{Shows, counted_law}
-use Rattle.rv_hardware.proofs.Marks.History.{History, dispatching, issued_all, sent_all}
-use Rattle.rv_hardware.proofs.Turns.Dispatch.{DispatchTurn, dispatch_turn_is}
-use Rattle.rv_hardware.proofs.Marks.List.{Mark, mark_of_row, mark_of_fetched, marks_in, until, broadcast_of_stage, broadcast_of_execution, until_by}
-use Rattle.rv_hardware.proofs.Marks.Row.{SoundRow}
-use Rattle.rv_hardware.proofs.Marks.Sound.{SoundEntry, SoundStage}
-use Rattle.rv_hardware.proofs.Marks.Widths.{is_at, count_marks}
+use Rattle.rv_hardware.proofs.Marks.Cited.{dispatched_mark, BroadcastTurn, no_result, sends, mends, broadcast_turn_is, sent_entries, mended_entries, Shows, counted_law, History, dispatching, issued_all, sent_all, DispatchTurn, dispatch_turn_is, Mark, mark_of_row, mark_of_fetched, marks_in, until, broadcast_of_stage, broadcast_of_execution, until_by, SoundRow, SoundEntry, SoundStage, is_at, count_marks}
 
 sent_shows_by : (c D C : ℕ) (x : Option Execution) → IfSome x (λ x. (D < x.issued) × (x.issued + x.cost ≤ x.broadcast) × (x.broadcast < C)) → passes (λ y. y.broadcast == c) x ≡ true →
     (is_at c (until c (broadcast_of_execution x)) ≡ true) × (D < c) × (c < C)
@@ -26,7 +18,7 @@ module _ (now total : ℕ) where
   SentNow k h = count is_sent_now h.rob.entries ≤ k
 
   broadcast_leads : (k : ℕ) (h : Hardware) (t : Turn Hardware) → k < total → BroadcastTurn h t → SentNow k h → Leads (SentNow (suc k)) (SentNow total) t
-  broadcast_leads k h _ lt (none_ready none) p = omega (arith, p, lt)
+  broadcast_leads k h _ lt (no_result none) p = omega (arith, p, lt)
   broadcast_leads k h _ lt (sends older younger e issue message sent late) p =
       let x : Entry = finished message h.cycle e in
       let more = count-set-more is_sent_now older younger e x in

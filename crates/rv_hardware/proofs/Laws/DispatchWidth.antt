@@ -1,12 +1,6 @@
 -- At most `dispatch_width` instructions are dispatched in a cycle.
 use Rattle.rv_hardware.proofs.Words.{◌≡◌, ℕ, suc, ◌+◌, ◌<◌, ◌≤◌, Bool, false, List, ◌++◌, map, ◌==◌, None, refl, ap, ◌∙◌, arith, ne_eqb, eqb-true, le-leb, and_from, Values, Dispatching, dispatch, dispatch_turn, Hardware, NeverMoreThan, Turn, is_dispatched_in, rows_of, Step, Each-weaker, Each-all, count, count-append, count-none, count-map, count-push, Leads, turns_within}
-use Rattle.rv_hardware.proofs.Marks.Counted.{Shows, counted_law}
-use Rattle.rv_hardware.proofs.Marks.History.{History, dispatching, sent_all}
-use Rattle.rv_hardware.proofs.Turns.Dispatch.{DispatchTurn, dispatch_turn_is}
-use Rattle.rv_hardware.proofs.Marks.List.{Mark, mark_of_row, mark_of_fetched, marks_in, until_by}
-use Rattle.rv_hardware.proofs.Marks.Row.{SoundRow}
-use Rattle.rv_hardware.proofs.Marks.Sound.{SoundEntry}
-use Rattle.rv_hardware.proofs.Marks.Widths.{is_at, count_marks}
+use Rattle.rv_hardware.proofs.Marks.Cited.{Shows, counted_law, History, dispatching, sent_all, DispatchTurn, dispatch_turn_is, Mark, mark_of_row, mark_of_fetched, marks_in, until_by, SoundRow, SoundEntry, is_at, count_marks}
 
 -- that a row is dispatched in a cycle shows in its mark
 pub dispatched_shows : (v : Values) → Shows v is_dispatched_in (λ c m. is_at c m.dispatched)

@@ -1,9 +1,6 @@
 -- The fetch buffer holds no more words than it has room for.
 use Rattle.rv_hardware.proofs.Words.{List, arith, ltb-true, and_from, Values, Hardware, NeverMoreThan, is_buffered_in, rows_of, Step, and_first, and_second}
-use Rattle.rv_hardware.proofs.Marks.Counted.{Shows, counted_law}
-use Rattle.rv_hardware.proofs.Marks.History.{History, is_buffered_mark}
-use Rattle.rv_hardware.proofs.Marks.List.{until_now}
-use Rattle.rv_hardware.proofs.Marks.Order.{history_is_orderly}
+use Rattle.rv_hardware.proofs.Marks.Cited.{Shows, counted_law, History, is_buffered_mark, until_now, history_is_orderly}
 
 -- that a row's word is in the fetch buffer in a cycle shows in its mark
 pub buffered_shows : (v : Values) → Shows v is_buffered_in (λ c. is_buffered_mark)

@@ -1,8 +1,6 @@
 -- At most `fetch_width` words are fetched in a cycle.
 use Rattle.rv_hardware.proofs.Words.{◌≡◌, ◌<◌, Bool, false, List, ◌++◌, map, ◌==◌, ap, ◌∙◌, arith, ne_eqb, eqb-true, le-leb, and_from, Values, Hardware, NeverMoreThan, is_fetched_in, rows_of, Step, Each-weaker, count, count-append, count-none, count-map, count-length}
-use Rattle.rv_hardware.proofs.Marks.Counted.{Shows, counted_law}
-use Rattle.rv_hardware.proofs.Marks.History.{History, new_words, dispatching}
-use Rattle.rv_hardware.proofs.Marks.List.{Mark, mark_of_fetched, marks_in}
+use Rattle.rv_hardware.proofs.Marks.Cited.{Shows, counted_law, History, new_words, dispatching, Mark, mark_of_fetched, marks_in}
 
 fetched_shows : (v : Values) → Shows v is_fetched_in (λ c m. m.fetched == c)
 fetched_shows v = grind (arith, and_from, le-leb, eqb-true)

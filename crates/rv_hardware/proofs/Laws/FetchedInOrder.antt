@@ -1,8 +1,6 @@
 -- Instructions are fetched in order.
 use Rattle.rv_hardware.proofs.Words.{◌≤◌, List, AllPairs, Values, Hardware, rows_of, Step, AllPairs-EveryPair}
-use Rattle.rv_hardware.proofs.Marks.History.{History}
-use Rattle.rv_hardware.proofs.Marks.Order.{history_is_orderly}
-use Rattle.rv_hardware.proofs.Marks.Pairs.{row_pairs}
+use Rattle.rv_hardware.proofs.Marks.Cited.{History, history_is_orderly, row_pairs}
 
 -- the field `fetched_in_order` of `Laws`, over every history
 pub law_of_fetched_in_order : (v : Values) {steps : List Step} {h : Hardware} → History v steps h → AllPairs (λ a b. a.fetched ≤ b.fetched) (rows_of steps)

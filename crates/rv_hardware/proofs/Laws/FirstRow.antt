@@ -1,8 +1,7 @@
 -- Where nothing ran before, an instruction that comes first is fetched in cycle 0 and dispatched in cycle 1.
 use Rattle.rv_hardware.proofs.Words.{◌≡◌, List, [], ◌∷◌, refl, subst, arith, Values, Each, Hardware, IsFirst, rows_of, Row, Step, Retired, EveryBehind-at}
-use Rattle.rv_hardware.proofs.Marks.History.{History, history_is_sound}
+use Rattle.rv_hardware.proofs.Marks.Cited.{History, history_is_sound, SoundRow}
 use Rattle.rv_hardware.proofs.Laws.HeadsDoNotWait.Follow.{last_stamp, has_step, Follows, AllFollow}
-use Rattle.rv_hardware.proofs.Marks.Row.{SoundRow}
 use Rattle.rv_hardware.proofs.Laws.HeadsDoNotWait.Ahead.{all_follow}
 
 -- the field `first_row` of `Laws`, over every history

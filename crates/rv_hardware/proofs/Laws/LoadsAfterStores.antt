@@ -1,10 +1,7 @@
 -- A load issues after the broadcasts of all older stores.
 use Rattle.rv_hardware.proofs.Words.{◌≡◌, ℕ, ◌<◌, Bool, true, false, List, [], ◌∷◌, map, IfSome, Some, None, Option, AllPairs, sym, refl, ◌∙◌, true≢false, is_load, Instr, Values, Each, Hardware, LoadsAfterStore, instruction_of_row, is_load_row, is_store_row, rows_of, Execution, Row, Step, Each-weaker, Each-unmap, AllPairs-EveryPair, EveryBehind-weaker, EveryPair-EveryBehind, arith}
-use Rattle.rv_hardware.proofs.Marks.Advance.{IsBefore}
-use Rattle.rv_hardware.proofs.Marks.History.{History}
-use Rattle.rv_hardware.proofs.Marks.List.{mark_of_row, start_of_execution, broadcast_of_execution}
+use Rattle.rv_hardware.proofs.Marks.Cited.{IsBefore, History, mark_of_row, start_of_execution, broadcast_of_execution, rows_start_behind}
 use Rattle.rv_hardware.proofs.Laws.Operands.Known.{Found, StartsBehind}
-use Rattle.rv_hardware.proofs.Marks.Pairs.{rows_start_behind}
 
 store_by : (c : ℕ) (x : Option Execution) → IsBefore c (broadcast_of_execution x) → IfSome x (λ s. s.broadcast < c)
 store_by c x h = grind arith

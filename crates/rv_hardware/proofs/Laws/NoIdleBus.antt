@@ -1,15 +1,6 @@
 -- The bus is not idle while a result waits.
 use Rattle.rv_hardware.proofs.Words.{◌≡◌, ℕ, suc, ◌+◌, ◌<◌, ◌≤◌, Bool, true, false, List, [], ◌∷◌, ◌++◌, map, length, IfSome, ◌==◌, Some, None, count_by, Option, refl, ap, ◌∙◌, subst, append_assoc, arith, eq-eqb, le-leb, Message, Issue, Values, Each, finished, predicting, Entry, Fetched, broadcast, broadcast_turn, has_result, with_broadcast, Hardware, LeavesNoBusIdle, Turn, EachBehind, is_broadcast_in, passes, rows_of, Execution, Row, Step, and_second, Each-append, Each-place, Each-all, EveryBehind, count, count-set-grows, count-set-one_more, EveryBehind-left, EveryBehind-append, EveryBehind-right, Beginning-EveryBehind, EveryBehind-moved, EveryBehind-all, EveryBehind-set, Leads, turns_within}
-use Rattle.rv_hardware.proofs.Marks.Advance.{IsBefore, IsSentIfReady, Advances, IsSent, Kept}
-use Rattle.rv_hardware.proofs.Turns.Broadcast.{BroadcastTurn, none_ready as no_result, sends, mends, Sends, broadcast_turn_is, sent_entries, mended_entries}
-use Rattle.rv_hardware.proofs.Marks.Counted.{behind_law, behind_count}
-use Rattle.rv_hardware.proofs.Marks.History.{Anything, anything_is_kept, History, history_is_legal, history_is_sound, issued_all, sent_all, dispatching}
-use Rattle.rv_hardware.proofs.Marks.Evidence.{rows_sent, entries_sent}
-use Rattle.rv_hardware.proofs.Marks.Past.{rows_obey}
-use Rattle.rv_hardware.proofs.Marks.Phases.{Broadcasts, broadcast_turn_keeps, dispatch_keeps, goes_later, send_is, with_marks}
-use Rattle.rv_hardware.proofs.Marks.Row.{SoundRow}
-use Rattle.rv_hardware.proofs.Marks.List.{Mark, Start, mark_of_row, mark_of_entry, mark_of_fetched, marks, marks_in, marks_at_entry, as_of, at_end, until, broadcast_of_execution, until_now}
-use Rattle.rv_hardware.proofs.Marks.Widths.{is_at}
+use Rattle.rv_hardware.proofs.Marks.Cited.{IsBefore, IsSentIfReady, Advances, IsSent, Kept, BroadcastTurn, no_result, sends, mends, Sends, broadcast_turn_is, sent_entries, mended_entries, behind_law, behind_count, Anything, anything_is_kept, History, history_is_legal, history_is_sound, issued_all, sent_all, dispatching, rows_sent, entries_sent, rows_obey, Broadcasts, broadcast_turn_keeps, dispatch_keeps, goes_later, send_is, with_marks, SoundRow, Mark, Start, mark_of_row, mark_of_entry, mark_of_fetched, marks, marks_in, marks_at_entry, as_of, at_end, until, broadcast_of_execution, until_now, is_at}
 
 abbrev pub is_sent_in : ℕ → Mark → Bool
 is_sent_in c m = is_at c m.broadcast

@@ -1,17 +1,6 @@
 -- A fetched instruction that is no store waits for nothing but room and the width.
 use Rattle.rv_hardware.proofs.Words.{◌≡◌, ℕ, suc, ◌<◌, ◌≤◌, Bool, true, false, cond, ◌&&◌, ◌||◌, ◌⊎◌, List, [], ◌∷◌, ◌++◌, map, length, is_some, is_none, nat_lt, nat_le, ◌==◌, Some, None, count_by, filter, Option, sym, refl, ap, ◌∙◌, subst, inl, inr, true≢false, arith, lt-ltb, eq-eqb, leb-false, leb-true, and_from, length-filter, list_any, is_same-own, is_of_kind, is_serialising, is_store, kind_of_word, at_kind, Kind, Values, Each, Entry, Stage, Fetched, Dispatching, dispatch, dispatch_turn, has_full_stations, is_stationed, Hardware, is_waiting, WaitsForRoom, Turn, EachBehind, is_dispatched_in, is_in_flight_in, is_row_of_kind, is_stationed_in, is_store_row, passes, rows_of, Execution, Row, Step, and_first, and_second, Each-All, Each-left, Each-right, Each-place, Each-weaker, Each-all, Each-map, Each-filter, EveryBehind, count, count-count_by, count-append, count-yes, count-map, count-le, EveryBehind-append, Beginning-EveryBehind, EveryBehind-all, EachBehind-EveryBehind, Leads, turns_within, entry_of_fetched}
-use Rattle.rv_hardware.proofs.Marks.Advance.{is_in_flight_mark, is_stationed_mark}
-use Rattle.rv_hardware.proofs.Marks.History.{History, history_is_sound, sent_all, dispatching}
-use Rattle.rv_hardware.proofs.Marks.Counted.{behind_law, behind_count}
-use Rattle.rv_hardware.proofs.Turns.Dispatch.{DispatchTurn, dispatch_turn_is, WaitsFor, for_serial, for_buffer, for_station, for_queue, buffer_empty, waits, dispatches}
-use Rattle.rv_hardware.proofs.Turns.Fetch.{IsNew}
-use Rattle.rv_hardware.proofs.Marks.List.{Mark, mark_of_row, mark_of_entry, mark_of_fetched, at_end, as_of, was_fetched, start_until, start_of_stage, start_of_execution, until_by, until_now}
-use Rattle.rv_hardware.proofs.Marks.Pairs.{Older, rows_are_older}
-use Rattle.rv_hardware.proofs.Marks.Past.{rows_obey}
-use Rattle.rv_hardware.proofs.Marks.Row.{SoundRow}
-use Rattle.rv_hardware.proofs.Always.Sizes.{HasShape}
-use Rattle.rv_hardware.proofs.Marks.Sound.{some_kind}
-use Rattle.rv_hardware.proofs.Marks.Widths.{is_at}
+use Rattle.rv_hardware.proofs.Marks.Cited.{is_in_flight_mark, is_stationed_mark, History, history_is_sound, sent_all, dispatching, behind_law, behind_count, DispatchTurn, dispatch_turn_is, WaitsFor, for_serial, for_buffer, for_station, for_queue, buffer_empty, waits, dispatches, IsNew, Mark, mark_of_row, mark_of_entry, mark_of_fetched, at_end, as_of, was_fetched, start_until, start_of_stage, start_of_execution, until_by, until_now, Older, rows_are_older, rows_obey, SoundRow, HasShape, some_kind, is_at}
 
 -- a word that could have been dispatched in a cycle: it is the oldest that was not, and no serialising instruction is in flight
 pub record MayEnter (c : ℕ) (before : List Mark) (m : Mark) : Type 0 where

@@ -4,11 +4,10 @@ pub mod Phases
 pub mod Rows
 pub mod Next
 use Rattle.rv_hardware.proofs.Words.{◌≡◌, ℕ, ◌≤◌, true, List, [], ◌∷◌, ◌++◌, map, is_none, nat_lt, nat_le, Some, None, count_by, Option, MatchOption, sym, refl, ap, ◌∙◌, subst, inl, inr, append_assoc, arith, and_from, map-append, Values, Hardware, IsFetchedBehind, EachNext, is_buffered_in, rows_of, Execution, Row, Step, Interrupt, Retired, Trap, and_first, and_second, Each-all, count-count_by, count-append, count-map, count-le}
-use Rattle.rv_hardware.proofs.Marks.History.{History}
+use Rattle.rv_hardware.proofs.Marks.Cited.{History, Mark, mark_of_row, mark_of_entry, mark_of_fetched, until, broadcast_of_execution, rows_append}
 use Rattle.rv_hardware.proofs.Laws.NoIdleDispatch.{none_until}
 use Rattle.rv_hardware.proofs.Laws.NoIdleFetch.Links.{is_word, with_word, Followed, IsOpen, Linked, held_behind, held_count}
 use Rattle.rv_hardware.proofs.Laws.NoIdleFetch.Rows.{marks_are_linked}
-use Rattle.rv_hardware.proofs.Marks.List.{Mark, mark_of_row, mark_of_entry, mark_of_fetched, until, broadcast_of_execution, rows_append}
 use Rattle.rv_hardware.proofs.Laws.NoIdleFetch.Next.{next_was_fetched}
 
 linked_at : (v : Values) (now : ℕ) (last : (ℕ → ℕ) → Mark → Type 0) (held : ℕ → ℕ) (xs ys : List Mark) (m n : Mark) → Linked v now last held (xs ++ m ∷ n ∷ ys) → Followed v now (held_behind held xs) m n

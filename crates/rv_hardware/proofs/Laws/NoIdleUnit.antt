@@ -2,16 +2,9 @@
 pub mod Marks
 pub mod Phases
 use Rattle.rv_hardware.proofs.Words.{◌≡◌, ℕ, ◌+◌, ◌<◌, ◌≤◌, Bool, true, false, cond, ◌&&◌, List, [], ◌∷◌, map, is_some, IfSome, nat_le, ◌==◌, Some, None, count_by, Option, option_map, sym, refl, ap, ◌∙◌, subst, arith, le-leb, and_from, kind_of_word, at_kind, Kind, Values, Each, Hardware, HasOperandsIn, LeaveNoUnitIdle, is_pipelined, instruction_of_row, is_issued_in, is_row_of_kind, last_from, last_that, passes, producer_among, rows_of, sources_of_row, writes_register, Execution, Row, Step, and_first, and_second, Each-All, Each-place, Each-weaker, EveryBehind, Beginning-EveryBehind, EachBehind-EveryBehind, EveryBehind-EveryPair}
-use Rattle.rv_hardware.proofs.Marks.Advance.{IsBefore, writes_mark, IsKnownMark, OperandsKnown}
-use Rattle.rv_hardware.proofs.Marks.Counted.{behind_law, behind_count}
-use Rattle.rv_hardware.proofs.Marks.History.{History, history_is_sound}
+use Rattle.rv_hardware.proofs.Marks.Cited.{IsBefore, writes_mark, IsKnownMark, OperandsKnown, behind_law, behind_count, History, history_is_sound, Mark, mark_of_row, as_of, as_of-cons, at_end, was_fetched, until, start_until, start_until_now, start_of_execution, broadcast_of_execution, until_by, history_is_orderly, Older, rows_are_older, row_pairs, rows_obey, SoundRow}
 use Rattle.rv_hardware.proofs.Laws.NoIdleUnit.Marks.{MayStart, BusyUnits}
 use Rattle.rv_hardware.proofs.Laws.NoIdleUnit.Phases.{units_are_busy}
-use Rattle.rv_hardware.proofs.Marks.List.{Mark, mark_of_row, as_of, as_of-cons, at_end, was_fetched, until, start_until, start_until_now, start_of_execution, broadcast_of_execution, until_by}
-use Rattle.rv_hardware.proofs.Marks.Order.{history_is_orderly}
-use Rattle.rv_hardware.proofs.Marks.Pairs.{Older, rows_are_older, row_pairs}
-use Rattle.rv_hardware.proofs.Marks.Past.{rows_obey}
-use Rattle.rv_hardware.proofs.Marks.Row.{SoundRow}
 use Rattle.rv_hardware.proofs.Laws.OtherUnits.Rows.{starts_at, begins_mark}
 
 busy_rows : (v : Values) (k : Kind) → (at_kind k v.kinds).pipelined ≡ true → {steps : List Step} {h : Hardware} →

@@ -4,16 +4,13 @@ use Rattle.rv_hardware.proofs.Laws.HeadsDoNotWait.{law_of_heads_do_not_wait}
 use Rattle.rv_hardware.proofs.Laws.FetchedAhead.{law_of_fetched_ahead}
 use Rattle.rv_hardware.proofs.Laws.TrapsSoon.{law_of_traps_soon}
 use Rattle.rv_hardware.proofs.Laws.FirstRow.{law_of_first_row}
-use Rattle.rv_hardware.proofs.Marks.Counted.{Shows, fails_later}
-use Rattle.rv_hardware.proofs.Marks.History.{History, went_on, reachable_has_history, history_is_sound, history_is_legal}
+use Rattle.rv_hardware.proofs.Marks.Cited.{Shows, fails_later, History, went_on, reachable_has_history, history_is_sound, history_is_legal, last_from-append, last_from-Each, Mark, rows_append, SoundRow}
 use Rattle.rv_hardware.proofs.Laws.OfCycles.{passes_here}
-use Rattle.rv_hardware.proofs.Marks.Evidence.{last_from-append, last_from-Each}
 use Rattle.rv_hardware.proofs.Laws.Within.{law_of_within}
 use Rattle.rv_hardware.proofs.Laws.NoIdleBus.{law_of_no_idle_bus}
 use Rattle.rv_hardware.proofs.Laws.NoIdleDispatch.{law_of_no_idle_dispatch}
 use Rattle.rv_hardware.proofs.Laws.NoIdleFetch.{law_of_no_idle_fetch}
 use Rattle.rv_hardware.proofs.Laws.NoIdleUnit.{law_of_no_idle_unit}
-use Rattle.rv_hardware.proofs.Marks.List.{Mark, rows_append}
 use Rattle.rv_hardware.proofs.Laws.OldestResultFirst.{law_of_oldest_result_first}
 use Rattle.rv_hardware.proofs.Laws.LoadsAfterStores.{law_of_loads_after_stores}
 use Rattle.rv_hardware.proofs.Laws.Operands.{law_of_operands}
@@ -24,7 +21,6 @@ use Rattle.rv_hardware.proofs.Laws.FetchedInOrder.{law_of_fetched_in_order}
 use Rattle.rv_hardware.proofs.Laws.DispatchedInOrder.{law_of_dispatched_in_order}
 use Rattle.rv_hardware.proofs.Laws.ReorderBuffer.{law_of_reorder_buffer, in_flight_shows}
 use Rattle.rv_hardware.proofs.Laws.Stations.{law_of_stations, stationed_shows}
-use Rattle.rv_hardware.proofs.Marks.Row.{SoundRow}
 use Rattle.rv_hardware.proofs.Laws.StepsInOrder.{law_of_steps_in_order}
 use Rattle.rv_hardware.proofs.Laws.CommitWidth.{law_of_commit_width}
 use Rattle.rv_hardware.proofs.Laws.InterruptsAlone.{law_of_interrupts_alone}

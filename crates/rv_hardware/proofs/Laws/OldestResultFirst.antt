@@ -2,9 +2,7 @@
 pub mod Bus
 use Rattle.rv_hardware.proofs.Words.{◌+◌, ◌≤◌, List, IfSome, Some, None, Option, AllPairs, arith, Values, Hardware, IsBroadcastFirst, rows_of, Execution, Step, AllPairs-EveryPair}
 use Rattle.rv_hardware.proofs.Laws.OldestResultFirst.Bus.{OldestFirst, ReadyFirst, history_has_bus_order}
-use Rattle.rv_hardware.proofs.Marks.History.{History}
-use Rattle.rv_hardware.proofs.Marks.List.{start_of_execution, broadcast_of_execution}
-use Rattle.rv_hardware.proofs.Marks.Pairs.{row_pairs}
+use Rattle.rv_hardware.proofs.Marks.Cited.{History, start_of_execution, broadcast_of_execution, row_pairs}
 
 oldest_by : (x y : Option Execution) → IfSome (broadcast_of_execution y) (λ b. ReadyFirst (start_of_execution x) (broadcast_of_execution x) b) →
     IfSome x (λ s. IfSome y (λ t. s.issued + s.cost ≤ t.broadcast → s.broadcast ≤ t.broadcast))

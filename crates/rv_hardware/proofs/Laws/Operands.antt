@@ -1,12 +1,8 @@
 -- An instruction issues after the broadcasts of its operands.
 pub mod Known
 use Rattle.rv_hardware.proofs.Words.{◌≡◌, ℕ, ◌<◌, ◌≤◌, Bool, true, false, cond, List, [], ◌∷◌, map, is_some, IfSome, Some, None, All, Option, MatchOption, option_map, sym, refl, ap, ◌∙◌, subst, arith, is_serialising, kind_of_word, Instr, Values, Each, Hardware, IsKnownBefore, IssuesWithOperands, EachBehind, instruction_of_row, last_from, last_that, producer_among, rows_of, sources_of_row, writes_register, Execution, Row, Step, All-Each, Each-weaker, EachBehind-EveryBehind, EveryBehind-both}
-use Rattle.rv_hardware.proofs.Marks.Advance.{IsBefore, writes_mark, IsKnownMark, OperandsKnown}
-use Rattle.rv_hardware.proofs.Marks.History.{History, history_is_sound}
-use Rattle.rv_hardware.proofs.Marks.List.{mark_of_row, start_of_execution, broadcast_of_execution}
+use Rattle.rv_hardware.proofs.Marks.Cited.{IsBefore, writes_mark, IsKnownMark, OperandsKnown, History, history_is_sound, mark_of_row, start_of_execution, broadcast_of_execution, Older, rows_start_behind, rows_are_older, two_behind, writer_serialises, SoundRow}
 use Rattle.rv_hardware.proofs.Laws.Operands.Known.{Found, StartsBehind}
-use Rattle.rv_hardware.proofs.Marks.Pairs.{Older, rows_start_behind, rows_are_older, two_behind, writer_serialises}
-use Rattle.rv_hardware.proofs.Marks.Row.{SoundRow}
 
 map_either : (b : Bool) (row : Row) (o : Option Row) → option_map mark_of_row (cond b (Some row) o) ≡ cond b (Some (mark_of_row row)) (option_map mark_of_row o)
 map_either b row o = grind arith

@@ -2,8 +2,7 @@
 pub mod Phases
 pub mod Rows
 use Rattle.rv_hardware.proofs.Words.{◌≡◌, ℕ, ◌+◌, ◌<◌, ◌≤◌, Bool, true, false, ◌&&◌, List, nat_lt, nat_le, Some, None, Option, sym, refl, subst, arith, ltb-true, le-ltb, le-leb, leb-true, and_from, and_right, is_of_kind, kind_of_word, Kind, Values, Hardware, FitUnits, is_pipelined, is_executing_in, is_row_of_kind, passes, rows_of, Execution, Step, and_first, and_second}
-use Rattle.rv_hardware.proofs.Marks.History.{History}
-use Rattle.rv_hardware.proofs.Marks.List.{Mark, start_until, start_of_execution}
+use Rattle.rv_hardware.proofs.Marks.Cited.{History, Mark, start_until, start_of_execution}
 use Rattle.rv_hardware.proofs.Laws.OtherUnits.Phases.{start_holds}
 use Rattle.rv_hardware.proofs.Laws.OtherUnits.Rows.{Between, units_law}
 

@@ -1,8 +1,6 @@
 -- A pipelined unit begins at most one instruction a cycle.
 use Rattle.rv_hardware.proofs.Words.{◌≡◌, ℕ, ◌<◌, ◌≤◌, true, false, List, ◌==◌, Option, sym, refl, subst, arith, lt-ltb, ne_eqb, eqb-true, le-leb, and_from, and_right, is_of_kind, kind_of_word, at_kind, Kind, Values, Hardware, FitUnits, is_pipelined, is_issued_in, is_row_of_kind, passes, rows_of, Execution, Step, and_first, and_second}
-use Rattle.rv_hardware.proofs.Marks.Counted.{Shows}
-use Rattle.rv_hardware.proofs.Marks.History.{History}
-use Rattle.rv_hardware.proofs.Marks.List.{Start, start_until, start_of_execution}
+use Rattle.rv_hardware.proofs.Marks.Cited.{Shows, History, Start, start_until, start_of_execution}
 use Rattle.rv_hardware.proofs.Laws.OtherUnits.Phases.{start_holds}
 use Rattle.rv_hardware.proofs.Laws.OtherUnits.Rows.{Between, units_law, starts_at, begins_mark}
 

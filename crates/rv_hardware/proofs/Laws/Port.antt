@@ -2,15 +2,9 @@
 pub mod Loads
 pub mod Phases
 use Rattle.rv_hardware.proofs.Words.{◌≡◌, ℕ, ◌+◌, ◌<◌, ◌≤◌, Bool, true, false, cond, not, ◌⊎◌, List, [], ◌∷◌, ◌++◌, map, IfSome, nat_le, ◌==◌, Some, None, Option, AllPairs, sym, refl, ap, ◌∙◌, subst, inl, inr, true≢false, append_assoc, arith, le-leb, and_from, cases_lt, Instr, Values, Each, Entry, Stage, Finished, Running, Waiting, Fetched, Hardware, AreApartAtPort, EachBehind, instruction_of_row, is_load_row, passes, rows_of, uses_port, Execution, Row, Step, and_first, and_second, Each-left, Each-place, Each-weaker, Each-all, Each-both, Each-map, EveryPair, EveryBehind, AllPairs-EveryPair, EveryPair-append, EveryPair-map, Beginning-EveryBehind, EveryPair-EveryBehind, EveryBehind-EveryPair}
-use Rattle.rv_hardware.proofs.Marks.Keeps.{in_cycle}
-use Rattle.rv_hardware.proofs.Marks.Counted.{behind_law}
-use Rattle.rv_hardware.proofs.Marks.History.{History, began, went_on, dispatching, history_is_legal, history_is_sound, history_passes}
-use Rattle.rv_hardware.proofs.Marks.List.{Mark, Start, mark_of_row, mark_of_entry, mark_of_fetched, marks_in, as_of, as_of-cons, at_end, start_until, start_of_execution, start_of_stage}
-use Rattle.rv_hardware.proofs.Marks.Past.{rows_obey}
+use Rattle.rv_hardware.proofs.Marks.Cited.{in_cycle, behind_law, History, began, went_on, dispatching, history_is_legal, history_is_sound, history_passes, Mark, Start, mark_of_row, mark_of_entry, mark_of_fetched, marks_in, as_of, as_of-cons, at_end, start_until, start_of_execution, start_of_stage, rows_obey, SoundRow, SoundEntry, SoundStage}
 use Rattle.rv_hardware.proofs.Laws.Port.Loads.{uses_cache, WhereUsed, OverBy, OneAtATime}
 use Rattle.rv_hardware.proofs.Laws.Port.Phases.{PortOk, Tied, new_pair, port_kept}
-use Rattle.rv_hardware.proofs.Marks.Row.{SoundRow}
-use Rattle.rv_hardware.proofs.Marks.Sound.{SoundEntry, SoundStage}
 
 -- at the start of a cycle nothing has begun in it
 

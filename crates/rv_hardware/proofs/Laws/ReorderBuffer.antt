@@ -1,10 +1,6 @@
 -- The reorder buffer holds no more instructions than it has room for.
 use Rattle.rv_hardware.proofs.Words.{List, arith, ltb-true, le-leb, leb-true, and_from, Values, Hardware, NeverMoreThan, is_in_flight_in, rows_of, Step, and_first, and_second}
-use Rattle.rv_hardware.proofs.Marks.Advance.{is_in_flight_mark}
-use Rattle.rv_hardware.proofs.Marks.Counted.{Shows, counted_law}
-use Rattle.rv_hardware.proofs.Marks.History.{History}
-use Rattle.rv_hardware.proofs.Marks.List.{until_by, until_now}
-use Rattle.rv_hardware.proofs.Marks.Order.{history_is_orderly}
+use Rattle.rv_hardware.proofs.Marks.Cited.{is_in_flight_mark, Shows, counted_law, History, until_by, until_now, history_is_orderly}
 
 -- that a row is in flight in a cycle shows in its mark
 pub in_flight_shows : (v : Values) → Shows v is_in_flight_in (λ c. is_in_flight_mark)

@@ -1,10 +1,6 @@
 -- The stations of a kind hold no more instructions than they have room for.
 use Rattle.rv_hardware.proofs.Words.{◌≡◌, ℕ, ◌+◌, ◌<◌, ◌≤◌, true, List, is_none, IfSome, nat_lt, Option, arith, ltb-true, le-leb, leb-true, and_from, lt-leb, at_kind, Kind, Values, Hardware, NeverMoreThan, stations_of, is_stationed_in, passes, rows_of, Execution, Step, and_first, and_second}
-use Rattle.rv_hardware.proofs.Marks.Advance.{is_stationed_mark}
-use Rattle.rv_hardware.proofs.Marks.Counted.{Shows, counted_law}
-use Rattle.rv_hardware.proofs.Marks.History.{History}
-use Rattle.rv_hardware.proofs.Marks.List.{start_until, start_of_execution, until_by}
-use Rattle.rv_hardware.proofs.Marks.Order.{history_is_orderly}
+use Rattle.rv_hardware.proofs.Marks.Cited.{is_stationed_mark, Shows, counted_law, History, start_until, start_of_execution, until_by, history_is_orderly}
 
 issued_after : (c : ℕ) (x : Option Execution) → passes (λ y. nat_lt c y.issued) x ≡ true → is_none (start_until c (start_of_execution x)) ≡ true
 issued_after c x h = grind (arith, lt-leb, ltb-true)

@@ -2,26 +2,11 @@
 pub mod Queue
 use Rattle.rv_hardware.proofs.Words.{◌≡◌, ℕ, zero, suc, ◌+◌, ◌<◌, ◌≤◌, Bool, true, false, cond, ◌&&◌, List, [], ◌∷◌, ◌++◌, map, length, is_some, nat_lt, nat_le, Some, None, filter, Option, nat_cmp, sym, refl, ap, ◌∙◌, subst, inl, inr, append_assoc, append-nil, arith, ltb-true, le-ltb, lt-ltb, le-leb, leb-true, and_from, cases_lt, is_serialising, is_store, Message, Issue, Lines, Kind, CacheValues, Values, due, interrupt_cause, Each, Store, Entry, Finished, broadcast, Committing, commit_unless, with_fault, with_lines, dispatch, drain, Hardware, broadcast_of, FromCache, has_port, issue, NeverMoreThan, Turn, Report, written_of, is_queued_in, is_store_row, rows_of, Row, Step, Interrupt, Retired, Trap, and_first, and_second, Each-weaker, Each-all, count, count-count_by, count-append, count-none, count-map, count-le, count-length, Beginning-count, Leads}
 use Rattle.std.specs.FinSet as set
-use Rattle.rv_hardware.proofs.Turns.KeptByBroadcast.{IsKeptByBroadcast, broadcast-keeps}
-use Rattle.rv_hardware.proofs.Turns.Costs.{access_cost-least}
-use Rattle.rv_hardware.proofs.Turns.KeptByDispatch.{IsKeptByDispatch, dispatch-keeps}
-use Rattle.rv_hardware.proofs.Turns.KeptByDrain.{IsKeptByDrain, drain-keeps}
-use Rattle.rv_hardware.proofs.Turns.KeptByIssue.{IsKeptByIssue, issue-keeps, ready-parts}
-use Rattle.rv_hardware.proofs.Always.Stores.{store_count, instructions_of}
+use Rattle.rv_hardware.proofs.Marks.Cited.{IsKeptByBroadcast, broadcast-keeps, access_cost-least, IsKeptByDispatch, dispatch-keeps, IsKeptByDrain, drain-keeps, IsKeptByIssue, issue-keeps, ready-parts, store_count, instructions_of, CommitTurn, no_head, stale_head, unfinished, fence_waits, fence_writes, fence_retires, executes, serial_faults, traps, retires, retires_last, written_back, retired_with, count-as_of, Anything, anything_is_kept, Passed, History, began, went_on, begin, committing, drained, history_is_legal, history_is_sound, history_passes, InCommit, commit_turns_keep, Mark, mark_of_row, mark_of_entry, mark_of_fetched, marks_in, at_end, as_of, was_fetched, until, Extends, rows_append, until_by, rows_obey, SoundRow, row_at, retiring_is_one, may_retire_serial, may_retire_finished, MayRetire, SoundEntry, row_decodes, Shaped, told_at_end, count_marks}
 use Rattle.rv_hardware.proofs.Headline.Stores.{serialising_is_no_store}
-use Rattle.rv_hardware.proofs.Turns.Commit.{CommitTurn, no_head, stale_head, unfinished, fence_waits, fence_writes, fence_retires, executes, serial_faults, traps, retires, retires_last, written_back, retired_with}
-use Rattle.rv_hardware.proofs.Marks.Counted.{count-as_of}
-use Rattle.rv_hardware.proofs.Marks.History.{Anything, anything_is_kept, Passed, History, began, went_on, begin, committing, drained, history_is_legal, history_is_sound, history_passes}
-use Rattle.rv_hardware.proofs.Marks.Keeps.{InCommit, commit_turns_keep}
-use Rattle.rv_hardware.proofs.Marks.List.{Mark, mark_of_row, mark_of_entry, mark_of_fetched, marks_in, at_end, as_of, was_fetched, until, Extends, rows_append, until_by}
-use Rattle.rv_hardware.proofs.Marks.Past.{rows_obey}
 use Rattle.rv_hardware.proofs.Laws.Port.Loads.{has_its_port, port_grows}
 use Rattle.rv_hardware.proofs.Laws.Port.Phases.{drained_idle}
 use Rattle.rv_hardware.proofs.Laws.StoreQueue.Queue.{QueueOk, queued_length, queue_later, queue_next, plain_retires, queue_retires, queue_leaves, queue_begins}
-use Rattle.rv_hardware.proofs.Marks.Row.{SoundRow, row_at, retiring_is_one, may_retire_serial, may_retire_finished, MayRetire}
-use Rattle.rv_hardware.proofs.Marks.Sound.{SoundEntry, row_decodes}
-use Rattle.rv_hardware.proofs.Always.Entries.{Shaped, told_at_end}
-use Rattle.rv_hardware.proofs.Marks.Widths.{count_marks}
 
 abbrev pub Queue : Values → ℕ → List Step → Hardware → Type 0
 Queue v now steps h = QueueOk v.cache.hit now (rows_of steps) h.port_free h.committed

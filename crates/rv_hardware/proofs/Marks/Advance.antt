@@ -82,10 +82,10 @@ pub record Enters (v : Values) (now : ℕ) (xs : List Mark) (m n : Mark) : Type 
 
 -- a mark goes on in one of four ways: it retires, starts, is broadcast or is dispatched
 pub data Advances (v : Values) (now : ℕ) (xs : List Mark) (m n : Mark) : Type 0 where
-  retires : Retires now m n → Advances v now xs m n
-  starts : Starts v now xs m n → Advances v now xs m n
-  is_sent : IsSent now xs m n → Advances v now xs m n
-  enters : Enters v now xs m n → Advances v now xs m n
+  mark_retires : Retires now m n → Advances v now xs m n
+  mark_starts : Starts v now xs m n → Advances v now xs m n
+  mark_is_sent : IsSent now xs m n → Advances v now xs m n
+  mark_enters : Enters v now xs m n → Advances v now xs m n
 
 -- what beginnings keep, and marks that go on
 pub record Kept (v : Values) (now : ℕ) (R : List Mark → Type 0) : Type 0 where
@@ -97,7 +97,7 @@ agree_by now m n p is agree = rw is agree
 
 -- a mark that goes on was the same at the end of every earlier cycle
 pub advances_agree : (v : Values) (now : ℕ) (xs : List Mark) (m n : Mark) → Advances v now xs m n → Agree now m n
-advances_agree v now xs m n (starts a) = grind (arith, agree_by, start_until_now)
+advances_agree v now xs m n (mark_starts a) = grind (arith, agree_by, start_until_now)
 advances_agree v now xs m n given = grind (arith, agree_by, until_now)
 
 -- so the marks go on from those at the start of the cycle

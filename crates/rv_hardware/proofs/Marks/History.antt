@@ -3,11 +3,10 @@ use Rattle.rv_hardware.proofs.Words.{◌≡◌, ℕ, suc, ◌+◌, ◌-◌, ◌<
 use Rattle.std.specs.FinSet as set
 use Rattle.rv_hardware.proofs.Marks.Advance.{Kept}
 use Rattle.rv_hardware.proofs.Marks.Basics.{Basics}
-use Rattle.rv_hardware.proofs.Turns.Fetch.{FetchPhase, IsNew, fetch_phase}
+use Rattle.rv_hardware.proofs.Turns.Cited.{FetchPhase, IsNew, fetch_phase, cycle-keeps}
 use Rattle.rv_hardware.proofs.Marks.List.{Mark, mark_of_row, mark_of_entry, mark_of_fetched, marks, marks_in, marks_fetched}
 use Rattle.rv_hardware.proofs.Marks.Phases.{Goes, commit_keeps, drain_keeps, issue_keeps, broadcast_keeps, dispatch_keeps, goes_later}
 use Rattle.rv_hardware.proofs.Always.Sound.{IsSoundFor, always-kept, always-at_reset}
-use Rattle.rv_hardware.proofs.Turns.KeptByCycle.{cycle-keeps}
 use Rattle.rv_hardware.proofs.Marks.Row.{SoundRow}
 use Rattle.rv_hardware.proofs.Marks.Sound.{SoundEntry, SoundFetched}
 

@@ -1,15 +1,9 @@
 -- What each turn of the commit phase keeps all its turns keep, and what each phase keeps the phases of a cycle keep.
 use Rattle.rv_hardware.proofs.Words.{◌≡◌, ℕ, Bool, true, List, ◌∷◌, ◌++◌, nat_cmp, at_kind, Lines, Kind, Values, is_free, Entry, Committing, commit_turn, with_lines, Hardware, is_ready, issued, Turn, repeated, Report, Step, Leads, leads_both, left_by_turns, arith}
 use Rattle.std.specs.FinSet as set
-use Rattle.rv_hardware.proofs.Turns.Issue.{access_keeps}
-use Rattle.rv_hardware.proofs.Turns.KeptByBroadcast.{IsKeptByBroadcast, broadcast-keeps}
-use Rattle.rv_hardware.proofs.Turns.KeptByCommit.{IsKeptByCommit, commit-keeps}
-use Rattle.rv_hardware.proofs.Turns.KeptByDispatch.{IsKeptByDispatch, dispatch-keeps}
-use Rattle.rv_hardware.proofs.Turns.KeptByDrain.{IsKeptByDrain, drain-keeps}
-use Rattle.rv_hardware.proofs.Turns.KeptByIssue.{KeepsStarts, starts-keep, issue-by}
+use Rattle.rv_hardware.proofs.Turns.Cited.{access_keeps, IsKeptByBroadcast, broadcast-keeps, IsKeptByCommit, commit-keeps, IsKeptByDispatch, dispatch-keeps, IsKeptByDrain, drain-keeps, KeepsStarts, starts-keep, issue-by, CommitTurn, commit_turn_is}
 use Rattle.rv_hardware.proofs.Always.Sizes.{HasShape, shape-kept}
 use Rattle.rv_hardware.proofs.Marks.List.{Mark}
-use Rattle.rv_hardware.proofs.Turns.Commit.{CommitTurn, commit_turn_is}
 use Rattle.rv_hardware.proofs.Marks.History.{Anything, anything_is_kept, Passed, committing, drained, issued_all, sent_all, dispatching}
 use Rattle.rv_hardware.proofs.Marks.Phases.{Commits, commit_turn_keeps}
 

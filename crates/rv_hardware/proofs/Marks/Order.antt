@@ -1,6 +1,6 @@
 -- Instructions are fetched and dispatched in order, and the reorder buffer and the stations hold no more than they have room for.
 use Rattle.rv_hardware.proofs.Words.{◌≡◌, ℕ, ◌+◌, ◌<◌, ◌≤◌, Bool, true, false, ◌&&◌, List, [], ◌∷◌, ◌++◌, map, is_some, is_none, IfSome, Some, None, Option, sym, refl, ap, ◌∙◌, subst, arith, and_left, and_right, is_of_kind, kind_of_word, at_kind, Kind, Values, Each, Fetched, Hardware, Step, and_second, never_both, Each-append, Each-left, Each-set, Each-place, Each-weaker, Each-all, Each-both, Each-map, EveryPair, count, Across, EveryPair-append, EveryPair-left, EveryPair-right, EveryPair-across, EveryPair-set, count-append, count-none, count-map, count-length, count-set-same, count-set-less, count-push-most, count-left}
-use Rattle.rv_hardware.proofs.Marks.Advance.{IsBefore, Advances, retires, starts, is_sent, enters, Enters, is_in_flight_mark, is_stationed_mark}
+use Rattle.rv_hardware.proofs.Marks.Advance.{IsBefore, Advances, mark_retires, mark_starts, mark_is_sent, mark_enters, Enters, is_in_flight_mark, is_stationed_mark}
 use Rattle.rv_hardware.proofs.Marks.History.{NewWords, is_buffered_mark, KeptMarks, History, marks_of_history}
 use Rattle.rv_hardware.proofs.Turns.Fetch.{IsNew}
 use Rattle.rv_hardware.proofs.Marks.List.{Mark, mark_of_fetched, marks_in}
@@ -91,18 +91,18 @@ module _ (v : Values) (now : ℕ) (xs ys : List Mark) (m n : Mark) where
         }
 
 orderly_set : (v : Values) (now : ℕ) (xs ys : List Mark) (m n : Mark) → Advances v now xs m n → Orderly v now (xs ++ m ∷ ys) → Orderly v now (xs ++ n ∷ ys)
-orderly_set v now xs ys m n (retires a) o =
+orderly_set v now xs ys m n (mark_retires a) o =
     stays v now xs ys m n (ap (λ x. x.fetched) a.becomes) (ap (λ x. x.dispatched) a.becomes)
     (λ h. never_both (is_some m.dispatched) (rw (a.becomes) at h)) (λ k h. rw (a.becomes) at h) o
-orderly_set v now xs ys m n (starts a) o =
+orderly_set v now xs ys m n (mark_starts a) o =
     stays v now xs ys m n (ap (λ x. x.fetched) a.becomes) (ap (λ x. x.dispatched) a.becomes)
     (λ h. rw (a.becomes) at h) (λ k h. absurd (started k (rw (a.becomes) at h))) o
   where
     started : (k : Kind) → (is_of_kind k (kind_of_word m.instruction) && (is_some m.dispatched && false)) ≡ true → ⊥
     started k h = never_both (is_some m.dispatched) (and_second (is_of_kind k (kind_of_word m.instruction)) (is_some m.dispatched && false) h)
-orderly_set v now xs ys m n (is_sent a) o =
+orderly_set v now xs ys m n (mark_is_sent a) o =
     stays v now xs ys m n (ap (λ x. x.fetched) a.becomes) (ap (λ x. x.dispatched) a.becomes) (λ h. rw (a.becomes) at h) (λ k h. rw (a.becomes) at h) o
-orderly_set v now xs ys m n (enters a) o = entered v now xs ys m n a o
+orderly_set v now xs ys m n (mark_enters a) o = entered v now xs ys m n a o
 
 orderly_cut : (v : Values) (now : ℕ) (xs ys : List Mark) → Orderly v now (xs ++ ys) → Orderly v now xs
 orderly_cut v now xs ys o = grind (arith, EveryPair-left, Each-left, count-left)

@@ -2,17 +2,10 @@
 use Rattle.rv_hardware.proofs.Words.{is_known as is_known_store, ◌≡◌, ℕ, ◌+◌, ◌<◌, ◌≤◌, Bool, true, false, not, ◌&&◌, ◌||◌, List, [], ◌∷◌, ◌++◌, map, length, Some, None, filter, Option, nat_cmp, sym, refl, ap, ◌∙◌, subst, append_assoc, append-nil, arith, leb-false, list_all, IsLegal, is_load, is_of_kind, is_serialising, kind_of_word, sources_of_word, at_kind, Message, Issue, Kind, Values, due, interrupt_cause, Each, finished, predicting, started, Entry, Fetched, broadcast, broadcast_turn, has_result, with_broadcast, with_recovery, Committing, commit, commit_turn, commit_unless, with_fault, Dispatching, dispatch, dispatch_turn, entry_of_fetched, has_full_stations, is_stationed, with_dispatched, drain, Hardware, cost_of, has_port, is_ready, issue, issue_kind, issue_turn, issued, may_load, path, Turn, written_of, stores_behind, rows_of, Step, Interrupt, Retired, Trap, Each-append, Each-left, Each-set, Each-place, Each-weaker, EveryBehind, Leads, Leaves, kept_by_turns}
 use Rattle.std.specs.FinSet as set
 use Rattle.rv_isa.specs.declared.operations.Kind.TheVariants as kind
-use Rattle.rv_hardware.proofs.Turns.KeptByCommit.{commit_outcome-keeps, unless-keeps}
-use Rattle.rv_hardware.proofs.Turns.KeptByDrain.{drain-keeps, drain-same}
-use Rattle.rv_hardware.proofs.Turns.KeptByBroadcast.{sends-makes, mends-makes}
-use Rattle.rv_hardware.proofs.Turns.KeptByIssue.{ready-parts, starts-keep}
-use Rattle.rv_hardware.proofs.Marks.Advance.{Advances, Starts, IsSent, retires as a_retires, starts as a_starts, is_sent as a_is_sent, enters as a_enters, Kept}
+use Rattle.rv_hardware.proofs.Turns.Cited.{commit_outcome-keeps, unless-keeps, drain-keeps, drain-same, sends-makes, mends-makes, ready-parts, starts-keep, BroadcastTurn, no_result, sends, mends, broadcast_turn_is, Sends, sent_entries, mended_entries, CommitTurn, fence_writes, fence_retires, executes, serial_faults, traps, retires, retires_last, executed, written_back, retired_and_flushed, retired_with, commit_turn_is, head_retired_entries, DispatchTurn, dispatches, dispatch_turn_is, IssueTurn, starts, issue_turn_is, access_keeps, message_at, started_entries}
+use Rattle.rv_hardware.proofs.Marks.Advance.{Advances, Starts, IsSent, mark_retires, mark_starts, mark_is_sent, mark_enters, Kept}
 use Rattle.rv_hardware.proofs.Marks.Evidence.{operands_known, stores_known, none_waits, rows_and_entries_are_dispatched, in_flight_room, stations_room}
 use Rattle.rv_hardware.proofs.Marks.Basics.{Basics, started_sound, finished_sound, finished_mark, predicting_sound, dispatched_sound, dispatched_mark, is_waiting_is}
-use Rattle.rv_hardware.proofs.Turns.Broadcast.{BroadcastTurn, none_ready as no_result, sends, mends, broadcast_turn_is, Sends, sent_entries, mended_entries}
-use Rattle.rv_hardware.proofs.Turns.Commit.{CommitTurn, fence_writes, fence_retires, executes, serial_faults, traps, retires, retires_last, executed, written_back, retired_and_flushed, retired_with, commit_turn_is, head_retired_entries}
-use Rattle.rv_hardware.proofs.Turns.Dispatch.{DispatchTurn, dispatches, dispatch_turn_is}
-use Rattle.rv_hardware.proofs.Turns.Issue.{IssueTurn, starts, issue_turn_is, access_keeps, message_at, started_entries}
 use Rattle.rv_hardware.proofs.Marks.List.{Mark, start_of_issue, start_of_stage, broadcast_of_stage, mark_of_row, mark_of_entry, mark_of_fetched, marks, marks_in, marks_squashed, rows_append, marks_at_entry, marks_retired, marks_dispatched}
 use Rattle.rv_hardware.proofs.Marks.Row.{SoundRow, row_at, row_is_sound, row_advances, may_retire_serial, may_retire_finished, MayRetire}
 use Rattle.rv_hardware.proofs.Always.Sizes.{HasShape}
@@ -73,7 +66,7 @@ module _ (v : Values) (now : ℕ) (R : List Mark → Type 0) (kept : Kept v now 
     row_goes =
         rw (place, p.basics.cycle, marks_retired (earlier ++ c.steps) (row_at e written now) es c.hardware.front.entries)
         (kept.set (map mark_of_row (rows_of (earlier ++ c.steps))) (map mark_of_entry es ++ map mark_of_fetched c.hardware.front.entries) (mark_of_entry e) (mark_of_row (row_at e written now))
-        (a_retires (row_advances v now e written head_sound may)))
+        (mark_retires (row_advances v now e written head_sound may)))
 
     row_flushes : R (marks_in (earlier ++ c.steps) c.hardware) →
         R (marks ((earlier ++ c.steps) ++ Retired (row_at e written c.hardware.cycle) ∷ []) [] [])
@@ -225,7 +218,7 @@ module _ (v : Values) (legal : IsLegal v) (now : ℕ) (R : List Mark → Type 0)
       (starts-keep ((always-kept v).phases.issue k) h older younger e p.basics.always at is free)
       (subst (λ n. SoundEntry v now (now + 1) now (started (record { cycle = n; cost = cost }) message e)) (sym p.basics.cycle)
       (started_sound v now now k e cost message sound ready.of_kind (subst (λ n. SoundCost v e.instruction (start_of_issue (record { cycle = n; cost = cost }) message)) p.basics.cycle (issued_cost v h p.basics.always.sizes older e k ready.of_kind))))
-      (a_starts (start_is k h older younger e at is p)) p
+      (mark_starts (start_is k h older younger e at is p)) p
   issue_turn_keeps k h _ _ p = p
 
   -- the turns of one kind keep it
@@ -294,7 +287,7 @@ module _ (v : Values) (now : ℕ) (R : List Mark → Type 0) (kept : Kept v now 
       change v now (now + 1) R kept steps g h older younger e x sent.place (sent_entries h older younger e message sent.place) refl refl
       (sends-makes (always-kept v).phases.broadcast h older younger e issue message sent p.basics.always)
       (subst (λ n. SoundEntry v now (now + 1) (now + 1) (finished message n e)) (sym p.basics.cycle) (finished_sound v now e issue message sound sent.runs (omega (arith, sent.over, p.basics.cycle))))
-      (a_is_sent (send_is h older younger e issue message sent p)) p
+      (mark_is_sent (send_is h older younger e issue message sent p)) p
 
   -- each turn of the broadcast phase keeps it
   pub broadcast_turn_keeps : (h : Hardware) (t : Turn Hardware) → BroadcastTurn h t → Broadcasts h → Leads Broadcasts Broadcasts t
@@ -343,7 +336,7 @@ module _ (v : Values) (now : ℕ) (R : List Mark → Type 0) (kept : Kept v now 
         marks = marks_from R steps steps g h (h.rob.entries ++ e ∷ []) fs refl refl p.marks
             (rw (at, marks_dispatched steps h.rob.entries f fs, marks_at_entry steps h.rob.entries [] e fs)
             (kept.set (map mark_of_row (rows_of steps) ++ map mark_of_entry h.rob.entries) (map mark_of_fetched fs) (mark_of_fetched f) (mark_of_entry e)
-            (a_enters (record {
+            (mark_enters (record {
               becomes = dispatched_mark h f ∙ ap (λ n. record (mark_of_fetched f) { dispatched = Some n }) p.basics.cycle;
               not_yet = refl;
               not_sent = refl;

@@ -32,7 +32,7 @@ pub record Sends (h : Hardware) (older younger : List Entry) (e : Entry) (issue 
 
 -- no result is ready, or the oldest is broadcast, and early recovery squashes what is younger
 pub data BroadcastTurn (h : Hardware) : Turn Hardware → Type 0 where
-  none_ready : EveryBehind (λ before x. has_result h.cycle before x ≡ false) [] h.rob.entries → BroadcastTurn h (Ends h)
+  no_result : EveryBehind (λ before x. has_result h.cycle before x ≡ false) [] h.rob.entries → BroadcastTurn h (Ends h)
   sends : (older younger : List Entry) (e : Entry) (issue : Issue) (message : Message) → Sends h older younger e issue message →
       (mends_early h.values.recovery && is_mispredicted e message) ≡ false →
       BroadcastTurn h (GoesOn (with_broadcast (h.rob.retired + length older) message h))
@@ -48,7 +48,7 @@ entry_turn h older younger e issue message is false early = sends older younger 
 
 found_turn : (h : Hardware) (found : Option (List Entry × Entry)) → Finds (has_result h.cycle) h.rob.entries found →
     BroadcastTurn h (broadcast_oldest h found)
-found_turn h None finds = none_ready finds
+found_turn h None finds = no_result finds
 found_turn h (Some found) finds =
     let held = result_cases h.cycle found.1.stage finds.2 in
     let is : Sends h found.0 finds.0 found.1 held.issue held.message = record { place = finds.1; runs = held.runs; over = held.over; oldest_one = finds.3 } in

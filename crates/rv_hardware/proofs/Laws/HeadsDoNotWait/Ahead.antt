@@ -1,20 +1,10 @@
 -- In every run a finished head does not wait, and the front keeps ahead.
 use Rattle.rv_hardware.proofs.Words.{◌≡◌, ℕ, ◌+◌, ◌-◌, ◌<◌, ◌≤◌, Bool, true, false, ◌&&◌, ◌⊎◌, List, [], ◌∷◌, ◌++◌, length, is_some, ◌==◌, Some, None, Option, nat_cmp, sym, refl, ap, ◌∙◌, subst, inl, inr, true≢false, append_assoc, append-nil, arith, length-append, leb-true, IsLegal, is_store, at_kind, Lines, Kind, Values, due, Each, with_oldest_draining, without_drained, Entry, FetchBuffer, Fetched, broadcast, Committing, commit_turn, commit_unless, IsCycle, any_prediction, execute, with_lines, Dispatching, dispatch, has_full_stations, drain, Hardware, issue, Turn, Report, last_from, stamp_of, Step, and_first, and_second, count, EveryBehind-at, Leads, kept_by_turns}
 use Rattle.std.specs.FinSet as set
-use Rattle.rv_hardware.proofs.Turns.KeptByBroadcast.{IsKeptByBroadcast, broadcast-keeps}
-use Rattle.rv_hardware.proofs.Turns.KeptByCycle.{phases-keep}
-use Rattle.rv_hardware.proofs.Turns.KeptByDispatch.{IsKeptByDispatch, dispatch-keeps}
-use Rattle.rv_hardware.proofs.Turns.KeptByDrain.{IsKeptByDrain, drain-keeps}
-use Rattle.rv_hardware.proofs.Always.Halted.{HaltsBehind, IsHalted, words_of, halted-kept}
-use Rattle.rv_hardware.proofs.Turns.KeptByIssue.{IsKeptByIssue, issue-keeps}
-use Rattle.rv_hardware.proofs.Turns.Commit.{CommitTurn, fence_retires, executes, serial_faults, traps, retires, retires_last, commit_turn_is}
-use Rattle.rv_hardware.proofs.Marks.History.{Anything, anything_is_kept, Passed, History, began, went_on, begin, committing, dispatching, sent_all, history_is_legal, history_is_sound, history_passes}
-use Rattle.rv_hardware.proofs.Turns.Dispatch.{has_full_queue, WaitsFor}
-use Rattle.rv_hardware.proofs.Turns.Fetch.{IsNew}
+use Rattle.rv_hardware.proofs.Marks.Cited.{IsKeptByBroadcast, broadcast-keeps, phases-keep, IsKeptByDispatch, dispatch-keeps, IsKeptByDrain, drain-keeps, HaltsBehind, IsHalted, words_of, halted-kept, IsKeptByIssue, issue-keeps, CommitTurn, fence_retires, executes, serial_faults, traps, retires, retires_last, commit_turn_is, Anything, anything_is_kept, Passed, History, began, went_on, begin, committing, dispatching, sent_all, history_is_legal, history_is_sound, history_passes, has_full_queue, WaitsFor, IsNew, HasShape}
 use Rattle.rv_hardware.proofs.Laws.HeadsDoNotWait.Follow.{last_stamp, last_stamp-push, has_step, has_step-push, Follows, AllFollow, Committed, commit_leads_by}
 use Rattle.rv_hardware.proofs.Laws.NoIdleDispatch.{dispatch_leaves}
 use Rattle.rv_hardware.proofs.Laws.HeadsDoNotWait.Next.{Next, HasNext, next_executed}
-use Rattle.rv_hardware.proofs.Always.Sizes.{HasShape}
 
 some_station : (v : Values) → IsLegal v → (k : Kind) → 0 < (at_kind k v.kinds).stations
 some_station v legal k = omega (arith, (legal.kinds k).stations)

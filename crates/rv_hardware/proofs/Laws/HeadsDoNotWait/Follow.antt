@@ -1,14 +1,8 @@
 -- After a step the next instruction neither waits without need nor was it fetched late.
 use Rattle.rv_hardware.proofs.Words.{◌≡◌, ℕ, suc, ◌+◌, ◌<◌, ◌≤◌, max, Bool, true, false, ◌&&◌, ◌⊎◌, List, [], ◌∷◌, ◌++◌, length, is_some, Some, None, Option, option_map, nat_cmp, unwrap_or, sym, refl, ap, ◌∙◌, subst, inl, inr, true≢false, append_assoc, arith, length-append, is_fence_i, is_serialising, is_store, kind_of_word, Message, Cause, Fault, Instr, FenceI, Issue, Values, word_of, interrupt_cause, Stop, Each, Entry, Stage, Finished, Fetched, Committing, commit_turn, commit_unless, fence_instructions, with_fault, Hardware, broadcast_of, DoesNotWait, IsTrappedSoon, Ends, Turn, execution_of, written_of, is_store_row, last_that, needs_no_unit, stamp_of, Execution, Row, Step, Interrupt, Retired, Trap, by_test, not_both, EveryBehind, EveryBehind-append, Leads, leads_both, turns_within}
 use Rattle.std.specs.FinSet as set
-use Rattle.rv_hardware.proofs.Turns.Commit.{CommitTurn, Head, no_head, stale_head, unfinished, fence_waits, fence_writes, fence_retires, executes, serial_faults, traps, retires, retires_last, executed, written_back, retired_and_flushed, commit_turn_is}
-use Rattle.rv_hardware.proofs.Marks.History.{Anything, anything_is_kept}
-use Rattle.rv_hardware.proofs.Marks.Evidence.{last_from-append}
-use Rattle.rv_hardware.proofs.Always.Entries.{IsShaped, Shaped}
+use Rattle.rv_hardware.proofs.Marks.Cited.{CommitTurn, Head, no_head, stale_head, unfinished, fence_waits, fence_writes, fence_retires, executes, serial_faults, traps, retires, retires_last, executed, written_back, retired_and_flushed, commit_turn_is, Anything, anything_is_kept, last_from-append, IsShaped, Shaped, Goes, Commits, commit_turn_keeps, MayRetire, may_retire_serial, may_retire_finished, retiring_is_one, row_at, SoundEntry, SoundFetched, SoundStage, kind_is_plain, serial_has_no_kind, row_decodes}
 use Rattle.rv_hardware.proofs.Laws.HeadsDoNotWait.Next.{IsKnownSince, HasReason, NextEntry, Next}
-use Rattle.rv_hardware.proofs.Marks.Phases.{Goes, Commits, commit_turn_keeps}
-use Rattle.rv_hardware.proofs.Marks.Row.{MayRetire, may_retire_serial, may_retire_finished, retiring_is_one, row_at}
-use Rattle.rv_hardware.proofs.Marks.Sound.{SoundEntry, SoundFetched, SoundStage, kind_is_plain, serial_has_no_kind, row_decodes}
 
 -- the cycle of the last of some steps, 0 where there is none
 abbrev pub stamp_or_zero : Option Step → ℕ

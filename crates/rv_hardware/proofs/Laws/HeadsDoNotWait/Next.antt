@@ -1,11 +1,7 @@
 -- The next instruction of the program, in flight or in the fetch buffer, keeps its reason not to have retired.
 use Rattle.rv_hardware.proofs.Words.{◌≡◌, ℕ, ◌+◌, ◌≤◌, Bool, true, false, ◌&&◌, ◌⊎◌, List, [], ◌∷◌, ◌++◌, Some, None, Option, nat_cmp, ap, subst, inr, arith, is_fence_i, is_serialising, is_store, Message, Instr, Kind, word_of, finished, issue_of, predicting, started, Entry, Stage, Finished, Running, Waiting, Fetched, broadcast, execute, stage_by, drain, Hardware, issue}
 use Rattle.std.specs.FinSet as set
-use Rattle.rv_hardware.proofs.Turns.Broadcast.{HasRun}
-use Rattle.rv_hardware.proofs.Turns.KeptByBroadcast.{IsKeptByBroadcast, broadcast-keeps}
-use Rattle.rv_hardware.proofs.Turns.KeptByDispatch.{IsKeptByDispatch, dispatch-keeps}
-use Rattle.rv_hardware.proofs.Turns.KeptByDrain.{IsKeptByDrain, drain-keeps}
-use Rattle.rv_hardware.proofs.Turns.KeptByIssue.{IsKeptByIssue, issue-keeps}
+use Rattle.rv_hardware.proofs.Marks.Cited.{HasRun, IsKeptByBroadcast, broadcast-keeps, IsKeptByDispatch, dispatch-keeps, IsKeptByDrain, drain-keeps, IsKeptByIssue, issue-keeps}
 
 -- by the stage, an instruction that was dispatched in D was not known before the cycle ahead of n
 abbrev pub IsKnownSince : ℕ → Option Instr → ℕ → Stage → Type 0

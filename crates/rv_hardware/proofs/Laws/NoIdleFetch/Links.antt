@@ -1,8 +1,6 @@
 -- Marks of which each tells why the next was not fetched earlier go on to do so.
 use Rattle.rv_hardware.proofs.Words.{◌≡◌, ℕ, suc, ◌+◌, ◌<◌, ◌≤◌, Bool, true, cond, ◌&&◌, ◌⊎◌, List, [], ◌∷◌, ◌++◌, length, Some, None, Option, sym, ap, ◌∙◌, subst, append_assoc, arith, length-append, Early, Values, Each, count, inl, inr}
-use Rattle.rv_hardware.proofs.Marks.Advance.{Advances, Kept, advances_agree}
-use Rattle.rv_hardware.proofs.Marks.History.{is_buffered_mark}
-use Rattle.rv_hardware.proofs.Marks.List.{Mark, at_end, was_fetched}
+use Rattle.rv_hardware.proofs.Marks.Cited.{Advances, Kept, advances_agree, is_buffered_mark, Mark, at_end, was_fetched}
 
 -- at the end of a cycle the word is in the fetch buffer
 abbrev pub is_word : ℕ → Mark → Bool

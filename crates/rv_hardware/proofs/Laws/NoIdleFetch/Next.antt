@@ -1,19 +1,9 @@
 -- What is in flight, or is fetched next, was fetched no later than the last step.
 use Rattle.rv_hardware.proofs.Words.{◌≡◌, ℕ, ◌+◌, ◌-◌, ◌≤◌, Bool, true, ◌⊎◌, List, [], ◌∷◌, ◌++◌, length, Some, None, Option, nat_cmp, sym, refl, ap, ◌∙◌, subst, true≢false, append_assoc, append-nil, arith, Lines, Kind, Values, due, interrupt_cause, Each, Entry, FetchBuffer, Fetched, broadcast, Committing, commit_unless, with_fault, IsCycle, any_prediction, with_lines, dispatch, drain, Hardware, issue, Turn, Report, written_of, EachNext, stamp_of, Step, Interrupt, Retired, Trap, Each-weaker, Leads}
 use Rattle.std.specs.FinSet as set
-use Rattle.rv_hardware.proofs.Turns.KeptByBroadcast.{IsKeptByBroadcast, broadcast-keeps}
-use Rattle.rv_hardware.proofs.Turns.KeptByDispatch.{IsKeptByDispatch, dispatch-keeps}
-use Rattle.rv_hardware.proofs.Turns.KeptByDrain.{IsKeptByDrain, drain-keeps}
-use Rattle.rv_hardware.proofs.Turns.KeptByIssue.{IsKeptByIssue, issue-keeps}
-use Rattle.rv_hardware.proofs.Always.Halted.{HaltsBehind, words_of, runs-empty}
-use Rattle.rv_hardware.proofs.Turns.Commit.{CommitTurn, fence_retires, executes, serial_faults, traps, retires, retires_last, executed, written_back, retired_with, retired_and_flushed, head_retired_entries}
-use Rattle.rv_hardware.proofs.Marks.History.{Anything, anything_is_kept, Passed, History, began, went_on, begin, committing, dispatching, history_is_legal, history_is_sound, history_passes}
-use Rattle.rv_hardware.proofs.Marks.Keeps.{InCommit, commit_turns_keep}
+use Rattle.rv_hardware.proofs.Marks.Cited.{IsKeptByBroadcast, broadcast-keeps, IsKeptByDispatch, dispatch-keeps, IsKeptByDrain, drain-keeps, IsKeptByIssue, issue-keeps, HaltsBehind, words_of, runs-empty, CommitTurn, fence_retires, executes, serial_faults, traps, retires, retires_last, executed, written_back, retired_with, retired_and_flushed, head_retired_entries, Anything, anything_is_kept, Passed, History, began, went_on, begin, committing, dispatching, history_is_legal, history_is_sound, history_passes, InCommit, commit_turns_keep, IsNew, row_at, SoundEntry, SoundFetched}
 use Rattle.rv_hardware.proofs.Laws.NoIdleFetch.Links.{LastIs, last_at, last_of}
 use Rattle.rv_hardware.proofs.Laws.NoIdleFetch.Rows.{stays_halted}
-use Rattle.rv_hardware.proofs.Turns.Fetch.{IsNew}
-use Rattle.rv_hardware.proofs.Marks.Row.{row_at}
-use Rattle.rv_hardware.proofs.Marks.Sound.{SoundEntry, SoundFetched}
 
 -- a row was fetched by a cycle
 abbrev pub IsFetchedBy : ℕ → Step → Type 0

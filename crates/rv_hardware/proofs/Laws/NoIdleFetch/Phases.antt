@@ -2,14 +2,7 @@
 use Rattle.rv_hardware.proofs.Words.{◌≡◌, ℕ, ◌+◌, Bool, true, false, ◌⊎◌, List, [], ◌∷◌, ◌++◌, length, Some, None, Option, nat_cmp, sym, refl, ap, ◌∙◌, inl, inr, append_assoc, arith, length-append, length-map, Kind, Early, Values, finished, predicting, Entry, Fetched, broadcast, broadcast_turn, is_mispredicted, mends_early, Committing, commit_turn, commit_unless, dispatch, entry_of_fetched, drain, Hardware, issue, Turn, rows_of, Step, Retired, and_first, Leads, left_by_turns, kept_by_turns}
 use Rattle.std.specs.FinSet as set
 use Rattle.rv_isa.specs.declared.values.Recovery.{Recovery}
-use Rattle.rv_hardware.proofs.Turns.KeptByDispatch.{IsKeptByDispatch, dispatch-keeps}
-use Rattle.rv_hardware.proofs.Turns.KeptByDrain.{IsKeptByDrain, drain-keeps}
-use Rattle.rv_hardware.proofs.Turns.KeptByIssue.{IsKeptByIssue, issue-keeps}
-use Rattle.rv_hardware.proofs.Marks.Basics.{finished_mark}
-use Rattle.rv_hardware.proofs.Turns.Broadcast.{BroadcastTurn, none_ready, sends, mends, broadcast_turn_is, sent_entries, mended_entries}
-use Rattle.rv_hardware.proofs.Turns.Commit.{CommitTurn, commit_turn_is, head_retired_entries}
-use Rattle.rv_hardware.proofs.Marks.List.{Mark, marks_in, broadcast_of_stage, rows_append}
-use Rattle.rv_hardware.proofs.Marks.Row.{row_at}
+use Rattle.rv_hardware.proofs.Marks.Cited.{IsKeptByDispatch, dispatch-keeps, IsKeptByDrain, drain-keeps, IsKeptByIssue, issue-keeps, finished_mark, BroadcastTurn, no_result, sends, mends, broadcast_turn_is, sent_entries, mended_entries, CommitTurn, commit_turn_is, head_retired_entries, Mark, marks_in, broadcast_of_stage, rows_append, row_at}
 
 -- how many instructions retired, are in flight and were fetched
 abbrev pub size : List Step → Hardware → ℕ
@@ -90,7 +83,7 @@ module _ (n : ℕ) (halted : Bool) where
     is_early r is = grind arith
 
     broadcast_leads : (h : Hardware) (t : Turn Hardware) → BroadcastTurn h t → Sending h → Leads Sending Left t
-    broadcast_leads h _ (none_ready none) p = inl p.2
+    broadcast_leads h _ (no_result none) p = inl p.2
     broadcast_leads h _ (sends older younger e issue message sent late) p =
         let more = starts_goes h older younger e (finished message h.cycle e) sent.place p.2 in
         let entries = sent_entries h older younger e message sent.place in

@@ -1,15 +1,9 @@
 -- In every history each mark tells why the next was not fetched earlier.
 use Rattle.rv_hardware.proofs.Words.{◌≡◌, ℕ, ◌+◌, ◌-◌, ◌<◌, ◌≤◌, true, false, ◌⊎◌, List, [], ◌∷◌, ◌++◌, map, length, Some, None, Option, sym, refl, ap, ◌∙◌, subst, inl, inr, true≢false, append-nil, arith, length-append, cases_lt, Lines, Early, Values, due, Each, FetchBuffer, Fetched, Committing, IsCycle, any_prediction, execute, with_lines, Dispatching, Hardware, Report, rows_of, Row, Step, Each-weaker, Each-map, count}
 use Rattle.std.specs.FinSet as set
-use Rattle.rv_hardware.proofs.Turns.Fetch.{fetch-cases, IsNew}
-use Rattle.rv_hardware.proofs.Marks.Counted.{count-as_of}
-use Rattle.rv_hardware.proofs.Marks.History.{Passed, History, began, went_on, is_buffered_mark, buffered_words, committing, issued_all, dispatching, cycle_passes, history_is_legal, history_is_sound}
+use Rattle.rv_hardware.proofs.Marks.Cited.{fetch-cases, IsNew, count-as_of, Passed, History, began, went_on, is_buffered_mark, buffered_words, committing, issued_all, dispatching, cycle_passes, history_is_legal, history_is_sound, Mark, mark_of_row, mark_of_entry, mark_of_fetched, marks_in, marks, marks_at_entry, as_of_now, marks_settled, SoundRow, SoundFetched}
 use Rattle.rv_hardware.proofs.Laws.NoIdleFetch.Links.{with_word, IsBy, Followed, IsOpen, Linked, LastIs, held_behind, held_count, WasLinked, was_linked_kept, linked_stays, linked_on, linked_cut, linked_words, last_at}
 use Rattle.rv_hardware.proofs.Laws.NoIdleFetch.Phases.{size, size_of_marks, Uncut, Left, commit_goes_by, drain_and_issue, broadcast_and_dispatch}
-use Rattle.rv_hardware.proofs.Marks.List.{Mark, mark_of_row, mark_of_entry, mark_of_fetched, marks_in, marks, marks_at_entry}
-use Rattle.rv_hardware.proofs.Marks.Past.{as_of_now, marks_settled}
-use Rattle.rv_hardware.proofs.Marks.Row.{SoundRow}
-use Rattle.rv_hardware.proofs.Marks.Sound.{SoundFetched}
 
 -- the last mark after a squash: a row, or the instruction whose broadcast squashed the rest
 abbrev Squashes : Values → ℕ → Mark → Type 0

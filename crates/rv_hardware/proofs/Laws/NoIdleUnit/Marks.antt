@@ -1,14 +1,7 @@
 -- Marks that go on keep it that no pipelined unit is idle while an instruction that is no load has its operands.
 use Rattle.rv_hardware.proofs.Words.{◌≡◌, ℕ, ◌≤◌, Bool, true, false, cond, not, ◌||◌, List, [], ◌∷◌, ◌++◌, map, is_some, IfSome, Some, None, Option, sym, refl, ap, ◌∙◌, subst, true≢false, append_assoc, arith, and_from, is_load, is_of_kind, is_serialising, kind_of_word, sources_of_word, Instr, Kind, Values, Each, Entry, Stage, Fetched, Hardware, broadcast_of, is_known_from, is_waiting, writes, has_operands, is_ready, last_from, last_that, Execution, Row, never_both, Each-append, EveryBehind, count, count-set-grows, EveryBehind-left, EveryBehind-set}
 use Rattle.rv_hardware.specs.InFlight.{is_known}
-use Rattle.rv_hardware.proofs.Marks.Advance.{IsBefore, writes_mark, IsKnownMark, OperandsKnown, Advances, is_sent, Kept}
-use Rattle.rv_hardware.proofs.Marks.Evidence.{last_from-append}
-use Rattle.rv_hardware.proofs.Marks.List.{Mark, mark_of_row, mark_of_entry, mark_of_fetched, broadcast_of_stage, marks_append, start_of_execution, start_of_stage}
-use Rattle.rv_hardware.proofs.Marks.Pairs.{writer_serialises}
-use Rattle.rv_hardware.proofs.Marks.Row.{SoundRow}
-use Rattle.rv_hardware.proofs.Always.Serial.{AreSerialLast, older_plain}
-use Rattle.rv_hardware.proofs.Always.Stores.{instructions_of}
-use Rattle.rv_hardware.proofs.Marks.Sound.{SoundEntry, SoundStage, is_of_kind_is}
+use Rattle.rv_hardware.proofs.Marks.Cited.{IsBefore, writes_mark, IsKnownMark, OperandsKnown, Advances, mark_is_sent, Kept, last_from-append, Mark, mark_of_row, mark_of_entry, mark_of_fetched, broadcast_of_stage, marks_append, start_of_execution, start_of_stage, writer_serialises, SoundRow, AreSerialLast, older_plain, instructions_of, SoundEntry, SoundStage, is_of_kind_is}
 use Rattle.rv_hardware.proofs.Laws.OtherUnits.Rows.{begins_mark}
 
 -- an instruction that could start in a cycle
@@ -67,7 +60,7 @@ same_known : (now : ℕ) (m n : Mark) → n.instruction ≡ m.instruction → n.
 same_known now m n instruction broadcast h some = subst (IsBefore now) broadcast (h (subst (λ i. is_some (kind_of_word i) ≡ true) (sym instruction) some))
 
 goes_back : (v : Values) (now : ℕ) (xs : List Mark) (m n : Mark) → Advances v now xs m n → Back now m n
-goes_back v now xs m n (is_sent a) = grind (arith, not_now)
+goes_back v now xs m n (mark_is_sent a) = grind (arith, not_now)
 goes_back v now xs m n given = grind (arith, same_known)
 
 -- the mark itself, once it went on

@@ -3,21 +3,8 @@ use Rattle.rv_hardware.proofs.Words.{◌≡◌, ℕ, suc, ◌+◌, ◌<◌, ◌�
 use Rattle.std.specs.FinSet as set
 use Rattle.rv_isa.specs.declared.operations.Kind.TheVariants as kind
 use Rattle.rv_units.specs.Pool.{started as started_unit}
-use Rattle.rv_hardware.proofs.Turns.KeptByBroadcast.{broadcast-keeps}
-use Rattle.rv_hardware.proofs.Turns.KeptByCommit.{commit-keeps}
-use Rattle.rv_hardware.proofs.Turns.KeptByDispatch.{dispatch-keeps}
-use Rattle.rv_hardware.proofs.Turns.KeptByDrain.{drain-same}
-use Rattle.rv_hardware.proofs.Turns.KeptByIssue.{ready-parts, issue-by, issue_kind-keeps}
-use Rattle.rv_hardware.proofs.Marks.Keeps.{InCycle, starts_in_cycle}
-use Rattle.rv_hardware.proofs.Marks.Advance.{IsBefore, Starts}
-use Rattle.rv_hardware.proofs.Marks.History.{Anything, anything_is_kept, History, began, went_on, Passed, history_is_legal, committing, drained, issued_all, sent_all, dispatching, history_passes}
+use Rattle.rv_hardware.proofs.Marks.Cited.{broadcast-keeps, commit-keeps, dispatch-keeps, drain-same, ready-parts, issue-by, issue_kind-keeps, InCycle, starts_in_cycle, IsBefore, Starts, Anything, anything_is_kept, History, began, went_on, Passed, history_is_legal, committing, drained, issued_all, sent_all, dispatching, history_passes, IssueTurn, issue_turn_is, access_keeps, message_at, started_entries, Mark, mark_of_row, mark_of_entry, mark_of_fetched, marks, marks_in, marks_at_entry, Issues, issue_turn_keeps, issue_kind_keeps, start_is, with_marks, goes_later, broadcast_keeps, dispatch_keeps, AreSerialLast, cut_serial, instructions_of, SoundEntry}
 use Rattle.rv_hardware.proofs.Laws.NoIdleUnit.Marks.{MayStart, BusyUnits, may_back, busy_units_are_kept, rows_do_not_start, words_do_not_start, entries_do_not_start}
-use Rattle.rv_hardware.proofs.Turns.Issue.{IssueTurn, issue_turn_is, access_keeps, message_at, started_entries}
-use Rattle.rv_hardware.proofs.Marks.List.{Mark, mark_of_row, mark_of_entry, mark_of_fetched, marks, marks_in, marks_at_entry}
-use Rattle.rv_hardware.proofs.Marks.Phases.{Issues, issue_turn_keeps, issue_kind_keeps, start_is, with_marks, goes_later, broadcast_keeps, dispatch_keeps}
-use Rattle.rv_hardware.proofs.Always.Serial.{AreSerialLast, cut_serial}
-use Rattle.rv_hardware.proofs.Always.Stores.{instructions_of}
-use Rattle.rv_hardware.proofs.Marks.Sound.{SoundEntry}
 use Rattle.rv_hardware.proofs.Laws.OtherUnits.Rows.{starts_at, begins_mark}
 use Rattle.rv_hardware.proofs.Laws.OtherUnits.Phases.{issued_units}
 

@@ -1,8 +1,6 @@
 -- Of the results that are ready the oldest is broadcast first.
 use Rattle.rv_hardware.proofs.Words.{◌≡◌, ℕ, ◌+◌, ◌<◌, ◌≤◌, List, [], ◌∷◌, ◌++◌, map, IfSome, Some, None, Option, sym, ap, ◌∙◌, subst, arith, Values, Each, Fetched, Hardware, Step, Each-append, Each-left, Each-right, Each-set, Each-place, Each-weaker, Each-all, Each-both, Each-map, EveryPair, EveryPair-append, EveryPair-left, EveryPair-right, EveryPair-across, EveryPair-set}
-use Rattle.rv_hardware.proofs.Marks.Advance.{IsBefore, Advances, retires, starts, is_sent, enters, Starts, IsSent, IsSentIfReady}
-use Rattle.rv_hardware.proofs.Marks.History.{KeptMarks, History, marks_of_history}
-use Rattle.rv_hardware.proofs.Marks.List.{Mark, Start, mark_of_fetched, marks_in}
+use Rattle.rv_hardware.proofs.Marks.Cited.{IsBefore, Advances, mark_retires, mark_starts, mark_is_sent, mark_enters, Starts, IsSent, IsSentIfReady, KeptMarks, History, marks_of_history, Mark, Start, mark_of_fetched, marks_in}
 
 -- where b was broadcast, an earlier a whose result was ready by then was broadcast by then
 abbrev pub ReadyFirst : Option Start → Option ℕ → ℕ → Type 0
@@ -68,10 +66,10 @@ module _ (now : ℕ) (xs ys : List Mark) (m n : Mark) where
       }
 
 bus_set : (v : Values) (now : ℕ) (xs ys : List Mark) (m n : Mark) → Advances v now xs m n → BusOrder now (xs ++ m ∷ ys) → BusOrder now (xs ++ n ∷ ys)
-bus_set v now xs ys m n (retires a) o = same_bus now xs ys m n (ap (λ x. x.start) a.becomes) (ap (λ x. x.broadcast) a.becomes) o
-bus_set v now xs ys m n (starts a) o = started_bus now xs ys m n v a o
-bus_set v now xs ys m n (is_sent a) o = sent_bus now xs ys m n a o
-bus_set v now xs ys m n (enters a) o = same_bus now xs ys m n (ap (λ x. x.start) a.becomes) (ap (λ x. x.broadcast) a.becomes) o
+bus_set v now xs ys m n (mark_retires a) o = same_bus now xs ys m n (ap (λ x. x.start) a.becomes) (ap (λ x. x.broadcast) a.becomes) o
+bus_set v now xs ys m n (mark_starts a) o = started_bus now xs ys m n v a o
+bus_set v now xs ys m n (mark_is_sent a) o = sent_bus now xs ys m n a o
+bus_set v now xs ys m n (mark_enters a) o = same_bus now xs ys m n (ap (λ x. x.start) a.becomes) (ap (λ x. x.broadcast) a.becomes) o
 
 none_sent : (fs : List Fetched) → EveryPair OldestFirst (map mark_of_fetched fs)
 none_sent [] = tt

@@ -1,16 +1,7 @@
 -- A unit executes one instruction at a time, or begins one a cycle where it is pipelined.
 use Rattle.rv_hardware.proofs.Words.{◌≡◌, ℕ, ◌+◌, ◌≤◌, Bool, true, false, cond, ◌&&◌, List, [], ◌∷◌, ◌++◌, length, nat_lt, nat_le, Some, None, filter, Option, sym, refl, ap, subst, true≢false, arith, ltb-true, lt-ltb, le-leb, and_from, and_left, and_right, at_kind-for_each, with_kind-each, is_of_kind, kind_of_word, at_kind, for_each, with_kind, Issue, Kind, Values, Each, Pool, free_pool, held_for, holding, holds_unit, is_free, started, Entry, Hardware, cost_of, issued, path, Step, and_second, Each-append, Each-weaker, Each-filter, count, count-append, count-yes, count-length, count-set-same, count-set-more, count-set-less, count-push-no}
 use Rattle.rv_units.specs.Pool.{started as started_unit}
-use Rattle.rv_hardware.proofs.Turns.KeptByBroadcast.{IsKeptByBroadcast}
-use Rattle.rv_hardware.proofs.Turns.KeptByCommit.{IsKeptByCommit}
-use Rattle.rv_hardware.proofs.Turns.KeptByDispatch.{IsKeptByDispatch}
-use Rattle.rv_hardware.proofs.Turns.KeptByIssue.{IsReady, ready-parts}
-use Rattle.rv_hardware.proofs.Marks.Keeps.{InCycle, IsKeptInCycle, in_cycle}
-use Rattle.rv_hardware.proofs.Marks.Basics.{finished_mark, dispatched_mark, is_waiting_is}
-use Rattle.rv_hardware.proofs.Marks.History.{History, began, went_on, dispatching, history_passes}
-use Rattle.rv_hardware.proofs.Turns.Issue.{access_keeps, message_at, started_entries}
-use Rattle.rv_hardware.proofs.Marks.Sound.{is_of_kind_is}
-use Rattle.rv_hardware.proofs.Marks.List.{Mark, Start, mark_of_entry, start_of_issue, start_of_stage}
+use Rattle.rv_hardware.proofs.Marks.Cited.{IsKeptByBroadcast, IsKeptByCommit, IsKeptByDispatch, IsReady, ready-parts, InCycle, IsKeptInCycle, in_cycle, finished_mark, dispatched_mark, is_waiting_is, History, began, went_on, dispatching, history_passes, access_keeps, message_at, started_entries, is_of_kind_is, Mark, Start, mark_of_entry, start_of_issue, start_of_stage}
 
 -- an execution holds a unit in a cycle
 abbrev pub start_holds : Bool → ℕ → Option Start → Bool

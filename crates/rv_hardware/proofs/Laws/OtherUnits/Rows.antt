@@ -1,12 +1,7 @@
 -- Of rows that hold a unit in a cycle there are at most as many as there are units.
 use Rattle.rv_hardware.proofs.Words.{◌≡◌, ℕ, ◌+◌, ◌<◌, ◌≤◌, Bool, true, false, ◌&&◌, List, ◌++◌, map, IfSome, ◌==◌, Some, None, count_by, Option, ap, ◌∙◌, arith, is_of_kind, kind_of_word, at_kind, Lines, Kind, Values, Fetched, Hardware, Report, rows_of, Execution, Row, Step, Each-weaker, Each-all, count, count-append, count-none, count-map, count-le}
-use Rattle.rv_hardware.proofs.Marks.Keeps.{in_cycle}
-use Rattle.rv_hardware.proofs.Marks.Counted.{Shows, counted_law}
-use Rattle.rv_hardware.proofs.Marks.History.{History, Passed, dispatching}
-use Rattle.rv_hardware.proofs.Marks.List.{Mark, Start, mark_of_row, mark_of_entry, mark_of_fetched, marks_in, Extends}
-use Rattle.rv_hardware.proofs.Marks.Row.{SoundRow}
+use Rattle.rv_hardware.proofs.Marks.Cited.{in_cycle, Shows, counted_law, History, Passed, dispatching, Mark, Start, mark_of_row, mark_of_entry, mark_of_fetched, marks_in, Extends, SoundRow, count_marks}
 use Rattle.rv_hardware.proofs.Laws.OtherUnits.Phases.{holds_mark, units_of_history, units_kept}
-use Rattle.rv_hardware.proofs.Marks.Widths.{count_marks}
 
 -- an execution lies between the dispatch and the retirement
 abbrev pub Between : ℕ → ℕ → Option Execution → Type 0

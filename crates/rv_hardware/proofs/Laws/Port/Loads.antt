@@ -1,7 +1,6 @@
 -- The cache's port serves one load at a time.
 use Rattle.rv_hardware.proofs.Words.{is_known as is_known_store, ◌≡◌, ℕ, ◌+◌, ◌≤◌, Bool, true, false, cond, not, ◌&&◌, ◌||◌, List, ℤ, is_some, IfSome, ◌==◌, Some, Option, refl, true≢false, arith, eq-eqb, leb-true, list_all, is_load, bytes_of, width_of, modulo_word, sum, Instr, Load, Kind, LoadForm, Values, is_aligned, is_in_ram, State, register_of, Entry, Hardware, FromCache, FromStores, Path, cost_of, has_port, may_load, path, path_of, with_access, result_of_word, layout_of, seen_behind, stores_behind, take, forwarded, sym, sym}
-use Rattle.rv_hardware.proofs.Marks.List.{Mark, Start}
-use Rattle.rv_hardware.proofs.Always.Sizes.{HasShape}
+use Rattle.rv_hardware.proofs.Marks.Cited.{Mark, Start, HasShape}
 
 -- a load that takes its bytes from the cache: it gives no fault and costs another number of cycles than a forwarded one
 abbrev pub uses_cache : Values → Option Instr → Start → Bool

@@ -1,17 +1,7 @@
 -- Through every phase the port is busy until each load that uses the cache is over, and one begins when all others are.
 use Rattle.rv_hardware.proofs.Words.{◌≡◌, ℕ, ◌+◌, ◌<◌, ◌≤◌, Bool, true, false, not, ◌&&◌, ◌⊎◌, List, [], ◌∷◌, ◌++◌, IfSome, nat_le, None, Option, sym, refl, ap, ◌∙◌, subst, inl, inr, true≢false, append_assoc, arith, leb-true, IsLegal, Instr, Kind, Values, Each, finished, predicting, started, Entry, with_write_back, with_drained, Hardware, cost_of, issued, path, with_access, and_first, and_second, Each-append, Each-left, Each-right, Each-set, Each-place, Each-weaker, Each-all, Each-both, EveryPair, EveryPair-append, EveryPair-left, EveryPair-right, EveryPair-across, EveryPair-set}
-use Rattle.rv_hardware.proofs.Turns.Forms.{with_entries}
-use Rattle.rv_hardware.proofs.Turns.KeptByBroadcast.{IsKeptByBroadcast, with_mended}
-use Rattle.rv_hardware.proofs.Turns.KeptByCommit.{IsKeptByCommit}
-use Rattle.rv_hardware.proofs.Turns.KeptByDispatch.{IsKeptByDispatch}
-use Rattle.rv_hardware.proofs.Turns.KeptByDrain.{IsKeptByDrain}
-use Rattle.rv_hardware.proofs.Turns.KeptByIssue.{IsReady, ready-parts}
-use Rattle.rv_hardware.proofs.Marks.Keeps.{InCycle, IsKeptInCycle}
-use Rattle.rv_hardware.proofs.Marks.Basics.{finished_mark, dispatched_mark}
-use Rattle.rv_hardware.proofs.Turns.Issue.{message_at, started_entries}
-use Rattle.rv_hardware.proofs.Marks.List.{Mark, Start, mark_of_entry, start_of_issue}
+use Rattle.rv_hardware.proofs.Marks.Cited.{with_entries, IsKeptByBroadcast, with_mended, IsKeptByCommit, IsKeptByDispatch, IsKeptByDrain, IsReady, ready-parts, InCycle, IsKeptInCycle, finished_mark, dispatched_mark, message_at, started_entries, Mark, Start, mark_of_entry, start_of_issue, positive_cost}
 use Rattle.rv_hardware.proofs.Laws.Port.Loads.{uses_cache, WhereUsed, OverBy, OneAtATime, path_of_user, has_its_port, port_grows}
-use Rattle.rv_hardware.proofs.Marks.Sound.{positive_cost}
 
 -- the port is busy until it is over
 abbrev pub Tied : Values → ℕ → Mark → Type 0

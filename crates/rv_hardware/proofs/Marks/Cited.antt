@@ -1,0 +1,26 @@
+-- What the laws and the longest gap cite of the turns, of what always holds and of the marks, passed on from one place. Declares nothing.
+pub use Rattle.rv_hardware.proofs.Turns.Cited.{with_entries, longest_access, longest_execution, longest_write_back, access_cost-most, access_cost-least, IsReady, ready-parts, IsKeptByIssue, starts-keep, issue_turn-keeps, issue_kind-keeps, issue-by, issue-keeps, with_mended, IsMadeByBroadcast, IsKeptByBroadcast, sends-makes, mends-makes, broadcast_turn-keeps, broadcast-keeps, IsKeptByDispatch, dispatch_turns-keep, dispatch-keeps, IsKeptByDrain, drain-keeps, SameButPort, drain-same, IsKeptByCommit, commit-keeps, execute-keeps, phases-keep, SameAs, same-kept, fetch-cases, IsNew, starts, IssueTurn, no_unit, none_ready, issue_turn_is, access_keeps, message_at, started_entries, HasRun, Sends, BroadcastTurn, no_result, sends, mends, broadcast_turn_is, sent_entries, mended_entries, dispatches, has_full_queue, waits, WaitsFor, for_serial, for_buffer, for_station, for_queue, DispatchTurn, buffer_empty, dispatch_turn_is, retires, executes, Head, written_back, executed, retired_with, retired_and_flushed, head_retired_entries, unfinished, traps, CommitTurn, no_head, stale_head, fence_waits, fence_writes, fence_retires, serial_faults, retires_last, commit_turn_is}
+pub use Rattle.rv_hardware.proofs.Always.Sizes.{HasShape, HasSizes, sizes-kept}
+pub use Rattle.rv_hardware.proofs.Always.Sets.{HasRoom, write_back_time-most, clean-after, room-kept}
+pub use Rattle.rv_hardware.proofs.Always.Queue.{CanDrain, IsQueue, HasQueue, queue_of_all}
+pub use Rattle.rv_hardware.proofs.Always.Entries.{IsShaped, Shaped, told_at_end}
+pub use Rattle.rv_hardware.proofs.Always.Executions.{EndsBy, Ending, AreEnding}
+pub use Rattle.rv_hardware.proofs.Always.Units.{HoldsUntil, AreHeld}
+pub use Rattle.rv_hardware.proofs.Always.Stores.{instructions_of, store_count}
+pub use Rattle.rv_hardware.proofs.Always.Serial.{AreSerialLast, alone, older_plain, cut_serial}
+pub use Rattle.rv_hardware.proofs.Always.Halted.{words_of, HaltsBehind, runs-empty, IsHalted, halted-kept}
+pub use Rattle.rv_hardware.proofs.Always.Sound.{IsBounded, sound-cycle, sound}
+pub use Rattle.rv_hardware.proofs.Marks.List.{marks, Start, Mark, start_of_execution, broadcast_of_execution, mark_of_row, start_of_issue, start_of_stage, broadcast_of_stage, mark_of_entry, mark_of_fetched, marks_in, until, start_until, at_end, was_fetched, as_of, Extends, marks_append, rows_append, as_of-cons, until_by, until_now, start_until_now, marks_at_entry}
+pub use Rattle.rv_hardware.proofs.Marks.Advance.{IsBefore, writes_mark, IsKnownMark, OperandsKnown, IsSentIfReady, is_in_flight_mark, is_stationed_mark, Starts, IsSent, Advances, mark_retires, mark_starts, mark_is_sent, mark_enters, Kept, advances_agree}
+pub use Rattle.rv_hardware.proofs.Marks.Evidence.{last_from-append, last_from-Each, entries_sent, rows_sent}
+pub use Rattle.rv_hardware.proofs.Marks.Sound.{SoundStage, SoundEntry, SoundFetched, kind_is_plain, serial_has_no_kind, is_of_kind_is, some_kind, row_decodes, positive_cost}
+pub use Rattle.rv_hardware.proofs.Marks.Row.{SoundRow, row_at, MayRetire, may_retire_serial, may_retire_finished, retiring_is_one}
+pub use Rattle.rv_hardware.proofs.Marks.Basics.{is_waiting_is, finished_mark, dispatched_mark}
+pub use Rattle.rv_hardware.proofs.Marks.Phases.{Goes, Commits, commit_turn_keeps, Issues, start_is, issue_turn_keeps, issue_kind_keeps, Broadcasts, send_is, broadcast_turn_keeps, broadcast_keeps, dispatch_keeps, goes_later, with_marks}
+pub use Rattle.rv_hardware.proofs.Marks.History.{committing, drained, issued_all, sent_all, dispatching, Passed, begin, cycle_passes, History, began, went_on, history_is_legal, Anything, anything_is_kept, history_is_sound, history_passes, is_buffered_mark, KeptMarks, buffered_words, new_words, marks_of_history, reachable_has_history}
+pub use Rattle.rv_hardware.proofs.Marks.Past.{as_of_now, marks_settled, rows_obey}
+pub use Rattle.rv_hardware.proofs.Marks.Order.{IsDispatchedFirst, history_is_orderly}
+pub use Rattle.rv_hardware.proofs.Marks.Counted.{count-as_of, Shows, fails_later, counted_law, behind_law, behind_count}
+pub use Rattle.rv_hardware.proofs.Marks.Widths.{is_at, count_marks}
+pub use Rattle.rv_hardware.proofs.Marks.Pairs.{row_pairs, rows_start_behind, writer_serialises, Older, two_behind, rows_are_older}
+pub use Rattle.rv_hardware.proofs.Marks.Keeps.{InCommit, commit_turns_keep, InCycle, starts_in_cycle, IsKeptInCycle, in_cycle}
